@@ -5,38 +5,23 @@ use Rattle.uring_linux.specs.LinuxRequests.{LinuxRequests}
 use Rattle.uring_rules.specs.Rules.{why_of}
 use Rattle.uring_entry.specs.declared.why.Why.{Why}
 
--- a part, and what is after it
-two_parts : (front so after part more : List ℕ) → so ≡ front ++ part → after ≡ so ++ more
-    → after ≡ front ++ (part ++ more)
-two_parts front so after part more a b =
-    b ∙ ap (λ (l : List ℕ). l ++ more) a ∙ append_assoc front part more
+-- what stands in a cluster, whose beginning has five parts, and in two
+pub framed : (old so on new p q r s t part end : List ℕ) → so ≡ old ++ (p ++ (q ++ (r ++ (s ++ t))))
+    → on ≡ so ++ part → new ≡ on ++ end → new ≡ old ++ (p ++ q ++ r ++ s ++ t ++ part ++ end)
+framed old so on new p q r s t part end a b is =
+    is ∙ ap (λ (l : List ℕ). l ++ end) (b ∙ ap (λ (l : List ℕ). l ++ part) a) ∙ simp append_assoc refl
 
--- a part that is a word and a number
-named_part : (front so after part word number : List ℕ) → so ≡ front ++ part → after ≡ so ++ word ++ number
-    → after ≡ front ++ (part ++ word ++ number)
-named_part front so after part word number a b =
-    two_parts front (so ++ word) after (part ++ word) number (two_parts front so (so ++ word) part word a refl) b
+pub framed_twice : (old so on new p q r s t u v w x y part end last : List ℕ)
+    → so ≡ old ++ (p ++ (q ++ (r ++ (s ++ (t ++ (u ++ (v ++ (w ++ (x ++ y))))))))) → on ≡ so ++ part
+    → new ≡ on ++ (end ++ last)
+    → new ≡ old ++ (p ++ q ++ r ++ s ++ t ++ (u ++ v ++ w ++ x ++ y ++ part ++ end) ++ last)
+framed_twice old so on new p q r s t u v w x y part end last a b is =
+    is ∙ ap (λ (l : List ℕ). l ++ (end ++ last)) (b ∙ ap (λ (l : List ℕ). l ++ part) a) ∙ simp append_assoc refl
 
--- what stands in a frame: two words with numbers, and three parts
-pub framed : (old a b c d new u k v l r s t : List ℕ) → a ≡ old ++ u ++ k → b ≡ a ++ v ++ l → c ≡ b ++ r
-    → d ≡ c ++ s → new ≡ d ++ t → new ≡ old ++ (u ++ k ++ v ++ l ++ r ++ s ++ t)
-framed old a b c d new u k v l r s t is_a is_b is_c is_d is =
-    two_parts old d new (u ++ k ++ v ++ l ++ r ++ s) t (two_parts old c d (u ++ k ++ v ++ l ++ r) s (two_parts old b c (u ++ k ++ v ++ l) r (named_part old a b (u ++ k) v l (is_a ∙ append_assoc old u k) is_b) is_c) is_d) is
-
--- the parts of a label: the fifth is a word with a number
-pub labelled : (old a b c d e f new p q r s w k t u : List ℕ) → a ≡ old ++ p → b ≡ a ++ q → c ≡ b ++ r
-    → d ≡ c ++ s → e ≡ d ++ w ++ k → f ≡ e ++ t → new ≡ f ++ u
-    → new ≡ old ++ (p ++ q ++ r ++ s ++ w ++ k ++ t ++ u)
-labelled old a b c d e f new p q r s w k t u is_a is_b is_c is_d is_e is_f is =
-    let front : d ≡ old ++ (p ++ q ++ r ++ s) = two_parts old c d (p ++ q ++ r) s (two_parts old b c (p ++ q) r (two_parts old a b p q is_a is_b) is_c) is_d in
-    two_parts old f new (p ++ q ++ r ++ s ++ w ++ k ++ t) u (two_parts old e f (p ++ q ++ r ++ s ++ w ++ k) t (named_part old d e (p ++ q ++ r ++ s) w k front is_e) is_f) is
-
--- the parts of a node: the second has a shape between two words
-pub node_parts : (old a b c new p q r s t u : List ℕ) → a ≡ old ++ p → b ≡ a ++ (q ++ r ++ s) → c ≡ b ++ t
-    → new ≡ c ++ u → new ≡ old ++ (p ++ q ++ r ++ s ++ t ++ u)
-node_parts old a b c new p q r s t u is_a is_b is_c is =
-    let shaped : b ≡ ((a ++ q) ++ r) ++ s = is_b ∙ sym (append_assoc a (q ++ r) s) ∙ ap (λ (l : List ℕ). l ++ s) (sym (append_assoc a q r)) in
-    two_parts old c new (p ++ q ++ r ++ s ++ t) u (two_parts old b c (p ++ q ++ r ++ s) t (two_parts old ((a ++ q) ++ r) b (p ++ q ++ r) s (two_parts old (a ++ q) ((a ++ q) ++ r) (p ++ q) r (two_parts old a (a ++ q) p q is_a refl) refl) shaped) is_c) is
+-- the parts of a node: its label and the flags of that are parts of their own
+pub node_parts : (a b c d e f g p q r s t h i j k l : List ℕ)
+    → a ++ (b ++ (c ++ (d ++ (e ++ (f ++ (g ++ (p ++ (q ++ (r ++ (s ++ (t ++ (h ++ (i ++ (j ++ (k ++ l))))))))))))))) ≡ a ++ b ++ c ++ d ++ (e ++ f ++ g ++ (p ++ q ++ r ++ s ++ t) ++ h ++ i ++ j ++ k) ++ l
+node_parts a b c d e f g p q r s t h i j k l = simp append_assoc refl
 
 -- one part more
 pub part_more : (f : ℕ → List ℕ) (part : List ℕ) (n : ℕ) (front so after : List ℕ) → so ≡ front ++ f n

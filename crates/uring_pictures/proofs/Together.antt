@@ -1,5 +1,5 @@
 -- What the explainer and a watcher have taken in together.
-use Rattle.std.proofs.Common.{◌≡◌, ℕ, Bool, List, [], ◌++◌, Ok, Err, sym, subst}
+use Rattle.std.proofs.Common.{ℕ, Bool, List, [], ◌++◌, Ok, Err, sym, subst}
 use Rattle.uring_pictures.proofs.Common.{Consumes, EndsIn, Explainer, HasTold, IsAtEnd, OnOk, ReadsAll, Setup, TakesIn, append-nil}
 use Rattle.std.specs.Io.KnownBytes.{Keeps}
 use Rattle.uring_pictures.proofs.Streams.{Done, Known, Far, far_start, far_again, far_on, far_end}

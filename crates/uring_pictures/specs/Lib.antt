@@ -4,3 +4,4 @@ pub mod Moments
 pub mod Following
 pub mod Drawings
 pub mod Readings
+pub mod Forms

@@ -53,7 +53,7 @@ pub fn graph_in<M: TextMemory, R: Read, W: Write, E: Write>(
 {
     let mut moment = Moment::new_in(memory, alloc, setup, at)?;
     let drawn = draw_all(memory, alloc, setup, &mut moment, reader, writer, errors);
-    moment.let_go();
+    drop(moment);
     drawn
 }
 
@@ -73,7 +73,7 @@ fn draw_all<M: TextMemory, R: Read, W: Write, E: Write>(
     ensures granted { ((n : ℕ) → M.grants memory.now n) → result ≢ Err TraceFault.Memory }
 {
     let bad = watch_trace(memory, alloc, setup, moment, reader, errors)?;
-    match write_graph(memory, alloc, moment.accepted(), writer) {
+    match write_graph(memory, alloc, &moment.accepted, writer) {
         Ok(()) => Ok(bad),
         Err(fault) => Err(fault),
     }

@@ -1,15 +1,16 @@
-//! Forms with values in them, by which texts are written of which no clause says what they hold.
+//! Forms with values in them, by which texts are written.
 
-ghost use Rattle.std.specs.Prelude.{ℕ, IsOk};
+ghost use Rattle.std.specs.Prelude.{◌≡◌, ◌++◌, ◌∷◌, ◌<◌, [], ℕ, true, IsOk, OnOk, string_bytes};
+ghost use Rattle.uring_pictures.specs.Forms.{form_text, is_known, is_told, value_text};
 
 use itoa::Buffer;
 use std::alloc::{AllocError, Global};
 use uring_entry::{Sqe, SqeFlags};
-use uring_machine::Why;
+use uring_machine::{Since, Why};
 use uring_text::{
     TextMemory, push_named, push_number, push_operation, push_signed, push_text, push_visible_in,
 };
-use uring_trace::push_why_in;
+use uring_trace::{push_since_in, push_why_in};
 
 /// What stands in a form for a value.
 const MARK: u8 = b'@';
@@ -56,30 +57,41 @@ pub(crate) enum Value<'a> {
     /// This text and a number, if there is one.
     Member(&'a str, Option<u64>),
 
+    /// This text, if the entry has this flag.
+    Flag(&'a Sqe, SqeFlags, &'a str),
+
     /// Why a request stands as it does, in the words of `explain`.
     Reason(Why),
+
+    /// The same in a graph, where arrows tell for whom it waits.
+    Standing(Why),
+
+    /// Why this request is waited for.
+    Since(u64, Since),
 
     /// A number, or `-` for none, at the right end of a column.
     Wide(Option<u64>),
 }
 
-/// Appends a form, with a value for each `@`, in order. Here and below, and in all that is written by forms: if the memory grants whatever is asked for, there is no error.
+/// Appends a form, with a value for each `@`, in order. What it writes is told where each value is one of those of a graph. Here and below, and in all that is written by forms: if the memory grants whatever is asked for, there is no error.
 pub(crate) fn push_form<M: TextMemory>(
     memory: &M,
     text: &mut String,
     form: &str,
     values: &[Value<'_>],
 ) -> Result<(), AllocError>
-    ensures { ((n : ℕ) → M.grants memory.now n) → IsOk result }
+    ensures text { OnOk result
+        (is_told form.now values.now ≡ true
+        → string_bytes text.new ≡ string_bytes text.old ++ form_text form.now values.now) }
+    ensures granted { ((n : ℕ) → M.grants memory.now n) → IsOk result }
 {
     let mut place: usize = 0;
     for byte in form.as_bytes() {
-        match values.get(place) {
-            Some(value) if *byte == MARK => {
-                push_value(memory, text, value)?;
-                place = place.saturating_add(1);
-            }
-            _ => push_plain(memory, text, *byte)?,
+        if *byte != MARK {
+            push_plain(memory, text, *byte)?;
+        } else if let Some(value) = values.get(place) {
+            push_value(memory, text, value)?;
+            place = place.saturating_add(1);
         }
     }
     Ok(())
@@ -91,7 +103,10 @@ fn push_value<M: TextMemory>(
     text: &mut String,
     value: &Value<'_>,
 ) -> Result<(), AllocError>
-    ensures { ((n : ℕ) → M.grants memory.now n) → IsOk result }
+    ensures text { OnOk result
+        (is_known value.now ≡ true
+        → string_bytes text.new ≡ string_bytes text.old ++ value_text value.now) }
+    ensures granted { ((n : ℕ) → M.grants memory.now n) → IsOk result }
 {
     match value {
         Value::Number(number) => push_number(memory, text, *number),
@@ -104,7 +119,12 @@ fn push_value<M: TextMemory>(
         Value::Flags(entry) => push_letters(memory, text, entry),
         Value::Member(name, Some(number)) => push_named(memory, text, name, *number),
         Value::Member(_, None) => Ok(()),
+        Value::Flag(entry, flag, name) if entry.has(*flag) => push_text(memory, text, name),
+        Value::Flag(..) => Ok(()),
         Value::Reason(why) => push_why_in(memory, text, *why),
+        Value::Standing(Why::Waits { .. }) => push_text(memory, text, "waits"),
+        Value::Standing(why) => push_why_in(memory, text, *why),
+        Value::Since(least, since) => push_since_in(memory, text, *least, *since),
         Value::Wide(number) => push_wide(memory, text, *number),
     }
 }
@@ -199,7 +219,9 @@ fn push_byte<M: TextMemory>(memory: &M, text: &mut String, byte: u8) -> Result<(
 
 /// Appends the character of this code.
 fn push_plain<M: TextMemory>(memory: &M, text: &mut String, code: u8) -> Result<(), AllocError>
-    ensures { ((n : ℕ) → M.grants memory.now n) → IsOk result }
+    ensures text { OnOk result
+        (code < 128 → string_bytes text.new ≡ string_bytes text.old ++ code ∷ []) }
+    ensures granted { ((n : ℕ) → M.grants memory.now n) → IsOk result }
 {
     memory.reserve_text(text, 2)?;
     text.push(code as char)

@@ -7,11 +7,11 @@ ghost use Rattle.uring_pictures.specs.Following.{Keeps, is_linux_at, linux_at, r
 ghost use Rattle.uring_pictures.specs.Graphs.{graph_of, nodes_below, arrows_below, first_of, is_chained, member_before, row_text, arrows_text, chain_arrow, drain_arrow};
 
 use crate::accepted::Accepted;
+use crate::form_text::{Value, push_form};
 use crate::node_text::{Place, push_placed};
 use std::alloc::AllocError;
 use uring_machine::{Since, Why};
-use uring_text::{TextMemory, push_named, push_text};
-use uring_trace::push_since_in;
+use uring_text::{TextMemory, push_text};
 
 /// Appends the graph of the outstanding requests. Here and below: if the memory grants whatever is asked for, there is no error.
 pub(crate) fn push_graph<M: TextMemory>(
@@ -206,9 +206,11 @@ fn push_arrow<M: TextMemory>(
         ≡ string_bytes text.old ++ (codes "  " ++ decimal number ++ codes " -> " ++ decimal other ++ style.now ++ since_text other since ++ codes "\"];\n")) }
     ensures granted { ((n : ℕ) → M.grants memory.now n) → IsOk result }
 {
-    push_named(memory, text, "  ", number)?;
-    push_named(memory, text, " -> ", other)?;
-    push_text(memory, text, style)?;
-    push_since_in(memory, text, other, since)?;
-    push_text(memory, text, "\"];\n")
+    let values = [
+        Value::Number(number),
+        Value::Number(other),
+        Value::Text(style),
+        Value::Since(other, since),
+    ];
+    push_form(memory, text, "  @ -> @@@\"];\n", &values)
 }

@@ -21,7 +21,7 @@ pub(crate) struct Moment {
     alloc: Global,
     // The number of the last line that counts, from 1 on; each does without one.
     at: Option<u64>,
-    accepted: Accepted,
+    pub(crate) accepted: Accepted,
     line: KeptLine,
     // The number of the unfinished line, from 1 on.
     number: u64,
@@ -47,16 +47,6 @@ impl Moment {
             number: 1,
         })
     }
-
-    /// The requests.
-    pub(crate) fn accepted(&self) -> &Accepted
-        ensures { result.now ≡ self.now.accepted }
-    {
-        &self.accepted
-    }
-
-    /// Lets it go.
-    pub(crate) fn let_go(self) {}
 
     /// Whether the unfinished line counts.
     fn counts(&self) -> bool

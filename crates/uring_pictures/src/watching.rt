@@ -88,12 +88,9 @@ pub(crate) fn watch_trace<M: TextMemory, W: Watcher, R: Read, E: Write>(
 {
     let mut explainer = Explainer::new_in(memory, alloc, setup)?;
     let watched = watch_all(memory, alloc, &mut explainer, watcher, reader, errors);
-    let_go(explainer);
+    drop(explainer);
     watched
 }
-
-/// Lets an explainer go.
-pub(crate) fn let_go(_explainer: Explainer) {}
 
 /// Takes in all lines that `reader` gives, and writes what is noted of the bad ones to `errors`. Returns whether a line was bad.
 ///

@@ -4,7 +4,7 @@ ghost use Rattle.std.specs.Prelude.{ℕ, IsOk};
 
 use crate::pages::change_text::{push_end, push_standing, push_state};
 use crate::pages::line_parts::result_of;
-use crate::pages::requests::Requests;
+use crate::pages::requests::Request;
 use crate::pages::submission::push_value;
 use std::alloc::{AllocError, Global};
 use uring_entry::{opcode, succeeded};
@@ -30,7 +30,8 @@ pub(crate) struct Look<'a> {
 /// How requests and completions stood after the last line.
 #[derive(Drop)]
 pub(crate) struct Changes {
-    pub(crate) requests: Requests,
+    // All requests that were accepted, by their numbers.
+    pub(crate) requests: Vec<Request>,
     // What the line has changed, as a member with an array that isn't ended; nothing, if it has changed nothing.
     pub(crate) text: String,
     outstanding: Vec<u64>,
@@ -47,7 +48,7 @@ impl Changes {
     /// Before the first line.
     pub(crate) fn new(alloc: Global) -> Changes {
         Changes {
-            requests: Requests::new(alloc),
+            requests: Vec::new(alloc),
             text: String::new(alloc),
             outstanding: Vec::new(alloc),
             posters: Vec::new(alloc),
@@ -90,10 +91,26 @@ impl Changes {
     ) -> Result<(), AllocError>
         ensures { ((n : ℕ) → M.grants memory.now n) → IsOk result }
     {
-        let number = self.requests.all.len() as u64;
-        self.requests.add(memory, entry, call, is_first)?;
+        let number = self.requests.len() as u64;
+        let request = Request {
+            entry: *entry,
+            call,
+            chain: self.next_chain(is_first),
+            why: Why::NeverAccepted,
+            issued: None,
+            ended: None,
+        };
+        push_value(memory, &mut self.requests, request)?;
         push_value(memory, &mut self.outstanding, number)?;
         push_state(memory, &mut self.text, number, "accepted")
+    }
+
+    /// The first member of the chain of the next request: a chain ends with its call, and after an entry without a link.
+    fn next_chain(&self, is_first: bool) -> u64 {
+        match self.requests.last() {
+            Some(before) if !is_first && before.entry.is_linked() => before.chain,
+            _ => self.requests.len() as u64,
+        }
     }
 
     /// Appends what has changed by a line.
@@ -138,7 +155,7 @@ impl Changes {
     /// Notes at which line a request was issued.
     fn note_issue(&mut self, look: &Look<'_>) {
         let Some(number) = look.moved else { return };
-        if let Some(request) = self.requests.all.get_mut(number as usize) {
+        if let Some(request) = self.requests.get_mut(number as usize) {
             if request.issued.is_none() {
                 request.issued = Some(look.line);
             }
@@ -191,7 +208,7 @@ impl Changes {
 
     /// Notes how a request stands at this line. Returns whether that has changed.
     fn has_changed(&mut self, number: u64, why: Why, line: u64) -> bool {
-        let Some(request) = self.requests.all.get_mut(number as usize) else {
+        let Some(request) = self.requests.get_mut(number as usize) else {
             return false;
         };
         if request.why == why {
@@ -262,7 +279,7 @@ impl Changes {
 
     /// The entry of a request, if it has ended at this line and has succeeded.
     fn succeeded_at(&self, number: u64, look: &Look<'_>) -> Option<Sqe> {
-        let request = self.requests.all.get(number as usize)?;
+        let request = self.requests.get(number as usize)?;
         if request.ended == Some(look.line) && succeeded(&request.entry, result_of(look.answer)) {
             Some(request.entry)
         } else {
@@ -292,7 +309,7 @@ impl Changes {
 
     /// Whether a write had ended when a sync of its file was issued.
     fn is_covered(&self, write: u64, sync: u64) -> bool {
-        let all = &self.requests.all;
+        let all = &self.requests;
         match (all.get(write as usize), all.get(sync as usize)) {
             (Some(write), Some(sync)) => {
                 write.entry.fd() == sync.entry.fd()

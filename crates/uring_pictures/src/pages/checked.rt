@@ -5,7 +5,7 @@ ghost use Rattle.std.specs.Prelude.{◌≢◌, ℕ, Err};
 use crate::pages::line_parts::{last_number, split_at_mark};
 use crate::pages::recorder::Recorder;
 use crate::pages::watching::{Form, write_form};
-use crate::watching::{Told, Watcher, let_go, watch_byte, watch_bytes};
+use crate::watching::{Told, Watcher, watch_byte, watch_bytes};
 use std::alloc::Global;
 use std::io::Write;
 use uring_machine::Setup;
@@ -50,7 +50,7 @@ pub fn recorded_page_in<M: TextMemory, W: Write>(
         Ok(()) => write_form(memory, &mut recorder, writer, form),
         Err(fault) => Err(fault),
     };
-    recorder.let_go();
+    drop(recorder);
     written
 }
 
@@ -76,7 +76,7 @@ fn record_lines<M: TextMemory>(
 {
     let mut explainer = Explainer::new_in(memory, alloc, setup)?;
     let recorded = record_all(memory, alloc, &mut explainer, recorder, trace, report);
-    let_go(explainer);
+    drop(explainer);
     recorded
 }
 

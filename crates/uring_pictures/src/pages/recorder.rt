@@ -6,7 +6,7 @@ use crate::form_text::{Value, push_form};
 use crate::moment::step_of;
 use crate::pages::changes::{Changes, Look};
 use crate::pages::line_parts::{last_number, split_at_mark};
-use crate::pages::requests::separator;
+use crate::pages::requests::{push_requests, separator};
 use crate::pages::state_text::{push_head, push_state};
 use crate::pages::submission::Submission;
 use crate::watching::{Told, Watcher};
@@ -58,9 +58,6 @@ impl Recorder {
             text,
         })
     }
-
-    /// Lets it go.
-    pub(crate) fn let_go(self) {}
 
     /// Looks at the machine before the line is answered.
     fn look<M: TextMemory>(&mut self, memory: &M, machine: &Machine) -> Result<(), AllocError>
@@ -135,7 +132,7 @@ impl Recorder {
         ensures { ((n : ℕ) → M.grants memory.now n) → IsOk result }
     {
         push_text(memory, &mut self.text, "\n],\"requests\":[")?;
-        self.changes.requests.push_all(memory, &mut self.text)?;
+        push_requests(memory, &mut self.text, &self.changes.requests)?;
         push_text(memory, &mut self.text, "\n]}\n")
     }
 
@@ -205,7 +202,7 @@ impl Recorder {
         let Step::Finish { number } = step else {
             return Ok(());
         };
-        let Some(request) = self.changes.requests.all.get(*number as usize) else {
+        let Some(request) = self.changes.requests.get(*number as usize) else {
             return Ok(());
         };
         let entry = &request.entry;

@@ -4,8 +4,7 @@ ghost use Rattle.std.specs.Prelude.{ℕ, IsOk};
 
 use crate::form_text::{Value, push_form};
 use crate::pages::entries::push_place;
-use crate::pages::submission::push_value;
-use std::alloc::{AllocError, Global};
+use std::alloc::AllocError;
 use uring_machine::{Sqe, Why};
 use uring_text::TextMemory;
 
@@ -30,64 +29,20 @@ pub(crate) struct Request {
     pub(crate) ended: Option<u64>,
 }
 
-/// All requests that were accepted, by their numbers.
-#[derive(Drop)]
-pub(crate) struct Requests {
-    pub(crate) all: Vec<Request>,
-}
-
-impl Requests {
-    /// No request yet.
-    pub(crate) fn new(alloc: Global) -> Requests {
-        Requests {
-            all: Vec::new(alloc),
-        }
+/// Appends all requests, by their numbers, as elements of an array.
+pub(crate) fn push_requests<M: TextMemory>(
+    memory: &M,
+    text: &mut String,
+    requests: &[Request],
+) -> Result<(), AllocError>
+    ensures { ((n : ℕ) → M.grants memory.now n) → IsOk result }
+{
+    let mut number: u64 = 0;
+    for request in requests {
+        push_request(memory, text, number, request)?;
+        number = number.saturating_add(1);
     }
-
-    /// Adds the request that this call accepted next. `is_first`: it is the first of its call.
-    pub(crate) fn add<M: TextMemory>(
-        &mut self,
-        memory: &M,
-        entry: &Sqe,
-        call: u64,
-        is_first: bool,
-    ) -> Result<(), AllocError>
-        ensures { ((n : ℕ) → M.grants memory.now n) → IsOk result }
-    {
-        let request = Request {
-            entry: *entry,
-            call,
-            chain: self.next_chain(is_first),
-            why: Why::NeverAccepted,
-            issued: None,
-            ended: None,
-        };
-        push_value(memory, &mut self.all, request)
-    }
-
-    /// The first member of the chain of the next request: a chain ends with its call, and after an entry without a link.
-    fn next_chain(&self, is_first: bool) -> u64 {
-        match self.all.last() {
-            Some(before) if !is_first && before.entry.is_linked() => before.chain,
-            _ => self.all.len() as u64,
-        }
-    }
-
-    /// Appends all requests, as elements of an array.
-    pub(crate) fn push_all<M: TextMemory>(
-        &self,
-        memory: &M,
-        text: &mut String,
-    ) -> Result<(), AllocError>
-        ensures { ((n : ℕ) → M.grants memory.now n) → IsOk result }
-    {
-        let mut number: u64 = 0;
-        for request in &self.all {
-            push_request(memory, text, number, request)?;
-            number = number.saturating_add(1);
-        }
-        Ok(())
-    }
+    Ok(())
 }
 
 /// What stands before an element of an array, which has a line of its own.

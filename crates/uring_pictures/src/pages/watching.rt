@@ -67,7 +67,7 @@ pub fn page_in<M: TextMemory, R: Read, W: Write, E: Write>(
         errors,
         form,
     );
-    recorder.let_go();
+    drop(recorder);
     drawn
 }
 
