@@ -15,14 +15,6 @@ pub place_told : {T : Type 0} (P : T → Type 0) (place : Option T) (boxed v : T
     → place ≡ Some boxed → v ≡ boxed → P v → IsSomeAnd place P
 place_told P place boxed v taken is told = subst (λ o. IsSomeAnd o P) (sym taken) (subst P is told)
 
--- and what came of it is in a place again
-pub places_told : {T : Type 0} (R : T → T → Type 0) (place before next : Option T) (boxed old new : T)
-    → before ≡ place → before ≡ Some boxed → old ≡ boxed → next ≡ Some new → R old new
-    → IsSomeAnd place (λ o. IsSomeAnd next (R o))
-places_told R place before next boxed old new kept taken is put told =
-    place_told (λ o. IsSomeAnd next (R o)) place boxed old (sym kept ∙ taken) is
-    (subst (λ o. IsSomeAnd o (R old)) (sym put) told)
-
 -- the descriptor was passed on to the call that found the file
 pub file_told : (P : Volume → Type 0) (place before : Option CrashMachine) (m boxed : CrashMachine) (fd : ℤ) (log : Log) (v : Volume)
     → SFits w32 fd → before ≡ place → before ≡ Some boxed → m ≡ boxed
@@ -42,7 +34,8 @@ pub file_there : (place : Option CrashMachine) (fd told : ℤ) → SFits w32 fd 
     × ((result ≡ neg_ℤ ENOENT) ↔ IsSomeAnd place (λ m. (m.is_lost ≡ false) × (log_at m.logs fd ≡ None)))
 file_there None fd told fits fits' others there = absurd there
 file_there (Some m) fd told fits fits' others there =
-    let same = to_z-of_z w32 told fits' in
-    ((λ e. absurd (others.0 (sym same ∙ e)), λ none. absurd (both_ways false refl (subst IsSome none refl))),
-    (λ e. absurd (others.1 (sym same ∙ e)), λ lost. absurd (both_ways m.is_lost there.0 lost)),
-    (λ e. absurd (others.2 (sym same ∙ e)), λ none. absurd (both_ways false refl (subst IsSome none.1 (subst (λ (n : ℤ). IsSome (log_at m.logs n)) (to_z-of_z w32 fd fits) there.1)))))
+    let same = to_z-of_z w32 told fits' in (
+      (λ e. absurd (others.0 (sym same ∙ e)), λ none. absurd (both_ways false refl (subst IsSome none refl))),
+      (λ e. absurd (others.1 (sym same ∙ e)), λ lost. absurd (both_ways m.is_lost there.0 lost)),
+      (λ e. absurd (others.2 (sym same ∙ e)), λ none. absurd (both_ways false refl (subst IsSome none.1 (subst (λ (n : ℤ). IsSome (log_at m.logs n)) (to_z-of_z w32 fd fits) there.1)))),
+    )

@@ -1,5 +1,5 @@
-use Rattle.std.proofs.Common.{List, length, ap, subst, sym, ◌∙◌}
-use Rattle.uring_crossing.proofs.Common.{IsSomeAnd, Sqe, SubmittedApart, core_in, length-map}
+use Rattle.std.proofs.Common.{length, ap, sym, ◌∙◌}
+use Rattle.uring_crossing.proofs.Common.{core_in, length-map}
 use Rattle.uring_crossing.specs.CoreWords.AnswerForm.{words_of}
 use Rattle.uring_crossing.proofs.Refusals.{submit_granted}
 use Rattle.uring_crossing.proofs.cores.whole_call_memory.core_submit_in.Goals as goal
@@ -11,10 +11,3 @@ returns-then-entries-eq1-clause-unrefused g c = λ done.
 pub returns-clause-unrefused : goal.returns-clause-unrefused
 returns-clause-unrefused g c = λ done.
     submit_granted (g.M.Memory.grants c.args.memory.now) (core_in c.args.place.now) (core_in c.submit_in-made-2.new.self) c.deref.result.now (length c.args.entries.now) (ap length (c.deref.ensures.value ∙ c.in-Ok.ensures.entries) ∙ length-map _ _) c.submit_in-made-2.result _ (c.answer_words-2.ensures ∙ ap words_of c.submit_told-2.ensures) c.submit_in-made-2.ensures.made c.submit_in-made-2.ensures.granted
-
-pub returns-clause-made : goal.returns-clause-made
-returns-clause-made g c = λ done. record {
-  given = c.submit_in-made-2.result;
-  told = c.answer_words-2.ensures ∙ ap words_of c.submit_told-2.ensures;
-  made = subst (λ (es : List Sqe). IsSomeAnd (core_in c.args.place.now) (λ before. IsSomeAnd (core_in c.submit_in-made-2.new.self) (SubmittedApart es c.submit_in-made-2.result before))) (c.deref.ensures.value ∙ c.in-Ok.ensures.entries) c.submit_in-made-2.ensures.made;
-}
