@@ -24,3 +24,18 @@ pub returns-clause-no_file : goal.returns-clause-no_file
 returns-clause-no_file g c =
     let none : c.refusal_of_file-refusal.result ≡ pos 0 = search rules in
     (file_there (crash_machine_in c.args.place.now) c.args.fd c.tell_count-told.result c.ranges.fd (search rules) c.tell_count-told.ensures.others (c.refusal_of_file-refusal.ensures.there none)).2
+
+pub returns-clause-results : goal.returns-clause-results
+returns-clause-results g c =
+    let same = to_z-of_z w32 c.tell_count-told.result (search rules) in
+    λ none place lost no_file. same ∙ c.tell_count-told.ensures.results (λ is. none (same ∙ is))
+
+pub returns-clause-refused : goal.returns-clause-refused
+returns-clause-refused g c =
+    let same = to_z-of_z w32 c.tell_count-told.result (search rules) in
+    λ fails. c.tell_count-told.ensures.refused (λ is. fails (same ∙ is))
+
+pub returns-clause-granted : goal.returns-clause-granted
+returns-clause-granted g c =
+    let same = to_z-of_z w32 c.tell_count-told.result (search rules) in
+    λ all is. c.tell_count-told.ensures.granted all (sym same ∙ is)
