@@ -1,6 +1,7 @@
 -- A list that is cut part by part.
 use Rattle.std.proofs.Common.{◌≡◌, ◌<◌, ◌≤◌, ◌+◌, ◌-◌, ◌++◌, ◌∷◌, ℕ, zero, suc, List, [], length, map, take, drop, min, get_or, refl, sym, subst, ap, ◌∙◌, arith}
 use Rattle.std.proofs.Math.Seq.{drop-cons, drop-nil}
+use Rattle.std.proofs.lemmas.List.{append-nil, drop_all}
 use Rattle.uring_crossing.proofs.Common.{AreShort, Sqe, append_assoc, cut, drop_min, length-drop, length-map, length-take, map-append, take_min}
 use Rattle.uring_files.specs.Contents.{max_len}
 use Rattle.uring_outcomes.specs.Faults.{entry_count}
@@ -39,6 +40,12 @@ cut_step f done new part lens values i j from to len all within next is ends giv
     ap (λ ps. map f ps ++ rest) pushed ∙ ap (λ ys. ys ++ rest) (map-append f done (part ∷ []))
     ∙ append_assoc (map f done) (f part ∷ []) rest ∙ ap (λ p. map f done ++ p ∷ rest) gives
     ∙ sym (ap (λ cs. map f done ++ cs) (cut_next lens values i j from to len within next is ends)) ∙ so
+
+-- after the last length there is nothing left to cut, and nothing to make of a list at its end
+pub nothing_left : {X Y : Type 0} (f : List X → List Y) (xs : List X) (i : ℕ) (done all : List Y) → length xs ≤ i
+    → f [] ≡ [] → done ++ f (drop i xs) ≡ all → done ≡ all
+nothing_left f xs i done all past none so =
+    sym (append-nil done) ∙ ap (λ ys. done ++ ys) (sym (ap f (drop_all i xs past) ∙ none)) ∙ so
 
 -- there are as many parts as lengths
 cut_many : {X : Type 0} (lens : List ℕ) (values : List X) → length (cut lens values) ≡ length lens

@@ -11,6 +11,7 @@ pub mod Holding
 pub mod Starts
 pub mod Refusals
 pub mod Cutting
+pub mod Files
 -- What a call is told to have done, as steps and as text:
 mod TracedSteps
 mod TracedPlaces

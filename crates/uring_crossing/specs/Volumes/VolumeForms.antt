@@ -1,9 +1,11 @@
 -- What a call on a volume writes for C.
-use Rattle.std.specs.Prelude.{◌≡◌, ℕ, ◌<◌, ◌≤◌, ◌-◌, ◌^◌, min, List, [], ◌∷◌, ◌++◌, map, length, slice_index}
+use Rattle.std.specs.Prelude.{◌≡◌, ℕ, ℤ, neg_ℤ, ◌<◌, ◌≤◌, ◌-◌, ◌^◌, min, List, [], ◌∷◌, ◌++◌, map, length, slice_index}
 use Rattle.uring_volume.specs.Images.{IsImage}
 use Rattle.uring_volume.specs.Choices.{IsLeftBy}
 use Rattle.uring_volume.specs.Listing.{AreTheImages}
 use Rattle.uring_volume.specs.Volume.{Volume, IsShown}
+use Rattle.uring_entry.specs.declared.errno.TheConstants.{EBADF, ENOENT}
+use Rattle.uring_crossing.specs.declared.machines.crash_machine_memory.TheConstants.{ENOTRECOVERABLE}
 
 -- Room for bytes holds as many of these as it has room for, and what was there after them; and their number is told.
 pub record IsGiven (now old new : List ℕ) (len : ℕ) : Type 0 where
@@ -47,3 +49,8 @@ pub record HasMore (v : Volume) (most : ℕ) : Type 0 where
   pub all : List (List ℕ)
   pub images : AreTheImages v.unit v.first v.history all
   pub more : most < length all
+
+-- what is told of a volume that is there is no refusal of its place
+abbrev pub TellsNoPlace : ℤ → Type 0
+TellsNoPlace result =
+    (result ≡ neg_ℤ EBADF → ⊥) × (result ≡ neg_ℤ ENOTRECOVERABLE → ⊥) × (result ≡ neg_ℤ ENOENT → ⊥)

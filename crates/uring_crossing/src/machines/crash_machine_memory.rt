@@ -16,14 +16,13 @@ use crate::core_words::cuts::{cut, none_is_over};
 use crate::core_words::set_up_words::SetupWords;
 use crate::machines::crash_machine_calls::{crash, stepped};
 use crate::machines::crash_machine_place::CrashMachinePlace;
-use crate::volumes::volume_memory::{MOST_IMAGES, give, give_images};
+use crate::volumes::volume_memory::{tell_count, tell_crash, tell_images};
 use std::alloc::Global;
 use uring_core::StepWords;
 use uring_entry::errno;
 use uring_epochs::CrashMachine;
 use uring_machine::Setup;
 use uring_memory::Memory;
-use uring_volume::ImagesError;
 
 /// The error number of a machine that is lost: memory was refused for one of its steps.
 pub const ENOTRECOVERABLE: i32 = 131;
@@ -236,13 +235,9 @@ pub fn crash_machine_image_in<M: Memory>(
     let Some(log) = machine.log(fd) else {
         unreachable!()
     };
-    let made = log.crash_in(memory, choice);
+    let told = tell_crash(memory, alloc, log.volume(), choice, bytes, len);
     place.put(machine);
-    let Ok(now) = made else {
-        return -errno::ENOMEM;
-    };
-    *len = give(&now, bytes);
-    0
+    told
 }
 
 /// What `wulgach_crash_machine_count_images` does, by this memory. If it grants whatever is asked for, -12 isn't returned.
@@ -275,13 +270,9 @@ pub fn crash_machine_count_images_in<M: Memory>(
     let Some(log) = machine.log(fd) else {
         unreachable!()
     };
-    let made = log.volume().count_images_in(memory, alloc);
+    let told = tell_count(memory, alloc, log.volume(), count);
     place.put(machine);
-    let Ok(now) = made else {
-        return -errno::ENOMEM;
-    };
-    *count = now;
-    0
+    told
 }
 
 /// What `wulgach_crash_machine_images` does, by this memory. If it grants whatever is asked for, -12 isn't returned.
@@ -320,20 +311,11 @@ pub fn crash_machine_images_in<M: Memory>(
     if refusal != 0 {
         return refusal;
     }
-    let most = lens.len().min(MOST_IMAGES) as u32;
     let machine = place.take_full(alloc);
     let Some(log) = machine.log(fd) else {
         unreachable!()
     };
-    let made = log.volume().images_in(memory, alloc, most);
+    let told = tell_images(memory, alloc, log.volume(), bytes, lens, count, total);
     place.put(machine);
-    let images = match made {
-        Ok(images) => images,
-        Err(ImagesError::TooMany) => return -errno::EFBIG,
-        Err(ImagesError::OutOfMemory) => return -errno::ENOMEM,
-    };
-    match give_images(memory, alloc, &images, bytes, lens, count, total) {
-        Ok(()) => 0,
-        Err(_) => -errno::ENOMEM,
-    }
+    told
 }

@@ -5,7 +5,7 @@ ghost use Rattle.uring_volume.specs.Volume.{with_write, with_sync, elements_to_b
 ghost use Rattle.uring_volume.specs.declared.volume.BeginError.TheVariants.{OutOfMemory, OutOfNumbers};
 ghost use Rattle.uring_crossing.specs.Boxes.Places.{volume_in};
 ghost use Rattle.uring_crossing.specs.Volumes.VolumeForms as spec;
-ghost use Rattle.uring_crossing.specs.Volumes.VolumeForms.{IsGiven, TellsContents, TellsCrash, TellsCount, TellsImages, HasMore};
+ghost use Rattle.uring_crossing.specs.Volumes.VolumeForms.{IsGiven, TellsContents, TellsCrash, TellsCount, TellsImages, HasMore, TellsNoPlace};
 ghost use Rattle.uring_volume.specs.Writes.{Write};
 ghost use Rattle.uring_volume.specs.Folds.{IsFoldable, IsFoldedFrom};
 
@@ -207,9 +207,27 @@ pub fn volume_crash_in<M: Memory>(
         return -errno::EBADF;
     }
     let volume = place.take_full(alloc);
-    let made = volume.crash_in(memory, alloc, choice);
+    let told = tell_crash(memory, alloc, &volume, choice, bytes, len);
     place.put(volume);
-    let Ok(now) = made else {
+    told
+}
+
+/// Tells C what a choice leaves of a volume: 0, or -12 (ENOMEM) if memory isn't granted.
+pub(crate) fn tell_crash<M: Memory>(
+    memory: &M,
+    alloc: Global,
+    volume: &Volume,
+    choice: &[u64],
+    bytes: &mut [u8],
+    len: &mut u64,
+) -> i32
+    ensures results { (result ≡ pos 0 → ⊥) → result ≡ neg_ℤ ENOMEM }
+    ensures others { TellsNoPlace result }
+    ensures refused { (result ≡ pos 0 → ⊥) → (bytes.new ≡ bytes.old) × (len.new ≡ len.old) }
+    ensures told { result ≡ pos 0 → TellsCrash volume.now choice.now bytes.old bytes.new len.new }
+    ensures granted { ((n : ℕ) → M.grants memory.now n) → result ≡ neg_ℤ ENOMEM → ⊥ }
+{
+    let Ok(now) = volume.crash_in(memory, alloc, choice) else {
         return -errno::ENOMEM;
     };
     *len = give(&now, bytes);
@@ -304,9 +322,25 @@ pub fn volume_count_images_in<M: Memory>(
         return -errno::EBADF;
     }
     let volume = place.take_full(alloc);
-    let made = volume.count_images_in(memory, alloc);
+    let told = tell_count(memory, alloc, &volume, count);
     place.put(volume);
-    let Ok(now) = made else {
+    told
+}
+
+/// Tells C how many images a volume has: 0, or -12 (ENOMEM) if memory isn't granted.
+pub(crate) fn tell_count<M: Memory>(
+    memory: &M,
+    alloc: Global,
+    volume: &Volume,
+    count: &mut u64,
+) -> i32
+    ensures results { (result ≡ pos 0 → ⊥) → result ≡ neg_ℤ ENOMEM }
+    ensures others { TellsNoPlace result }
+    ensures refused { (result ≡ pos 0 → ⊥) → count.new ≡ count.old }
+    ensures told { result ≡ pos 0 → TellsCount volume.now count.new }
+    ensures granted { ((n : ℕ) → M.grants memory.now n) → result ≡ neg_ℤ ENOMEM → ⊥ }
+{
+    let Ok(now) = volume.count_images_in(memory, alloc) else {
         return -errno::ENOMEM;
     };
     *count = now;
@@ -363,10 +397,33 @@ pub fn volume_images_in<M: Memory>(
         return -errno::EBADF;
     }
     let volume = place.take_full(alloc);
-    let most = lens.len().min(MOST_IMAGES) as u32;
-    let made = volume.images_in(memory, alloc, most);
+    let told = tell_images(memory, alloc, &volume, bytes, lens, count, total);
     place.put(volume);
-    let images = match made {
+    told
+}
+
+/// Tells C the images of a volume: 0, -27 (EFBIG) if there are more than it has lengths for, or -12 (ENOMEM) if memory isn't granted.
+pub(crate) fn tell_images<M: Memory>(
+    memory: &M,
+    alloc: Global,
+    volume: &Volume,
+    bytes: &mut [u8],
+    lens: &mut [u64],
+    count: &mut u64,
+    total: &mut u64,
+) -> i32
+    ensures results { (result ≡ pos 0 → ⊥) → (result ≡ neg_ℤ EFBIG → ⊥) → result ≡ neg_ℤ ENOMEM }
+    ensures others { TellsNoPlace result }
+    ensures refused { (result ≡ pos 0 → ⊥) → (bytes.new ≡ bytes.old) × (lens.new ≡ lens.old)
+        × (count.new ≡ count.old) × (total.new ≡ total.old) }
+    ensures too_many { result ≡ neg_ℤ EFBIG → HasMore volume.now (min (length lens.old) (2 ^ 32 - 1)) }
+    ensures within { result ≡ pos 0 → count.new ≤ min (length lens.old) (2 ^ 32 - 1) }
+    ensures told { result ≡ pos 0
+        → TellsImages volume.now bytes.old bytes.new lens.old lens.new count.new total.new }
+    ensures granted { ((n : ℕ) → M.grants memory.now n) → result ≡ neg_ℤ ENOMEM → ⊥ }
+{
+    let most = lens.len().min(MOST_IMAGES) as u32;
+    let images = match volume.images_in(memory, alloc, most) {
         Ok(images) => images,
         Err(ImagesError::TooMany) => return -errno::EFBIG,
         Err(ImagesError::OutOfMemory) => return -errno::ENOMEM,

@@ -1,6 +1,6 @@
-use Rattle.std.proofs.Common.{◌≡◌, ◌+◌, suc, get_or, refl, arith}
+use Rattle.std.proofs.Common.{◌≡◌, ◌+◌, suc, drop, get_or, map, refl, arith}
 use Rattle.uring_crossing.specs.CoreWords.Cuts.{cut}
-use Rattle.uring_crossing.proofs.Cutting.{cut_step}
+use Rattle.uring_crossing.proofs.Cutting.{cut_step, nothing_left}
 use Rattle.uring_crossing.proofs.core_words.cuts.cut.Goals as goal
 
 pub loop-len-preserved : goal.loop-len-preserved
@@ -13,3 +13,8 @@ loop-len-preserved g c =
       many = omega (arith, i.many);
       room = omega (arith, i.room, c.push_reserved.ensures.capacity);
     }
+
+pub returns-clause-parts : goal.returns-clause-parts
+returns-clause-parts g c =
+    let l = c.loop-len in
+    nothing_left (λ ls. cut ls (drop l.from c.args.values.now)) c.args.lens.now l.len-index (map (λ p. p.items) l.parts.items) (cut c.args.lens.now c.args.values.now) (omega arith) refl l.invariant.parts
