@@ -1,7 +1,6 @@
 -- What a machine that fits a history never wants, so that the judge of an end refuses for want of memory alone.
 use Rattle.std.proofs.Common.{◌≡◌, ◌≤◌, ℕ, ℤ, ◌∷◌, ◌⊎◌, pos, neg_ℤ, Bool, true, false, List, [], refl, sym, ap, subst, ◌∙◌, inl, inr, arith}
-use Rattle.uring_check.proofs.Common.{Answer, AnyEnd, CalledIn, Follower, HasOneAnswer, History, IsEnded, IsWanted, OrAgain, Requests, Setup, Step, World, if◌then◌else◌, is_apart, is_running, is_some, is_spent, negsuc, rules_of, true≢false, world}
-use Rattle.uring_entry.specs.declared.errno.TheConstants.{ENOMEM}
+use Rattle.uring_check.proofs.Common.{AllowedBy, Answer, AnyEnd, CalledIn, ENOMEM, EndOrNoMemory, Ends, FinishesApart, Follower, HasOneAnswer, History, IsEnded, IsWanted, IsWrong, MayGive, Meets, OrAgain, Requests, Setup, Step, World, entry_in, if◌then◌else◌, is_apart, is_running, is_some, is_spent, negsuc, no_bytes, rules_of, true≢false, world}
 use Rattle.uring_entry.specs.Submission.{call_length}
 use Rattle.uring_entry.specs.declared.operation.Outcome.{Outcome}
 use Rattle.uring_files.specs.Contents.{FileContents}
@@ -38,6 +37,10 @@ end_with bytes = answer.Ended (pos 0) bytes
 abbrev IsNoByte : List ℕ → Type 0
 IsNoByte [] = Unit {0}
 IsNoByte (byte ∷ bytes) = ⊥
+
+abbrev GivesEnd : Answer → Type 0
+GivesEnd (answer.Ended res bytes) = Unit {0}
+GivesEnd _ = ⊥
 
 abbrev IsSuccess : ℤ → Type 0
 IsSuccess (pos n) = Unit {0}
@@ -119,6 +122,28 @@ any_apart m s h is off = go (is_apart (rules_of m).ends) s (any_called (is_apart
     go : (apart : Bool) (t : Step) → IsAnyhow apart t → apart ≡ false → ⊥
     go true t any off = absurd (true≢false off)
     go false t any off = any
+
+-- without files no two ends alone are wanted
+no_either : (running : Bool) (res : ℤ)
+    → ((a : Answer) → FinishesApart running a → Meets (EndOrNoMemory res) a)
+    → ((a : Answer) → Meets (EndOrNoMemory res) a → FinishesApart running a) → ⊥
+no_either true res called only = elim (called (end_with []) tt) [
+  | inl e ↦ subst GivesNoByte e tt
+  | inr e ↦ subst GivesNoByte e tt
+]
+no_either false res called only = subst GivesEnd (only (answer.Ended res no_bytes) (inl refl)) tt
+
+-- so results need not be allowed where they are
+pub either_allowed : (m : Follower) (s : Step) (h : History) (res : ℤ) (x : Answer)
+    → IsWanted h m s (EndOrNoMemory res) → AllowedBy (rules_of m) h s x
+either_allowed m s h res x is = go x (rules_of m).ends s is.0
+  where
+    go : (y : Answer) (e : Ends) (t : Step) → IsWrong (CalledIn (is_apart e) (rules_of m).setup (world (rules_of m).setup h) t) answer.Filled (EndOrNoMemory res) → MayGive y (entry_in e (world (rules_of m).setup h).requests t)
+    go (answer.Ended z bytes) ends.Allowed (step.Finish n) w = absurd (no_either (is_running (world (rules_of m).setup h).requests n) res w.called w.only)
+    go (answer.Ended z bytes) ends.Allowed _ w = tt
+    go (answer.Ended z bytes) ends.Given t w = tt
+    go (answer.Ended z bytes) ends.Any t w = tt
+    go _ e t w = tt
 
 -- so many elements suffice
 pub at_most : (n : ℕ) → n ≤ n

@@ -1,7 +1,6 @@
 -- Whose completions were posted.
 use Rattle.std.proofs.Common.{◌≡◌, ℕ, Bool, true, false, List, [], ◌∷◌, ◌++◌, length, Option, Some, None, sym, ap, ◌∙◌, append-nil, arith}
-use Rattle.uring_check.proofs.Common.{Answer, AnyEnd, CallOrAgain, EndOrNoMemory, Ending, FitsBy, Follower, History, IsLawfulApart, Only, Setup, Step, Wanted, World, entry_of, if◌then◌else◌, le-leb, length-append, lt-leb, noted_poster, number_in, poster_of, posters, rules_of, world}
-use Rattle.uring_core.specs.Recorded.{resumed}
+use Rattle.uring_check.proofs.Common.{Answer, AnyEnd, CallOrAgain, EndOrNoMemory, Ending, FitsBy, Follower, History, IsLawfulApart, Only, Setup, Step, Wanted, World, entry_of, if◌then◌else◌, le-leb, length-append, lt-leb, noted_poster, number_in, poster_of, posters, resumed, rules_of, world}
 use Rattle.uring_entry.specs.Completions.{Completions, completion_for, with_posted}
 use Rattle.uring_entry.specs.Layout.{Cqe}
 use Rattle.uring_rules.specs.Rules.{posts}

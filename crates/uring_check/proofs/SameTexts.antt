@@ -1,8 +1,7 @@
 -- No two answers that are called for to one step have the same text.
 use Rattle.std.proofs.Common.{◌≡◌, ℕ, pos, neg_ℤ, ◌^◌, ◌<◌, Bool, true, false, List, get_or, drop, sym, ap, ◌∙◌, inl, inr, arith}
 use Rattle.std.proofs.lemmas.Fmt.{signed_decimal_injective}
-use Rattle.uring_check.proofs.Common.{Answer, OrAgain, Requests, Setup, Step, World, begin_answer, entry_of, is_running, no_bytes, text_of}
-use Rattle.uring_entry.specs.declared.errno.TheConstants.{ENOMEM}
+use Rattle.uring_check.proofs.Common.{Answer, ENOMEM, OrAgain, Requests, Setup, Step, World, begin_answer, entry_of, is_running, no_bytes, text_of}
 use Rattle.uring_entry.specs.Preparation.{operation_of}
 use Rattle.uring_entry.specs.declared.operation.Op.{Op}
 use Rattle.uring_entry.specs.declared.operation.Outcome.{Outcome}

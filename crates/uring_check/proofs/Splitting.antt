@@ -110,9 +110,15 @@ pub recorded : (line before text : List ℕ) (s : Step) → length line ≤ 300 
 recorded line before text s short h is =
     record { short = short; before = before; whole = h.whole; first = h.first; step = is }
 
+pub unsplit_none : (line : List ℕ) → IsUnsplit line → IsNoRecord line
+unsplit_none line none = λ s text r. none r.before text (split_of line s text r)
+
 pub bad_none : (line before text : List ℕ) → IsSplit line before text → IsBad before
     → IsNoRecord line
 bad_none line before text h bad = λ s other r. bad s (subst (λ (l : List ℕ). IsStep l s) (split_once line r.before other before text (split_of line s other r) h).0 r.step)
+
+pub long_none : (line : List ℕ) → 300 < length line → IsNoRecord line
+long_none line long = λ s text r. let short : length line ≤ 300 = r.short in absurd (omega arith)
 
 -- a line records one step with one text at most
 pub record_once : (line : List ℕ) (s t : Step) (text rest : List ℕ) → IsRecord line s text

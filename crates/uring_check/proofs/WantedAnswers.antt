@@ -1,8 +1,7 @@
 -- What a text says of the answers that are called for.
-use Rattle.std.proofs.Common.{◌≡◌, drop, ◌∷◌, ℕ, ℤ, Bool, true, false, List, [], Option, Some, None, refl, sym, ap, subst, ◌∙◌}
-use Rattle.uring_check.proofs.Common.{AllowedBy, Answer, AnyEnd, CalledBy, CalledForApart, CalledIn, FinishesApart, FitsBy, Follower, HasOneAnswer, History, IsEnded, IsJudged, IsOneJudged, IsPlain, IsWanted, IsWrongText, Judges, MayGive, Only, Requests, Rules, Setup, Step, Wanted, World, entry_asked, entry_in, entry_outstanding, is_apart, is_running, no_bytes, rules_of, text_of, world}
-use Rattle.uring_check.specs.declared.ends.Ends.{Ends}
-use Rattle.uring_core.specs.Recorded.{IsWrong}
+use Rattle.std.proofs.Common.{◌≡◌, drop, ◌∷◌, ℕ, ℤ, neg_ℤ, Bool, true, false, List, [], Option, Some, None, refl, sym, ap, subst, ◌∙◌, inl, inr}
+use Rattle.uring_check.proofs.Common.{AllowedBy, Answer, AnyEnd, CallOrAgain, CalledBy, CalledForApart, CalledIn, ENOMEM, EndOrNoMemory, Ends, FinishesApart, FitsBy, Follower, HasOneAnswer, History, IsEither, IsEnded, IsJudged, IsOneJudged, IsPlain, IsWanted, IsWrong, IsWrongText, Judges, MayGive, Only, Requests, Rules, Setup, Step, Wanted, World, entry_asked, entry_in, entry_outstanding, is_apart, is_running, no_bytes, rules_of, text_of, world}
+use Rattle.uring_core.specs.Core.{IsNoFinish}
 use Rattle.uring_core.specs.declared.answer.Answer.TheVariants as answer
 use Rattle.uring_core.specs.declared.step.Step.TheVariants as step
 use Rattle.uring_text.specs.Spelling.{IsFile}
@@ -34,6 +33,11 @@ one_called : (g : Rules) (h : History) (s : Step) (a b : Answer) → HasOneAnswe
     → CalledBy g h s b → a ≡ b
 one_called g h s a b one p q =
     one_answer (is_apart g.ends) g.setup (world g.setup h) s a b one p q
+
+-- such a step is no Finish
+pub no_finish : (s : Step) → HasOneAnswer s → IsNoFinish s
+no_finish (step.Finish n) one = one
+no_finish _ one = tt
 
 -- an answer to such a step is told by its text
 plain_one : (a : Answer) (apart : Bool) (s : Step) → HasOneAnswer s → IsPlain a apart s
@@ -154,3 +158,22 @@ end_refused h m s text res file same bad is = (
   },
   is.1,
 )
+
+-- ---- either of two answers
+
+pub either_call : (length : ℕ) → IsEither (CallOrAgain length) (answer.Call length) answer.Again
+either_call length = record {
+  meets = λ a h. h;
+  one_meets = inl refl;
+  other_meets = inr refl;
+  nothing = λ s h. refl;
+}
+
+pub either_end : (res : ℤ)
+    → IsEither (EndOrNoMemory res) (answer.Ended res no_bytes) (answer.Ended (neg_ℤ ENOMEM) no_bytes)
+either_end res = record {
+  meets = λ a h. h;
+  one_meets = inl refl;
+  other_meets = inr refl;
+  nothing = λ s h. refl;
+}

@@ -1,8 +1,7 @@
 -- A list that is cut part by part.
 use Rattle.std.proofs.Common.{◌≡◌, ◌<◌, ◌≤◌, ◌+◌, ◌-◌, ◌++◌, ◌∷◌, ℕ, zero, suc, List, [], length, map, take, drop, min, get_or, refl, sym, subst, ap, ◌∙◌, arith}
 use Rattle.std.proofs.Math.Seq.{drop-cons, drop-nil}
-use Rattle.std.proofs.lemmas.List.{append-nil, drop_all}
-use Rattle.uring_crossing.proofs.Common.{AreShort, Sqe, append_assoc, cut, drop_min, length-drop, length-map, length-take, map-append, take_min}
+use Rattle.uring_crossing.proofs.Common.{AreShort, Sqe, append-nil, append_assoc, cut, drop_all, drop_min, length-drop, length-map, length-take, map-append, take_min}
 use Rattle.uring_files.specs.Contents.{max_len}
 use Rattle.uring_outcomes.specs.Faults.{entry_count}
 

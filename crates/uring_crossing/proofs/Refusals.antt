@@ -1,6 +1,6 @@
 -- Which words tell that memory was refused.
 use Rattle.std.proofs.Common.{◌≡◌, ℕ, ◌≤◌, Bool, true, false, List, length, Option, Some, None, Result, Ok, Err, if◌then◌else◌, refl, sym, ap, subst, arith}
-use Rattle.uring_crossing.proofs.Common.{Core, FitsApart, History, IfSome, IsErrOf, IsSomeAnd, Setup, Sqe, Step, SubmittedApart, TellsUnrefusedOn, elements_for, elements_for_call, nat_lt, submit_told, world}
+use Rattle.uring_crossing.proofs.Common.{Core, CrashMachine, Epoch, FitsApart, FitsRun, History, IfSome, IsErrOf, IsSomeAnd, Setup, Sqe, Step, SubmittedApart, TellsUnrefusedOn, elements_for, elements_for_call, nat_lt, submit_told, world}
 use Rattle.uring_entry.specs.Submission.{Call}
 use Rattle.uring_core.specs.World.{World}
 use Rattle.uring_core.specs.StepAnswers.{end_answer_in}
@@ -12,7 +12,6 @@ use Rattle.uring_core.specs.declared.cores.submit.NotSubmitted.{NotSubmitted}
 use Rattle.uring_core.specs.declared.cores.submit.NotSubmitted.TheVariants as not_made_as
 use Rattle.uring_machine.specs.Machine.{Machine, Fits, IsUnrefused, elements_for_step}
 use Rattle.uring_epochs.specs.Asked.{IsUnrefusedOn}
-use Rattle.uring_epochs.specs.Epochs.{CrashMachine, Epoch, FitsRun}
 use Rattle.uring_crossing.specs.CoreWords.AnswerForm.{kind_of, words_of, IsAgain}
 use Rattle.uring_crossing.specs.Cores.Stepping.{TellUnrefused}
 use Rattle.uring_crossing.specs.declared.core_words.answer_words.AnswerWords.{AnswerWords}

@@ -81,3 +81,17 @@ refusal_reason grants calls refused.Spent spent memory = spent refl
 refusal_reason grants calls refused.NoMemory spent memory = memory refl
 
 -- what it doesn't end by
+
+pub spent_only : {T : Type 0} (grants : ℕ → Type 0) (calls : List (List Sqe)) (r : Result T WalkFault)
+    → IfErr r (IsReason grants calls) → r ≡ Err fault.Spent → 2 ^ 63 ≤ entry_count calls
+spent_only grants calls r reason is = subst (λ x. IfErr x (IsReason grants calls)) is reason
+
+pub never_paths : {T : Type 0} (grants : ℕ → Type 0) (calls : List (List Sqe)) (r : Result T WalkFault)
+    → IfErr r (IsReason grants calls) → r ≡ Err fault.Paths → ⊥
+never_paths grants calls r reason is = subst (λ x. IfErr x (IsReason grants calls)) is reason
+
+pub spent_but_paths : {T : Type 0} (grants : ℕ → Type 0) (calls : List (List Sqe)) (r : Result T WalkFault)
+    → IfErr r (λ f. (f ≡ fault.Paths → ⊥) → IsReason grants calls f) → r ≡ Err fault.Spent
+    → 2 ^ 63 ≤ entry_count calls
+spent_but_paths grants calls r reason is =
+    subst (λ x. IfErr x (λ f. (f ≡ fault.Paths → ⊥) → IsReason grants calls f)) is reason (λ e. cc)

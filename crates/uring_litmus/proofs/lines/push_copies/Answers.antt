@@ -1,5 +1,5 @@
 use Rattle.std.proofs.Common.{rules}
-use Rattle.uring_litmus.proofs.Common.{string_bytes}
+use Rattle.std.specs.Prelude.{string_bytes}
 use Rattle.uring_litmus.proofs.Texts.{map_more}
 use Rattle.uring_litmus.proofs.lines.push_copies.Goals as goal
 

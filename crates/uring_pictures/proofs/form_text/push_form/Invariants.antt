@@ -1,5 +1,5 @@
 use Rattle.std.proofs.Common.{◌≡◌, ◌≤◌, ◌++◌, drop, true}
-use Rattle.uring_pictures.proofs.Common.{string_bytes}
+use Rattle.std.specs.Prelude.{string_bytes}
 use Rattle.uring_pictures.specs.Forms.{form_text, is_told}
 use Rattle.uring_pictures.proofs.form_text.push_form.Given as goal
 

@@ -1,8 +1,7 @@
 use Rattle.std.proofs.Common.{ℕ, List, refl, ap, ◌++◌, ◌∙◌}
-use Rattle.uring_pictures.proofs.Common.{codes, decimal, on_ok_weaker, shape_of, standing_text, string_bytes, user_data_of}
+use Rattle.uring_pictures.proofs.Common.{codes, decimal, flag_text, on_ok_weaker, shape_of, standing_text, string_bytes, user_data_of}
 use Rattle.uring_entry.specs.Flags.{io_drain, io_link, io_hardlink, skip_success}
 use Rattle.uring_text.specs.Forms.{operation_text}
-use Rattle.uring_pictures.specs.Graphs.{flag_text}
 use Rattle.uring_pictures.proofs.Arrows.{node_parts}
 use Rattle.uring_pictures.proofs.node_text.push_node.Goals as goal
 

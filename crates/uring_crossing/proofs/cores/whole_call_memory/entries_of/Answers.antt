@@ -1,6 +1,5 @@
 use Rattle.std.proofs.Common.{length, map, ap, ◌∙◌, arith}
-use Rattle.std.proofs.lemmas.List.{take_all}
-use Rattle.uring_crossing.proofs.Common.{length-map, length-take}
+use Rattle.uring_crossing.proofs.Common.{length-map, length-take, take_all}
 use Rattle.uring_crossing.proofs.cores.whole_call_memory.entries_of.Goals as goal
 
 pub push_reserved-requires : goal.push_reserved-requires

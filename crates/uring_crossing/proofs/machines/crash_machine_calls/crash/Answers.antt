@@ -1,6 +1,5 @@
 use Rattle.std.proofs.Common.{◌≤◌, ℕ, List, map, subst, sym, arith}
-use Rattle.uring_crossing.proofs.Common.{GoesOn, IfOk-weaker}
-use Rattle.uring_epochs.specs.Epochs.{CrashMachine}
+use Rattle.uring_crossing.proofs.Common.{CrashMachine, GoesOn, IfOk-weaker}
 use Rattle.uring_crossing.proofs.machines.crash_machine_calls.crash.Goals as goal
 
 pub returns-clause-left : goal.returns-clause-left

@@ -1,8 +1,6 @@
 use Rattle.std.proofs.Common.{◌≡◌, pos, w32, sym, ◌∙◌, rules}
-use Rattle.std.proofs.lemmas.Int.{to_z-of_z}
-use Rattle.uring_crossing.specs.Boxes.Places.{crash_machine_in}
+use Rattle.uring_crossing.proofs.Common.{TellsCrash, crash_machine_in, to_z-of_z}
 use Rattle.uring_crossing.proofs.Files.{file_there, file_told}
-use Rattle.uring_crossing.specs.Volumes.VolumeForms.{TellsCrash}
 use Rattle.uring_crossing.proofs.machines.crash_machine_memory.crash_machine_image_in.Goals as goal
 
 pub returns-clause-told : goal.returns-clause-told

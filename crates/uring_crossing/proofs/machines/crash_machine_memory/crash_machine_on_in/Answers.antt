@@ -1,7 +1,5 @@
 use Rattle.std.proofs.Common.{rules, ◌≡◌, ℕ, map, ap, ◌∙◌, arith}
-use Rattle.uring_crossing.proofs.Common.{AreShort, cut}
-use Rattle.std.specs.declared.vec.Vec.{Vec}
-use Rattle.std.specs.declared.alloc.Global.{Global}
+use Rattle.uring_crossing.proofs.Common.{AreShort, Global, Vec, cut}
 use Rattle.uring_crossing.proofs.Cutting.{parts_many, parts_short}
 use Rattle.uring_crossing.proofs.machines.crash_machine_memory.crash_machine_on_in.Goals as goal
 

@@ -1,7 +1,5 @@
 use Rattle.std.proofs.Common.{◌≡◌, List, length, map, ap, ◌∙◌, arith}
-use Rattle.std.specs.declared.vec.Vec.{Vec}
-use Rattle.std.specs.declared.alloc.Global.{Global}
-use Rattle.uring_crossing.proofs.Common.{Sqe, cut}
+use Rattle.uring_crossing.proofs.Common.{Global, Sqe, Vec, cut}
 use Rattle.uring_outcomes.specs.Faults.{entry_count}
 use Rattle.uring_crossing.proofs.Cutting.{cut_within}
 use Rattle.uring_crossing.proofs.outcomes.outcomes_memory.walk.Goals as goal

@@ -1,7 +1,5 @@
 use Rattle.std.proofs.Common.{ℕ, List, map, refl, arith}
-use Rattle.std.specs.declared.vec.Vec.{Vec}
-use Rattle.std.specs.declared.alloc.Global.{Global}
-use Rattle.uring_crossing.specs.Volumes.VolumeForms.{laid_out}
+use Rattle.uring_crossing.proofs.Common.{Global, Vec, laid_out}
 use Rattle.uring_crossing.proofs.Cutting.{nothing_left}
 use Rattle.uring_crossing.proofs.volumes.volume_memory.laid_out.Goals as goal
 

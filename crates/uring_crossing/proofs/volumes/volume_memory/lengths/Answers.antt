@@ -1,8 +1,5 @@
 use Rattle.std.proofs.Common.{ℕ, List, length, map, ap, ◌∙◌, arith}
-use Rattle.std.proofs.lemmas.List.{take_all}
-use Rattle.std.specs.declared.vec.Vec.{Vec}
-use Rattle.std.specs.declared.alloc.Global.{Global}
-use Rattle.uring_crossing.proofs.Common.{length-map, length-take}
+use Rattle.uring_crossing.proofs.Common.{Global, Vec, length-map, length-take, take_all}
 use Rattle.uring_crossing.proofs.volumes.volume_memory.lengths.Goals as goal
 
 pub push_reserved-requires : goal.push_reserved-requires

@@ -1,8 +1,6 @@
 use Rattle.std.proofs.Common.{◌≡◌, ℕ, List, length, map, ap, subst, sym, arith, rules}
-use Rattle.std.specs.declared.vec.Vec.{Vec}
-use Rattle.std.specs.declared.alloc.Global.{Global}
+use Rattle.uring_crossing.proofs.Common.{Global, Vec, length-map}
 use Rattle.uring_volume.specs.Listing.{AreTheImages}
-use Rattle.uring_crossing.proofs.Common.{length-map}
 use Rattle.uring_crossing.proofs.volumes.volume_memory.tell_images.Goals as goal
 
 pub returns-in-Ok-give_images-clause-told : goal.returns-in-Ok-give_images-clause-told

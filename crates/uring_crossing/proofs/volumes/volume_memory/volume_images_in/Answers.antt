@@ -1,8 +1,6 @@
 use Rattle.std.proofs.Common.{◌≡◌, ◌-◌, ◌^◌, length, min, w32, sym, ◌∙◌, rules}
-use Rattle.std.proofs.lemmas.Int.{to_z-of_z}
-use Rattle.uring_crossing.specs.Boxes.Places.{volume_in}
+use Rattle.uring_crossing.proofs.Common.{HasMore, TellsImages, to_z-of_z, volume_in}
 use Rattle.uring_crossing.proofs.Files.{place_told}
-use Rattle.uring_crossing.specs.Volumes.VolumeForms.{TellsImages, HasMore}
 use Rattle.uring_crossing.proofs.volumes.volume_memory.volume_images_in.Goals as goal
 
 pub returns-clause-told : goal.returns-clause-told
