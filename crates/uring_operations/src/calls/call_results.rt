@@ -36,13 +36,11 @@ pub fn told_result(came_to: i32, is_told: bool) -> i32
 fn asks_shut(entry: &Submission, came_to: i32) -> bool
     ensures { result ≡ spec.asks_shut entry.now came_to }
 {
-    if came_to != -11 || goes_on(entry) {
-        false
-    } else {
-        entry.opcode == 13
+    came_to == -11
+        && !goes_on(entry)
+        && (entry.opcode == 13
             || is_receive(entry.opcode) && !is_asked(entry)
-            || is_read(entry.opcode) && entry.op_flags & 8 == 0
-    }
+            || is_read(entry.opcode) && entry.op_flags & 8 == 0)
 }
 
 /// What a call of this entry comes to that finds nothing where its socket was shut down for reading.

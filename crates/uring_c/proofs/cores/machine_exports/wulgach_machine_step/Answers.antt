@@ -1,6 +1,8 @@
-use Rattle.std.proofs.Common.{ℤ, w32, to_z, of_z, ap}
+use Rattle.std.proofs.Common.{w32, rules}
+use Rattle.std.proofs.lemmas.Int.{to_z-of_z}
 use Rattle.uring_c.proofs.cores.machine_exports.wulgach_machine_step.Goals as goal
 
-pub returns-clause-kept : goal.returns-clause-kept
-returns-clause-kept c = λ refused.
-    c.machine_step_in.ensures.kept (λ done. refused (ap (λ (z : ℤ). to_z w32 (of_z w32 z)) done))
+pub returns : goal.returns
+returns c =
+    let e = c.machine_step_in.ensures in
+    rw (to_z-of_z w32 c.machine_step_in.result (search rules)) (record { empty = e.empty; no_step = e.no_step; kept = e.kept; made = e.made })
