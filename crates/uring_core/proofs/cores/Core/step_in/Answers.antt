@@ -2,7 +2,7 @@ use Rattle.uring_core.proofs.SureAnswers.{never_again}
 use Rattle.uring_core.proofs.cores.Core.step_in.Goals as goal
 
 pub step_alone-requires : goal.step_alone-requires
-step_alone-requires g c = record { no_finish = c.requires; no_begin = c.in_default.not-Begin; }
+step_alone-requires g c = record { no_finish = c.requires; no_begin = c.in_default.not-Begin }
 
 pub returns-in_default-clause-again : goal.returns-in_default-clause-again
 returns-in_default-clause-again g c = λ h f e.
