@@ -25,6 +25,7 @@ pub mod FileHistory
 -- Recorded answers, and what settling asks:
 pub mod SameAnswers
 pub mod RecordedAnswers
+pub mod SureAnswers
 pub mod Issuable
 pub mod WholeCalls
 pub mod Outstanding

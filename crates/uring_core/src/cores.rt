@@ -11,6 +11,7 @@ ghost use Rattle.uring_core.specs.StepAnswers.{reap_answer_of};
 ghost use Rattle.uring_core.specs.declared.step.Step.TheVariants as step;
 ghost use Rattle.uring_core.specs.declared.answer.Answer.TheVariants as answer;
 
+mod alone;
 mod readings;
 mod reap_all;
 mod submit;
@@ -123,21 +124,8 @@ impl Core {
             → elements_for self.old (world self.old.setup h) step ≤ n → result ≡ answer.Again → ⊥ }
     {
         match &step {
-            Step::Fill { slot, entry } => return self.fill(*slot, entry),
-            Step::Index { word } => return self.index(*word),
-            Step::StoreTail => return self.store_tail(),
-            Step::LoadHead => return self.load_head(),
             Step::Begin { count } => return self.begin(memory, *count),
-            Step::Take => return self.take(),
-            Step::End => return self.end(),
-            Step::Issue { number } => return self.issue(*number),
-            Step::Finish { .. } => unreachable!(),
-            Step::Flush => return self.flush(),
-            Step::LoadCqTail => return self.load_cq_tail(),
-            Step::Reap => return self.reap(),
-            Step::StoreCqHead => return self.store_cq_head(),
-            Step::Close => return self.close(),
-            Step::Next => return self.ask_next(),
+            _ => return self.step_alone(&step),
         }
     }
 

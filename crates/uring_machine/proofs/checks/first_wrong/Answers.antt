@@ -1,4 +1,5 @@
 use Rattle.std.proofs.Common.{ap, arith}
+use Rattle.std.proofs.lemmas.List.{take_all}
 use Rattle.std.specs.Prelude.{Err}
 use Rattle.uring_machine.proofs.FirstWrong.{stops, goes_on, no_more, first_wrong_at}
 use Rattle.uring_machine.proofs.checks.first_wrong.Goals as goal
@@ -14,3 +15,7 @@ pub returns-in-Err-clause-granted : goal.returns-in-Err-clause-granted
 returns-in-Err-clause-granted g c = λ sure.
     goes_on c.in-Err.refusal c.loop-place.place c.stopped.result c.stopped.ensures.wrong
     (λ none. c.in-Err.ensures.granted _ _ c.loop-place.invariant.fits (sure _) (no_more _) (ap (λ r. Err r) none))
+
+pub returns-clause-found : goal.returns-clause-found
+returns-clause-found g c =
+    rw (take_all c.loop-place.place c.args.events.now c.loop-place-test.false, c.loop-place.invariant.setup) at c.loop-place.invariant.fits.lawful

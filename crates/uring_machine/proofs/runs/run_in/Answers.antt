@@ -1,6 +1,7 @@
 use Rattle.std.proofs.Common.{ℕ, ◌<◌, ◌≡◌, ◌+◌, ◌++◌, List, [], ◌∷◌, length, take, get_or, sym, subst, ◌∙◌, arith}
+use Rattle.std.proofs.lemmas.List.{take_all}
 use Rattle.std.specs.List.{zip}
-use Rattle.uring_machine.proofs.Common.{Answer, AreUnrefused, History, IsUnrefused, Setup, Step, elements_for_step, follow_next, history_of, world, zip_next}
+use Rattle.uring_machine.proofs.Common.{Answer, AreUnrefused, Fits, History, IsUnrefused, Setup, Step, elements_for_step, follow_next, history_of, world, zip_next}
 use Rattle.uring_machine.proofs.Settling.{unrefused_append}
 use Rattle.uring_machine.proofs.runs.run_in.Goals as goal
 
@@ -31,3 +32,13 @@ loop-step-preserved g c =
           rw (follow_next h c.args.steps.now c.loop-step.step-index c.loop-step.answers.items c.push_reserved.new.self.items c.step-item.result c.step_in.result (omega arith) c.step-item.is (omega arith) c.push_reserved.ensures.items)
           (c.step_in.ensures.fits _ (i.fits h f));
     }
+
+pub returns-clause-fits : goal.returns-clause-fits
+returns-clause-fits g c = λ h f.
+    subst (λ (steps : List Step). Fits c.loop-step.machine (history_of (zip steps c.loop-step.answers.items) ++ h))
+    (take_all c.loop-step.step-index c.args.steps.now c.loop-step-test.false) (c.loop-step.invariant.fits h f)
+
+pub returns-clause-unrefused : goal.returns-clause-unrefused
+returns-clause-unrefused g c = λ sure h f.
+    subst (λ (steps : List Step). AreUnrefused c.args.machine.now.core.setup h (zip steps c.loop-step.answers.items))
+    (take_all c.loop-step.step-index c.args.steps.now c.loop-step-test.false) (c.loop-step.invariant.unrefused sure h f)
