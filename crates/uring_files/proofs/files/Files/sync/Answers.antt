@@ -1,4 +1,4 @@
-use Rattle.std.proofs.Common.{◌≡◌, true, w32, sym, ap, ◌∙◌}
+use Rattle.std.proofs.Common.{true, w32, sym, ap, ◌∙◌}
 use Rattle.std.proofs.Math.Facts.{to_z-of_z}
 use Rattle.uring_files.proofs.Common.{slice_set, with_writes_synced}
 use Rattle.uring_files.proofs.Places.{IsAt, ends_at, files_at}

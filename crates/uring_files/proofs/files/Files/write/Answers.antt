@@ -1,4 +1,4 @@
-use Rattle.std.proofs.Common.{◌≡◌, w32, sym, ap, ◌∙◌}
+use Rattle.std.proofs.Common.{w32, sym, ap, ◌∙◌}
 use Rattle.std.proofs.Math.Facts.{to_z-of_z}
 use Rattle.uring_files.proofs.Common.{ended_with, slice_set}
 use Rattle.uring_files.proofs.Places.{IsAt, ends_at, files_at, written_at}
