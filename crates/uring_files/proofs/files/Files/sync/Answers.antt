@@ -11,7 +11,7 @@ returns c =
     let at : IsAt c.args.self.now c.args.fd place c.index_mut.result.now = record {
       named = sym (to_z-of_z {w = w32} c.ranges.fd) ∙ c.in-Some.ensures.some.0;
       within = c.in-Some.ensures.some.1;
-      there = cc;
+      there = rw (← view) c.index_mut.ensures.value;
     } in
     record {
       outcome = ends_at _ _ _ _ _ at;

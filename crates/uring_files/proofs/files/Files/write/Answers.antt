@@ -11,7 +11,7 @@ returns g c =
     let at : IsAt c.args.self.now c.args.fd place c.index_mut.result.now = record {
       named = sym (to_z-of_z {w = w32} c.ranges.fd) ∙ c.in-Some.ensures.some.0;
       within = c.in-Some.ensures.some.1;
-      there = cc;
+      there = rw (← view) c.index_mut.ensures.value;
     } in
     rw (to_z-of_z {w = w32} (record { sfits = c.write.type_inv })) (record {
       outcome = written_at _ _ _ c.args.off c.args.len c.args.bytes.now _ _ at c.write.ensures.outcome;
