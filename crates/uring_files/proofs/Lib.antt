@@ -4,5 +4,6 @@ pub mod Effects
 pub mod OperationCases
 pub mod Changes
 pub mod Overwrites
+pub mod Places
 pub mod Prepared
 pub mod StandAlone

@@ -172,11 +172,7 @@ impl Files {
         let Some(place) = self.place(fd) else {
             return -errno::EBADF;
         };
-        match self.files[place].write(memory, off, &bytes[..len as usize]) {
-            Ok(()) => len as i32,
-            Err(WriteFault::TooLong) => -errno::EFBIG,
-            Err(WriteFault::NoMemory) => -errno::ENOMEM,
-        }
+        self.files[place].write(memory, off, len, bytes)
     }
 
     /// Notes the successful writes of the file of a descriptor as safe, and returns the result.
@@ -217,18 +213,10 @@ impl Files {
     }
 }
 
-/// Why a write of a file failed.
-#[derive(Clone, Copy, Debug, PartialEq, Eq)]
-pub(crate) enum WriteFault {
-    /// The file would pass its largest size.
-    TooLong,
-
-    /// Memory for the file's growth was refused.
-    NoMemory,
-}
-
 impl File {
-    ghost use Rattle.std.specs.Prelude.{◌≡◌, ℕ, ◌≤◌, ◌↔◌, length, IsTrue, OnOk, OnErr, IsErrOf, not, ◌&&◌};
+    ghost use Rattle.std.specs.Ordering.{int_eq};
+    ghost use Rattle.std.specs.Prelude.{◌≡◌, ℕ, ◌≤◌, ◌⊎◌, pos, neg_ℤ, true, not, ◌&&◌, take, if◌then◌else◌};
+    ghost use Rattle.uring_entry.specs.declared.errno.TheConstants.{EFBIG, ENOMEM};
     ghost use Rattle.uring_files.specs.Contents.{max_len, read_outcome, is_too_long, is_past_end, written, with_writes_synced};
 
     /// Whether a write of `len` bytes at `off` makes the file longer, within the largest size.
@@ -253,33 +241,37 @@ impl File {
         found(&self.bytes[start..end])
     }
 
-    /// Writes bytes at `off`, and grows by this memory. A fault changes nothing.
+    /// Writes the first `len` of the bytes at `off`, grows by this memory, and returns the result. One below 0 changes nothing.
     pub(crate) fn write<M: Memory>(
         &mut self,
         memory: &M,
         off: u64,
-        bytes: &[u8],
-    ) -> Result<(), WriteFault>
-        requires { length bytes.now ≤ 64 }
-        ensures ok { OnOk result (self.new ≡ written off bytes.now self.old) }
-        ensures err { OnErr result (self.new ≡ self.old) }
-        ensures too_long { IsErrOf result WriteFault.TooLong
-            ↔ IsTrue (is_too_long off (length bytes.now)) }
-        ensures no_memory { IsErrOf result WriteFault.NoMemory
-            → IsTrue (is_past_end off (length bytes.now) self.old) }
+        len: u32,
+        bytes: &[u8; 64],
+    ) -> i32
+        requires { len ≤ 64 }
+        ensures outcome { (result ≡ (if is_too_long off len then neg_ℤ EFBIG else pos len))
+            ⊎ (((not (is_too_long off len) && is_past_end off len self.old) ≡ true) × (result ≡ neg_ℤ ENOMEM)) }
+        ensures file { self.new
+            ≡ (if int_eq result (pos len) then written off (take len bytes.now) self.old else self.old) }
         ensures granted { (n : ℕ) → M.grants memory.now n → max_len ≤ n
-            → IsErrOf result WriteFault.NoMemory → ⊥ }
+            → result ≡ (if is_too_long off len then neg_ℤ EFBIG else pos len) }
     {
-        if !bytes.is_empty() {
-            if off > u64::from(File::MAX_LEN) - bytes.len() as u64 {
-                return Err(WriteFault::TooLong);
-            }
-            let Ok(()) = overwrite(memory, &mut self.bytes, off as usize, bytes) else {
-                return Err(WriteFault::NoMemory);
+        if is_too_long(off, len) {
+            return -errno::EFBIG;
+        }
+        if len != 0 {
+            let Ok(()) = overwrite(
+                memory,
+                &mut self.bytes,
+                off as usize,
+                &bytes[..len as usize],
+            ) else {
+                return -errno::ENOMEM;
             };
         }
         self.writes = self.writes.wrapping_add(1);
-        Ok(())
+        len as i32
     }
 
     /// Notes the successful writes so far as safe.

@@ -1,5 +1,5 @@
 -- What each call of the completion ring leaves shows the lists after its event.
-use Rattle.std.proofs.Common.{◌≡◌, ◌≢◌, ℕ, ◌+◌, ◌-◌, ◌%◌, ◌^◌, ◌<◌, ◌≤◌, Bool, true, false, eqb, ltb, List, [], ◌∷◌, ◌++◌, length, take, drop, set, get_or, cond, min, Some, None, sym, ap, ◌∙◌, subst, inl, inr, arith, ne_eqb, ltb-false, ltb-true, eqb-true}
+use Rattle.std.proofs.Common.{◌≡◌, ◌≢◌, ℕ, ◌+◌, ◌-◌, ◌%◌, ◌^◌, ◌<◌, ◌≤◌, Bool, true, false, eqb, ltb, List, [], ◌∷◌, ◌++◌, length, take, drop, set, get_or, cond, min, Some, None, sym, ap, ◌∙◌, subst, inl, inr, arith, ne_eqb, le-ltb, ltb-false, ltb-true, eqb-true}
 use Rattle.uring_rings.proofs.Common.{Completions, Cq, Cqe, IsCq, IsPowerOfTwo, Setup, ShowsCompletions, and_parts, cases_lt, drop-append-le, drop_more, get_or_append_left, get_or_default, has_room, length-drop, length_push, next_to_reap, nil_from_length, put_by_flush, slice_get, slice_get-get_or, take-append-le, take_more, with_posted, with_reaped, word_of}
 use Rattle.uring_rings.proofs.Counts.{distance_of_words, word_after, cells_after_write}
 
@@ -12,6 +12,14 @@ put_above g q l d i s small leads =
     let ordered : l.seen_head ≤ l.put = omega (arith, s.seen_head_first, s.head_first, s.reaped_first, s.seen_tail_first) in
     let near : l.put < l.seen_head + 2 ^ 32 = omega (arith, s.few) in
     distance_of_words g.start l.put l.seen_head d small ordered near (ap (λ (w : ℕ). (w + d) % 2 ^ 32) (sym s.seen_head) ∙ leads ∙ s.tail)
+
+-- Nothing is moved of an empty overflow list.
+pub stays : (g : Setup) (q : Cq) (l : Completions) → ShowsCompletions g q l → q.overflow ≡ []
+    → false ≡ ltb l.put (min (length l.posted) (l.seen_head + g.cq))
+stays g q l s empty =
+    let none : length (drop l.put l.posted) ≡ 0 = ap length (sym s.waiting ∙ empty) in
+    let h = simp length-drop at none in
+    sym (le-ltb l.put (min (length l.posted) (l.seen_head + g.cq)) (omega arith))
 
 -- The oldest of the overflow list is put into the next cell.
 pub put_shows : (g : Setup) (q : Cq) (l : Completions) (x : Cqe) (rest : List Cqe) (spare : ℕ)

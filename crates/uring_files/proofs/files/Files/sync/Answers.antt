@@ -1,0 +1,19 @@
+use Rattle.std.proofs.Common.{true, w32, sym, ap, ◌∙◌}
+use Rattle.std.proofs.Math.Facts.{to_z-of_z}
+use Rattle.uring_files.proofs.Common.{slice_set, with_writes_synced}
+use Rattle.uring_files.proofs.Places.{IsAt, ends_at, files_at}
+use Rattle.uring_files.proofs.files.Files.sync.Goals as goal
+
+pub returns : goal.returns
+returns c =
+    let view = c.self.view_is in
+    let place = c.in-Some.place in
+    let at : IsAt c.args.self.now c.args.fd place c.index_mut.result.now = record {
+      named = sym (to_z-of_z {w = w32} c.ranges.fd) ∙ c.in-Some.ensures.some.0;
+      within = c.in-Some.ensures.some.1;
+      there = rw (← view) c.index_mut.ensures.value;
+    } in
+    record {
+      outcome = ends_at _ _ _ _ _ at;
+      files = ap (λ fs. slice_set fs place c.sync.new.self) view ∙ files_at true _ _ _ _ _ with_writes_synced at c.sync.ensures;
+    }
