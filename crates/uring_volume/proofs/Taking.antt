@@ -77,6 +77,11 @@ pub one_found : {X : Type 0} (f : X → Write) (p : Write → Bool) (xs : List X
 one_found f p xs i x within at is =
     any_at p (map f xs) i (f x) (omega (arith, length-map xs f)) (ap p (get_map f xs i x ∙ ap f (sym at)) ∙ is)
 
+pub push_map : {X Y : Type 0} (f : X → Y) (old new : List X) (x : X) (ys : List Y)
+    → new ≡ old ++ x ∷ [] → map f old ≡ ys → map f new ≡ ys ++ f x ∷ []
+push_map f old new x ys pushed same =
+    ap (map f) pushed ∙ map-append f old (x ∷ []) ∙ ap (λ zs. zs ++ f x ∷ []) same
+
 -- what a loop over all references has pushed
 pub all_pushed : {X : Type 0} (f : X → Write) (p : Write → Bool) (old new xs ys : List X) (i : ℕ)
     → new ≡ old ++ filter (λ x. p (f x)) (take i ys) → ys ≡ xs → length ys ≤ i
