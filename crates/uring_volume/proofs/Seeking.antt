@@ -105,6 +105,19 @@ pub dropped : {X Y : Type 0} (f : X → Y) (xs : List X) (i : ℕ) (x : X) → i
     → x ≡ get_or xs i x → map f (drop i xs) ≡ f x ∷ map f (drop (i + 1) xs)
 dropped f xs i x within at = ap (map f) (drop_more xs i x within ∙ ap (λ z. z ∷ drop (i + 1) xs) (sym at))
 
+pub kept_one : {X Y : Type 0} (f : X → Y) (p : Y → Bool) (xs : List X) (i : ℕ) (x : X) (before : List Y)
+    → i < length xs → x ≡ get_or xs i x → p (f x) ≡ true
+    → (before ++ f x ∷ []) ++ filter p (map f (drop (i + 1) xs)) ≡ before ++ filter p (map f (drop i xs))
+kept_one f p xs i x before within at is =
+    append_assoc before (f x ∷ []) (filter p (map f (drop (i + 1) xs)))
+    ∙ ap (λ ys. before ++ ys) (sym (ap (filter p) (dropped f xs i x within at) ∙ cond-true (p (f x)) (f x ∷ filter p (map f (drop (i + 1) xs))) (filter p (map f (drop (i + 1) xs))) is))
+
+pub left_one : {X Y : Type 0} (f : X → Y) (p : Y → Bool) (xs : List X) (i : ℕ) (x : X)
+    → i < length xs → x ≡ get_or xs i x → p (f x) ≡ false
+    → filter p (map f (drop (i + 1) xs)) ≡ filter p (map f (drop i xs))
+left_one f p xs i x within at out =
+    sym (ap (filter p) (dropped f xs i x within at) ∙ cond-false (p (f x)) (f x ∷ filter p (map f (drop (i + 1) xs))) (filter p (map f (drop (i + 1) xs))) out)
+
 pub put_one : {X Y : Type 0} (f : X → Y) (g : Y → Y) (xs : List X) (i : ℕ) (x : X) (before : List Y)
     → i < length xs → x ≡ get_or xs i x
     → (before ++ g (f x) ∷ []) ++ map g (map f (drop (i + 1) xs)) ≡ before ++ map g (map f (drop i xs))

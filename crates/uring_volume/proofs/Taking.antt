@@ -82,16 +82,6 @@ pub push_map : {X Y : Type 0} (f : X → Y) (old new : List X) (x : X) (ys : Lis
 push_map f old new x ys pushed same =
     ap (map f) pushed ∙ map-append f old (x ∷ []) ∙ ap (λ zs. zs ++ f x ∷ []) same
 
--- what a loop over all references has pushed
-pub all_pushed : {X : Type 0} (f : X → Write) (p : Write → Bool) (old new xs ys : List X) (i : ℕ)
-    → new ≡ old ++ filter (λ x. p (f x)) (take i ys) → ys ≡ xs → length ys ≤ i
-    → map f new ≡ map f old ++ filter p (map f xs)
-all_pushed f p old new xs ys i pushed same all =
-    ap (map f) pushed
-    ∙ map-append f old (filter (λ x. p (f x)) (take i ys))
-    ∙ ap (λ zs. map f old ++ map f (filter (λ x. p (f x)) zs)) (take_all i ys all ∙ same)
-    ∙ ap (λ zs. map f old ++ zs) (sym (filter_of_map f p xs))
-
 -- A choice among references, of which the first ones have been chosen.
 
 -- all others
