@@ -1,6 +1,6 @@
 -- A search through a list, and loops over lists of references.
 use Rattle.std.proofs.Common.{◌≡◌, ◌+◌, ◌-◌, ◌*◌, ◌<◌, ◌≤◌, ℕ, zero, suc, min, max, Bool, true, false, ◌&&◌, cond, List, [], ◌∷◌, ◌++◌, length, map, get_or, take, drop, replicate, refl, sym, ap, ◌∙◌, inl, inr, arith}
-use Rattle.uring_volume.proofs.Common.{Err, History, Ok, OnOk, Result, Write, byte_over, bytes_from, bytes_over, cases_Bool, cond-false, cond-true, drop_all, drop_more, end_of, ext_get_or, filter, fronts, get_or-drop, get_or-take, get_or_past, length-append, length-drop, length-replicate, length-take, length_over, list_any, list_any-append, map-append, mul-le-mul_left, or_from, or_left, or_right, pointwise, put_by, take_more, unit_contents}
+use Rattle.uring_volume.proofs.Common.{Err, History, append_assoc, joined, Ok, OnOk, Result, Write, byte_over, bytes_from, bytes_over, cases_Bool, cond-false, cond-true, drop_all, drop_more, end_of, ext_get_or, filter, fronts, get_or-drop, get_or-take, get_or_past, length-append, length-drop, length-replicate, length-take, length_over, list_any, list_any-append, map-append, mul-le-mul_left, or_from, or_left, or_right, pointwise, put_by, take_more, unit_contents}
 use Rattle.uring_volume.proofs.Painting.{below_or_from}
 use Rattle.uring_volume.proofs.Leaving.{padded}
 use Rattle.uring_volume.proofs.Files.{length_bytes_over, bytes_over_at, length_bytes_from, bytes_from_at, length_joined}
@@ -104,6 +104,34 @@ times_most a b most = elim (below_or_from most a) [
 pub dropped : {X Y : Type 0} (f : X → Y) (xs : List X) (i : ℕ) (x : X) → i < length xs
     → x ≡ get_or xs i x → map f (drop i xs) ≡ f x ∷ map f (drop (i + 1) xs)
 dropped f xs i x within at = ap (map f) (drop_more xs i x within ∙ ap (λ z. z ∷ drop (i + 1) xs) (sym at))
+
+pub kept_one : {X Y : Type 0} (f : X → Y) (p : Y → Bool) (xs : List X) (i : ℕ) (x : X) (before : List Y)
+    → i < length xs → x ≡ get_or xs i x → p (f x) ≡ true
+    → (before ++ f x ∷ []) ++ filter p (map f (drop (i + 1) xs)) ≡ before ++ filter p (map f (drop i xs))
+kept_one f p xs i x before within at is =
+    append_assoc before (f x ∷ []) (filter p (map f (drop (i + 1) xs)))
+    ∙ ap (λ ys. before ++ ys) (sym (ap (filter p) (dropped f xs i x within at) ∙ cond-true (p (f x)) (f x ∷ filter p (map f (drop (i + 1) xs))) (filter p (map f (drop (i + 1) xs))) is))
+
+pub left_one : {X Y : Type 0} (f : X → Y) (p : Y → Bool) (xs : List X) (i : ℕ) (x : X)
+    → i < length xs → x ≡ get_or xs i x → p (f x) ≡ false
+    → filter p (map f (drop (i + 1) xs)) ≡ filter p (map f (drop i xs))
+left_one f p xs i x within at out =
+    sym (ap (filter p) (dropped f xs i x within at) ∙ cond-false (p (f x)) (f x ∷ filter p (map f (drop (i + 1) xs))) (filter p (map f (drop (i + 1) xs))) out)
+
+pub put_one : {X Y : Type 0} (f : X → Y) (g : Y → Y) (xs : List X) (i : ℕ) (x : X) (before : List Y)
+    → i < length xs → x ≡ get_or xs i x
+    → (before ++ g (f x) ∷ []) ++ map g (map f (drop (i + 1) xs)) ≡ before ++ map g (map f (drop i xs))
+put_one f g xs i x before within at =
+    append_assoc before (g (f x) ∷ []) (map g (map f (drop (i + 1) xs)))
+    ∙ sym (ap (λ ys. before ++ map g ys) (dropped f xs i x within at))
+
+pub joined_one : {X : Type 0} (f : X → List ℕ) (xs : List X) (i : ℕ) (x : X) (ends before : List (List ℕ))
+    → i < length xs → x ≡ get_or xs i x
+    → (before ++ map (λ e. f x ++ e) ends) ++ joined (map f (drop (i + 1) xs)) ends
+    ≡ before ++ joined (map f (drop i xs)) ends
+joined_one f xs i x ends before within at =
+    append_assoc before (map (λ e. f x ++ e) ends) (joined (map f (drop (i + 1) xs)) ends)
+    ∙ sym (ap (λ fs. before ++ joined fs ends) (dropped f xs i x within at))
 
 -- how many there are with one unit more
 pub count_more : (u : ℕ) (first : List ℕ) (h : History) (len i count size next most : ℕ)

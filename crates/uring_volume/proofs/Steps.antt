@@ -1,6 +1,6 @@
 -- A list of events, the newest first, grows by one at its head.
 use Rattle.std.proofs.Common.{◌≡◌, ◌<◌, ◌+◌, ℕ, List, [], ◌∷◌, ◌++◌, length, get_or, take, reverse, refl, sym, ap, ◌∙◌}
-use Rattle.uring_volume.proofs.Common.{Event, History, SyncEnded, SyncFailed, SyncIssued, Write, WriteEnded, WriteIssued, issued, reverse-append, take_more}
+use Rattle.uring_volume.proofs.Common.{Event, History, SyncEnded, SyncFailed, SyncIssued, Write, WriteEnded, WriteIssued, ended, issued, reverse-append, take_more}
 
 pub newest : {X : Type 0} (xs : List X) (i : ℕ) (d : X) → i < length xs
     → reverse (take (i + 1) xs) ≡ get_or xs i d ∷ reverse (take i xs)
@@ -16,13 +16,12 @@ pub pushed : {X : Type 0} (xs old ys : List X) (x : X) → ys ≡ old ++ x ∷ [
 pushed xs old ys x e same =
     ap reverse e ∙ reverse-append old (x ∷ []) ∙ ap (λ zs. x ∷ reverse zs) same
 
--- The writes that were issued, with the event that was read at i.
+-- What a history says with the event that was read at i.
 
-pub issued_more : (es : List Event) (i : ℕ) (e : Event) (w : Write) → i < length es
-    → e ≡ get_or es i e → e ≡ WriteIssued w
-    → issued (reverse (take (i + 1) es)) ≡ issued (reverse (take i es)) ++ w ∷ []
-issued_more es i e w within at is =
-    ap issued (newest_is es i e within at ∙ ap (λ d. d ∷ reverse (take i es)) is)
+pub at_event : {A : Type 0} (f : History → A) (es : List Event) (i : ℕ) (e d : Event) → i < length es
+    → e ≡ get_or es i e → e ≡ d → f (reverse (take (i + 1) es)) ≡ f (d ∷ reverse (take i es))
+at_event f es i e d within at is =
+    ap f (newest_is es i e within at ∙ ap (λ x. x ∷ reverse (take i es)) is)
 
 not_issued : (e : Event) (h : History) → ((w : Write) → e ≡ WriteIssued w → ⊥)
     → issued (e ∷ h) ≡ issued h
@@ -37,3 +36,16 @@ pub issued_same : (es : List Event) (i : ℕ) (e : Event) → i < length es → 
     → issued (reverse (take (i + 1) es)) ≡ issued (reverse (take i es))
 issued_same es i e within at other =
     ap issued (newest_is es i e within at) ∙ not_issued e (reverse (take i es)) other
+
+not_ended : (e : Event) (h : History) → ((n : ℕ) → e ≡ WriteEnded n → ⊥)
+    → ended (e ∷ h) ≡ ended h
+not_ended (WriteIssued w) h other = refl
+not_ended (WriteEnded n) h other = absurd (other n refl)
+not_ended (SyncIssued s range) h other = refl
+not_ended (SyncEnded s) h other = refl
+not_ended (SyncFailed s) h other = refl
+
+pub ended_same : (es : List Event) (i : ℕ) (e : Event) → i < length es → e ≡ get_or es i e
+    → ((n : ℕ) → e ≡ WriteEnded n → ⊥) → ended (reverse (take (i + 1) es)) ≡ ended (reverse (take i es))
+ended_same es i e within at other =
+    ap ended (newest_is es i e within at) ∙ not_ended e (reverse (take i es)) other

@@ -77,15 +77,10 @@ pub one_found : {X : Type 0} (f : X → Write) (p : Write → Bool) (xs : List X
 one_found f p xs i x within at is =
     any_at p (map f xs) i (f x) (omega (arith, length-map xs f)) (ap p (get_map f xs i x ∙ ap f (sym at)) ∙ is)
 
--- what a loop over all references has pushed
-pub all_pushed : {X : Type 0} (f : X → Write) (p : Write → Bool) (old new xs ys : List X) (i : ℕ)
-    → new ≡ old ++ filter (λ x. p (f x)) (take i ys) → ys ≡ xs → length ys ≤ i
-    → map f new ≡ map f old ++ filter p (map f xs)
-all_pushed f p old new xs ys i pushed same all =
-    ap (map f) pushed
-    ∙ map-append f old (filter (λ x. p (f x)) (take i ys))
-    ∙ ap (λ zs. map f old ++ map f (filter (λ x. p (f x)) zs)) (take_all i ys all ∙ same)
-    ∙ ap (λ zs. map f old ++ zs) (sym (filter_of_map f p xs))
+pub push_map : {X Y : Type 0} (f : X → Y) (old new : List X) (x : X) (ys : List Y)
+    → new ≡ old ++ x ∷ [] → map f old ≡ ys → map f new ≡ ys ++ f x ∷ []
+push_map f old new x ys pushed same =
+    ap (map f) pushed ∙ map-append f old (x ∷ []) ∙ ap (λ zs. zs ++ f x ∷ []) same
 
 -- A choice among references, of which the first ones have been chosen.
 

@@ -1,4 +1,5 @@
 use Rattle.std.proofs.Common.{◌+◌, ◌*◌, inl, inr, arith}
+use Rattle.uring_volume.proofs.Common.{false≢true}
 use Rattle.uring_volume.proofs.Painting.{below_or_from, in_unit}
 use Rattle.uring_volume.proofs.crash.leave_unit.Goals as goal
 
@@ -11,3 +12,6 @@ returns-clause-others g c = λ k apart.
         | inr after ↦ c.write_all.ensures.after k (omega arith)
       ]
     ]
+
+pub returns-in_err-on-clause-granted : goal.returns-in_err-on-clause-granted
+returns-in_err-on-clause-granted g c = λ all. absurd (false≢true (c.in_err-on.ensures.granted all))

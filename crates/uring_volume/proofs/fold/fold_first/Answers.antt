@@ -1,6 +1,6 @@
 use Rattle.std.proofs.Common.{rules, ◌≡◌, true, not, reverse, subst, ap, ◌∙◌}
 use Rattle.std.proofs.lemmas.Fn.{filter_same}
-use Rattle.uring_volume.proofs.Common.{IsIn, can_fold, is_of_write, issued, without_write}
+use Rattle.uring_volume.proofs.Common.{IsIn, can_fold, is_of_write, issued, without_write, false≢true}
 use Rattle.uring_volume.proofs.Folded.{reverse_filter}
 use Rattle.uring_volume.proofs.fold.fold_first.Goals as goal
 
@@ -15,3 +15,6 @@ returns-clause-folded g c = λ _. record {
       ∙ reverse_filter (λ e. not (is_of_write c.number-n.result e)) c.args.events.now.items
       ∙ ap (λ n. without_write n (reverse c.args.events.now.items)) c.number-n.ensures;
 }
+
+pub returns-in_err-write_under-clause-granted : goal.returns-in_err-write_under-clause-granted
+returns-in_err-write_under-clause-granted g c = λ all. absurd (false≢true (c.in_err-write_under.ensures.granted all))

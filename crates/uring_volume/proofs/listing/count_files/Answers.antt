@@ -1,5 +1,5 @@
 use Rattle.std.proofs.Common.{◌≡◌, ◌+◌, length, get_or, drop, reverse, ap, ◌∙◌, arith}
-use Rattle.uring_volume.proofs.Common.{drop_all, drop_more, files_of, fronts, length-append, units_in}
+use Rattle.uring_volume.proofs.Common.{drop_all, drop_more, files_of, fronts, length-append, units_in, false≢true}
 use Rattle.uring_volume.proofs.listing.count_files.Goals as goal
 
 pub loop-len-preserved : goal.loop-len-preserved
@@ -18,3 +18,6 @@ pub returns-clause-count : goal.returns-clause-count
 returns-clause-count g c =
     let none : length (files_of c.args.unit c.args.first.now (reverse c.args.events.now) (drop c.loop-len.len-index c.args.lengths.now)) ≡ 0 = ap (λ ls. length (files_of c.args.unit c.args.first.now (reverse c.args.events.now) ls)) (drop_all c.loop-len.len-index c.args.lengths.now c.loop-len-test.false) in
     omega (arith, none, c.loop-len.invariant.sum, c.loop-len.invariant.small)
+
+pub returns-in_err-more-clause-granted : goal.returns-in_err-more-clause-granted
+returns-in_err-more-clause-granted g c = λ all. absurd (false≢true (c.in_err-more.ensures.granted all))

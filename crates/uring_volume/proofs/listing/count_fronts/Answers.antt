@@ -1,5 +1,5 @@
 use Rattle.std.proofs.Common.{rules, ◌≡◌, ◌-◌, ◌^◌, min, length, map, reverse, sym, ap, ◌∙◌, arith}
-use Rattle.uring_volume.proofs.Common.{fronts, length-map}
+use Rattle.uring_volume.proofs.Common.{fronts, length-map, false≢true}
 use Rattle.uring_volume.proofs.Seeking.{count_more}
 use Rattle.uring_volume.proofs.listing.count_fronts.Goals as goal
 
@@ -13,3 +13,6 @@ pub returns-clause-count : goal.returns-clause-count
 returns-clause-count g c =
     let all : c.loop-i.i ≡ c.count_units-i-end.result = omega arith in
     c.loop-i.invariant ∙ ap (λ n. min (length (fronts c.args.unit c.args.first.now (reverse c.args.events.now) c.args.len n)) (2 ^ 64 - 1)) (all ∙ c.count_units-i-end.ensures.value)
+
+pub returns-in_err-ends-clause-granted : goal.returns-in_err-ends-clause-granted
+returns-in_err-ends-clause-granted g c = λ all. absurd (false≢true (c.in_err-ends.ensures.granted all))

@@ -1,5 +1,5 @@
 use Rattle.std.proofs.Common.{◌+◌, ◌++◌, map, drop, reverse, append_assoc, sym, ap, ◌∙◌}
-use Rattle.uring_volume.proofs.Common.{append-nil, drop_all, drop_more, files_of, map-append}
+use Rattle.uring_volume.proofs.Common.{append-nil, drop_all, drop_more, files_of, map-append, false≢true}
 use Rattle.uring_volume.proofs.listing.files_of_lengths.Goals as goal
 
 pub loop-len-preserved : goal.loop-len-preserved
@@ -16,3 +16,9 @@ returns-clause-files g c =
     sym (append-nil (map (λ b. b.items) c.loop-len.all.items))
     ∙ sym (ap (λ ls. map (λ b. b.items) c.loop-len.all.items ++ files_of c.args.unit c.args.first.now (reverse c.args.events.now) ls) (drop_all c.loop-len.len-index c.args.lengths.now c.loop-len-test.false))
     ∙ c.loop-len.invariant
+
+pub returns-in_err-files-clause-granted : goal.returns-in_err-files-clause-granted
+returns-in_err-files-clause-granted g c = λ all. absurd (false≢true (c.in_err-files.ensures.granted all))
+
+pub returns-in_err-move_all-clause-granted : goal.returns-in_err-move_all-clause-granted
+returns-in_err-move_all-clause-granted g c = λ all. absurd (false≢true (c.in_err-move_all.ensures.granted all))

@@ -1,4 +1,5 @@
 use Rattle.std.proofs.Common.{◌≡◌, ◌+◌, suc, map, reverse, ap, ◌∙◌, arith}
+use Rattle.uring_volume.proofs.Common.{false≢true}
 use Rattle.uring_volume.specs.Ways.{joined, fronts}
 use Rattle.uring_volume.proofs.listing.fronts.Goals as goal
 
@@ -16,3 +17,12 @@ pub returns-clause-fronts : goal.returns-clause-fronts
 returns-clause-fronts g c =
     let all : c.loop-i.i ≡ c.count_units-i-end.result = omega arith in
     c.loop-i.invariant ∙ ap (fronts c.args.unit c.args.first.now (reverse c.args.events.now) c.args.len) (all ∙ c.count_units-i-end.ensures.value)
+
+pub returns-in_err-ends-clause-granted : goal.returns-in_err-ends-clause-granted
+returns-in_err-ends-clause-granted g c = λ all. absurd (false≢true (c.in_err-ends.ensures.granted all))
+
+pub returns-in_err-files-clause-granted : goal.returns-in_err-files-clause-granted
+returns-in_err-files-clause-granted g c = λ all. absurd (false≢true (c.in_err-files.ensures.granted all))
+
+pub returns-in_err-push-clause-granted : goal.returns-in_err-push-clause-granted
+returns-in_err-push-clause-granted g c = λ all. absurd (false≢true (c.in_err-push.ensures.granted all))

@@ -1,6 +1,7 @@
-use Rattle.std.proofs.Common.{◌++◌, ◌∷◌, [], map, sym, ap, ◌∙◌, arith}
-use Rattle.std.proofs.lemmas.List.{map-append}
-use Rattle.uring_volume.proofs.Steps.{issued_more, issued_same}
+use Rattle.std.proofs.Common.{map, sym, ap, ◌∙◌, arith}
+use Rattle.uring_volume.proofs.Common.{WriteIssued, issued}
+use Rattle.uring_volume.proofs.Steps.{at_event, issued_same}
+use Rattle.uring_volume.proofs.Taking.{push_map}
 use Rattle.uring_volume.proofs.order.issued_pieces.Goals as goal
 use Rattle.uring_volume.proofs.order.issued_pieces.Goals.{in-WriteIssued, in_default}
 
@@ -10,10 +11,8 @@ loop-event-preserved g c =
       | in-WriteIssued w ↦ record {
         pieces =
             ap (λ v. map (λ p. p.now) v.items) w.pieces-is
-            ∙ ap (map (λ p. p.now)) w.push_reserved.ensures.items
-            ∙ map-append (λ p. p.now) c.loop-event.pieces.items _
-            ∙ ap (λ ws. ws ++ w.in-WriteIssued.piece ∷ []) c.loop-event.invariant.pieces
-            ∙ sym (issued_more c.args.events.now c.loop-event.event-index c.event-item.result w.in-WriteIssued.piece c.loop-event-test.true c.event-item.is w.in-WriteIssued.is);
+            ∙ push_map (λ p. p.now) _ _ _ _ w.push_reserved.ensures.items c.loop-event.invariant.pieces
+            ∙ sym (at_event issued c.args.events.now c.loop-event.event-index c.event-item.result (WriteIssued w.in-WriteIssued.piece) c.loop-event-test.true c.event-item.is w.in-WriteIssued.is);
         few = omega (arith, ap (λ v. v.len) w.pieces-is, w.push_reserved.ensures.len, c.loop-event.invariant.few);
         room = omega (arith, ap (λ v. v.cap) w.pieces-is, w.push_reserved.ensures.capacity, c.loop-event.invariant.room);
       }

@@ -1,4 +1,5 @@
 use Rattle.std.proofs.Common.{suc, [], map, reverse, ap, ◌∙◌, arith}
+use Rattle.uring_volume.proofs.Common.{false≢true}
 use Rattle.uring_volume.specs.Ways.{way, next_ways, found_at, found_by}
 use Rattle.uring_volume.proofs.ways.contents.Goals as goal
 
@@ -12,3 +13,12 @@ loop-step-preserved g c = λ n more.
 
 pub returns-clause-contents : goal.returns-clause-contents
 returns-clause-contents g c = c.loop-step.invariant 0 (omega arith)
+
+pub returns-in_err-push-clause-granted : goal.returns-in_err-push-clause-granted
+returns-in_err-push-clause-granted g c = λ all. absurd (false≢true (c.in_err-push.ensures.granted all))
+
+pub returns-in_err-put_found-clause-granted : goal.returns-in_err-put_found-clause-granted
+returns-in_err-put_found-clause-granted g c = λ all. absurd (false≢true (c.in_err-put_found.ensures.granted all))
+
+pub returns-in_err-ways-clause-granted : goal.returns-in_err-ways-clause-granted
+returns-in_err-ways-clause-granted g c = λ all. absurd (false≢true (c.in_err-ways.ensures.granted all))

@@ -1,5 +1,5 @@
 use Rattle.std.proofs.Common.{◌+◌, ◌≡◌, cond, map, drop, reverse, sym, ap, ◌∙◌}
-use Rattle.uring_volume.proofs.Common.{cond-false, cond-true, found_at, has_safe, nat_eq, pointwise, put_by, way}
+use Rattle.uring_volume.proofs.Common.{cond-false, cond-true, found_at, has_safe, nat_eq, pointwise, put_by, way, false≢true}
 use Rattle.uring_volume.proofs.Seeking.{dropped}
 use Rattle.uring_volume.proofs.ways.put_found.Goals as goal
 use Rattle.uring_volume.proofs.ways.put_found.Goals.{then-not-has_safe+in_ok-put_bytes, else-not-has_safe}
@@ -19,3 +19,6 @@ loop-way-preserved g c =
     ])
     ∙ sym (ap (λ ws. found_at (reverse c.args.events.now) ws (map (λ b. b.items) c.loop-way.found.items)) (dropped (λ s. way (map (λ p. p.now) s.rest.items) s.now.items) c.args.ways.now c.loop-way.way-index c.way-item.result c.loop-way-test.true c.way-item.is))
     ∙ c.loop-way.invariant
+
+pub returns-in_err-put_bytes-clause-granted : goal.returns-in_err-put_bytes-clause-granted
+returns-in_err-put_bytes-clause-granted g c = λ all. absurd (false≢true (c.in_err-put_bytes.ensures.granted all))

@@ -1,5 +1,5 @@
 use Rattle.std.proofs.Common.{◌≡◌, ◌+◌, cond, map, drop, reverse, sym, ap, ◌∙◌}
-use Rattle.uring_volume.proofs.Common.{cond-false, cond-true, put_by, same_way, stepped, steps_of, waits_for_one, way}
+use Rattle.uring_volume.proofs.Common.{cond-false, cond-true, put_by, same_way, stepped, steps_of, waits_for_one, way, false≢true}
 use Rattle.uring_volume.proofs.Seeking.{dropped}
 use Rattle.uring_volume.proofs.ways.put_steps.Goals as goal
 use Rattle.uring_volume.proofs.ways.put_steps.Goals.{then-not-has_one_before+in_ok-put_step, else-not-has_one_before}
@@ -17,3 +17,6 @@ loop-piece-preserved g c =
     ∙ sym (ap (λ ws. steps_of (reverse c.args.events.now) c.args.from (way (map (λ p. p.now) c.args.rest.now) c.args.now.now) ws (map (λ s. way (map (λ p. p.now) s.rest.items) s.now.items) c.loop-piece.next.items))
     (dropped (λ p. p.now) c.args.rest.now c.loop-piece.piece-index c.piece-item.result c.loop-piece-test.true c.piece-item.is))
     ∙ c.loop-piece.invariant
+
+pub returns-in_err-put_step-clause-granted : goal.returns-in_err-put_step-clause-granted
+returns-in_err-put_step-clause-granted g c = λ all. absurd (false≢true (c.in_err-put_step.ensures.granted all))

@@ -1,4 +1,5 @@
 use Rattle.std.proofs.Common.{◌≤◌, ℕ, [], List, length, map, get_or, subst, sym}
+use Rattle.std.proofs.lemmas.Bool.{false≢true}
 use Rattle.uring_epochs.proofs.Common.{AreImages, CrashMachine, max_len}
 use Rattle.uring_epochs.proofs.EpochCrashes.{images_short, crash_result_fits, crash_result_chosen}
 use Rattle.uring_epochs.proofs.crash_machine.CrashMachine.crash_in.Goals as goal
@@ -25,3 +26,6 @@ returns-clause-chosen g c =
     let are : AreImages m.logs choices images = subst (λ vs. AreImages m.logs choices (map (λ b. b.items) vs)) (sym c.deref-2.ensures.value) (subst (λ ls. AreImages ls choices (map (λ b. b.items) c.in_ok-left.left.items)) c.deref.ensures.value c.in_ok-left.ensures.images) in
     rw (← c.self.view_is)
     (crash_result_chosen c.on_in-next.result m c.setup.result choices images c.setup.ensures.value c.on_in-next.ensures.fits are)
+
+pub returns-in_err-left-clause-granted : goal.returns-in_err-left-clause-granted
+returns-in_err-left-clause-granted g c = λ all. absurd (false≢true (c.in_err-left.ensures.granted all))

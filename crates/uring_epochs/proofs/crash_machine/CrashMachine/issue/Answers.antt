@@ -1,6 +1,6 @@
 use Rattle.std.proofs.Common.{List, length, map, refl, sym, ap, ◌∙◌}
 use Rattle.std.specs.Vec.{with_items}
-use Rattle.uring_epochs.proofs.Common.{CrashMachine, Log, issued_as, with_items_is}
+use Rattle.uring_epochs.proofs.Common.{CrashMachine, Log, Setup, issued_as, with_items_is}
 use Rattle.uring_volume.proofs.Results.{not_err}
 use Rattle.uring_epochs.proofs.EpochSteps.{issue_fits}
 use Rattle.uring_epochs.proofs.crash_machine.CrashMachine.issue.Goals as goal
@@ -16,3 +16,17 @@ returns-clause-fits g c =
     issue_fits m now c.args.number c.step_in-answer.result c.running_op-op.result e earlier c.step_in-answer.ensures.setup refl refl
     (with_items_is c.self.inside.logs c.note_issue.new.logs many ∙ noted ∙ ap (λ ls. map (λ log. issued_as c.args.number c.running_op-op.result c.step_in-answer.result log) ls) c.deref_mut.ensures.value)
     c.step_in-answer.ensures.fits c.running_op-op.ensures.value f)
+
+pub invariant_of-self : goal.invariant_of-self
+invariant_of-self g c =
+    let many = c.note_issue.ensures.many ∙ ap (λ (ls : List Log). length ls) c.deref_mut.ensures.value in (
+      c.self.invariant.0,
+      ap (λ (ls : List Log). length ls) (with_items_is c.self.inside.logs c.note_issue.new.logs (many ∙ sym c.self.inside.logs.ok.0)) ∙ many ∙ c.self.invariant.1 ∙ sym (ap (λ (g : Setup). g.files) c.step_in-answer.ensures.setup),
+    )
+
+pub invariant_of-self-else-is_err : goal.invariant_of-self-else-is_err
+invariant_of-self-else-is_err g c =
+    let many = c.note_issue.ensures.many ∙ ap (λ (ls : List Log). length ls) c.deref_mut.ensures.value in (
+      c.self.invariant.0,
+      ap (λ (ls : List Log). length ls) (with_items_is c.self.inside.logs c.note_issue.new.logs (many ∙ sym c.self.inside.logs.ok.0)) ∙ many ∙ c.self.invariant.1 ∙ sym (ap (λ (g : Setup). g.files) c.step_in-answer.ensures.setup),
+    )

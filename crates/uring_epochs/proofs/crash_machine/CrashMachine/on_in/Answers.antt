@@ -1,4 +1,5 @@
 use Rattle.std.proofs.Common.{ℕ, false, List, length, map, sym, ap, ◌∙◌}
+use Rattle.std.proofs.lemmas.Bool.{false≢true}
 use Rattle.uring_epochs.proofs.Common.{CrashMachine, Log, Setup, first_files, logs_on}
 use Rattle.uring_epochs.proofs.Noted.{first_many, logs_many}
 use Rattle.uring_epochs.proofs.EpochCrashes.{on_fits}
@@ -19,3 +20,9 @@ returns-clause-fits g c =
     on_fits m all c.args.setup.now.files c.in_ok-new_in.ensures.fits (ap (λ (g : Setup). g.files) c.in_ok-new_in.ensures.setup)
     (c.in_ok-files.ensures.files ∙ ap (λ (k : ℕ). first_files k all) c.files.ensures.value)
     (c.in_ok-logs.ensures.logs ∙ ap (λ (k : ℕ). logs_on c.args.unit 0 (first_files k all)) c.files-2.ensures.value)
+
+pub returns-in_err-files-clause-granted : goal.returns-in_err-files-clause-granted
+returns-in_err-files-clause-granted g c = λ all. absurd (false≢true (c.in_err-files.ensures.granted all))
+
+pub returns-in_err-logs-clause-granted : goal.returns-in_err-logs-clause-granted
+returns-in_err-logs-clause-granted g c = λ all. absurd (false≢true (c.in_err-logs.ensures.granted all))

@@ -18,3 +18,15 @@ returns-in_default-clause-unrefused g c =
     let k : ℕ = elements_for c.self.inside.core (world c.self.inside.core.setup e.history) c.args.step in
     other_unrefused c.self.inside.files (world c.self.inside.core.setup e.history) c.args.step c.step_in.result c.in_default.not-Finish
     (c.step_in.ensures.granted e.history k f.core (all k) (let same : k ≤ k = omega arith in same)))
+
+pub returns-in-Issue-clause-fits : goal.returns-in-Issue-clause-fits
+returns-in-Issue-clause-fits g c = rw c.in-Issue.is c.issue.ensures.fits
+
+pub returns-in-Issue-clause-unrefused : goal.returns-in-Issue-clause-unrefused
+returns-in-Issue-clause-unrefused g c = rw c.in-Issue.is c.issue.ensures.unrefused
+
+pub returns-in-Finish-clause-fits : goal.returns-in-Finish-clause-fits
+returns-in-Finish-clause-fits g c = rw c.in-Finish.is c.finish.ensures.fits
+
+pub returns-in-Finish-clause-unrefused : goal.returns-in-Finish-clause-unrefused
+returns-in-Finish-clause-unrefused g c = rw c.in-Finish.is c.finish.ensures.unrefused
