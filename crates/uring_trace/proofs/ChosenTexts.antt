@@ -3,7 +3,6 @@ use Rattle.std.proofs.Common.{◌≡◌, ℕ, suc, ◌+◌, Bool, true, false, n
 use Rattle.uring_trace.proofs.Common.{Requests, Sqe, Why, addr_of, append-nil, codes, decimal, entry_of, entry_outstanding, has_ended, if◌then◌else◌, is_doomed, is_open, is_outstanding, is_running, is_target, length, nat_lt, said, spaced, targets_of, user_data_of, ◌==◌}
 use Rattle.uring_entry.specs.Below.{all_below}
 use Rattle.uring_entry.specs.Why.{why_of, waiting_for, holder_of, doom_of}
-use Rattle.uring_rules.specs.Rules as rules
 use Rattle.uring_entry.specs.declared.why.Why.TheVariants.{NeverAccepted, HasEnded, Runs, IsDoomed}
 use Rattle.uring_entry.specs.declared.why.Doom.{Doom}
 

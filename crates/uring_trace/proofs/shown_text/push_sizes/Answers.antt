@@ -1,0 +1,7 @@
+use Rattle.std.proofs.Common.{append_assoc}
+use Rattle.uring_trace.proofs.shown_text.push_sizes.Goals as goal
+
+pub returns-clause-bytes : goal.returns-clause-bytes
+returns-clause-bytes g c =
+    let parts = rw (c.from-4.ensures, c.start.ensures.value, c.in_ok-push_named-3.ensures.bytes, c.from-3.ensures, c.files.ensures.value, c.in_ok-push_named-2.ensures.bytes, c.from-2.ensures, c.cq.ensures.value, c.in_ok-push_named.ensures.bytes, c.from.ensures, c.sq.ensures.value) at c.push_named-4.ensures.bytes in
+    simp append_assoc (simp append_assoc at parts)
