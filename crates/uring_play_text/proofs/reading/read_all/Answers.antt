@@ -26,6 +26,3 @@ returns-clause-bytes g c =
 
 pub loop-chunk-init : goal.loop-chunk-init
 loop-chunk-init g c = λ size h. ([], Consumes-nil (g.R.Read.remaining c.args.reader.now), h)
-
-pub returns-in-Ok-eq0-clause-read : goal.returns-in-Ok-eq0-clause-read
-returns-in-Ok-eq0-clause-read g c = λ e. absurd cc
