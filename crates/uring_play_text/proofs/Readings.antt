@@ -2,12 +2,13 @@
 use Rattle.std.proofs.Common.{◌≡◌, ◌≢◌, ℕ, List, [], ◌∷◌, ◌++◌, Option, Some, None, Result, Ok, Err, refl, sym, ap, subst, reverse}
 use Rattle.uring_play_text.proofs.Common.{Consumes, Gathers, Has, HasLines, Holds, IfSome, IsAtEnd, IsEarly, IsGiven, IsReturned, Item, Keeps, MatchOption, PlayFault, ReadsAll, ReadsCalls, ReadsIn, Returns, TakesIn, append-nil, length, reverse-append, with_last, ◌<◌, ◌≤◌}
 use Rattle.std.specs.Borrow.{Bor}
-use Rattle.std.proofs.KnownBytes.{Consumes-trans, Consumes-kept}
+use Rattle.std.specs.Result.{IsErrAnd}
+use Rattle.std.proofs.KnownBytes.{Consumes-nil, Consumes-trans, Consumes-kept}
 use Rattle.std.specs.declared.vec.Vec.{Vec}
 use Rattle.std.specs.declared.alloc.Global.{Global}
 use Rattle.uring_entry.specs.Setup.{Setup}
 use Rattle.uring_text.specs.KeptLine.{KeptLine, kept_of}
-use Rattle.uring_text.proofs.Splits.{split_end, last_some}
+use Rattle.uring_text.proofs.Splits.{split_more, split_end, last_some}
 use Rattle.uring_play_text.specs.declared.play_fault.PlayFault.TheVariants as fault
 use Rattle.uring_play_text.specs.declared.script.Script.{Script}
 use Rattle.uring_play_text.specs.declared.reading.Reading.{Reading}
@@ -37,6 +38,18 @@ took_line size kept old new given before is takes h = record {
   splits = split_end before h.ended h.line h.splits;
   keeps = refl;
   gathers = subst (λ (l : List (List ℕ)). Gathers size l new) (sym (reverse-append (h.line ∷ []) h.ended)) (takes size (reverse h.ended) h.line (is h.line h.keeps) h.gathers);
+}
+
+-- a byte of the line
+pub took_byte : (size : ℕ) (kept kept' : KeptLine) (script : Script) (before : List ℕ) (b : ℕ) → b ≢ 10
+    → ((line : List ℕ) → kept ≡ kept_of line → kept' ≡ kept_of (line ++ b ∷ []))
+    → Holds size kept script before → Holds size kept' script (before ++ b ∷ [])
+took_byte size kept kept' script before b ne is h = record {
+  ended = h.ended;
+  line = h.line ++ b ∷ [];
+  splits = split_more before h.ended h.line b ne h.splits;
+  keeps = is h.line h.keeps;
+  gathers = h.gathers;
 }
 
 -- ---- the end of the input
@@ -150,3 +163,9 @@ pub stopped : (setup : Setup) (answer : Answer) (f : PlayFault) (a r : Known) (s
 stopped setup answer f a r s is so =
     let told : ReadsCalls setup (Err f) a r = record { bytes = so.0; consumed = so.1; returned = early_returned setup.sq so.0 f so.2; whole = early_all f r so.2 } in
     subst (λ (x : Answer). ReadsCalls setup x a r) (sym is) told
+
+-- nothing was read
+pub unread : (setup : Setup) (answer : Answer) (a : Known) → IsErrAnd answer (λ f. f ≡ fault.Memory)
+    → ReadsCalls setup answer a a
+unread setup (Ok calls) a h = absurd h
+unread setup (Err f) a h = subst (λ (x : PlayFault). ReadsCalls setup (Err x) a a) (sym h) (record { bytes = []; consumed = Consumes-nil a; returned = tt; whole = tt })

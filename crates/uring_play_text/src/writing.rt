@@ -8,7 +8,7 @@ use crate::play_fault::PlayFault;
 use std::alloc::{AllocError, Global};
 use std::io::Write;
 use uring_entry::Cqe;
-use uring_text::{Calls, TextMemory, push_completion_in, push_number, push_text, write_all};
+use uring_text::{Calls, TextMemory, push_completion_in, push_named, push_text, write_all};
 
 /// Writes the completions, a line each, sorted by user data, result and data, and then a line with how many requests were accepted and how many words dropped: `taken 3 dropped 0`. The line of a completion is that of a trace. That they are sorted is our own rule: threads end requests in no promised order.
 ///
@@ -96,9 +96,7 @@ fn push_counts<M: TextMemory>(
         (string_bytes text.new ≡ string_bytes text.old ++ counts_text taken dropped) }
     ensures granted { ((n : ℕ) → M.grants memory.now n) → IsOk result }
 {
-    push_text(memory, text, "taken ")?;
-    push_number(memory, text, taken)?;
-    push_text(memory, text, " dropped ")?;
-    push_number(memory, text, u64::from(dropped))?;
+    push_named(memory, text, "taken ", taken)?;
+    push_named(memory, text, " dropped ", u64::from(dropped))?;
     push_text(memory, text, "\n")
 }

@@ -1,10 +1,10 @@
 -- One message more on the lane of calls, at either end, and a whole call or the close mark taken.
-use Rattle.std.proofs.Common.{◌≡◌, ℕ, suc, ◌+◌, ◌-◌, ◌<◌, true, false, List, [], ◌∷◌, ◌++◌, length, get_or, take, sym, ◌∙◌, ap, arith, append_assoc, zero-add}
+use Rattle.std.proofs.Common.{◌≡◌, ℕ, suc, ◌+◌, ◌-◌, ◌<◌, true, false, List, [], ◌∷◌, ◌++◌, length, get_or, take, sym, ◌∙◌, ap, arith, append_assoc, append-nil, if◌then◌else◌, zero-add}
 use Rattle.std.proofs.lemmas.List.{take_more}
 use mathlib.Core.List.{IsPrefix}
 use Rattle.uring_ports.specs.declared.item.Item.{Item}
 use Rattle.uring_ports.specs.declared.message.Message.{Message}
-use Rattle.uring_ports.specs.Messages.{item_before, items_before, has_close_mark, put_of, AreWhole, owed, MayFollow}
+use Rattle.uring_ports.specs.Messages.{item_before, items_before, has_close_mark, items_of, put_of, AreWhole, owed, MayFollow}
 use Rattle.uring_ports.specs.Ports.{with_call, with_close}
 use Rattle.uring_ports.proofs.MessageLemmas.{items_before_snoc}
 use Rattle.uring_ports.proofs.MessageSteps.{Sent, sends_call, sends_close, item_may_follow, next_item, next_close, owed_snoc}
@@ -71,3 +71,15 @@ pub takes_call : (ms after : List Message) (items : List Item) → AreWhole ms
     → has_close_mark ms ≡ false → 0 < length items → after ≡ ms ++ items_before 0 items
     → Sent after (with_call (put_of ms) items)
 takes_call ms after items are_whole open' some is = rw is (sends_call ms items are_whole open' some)
+
+-- what is known to be there is taken, one by one
+pub one_taken : {X : Type 0} {known later all : List X} (xs rest : List X) (x : X)
+    → later ≡ xs ++ x ∷ [] → known ≡ x ∷ rest → xs ++ known ≡ all → later ++ rest ≡ all
+one_taken xs rest x a b so = ap (λ l. l ++ rest) a ∙ append_assoc xs (x ∷ []) rest ∙ ap (λ l. xs ++ l) (sym b) ∙ so
+
+pub all_taken : {X : Type 0} {all : List X} (xs rest : List X) → rest ≡ [] → xs ++ rest ≡ all → xs ≡ all
+all_taken xs rest none so = sym (append-nil xs) ∙ ap (λ l. xs ++ l) (sym none) ∙ so
+
+pub items_more : {ms : List Message} (m : Message) (rest : List Message) → ms ≡ m ∷ rest
+    → m.closes ≡ false → items_of ms ≡ m.item ∷ items_of rest
+items_more m rest a b = ap items_of a ∙ ap (λ closes. if closes then [] else m.item ∷ items_of rest) b

@@ -1,14 +1,30 @@
 -- One worker more after fresh ones, in order.
-use Rattle.std.proofs.Common.{◌≡◌, ℕ, ◌<◌, List, [], ◌∷◌, ◌++◌, length, get_or, ◌≤◌, inl, inr, sym, subst, ap, ◌∙◌, arith}
+use Rattle.std.proofs.Common.{◌≡◌, ℕ, ◌<◌, List, [], ◌∷◌, ◌++◌, length, get_or, ◌≤◌, inl, inr, refl, sym, subst, ap, ◌∙◌, arith}
 use Rattle.std.proofs.Math.Seq.{get_or-append_seam}
 use Rattle.std.proofs.lemmas.Bool.{cases_lt}
 use Rattle.std.proofs.lemmas.List.{get_or_append_left, length-append, length-replicate}
 use Rattle.rtrb.specs.Ring.{sent, producer_capacity, received, consumer_capacity}
-use Rattle.uring_files.specs.Contents.{empty_file}
+use Rattle.uring_files.specs.Contents.{FileContents, empty_file, empty_files}
 use Rattle.uring_workers.specs.Opened.{AreOpened, IsFreshWorker}
 use Rattle.uring_workers.specs.Pairings.{pairing_of}
 use Rattle.uring_workers.specs.Worker.{Worker}
 use Rattle.uring_workers.specs.declared.work_lanes.WorkLanes.{WorkLanes}
+
+pub none_opened : (files : ℕ) → AreOpened files [] []
+none_opened files = record {
+  pairs = record { many = refl; pairing = λ k d e low. absurd (omega arith); short = λ k d low. absurd (omega arith); have = λ k e low. absurd (omega arith) };
+  none_carried = λ k d low. absurd (omega arith);
+  hold = λ k d low. absurd (omega arith);
+  fresh = λ k e low. absurd (omega arith);
+}
+
+-- empty files, by how many there are
+pub all_empty : (files : List FileContents) (count : ℕ) → files ≡ empty_files count
+    → files ≡ empty_files (length files)
+all_empty files count e = e ∙ ap empty_files (sym (ap length e ∙ length-replicate count empty_file))
+
+pub both : {X : Type 0} {a b c d : X} → a ≡ c → b ≡ d → a ∷ b ∷ [] ≡ c ∷ d ∷ []
+both p q = cc
 
 -- what is true of each place is so of one more
 each_next : {X : Type 0} (P : ℕ → X → Type 0) (xs : List X) (x : X)
@@ -47,11 +63,12 @@ add_opened files lanes workers l w o jobs results jobs_hold results_hold pairing
       fresh = each_next (IsFreshWorker files) workers w o.fresh (subst (λ n. IsFreshWorker files n w) (sym many) fresh);
     }
 
-pub opened_next : (files : ℕ) (lanes later : List WorkLanes) (workers more : List Worker) (l : WorkLanes) (w : Worker)
-    → later ≡ lanes ++ l ∷ [] → more ≡ workers ++ w ∷ [] → AreOpened files lanes workers
+pub opened_next : {later mid : List WorkLanes} {more those : List Worker} (files : ℕ) (lanes : List WorkLanes) (workers : List Worker) (l : WorkLanes) (w : Worker)
+    → later ≡ mid ++ l ∷ [] → mid ≡ lanes → more ≡ those ++ w ∷ [] → those ≡ workers
+    → AreOpened files lanes workers
     → sent l.jobs ≡ [] → received l.results ≡ [] → producer_capacity l.jobs ≡ 64
     → consumer_capacity l.results ≡ 64
     → w.pairing ≡ pairing_of l.jobs l.results → IsFreshWorker files (length lanes) w
     → AreOpened files later more
-opened_next files lanes later workers more l w with_lanes with_worker o jobs results jobs_hold results_hold pairing fresh =
-    subst (λ xs. AreOpened files xs more) (sym with_lanes) (subst (AreOpened files (lanes ++ l ∷ [])) (sym with_worker) (add_opened files lanes workers l w o jobs results jobs_hold results_hold pairing fresh))
+opened_next files lanes workers l w with_lanes same_lanes with_worker same_workers o jobs results jobs_hold results_hold pairing fresh =
+    rw (with_lanes, same_lanes, with_worker, same_workers) (add_opened files lanes workers l w o jobs results jobs_hold results_hold pairing fresh)

@@ -1,3 +1,4 @@
+use Rattle.std.proofs.KnownBytes.{Consumes-nil}
 use Rattle.std.proofs.Common.{◌≡◌, [], ℕ, take, subst, rules}
 use Rattle.std.specs.Io.KnownBytes.{Consumes}
 use Rattle.uring_play_text.proofs.Readings.{all_read, goes_on, not_taken, tried_again, read_failed}
@@ -22,3 +23,6 @@ loop-chunk-preserved g c = λ size h. tried_again size _ _ _ c.loop-chunk.readin
 pub returns-clause-bytes : goal.returns-clause-bytes
 returns-clause-bytes g c =
     λ size h. read_failed size _ _ c.loop-chunk.reading (c.loop-chunk.invariant size h)
+
+pub loop-chunk-init : goal.loop-chunk-init
+loop-chunk-init g c = λ size h. ([], Consumes-nil (g.R.Read.remaining c.args.reader.now), h)

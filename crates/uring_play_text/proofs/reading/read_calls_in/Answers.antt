@@ -1,5 +1,5 @@
 use Rattle.std.proofs.Common.{rules}
-use Rattle.uring_play_text.proofs.Readings.{whole_read, stopped}
+use Rattle.uring_play_text.proofs.Readings.{whole_read, stopped, unread}
 use Rattle.uring_play_text.proofs.reading.read_calls_in.Goals as goal
 
 pub returns-in_err-read_all-clause-calls : goal.returns-in_err-read_all-clause-calls
@@ -12,3 +12,6 @@ pub returns-clause-granted : goal.returns-clause-granted
 returns-clause-granted g c = λ sure.
     let so = c.in_ok-read_all.ensures.bytes c.args.setup.now.sq (rw c.sq.ensures.value at c.in_ok-reading.ensures.none) in
     c.end.ensures.granted sure c.args.setup.now.sq so.0 so.2.0
+
+pub returns-in_err-reading-clause-calls : goal.returns-in_err-reading-clause-calls
+returns-in_err-reading-clause-calls g c = unread c.args.setup.now _ _ c.from_residual.ensures.1

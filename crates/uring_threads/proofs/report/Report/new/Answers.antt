@@ -41,3 +41,9 @@ returns-clause-trace g c = cc
 
 pub returns-clause-posted : goal.returns-clause-posted
 returns-clause-posted g c = c.list_unreaped.ensures
+
+pub returns-clause-many : goal.returns-clause-many
+returns-clause-many g c =
+    let vs = c.settle_workers.new.workers in
+    let looked : HaveLooked c.args.workers.items vs = subst (λ ws. HaveLooked ws vs) c.deref_mut-2.ensures.value c.settle_workers.ensures.workers in
+    rw (take_whole c.args.workers.len vs (drop (length vs) c.args.workers.items) (omega (arith, looked.many, c.args.workers.ok.0))) looked.many

@@ -1,0 +1,16 @@
+use Rattle.std.proofs.Common.{length, ap, arith}
+use Rattle.std.proofs.lemmas.List.{nil_from_length}
+use Rattle.rtrb.specs.Ring.{known_items}
+use Rattle.uring_ports.specs.Messages.{items_of}
+use Rattle.uring_ports.proofs.LaneLemmas.{one_taken, all_taken, items_more}
+use Rattle.uring_ports.proofs.lane_rests.take_known_items.Goals as goal
+
+pub loop-preserved : goal.loop-preserved
+loop-preserved c =
+    let message = c.pop_known-message.result in
+    let popped = c.pop_known-message.ensures.received.1 in
+    let fewer = ap length popped in
+    (omega arith, omega arith, one_taken c.loop.items.items _ message.item c.push_reserved.ensures.items (items_more message _ popped c.if-message.false) c.loop.invariant.2)
+
+pub returns : goal.returns
+returns c = all_taken c.loop.items.items _ (ap items_of (nil_from_length (known_items c.loop.lane) (omega arith))) c.loop.invariant.2
