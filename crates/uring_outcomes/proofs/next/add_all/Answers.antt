@@ -1,5 +1,5 @@
 use Rattle.uring_outcomes.specs.declared.move_of_calls.Move.TheVariants as move
-use Rattle.std.proofs.Common.{◌≡◌, ℕ, ◌<◌, ◌≤◌, List, length, Some, sym, subst, ap, ◌∙◌, arith}
+use Rattle.std.proofs.Common.{◌≡◌, ℕ, ◌≤◌, List, length, Some, sym, subst, ap, ◌∙◌, arith}
 use Rattle.std.proofs.lemmas.Option.{none-some}
 use Rattle.uring_outcomes.proofs.Common.{Contains, Contains-push, Global, HasBelow, Moment, Move, Vec, entries_of, moved}
 use Rattle.uring_outcomes.proofs.Replaying.{more_below}

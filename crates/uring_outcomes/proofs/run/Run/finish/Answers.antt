@@ -1,4 +1,4 @@
-use Rattle.std.proofs.Common.{◌≡◌, Bool, true, false, Option, Some, None, if◌then◌else◌, refl, sym, ap, ap₂, ◌∙◌, of_z, to_z, rules, arith}
+use Rattle.std.proofs.Common.{◌≡◌, Bool, true, false, Some, None, if◌then◌else◌, refl, sym, ap, ap₂, ◌∙◌, of_z, to_z, rules, arith}
 use Rattle.uring_outcomes.proofs.Common.{Op, Outcome, entry_of, false_from_ne_true, finished, is_finishable, is_running, max_len, moved, operation_of, result_of, to_z-of_z, w32}
 use Rattle.uring_outcomes.specs.declared.move_of_calls.Move.TheVariants as move
 use Rattle.uring_files.proofs.OperationCases.{result_granted}
