@@ -1,10 +1,8 @@
-use Rattle.std.proofs.Common.{◌≡◌, ◌⊎◌, ℕ, Bool, true, false, not, ℤ, Option, Some, None, if◌then◌else◌, refl, sym, ◌∙◌, inl, inr, rules}
-use Rattle.uring_dispatch.specs.IssueAndFinish.{issued}
+use Rattle.std.proofs.Common.{◌≡◌, ◌⊎◌, ℕ, Bool, true, false, not, ℤ, Option, Some, None, if◌then◌else◌, refl, sym, subst, ◌∙◌, inl, inr, rules}
 use Rattle.uring_dispatch.specs.declared.answers.Issued.{Issued}
 use Rattle.uring_dispatch.specs.declared.answers.Issued.TheVariants.{Ended, NotReady, Running, Unknown}
-use Rattle.uring_outcomes.proofs.Common.{MadeAs, Moment, Sqe, entry_of, is_outstanding, moved, to_z-of_z, w32}
-use Rattle.uring_outcomes.specs.declared.move_of_calls.Move.TheVariants as move
-use Rattle.uring_outcomes.proofs.Moving.{issue_moves, not_made}
+use Rattle.uring_outcomes.proofs.Common.{MadeAs, Moment, Sqe, entry_of, is_outstanding, to_z-of_z, w32}
+use Rattle.uring_outcomes.proofs.Moving.{IssueMoves, issue_moves, not_made}
 use Rattle.uring_outcomes.proofs.RunSteps.{issue_starts, issue_ends}
 use Rattle.uring_outcomes.proofs.run.Run.issue.Goals as goal
 
@@ -28,12 +26,12 @@ returns-in_ok-post-in-Ended-clause-made g c = λ calls m at.
     let same = to_z-of_z w32 c.in-Ended.res (search rules) in
     issue_ends calls c.args.self.now _ m c.args.number c.in-Ended.res c.in-Some.entry at (c.in-Ended.ensures.answer m.requests at.requests) (sym c.in-Some.is ∙ c.entry-entry.ensures m.requests at.requests) (c.in-Ended.ensures.shows m.requests at.requests) (c.in-Ended.ensures.counts.between ∙ at.between) (simp same at c.in_ok-post-in-Ended.ensures.posted) refl refl
 
-refused : (m : Moment) (n : ℕ) (a : Issued) (P : Moment → Type 0) → (a ≡ NotReady) ⊎ ((a ≡ Running) ⊎ (a ≡ Unknown)) → a ≡ issued m.requests n
-    → MadeAs false (moved m (move.Issue n)) P
-refused m n a P (inl is) answered = not_made P _ (issue_moves m n NotReady (sym is ∙ answered))
-refused m n a P (inr (inl is)) answered = not_made P _ (issue_moves m n Running (sym is ∙ answered))
-refused m n a P (inr (inr is)) answered = not_made P _ (issue_moves m n Unknown (sym is ∙ answered))
+refused : (m : Moment) (n : ℕ) (a : Issued) (o : Option Moment) (P : Moment → Type 0) → (a ≡ NotReady) ⊎ ((a ≡ Running) ⊎ (a ≡ Unknown))
+    → IssueMoves m n a o → MadeAs false o P
+refused m n a o P (inl is) moves = not_made P o (subst (λ x. IssueMoves m n x o) is moves)
+refused m n a o P (inr (inl is)) moves = not_made P o (subst (λ x. IssueMoves m n x o) is moves)
+refused m n a o P (inr (inr is)) moves = not_made P o (subst (λ x. IssueMoves m n x o) is moves)
 
 pub returns-in-NotReady-clause-made : goal.returns-in-NotReady-clause-made
 returns-in-NotReady-clause-made g c = λ calls m at.
-    refused m c.args.number c.issue.result _ c.in-NotReady.is (c.issue.ensures.answer m.requests at.requests)
+    refused m c.args.number c.issue.result _ _ c.in-NotReady.is (issue_moves m c.args.number c.issue.result (c.issue.ensures.answer m.requests at.requests))
