@@ -20,6 +20,7 @@ use crate::names::add_names;
 use crate::paths::fork;
 use crate::run::Run;
 use std::alloc::{AllocError, Global};
+use std::mem;
 use uring_entry::{Setup, Sqe};
 use uring_memory::Memory;
 
@@ -223,7 +224,8 @@ impl Walk {
             → OnOk result (Goes setup.now (entries_of calls.now) names self.new) }
         ensures fault { IfErr result (IsReason (M.grants memory.now) (entries_of calls.now)) }
     {
-        self.run = Run::new(memory, alloc, setup.files())?;
+        let run = Run::new(memory, alloc, setup.files())?;
+        drop(mem::replace(&mut self.run, run));
         self.is_on_path = self.run.replay(memory, calls, self.path.as_slice())?;
         Ok(())
     }

@@ -1,5 +1,5 @@
 use Rattle.std.proofs.Common.{◌≡◌, ◌+◌, false, true, take, [], ◌∷◌, ◌++◌, List, ap, sym, subst, ◌∙◌, arith, rules}
-use Rattle.uring_early.proofs.Common.{FitsApart, IssueMeets, IssuesMeet, Mark, Setup, history_of, history_of_snoc, known_by, known_mark, known_marks, not-false, not-true, world}
+use Rattle.uring_early.proofs.Common.{Event, FitsApart, IsLawfulApart, IssueMeets, IssuesMeet, Mark, Setup, history_of, history_of_snoc, known_by, known_mark, known_marks, not-false, not-true, take_all, world}
 use Rattle.uring_early.proofs.Knowing.{issues_more, known_more, wrong_known}
 use Rattle.uring_early.proofs.Marking.{taken_next}
 use Rattle.uring_early.proofs.known.add_known.Goals as goal
@@ -30,3 +30,16 @@ returns-then-not-branch-clause-wrong c = λ is.
     let made : c.in_ok-add_one.field-0 ≡ false = search (rules, not-true) in
     wrong_known c.args.core.now.setup c.loop-event.core.setup c.args.told.now c.args.events.now c.loop-event.event-index c.event-item.result (omega arith) c.event-item.is c.loop-event.invariant.setup
     (c.in_ok-add_one.ensures.wrong made (history_of (take c.loop-event.event-index c.args.events.now)) c.loop-event.invariant.fits)
+
+pub returns-clause-lawful : goal.returns-clause-lawful
+returns-clause-lawful c = λ is.
+    let all = take_all c.loop-event.event-index c.args.events.now (omega arith) in
+    subst (λ (s : Setup). IsLawfulApart s (history_of c.args.events.now)) c.loop-event.invariant.setup (subst (λ (es : List Event). IsLawfulApart c.loop-event.core.setup (history_of es)) all c.loop-event.invariant.fits.lawful)
+
+pub returns-clause-meet : goal.returns-clause-meet
+returns-clause-meet c = λ is.
+    subst (IssuesMeet c.args.core.now.setup c.args.told.now []) (take_all c.loop-event.event-index c.args.events.now (omega arith)) c.loop-event.invariant.meet
+
+pub returns-clause-marks : goal.returns-clause-marks
+returns-clause-marks c = λ is.
+    c.loop-event.invariant.marks ∙ ap (known_marks c.args.core.now.setup c.args.told.now []) (take_all c.loop-event.event-index c.args.events.now (omega arith))

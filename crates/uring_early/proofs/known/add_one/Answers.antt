@@ -28,3 +28,13 @@ returns-clause-mark c = λ is h fits.
     let known : c.bytes_at-known.result ≡ known_by c.args.core.now.setup c.args.told.now h c.args.event.now =
     known_is c.args.told.now c.posted-before.result c.posted.result (posted_in c.args.core.now.setup h) (posted_in c.args.core.now.setup (c.args.event.now ∷ h)) c.bytes_at-known.result c.bytes_at-known.ensures (c.posted-before.ensures h fits) (c.posted.ensures (c.args.event.now ∷ h) after ∙ ap (λ (s : Setup). posted_in s (c.args.event.now ∷ h)) c.in_ok-follow_one.ensures.setup) in
     c.in_ok-push.ensures.items ∙ ap (λ (m : Mark). c.args.marks.now.items ++ m ∷ []) (c.mark_known.ensures (c.args.event.now ∷ h) after ∙ ap (λ (s : Setup). known_mark c.bytes_at-known.result (world s (c.args.event.now ∷ h)).requests c.args.event.now) c.in_ok-follow_one.ensures.setup ∙ ap (λ (k : Option (List ℕ)). known_mark k (world c.args.core.now.setup (c.args.event.now ∷ h)).requests c.args.event.now) known)
+
+pub returns-clause-called : goal.returns-clause-called
+returns-clause-called c = λ is.
+    let made : c.in_ok-follow_one.field-0 ≡ true = search (rules, not-false) in
+    c.in_ok-follow_one.ensures.called made
+
+pub returns-then-not-branch-clause-wrong : goal.returns-then-not-branch-clause-wrong
+returns-then-not-branch-clause-wrong c = λ is h fits called meets.
+    let made : c.in_ok-follow_one.field-0 ≡ false = search (rules, not-true) in
+    c.in_ok-follow_one.ensures.wrong made h fits called

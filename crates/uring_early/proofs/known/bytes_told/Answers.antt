@@ -1,6 +1,7 @@
 use Rattle.std.proofs.Common.{◌≡◌, ◌+◌, take, [], ◌∷◌, ◌++◌, List, ℕ, ap, sym, ◌∙◌, arith}
 use Rattle.uring_early.specs.Bare as bare
 use Rattle.uring_early.specs.Bare.{bytes_reaped}
+use Rattle.uring_early.proofs.Common.{take_all}
 use Rattle.uring_early.proofs.Knowing.{told_more}
 use Rattle.uring_early.proofs.Marking.{taken_next}
 use Rattle.uring_early.proofs.known.bytes_told.Goals as goal
@@ -12,3 +13,6 @@ loop-event-preserved c =
     let grown : take (c.loop-event.event-index + 1) c.args.events.now ≡ earlier ++ c.event-item.result ∷ [] = taken_next c.args.events.now c.loop-event.event-index c.event-item.result (omega (arith, low)) c.event-item.is in
     c.in_ok-push_told.ensures ∙ ap (λ (xs : List (List ℕ)). xs ++ bytes_reaped c.event-item.result) c.loop-event.invariant
     ∙ sym (told_more earlier c.event-item.result) ∙ ap bare.bytes_told (sym grown)
+
+pub returns : goal.returns
+returns c = c.loop-event.invariant ∙ ap bare.bytes_told (take_all c.loop-event.event-index c.args.events.now (omega arith))

@@ -1,5 +1,5 @@
 use Rattle.std.proofs.Common.{◌≡◌, ◌+◌, false, true, take, [], ◌∷◌, ◌++◌, List, ap, sym, subst, ◌∙◌, arith, rules}
-use Rattle.uring_early.proofs.Common.{FitsApart, Mark, Setup, history_of, history_of_snoc, mark_by, marks_after, not-false, not-true, world}
+use Rattle.uring_early.proofs.Common.{Event, FitsApart, IsLawfulApart, Mark, Setup, history_of, history_of_snoc, mark_by, marks_after, not-false, not-true, take_all, world}
 use Rattle.uring_early.proofs.Marking.{marks_more, taken_next, wrong_from}
 use Rattle.uring_early.proofs.marks.add_marks.Goals as goal
 
@@ -26,3 +26,12 @@ returns-then-not-branch-clause-wrong c = λ is.
     let made : c.in_ok-follow_one.field-0 ≡ false = search (rules, not-true) in
     wrong_from c.args.core.now.setup c.loop-event.core.setup c.args.events.now c.loop-event.event-index c.event-item.result (omega arith) c.event-item.is c.loop-event.invariant.setup
     (c.in_ok-follow_one.ensures.wrong made (history_of (take c.loop-event.event-index c.args.events.now)) c.loop-event.invariant.fits)
+
+pub returns-clause-lawful : goal.returns-clause-lawful
+returns-clause-lawful c = λ is.
+    let all = take_all c.loop-event.event-index c.args.events.now (omega arith) in
+    subst (λ (s : Setup). IsLawfulApart s (history_of c.args.events.now)) c.loop-event.invariant.setup (subst (λ (es : List Event). IsLawfulApart c.loop-event.core.setup (history_of es)) all c.loop-event.invariant.fits.lawful)
+
+pub returns-clause-marks : goal.returns-clause-marks
+returns-clause-marks c = λ is.
+    c.loop-event.invariant.marks ∙ ap (marks_after c.args.core.now.setup []) (take_all c.loop-event.event-index c.args.events.now (omega arith))

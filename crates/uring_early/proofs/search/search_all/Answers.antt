@@ -1,9 +1,25 @@
-use Rattle.std.proofs.Common.{List, [], ◌∷◌, ◌++◌, ap, sym, subst, ◌∙◌}
+use Rattle.std.proofs.Common.{◌≡◌, ℕ, true, List, [], ◌∷◌, ◌++◌, ap, sym, subst, ◌∙◌, rules}
 use Rattle.uring_early.specs.declared.state.State.{State}
-use Rattle.uring_early.specs.Search.{IsSearch, seat_of, seats_of}
+use Rattle.uring_early.specs.declared.search.Fate.{Fate}
+use Rattle.uring_early.specs.declared.search.Fate.TheVariants.{Explained, Over, Open}
+use Rattle.uring_early.specs.Search.{HasFate, IsFated, IsSearch, Seat, seat_of, seats_of}
+use Rattle.uring_early.proofs.Common.{Mark, not-false}
 use Rattle.uring_early.proofs.Searching.{begins}
 use Rattle.uring_early.proofs.search.search_all.Goals as goal
+
+fated : (count : ℕ) (marks : List Mark) (todo : List Seat) (fate : Fate) → HasFate count marks todo fate → IsFated count marks fate
+fated count marks todo Explained has = has
+fated count marks todo Over has = has
+fated count marks todo Open has = tt
 
 pub moves-init : goal.moves-init
 moves-init c =
     subst (λ (xs : List State). IsSearch c.args.count c.args.marks.now (seats_of xs)) (sym (c.in_ok-push.ensures.items ∙ ap (λ (xs : List State). xs ++ c.in_ok-new.field-0 ∷ []) c.requires.none)) (begins c.args.count c.args.marks.now (seat_of c.in_ok-new.field-0) c.in_ok-new.ensures)
+
+pub moves-preserved : goal.moves-preserved
+moves-preserved c =
+    let goes : c.is_open.result ≡ true = search (rules, not-false) in
+    subst (HasFate c.args.count c.args.marks.now (seats_of c.search_one.new.todo.items)) (c.is_open.ensures goes) c.in_ok-fate.ensures
+
+pub returns-then-not-is_open : goal.returns-then-not-is_open
+returns-then-not-is_open c = fated c.args.count c.args.marks.now (seats_of c.search_one.new.todo.items) c.in_ok-fate.fate c.in_ok-fate.ensures

@@ -1,4 +1,4 @@
-use Rattle.std.proofs.Common.{sym, ap, subst, ◌∙◌}
+use Rattle.std.proofs.Common.{List, sym, ap, subst, ◌∙◌}
 use Rattle.uring_outcomes.proofs.Common.{Contains, Contains-append_left, Contains-push, Global, Move, Vec, both_ways}
 use Rattle.uring_outcomes.specs.declared.move_of_calls.Move.TheVariants as move
 use Rattle.uring_outcomes.proofs.Moving.{finishable_tells}
@@ -18,8 +18,27 @@ returns-in_ok-push_move-2-clause-issue g c = λ calls m at can.
       | then-can_issue+in_ok-push_move w ↦ subst (λ xs. Contains xs (move.Issue c.args.number)) (sym (ap (λ (v : Vec Move Global). v.items) w.moves-is ∙ w.in_ok-push_move.ensures.pushed)) (Contains-push c.args.moves.now.items (move.Issue c.args.number))
       | else-can_issue w ↦ absurd (both_ways c.can_issue.result w.if-can_issue.false (c.can_issue.ensures calls m at can))
     ] in
-    subst (λ xs. Contains xs (move.Issue c.args.number)) (sym c.in_ok-push_move-2.ensures.pushed) (Contains-append_left c.if-can_issue.moves.items _ (move.Issue c.args.number) there)
+    subst (λ xs. Contains xs (move.Issue c.args.number)) (sym {A = List Move} c.in_ok-push_move-2.ensures.pushed) (Contains-append_left c.if-can_issue.moves.items _ (move.Issue c.args.number) there)
 
 pub returns-else-runs-clause-finish : goal.returns-else-runs-clause-finish
 returns-else-runs-clause-finish g c = λ calls m at can.
     absurd (both_ways c.runs.result c.if-runs.false (c.runs.ensures calls m at ∙ (finishable_tells m.requests c.args.number can).1))
+
+pub returns-in_ok-push_move-2-clause-finish : goal.returns-in_ok-push_move-2-clause-finish
+returns-in_ok-push_move-2-clause-finish g c = λ calls m at can.
+    subst (λ xs. Contains xs (move.Finish c.args.number)) (sym {A = List Move} c.in_ok-push_move-2.ensures.pushed) (Contains-push c.if-can_issue.moves.items (move.Finish c.args.number))
+
+pub returns-in_ok-push_move-2-clause-kept : goal.returns-in_ok-push_move-2-clause-kept
+returns-in_ok-push_move-2-clause-kept g c = λ x has.
+    let there : Contains c.if-can_issue.moves.items x = elim c.if-can_issue.branch [
+      | then-can_issue+in_ok-push_move w ↦ subst (λ xs. Contains xs x) (sym (ap (λ (v : Vec Move Global). v.items) w.moves-is ∙ w.in_ok-push_move.ensures.pushed)) (Contains-append_left c.args.moves.now.items _ x has)
+      | else-can_issue w ↦ subst (λ xs. Contains xs x) (sym (ap (λ (v : Vec Move Global). v.items) w.moves-is)) has
+    ] in
+    subst (λ xs. Contains xs x) (sym {A = List Move} c.in_ok-push_move-2.ensures.pushed) (Contains-append_left c.if-can_issue.moves.items _ x there)
+
+pub returns-else-runs-clause-kept : goal.returns-else-runs-clause-kept
+returns-else-runs-clause-kept g c = λ x has.
+    elim c.if-can_issue.branch [
+      | then-can_issue+in_ok-push_move w ↦ subst (λ xs. Contains xs x) (sym (ap (λ (v : Vec Move Global). v.items) w.moves-is ∙ w.in_ok-push_move.ensures.pushed)) (Contains-append_left c.args.moves.now.items _ x has)
+      | else-can_issue w ↦ subst (λ xs. Contains xs x) (sym (ap (λ (v : Vec Move Global). v.items) w.moves-is)) has
+    ]

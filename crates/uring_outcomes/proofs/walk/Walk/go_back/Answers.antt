@@ -7,9 +7,11 @@ pub replay-requires : goal.replay-requires
 replay-requires g c =
     let few : c.args.setup.now.files ≤ 64 = c.files.ensures.limits.files_limit in
     let same : c.files.result ≡ c.args.setup.now.files = c.files.ensures.value in
+    let calls = entries_of c.args.calls.now in
+    let start = starting c.args.setup.now calls in
     record {
-      moment = starting c.args.setup.now (entries_of c.args.calls.now);
-      at = c.in_ok-self.ensures.stands c.args.setup.now (entries_of c.args.calls.now) (sym same) (omega arith);
+      moment = start;
+      at = subst (λ run. StandsAt calls run start) (sym c.replace.ensures.after) (c.in_ok-run.ensures.stands c.args.setup.now calls (sym same) (omega arith));
     }
 
 pub returns-clause-goes : goal.returns-clause-goes
@@ -19,4 +21,4 @@ returns-clause-goes g c = λ names off.
     let calls = entries_of c.args.calls.now in
     let start = starting c.args.setup.now calls in
     gone c.args.setup.now calls names (paths_of c.args.self.now.todo.items) c.args.self.now.path.items _ refl refl off.walk off.indexed
-    (subst (λ p. MadeAs c.in_ok-self-2.field-0 (after_moves start p) (StandsAt calls c.replay.new.self)) c.as_slice.ensures.value (c.in_ok-self-2.ensures.made start (c.in_ok-self.ensures.stands c.args.setup.now calls (sym same) (omega arith))))
+    (subst (λ p. MadeAs c.in_ok-self.field-0 (after_moves start p) (StandsAt calls c.replay.new.self)) c.as_slice.ensures.value (c.in_ok-self.ensures.made start (subst (λ run. StandsAt calls run start) (sym c.replace.ensures.after) (c.in_ok-run.ensures.stands c.args.setup.now calls (sym same) (omega arith)))))

@@ -1,0 +1,16 @@
+use Rattle.std.proofs.Common.{[], ◌∷◌, ◌++◌, map, ap, ◌∙◌}
+use Rattle.std.proofs.lemmas.Result.{IfOk-weaker}
+use Rattle.uring_fill.proofs.Common.{HasLonger, paths_of}
+use Rattle.uring_fill.proofs.search.add_longer.Goals as goal
+
+pub returns : goal.returns
+returns c =
+    let path = c.args.path.now in
+    let old = paths_of c.args.todo.now.items in
+    IfOk-weaker c.push_longer-done.result _ _ (λ done is.
+    let longer : HasLonger c.args.core.now.setup c.args.seen.now path old (paths_of c.push_longer-done.new.todo.items) = record {
+      next = c.in_ok-next.next.items;
+      right = c.in_ok-next.ensures.right;
+      all = c.in_ok-next.ensures.all;
+      is = is ∙ ap (λ xs. old ++ map (λ x. path ++ x ∷ []) xs) c.as_slice.ensures.value;
+    } in longer) c.push_longer-done.ensures
