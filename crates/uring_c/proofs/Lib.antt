@@ -1,1 +1,2 @@
 mod EnterBack
+mod Found

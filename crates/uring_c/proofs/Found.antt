@@ -1,0 +1,11 @@
+-- A promise on what a place holds, said of what a call found there.
+use Rattle.std.proofs.Common.{◌≡◌, Option, None, Some, IsSomeAnd, IfSome, MatchOption, sym, ◌∙◌, subst}
+
+pub said_of_found : {M H X : Type 0} (held : Option M) (Fits : M → H → Type 0) (of : M → H → Option X)
+    (No : Type 0) (Yes : X → Type 0) (found : Option X) (x : X)
+    → IsSomeAnd held (λ m. (h : H) → Fits m h → found ≡ of m h) → found ≡ Some x → Yes x
+    → IfSome held (λ m. (h : H) → Fits m h → MatchOption (of m h) No Yes)
+said_of_found None Fits of No Yes found x promised is said = tt
+said_of_found {M} {H} {X} (Some m) Fits of No Yes found x promised is said =
+    let P : Option X → Type 0 = λ o. MatchOption o No Yes in
+    λ h fits. subst P (sym is ∙ promised h fits) said
