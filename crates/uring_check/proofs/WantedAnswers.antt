@@ -2,6 +2,9 @@
 use Rattle.std.proofs.Common.{◌≡◌, drop, ◌∷◌, ℕ, ℤ, neg_ℤ, Bool, true, false, List, [], Option, Some, None, refl, sym, ap, subst, ◌∙◌, inl, inr}
 use Rattle.uring_check.proofs.Common.{AllowedBy, Answer, AnyEnd, CallOrAgain, CalledBy, CalledForApart, CalledIn, ENOMEM, EndOrNoMemory, Ends, FinishesApart, FitsBy, Follower, HasOneAnswer, History, IsEither, IsEnded, IsJudged, IsOneJudged, IsPlain, IsWanted, IsWrong, IsWrongText, Judges, MayGive, Only, Requests, Rules, Setup, Step, Wanted, World, entry_asked, entry_in, entry_outstanding, is_apart, is_running, no_bytes, rules_of, text_of, world}
 use Rattle.uring_core.specs.Core.{IsNoFinish}
+use Rattle.uring_core.specs.Recorded.{IsRefused, resumed}
+use Rattle.uring_core.specs.declared.wanted.Refusal.{Refusal}
+use Rattle.uring_core.specs.declared.wanted.Refusal.TheVariants as refusals
 use Rattle.uring_core.specs.declared.answer.Answer.TheVariants as answer
 use Rattle.uring_core.specs.declared.step.Step.TheVariants as step
 use Rattle.uring_text.specs.Spelling.{IsFile}
@@ -177,3 +180,36 @@ either_end res = record {
   other_meets = inr refl;
   nothing = λ s h. refl;
 }
+
+-- the follower fits the history as it did
+pub either_fits : (h : History) (m : Follower) (s : Step) (wanted : Wanted) (one other : Answer)
+    → IsEither wanted one other → IsWanted h m s wanted → FitsBy m h
+either_fits h m s wanted one other either is =
+    subst (λ (x : History). FitsBy m x) (either.nothing s h) is.1
+
+-- the text is that of neither
+pub either_wrong : (h : History) (m : Follower) (s : Step) (text : List ℕ) (wanted : Wanted) (one other : Answer)
+    → IsEither wanted one other → (text_of one ≡ text → ⊥) → (text_of other ≡ text → ⊥)
+    → IsWanted h m s wanted → IsJudged (rules_of m) h m s text (Some wanted)
+either_wrong h m s text wanted one other either apart other_apart is = (
+  record {
+    not_called = λ a c same plain. elim (either.meets a (is.0.called a c.0)) [
+      | inl e ↦ apart (ap text_of (sym e) ∙ same)
+      | inr e ↦ other_apart (ap text_of (sym e) ∙ same)
+    ];
+    called = λ a c. is.0.called a c.0;
+    only = λ a meets allowed. (is.0.only a meets, allowed);
+  },
+  is.1,
+)
+
+-- ---- what a refusal told
+
+pub refused_wanted : (old mid : Follower) (s : Step) (h : History) (wanted : Wanted) (refusal : Refusal)
+    → refusal ≡ refusals.Wrong wanted → rules_of mid ≡ rules_of old
+    → IsRefused (CalledBy (rules_of old) h s) answer.Filled refusal → FitsBy mid (resumed s refusal h)
+    → IsWanted h mid s wanted
+refused_wanted old mid s h wanted refusal e same refused fits = (
+  subst (λ (g : Rules). IsWrong (CalledBy g h s) answer.Filled wanted) (sym same) (subst (λ (x : Refusal). IsRefused (CalledBy (rules_of old) h s) answer.Filled x) e refused),
+  subst (λ (x : Refusal). FitsBy mid (resumed s x h)) e fits,
+)
