@@ -186,6 +186,7 @@ impl Checker {
     }
 
     /// Looks at a line.
+    #[tactic(auto, using(std::proofs::lemmas::Result::on_ok_weaker, crate::proofs::Splitting::long_none, crate::proofs::Splitting::unsplit_none, crate::proofs::Splitting::recorded))]
     fn look<M: TextMemory>(&mut self, memory: &M, line: &KeptLine) -> Result<(), AllocError>
         requires { self.old.is_over ≡ false }
         ensures looks { OnOk result
