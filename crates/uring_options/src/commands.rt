@@ -155,10 +155,22 @@ fn with_commands<'a>(
     ensures { IfOk result (λ more. app_of more ≡ with_command_rows (app_of command.entry) rows.now) }
 {
     for row in rows {
-        let sub = command_of(alloc, row)?;
-        command = command.subcommand(sub)?;
+        command = with_command(alloc, command, row)?;
     }
     Ok(command)
+}
+
+/// The command with one command more.
+fn with_command<'a>(
+    alloc: Global,
+    command: Command<'a>,
+    row: &CommandRow,
+) -> Result<Command<'a>, AllocError>
+    ensures { IfOk result
+        (λ more. app_of more ≡ with_subcommand (app_of command.entry) (app_of_row row.now).top) }
+{
+    let sub = command_of(alloc, row)?;
+    command.subcommand(sub)
 }
 
 /// The command, as clap knows it.
@@ -183,9 +195,23 @@ fn with_options<'a>(
         (λ more. (out-Command more).has_globals ≡ (out-Command command.entry).has_globals) }
 {
     for row in rows {
-        command = command.arg(option_of(alloc, *row))?;
+        command = with_option(alloc, command, *row)?;
     }
     Ok(command)
+}
+
+/// The command with one more option.
+fn with_option<'a>(
+    alloc: Global,
+    command: Command<'a>,
+    row: OptionRow,
+) -> Result<Command<'a>, AllocError>
+    ensures app { IfOk result
+        (λ more. app_of more ≡ with_rule (app_of command.entry) (rule_of_row row)) }
+    ensures local { IfOk result
+        (λ more. (out-Command more).has_globals ≡ (out-Command command.entry).has_globals) }
+{
+    command.arg(option_of(alloc, row))
 }
 
 /// The option, as clap knows it.

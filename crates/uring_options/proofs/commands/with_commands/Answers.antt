@@ -1,6 +1,6 @@
 use Rattle.std.proofs.Common.{◌∙◌, ◌<◌, ◌+◌, ℕ, drop, length, sym, ap, rules}
 use Rattle.std.proofs.lemmas.List.{at_drop_more}
-use Rattle.clap.specs.Simple.{App, app_of, with_subcommand}
+use Rattle.clap.specs.Simple.{App, app_of}
 use Rattle.uring_options.specs.OptionRows.{with_command_rows}
 use Rattle.uring_options.proofs.commands.with_commands.Goals as goal
 
@@ -10,5 +10,4 @@ loop-row-preserved c =
     let i : ℕ = c.loop-row.row-index in
     let lt : i < length rows = search rules in
     let rest = at_drop_more (with_command_rows (app_of c.loop-row.command)) rows i _ lt in
-    let added = c.in_ok-command.ensures.shape c.in_ok-sub.ensures.local ∙ ap (λ (a : App). with_subcommand (app_of c.loop-row.command) a.top) c.in_ok-sub.ensures.app in
-    ap (λ (a : App). with_command_rows a (drop (i + 1) rows)) added ∙ sym rest ∙ c.loop-row.invariant
+    ap (λ (a : App). with_command_rows a (drop (i + 1) rows)) c.in_ok-command.ensures ∙ sym rest ∙ c.loop-row.invariant
