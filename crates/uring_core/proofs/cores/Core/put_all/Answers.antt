@@ -1,6 +1,7 @@
 use Rattle.std.proofs.Common.{take, subst, ◌∙◌, arith}
 use Rattle.uring_core.proofs.Common.{FitsApart, Setup, after_entries, after_fill, after_index}
 use Rattle.uring_core.proofs.WholeCalls.{entries_next, submission_then}
+use Rattle.std.proofs.lemmas.List.{take_all}
 use Rattle.uring_core.proofs.cores.Core.put_all.Goals as goal
 
 pub loop-entry-preserved : goal.loop-entry-preserved
@@ -15,3 +16,7 @@ loop-entry-preserved c =
           (subst (λ (g : Setup). FitsApart c.put.new.self (after_index g c.loop-entry.slot (after_fill g c.loop-entry.slot c.entry-item.result before))) i.setup (c.put.ensures.fits before (i.fits h f)));
       others = submission_then c.args.self.now c.loop-entry.self c.put.new.self i.others c.put.ensures.others;
     }
+
+pub returns-clause-fits : goal.returns-clause-fits
+returns-clause-fits c =
+    rw (← (take_all c.loop-entry.entry-index c.args.entries.now c.loop-entry-test.false)) c.loop-entry.invariant.fits
