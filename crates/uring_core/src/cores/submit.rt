@@ -136,20 +136,10 @@ impl Core {
     {
         let mut slot = 0;
         for entry in entries {
-            self.put(slot, *entry);
+            self.fill(slot, entry);
+            self.index(slot);
             slot += 1;
         }
-    }
-
-    /// The application puts an entry in: it fills a slot and stages it.
-    fn put(&mut self, slot: u32, entry: Sqe)
-        ensures setup { self.new.setup ≡ self.old.setup }
-        ensures fits { (h : History) → FitsApart self.old h
-            → FitsApart self.new (after_index self.old.setup slot (after_fill self.old.setup slot entry h)) }
-        ensures others { self.new ≡ record self.old { sq = self.new.sq } }
-    {
-        self.fill(slot, &entry);
-        self.index(slot);
     }
 
     /// The dispatcher takes so many positions.

@@ -73,9 +73,3 @@ returns-then-is_err-clause-fits g c =
     rw (← c.self.view_is) (again_goes _ c.reserve_in.new.self c.reserve_in-2.new.self c.args.count c.from-length.result
     (λ h f. sym (told h f) ∙ ap (λ k. answer.Call k) (sym c.from-length.ensures))
     c.reserve_in.ensures.counts c.reserve_in.ensures.between c.reserve_in.ensures.shows (on_failure c.reserve_in-2.result _ failed c.reserve_in-2.ensures.err) (inr (rw c.outstanding.ensures.value at short)))
-
-pub returns-then-is_err-clause-again : goal.returns-then-is_err-clause-again
-returns-then-is_err-clause-again g c =
-    let told = rw (← c.self.view_is) at c.in-Call.ensures in
-    let short = on_failure c.reserve_in-2.result _ (sym c.is_err.ensures.value ∙ c.if-is_err.true) c.reserve_in-2.ensures.short in
-    rw (← c.self.view_is) (λ h f again. rw (← (opens_with _ c.args.count c.from-length.result (λ k fits. sym (told k fits) ∙ ap (λ j. answer.Call j) (sym c.from-length.ensures)) h f)) (inr (rw c.outstanding.ensures.value at short)))

@@ -1,3 +1,5 @@
+use Rattle.std.proofs.Common.{ap}
+use Rattle.uring_core.proofs.Common.{next_answer_of}
 use Rattle.uring_core.proofs.cores.Core.step_alone.Goals as goal
 
 pub returns-in-Fill-clause-fits : goal.returns-in-Fill-clause-fits
@@ -27,8 +29,8 @@ returns-in-Flush c = rw c.in-Flush.is c.flush.ensures
 pub returns-in-LoadCqTail : goal.returns-in-LoadCqTail
 returns-in-LoadCqTail c = rw c.in-LoadCqTail.is c.load_cq_tail.ensures
 
-pub returns-in-Reap : goal.returns-in-Reap
-returns-in-Reap c = rw c.in-Reap.is c.reap.ensures
+pub returns-in-Reap-clause-fits : goal.returns-in-Reap-clause-fits
+returns-in-Reap-clause-fits c = rw (c.in-Reap.is, c.reaped.ensures) c.reap_next.ensures.fits
 
 pub returns-in-StoreCqHead : goal.returns-in-StoreCqHead
 returns-in-StoreCqHead c = rw c.in-StoreCqHead.is c.store_cq_head.ensures
@@ -36,5 +38,5 @@ returns-in-StoreCqHead c = rw c.in-StoreCqHead.is c.store_cq_head.ensures
 pub returns-in-Close : goal.returns-in-Close
 returns-in-Close c = rw c.in-Close.is c.close.ensures
 
-pub returns-in-Next : goal.returns-in-Next
-returns-in-Next c = rw c.in-Next.is c.ask_next.ensures
+pub returns-in-Next-clause-fits : goal.returns-in-Next-clause-fits
+returns-in-Next-clause-fits c = rw (c.in-Next.is, c.next_answer.ensures) (λ h f. record { shows = f.shows; lawful = (ap next_answer_of (c.next.ensures h f), f.lawful) })
