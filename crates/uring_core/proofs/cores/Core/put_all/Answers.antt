@@ -1,4 +1,4 @@
-use Rattle.std.proofs.Common.{take, ◌∙◌, arith}
+use Rattle.std.proofs.Common.{◌+◌, take, ap, ◌∙◌}
 use Rattle.std.proofs.lemmas.List.{take_all}
 use Rattle.uring_core.specs.declared.step.Step.TheVariants as step
 use Rattle.uring_core.proofs.Common.{after_entries}
@@ -9,13 +9,13 @@ pub loop-entry-preserved : goal.loop-entry-preserved
 loop-entry-preserved c =
     let i = c.loop-entry.invariant in
     record {
-      slot = omega (arith, i.slot);
+      slot = ap (λ n. n + 1) i.slot;
       setup = c.index.ensures.setup ∙ c.fill.ensures.setup ∙ i.setup;
       fits = λ h f.
           let g = c.args.self.now.setup in
           let before = after_entries g 0 (take c.loop-entry.entry-index c.args.entries.now) h in
           let filled = as_called c.fill.new.self g (step.Fill c.loop-entry.slot c.entry-item.result) c.fill.result _ before (c.fill.ensures.setup ∙ i.setup) (λ e. e) (c.fill.ensures.fits before (i.fits h f)) in
-          rw (entries_next g c.args.entries.now c.loop-entry.entry-index c.loop-entry.slot c.entry-item.result h i.slot (omega arith) c.entry-item.is)
+          rw (entries_next g c.args.entries.now c.loop-entry.entry-index c.loop-entry.slot c.entry-item.result h i.slot c.loop-entry-test.true c.entry-item.is)
           (as_called c.index.new.self g (step.Index c.loop-entry.slot) c.index.result _ _ (c.index.ensures.setup ∙ c.fill.ensures.setup ∙ i.setup) (λ e. e) (c.index.ensures.fits _ filled));
       others = submission_then c.args.self.now c.fill.new.self c.index.new.self (submission_then c.args.self.now c.loop-entry.self c.fill.new.self i.others c.fill.ensures.others) c.index.ensures.others;
     }
