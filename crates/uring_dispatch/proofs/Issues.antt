@@ -1,6 +1,6 @@
 -- What the issue of a request is answered, by what the code found.
 use Rattle.std.proofs.Common.{◌≡◌, ℕ, ◌<◌, ℤ, negsuc, length, Bool, true, false, Some, None, refl, sym, ◌∙◌, ap, inl, inr}
-use Rattle.uring_dispatch.proofs.Common.{Cancel, Ended, NotReady, Op, Requests, Run, Running, Sqe, Unknown, addr_of, cancel_result, cases_Bool, entry_of, if◌then◌else◌, is_cancel, is_cancel_all, is_doomed, is_doomed_own_fault, is_faulty, is_outstanding, is_ready, is_running, none-some, op_of, operation_of, same_Some}
+use Rattle.uring_dispatch.proofs.Common.{Cancel, Ended, NotReady, Op, Requests, Run, Running, Sqe, Unknown, addr_of, cancel_result, cases_Bool, entry_of, if◌then◌else◌, is_cancel, is_cancel_all, is_doomed, is_doomed_own_fault, is_faulty, is_outstanding, is_ready, is_running, op_of, operation_of}
 use Rattle.uring_entry.proofs.Preparations.{asks_cancel}
 use Rattle.uring_dispatch.specs.declared.answers.Finished.TheVariants as finish
 use Rattle.uring_dispatch.specs.declared.answers.Posts.{Posts}
@@ -12,15 +12,15 @@ op_none e is = go (is_faulty e) is
   where
     go : (b : Bool) → None ≡ (if b then None else Some (operation_of e)) → b ≡ true
     go true x = refl
-    go false x = absurd (none-some (operation_of e) x)
+    go false x = cc
 
 pub op_some : (e : Sqe) (op : Op) → Some op ≡ op_of e
     → (is_faulty e ≡ false) × (op ≡ operation_of e)
 op_some e op is = go (is_faulty e) is
   where
     go : (b : Bool) → Some op ≡ (if b then None else Some (operation_of e)) → (b ≡ false) × (op ≡ operation_of e)
-    go true x = absurd (none-some op (sym x))
-    go false x = (refl, same_Some op (operation_of e) x)
+    go true x = cc
+    go false x = (refl, cc)
 
 pub issued_faulty : (r : Requests) (n : ℕ) → n < length r.accepted → is_faulty (entry_of r n) ≡ true
     → Ended (negsuc 21) ≡ issued_waiting r n
@@ -80,7 +80,7 @@ pub finished_none : (r : Requests) (n : ℕ) (res : ℤ) → None ≡ posted_by 
 finished_none r n res e = go (is_running r n) e
   where
     go : (b : Bool) → None ≡ (if b then Some (posts_of (entry_of r n) res) else None) → finish.NotRunning ≡ (if b then finish.Ended else finish.NotRunning)
-    go true x = absurd (none-some (posts_of (entry_of r n) res) x)
+    go true x = cc
     go false x = refl
 
 pub finished_some : (r : Requests) (n : ℕ) (res : ℤ) (posted : Posts)
@@ -89,4 +89,4 @@ finished_some r n res posted e = go (is_running r n) e
   where
     go : (b : Bool) → Some posted ≡ (if b then Some (posts_of (entry_of r n) res) else None) → finish.Ended ≡ (if b then finish.Ended else finish.NotRunning)
     go true x = refl
-    go false x = absurd (none-some posted (sym x))
+    go false x = cc

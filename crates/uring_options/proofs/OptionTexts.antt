@@ -1,13 +1,13 @@
 -- What the option of a name gives of words that clap finds no fault in.
 use Rattle.std.proofs.Common.{◌≡◌, ◌∙◌, ◌<◌, ◌≤◌, ◌^◌, ℕ, Bool, true, false, cond, List, [], ◌∷◌, Option, Some, None, Result, Ok, refl, sym, ap, subst, inl, inr, arith}
-use Rattle.uring_options.proofs.Common.{CommandOption, Gives, IsGiven, IsWithin, ParsesUnsigned, Row, Rule, TakesOption, TakesOptions, Text, codes, find, flag, number, or_cases, parser_for, values_kinds}
+use Rattle.uring_options.proofs.Common.{CommandOption, Gives, IsGiven, IsWithin, ParsesUnsigned, Row, Rule, TakesOption, TakesOptions, Text, codes, find, flag, number, or_cases, parser_for, value_kinds, values_kinds}
 use Rattle.clap.specs.Walk.{rows_of}
 use Rattle.std.specs.Str.{bytes_eq}
 use Rattle.std.proofs.lemmas.Slice.Eq.{bytes_eq-Decides}
 use Rattle.clap.specs.Facts.{parser_of_value}
 use Rattle.clap.specs.Lexer.{without_minus}
 use Rattle.clap.specs.Matches.{one_text, ReadsOne}
-use Rattle.clap.specs.Values.{reading_of, refused_kind}
+use Rattle.clap.specs.Values.{reading_of}
 use Rattle.clap.specs.ValueTests.{accepts}
 use Rattle.clap.specs.declared.builder.value_parser.ValueParser.{ValueParser}
 use Rattle.clap.specs.declared.parser.matches.Found.{Found}
@@ -37,14 +37,14 @@ among_parsers id (b ∷ rules) a (inr later) named =
     go true among = inr among
     go false among = among
 
-passes_by_none : {A : Type 0} (b : Bool) (x : A) → cond b [] (x ∷ []) ≡ [] → b ≡ true
-passes_by_none true x none = refl
-passes_by_none false x none = absurd cc
-
 first_passes : (ignore_case : Bool) (p : ValueParser) (t : Text) (rest : List Text)
     → values_kinds ignore_case p (t ∷ rest) ≡ [] → accepts ignore_case p t ≡ true
 first_passes ignore_case p t rest passes =
-    passes_by_none (accepts ignore_case p t) (refused_kind p) (neither_fails _ _ passes).0
+    go (accepts ignore_case p t) refl (neither_fails _ _ passes).0
+  where
+    go : (b : Bool) → accepts ignore_case p t ≡ b → value_kinds ignore_case p t ≡ [] → accepts ignore_case p t ≡ true
+    go true e h = e
+    go false e h = absurd cc
 
 -- the rules have one of this option's name, with its parser
 abbrev pub parsers_for : List Rule → CommandOption → List ValueParser
