@@ -1,8 +1,8 @@
 -- That a machine fits an epoch with one event more, and a run with one epoch more.
-use Rattle.std.proofs.Common.{◌≡◌, ℕ, Bool, true, false, List, ◌∷◌, length, map, Option, Some, None, if◌then◌else◌, refl, sym, subst, ◌∙◌, ap}
-use Rattle.uring_epochs.proofs.Common.{Answer, CalledForFrom, CrashMachine, EndsOn, Epoch, FileContents, FitsApart, FitsRun, History, IsFinished, IsLawfulApart, IsNoFinish, IsOutcome, IsRun, Log, Op, Requests, Setup, Step, World, after, entry_of, files_from, finished_as, is_running, issued_as, log_from, logged, logs_on, operation_of, operation_running, result_of, with_step, world}
+use Rattle.std.proofs.Common.{◌≡◌, ℕ, List, ◌∷◌, length, map, Option, Some, if◌then◌else◌, refl, sym, subst, ◌∙◌, ap}
+use Rattle.uring_epochs.proofs.Common.{Answer, CalledForFrom, CrashMachine, EndsOn, Epoch, FileContents, FitsApart, FitsRun, History, IsFinished, IsLawfulApart, IsNoFinish, IsOutcome, IsRun, Log, Op, Requests, Setup, Step, World, after, entry_of, files_from, finished_as, issued_as, log_from, logged, logs_on, operation_of, operation_running, result_of, with_step, world}
 use Rattle.uring_entry.specs.declared.operation.Outcome.{Outcome}
-use Rattle.uring_core.specs.StepAnswers.{CalledForApart, FinishesApart}
+use Rattle.uring_core.specs.StepAnswers.{CalledForApart}
 use Rattle.uring_core.specs.declared.step.Step.TheVariants as step
 use Rattle.uring_core.specs.declared.answer.Answer.TheVariants as answer
 use Rattle.uring_core.proofs.FileHistory.{files_kept_from, files_ended}
@@ -113,26 +113,6 @@ finish_fits m m' n a op outcome e earlier same units allowed leaves logs goes fi
     let p = parts_finish g m.unit m.files m'.files m.logs e earlier n op outcome is allowed leaves (parts_of m e earlier f) in
     built m' g m.unit m'.files _ (with_step (step.Finish n) a e) earlier same units refl logs (goes e.history f.core)
     (subst (λ (b : Answer). Parts g m.unit m'.files (map (λ log. finished_as n (Some op) b log) m.logs) (with_step (step.Finish n) b e) earlier) (sym ends) p)
-
--- a finish of a request that doesn't run
-
-idle_by : (running : Bool) (op : Op) → (if running then Some op else None) ≡ None → running ≡ false
-idle_by true op none = cc
-idle_by false op none = refl
-
-pub idle_fits : (m : CrashMachine) (n : ℕ) (e : Epoch) (earlier : List Epoch)
-    → operation_running (world m.core.setup e.history).requests n ≡ None → FitsRun m e earlier
-    → FitsRun m (with_step (step.Finish n) answer.NotRunning e) earlier
-idle_fits m n e earlier none f =
-    let r : Requests = (world m.core.setup e.history).requests in
-    let idle : false ≡ is_running r n = sym (idle_by (is_running r n) (operation_of (entry_of r n)) none) in
-    record {
-      core = record { shows = f.core.shows; lawful = (subst (λ b. FinishesApart b answer.NotRunning) idle refl, f.core.lawful) };
-      files = f.files;
-      logs = f.logs;
-      many = f.many;
-      run = ((subst (λ b. EndsOn (files_from e.first (world m.core.setup e.history)) r n b answer.NotRunning) idle refl, f.run.0), f.run.1, f.run.2);
-    }
 
 logged_other : (r q : Requests) (s : Step) (a : Answer) (log : Log) → ((n : ℕ) → s ≡ step.Issue n → ⊥)
     → ((n : ℕ) → s ≡ step.Finish n → ⊥) → log ≡ logged r q s a log

@@ -1,6 +1,5 @@
-use Rattle.std.proofs.Common.{◌≤◌, ℕ, [], List, length, map, get_or, subst, sym, ap, ◌∙◌}
+use Rattle.std.proofs.Common.{◌≤◌, ℕ, [], List, length, map, get_or, subst, sym}
 use Rattle.std.proofs.lemmas.Bool.{false≢true}
-use Rattle.std.proofs.lemmas.Result.{IfOk-weaker}
 use Rattle.uring_epochs.proofs.Common.{AreImages, CrashMachine, max_len}
 use Rattle.uring_epochs.proofs.EpochCrashes.{images_short, crash_result_fits, crash_result_chosen}
 use Rattle.uring_epochs.proofs.crash_machine.CrashMachine.crash_in.Goals as goal
@@ -30,11 +29,3 @@ returns-clause-chosen g c =
 
 pub returns-in_err-left-clause-granted : goal.returns-in_err-left-clause-granted
 returns-in_err-left-clause-granted g c = λ all. absurd (false≢true (c.in_err-left.ensures.granted all))
-
-pub returns-clause-setup : goal.returns-clause-setup
-returns-clause-setup g c =
-    IfOk-weaker c.on_in-next.result _ _ (λ next is. is ∙ c.setup.ensures.value ∙ ap (λ (m : CrashMachine). m.core.setup) c.self.view_is) c.on_in-next.ensures.setup
-
-pub returns-clause-unit : goal.returns-clause-unit
-returns-clause-unit g c =
-    IfOk-weaker c.on_in-next.result _ _ (λ next is. is ∙ ap (λ (m : CrashMachine). m.unit) c.self.view_is) c.on_in-next.ensures.unit

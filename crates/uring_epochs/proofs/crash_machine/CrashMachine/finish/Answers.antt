@@ -1,7 +1,7 @@
 use Rattle.std.proofs.Common.{◌≤◌, List, Some, length, map, refl, sym, ap, ◌∙◌, arith}
 use Rattle.std.specs.Vec.{with_items}
 use Rattle.uring_epochs.proofs.Common.{CrashMachine, Log, Setup, finished_as, length-map, max_len, with_items_is}
-use Rattle.uring_epochs.proofs.EpochSteps.{finish_fits, finish_unrefused, idle_fits}
+use Rattle.uring_epochs.proofs.EpochSteps.{finish_fits, finish_unrefused}
 use Rattle.uring_epochs.proofs.crash_machine.CrashMachine.finish.Goals as goal
 
 pub returns-clause-fits : goal.returns-clause-fits
@@ -32,9 +32,3 @@ invariant_of-self g c =
       c.self.invariant.0,
       ap (λ (ls : List Log). length ls) (with_items_is c.self.inside.logs c.note_finish.new.logs (many ∙ sym c.self.inside.logs.ok.0)) ∙ many ∙ c.self.invariant.1 ∙ sym (ap (λ (g : Setup). g.files) c.finish-answer.ensures.setup),
     )
-
-pub returns-in_default-clause-fits : goal.returns-in_default-clause-fits
-returns-in_default-clause-fits g c =
-    let m : CrashMachine = record { unit = c.self.inside.unit; core = c.self.inside.core; files = c.self.inside.files; logs = c.self.inside.logs.items; is_lost = c.self.inside.is_lost } in
-    rw (← c.self.view_is)
-    (λ e earlier f. idle_fits m c.args.number e earlier (sym (c.running_op.ensures.value e.history f.core) ∙ c.in_default.is) f)
