@@ -2,7 +2,7 @@
 pub use Rattle.std.proofs.Math.ListN.{get_or-eq_default, set}
 pub use Rattle.std.proofs.lemmas.Bool.{and_from, and_parts, both_ways, cases_Bool, cond-false, cond-true, eq-eqb, eqb-true, false_from_ne_true, leb-true, ltb-true, or_left, or_right}
 pub use Rattle.std.proofs.lemmas.List.{append-nil, get_or-append_right, get_or-map, get_or_append_left, length-map, reverse-append, with_items_is}
-pub use Rattle.std.specs.Prelude.{IfOk, OnErr, OnOk, negsuc, pos, replicate, slice_get, ℤ}
+pub use Rattle.std.specs.Prelude.{IfOk, OnOk, negsuc, pos, replicate, slice_get, ℤ}
 pub use Rattle.uring_core.specs.CalledFor.{CalledFor, EndsOn, IsLawful, files_after, files_of}
 pub use Rattle.uring_core.specs.Core.{FitsApart, IsFinished, IsNoFinish, elements_for}
 pub use Rattle.uring_core.specs.Histories.{History, IsLawfulApart, world}

@@ -1,7 +1,6 @@
 -- How long the file is that a volume shows, and which events a log has, as writes end.
-use Rattle.std.proofs.Common.{◌≡◌, ◌≤◌, ◌+◌, ◌==◌, ℕ, true, false, max, List, [], ◌∷◌, ◌++◌, length, reverse, Result, Ok, Err, refl, ap, ap₂, sym, ◌∙◌, inl, inr, arith}
-use Rattle.uring_epochs.proofs.Common.{OnErr, OnOk, Volume, Write, WriteEnded, cases_Bool, cond-false, cond-true, end_of, ended, issued, length_over, named, reverse-append, shown_length, with_event}
-use Rattle.std.proofs.lemmas.List.{length_push}
+use Rattle.std.proofs.Common.{◌≡◌, ◌≤◌, ◌+◌, ◌==◌, ℕ, true, false, max, List, [], ◌∷◌, ◌++◌, length, reverse, Result, Ok, Err, refl, ap, ◌∙◌, inl, inr, arith}
+use Rattle.uring_epochs.proofs.Common.{OnOk, Volume, Write, WriteEnded, cases_Bool, cond-false, cond-true, end_of, ended, issued, length_over, named, reverse-append, shown_length, with_event}
 use Rattle.std.proofs.lemmas.List.Elements.{filter-append}
 use Rattle.std.specs.Result.{is_err}
 use Rattle.uring_volume.specs.declared.event.Event.{Event}
@@ -30,15 +29,6 @@ shown_longer k v =
 
 pub shown_grows : (k : ℕ) (v : Volume) → shown_length v ≤ shown_length (with_event (WriteEnded k) v)
 shown_grows k v = omega (arith, shown_longer k v)
-
--- so much is shown then, by where its events say that its writes end
-pub long_ended : (k : ℕ) (v : Volume) (shown end : ℕ) (events seen : List Event) → shown ≡ shown_length v
-    → issued (reverse events) ≡ issued v.history → seen ≡ events
-    → end ≡ length_over 0 (named k (issued (reverse seen)))
-    → max shown end ≡ shown_length (with_event (WriteEnded k) v)
-long_ended k v shown end events seen long told same is =
-    ap₂ max long (is ∙ ap (λ es. length_over 0 (named k (issued (reverse es)))) same ∙ ap (λ ws. length_over 0 (named k ws)) told)
-    ∙ sym (shown_longer k v)
 
 -- Where the writes of a number end, with one more.
 
@@ -69,25 +59,11 @@ pub ends_without : (n : ℕ) (ws : List Write) (w : Write) → (w.number == n) �
 ends_without n ws w other =
     named_more n ws w ∙ ap (length_over (length_over 0 (named n ws))) (cond-false (w.number == n) (w ∷ []) [] other)
 
--- A list from its newest on, with one more.
-
-pub turned : {A : Type 0} (old room now : List A) (x : A) → room ≡ old → now ≡ room ++ x ∷ []
-    → reverse now ≡ x ∷ reverse old
-turned old room now x same put = ap reverse put ∙ reverse-append room (x ∷ []) ∙ ap (λ xs. x ∷ reverse xs) same
-
-pub one_longer : {A : Type 0} (old room now : List A) (x : A) → room ≡ old → now ≡ room ++ x ∷ []
-    → length now ≡ length old + 1
-one_longer old room now x same put = ap length put ∙ length_push room x ∙ ap (λ xs. length xs + 1) same
-
 -- The events of a log, with the end of a write after them.
 
 put_there : {E : Type 0} (r : Result (Unit {0}) E) (P : Type 0) → is_err r ≡ false → OnOk r P → P
 put_there (Ok x) P good on = on
 put_there (Err e) P good on = absurd cc
-
-pub kept_there : {E : Type 0} (r : Result (Unit {0}) E) (P : Type 0) → is_err r ≡ true → OnErr r P → P
-kept_there (Ok x) P bad on = absurd cc
-kept_there (Err e) P bad on = on
 
 pub turned_more : {E : Type 0} (r : Result (Unit {0}) E) (events now : List Event) (k : ℕ) → is_err r ≡ false
     → OnOk r (now ≡ events ++ WriteEnded k ∷ []) → reverse now ≡ WriteEnded k ∷ reverse events
