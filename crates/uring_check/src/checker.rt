@@ -133,7 +133,7 @@ impl Checker {
         ensures granted { ((n : ℕ) → M.grants memory.now n) → IsOk result }
     {
         let begun = Follower::new(memory, self.alloc, setup, self.machine.ends())?;
-        mem::replace(&mut self.machine, begun).let_go();
+        drop(mem::replace(&mut self.machine, begun));
         Ok(())
     }
 
@@ -178,11 +178,6 @@ impl Checker {
     {
         tell_end(memory, &mut self.report, self.verdict, self.steps)?;
         Ok(self.verdict)
-    }
-
-    /// Lets it go.
-    pub(crate) fn let_go(self) {
-        self.machine.let_go();
     }
 
     /// Looks at a line.
