@@ -58,7 +58,7 @@ pub fn check_in<M: TextMemory, R: Read, W: Write>(
 {
     let mut reading = Reading::new(memory, alloc, setup, is_all, ends)?;
     let checked = check_all(memory, &mut reading, reader, writer);
-    drop(reading);
+    reading.let_go();
     checked
 }
 

@@ -133,7 +133,7 @@ impl Checker {
         ensures granted { ((n : ℕ) → M.grants memory.now n) → IsOk result }
     {
         let begun = Follower::new(memory, self.alloc, setup, self.machine.ends())?;
-        drop(mem::replace(&mut self.machine, begun));
+        mem::replace(&mut self.machine, begun).let_go();
         Ok(())
     }
 
@@ -178,6 +178,11 @@ impl Checker {
     {
         tell_end(memory, &mut self.report, self.verdict, self.steps)?;
         Ok(self.verdict)
+    }
+
+    /// Lets it go.
+    pub(crate) fn let_go(self) {
+        self.machine.let_go();
     }
 
     /// Looks at a line.

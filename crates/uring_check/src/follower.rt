@@ -142,4 +142,19 @@ impl Follower {
             Follower::Allowed(core) => core,
         }
     }
+
+    /// Lets it go.
+    pub(crate) fn let_go(self) {
+        match self {
+            Follower::Whole(machine) => let_machine_go(machine),
+            Follower::Apart(core) => let_core_go(core),
+            Follower::Allowed(core) => let_core_go(core),
+        }
+    }
 }
+
+/// Lets a machine go. By itself, as the next, since each part of it is a step of the function that does.
+fn let_machine_go(_machine: Machine) {}
+
+/// Lets a core go.
+fn let_core_go(_core: Core) {}

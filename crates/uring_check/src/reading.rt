@@ -112,6 +112,11 @@ impl Reading {
         self.checker.report.as_bytes()
     }
 
+    /// Lets it go.
+    pub(crate) fn let_go(self) {
+        self.checker.let_go();
+    }
+
     /// Gives the line to the checker, and begins the next line.
     fn end_line<M: TextMemory>(&mut self, memory: &M) -> Result<(), AllocError>
         ensures ends { OnOk result
