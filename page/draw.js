@@ -103,7 +103,7 @@ function drawSpan(view, lane, request, span, y, x) {
 
 function short(text, room) {
   const most = Math.floor(room / 6.4);
-  return text.length <= most ? text : `${text.slice(0, Math.max(0, most - 1))}…`;
+  return text.length <= most ? text : `${text.slice(0, Math.max(0, most - 1))}\u2026`;
 }
 
 function drawEnd(view, lane, request, y, x) {
@@ -183,7 +183,7 @@ function drawRings(view) {
   const word = name => run.words[name][here] % 2 ** 32;
   ["sq", "cq"].forEach((ring, at) => {
     put(rings, "text", { x: 6, y: at * 48 + 20 }, `${ring === "sq" ? "submission" : "completion"} ring`);
-    put(rings, "text", { class: "soft", x: 6, y: at * 48 + 36, "data-ring": ring }, `head ${word(`${ring}_head`)} (- - -), tail ${word(`${ring}_tail`)} (—)`);
+    put(rings, "text", { class: "soft", x: 6, y: at * 48 + 36, "data-ring": ring }, `head ${word(`${ring}_head`)} (- - -), tail ${word(`${ring}_tail`)} (\u2014)`);
   });
 }
 

@@ -319,10 +319,10 @@ function legend() {
     item.append(picture, words);
     return item;
   });
-  const others = ["end, with its result", "✓ what was written is safe"];
-  if (areRings) others.push("○ reaped", "arrows: solid orange a member of its group, long dashes a drain, short dashes a cancel, solid red what dooms, grey a link");
-  if (panes.some(pane => pane.run.requests.some(request => request.marks.some(mark => mark.is in LEFT)))) others.push("✕ lost, ╱ torn, — left, though it needn't be");
-  if (panes.some(pane => pane.run.choices.length)) others.push("▼ a choice: pale where it is the one in order");
+  const others = ["end, with its result", "\u2713 what was written is safe"];
+  if (areRings) others.push("\u25cb reaped", "arrows: solid orange a member of its group, long dashes a drain, short dashes a cancel, solid red what dooms, grey a link");
+  if (panes.some(pane => pane.run.requests.some(request => request.marks.some(mark => mark.is in LEFT)))) others.push("\u2715 lost, \u2571 torn, \u2014 left, though it needn't be");
+  if (panes.some(pane => pane.run.choices.length)) others.push("\u25bc a choice: pale where it is the one in order");
   if (panes.some(pane => pane.run.parts >= 0)) others.push("a dashed line from top to bottom: where the runs part");
   clean(get("legend"), ...items, ...others.map(words => node("li", words)));
 }

@@ -8,7 +8,7 @@ use Rattle.uring_text.specs.Lines.{with_last}
 use Rattle.uring_text.specs.Writing.{WritesText}
 use Rattle.uring_text.specs.declared.trace_fault.TraceFault.{TraceFault}
 use Rattle.uring_text.specs.declared.trace_fault.TraceFault.TheVariants as fault
-use Rattle.uring_text.proofs.Splits.{split_end, last_some}
+use Rattle.uring_text.proofs.Splits.{split_more, split_end, last_some}
 use Rattle.uring_check.specs.Checks.{AreLinesOf, IsReportedBy, IsVerdict, Says, Writes, ReadsAll, IsChecked}
 use Rattle.uring_check.specs.declared.reading.Reading.{Reading}
 use Rattle.uring_check.proofs.LawfulTexts.{said}
@@ -28,6 +28,18 @@ took_line g all kept old new before takes h = record {
   splits = split_end before h.whole h.line h.splits;
   keeps = refl;
   looks = takes g all h.whole h.line h.keeps h.looks;
+}
+
+-- one byte more of a line
+pub kept_byte : (g : Rules) (all : Bool) (kept kept' : KeptLine) (c : Checker) (before : List ℕ) (b : ℕ)
+    → b ≢ 10 → ((line : List ℕ) → kept ≡ kept_of line → kept' ≡ kept_of (line ++ b ∷ []))
+    → Holds g all kept c before → Holds g all kept' c (before ++ b ∷ [])
+kept_byte g all kept kept' c before b ne more h = record {
+  whole = h.whole;
+  line = h.line ++ b ∷ [];
+  splits = split_more before h.whole h.line b ne h.splits;
+  keeps = more h.line h.keeps;
+  looks = h.looks;
 }
 
 -- ---- the end of the input

@@ -1,5 +1,5 @@
 -- How a line is split at its first `=`.
-use Rattle.std.proofs.Common.{◌≡◌, ◌≢◌, ℕ, ◌+◌, ◌<◌, ◌≤◌, List, [], ◌∷◌, ◌++◌, length, take, drop, get_or, refl, sym, ap, subst, ◌∙◌, append_assoc, inl, inr, arith}
+use Rattle.std.proofs.Common.{◌≡◌, ◌≢◌, ℕ, ◌+◌, ◌<◌, ◌≤◌, List, [], ◌∷◌, ◌++◌, length, take, drop, get_or, refl, sym, ap, subst, ◌∙◌, append_assoc, inl, inr, arith, length-append}
 use mathlib.Core.List.{head-eq_of_cons-eq, tail-eq_of_cons-eq}
 use Rattle.std.specs.List.{AllByRecursion}
 use Rattle.uring_check.proofs.Common.{IsNoRecord, IsRecord, IsSplit, IsUnsplit, Step, append_cancel_right, cases_lt, drop_more, take-append-drop, take_all}
@@ -116,6 +116,12 @@ unsplit_none line none = λ s text r. none r.before text (split_of line s text r
 pub bad_none : (line before text : List ℕ) → IsSplit line before text → IsBad before
     → IsNoRecord line
 bad_none line before text h bad = λ s other r. bad s (subst (λ (l : List ℕ). IsStep l s) (split_once line r.before other before text (split_of line s other r) h).0 r.step)
+
+-- what stands before the sign is no longer than the line
+pub short_before : (line before text : List ℕ) → length line ≤ 300 → IsSplit line before text
+    → length before ≤ 300
+short_before line before text short h =
+    omega (arith, short, ap length h.whole ∙ length-append before (32 ∷ 61 ∷ 32 ∷ text))
 
 pub long_none : (line : List ℕ) → 300 < length line → IsNoRecord line
 long_none line long = λ s text r. let short : length line ≤ 300 = r.short in absurd (omega arith)

@@ -61,7 +61,7 @@ fn judge_open<M: TextMemory>(
 }
 
 /// Judges a step to which these answers are called for.
-#[tactic(auto, using(crate::proofs::WantedAnswers::either_call, crate::proofs::WantedAnswers::either_end, crate::proofs::GrantedAnswers::either_allowed))]
+#[tactic(auto, using(crate::proofs::WantedAnswers::either_call, crate::proofs::WantedAnswers::either_end))]
 fn judge_wanted<M: TextMemory>(
     memory: &M,
     told: &mut AnswerText,

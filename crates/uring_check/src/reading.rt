@@ -84,7 +84,7 @@ impl Reading {
             if *byte == b'\n' {
                 self.end_line(memory)?;
             } else {
-                self.keep(*byte);
+                self.line.push(*byte);
             }
         }
         Ok(())
@@ -115,15 +115,6 @@ impl Reading {
     /// Lets it go.
     pub(crate) fn let_go(self) {
         self.checker.let_go();
-    }
-
-    /// Takes in one byte of a line, which isn't its end.
-    fn keep(&mut self, byte: u8)
-        requires { byte ≢ 10 }
-        ensures { (g : Rules) (all : Bool) (before : List ℕ) → Has g all self.old before
-            → Has g all self.new (before ++ byte ∷ []) }
-    {
-        self.line.push(byte);
     }
 
     /// Gives the line to the checker, and begins the next line.

@@ -4,6 +4,22 @@ use Rattle.uring_trace.proofs.Common.{Cqe, Some, Sqe, Why, append-nil, entry_out
 use Rattle.uring_linux.specs.LinuxRequests.{LinuxRequests}
 use Rattle.uring_rules.specs.Rules.{why_of}
 
+-- what was appended, as one text: a word and a number, one part more, and a word and a number more
+
+pub named_first : (old new word number : List ℕ) → new ≡ old ++ word ++ number
+    → new ≡ old ++ (word ++ number)
+named_first old new word number e = e ∙ append_assoc old word number
+
+pub part_more : (old one new parts part : List ℕ) → one ≡ old ++ parts → new ≡ one ++ part
+    → new ≡ old ++ (parts ++ part)
+part_more old one new parts part e f =
+    f ∙ ap (λ (t : List ℕ). t ++ part) e ∙ append_assoc old parts part
+
+pub named_more : (old one new parts word number : List ℕ) → one ≡ old ++ parts
+    → new ≡ one ++ word ++ number → new ≡ old ++ (parts ++ word ++ number)
+named_more old one new parts word number e f =
+    part_more old (one ++ word) new (parts ++ word) number (part_more old one (one ++ word) parts word e refl) f
+
 -- one completion more
 pub list_more : (cs : List Cqe) (i : ℕ)
     → list_text (take (suc i) cs) ≡ list_text (take i cs) ++ listed_text (slice_get cs i)

@@ -20,13 +20,13 @@ pub(crate) fn write_page<W: Write>(
 {
     let pieces = [
         head_0::PIECE,
-        data,
+        data.as_bytes(),
         tail_0::PIECE,
         tail_1::PIECE,
         tail_2::PIECE,
     ];
     for piece in pieces {
-        write_all(writer, piece.as_bytes(), writes)?;
+        write_all(writer, piece, writes)?;
     }
     Ok(())
 }

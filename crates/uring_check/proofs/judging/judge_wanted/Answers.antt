@@ -1,4 +1,5 @@
 use Rattle.std.proofs.lemmas.Result.{IfOk-weaker}
+use Rattle.uring_check.proofs.GrantedAnswers.{either_allowed}
 use Rattle.uring_check.proofs.WantedAnswers.{only_judged}
 use Rattle.uring_check.proofs.judging.judge_wanted.Goals as goal
 
@@ -23,3 +24,9 @@ returns-in-AnyEnd-clause-judges g c = rw c.in-AnyEnd.is c.judge_end.ensures.judg
 
 pub returns-in-AnyEnd-clause-granted : goal.returns-in-AnyEnd-clause-granted
 returns-in-AnyEnd-clause-granted g c = rw c.in-AnyEnd.is c.judge_end.ensures.granted
+
+pub judge_either-requires-in-EndOrNoMemory-clause-allowed : goal.judge_either-requires-in-EndOrNoMemory-clause-allowed
+judge_either-requires-in-EndOrNoMemory-clause-allowed g c = λ h. either_allowed c.args.machine.now c.args.step.now h c.in-EndOrNoMemory.res _
+
+pub judge_either-requires-in-EndOrNoMemory-clause-other_allowed : goal.judge_either-requires-in-EndOrNoMemory-clause-other_allowed
+judge_either-requires-in-EndOrNoMemory-clause-other_allowed g c = λ h. either_allowed c.args.machine.now c.args.step.now h c.in-EndOrNoMemory.res _

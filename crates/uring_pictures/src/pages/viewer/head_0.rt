@@ -1,7 +1,7 @@
 //! A piece of the page, which `page/embed` puts here.
 
 /// The piece.
-pub(crate) const PIECE: &str = r###"<!doctype html>
+pub(crate) const PIECE: &[u8] = br###"<!doctype html>
 <html lang="en">
 <head>
 <meta charset="utf-8">

@@ -1,7 +1,7 @@
 //! A piece of the page, which `page/embed` puts here.
 
 /// The piece.
-pub(crate) const PIECE: &str = r###"</script>
+pub(crate) const PIECE: &[u8] = br###"</script>
 <script>
 "use strict";
 const data = JSON.parse(document.getElementById("data").textContent);
@@ -272,7 +272,7 @@ function drawSpan(view, lane, request, span, y, x) {
 
 function short(text, room) {
   const most = Math.floor(room / 6.4);
-  return text.length <= most ? text : `${text.slice(0, Math.max(0, most - 1))}…`;
+  return text.length <= most ? text : `${text.slice(0, Math.max(0, most - 1))}\u2026`;
 }
 
 function drawEnd(view, lane, request, y, x) {

@@ -1,8 +1,8 @@
 //! A piece of the page, which `page/embed` puts here.
 
 /// The piece.
-pub(crate) const PIECE: &str =
-    r###"    const marker = make("marker", { id: `head-${kind}${view.end}`, viewBox: "0 0 8 8", refX: 7, refY: 4, markerWidth: 6, markerHeight: 6, orient: "auto" });
+pub(crate) const PIECE: &[u8] =
+    br###"    const marker = make("marker", { id: `head-${kind}${view.end}`, viewBox: "0 0 8 8", refX: 7, refY: 4, markerWidth: 6, markerHeight: 6, orient: "auto" });
     put(marker, "path", { class: `arrow arrow-${kind}`, style: "stroke-dasharray: none", d: "M0 0L8 4L0 8" });
     return marker;
   });
@@ -27,7 +27,7 @@ function drawRings(view) {
   const word = name => run.words[name][here] % 2 ** 32;
   ["sq", "cq"].forEach((ring, at) => {
     put(rings, "text", { x: 6, y: at * 48 + 20 }, `${ring === "sq" ? "submission" : "completion"} ring`);
-    put(rings, "text", { class: "soft", x: 6, y: at * 48 + 36, "data-ring": ring }, `head ${word(`${ring}_head`)} (- - -), tail ${word(`${ring}_tail`)} (—)`);
+    put(rings, "text", { class: "soft", x: 6, y: at * 48 + 36, "data-ring": ring }, `head ${word(`${ring}_head`)} (- - -), tail ${word(`${ring}_tail`)} (\u2014)`);
   });
 }
 
@@ -340,10 +340,10 @@ function legend() {
     item.append(picture, words);
     return item;
   });
-  const others = ["end, with its result", "✓ what was written is safe"];
-  if (areRings) others.push("○ reaped", "arrows: solid orange a member of its group, long dashes a drain, short dashes a cancel, solid red what dooms, grey a link");
-  if (panes.some(pane => pane.run.requests.some(request => request.marks.some(mark => mark.is in LEFT)))) others.push("✕ lost, ╱ torn, — left, though it needn't be");
-  if (panes.some(pane => pane.run.choices.length)) others.push("▼ a choice: pale where it is the one in order");
+  const others = ["end, with its result", "\u2713 what was written is safe"];
+  if (areRings) others.push("\u25cb reaped", "arrows: solid orange a member of its group, long dashes a drain, short dashes a cancel, solid red what dooms, grey a link");
+  if (panes.some(pane => pane.run.requests.some(request => request.marks.some(mark => mark.is in LEFT)))) others.push("\u2715 lost, \u2571 torn, \u2014 left, though it needn't be");
+  if (panes.some(pane => pane.run.choices.length)) others.push("\u25bc a choice: pale where it is the one in order");
   if (panes.some(pane => pane.run.parts >= 0)) others.push("a dashed line from top to bottom: where the runs part");
   clean(get("legend"), ...items, ...others.map(words => node("li", words)));
 }

@@ -1,7 +1,7 @@
 //! A piece of the page, which `page/embed` puts here.
 
 /// The piece.
-pub(crate) const PIECE: &str = r###"const KEYS_TOLD = get("keys").textContent;
+pub(crate) const PIECE: &[u8] = br###"const KEYS_TOLD = get("keys").textContent;
 
 const GROUPS = [...new Set(DATA_RUNS.map(run => run.group || ""))];
 

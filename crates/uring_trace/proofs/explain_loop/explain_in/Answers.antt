@@ -14,3 +14,6 @@ returns-clause-lines g c = c.explain_all-explained.ensures.lines (telling_on c.a
 
 pub returns-clause-unrefused : goal.returns-clause-unrefused
 returns-clause-unrefused g c = λ sure. c.explain_all-explained.ensures.lines (record { setup = c.args.setup.now; is_unrefused = true }) (λ yes. sure) c.in_ok-explainer.ensures.unrefused
+
+pub returns-clause-granted : goal.returns-clause-granted
+returns-clause-granted g c = c.explain_all-explained.ensures.granted

@@ -1,9 +1,12 @@
-use Rattle.std.proofs.Common.{rules}
+use Rattle.std.proofs.Common.{◌≡◌, Err, ap, ◌∙◌, rules}
+use Rattle.uring_text.specs.declared.trace_fault.TraceFault.{TraceFault}
 use Rattle.uring_trace.proofs.ExplainStreams.{last_none, last_cut, last_told}
 use Rattle.uring_trace.proofs.explain_loop.explain_last.Goals as goal
 
 pub returns-in_err-take_last-clause-lines : goal.returns-in_err-take_last-clause-lines
-returns-in_err-take_last-clause-lines g c = λ telling sure before told noted h. last_none telling _ _ _ c.args.explainer.now before told noted (search rules) h
+returns-in_err-take_last-clause-lines g c =
+    let same : c.from_residual.result ≡ Err c.in_err-take_last.field-0.0 = search (rules, c.from_residual.ensures) in
+    λ telling sure before told noted h. last_none telling _ _ _ c.args.explainer.now before told noted (same ∙ ap (λ (f : TraceFault). Err f) c.in_err-take_last.ensures.err) h
 
 pub returns-in_err-write_both-clause-lines : goal.returns-in_err-write_both-clause-lines
 returns-in_err-write_both-clause-lines g c = λ telling sure before told noted h.

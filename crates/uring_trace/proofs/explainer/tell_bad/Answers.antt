@@ -10,6 +10,9 @@ four_parts : (old a b c new u k v f : List ℕ) → a ≡ old ++ u ++ k → b �
 four_parts old a b c new u k v f e g h i =
     i ∙ ap (λ (t : List ℕ). t ++ 10 ∷ []) (h ∙ ap (λ (t : List ℕ). t ++ f) (g ∙ ap (λ (t : List ℕ). t ++ v) e)) ∙ simp append_assoc (refl)
 
+pub returns-clause-told : goal.returns-clause-told
+returns-clause-told g c = on_ok_weaker c.push_text-3.result (λ last. c.in_ok-push_text.ensures.bytes) c.push_text-3.ensures.bytes
+
 pub returns-clause-noted : goal.returns-clause-noted
 returns-clause-noted g c =
     on_ok_weaker c.push_text-3.result

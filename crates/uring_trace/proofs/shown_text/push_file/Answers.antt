@@ -1,7 +1,10 @@
-use Rattle.std.proofs.Common.{append_assoc}
+use Rattle.uring_trace.proofs.Common.{on_ok_weaker, string_bytes}
+use Rattle.uring_trace.proofs.ShownTexts.{named_first, named_more}
 use Rattle.uring_trace.proofs.shown_text.push_file.Goals as goal
 
 pub returns-clause-bytes : goal.returns-clause-bytes
 returns-clause-bytes g c =
-    let parts = rw (c.in_ok-push_named-2.ensures.bytes, c.in_ok-push_named.ensures.bytes, c.from.ensures) at c.push_named-3.ensures.bytes in
-    rw c.in-Some.is (simp append_assoc (simp append_assoc at parts))
+    let old = string_bytes c.args.text.now in
+    let len = named_first old _ _ _ (rw c.from.ensures at c.in_ok-push_named.ensures.bytes) in
+    let writes = named_more old _ _ _ _ _ len c.in_ok-push_named-2.ensures.bytes in
+    rw c.in-Some.is (on_ok_weaker c.push_named-3.result (λ last. named_more old _ _ _ _ _ writes last) c.push_named-3.ensures.bytes)

@@ -23,3 +23,6 @@ returns-clause-looks g c =
     if_ok_both c.find_wrong.result _ _ _
     (λ done kept told rec. looked_wrong c.args.self.now c.find_wrong.new.self c.judge.new.machine c.judge.new.told c.note_poster.new.posters _ _ c.args.step.now c.args.text.now c.args.line.now c.in-Some.wanted c.in_ok-standing.standing notes c.in_ok-judged.ensures.rules (λ h k. c.in_ok-standing.ensures.standing h k.0 (c.as_slice.ensures.value ∙ k.1)) judged kept told rec)
     c.find_wrong.ensures.kept c.find_wrong.ensures.told
+
+pub returns-clause-granted : goal.returns-clause-granted
+returns-clause-granted g c = λ sure h fits. c.find_wrong.ensures.granted sure
