@@ -36,11 +36,9 @@ pub fn told_result(came_to: i32, is_told: bool) -> i32
 fn asks_shut(entry: &Submission, came_to: i32) -> bool
     ensures { result ≡ spec.asks_shut entry.now came_to }
 {
-    came_to == -11
-        && !goes_on(entry)
-        && (entry.opcode == 13
-            || is_receive(entry.opcode) && !is_asked(entry)
-            || is_read(entry.opcode) && entry.op_flags & 8 == 0)
+    let receives = is_receive(entry.opcode) & !is_asked(entry);
+    let reads = is_read(entry.opcode) & (entry.op_flags & 8 == 0);
+    (came_to == -11) & !goes_on(entry) & ((entry.opcode == 13) | receives | reads)
 }
 
 /// What a call of this entry comes to that finds nothing where its socket was shut down for reading.

@@ -30,7 +30,8 @@ fn may_signal(entry: &Submission, res: i32) -> bool
 fn may_break(entry: &Submission, res: i32) -> bool
     ensures { result ≡ spec.may_break entry.now res }
 {
-    res == -32 && (is_splice(entry.opcode) || is_write(entry.opcode) && entry.flags & 16 != 0)
+    let is_by_worker = is_write(entry.opcode) & (entry.flags & 16 != 0);
+    (res == -32) & (is_splice(entry.opcode) | is_by_worker)
 }
 
 /// Whether the signal of this number, or none, 0, is taken back, where this is the greatest length that the process may give a file, in bytes, if that is known: it decides it of SIGXFSZ (25) alone.

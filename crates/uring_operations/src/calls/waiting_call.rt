@@ -190,8 +190,8 @@ fn after_vain(entry: &Submission, call: &Call) -> Turn
 fn waits_for_all(entry: &Submission, call: &Call) -> bool
     ensures { result ≡ spec.waits_for_all entry.now call.now }
 {
-    let is_asked = entry.op_flags & 256 != 0 && entry.op_flags & 64 == 0;
-    is_asked && call.done < call.length && !is_alone(entry, call.control)
+    let is_asked = (entry.op_flags & 256 != 0) & (entry.op_flags & 64 == 0);
+    is_asked & (call.done < call.length) & !is_alone(entry, call.control)
 }
 
 fn after_message(entry: &Submission, call: &Call, res: i32) -> Turn

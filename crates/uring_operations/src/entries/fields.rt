@@ -29,7 +29,7 @@ pub(crate) fn is_right(entry: &Submission) -> bool
     ensures { result ≡ spec.is_right (rules.rule_of entry.now.opcode) entry.now }
 {
     match rule_of(entry.opcode) {
-        Some(rule) => rule.flags & entry.op_flags == entry.op_flags && meets(rule.also, entry),
+        Some(rule) => (rule.flags & entry.op_flags == entry.op_flags) & meets(rule.also, entry),
         None => false,
     }
 }

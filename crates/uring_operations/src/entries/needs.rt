@@ -260,9 +260,8 @@ pub fn advised_length(entry: &Submission) -> u64
 fn uses_buffer(entry: &Submission) -> bool
     ensures { result ≡ spec.uses_buffer entry.now }
 {
-    matches!(entry.opcode, 4 | 5)
-        || entry.opcode == 47 && entry.ioprio & 4 != 0
-        || wants_buffer(entry)
+    let is_sent = (entry.opcode == 47) & (entry.ioprio & 4 != 0);
+    (entry.opcode == 4) | (entry.opcode == 5) | is_sent | wants_buffer(entry)
 }
 
 /// A poll, a read that goes on, a no-op and a cut to a negative length find their file closed before they are carried out.

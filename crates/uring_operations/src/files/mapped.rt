@@ -43,7 +43,7 @@ pub struct FilePart {
 pub fn looks_at_map(protection: u32, flags: u32, res: i64) -> bool
     ensures { result ≡ spec.looks_at_map protection flags res }
 {
-    (res >= 0 || res < -4095) && protection & 2 != 0 && flags & 32 == 0
+    ((res >= 0) | (res < -4095)) & (protection & 2 != 0) & (flags & 32 == 0)
 }
 
 /// How many bytes the whole pages have that so many bytes lie in. `None`: more than there are addresses.

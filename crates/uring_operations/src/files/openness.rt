@@ -29,7 +29,7 @@ pub fn counts_as_open(openness: &Openness, is_of_slot: bool) -> bool
 pub fn asks_openness(entry: &Submission, res: i32) -> bool
     ensures { result ≡ spec.asks_openness entry.now res }
 {
-    res == -9 && (needs_file(entry.opcode) || wants_file(entry))
+    (res == -9) & (needs_file(entry.opcode) | wants_file(entry))
 }
 
 fn is_by_slot(entry: &Submission) -> bool

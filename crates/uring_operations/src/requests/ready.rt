@@ -259,15 +259,12 @@ fn look_at_descriptor(standing: &Standing, needs: &Needs, known: &Moment) -> Loo
 pub fn is_impatient(entry: &Submission, patience: &Patience) -> bool
     ensures { result ≡ spec.is_impatient entry.now patience.now }
 {
-    if patience.has_failed || is_in_vain(entry, patience) || matches!(entry.opcode, 18 | 28) {
-        true
-    } else if is_begun_at_once(entry) && !patience.has_begun {
-        true
-    } else if is_transfer(entry.opcode) {
-        entry.op_flags & 8 != 0 || is_for_nothing(entry, patience)
-    } else {
-        has_message_flags(entry.opcode) && entry.op_flags & 64 != 0
-    }
+    let opens = (entry.opcode == 18) | (entry.opcode == 28);
+    let is_begun = is_begun_at_once(entry) & !patience.has_begun;
+    let is_message = has_message_flags(entry.opcode) & (entry.op_flags & 64 != 0);
+    let is_for_nothing = (entry.op_flags & 8 != 0) | is_for_nothing(entry, patience);
+    let is_transfer = is_transfer(entry.opcode) & is_for_nothing;
+    patience.has_failed | is_in_vain(entry, patience) | opens | is_begun | is_message | is_transfer
 }
 
 /// Whether a transfer moves nothing: one that writes no bytes to a socket may send an empty datagram.

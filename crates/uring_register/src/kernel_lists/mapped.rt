@@ -47,6 +47,8 @@ pub fn mapped_of(line: &[u8]) -> Option<Mapped>
     let offset = address_of(offset_of(line))?;
     let major = device_number_of(major_of(line))?;
     let inode = inode_number_of(inode_of(line))?;
+    let is_shared = is_shared(line);
+    let is_asked = is_shared && has_path(line);
     Some(Mapped {
         start,
         end,
@@ -54,8 +56,8 @@ pub fn mapped_of(line: &[u8]) -> Option<Mapped>
         inode,
         path: (line.len() - path_of(line).len()) as u64,
         major,
-        is_shared: is_shared(line),
-        is_asked: is_shared(line) && has_path(line),
+        is_shared,
+        is_asked,
     })
 }
 
@@ -123,13 +125,13 @@ fn path_of(line: &[u8]) -> &[u8]
 fn is_shared(line: &[u8]) -> bool
     ensures { result ≡ spec.is_shared line.now }
 {
-    matches!(rights_of(line).get(3), Some(b's'))
+    rights_of(line).get(3).copied().unwrap_or(0) == b's'
 }
 
 fn has_path(line: &[u8]) -> bool
     ensures { result ≡ spec.has_path line.now }
 {
-    matches!(path_of(line).get(0), Some(b'/'))
+    path_of(line).get(0).copied().unwrap_or(0) == b'/'
 }
 
 /// An address or an offset in hexadecimal.
