@@ -12,7 +12,6 @@ ghost use Rattle.uring_core.specs.declared.answer.Answer.TheVariants as answer;
 ghost use Rattle.uring_fill.specs.Parts.{StandsAt, Adds, HasEndsOf, FinishFits};
 
 use crate::issued::add_issues;
-use crate::seen::accepted_of;
 use std::alloc::AllocError;
 use uring_core::{Answer, Core, Cqe, Sqe, SqeFlags, Step};
 use uring_entry::{greatest_result, may_end, posts_completion, succeeded};
@@ -31,7 +30,7 @@ pub(crate) fn add_ends(
         ((seen : List Event) (h : History) (n : ℕ) → StandsAt core.now seen wanted.now h
         → HasEndsOf core.now.setup seen h n next.new.items) }
 {
-    let accepted = accepted_of(core);
+    let accepted = core.counts().accepted;
     for place in 0..accepted {
         add_ends_of(core, wanted, accepted, accepted - 1 - place, next)?;
     }

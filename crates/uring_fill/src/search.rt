@@ -67,25 +67,18 @@ pub fn fill(
     let done = search(alloc, setup, seen, told.as_slice(), most, &mut reach);
     drop(told);
     match done {
-        Ok(fate) => Ok(come_to(fate, reach)),
+        Ok(fate) => match fate {
+            Fate::Found => {
+                let Reach { events, .. } = reach;
+                Ok(Filled::Whole(events))
+            }
+            Fate::Over => Ok(Filled::Nothing(reach)),
+            Fate::Open => Ok(Filled::GaveUp(reach)),
+        },
         Err(error) => {
             drop(reach);
             Err(error)
         }
-    }
-}
-
-/// What a search came to, by where it is.
-fn come_to(fate: Fate, reach: Reach) -> Filled
-    ensures { result ≡ filled_by fate reach }
-{
-    match fate {
-        Fate::Found => {
-            let Reach { events, .. } = reach;
-            Filled::Whole(events)
-        }
-        Fate::Over => Filled::Nothing(reach),
-        Fate::Open => Filled::GaveUp(reach),
     }
 }
 
