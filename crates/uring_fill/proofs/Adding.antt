@@ -5,6 +5,7 @@ use Rattle.std.proofs.lemmas.Option.{same_Some, none-some}
 use Rattle.uring_entry.specs.Success.{posts_completion}
 use Rattle.uring_entry.specs.declared.errno.TheConstants.{EINVAL, EOPNOTSUPP, ECANCELED}
 use Rattle.uring_entry.specs.Preparation.{is_faulty, is_cancel_all}
+use Rattle.uring_core.specs.declared.step.Step.{Step}
 use Rattle.uring_core.specs.declared.step.Step.TheVariants as step
 use Rattle.uring_core.specs.declared.answer.Answer.TheVariants as answer
 use Rattle.uring_entry.specs.Results.{may_end}
@@ -36,6 +37,15 @@ adds_one core wanted old new x is part = record {
 
 pub last_there : (old new : List Event) (x : Event) → new ≡ old ++ x ∷ [] → Contains new x
 last_there old new x is = subst (λ xs. Contains xs x) (sym is) (Contains-push old x)
+
+-- an end that was pushed, whichever way its result was passed on
+pub end_pushed : (old new : List Event) (s : Step) (a : Answer) (given res : ℤ) (bytes : List ℕ)
+    → new ≡ old ++ (s, a) ∷ []
+    → a ≡ answer.Ended given bytes
+    → given ≡ res
+    → new ≡ old ++ (s, answer.Ended res bytes) ∷ []
+end_pushed old new s a given res bytes is ended same =
+    is ∙ ap (λ (a : Answer). old ++ (s, a) ∷ []) (ended ∙ ap (λ (r : ℤ). answer.Ended r bytes) same)
 
 -- All events that go on from a part.
 

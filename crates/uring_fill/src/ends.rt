@@ -12,7 +12,6 @@ ghost use Rattle.uring_core.specs.declared.answer.Answer.TheVariants as answer;
 ghost use Rattle.uring_fill.specs.Parts.{StandsAt, Adds, HasEndsOf, FinishFits};
 
 use crate::issued::add_issues;
-use crate::seen::accepted_of;
 use std::alloc::AllocError;
 use uring_core::{Answer, Core, Cqe, Sqe, SqeFlags, Step};
 use uring_entry::{greatest_result, may_end, posts_completion, succeeded};
@@ -31,7 +30,7 @@ pub(crate) fn add_ends(
         ((seen : List Event) (h : History) (n : ℕ) → StandsAt core.now seen wanted.now h
         → HasEndsOf core.now.setup seen h n next.new.items) }
 {
-    let accepted = accepted_of(core);
+    let accepted = core.counts().accepted;
     for place in 0..accepted {
         add_ends_of(core, wanted, accepted, accepted - 1 - place, next)?;
     }
@@ -53,34 +52,13 @@ fn add_ends_of(
         ((seen : List Event) (h : History) → StandsAt core.now seen wanted.now h
         → HasEndsOf core.now.setup seen h number next.new.items) }
 {
-    match core.entry(number) {
-        Some(entry) => add_ends_with(core, &entry, wanted, accepted, number, next),
-        None => Ok(()),
-    }
-}
-
-/// Adds the ends of an outstanding request of this entry that may come next.
-fn add_ends_with(
-    core: &Core,
-    entry: &Sqe,
-    wanted: &Option<Cqe>,
-    accepted: u64,
-    number: u64,
-    next: &mut Vec<(Step, Answer)>,
-) -> Result<(), AllocError>
-    requires entry { (h : History) → FitsApart core.now h
-        → entry.now ≡ entry_of (world core.now.setup h).requests number }
-    requires accepted { (h : History) → FitsApart core.now h
-        → accepted ≡ length (world core.now.setup h).requests.accepted }
-    ensures adds { OnOk result (Adds core.now wanted.now next.old.items next.new.items) }
-    ensures all { OnOk result
-        ((seen : List Event) (h : History) → StandsAt core.now seen wanted.now h
-        → HasEndsOf core.now.setup seen h number next.new.items) }
-{
+    let Some(entry) = core.entry(number) else {
+        return Ok(());
+    };
     if runs(core, number) {
-        add_finishes(core, entry, wanted, number, next)
+        add_finishes(core, &entry, wanted, number, next)
     } else {
-        add_issues(core, entry, wanted, accepted, number, next)
+        add_issues(core, &entry, wanted, accepted, number, next)
     }
 }
 

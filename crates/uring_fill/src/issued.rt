@@ -13,7 +13,7 @@ ghost use Rattle.uring_core.specs.Histories.{Event, History, world};
 ghost use Rattle.uring_core.specs.declared.step.Step.TheVariants as step;
 ghost use Rattle.uring_core.specs.declared.answer.Answer.TheVariants as answer;
 ghost use Rattle.uring_fill.specs.Filling.{IsPart};
-ghost use Rattle.uring_fill.specs.Parts.{StandsAt, Adds, IsErrorOf, QuietResult};
+ghost use Rattle.uring_fill.specs.Parts.{StandsAt, Adds, IsErrorOf};
 
 use crate::ends::{NO_BYTES, is_wanted};
 use crate::starts::can_issue;
@@ -44,7 +44,8 @@ pub(crate) fn add_issues(
     if !can_issue(core, number) {
         return Ok(());
     }
-    add_quiet_issues(core, entry, accepted, number, next)?;
+    add_errors(core, entry, number, next)?;
+    add_skipped(core, entry, accepted, number, next)?;
     add_told_issue(core, entry, wanted, number, next)?;
     Ok(())
 }
@@ -96,28 +97,6 @@ fn add_told(
     if posts(core, number, res) && is_wanted(wanted, &Cqe::new(entry.user_data(), res, NO_BYTES)) {
         next.push((Step::Issue { number }, Answer::ended(res, NO_BYTES)))?;
     }
-    Ok(())
-}
-
-/// Adds the ends of a request of this entry as it is issued that post nothing.
-fn add_quiet_issues(
-    core: &Core,
-    entry: &Sqe,
-    accepted: u64,
-    number: u64,
-    next: &mut Vec<(Step, Answer)>,
-) -> Result<(), AllocError>
-    ensures adds { OnOk result
-        ((wanted : Option Cqe) → Adds core.now wanted next.old.items next.new.items) }
-    ensures all { OnOk result
-        ((h : History) (res : ℤ) → FitsApart core.now h
-        → is_outstanding (world core.now.setup h).requests number ≡ true
-        → rules.posts core.now.setup.linux (world core.now.setup h).requests number res ≡ false
-        → QuietResult core.now.setup.linux entry.now accepted res
-        → Contains next.new.items (step.Issue number, answer.Ended res no_bytes)) }
-{
-    add_errors(core, entry, number, next)?;
-    add_skipped(core, entry, accepted, number, next)?;
     Ok(())
 }
 

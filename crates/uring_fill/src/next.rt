@@ -1,6 +1,6 @@
 //! The events that may come next.
 
-ghost use Rattle.std.specs.Prelude.{◌≡◌, ◌∷◌, true, false, List, IfOk, OnOk, Contains, [], Some, length, slice_get};
+ghost use Rattle.std.specs.Prelude.{◌≡◌, ◌∷◌, true, false, List, IfOk, OnOk, Contains, [], length, slice_get};
 ghost use Rattle.uring_entry.specs.Setup.{Setup};
 ghost use Rattle.uring_core.specs.Core.{FitsApart};
 ghost use Rattle.uring_core.specs.Histories.{Event, History, world, history_of};
@@ -107,7 +107,7 @@ fn add_flushes(
     Ok(())
 }
 
-/// Adds the step that was seen next, unless none is left.
+/// Adds the step that was seen next, unless none is left or it is a hidden one.
 fn add_seen(
     seen: &[(Step, Answer)],
     events: &[(Step, Answer)],
@@ -122,10 +122,14 @@ fn add_seen(
         ((g : Setup) (x : Event) → IsPart g seen.now (history_of events.now) → spec.is_hidden x.0 ≡ false
         → IsPart g seen.now (x ∷ history_of events.now) → Contains next.new.items x) }
 {
-    match seen_next(seen, events) {
-        Some(event) => add_shown(seen, events, &event, next),
-        None => Ok(()),
+    let Some(event) = seen_next(seen, events) else {
+        return Ok(());
+    };
+    if is_hidden(&event.0) {
+        return Ok(());
     }
+    next.push(event)?;
+    Ok(())
 }
 
 /// The step that was seen next after these, if one is left.
@@ -137,29 +141,4 @@ fn seen_next(seen: &[(Step, Answer)], events: &[(Step, Answer)]) -> Option<(Step
         Some(event) => Some(*event),
         None => None,
     }
-}
-
-/// Adds the step that was seen next, unless it is a hidden one.
-fn add_shown(
-    seen: &[(Step, Answer)],
-    events: &[(Step, Answer)],
-    event: &(Step, Answer),
-    next: &mut Vec<(Step, Answer)>,
-) -> Result<(), AllocError>
-    requires { slice_get seen.now (length (seen_in (history_of events.now))) ≡ Some event.now }
-    ensures kept { OnOk result ((x : Event) → Contains next.old.items x → Contains next.new.items x) }
-    ensures right { OnOk result
-        ((g : Setup) → IsPart g seen.now (history_of events.now)
-        → AreNext g seen.now (history_of events.now) next.old.items
-        → AreNext g seen.now (history_of events.now) next.new.items) }
-    ensures added { OnOk result
-        ((g : Setup) (x : Event) → IsPart g seen.now (history_of events.now)
-        → spec.is_hidden x.0 ≡ false → IsPart g seen.now (x ∷ history_of events.now)
-        → Contains next.new.items x) }
-{
-    if is_hidden(&event.0) {
-        return Ok(());
-    }
-    next.push(*event)?;
-    Ok(())
 }

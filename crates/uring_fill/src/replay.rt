@@ -1,9 +1,8 @@
 //! Events made again on a new core.
 
-ghost use Rattle.std.specs.Prelude.{◌≡◌, ◌∷◌, [], true, false, IfOk};
+ghost use Rattle.std.specs.Prelude.{◌≡◌, [], true, false, IfOk};
 ghost use Rattle.uring_core.specs.Core.{FitsApart};
-ghost use Rattle.uring_core.specs.Histories.{History, history_of, world, IsLawfulApart};
-ghost use Rattle.uring_core.specs.StepAnswers.{CalledForApart};
+ghost use Rattle.uring_core.specs.Histories.{history_of, IsLawfulApart};
 
 use std::alloc::AllocError;
 use uring_core::{Answer, Core, Refusal, Step};
@@ -18,25 +17,11 @@ pub(crate) fn replay(core: &mut Core, events: &[(Step, Answer)]) -> Result<bool,
         (λ all. all ≡ false → IsLawfulApart core.old.setup (history_of events.now) → ⊥) }
 {
     for event in events {
-        if !follow_one(core, event)? {
-            return Ok(false);
+        match core.follow(event.0, event.1) {
+            Ok(()) => {}
+            Err(Refusal::Wrong(_)) => return Ok(false),
+            Err(Refusal::NoMemory) => return Err(AllocError),
         }
     }
     Ok(true)
-}
-
-/// Follows an event, if it is called for, and tells whether it is.
-fn follow_one(core: &mut Core, event: &(Step, Answer)) -> Result<bool, AllocError>
-    ensures setup { core.new.setup ≡ core.old.setup }
-    ensures called { IfOk result
-        (λ called. called ≡ true → (h : History) → FitsApart core.old h → FitsApart core.new (event.now ∷ h)) }
-    ensures wrong { IfOk result
-        (λ called. called ≡ false → (h : History) → FitsApart core.old h
-        → CalledForApart core.old.setup (world core.old.setup h) event.now.0 event.now.1 → ⊥) }
-{
-    match core.follow(event.0, event.1) {
-        Ok(()) => Ok(true),
-        Err(Refusal::Wrong(_)) => Ok(false),
-        Err(Refusal::NoMemory) => Err(AllocError),
-    }
 }

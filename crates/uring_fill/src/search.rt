@@ -60,54 +60,25 @@ pub fn fill(
     ensures { IfOk result (λ filled. IsFound setup.now seen.now filled) }
 {
     let told = completions(alloc, seen)?;
-    let found = fill_told(alloc, setup, seen, told.as_slice(), most);
-    drop(told);
-    found
-}
-
-/// The history in which nothing has happened.
-fn nowhere(alloc: Global) -> Reach
-    ensures events { result.events.items ≡ [] }
-    ensures place { result.place ≡ 0 }
-{
-    Reach {
+    let mut reach = Reach {
         events: Vec::new(alloc),
         place: 0,
-    }
-}
-
-/// Looks for it, with the completions that were seen.
-fn fill_told(
-    alloc: Global,
-    setup: &Setup,
-    seen: &[(Step, Answer)],
-    told: &[Cqe],
-    most: u64,
-) -> Result<Filled, AllocError>
-    requires told { told.now ≡ completions_in seen.now }
-    ensures { IfOk result (λ filled. IsFound setup.now seen.now filled) }
-{
-    let mut reach = nowhere(alloc);
-    match search(alloc, setup, seen, told, most, &mut reach) {
-        Ok(fate) => Ok(come_to(fate, reach)),
+    };
+    let done = search(alloc, setup, seen, told.as_slice(), most, &mut reach);
+    drop(told);
+    match done {
+        Ok(fate) => match fate {
+            Fate::Found => {
+                let Reach { events, .. } = reach;
+                Ok(Filled::Whole(events))
+            }
+            Fate::Over => Ok(Filled::Nothing(reach)),
+            Fate::Open => Ok(Filled::GaveUp(reach)),
+        },
         Err(error) => {
             drop(reach);
             Err(error)
         }
-    }
-}
-
-/// What a search came to, by where it is.
-fn come_to(fate: Fate, reach: Reach) -> Filled
-    ensures { result ≡ filled_by fate reach }
-{
-    match fate {
-        Fate::Found => {
-            let Reach { events, .. } = reach;
-            Filled::Whole(events)
-        }
-        Fate::Over => Filled::Nothing(reach),
-        Fate::Open => Filled::GaveUp(reach),
     }
 }
 
@@ -149,22 +120,12 @@ fn search_all(
 {
     todo.push(Vec::new(alloc))?;
     'paths: for _ in 0..most {
-        let fate = search_one(alloc, setup, seen, told, todo, reach)?;
-        if !is_open(fate) {
-            return Ok(fate);
+        match search_one(alloc, setup, seen, told, todo, reach)? {
+            Fate::Open => {}
+            fate => return Ok(fate),
         }
     }
     Ok(Fate::Open)
-}
-
-/// Whether some are left.
-fn is_open(fate: Fate) -> bool
-    ensures { result ≡ true → fate ≡ Fate.Open }
-{
-    match fate {
-        Fate::Open => true,
-        _ => false,
-    }
 }
 
 /// Looks at the last path, if there is one.

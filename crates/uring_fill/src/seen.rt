@@ -2,15 +2,14 @@
 
 ghost use Rattle.std.specs.Prelude.{◌≡◌, ◌++◌, IfOk, OnOk, length, if◌then◌else◌};
 ghost use Rattle.std.specs.Option.{option_to_list};
-ghost use Rattle.uring_core.specs.Histories.{History, history_of, world};
-ghost use Rattle.uring_core.specs.Core.{FitsApart};
+ghost use Rattle.uring_core.specs.Histories.{history_of};
 ghost use Rattle.uring_core.specs.Events.{reaped_by};
 ghost use Rattle.uring_fill.specs.Filling as spec;
 ghost use Rattle.uring_fill.specs.Filling.{seen_in, completions_in};
 ghost use Rattle.uring_fill.specs.Parts as parts;
 
 use std::alloc::{AllocError, Global};
-use uring_core::{Answer, Core, Cqe, Step};
+use uring_core::{Answer, Cqe, Step};
 
 /// Whether a step can't be seen from outside.
 pub(crate) fn is_hidden(step: &Step) -> bool
@@ -95,12 +94,4 @@ fn add_completion(event: &(Step, Answer), told: &mut Vec<Cqe>) -> Result<(), All
         told.push(completion)?;
     }
     Ok(())
-}
-
-/// How many requests were accepted.
-pub(crate) fn accepted_of(core: &Core) -> u64
-    ensures { (h : History) → FitsApart core.now h
-        → result ≡ length (world core.now.setup h).requests.accepted }
-{
-    core.counts().accepted
 }

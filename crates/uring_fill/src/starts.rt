@@ -11,7 +11,6 @@ ghost use Rattle.uring_core.specs.declared.answer.Answer.TheVariants as answer;
 ghost use Rattle.uring_fill.specs.Parts as parts;
 ghost use Rattle.uring_fill.specs.Parts.{StandsAt, Adds};
 
-use crate::seen::accepted_of;
 use std::alloc::AllocError;
 use uring_core::{Answer, Core, Cqe, Sqe, Step};
 
@@ -29,7 +28,7 @@ pub(crate) fn add_starts(
         → parts.is_asked (entry_outstanding (world core.now.setup h).requests n) wanted.now ≡ asked
         → Contains next.new.items (step.Issue n, answer.Run)) }
 {
-    let accepted = accepted_of(core);
+    let accepted = core.counts().accepted;
     for place in 0..accepted {
         add_start(core, wanted, asked, accepted - 1 - place, next)?;
     }

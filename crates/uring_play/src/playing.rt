@@ -39,8 +39,13 @@ pub fn play<R: Threads + Wait + Copy + Send + 'static, I: Read, O: Write>(
         (O.contents writer.old) (O.contents writer.new) }
 {
     let calls = read_calls(alloc, reader, setup)?;
-    let ends = over_lanes(alloc, setup, workers, calls.as_slice())?;
-    play_by(rt, alloc, writer, ends, calls)
+    match over_lanes(alloc, setup, workers, calls.as_slice()) {
+        Ok(lanes) => play_by(rt, alloc, writer, lanes, calls),
+        Err(_) => {
+            drop(calls);
+            Err(PlayFault::Memory)
+        }
+    }
 }
 
 /// Plays as `play` does, over words that the two sides of each ring share in place of lanes. Conditions: there are 1 to 8 workers, and calls of the set-up go on after an entry with a fault. Our own rule.
@@ -61,8 +66,13 @@ pub fn play_shared<R: Threads + Wait + Copy + Send + 'static, I: Read, O: Write>
         (O.contents writer.old) (O.contents writer.new) }
 {
     let calls = read_calls(alloc, reader, setup)?;
-    let ends = over_words(alloc, setup, workers, calls.as_slice())?;
-    play_by(rt, alloc, writer, ends, calls)
+    match over_words(alloc, setup, workers, calls.as_slice()) {
+        Ok(words) => play_by(rt, alloc, writer, words, calls),
+        Err(_) => {
+            drop(calls);
+            Err(PlayFault::Memory)
+        }
+    }
 }
 
 /// Plays these calls by these ends, and writes what comes of it, as `play` does. Condition: nothing was submitted.
@@ -80,6 +90,8 @@ where
         → ReadsCalls g (Ok calls) before after
         → Plays g workers result before after (O.contents writer.old) (O.contents writer.new) }
 {
-    let ended = run(rt, alloc, ends, calls)?;
-    settle_all(alloc, writer, ended)
+    match run(rt, alloc, ends, calls) {
+        Ok(ended) => settle_all(alloc, writer, ended),
+        Err(_) => Err(PlayFault::Memory),
+    }
 }

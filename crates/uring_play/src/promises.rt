@@ -58,14 +58,6 @@ pub(crate) type KernelThread<K> = PromisedHandle<Kernel<K>, GivesKernel<K>>;
 /// The thread of a worker.
 pub(crate) type WorkerThread = PromisedHandle<Worker<Open>, GivesWorker>;
 
-/// Another handle of `stop`, and this end beside it. `AllocError`: there can be no more of them.
-fn beside<T: Drop>(stop: &Arc<AtomicBool>, end: T) -> Result<(Arc<AtomicBool>, T), AllocError>
-    ensures { IfOk result (λ both. both.1 ≡ end) }
-{
-    let stop = Arc::try_clone(stop)?;
-    Ok((stop, end))
-}
-
 /// Starts the application's thread. `AllocError`: it can't be started.
 pub(crate) fn start_application<
     R: Threads + Wait + Copy + Send + 'static,
@@ -80,7 +72,11 @@ pub(crate) fn start_application<
     ensures before { IfOk result (λ thread. thread.promise.before.value ≡ application.app) }
     ensures calls { IfOk result (λ thread. thread.promise.calls.value ≡ calls) }
 {
-    let (stop, application) = beside(stop, application)?;
+    let Ok(stop) = Arc::try_clone(stop) else {
+        drop(application);
+        drop(calls);
+        return Err(AllocError);
+    };
     let promise = AppliesAll {
         before: Snapshot::of(&application.app),
         calls: Snapshot::of(&calls),
@@ -89,7 +85,10 @@ pub(crate) fn start_application<
         requires { application.app.submitted ≡ nothing_put }
         ensures { Applies application.app (lists_of calls.items) result }
     { apply(&rt, application, calls, &stop) };
-    Ok(thread::spawn_with(&rt, promise, body)?)
+    match thread::spawn_with(&rt, promise, body) {
+        Ok(thread) => Ok(thread),
+        Err(refused) => Err(AllocError::from(refused)),
+    }
 }
 
 /// Starts the dispatcher's thread. `AllocError`: it can't be started.
@@ -101,12 +100,18 @@ where
     K::App: Send + 'static,
     ensures { IfOk result (λ thread. thread.promise.0.value ≡ kernel) }
 {
-    let (stop, kernel) = beside(stop, kernel)?;
+    let Ok(stop) = Arc::try_clone(stop) else {
+        drop(kernel);
+        return Err(AllocError);
+    };
     let promise = GivesKernel(Snapshot::of(&kernel));
     let body = move || -> Kernel<K>
         ensures { StaysKernel kernel result }
     { dispatch(&rt, kernel, &stop) };
-    Ok(thread::spawn_with(&rt, promise, body)?)
+    match thread::spawn_with(&rt, promise, body) {
+        Ok(thread) => Ok(thread),
+        Err(refused) => Err(AllocError::from(refused)),
+    }
 }
 
 /// Starts a worker's thread. `AllocError`: it can't be started.
@@ -117,10 +122,16 @@ pub(crate) fn start_worker<R: Threads + Wait + Copy + Send + 'static>(
 ) -> Result<WorkerThread, AllocError>
     ensures { IfOk result (λ thread. thread.promise.0.value ≡ worker) }
 {
-    let (stop, worker) = beside(stop, worker)?;
+    let Ok(stop) = Arc::try_clone(stop) else {
+        drop(worker);
+        return Err(AllocError);
+    };
     let promise = GivesWorker(Snapshot::of(&worker));
     let body = move || -> Worker<Open>
         ensures { StaysWorker worker result }
     { work(&rt, worker, &stop) };
-    Ok(thread::spawn_with(&rt, promise, body)?)
+    match thread::spawn_with(&rt, promise, body) {
+        Ok(thread) => Ok(thread),
+        Err(refused) => Err(AllocError::from(refused)),
+    }
 }

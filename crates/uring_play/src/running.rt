@@ -50,12 +50,14 @@ where
     let kernel = join(&rt, dispatcher);
     stop.store(true, Ordering::SeqCst);
     let workers = join_workers(rt, started, back);
-    let (application, kernel, workers) = all_back(application, kernel, served, workers)?;
-    Ok(Ends {
-        application,
-        kernel,
-        workers,
-    })
+    match all_back(application, kernel, served, workers) {
+        Ok((application, kernel, workers)) => Ok(Ends {
+            application,
+            kernel,
+            workers,
+        }),
+        Err(error) => Err(error),
+    }
 }
 
 /// What the threads of a play need beside its ends.

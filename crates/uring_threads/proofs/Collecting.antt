@@ -1,6 +1,6 @@
 -- What is sent and taken in, as a result is taken in: the operation is the last of its worker's, and all else stays; and how many results of each worker a turn takes in.
-use Rattle.std.proofs.Common.{◌≡◌, ℕ, ◌+◌, ◌<◌, arith, Bool, true, false, List, [], ◌∷◌, length, if◌then◌else◌, refl, sym, subst, ap, ap₂, ◌∙◌, inl, inr, ◌*◌, ◌≤◌, get_or}
-use Rattle.uring_threads.proofs.Common.{Answer, Appends, AreSameLanes, AreTakenIn, CanBeTaken, Collects, CollectsNext, CollectsSeen, Done, Err, Grows, HaveCarried, IsLawfulApart, IsTakenIn, IsUnmoved, IsWork, JobResult, Kept, NextStays, NoneComes, Ok, OnErr, OnlyPosts, OnlyReceives, OthersStay, Repeats, Result, Setup, TakesFewResults, TakesSeen, Tally, Wait, WorkLanes, World, both_ways, cases_eq, cases_lt, done_by_worker, done_in, entry_of, finish_of, finishes_counted, history, is_running, jobs_to, length_push, most_results, now, operation_of, place_of, results_received, results_seen, results_taken_in, set, slice_index_or, with_ended}
+use Rattle.std.proofs.Common.{◌≡◌, ℕ, ◌+◌, ◌<◌, arith, Bool, true, false, List, [], ◌∷◌, ◌++◌, length, if◌then◌else◌, refl, sym, subst, ap, ap₂, ◌∙◌, inl, inr, ◌*◌, ◌≤◌, get_or}
+use Rattle.uring_threads.proofs.Common.{Answer, Appends, AreSameLanes, AreTakenIn, CanBeTaken, Collects, CollectsNext, CollectsSeen, Done, Err, Grows, HaveCarried, IsLawfulApart, IsTakenIn, IsUnmoved, IsWork, JobResult, Kept, NextStays, NoneComes, Ok, OnErr, OnlyPosts, OnlyReceives, OthersStay, Repeats, Result, Setup, TakesFewResults, TakesSeen, Tally, Wait, WorkLanes, World, both_ways, cases_eq, cases_lt, done_by_worker, done_in, entry_of, finish_of, finishes_counted, history, is_running, jobs_to, length_push, map-append, most_results, now, operation_of, place_of, result_of, results_of, results_received, results_seen, results_taken_in, set, slice_index_or, with_ended}
 use mathlib.Core.List.{IsPrefix}
 use Rattle.uring_entry.proofs.RequestLemmas.{is_running_ended_same, is_running_ended_other}
 use Rattle.uring_core.specs.Core.{IsFinished}
@@ -92,6 +92,20 @@ collects_first {a} {b} {workers} {place} r can grows =
       };
       none_comes = end_comes a b workers r grows;
     }
+
+-- and it is the last of those that the trace has taken in
+pub taken_in_more : {a u b : Kept} {workers place : ℕ} {before after : List JobResult} (r : JobResult)
+    → CanBeTaken u workers place r.number → IsUnmoved a u → Grows u b (finish_of r)
+    → AreTakenIn a workers place before → after ≡ before ++ r ∷ [] → AreTakenIn b workers place after
+taken_in_more {a} {u} {b} {workers} {place} {before} {after} r can unmoved grows taken more =
+    let end : Done = record { number = r.number; op = operation_of (entry_of (now u).requests r.number); outcome = r.outcome } in
+    let at : Done → ℕ = λ d. place_of workers u.setup.files d.op in
+    let done = done_by_worker u.setup workers place (history u) in
+    let all : done_by_worker b.setup workers place (history b) ≡ done ++ end ∷ [] =
+    ap₂ (λ g h. done_by_worker g workers place h) grows.setup (grown_history u b (finish_of r) grows) ∙ one_more_at at place (done_in u.setup (history u)) end can.own
+    in
+    let known : before ≡ results_of done = subst (λ (k : Kept). AreTakenIn k workers place before) (sym (unmoved_is a u unmoved)) taken in
+    more ∙ ap (λ rs. rs ++ r ∷ []) known ∙ sym (ap results_of all ∙ map-append result_of done (end ∷ []))
 
 pub collects_then : {a b c : Kept} {workers place n m : ℕ} → Collects a b workers place n
     → Collects b c workers place m → Collects a c workers place (n + m)

@@ -1,6 +1,7 @@
 -- How the Issue of the next request is answered, and the loop of issues: lanes are looked at, and then a request is issued.
 use Rattle.std.proofs.Common.{◌≡◌, ℕ, Bool, true, List, Some, None, length, ℤ, refl, sym, subst, ap, ◌∙◌, cond, ◌+◌, ◌<◌, ◌≤◌, get_or, arith}
-use Rattle.uring_threads.proofs.Common.{Answer, AreSameLanes, CalledForApart, Grows, HasCarried, HaveCarried, IsEnded, IsIssued, IsLookedAt, IsUnmoved, Kept, Repeats, Tally, WorkLanes, count_by-le-length, entry_of, is_issuable, is_running, issues_counted, issues_request, length-append, next_in, next_of, none_counted, now, operation_of, operation_running, requests_of, results_received}
+use Rattle.uring_threads.proofs.Common.{Answer, AreSameLanes, CalledForApart, Grows, HasCarried, HaveCarried, IsEnded, IsIssued, IsLookedAt, IsUnmoved, Kept, Repeats, Tally, WorkLanes, count_by-le-length, entry_of, is_issuable, is_running, issues_counted, issues_request, length-append, next_in, next_of, none_counted, now, operation_of, operation_running, requests_of, results_received, Op, World}
+use Rattle.std.proofs.lemmas.Option.{cond_some}
 use Rattle.uring_linux.specs.LinuxRequests.{LinuxRequests}
 use Rattle.uring_entry.proofs.RequestLemmas.{is_running_started_same}
 use Rattle.uring_entry.proofs.BelowLemmas.{least_below_tells}
@@ -38,6 +39,12 @@ started_runs a b n next grows none =
     let runs : is_running (now b).requests n ≡ true = ap (λ w. is_running w.requests n) (grown a b (step.Issue n) answer.Run grows) ∙ is_running_started_same (now a).requests n unended in
     let some : operation_running (now b).requests n ≡ Some (operation_of (entry_of (now b).requests n)) = ap (λ x. cond x (Some (operation_of (entry_of (now b).requests n))) None) runs in
     absurd (let no : None ≡ Some (operation_of (entry_of (now b).requests n)) = sym none ∙ some in cc)
+
+-- and it is the operation of its entry
+pub started_op : (a b : Kept) (n : ℕ) (op : Op) → Grows a b (step.Issue n, answer.Run)
+    → Some op ≡ operation_running (now b).requests n → op ≡ operation_of (entry_of (now a).requests n)
+started_op a b n op grows some =
+    sym (cond_some (is_running (now b).requests n) (operation_of (entry_of (now b).requests n)) op (sym some)).1 ∙ ap (λ (w : World). operation_of (entry_of w.requests n)) (grown a b (step.Issue n) answer.Run grows)
 
 -- Room was asked for, and the lanes were looked at.
 pub looked_on : (k r : Kept) (first old new : List WorkLanes) → IsUnmoved k r

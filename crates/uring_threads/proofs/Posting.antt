@@ -1,6 +1,7 @@
 -- What ends of requests and a delivery leave of the rings: ends leave them as they were, but for what is posted.
-use Rattle.std.proofs.Common.{◌≡◌, ℕ, ℤ, Bool, true, false, List, if◌then◌else◌, refl, ◌∙◌, sym, subst, ap}
-use Rattle.uring_threads.proofs.Common.{Answer, Appends, Cqe, Grows, IsDelivered, IsUnmoved, KeepsAllBut, Kept, OnlyPosts, Requests, Setup, World, completion_for, entry_of, none_counted, now, on_completions, posts, reaps_counted, with_end_of, with_flushed, with_head_stored, with_issued_end, with_posted, with_reaped_all, with_tail_loaded}
+use Rattle.std.proofs.Common.{◌≡◌, ℕ, ℤ, ◌+◌, ◌-◌, ◌≤◌, Bool, true, false, List, length, if◌then◌else◌, inl, inr, refl, ◌∙◌, sym, subst, ap, arith}
+use Rattle.std.specs.Prelude.{min}
+use Rattle.uring_threads.proofs.Common.{Answer, Appends, Cqe, DeliversMost, Grows, IsDelivered, IsUnmoved, KeepsAllBut, Kept, OnlyPosts, Requests, Setup, World, cases_eq, completion_for, entry_of, none_counted, now, on_completions, posts, reaps_counted, with_end_of, with_flushed, with_head_stored, with_issued_end, with_posted, with_reaped_all, with_tail_loaded}
 use Rattle.uring_core.specs.declared.step.Step.TheVariants as step
 use Rattle.uring_threads.proofs.TraceSteps.{grown, unmoved_now, appends_one, appends_then, appends_after, both_none, none_both}
 
@@ -50,3 +51,16 @@ module _ (a room flushed loaded reaped b : Kept) (x y z : Answer) (all : List Cq
       let last : Appends loaded b (reaps_counted n) = appends_then loaded reaped b (reaps_counted n) none_counted (reaps_counted n) p (appends_one reaped b (step.StoreCqHead, z) none_counted store refl refl) (both_none (reaps_counted n)) in
       let later : Appends flushed b (reaps_counted n) = appends_then flushed loaded b none_counted (reaps_counted n) (reaps_counted n) (appends_one flushed loaded (step.LoadCqTail, y) none_counted load refl refl) last (none_both (reaps_counted n)) in
       appends_after a room b (reaps_counted n) u (appends_then room flushed b none_counted (reaps_counted n) (reaps_counted n) (appends_one room flushed (step.Flush, x) none_counted flush refl refl) later (none_both (reaps_counted n)))
+
+  -- the least was delivered of what waited, of what there was space for, and of what the ring holds
+  pub row_most : (posted reaped space free size n : ℕ) → reaped ≤ posted
+      → n ≡ min (min (posted - reaped) space) size
+      → free + n ≡ space → length all ≡ reaped + n → length (now a).completions.posted ≡ posted
+      → DeliversMost (now b).completions free size n
+  row_most posted reaped space free size n order least left grown many = subst (λ (w : World). DeliversMost w.completions free size n) (sym row) (record {
+    few = omega (arith, least);
+    most = elim (cases_eq n size) [
+      | inl same ↦ inr (inr same)
+      | inr other ↦ elim (cases_eq free 0) [ inl none ↦ inr (inl none) | inr some ↦ inl (omega (arith, order, least, left, grown, many, other, some)) ]
+    ];
+  })

@@ -143,13 +143,23 @@ impl Store {
             },
             Answer::NotAll => BriefAnswer::NotAll,
             Answer::Run => BriefAnswer::Run,
-            Answer::Ended { res, bytes } => self.keep_end(res, bytes),
+            Answer::Ended { res, bytes } => {
+                let bytes = self.keep_bytes(bytes);
+                BriefAnswer::Ended { res, bytes }
+            }
             Answer::NotReady => BriefAnswer::NotReady,
             Answer::Running => BriefAnswer::Running,
             Answer::Unknown => BriefAnswer::Unknown,
             Answer::NotRunning => BriefAnswer::NotRunning,
             Answer::Moved(count) => BriefAnswer::Moved(count),
-            Answer::Reaped(completion) => self.keep_completion(&completion),
+            Answer::Reaped(completion) => {
+                let bytes = self.keep_again(completion.payload());
+                BriefAnswer::Reaped {
+                    res: completion.res(),
+                    user_data: completion.user_data(),
+                    bytes,
+                }
+            }
             Answer::Nothing => BriefAnswer::Nothing,
             Answer::Shut => BriefAnswer::Shut,
             Answer::Next(number) => BriefAnswer::Next(number),
@@ -175,34 +185,6 @@ impl Store {
         let place = self.others.len();
         self.others.push_reserved(entry);
         BriefAnswer::Other(place)
-    }
-
-    /// Keeps the bytes of an end.
-    fn keep_end(&mut self, res: i32, bytes: [u8; 64]) -> BriefAnswer
-        requires { length self.old.bytes.items < vec_capacity self.old.bytes }
-        ensures is { answer_of self.new result ≡ answer.Ended res bytes }
-        ensures within { IsAnswerWithin self.new result }
-        ensures goes { Goes self.old self.new }
-        ensures same { self.new.filled ≡ self.old.filled }
-    {
-        let bytes = self.keep_bytes(bytes);
-        BriefAnswer::Ended { res, bytes }
-    }
-
-    /// Keeps the bytes of a completion: most often zeros, or those of the next end.
-    fn keep_completion(&mut self, completion: &Cqe) -> BriefAnswer
-        requires { length self.old.bytes.items < vec_capacity self.old.bytes }
-        ensures is { answer_of self.new result ≡ answer.Reaped completion.now }
-        ensures within { IsAnswerWithin self.new result }
-        ensures goes { Goes self.old self.new }
-        ensures same { self.new.filled ≡ self.old.filled }
-    {
-        let bytes = self.keep_again(completion.payload());
-        BriefAnswer::Reaped {
-            res: completion.res(),
-            user_data: completion.user_data(),
-            bytes,
-        }
     }
 
     /// Keeps bytes, and returns their place.

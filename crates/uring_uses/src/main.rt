@@ -51,19 +51,19 @@ fn has_input(rt: &HostRuntime) -> bool {
 /// What each caller does, and each play. As in all that follow, whether it was printed: else the system is out of memory, or the output fails.
 fn show_uses(rt: &HostRuntime) -> bool {
     match Setup::new(8, None, 1, 0) {
-        Ok(setup) => show_callers(rt, &setup) && show_gates(rt, &setup) && show_plays(rt),
+        Ok(setup) => {
+            show_first_call(rt)
+                && show_step(rt, &setup)
+                && show_list(rt, &setup)
+                && show_simulation(rt, &setup)
+                && show_broken_chain(rt, &setup)
+                && show_settling(rt, &setup)
+                && show_recorded(rt, &setup)
+                && show_gates(rt, &setup)
+                && show_plays(rt)
+        }
         Err(_) => false,
     }
-}
-
-fn show_callers(rt: &HostRuntime, setup: &Setup) -> bool {
-    show_first_call(rt)
-        && show_step(rt, setup)
-        && show_list(rt, setup)
-        && show_simulation(rt, setup)
-        && show_broken_chain(rt, setup)
-        && show_settling(rt, setup)
-        && show_recorded(rt, setup)
 }
 
 /// A no-op alone.
@@ -164,18 +164,14 @@ fn show_simulation_of(rt: &HostRuntime, core: &mut Core) -> bool {
     match Disk::new(rt.alloc(), Some(4)) {
         Ok(mut disk) => {
             simulate(core, &mut disk);
-            let printed = print_simulated(rt, core, &disk);
+            let printed = println!(rt; "a simulator, block 4 is bad").is_ok()
+                && print_posted(rt, core)
+                && print_disk(rt, &disk);
             drop(disk);
             printed
         }
         Err(_) => false,
     }
-}
-
-fn print_simulated(rt: &HostRuntime, core: &Core, disk: &Disk) -> bool {
-    println!(rt; "a simulator, block 4 is bad").is_ok()
-        && print_posted(rt, core)
-        && print_disk(rt, disk)
 }
 
 /// Writes of 2, 2 and 1 blocks, joined by soft links. The second reaches block 4.
@@ -229,18 +225,14 @@ fn show_broken_chain(rt: &HostRuntime, setup: &Setup) -> bool {
             core.step(Step::Issue { number: 0 });
             let answer = break_chain(&mut core, 0);
             drop(core);
-            print_injected(rt, answer)
+            match answer {
+                Answer::Ended { res, .. } => {
+                    println!(rt; "an injected EIO\n  request 1 ended with {res}").is_ok()
+                }
+                _ => false,
+            }
         }
         Err(_) => false,
-    }
-}
-
-fn print_injected(rt: &HostRuntime, answer: Answer) -> bool {
-    match answer {
-        Answer::Ended { res, .. } => {
-            println!(rt; "an injected EIO\n  request 1 ended with {res}").is_ok()
-        }
-        _ => false,
     }
 }
 

@@ -7,8 +7,8 @@ mod rows;
 mod settled;
 mod without;
 
-use End::{LetGo, Without};
-use ends::{Ends, Ports, new_ends};
+use End::LetGo;
+use ends::{Ends, Ports};
 use gates::is_shown;
 use lists::{
     AFTER_COMPLETIONS, BESIDE_A_RESULT, BOTH_BUSY, DROPPED, EACH_DELIVERY, EACH_LENGTH,
@@ -19,7 +19,7 @@ use rows::{Row, go};
 use settled::settles_right;
 use std::alloc::Global;
 use uring_threads::{KernelLanes, KernelWords, Open, Setup};
-use without::{Gone, go_on};
+use without::{goes_without_application, goes_without_dispatcher, goes_without_worker};
 
 /// Which rings a play has.
 #[derive(Clone, Copy)]
@@ -40,8 +40,14 @@ enum End {
     /// All ends are let go.
     LetGo,
 
-    /// One is, and the others go on.
-    Without(Gone),
+    /// The application's end is, and the others go on.
+    WithoutApplication,
+
+    /// The dispatcher's.
+    WithoutDispatcher,
+
+    /// The last worker.
+    WithoutWorker,
 
     /// They are settled, and nothing is lost.
     Settled,
@@ -217,7 +223,7 @@ static PLAYS: [Play; 19] = [
         times: 1,
         rows: TWO_CALLS,
         then: &[],
-        end: Without(Gone::Application),
+        end: End::WithoutApplication,
     },
     Play {
         name: "without the dispatcher",
@@ -226,7 +232,7 @@ static PLAYS: [Play; 19] = [
         times: 1,
         rows: ISSUED,
         then: &[],
-        end: Without(Gone::Dispatcher),
+        end: End::WithoutDispatcher,
     },
     Play {
         name: "without a worker",
@@ -235,7 +241,7 @@ static PLAYS: [Play; 19] = [
         times: 1,
         rows: BOTH_BUSY,
         then: &[],
-        end: Without(Gone::Worker),
+        end: End::WithoutWorker,
     },
     SETTLED,
 ];
@@ -259,34 +265,35 @@ fn go_all<K: Ports>(ends: &mut Ends<K, Open>, play: &Play) -> bool {
     go(ends, play.then)
 }
 
-/// Whether these ends do so after the rows of a play.
-fn ends_so<K: Ports>(alloc: Global, ends: Ends<K, Open>, end: End) -> bool {
-    match end {
-        End::LetGo => {
-            drop(ends);
-            true
-        }
-        End::Without(gone) => go_on(ends, gone),
-        End::Settled => settles_right(alloc, ends),
-    }
-}
-
-/// All ends of this set-up, if need be by a second try: where the first was refused nothing stood.
-fn make<K: Ports>(alloc: Global, setup: &Setup, workers: usize) -> Option<Ends<K, Open>> {
-    match new_ends(alloc, setup, workers) {
-        Some(ends) => Some(ends),
-        None => new_ends(alloc, setup, workers),
-    }
-}
-
-/// Whether a play goes as it should, with new ends of this set-up.
-fn goes<K: Ports>(alloc: Global, setup: &Setup, play: &Play) -> bool {
-    match make::<K>(alloc, setup, play.workers) {
+/// Whether a play goes as it should, with new ends of this set-up, whose workers nothing holds up: `None` if there can be no such ends.
+fn goes_at_once<K: Ports>(alloc: Global, setup: &Setup, play: &Play) -> Option<bool> {
+    let Ok(gates) = vec![in alloc; Open; play.workers] else {
+        return None;
+    };
+    match K::ends(alloc, setup, gates) {
         Some(mut ends) => {
-            let right = go_all(&mut ends, play);
-            ends_so(alloc, ends, play.end) && right
+            let goes = go_all(&mut ends, play);
+            let comes = match play.end {
+                End::LetGo => {
+                    drop(ends);
+                    true
+                }
+                End::WithoutApplication => goes_without_application(ends),
+                End::WithoutDispatcher => goes_without_dispatcher(ends),
+                End::WithoutWorker => goes_without_worker(ends),
+                End::Settled => settles_right(alloc, ends),
+            };
+            Some(goes && comes)
         }
-        None => false,
+        None => None,
+    }
+}
+
+/// The same, if need be by a second try: where the first was refused ends nothing stood.
+fn goes<K: Ports>(alloc: Global, setup: &Setup, play: &Play) -> bool {
+    match goes_at_once::<K>(alloc, setup, play) {
+        Some(right) => right,
+        None => matches!(goes_at_once::<K>(alloc, setup, play), Some(true)),
     }
 }
 

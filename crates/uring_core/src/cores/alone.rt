@@ -7,7 +7,6 @@ ghost use Rattle.uring_core.specs.declared.step.Step.TheVariants as step;
 
 use super::Core;
 use crate::answer::Answer;
-use crate::conversions::{next_answer, reaped};
 use crate::step::Step;
 
 impl Core {
@@ -33,10 +32,10 @@ impl Core {
             Step::Finish { .. } => unreachable!(),
             Step::Flush => return self.flush(),
             Step::LoadCqTail => return self.load_cq_tail(),
-            Step::Reap => return reaped(self.reap_next()),
+            Step::Reap => return self.reap(),
             Step::StoreCqHead => return self.store_cq_head(),
             Step::Close => return self.close(),
-            Step::Next => return next_answer(self.next()),
+            Step::Next => return self.ask_next(),
         }
     }
 }

@@ -5,7 +5,7 @@ ghost use Rattle.uring_threads.specs.Report.{AreTogether};
 use super::rows::{Put, completion, items};
 use std::alloc::Global;
 use uring_threads::{
-    AppEnd, CloseRefusal, Gate, Kernel, KernelLanes, KernelPort, KernelWords, Open, Report, Setup,
+    AppEnd, CloseRefusal, Gate, Kernel, KernelLanes, KernelPort, KernelWords, Report, Setup,
     SubmitRefusal, Turn, Worked, Worker, lanes, settle, words,
 };
 
@@ -58,14 +58,6 @@ impl Ports for KernelWords {
 
     fn shown(dropped: u32) -> Option<u32> {
         Some(dropped)
-    }
-}
-
-/// All ends of a set-up, with so many workers that nothing holds up, if there can be such.
-pub fn new_ends<K: Ports>(alloc: Global, setup: &Setup, workers: usize) -> Option<Ends<K, Open>> {
-    match vec![in alloc; Open; workers] {
-        Ok(gates) => K::ends(alloc, setup, gates),
-        Err(_) => None,
     }
 }
 

@@ -5,16 +5,8 @@ use super::rows::completion;
 use std::alloc::Global;
 use uring_threads::{Counts, Item, Open, Report, Sqe};
 
-/// What settling leaves, if need be at the second try, or the ends.
-fn settle<K: Ports>(alloc: Global, ends: Ends<K, Open>) -> Result<Report<Open>, Ends<K, Open>> {
-    match ends.settle(alloc) {
-        Ok(report) => Ok(report),
-        Err(ends) => ends.settle(alloc),
-    }
-}
-
 /// Whether nothing is lost: each request that was carried out ended and was reaped once, and the rest is on its way.
-fn is_right(report: &Report<Open>) -> bool {
+fn reports_right(report: Report<Open>) -> bool {
     let counts = Counts {
         accepted: 27,
         outstanding: 1,
@@ -23,23 +15,24 @@ fn is_right(report: &Report<Open>) -> bool {
         reaped: 25,
     };
     let unsent = [Item::Bad(9), Item::Entry(Sqe::nop(4, 0))];
-    report.counts() == counts
+    let right = report.counts() == counts
         && report.unsent() == &unsent[..]
         && report.undelivered() == &[completion(1)][..]
-        && report.waiting() == &[completion(2)][..]
+        && report.waiting() == &[completion(2)][..];
+    drop(report);
+    right
 }
 
-/// Whether these ends, once settled, report it so.
+/// Whether these ends, once settled, if need be at the second try, report it so.
 pub fn settles_right<K: Ports>(alloc: Global, ends: Ends<K, Open>) -> bool {
-    match settle(alloc, ends) {
-        Ok(report) => {
-            let right = is_right(&report);
-            drop(report);
-            right
-        }
-        Err(ends) => {
-            drop(ends);
-            false
-        }
+    match ends.settle(alloc) {
+        Ok(report) => reports_right(report),
+        Err(ends) => match ends.settle(alloc) {
+            Ok(report) => reports_right(report),
+            Err(ends) => {
+                drop(ends);
+                false
+            }
+        },
     }
 }

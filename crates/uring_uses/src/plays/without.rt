@@ -8,14 +8,6 @@ use uring_threads::{
     AppEnd, AppPort, CloseRefusal, Kernel, KernelPort, Open, SubmitRefusal, Turn, Worked, Worker,
 };
 
-/// The end that goes.
-#[derive(Clone, Copy)]
-pub enum Gone {
-    Application,
-    Dispatcher,
-    Worker,
-}
-
 /// Whether the dispatcher's next turn is this.
 fn turns<K: KernelPort>(kernel: &mut Kernel<K>, wanted: Turn) -> bool {
     kernel.turn().ok() == Some(wanted)
@@ -62,7 +54,7 @@ fn brings_one_back<K: KernelPort>(
 }
 
 /// Whether without the application what it submitted is carried out.
-fn goes_without_application<K: KernelPort>(ends: Ends<K, Open>) -> bool {
+pub fn goes_without_application<K: KernelPort>(ends: Ends<K, Open>) -> bool {
     let Ends {
         app,
         mut kernel,
@@ -76,7 +68,7 @@ fn goes_without_application<K: KernelPort>(ends: Ends<K, Open>) -> bool {
 }
 
 /// Whether without the dispatcher the job that it issued is done, and what is put then stays.
-fn goes_without_dispatcher<K: KernelPort>(ends: Ends<K, Open>) -> bool {
+pub fn goes_without_dispatcher<K: KernelPort>(ends: Ends<K, Open>) -> bool {
     let Ends {
         mut app,
         kernel,
@@ -90,7 +82,7 @@ fn goes_without_dispatcher<K: KernelPort>(ends: Ends<K, Open>) -> bool {
 }
 
 /// Whether without the last worker, which has a write, the no-op beside that comes back.
-fn goes_without_worker<K: KernelPort>(ends: Ends<K, Open>) -> bool {
+pub fn goes_without_worker<K: KernelPort>(ends: Ends<K, Open>) -> bool {
     let Ends {
         mut app,
         mut kernel,
@@ -102,13 +94,4 @@ fn goes_without_worker<K: KernelPort>(ends: Ends<K, Open>) -> bool {
     drop(kernel);
     drop(workers);
     right
-}
-
-/// Whether the others go on without the one that goes.
-pub fn go_on<K: KernelPort>(ends: Ends<K, Open>, gone: Gone) -> bool {
-    match gone {
-        Gone::Application => goes_without_application(ends),
-        Gone::Dispatcher => goes_without_dispatcher(ends),
-        Gone::Worker => goes_without_worker(ends),
-    }
 }

@@ -1,11 +1,20 @@
-use Rattle.std.proofs.Common.{sym}
+use Rattle.std.proofs.Common.{sym, ◌∙◌}
 use Rattle.uring_core.specs.Histories.{history_of}
-use Rattle.uring_fill.proofs.Adding.{none_next}
+use Rattle.uring_fill.proofs.Adding.{hidden_never, last_there, none_next, seen_added, seen_right}
 use Rattle.uring_fill.proofs.next.add_seen.Goals as goal
 
-pub add_shown-requires : goal.add_shown-requires
-add_shown-requires c = sym c.in-Some.ensures
+pub returns-in_default-clause-added : goal.returns-in_default-clause-added
+returns-in_default-clause-added c = λ g x here shown p.
+    absurd (none_next g c.args.seen.now (history_of c.args.events.now) x (sym c.in_default.is ∙ c.seen_next.ensures) shown p)
 
-pub returns-in-None-clause-added : goal.returns-in-None-clause-added
-returns-in-None-clause-added c = λ g x here shown p.
-    absurd (none_next g c.args.seen.now (history_of c.args.events.now) x c.in-None.ensures shown p)
+pub returns-then-is_hidden-clause-added : goal.returns-then-is_hidden-clause-added
+returns-then-is_hidden-clause-added c = λ g x here shown p.
+    absurd (hidden_never g c.args.seen.now (history_of c.args.events.now) c.in-Some.event x (sym c.is_hidden.ensures ∙ c.if-is_hidden.true) (sym c.in-Some.ensures) shown p)
+
+pub returns-clause-right : goal.returns-clause-right
+returns-clause-right c = λ g here are.
+    seen_right g c.args.seen.now (history_of c.args.events.now) c.args.next.now.items c.push.new.self.items c.in-Some.event c.in_ok-push.ensures.items (sym c.is_hidden.ensures ∙ c.if-is_hidden.false) (sym c.in-Some.ensures) here are
+
+pub returns-clause-added : goal.returns-clause-added
+returns-clause-added c = λ g x here shown p.
+    seen_added g c.args.seen.now (history_of c.args.events.now) c.push.new.self.items c.in-Some.event x (last_there c.args.next.now.items c.push.new.self.items c.in-Some.event c.in_ok-push.ensures.items) (sym c.in-Some.ensures) shown p

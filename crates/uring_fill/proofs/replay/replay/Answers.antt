@@ -1,22 +1,24 @@
-use Rattle.std.proofs.Common.{◌≡◌, true, false, List, take, sym, subst, ◌∙◌, arith, rules}
-use Rattle.uring_fill.proofs.Common.{Event, FitsApart, history_of, not-false, not-true, take_all}
+use Rattle.std.proofs.Common.{List, take, sym, subst, ◌∙◌, arith}
+use Rattle.std.proofs.lemmas.Bool.{false≢true}
+use Rattle.uring_fill.proofs.Common.{Event, FitsApart, history_of, take_all}
 use Rattle.uring_fill.proofs.Seeing.{taken_next, wrong_from}
 use Rattle.uring_fill.proofs.replay.replay.Goals as goal
 
-pub returns-then-not-branch-clause-wrong : goal.returns-then-not-branch-clause-wrong
-returns-then-not-branch-clause-wrong c = λ is.
-    let made : c.in_ok-follow_one.field-0 ≡ false = search (rules, not-true) in
+pub returns-in-Err-Wrong-clause-all : goal.returns-in-Err-Wrong-clause-all
+returns-in-Err-Wrong-clause-all c = λ is. absurd (false≢true is)
+
+pub returns-in-Err-Wrong-clause-wrong : goal.returns-in-Err-Wrong-clause-wrong
+returns-in-Err-Wrong-clause-wrong c = λ is.
     wrong_from c.args.core.now.setup c.loop-event.core.setup c.args.events.now c.loop-event.event-index c.event-item.result (omega arith) c.event-item.is c.loop-event.invariant.setup
-    (c.in_ok-follow_one.ensures.wrong made (history_of (take c.loop-event.event-index c.args.events.now)) c.loop-event.invariant.fits)
+    ((rw c.in-Err-Wrong.field-0-is at c.in-Err-Wrong.ensures.refused) (history_of (take c.loop-event.event-index c.args.events.now)) c.loop-event.invariant.fits).not_called
 
 pub loop-event-preserved : goal.loop-event-preserved
 loop-event-preserved c =
-    let made : c.in_ok-follow_one.field-0 ≡ true = search (rules, not-false) in
     let low = c.loop-event-test.true in
     let grown = taken_next c.args.events.now c.loop-event.event-index c.event-item.result (omega (arith, low)) c.event-item.is in
     record {
-      setup = c.in_ok-follow_one.ensures.setup ∙ c.loop-event.invariant.setup;
-      fits = subst (FitsApart c.follow_one.new.core) (sym grown) (c.in_ok-follow_one.ensures.called made (history_of (take c.loop-event.event-index c.args.events.now)) c.loop-event.invariant.fits);
+      setup = c.follow.ensures.setup ∙ c.loop-event.invariant.setup;
+      fits = subst (FitsApart c.follow.new.self) (sym grown) (c.in-Ok.ensures.ok (history_of (take c.loop-event.event-index c.args.events.now)) c.loop-event.invariant.fits);
     }
 
 pub returns-clause-all : goal.returns-clause-all

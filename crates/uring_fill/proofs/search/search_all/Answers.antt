@@ -1,5 +1,4 @@
-use Rattle.std.proofs.Common.{◌≡◌, true, rules}
-use Rattle.uring_fill.proofs.Common.{not-false, paths_of}
+use Rattle.uring_fill.proofs.Common.{paths_of}
 use Rattle.uring_fill.proofs.Covering.{begins, fate_found, open_search}
 use Rattle.uring_fill.proofs.search.search_all.Goals as goal
 
@@ -9,9 +8,8 @@ paths-init c =
 
 pub paths-preserved : goal.paths-preserved
 paths-preserved c =
-    let open_so : c.is_open.result ≡ true = search (rules, not-false) in
-    open_search c.args.setup.now c.args.seen.now _ (paths_of c.search_one.new.todo.items) c.search_one.new.reach (c.is_open.ensures open_so) c.in_ok-fate.ensures
+    open_search c.args.setup.now c.args.seen.now _ (paths_of c.search_one.new.todo.items) c.search_one.new.reach c.in-Open.is c.in_ok-fate.ensures
 
-pub returns-then-not-is_open : goal.returns-then-not-is_open
-returns-then-not-is_open c =
+pub returns-in_default : goal.returns-in_default
+returns-in_default c =
     fate_found c.args.setup.now c.args.seen.now _ (paths_of c.search_one.new.todo.items) c.search_one.new.reach c.in_ok-fate.ensures

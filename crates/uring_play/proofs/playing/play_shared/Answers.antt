@@ -5,10 +5,10 @@ use Rattle.uring_play.proofs.playing.play_shared.Goals as goal
 pub returns-in_err-calls : goal.returns-in_err-calls
 returns-in_err-calls g c = stopped_reading c.args.setup.now c.args.workers _ c.in_err-calls.field-0.0 _ _ _ (search rules) c.in_err-calls.ensures
 
-pub returns-in_err-ends : goal.returns-in_err-ends
-returns-in_err-ends g c =
+pub returns-in-Err : goal.returns-in-Err
+returns-in-Err g c =
     out_of_memory c.args.setup.now c.args.workers _ c.in_ok-calls.calls _ _ _ (search rules) c.in_ok-calls.ensures
 
-pub returns : goal.returns
-returns g c =
-    c.play_by.ensures c.args.setup.now c.args.workers _ _ c.in_ok-ends.ensures c.in_ok-calls.ensures
+pub returns-in-Ok : goal.returns-in-Ok
+returns-in-Ok g c =
+    c.play_by.ensures c.args.setup.now c.args.workers _ _ c.in-Ok.ensures c.in_ok-calls.ensures

@@ -14,7 +14,7 @@ use Rattle.uring_play.proofs.running.run.Goals as goal
 pub invariant_of-result : goal.invariant_of-result
 invariant_of-result g c =
     let ends = c.args.ends in
-    let back = c.in_ok-application in
+    let back = c.in-Ok-all_back in
     let applied = IfOk-at_ok _ back.ensures.application c.join-application.ensures in
     let dispatched = IfOk-at_ok _ back.ensures.kernel c.join-kernel.ensures in
     let served = IfOk-at_ok _ back.ensures.served c.start_workers-served.ensures.started in
@@ -26,10 +26,10 @@ invariant_of-result g c =
           (subst (λ (ws : List Worker). StayWorkers ws c.join_workers-workers.result.items) served c.join_workers-workers.ensures));
     }
 
-pub returns : goal.returns
-returns g c =
+pub returns-in-Ok-all_back : goal.returns-in-Ok-all_back
+returns-in-Ok-all_back g c =
     let ends = c.args.ends in
-    let back = c.in_ok-application in
+    let back = c.in-Ok-all_back in
     let applied = IfOk-at_ok _ back.ensures.application c.join-application.ensures in
     let dispatched = IfOk-at_ok _ back.ensures.kernel c.join-kernel.ensures in
     let served = IfOk-at_ok _ back.ensures.served c.start_workers-served.ensures.started in

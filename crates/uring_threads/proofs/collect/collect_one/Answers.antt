@@ -1,6 +1,6 @@
-use Rattle.std.proofs.Common.{refl, subst, length, arith, ◌+◌}
+use Rattle.std.proofs.Common.{refl, subst, length, arith, ◌+◌, ◌∙◌}
 use Rattle.uring_threads.proofs.Common.{CanBeTaken, Grows, NextStays, false≢true, finish_of}
-use Rattle.uring_threads.proofs.Collecting.{collects_first, collects_none, collects_then, first_known, none_stays, on_err, takes_in}
+use Rattle.uring_threads.proofs.Collecting.{collects_first, collects_none, collects_then, first_known, none_stays, on_err, taken_in_more, takes_in}
 use Rattle.uring_threads.proofs.TraceSteps.{still}
 use Rattle.uring_threads.proofs.collect.collect_one.Given.{Over}
 use Rattle.uring_threads.proofs.collect.collect_one.Goals as goal
@@ -32,3 +32,7 @@ returns-clause-ok g c = collects_then (collects_none c.args.workers c.args.place
 
 pub returns-in_err-reserve-clause-granted : goal.returns-in_err-reserve-clause-granted
 returns-in_err-reserve-clause-granted g c = λ all. absurd (false≢true (c.in_err-reserve.ensures.granted (length c.args.kept.now.trace + 1) (all (length c.args.kept.now.trace + 1)) (omega arith)))
+
+pub returns-clause-taken : goal.returns-clause-taken
+returns-clause-taken g c =
+    taken_in_more c.pop_known-result.result (popped_can g c) c.reserve.ensures.unmoved (grows g c) (c.is_empty.ensures.looked.1 ∙ c.requires.taken) c.pop_known-result.ensures.received.0

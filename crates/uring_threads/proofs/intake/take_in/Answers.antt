@@ -98,3 +98,6 @@ returns-clause-once g c = λ once. c.take_pulled.ensures.once (once_unmoved c.re
 
 pub returns-clause-most : goal.returns-clause-most
 returns-clause-most g c = λ ready none. c.pull-pulled.ensures.looked (c.take_pulled.ensures.none none ready) (sym (c.retry.ensures.tied (g.P.KernelPort.pulled c.args.port.now) c.requires.tied).shut ∙ ap is_shut c.in-Ready.is)
+
+pub returns-in_default-clause-tied : goal.returns-in_default-clause-tied
+returns-in_default-clause-tied g c = c.retry.ensures.tied (g.P.KernelPort.pulled c.args.port.now) c.requires.tied

@@ -1,6 +1,9 @@
-use Rattle.std.proofs.Common.{rules, arith, ◌≤◌, refl, sym, subst, ap, ◌∙◌, vec_capacity}
+use Rattle.std.proofs.Common.{◌≡◌, Result, Ok, Err, length, rules, arith, ◌≤◌, refl, sym, subst, ap, ◌∙◌, vec_capacity}
 use Rattle.uring_threads.proofs.Common.{IsKernel, Kernel, Setup, common_steps}
+use Rattle.uring_threads.specs.Opening.{AreBadWorkers}
 use Rattle.uring_threads.specs.declared.intake.Intake.TheVariants as intake
+use Rattle.uring_threads.specs.declared.opening.LanesFault.{LanesFault}
+use Rattle.uring_threads.specs.declared.opening.LanesFault.TheVariants as fault
 use Rattle.uring_threads.proofs.SameEnds.{at_first, is_at_first, opened_together}
 use Rattle.uring_threads.proofs.opening.ends_in.Goals as goal
 
@@ -27,3 +30,19 @@ returns-clause-ok g c =
           opened_together c.args.setup.now.files c.new-app.result kernel c.in-Ok.inner.workers.items (first_of (search rules, grind (arith, common_steps))) (first_of (search rules, grind (arith, common_steps)))
           (ap (λ (s : Setup). s.files) of.setup) of.opened.pairs;
     }
+
+not_ok : {T : Type 0} (ends : T) → ◌≡◌ {A = Result T LanesFault} (Ok ends) (Err fault.BadWorkers) → ⊥
+not_ok ends e = cc
+
+not_memory : {T : Type 0} → ◌≡◌ {A = Result T LanesFault} (Err fault.NoMemory) (Err fault.BadWorkers) → ⊥
+not_memory e = cc
+
+pub returns-clause-bad_workers : goal.returns-clause-bad_workers
+returns-clause-bad_workers g c =
+    let many : length c.args.gates.items ≡ c.len.result = omega (arith, c.len.ensures, c.args.gates.ok.0) in
+    (λ e. absurd (not_ok _ e), λ h. absurd (not_ok tt (c.in_ok-check_ends.ensures.bad_workers.1 (h.0, subst AreBadWorkers many h.1))))
+
+pub returns-in_default-clause-bad_workers : goal.returns-in_default-clause-bad_workers
+returns-in_default-clause-bad_workers g c =
+    let many : length c.args.gates.items ≡ c.len.result = omega (arith, c.len.ensures, c.args.gates.ok.0) in
+    (λ e. absurd (not_memory e), λ h. absurd (not_ok tt (c.in_ok-check_ends.ensures.bad_workers.1 (h.0, subst AreBadWorkers many h.1))))
