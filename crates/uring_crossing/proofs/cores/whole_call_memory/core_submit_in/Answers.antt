@@ -1,8 +1,15 @@
-use Rattle.std.proofs.Common.{length, ap, sym, ◌∙◌}
-use Rattle.uring_crossing.proofs.Common.{core_in, length-map}
+use Rattle.std.proofs.Common.{◌≡◌, ℕ, List, [], ◌∷◌, length, map, get_or, subst, ap, sym, ◌∙◌, arith}
+use Rattle.uring_crossing.proofs.Common.{IsSomeAnd, Sqe, SubmittedApart, core_in, length-map}
+use Rattle.uring_crossing.specs.declared.cores.whole_call_memory.EntryWords.{EntryWords}
 use Rattle.uring_crossing.specs.CoreWords.AnswerForm.{words_of}
 use Rattle.uring_crossing.proofs.Refusals.{submit_granted}
 use Rattle.uring_crossing.proofs.cores.whole_call_memory.core_submit_in.Goals as goal
+
+-- an entry alone
+one_entry : (es : List EntryWords) (d : EntryWords) (x : List ℕ) → length es ≡ 1 → x ≡ (get_or es 0 d).words → x ∷ [] ≡ map (λ e. e.words) es
+one_entry [] d x one is = absurd (omega (arith, one))
+one_entry (e ∷ []) d x one is = ap (λ y. y ∷ []) is
+one_entry (e ∷ f ∷ es) d x one is = absurd (omega (arith, one))
 
 pub returns-then-entries-eq1-clause-unrefused : goal.returns-then-entries-eq1-clause-unrefused
 returns-then-entries-eq1-clause-unrefused g c = λ done.
@@ -11,3 +18,10 @@ returns-then-entries-eq1-clause-unrefused g c = λ done.
 pub returns-clause-unrefused : goal.returns-clause-unrefused
 returns-clause-unrefused g c = λ done.
     submit_granted (g.M.Memory.grants c.args.memory.now) (core_in c.args.place.now) (core_in c.submit_in-made-2.new.self) c.deref.result.now (length c.args.entries.now) (ap length (c.deref.ensures.value ∙ c.in-Ok.ensures.entries) ∙ length-map _ _) c.submit_in-made-2.result _ (c.answer_words-2.ensures ∙ ap words_of c.submit_told-2.ensures) c.submit_in-made-2.ensures.made c.submit_in-made-2.ensures.granted
+
+pub returns-then-entries-eq1-clause-made : goal.returns-then-entries-eq1-clause-made
+returns-then-entries-eq1-clause-made g c = λ _. record {
+  given = c.submit_in-made.result;
+  told = c.answer_words.ensures ∙ ap words_of c.submit_told.ensures;
+  made = subst (λ (es : List Sqe). IsSomeAnd (core_in c.args.place.now) (λ before. IsSomeAnd (core_in c.submit_in-made.new.self) (SubmittedApart es c.submit_in-made.result before))) (one_entry c.args.entries.now _ _ c.if-entries-eq1.true c.from_words.ensures) c.submit_in-made.ensures.made;
+}

@@ -1,5 +1,7 @@
-use Rattle.std.proofs.Common.{◌≡◌, ℕ, List, length, map, ap, subst, sym, arith, rules}
+use Rattle.std.proofs.Common.{◌≡◌, ℕ, List, length, map, refl, ap, subst, sym, arith, rules}
 use Rattle.uring_crossing.proofs.Common.{Global, Vec, length-map}
+use Rattle.std.proofs.lemmas.Bool.{false≢true}
+use Rattle.uring_crossing.proofs.Exits.{apart}
 use Rattle.uring_volume.specs.Listing.{AreTheImages}
 use Rattle.uring_crossing.proofs.volumes.volume_memory.tell_images.Goals as goal
 
@@ -21,3 +23,15 @@ pub returns-in-Err-TooMany-clause-too_many : goal.returns-in-Err-TooMany-clause-
 returns-in-Err-TooMany-clause-too_many g c = λ done.
     let found = c.in-Err-TooMany.ensures.too_many (search rules) in
     record { all = found.0; images = found.1; more = omega (arith, found.2, c.min-most.ensures) }
+
+pub returns-in-Ok-give_images-clause-too_many : goal.returns-in-Ok-give_images-clause-too_many
+returns-in-Ok-give_images-clause-too_many g c = apart _ _ refl
+
+pub returns-clause-told : goal.returns-clause-told
+returns-clause-told g c = apart _ _ refl
+
+pub returns-clause-too_many : goal.returns-clause-too_many
+returns-clause-too_many g c = apart _ _ refl
+
+pub returns-clause-granted : goal.returns-clause-granted
+returns-clause-granted g c = λ all _. false≢true (c.in-Err.ensures.granted all)

@@ -13,3 +13,18 @@ pub returns-clause-too_many : goal.returns-clause-too_many
 returns-clause-too_many g c = λ is.
     let same = to_z-of_z w32 c.tell_images-told.result (search rules) in
     place_told (λ v. HasMore v (min (length c.args.lens.now) (2 ^ 32 - 1))) (volume_in c.args.place.now) _ c.deref.result.now c.take_full-volume.ensures.taken c.deref.ensures (c.tell_images-told.ensures.too_many (sym same ∙ is))
+
+pub returns-clause-results : goal.returns-clause-results
+returns-clause-results g c =
+    let same = to_z-of_z w32 c.tell_images-told.result (search rules) in
+    λ done place many. same ∙ c.tell_images-told.ensures.results (λ is. done (same ∙ is)) (λ is. many (same ∙ is))
+
+pub returns-clause-granted : goal.returns-clause-granted
+returns-clause-granted g c =
+    let same = to_z-of_z w32 c.tell_images-told.result (search rules) in
+    λ all is. c.tell_images-told.ensures.granted all (sym same ∙ is)
+
+pub returns-clause-within : goal.returns-clause-within
+returns-clause-within g c =
+    let same = to_z-of_z w32 c.tell_images-told.result (search rules) in
+    λ is. c.tell_images-told.ensures.within (sym same ∙ is)
