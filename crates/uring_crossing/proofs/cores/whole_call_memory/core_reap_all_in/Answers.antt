@@ -1,7 +1,8 @@
-use Rattle.std.proofs.Common.{◌≡◌, ◌≤◌, ℕ, List, length, take, sym, subst, ap, ◌∙◌}
+use Rattle.std.proofs.Common.{◌≡◌, ◌≤◌, ℕ, List, length, take, refl, sym, subst, ap, ◌∙◌}
 use Rattle.std.proofs.lemmas.List.{length-replicate, take_at}
 use Rattle.uring_entry.specs.Layout.{Cqe}
 use Rattle.uring_crossing.proofs.Common.{Core, IsSomeAnd, Option, ReapedApart, core_in}
+use Rattle.uring_crossing.proofs.Exits.{apart, some_not_none}
 use Rattle.uring_crossing.proofs.cores.whole_call_memory.core_reap_all_in.Goals as goal
 
 -- the same, by other words
@@ -15,14 +16,16 @@ pub give_completions-requires-2-clause-room : goal.give_completions-requires-2-c
 give_completions-requires-2-clause-room g c =
     subst (λ (n : ℕ). c.reap_all-reaped-2.result ≤ n) (ap (λ (cs : List Cqe). length cs) (c.deref_mut.ensures.value ∙ c.in-Ok.ensures.items) ∙ length-replicate _ _) c.reap_all-reaped-2.ensures.within
 
-pub returns-clause-made : goal.returns-clause-made
-returns-clause-made g c = λ _.
+pub returns : goal.returns
+returns g c =
     let count = c.reap_all-reaped-2.result in
     let many = ap (λ (cs : List Cqe). length cs) (c.deref_mut.ensures.value ∙ c.in-Ok.ensures.items) ∙ length-replicate _ _ in
     let all = c.deref.ensures.value ∙ take_at _ _ _ (c.reap_all-reaped-2.ensures.length ∙ c.deref_mut.ensures.len) in
     record {
-      given = take count c.deref.result.now;
-      told = c.give_completions-2.ensures.given;
-      rest = c.give_completions-2.ensures.rest;
-      made = reaped_as (core_in c.args.place.now) (core_in c.reap_all-reaped-2.new.self) _ count _ _ _ many (ap (λ (cs : List Cqe). take count cs) (sym all)) c.reap_all-reaped-2.ensures.made;
+      empty = (apart _ _ refl, some_not_none _ _ c.reap_all-reaped-2.ensures.made);
+      results = λ done. absurd (done refl);
+      single = λ _. apart _ _ refl;
+      kept = λ done. absurd (done refl);
+      granted = λ n has few. apart _ _ refl;
+      made = λ _. record { given = take count c.deref.result.now; told = c.give_completions-2.ensures.given; rest = c.give_completions-2.ensures.rest; made = reaped_as (core_in c.args.place.now) (core_in c.reap_all-reaped-2.new.self) _ count _ _ _ many (ap (λ (cs : List Cqe). take count cs) (sym all)) c.reap_all-reaped-2.ensures.made };
     }

@@ -1,4 +1,4 @@
-use Rattle.std.proofs.Common.{◌≡◌, ℕ, List, length, map, refl, ap, subst, sym, arith, rules}
+use Rattle.std.proofs.Common.{ℕ, List, length, map, refl, ap, subst, sym, arith, rules}
 use Rattle.uring_crossing.proofs.Common.{Global, Vec, length-map}
 use Rattle.std.proofs.lemmas.Bool.{false≢true}
 use Rattle.uring_crossing.proofs.Exits.{apart}
