@@ -11,7 +11,7 @@ use Rattle.uring_core.specs.declared.answer.Answer.{Answer}
 use Rattle.uring_crossing.specs.declared.core_words.answer_words.AnswerWords.{AnswerWords}
 use Rattle.uring_crossing.specs.CoreWords.AnswerForm.{words_of}
 use Rattle.uring_crossing.specs.Machines.Crashing.{BeginsOn, SteppedOn, TellsStepOn}
-use Rattle.uring_crossing.specs.CoreWords.SetUps.{IsAskedFor}
+use Rattle.uring_crossing.specs.CoreWords.SetUps.{IsAskedFor, SufficesFor}
 use Rattle.uring_crossing.specs.declared.core_words.set_up_words.SetupWords.{SetupWords}
 use Rattle.uring_crossing.proofs.Starts.{is_start}
 use Rattle.uring_epochs.specs.Asked.{log_at}
@@ -170,3 +170,7 @@ begins w s unit contents given m asked setup units ready is fits = record {
 -- what is asked for by its own size is granted
 pub fits_itself : (n : ℕ) → n ≤ n
 fits_itself n = omega arith
+
+-- who grants what a set-up needs grants an element
+pub room_for_one : (w : SetupWords) (s : Setup) (n : ℕ) → IsAskedFor w s → SufficesFor w n → 1 ≤ n
+room_for_one w s n asked enough = omega (arith, asked.0.limits.some_file, (enough s asked).2)
