@@ -1,4 +1,4 @@
-use Rattle.std.proofs.Common.{◌≡◌, [], refl, sym, subst}
+use Rattle.std.proofs.Common.{[], refl, sym, subst}
 use Rattle.std.proofs.lemmas.Bool.{false≢true}
 use Rattle.uring_crossing.proofs.Common.{Core, FitsApart, Setup}
 use Rattle.uring_crossing.specs.CoreWords.SetUps.{IsAskedFor, IsRefused, without_files}
