@@ -1,7 +1,8 @@
 -- A list that is cut part by part.
 use Rattle.std.proofs.Common.{◌≡◌, ◌<◌, ◌≤◌, ◌+◌, ◌-◌, ◌++◌, ◌∷◌, ℕ, zero, suc, List, [], length, map, take, drop, min, get_or, refl, sym, subst, ap, ◌∙◌, arith}
 use Rattle.std.proofs.Math.Seq.{drop-cons, drop-nil}
-use Rattle.uring_crossing.proofs.Common.{AreShort, Sqe, append-nil, append_assoc, cut, drop_all, drop_min, length-drop, length-map, length-take, map-append, take_min}
+use Rattle.std.proofs.lemmas.List.{drop_more, map_more, map_push}
+use Rattle.uring_crossing.proofs.Common.{AreShort, Sqe, append-nil, append_assoc, cut, drop_all, drop_min, laid_out, length-drop, length-map, length-take, map-append, take_min}
 use Rattle.uring_files.specs.Contents.{max_len}
 use Rattle.uring_outcomes.specs.Faults.{entry_count}
 
@@ -27,6 +28,12 @@ cut_next lens values i j from to len within next is ends =
     ∙ ap (λ ys. ys ∷ cut (drop (suc i) lens) (drop len rest)) (sym (take_min len rest) ∙ ap (λ (k : ℕ). take k rest) (sym many))
     ∙ ap (λ ys. take (to - from) rest ∷ cut (drop (suc i) lens) ys) (sym (drop_min len rest) ∙ sym (drop_plus from (min len (length rest)) values) ∙ ap (λ (k : ℕ). drop k values) (sym after))
     ∙ ap (λ (k : ℕ). take (to - from) rest ∷ cut (drop k lens) (drop to values)) (sym next)
+
+pub next_suc : (i : ℕ) → i + 1 ≡ suc i
+next_suc i = omega arith
+
+pub end_within : (from to len many : ℕ) → from ≤ many → to ≡ from + min len (many - from) → to ≤ many
+end_within from to len many within ends = omega (arith, within, ends)
 
 -- one part more was made
 pub cut_step : {X Y : Type 0} (f : Y → List X) (done new : List Y) (part : Y) (lens : List ℕ) (values : List X) (i j from to len : ℕ) (all : List (List X))
@@ -74,3 +81,24 @@ pub cut_within : (lens : List ℕ) (entries : List Sqe) → entry_count (cut len
 cut_within [] entries = omega arith
 cut_within (n ∷ more) entries =
     omega (arith, cut_within more (drop n entries), length-take n entries, length-drop n entries)
+
+-- ---- what is made of a list element by element
+
+pub made_more : {X Y : Type 0} (f : X → Y) (xs : List X) (i : ℕ) (x d : X) (y : Y) (done new : List Y) → i < length xs
+    → x ≡ get_or xs i d → y ≡ f x → new ≡ done ++ y ∷ [] → done ≡ map f (take i xs) → new ≡ map f (take (i + 1) xs)
+made_more f xs i x d y done new within is gives pushed so =
+    pushed ∙ ap (λ ys. ys ++ y ∷ []) so ∙ ap (λ z. map f (take i xs) ++ z ∷ []) (gives ∙ ap f is) ∙ sym (map_more f xs i d within)
+
+pub made_twice : {X Y Z : Type 0} (g : Y → Z) (f : X → Y) (xs : List X) (i : ℕ) (x d : X) (z : Z) (done new : List Z) → i < length xs
+    → x ≡ get_or xs i d → z ≡ g (f x) → new ≡ done ++ z ∷ [] → done ≡ map g (map f (take i xs)) → new ≡ map g (map f (take (i + 1) xs))
+made_twice g f xs i x d z done new within is gives pushed so =
+    pushed ∙ ap (λ zs. zs ++ z ∷ []) so ∙ ap (λ y. map g (map f (take i xs)) ++ y ∷ []) (gives ∙ ap (λ y. g (f y)) is)
+    ∙ sym (ap (map g) (map_more f xs i d within) ∙ map_push g (map f (take i xs)) (f (get_or xs i d)))
+
+pub laid_more : {X : Type 0} (f : X → List ℕ) (xs : List X) (i : ℕ) (x : X) (done kept new all : List ℕ) → i < length xs
+    → x ≡ get_or xs i x → kept ≡ done → new ≡ kept ++ f x → done ++ laid_out (map f (drop i xs)) ≡ all
+    → new ++ laid_out (map f (drop (i + 1) xs)) ≡ all
+laid_more f xs i x done kept new all within is same pushed so =
+    let rest = laid_out (map f (drop (i + 1) xs)) in
+    ap (λ ys. ys ++ rest) (pushed ∙ ap (λ ys. ys ++ f x) same) ∙ append_assoc done (f x) rest
+    ∙ sym (ap (λ ys. done ++ laid_out (map f ys)) (drop_more xs i x within ∙ ap (λ y. y ∷ drop (i + 1) xs) (sym is))) ∙ so

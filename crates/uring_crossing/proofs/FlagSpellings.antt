@@ -1,5 +1,5 @@
 -- The letters of flags, as they are read.
-use Rattle.std.proofs.Common.{◌≡◌, ◌≢◌, ℕ, zero, suc, ◌<◌, Bool, true, false, eqb, ◌&&◌, List, [], ◌∷◌, ◌++◌, length, refl, sym, ap, ◌∙◌, inl, inr, append-nil, append_assoc, arith}
+use Rattle.std.proofs.Common.{◌≡◌, ◌≢◌, ℕ, zero, suc, ◌<◌, Bool, true, false, eqb, ◌&&◌, ◌==◌, if◌then◌else◌, List, [], ◌∷◌, ◌++◌, length, length-append, refl, sym, ap, ◌∙◌, inl, inr, append-nil, append_assoc, arith}
 use Rattle.uring_crossing.proofs.Common.{and_parts, bit_and, cases_Bool, codes, eqb-false, eqb-true, named_if, sum_by}
 use Rattle.std.specs.List.{AllByRecursion, filter}
 use Rattle.uring_text.specs.Tokens.{flag_value, NoneAgain, AreFlags}
@@ -32,6 +32,21 @@ parts_of flags =
     let third = ap (λ (t : List ℕ). letter_part flags 72 ++ t) fourth ∙ sym (filter_one p 72 (65 ∷ 83 ∷ [])) in
     let second = ap (λ (t : List ℕ). letter_part flags 76 ++ t) third ∙ sym (filter_one p 76 (72 ∷ 65 ∷ 83 ∷ [])) in
     ap (λ (t : List ℕ). letter_part flags 68 ++ t) second ∙ sym (filter_one p 68 (76 ∷ 72 ∷ 65 ∷ 83 ∷ []))
+
+-- letters, or `-` where there are none
+pub dashed : (ls old mid new dash : List ℕ) → mid ≡ old ++ ls → length mid ≡ length old → dash ≡ codes "-" → new ≡ mid ++ dash
+    → new ≡ old ++ (if length ls == 0 then codes "-" else ls)
+dashed [] old mid new dash is same text pushed = pushed ∙ ap (λ (t : List ℕ). t ++ dash) (is ∙ append-nil old) ∙ ap (λ (t : List ℕ). old ++ t) text
+dashed (x ∷ ls) old mid new dash is same text pushed = absurd (omega (arith, ap (λ (t : List ℕ). length t) is, length-append old (x ∷ ls), same))
+
+pub lettered : (ls old mid new dash : List ℕ) → mid ≡ old ++ ls → (length mid ≡ length old → ⊥) → dash ≡ [] → new ≡ mid ++ dash
+    → new ≡ old ++ (if length ls == 0 then codes "-" else ls)
+lettered [] old mid new dash is other text pushed = absurd (other (ap (λ (t : List ℕ). length t) (is ∙ append-nil old)))
+lettered (x ∷ ls) old mid new dash is other text pushed =
+    elim (cases_Bool (length (x ∷ ls) == 0)) [
+      | inl none ↦ absurd (omega (arith, eqb-true (length (x ∷ ls)) 0 none))
+      | inr some ↦ pushed ∙ ap (λ (t : List ℕ). mid ++ t) text ∙ append-nil mid ∙ is ∙ ap (λ (b : Bool). old ++ (if b then codes "-" else x ∷ ls)) (sym some)
+    ]
 
 -- ---- what is read
 

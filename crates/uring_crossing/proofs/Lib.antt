@@ -10,6 +10,7 @@ pub mod Holding
 -- Words that ask for a machine, and words that tell of a refusal:
 pub mod Starts
 pub mod Refusals
+pub mod Exits
 pub mod Cutting
 pub mod Files
 -- What a call is told to have done, as steps and as text:
