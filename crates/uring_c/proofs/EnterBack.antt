@@ -1,6 +1,5 @@
 -- A call's words give the call back.
-use Rattle.std.proofs.Common.{◌≡◌, List, [], ◌∷◌, Some, Result, Ok, Err, IfOk, refl, sym, ap, subst, ◌∙◌}
-use Rattle.std.specs.Result.{result_ok}
+use Rattle.std.proofs.Common.{◌≡◌, List, [], ◌∷◌, Some, Result, Ok, IfOk, refl, sym, ap, subst, ◌∙◌}
 use Rattle.uring_enter.specs.declared.call.asked.Policy.{Policy}
 use Rattle.uring_enter.specs.declared.call.asked.Policy.TheVariants.{InOrder, Lazy, ByChoice}
 use Rattle.uring_enter.specs.declared.call.asked.Asked.{Asked}
@@ -56,27 +55,20 @@ first_command x a c same is =
     let asked : x ≡ a = cc in
     ap words_of_command (is ∙ ap (λ v. due v []) asked)
 
--- what holds of what a call gave
-of_ok : (result : Result Command WrongReply) (wanted : Command) (P : Command → Type 0)
-    → result_ok result ≡ Some wanted → IfOk result P → P wanted
-of_ok (Ok c) wanted P is holds = let same : c ≡ wanted = cc in subst P same holds
-of_ok (Err e) wanted P is holds = cc
-
 -- a call that took a reply, in words
 pub next_after : (a : Asked) (log : List Reply) (r parsed : Reply) (held enter moved : Enter)
     (w : EnterWords) (result : Result Command WrongReply) (wanted : Command)
     → Some enter ≡ Some held → Some parsed ≡ Some r → IsAfter a log held
     → (IsAfter a log enter → IfOk result (λ _. IsAfter a (parsed ∷ log) moved))
-    → result_ok result ≡ Some wanted → w ≡ words_of_enter moved
-    → (Some w.wanted ≡ Some (words_of_command (due a (r ∷ log)))) × AreAfter a (r ∷ log) w
+    → result ≡ Ok wanted → w ≡ words_of_enter moved
+    → AreAfter a (r ∷ log) w × (w.wanted ≡ words_of_command (due a (r ∷ log)))
 next_after a log r parsed held enter moved w result wanted same_call same_reply after to_after ok words =
     let call : enter ≡ held = cc in
     let reply : parsed ≡ r = cc in
     let Fits : Enter → Type 0 = λ v. IsAfter a log v in
     let Moved : Reply → Type 0 = λ v. IsAfter a (v ∷ log) moved in
-    let fits = subst Fits (sym call) after in
-    let went : IsAfter a (parsed ∷ log) moved =
-    of_ok result wanted (λ _. IsAfter a (parsed ∷ log) moved) ok (to_after fits) in (
-      ap (λ (v : EnterWords). Some v.wanted) words ∙ ap (λ v. Some (words_of_command v)) (subst Moved reply went).wanted,
-      (moved, ap enter_of words ∙ enter_back moved, subst Moved reply went),
+    let Went : Result Command WrongReply → Type 0 = λ v. IfOk v (λ _. Moved parsed) in
+    let went : Moved r = subst Moved reply (subst Went ok (to_after (subst Fits (sym call) after))) in (
+      (moved, ap enter_of words ∙ enter_back moved, went),
+      ap (λ (v : EnterWords). v.wanted) words ∙ ap words_of_command went.wanted,
     )

@@ -9,3 +9,8 @@ said_of_found None Fits of No Yes found x promised is said = tt
 said_of_found {M} {H} {X} (Some m) Fits of No Yes found x promised is said =
     let P : Option X → Type 0 = λ o. MatchOption o No Yes in
     λ h fits. subst P (sym is ∙ promised h fits) said
+
+-- a place in which a call found something isn't empty
+pub not_empty : {M A : Type 0} (held : Option M) (P : M → Type 0) → IsSomeAnd held P → held ≡ None → A
+not_empty None P found empty = absurd found
+not_empty (Some m) P found empty = cc

@@ -5,3 +5,4 @@ mod cores;
 mod enter;
 mod operations;
 mod registered;
+mod written;

@@ -1,15 +1,15 @@
 //! The two steps that move a request of a core, for C: `wulgach_core_issue` and `wulgach_core_end` of the header. They tell no more of the answer than such a step has.
-ghost use Rattle.std.specs.Prelude.{◌≡◌, ◌↔◌, pos, neg_ℤ, None, IsSome, IsSomeAnd};
+ghost use Rattle.std.specs.Prelude.{◌≡◌, ◌↔◌, pos, neg_ℤ, None, IsSome};
 ghost use Rattle.uring_entry.specs.declared.errno.TheConstants.{EBADF};
 ghost use Rattle.uring_core.specs.declared.step.Step.TheVariants as step;
 ghost use Rattle.uring_crossing.specs.Boxes.Places.{core_in};
-ghost use Rattle.uring_crossing.specs.Cores.Stepping.{FinishedApart, TellsKind, TellsEnd, no_bytes};
+ghost use Rattle.uring_crossing.specs.Cores.Stepping.{TellsKind, TellsEnd, no_bytes};
 
 use std::alloc::Global;
 use uring_crossing::answer_words::{kind as kind_of, res as res_of};
 use uring_crossing::core_place::CorePlace;
 use uring_entry::errno;
-use uring_machine::{Answer, Outcome, Step};
+use uring_machine::{Outcome, Step};
 
 /// Has the core let the request of this number start, or end it, and writes the kind of the answer, and its result, or 0. -9 exactly at an empty place; then nothing is written.
 #[unsafe(no_mangle)]
@@ -56,29 +56,12 @@ pub extern "C" fn wulgach_core_end(
     if !place.is_full {
         return -errno::EBADF;
     }
-    let answer = end_without_bytes(alloc, place, number, told);
+    let outcome = Outcome {
+        res: told,
+        bytes: [0; 64],
+    };
+    let answer = place.finish(alloc, number, outcome);
     *kind = kind_of(&answer);
     *res = res_of(&answer);
     0
-}
-
-/// Ends the running request of this number with a result and no bytes.
-#[inline(always)]
-fn end_without_bytes(alloc: Global, place: &mut CorePlace, number: u64, told: i32) -> Answer
-    requires { IsSome (core_in place.old) }
-    ensures { IsSomeAnd (core_in place.old)
-        (λ old. IsSomeAnd (core_in place.new) (FinishedApart number (no_bytes told) result old)) }
-{
-    place.finish(alloc, number, without_bytes(told))
-}
-
-/// An outcome that gives no bytes.
-#[inline(always)]
-fn without_bytes(res: i32) -> Outcome
-    ensures { result ≡ no_bytes res }
-{
-    Outcome {
-        res,
-        bytes: [0; 64],
-    }
 }

@@ -45,7 +45,8 @@ pub extern "C" fn wulgach_enrolling_next(last: u32, res: i32) -> u32
 pub extern "C" fn wulgach_closes_row(of_row: u32, is_ring: bool, found: u32) -> bool
     ensures { result ≡ spec.closes_row of_row (known_of is_ring found) }
 {
-    closes_row(of_row, if is_ring { Some(found) } else { None })
+    let open = if is_ring { Some(found) } else { None };
+    closes_row(of_row, open)
 }
 
 /// The fault of enrolling a ring in the row of this number, or in any, before one is looked for; or 0.

@@ -4,6 +4,7 @@ ghost use Rattle.uring_register.specs.Tables.Listing as spec;
 ghost use Rattle.uring_register.specs.Tables.Placing as placing;
 ghost use Rattle.uring_c.specs.Registered.ListingForm.{word_of_listing, word_of_placing, placing_stage_of};
 
+use crate::written::write_found;
 use uring_register::{
     PlacingOnto, PlacingStage, listing_of, next_of_placing, next_to_go, takes_next,
 };
@@ -30,13 +31,7 @@ pub extern "C" fn wulgach_next_to_go(count: u32, gone: u32, slot: &mut u32) -> b
     ensures is_any { result ≡ is_some (spec.next_to_go count gone) }
     ensures slot { slot.new ≡ unwrap_or (spec.next_to_go count gone) slot.old }
 {
-    match next_to_go(count, gone) {
-        Some(next) => {
-            *slot = next;
-            true
-        }
-        None => false,
-    }
+    write_found(next_to_go(count, gone), slot)
 }
 
 /// Returns what a row that puts a file where there is room does after this, which came to `res`.

@@ -6,6 +6,7 @@ ghost use Rattle.uring_register.specs.KernelLists.Processors as processors;
 ghost use Rattle.uring_register.specs.KernelLists.Locks as locks;
 ghost use Rattle.uring_c.specs.Registered.PinningForm.{known_of};
 
+use crate::written::write_found;
 use uring_register::{
     Mapped, Memory, has_byte_of, is_listed, is_lock_of, is_of_a_file, lists_number, mapped_of,
     pinning_fault,
@@ -41,13 +42,7 @@ pub extern "C" fn wulgach_mapped_of(line: &[u8], mapped: &mut Mapped) -> bool
     ensures is_line { result ≡ is_some (maps.mapped_of line.now) }
     ensures mapped { mapped.new ≡ unwrap_or (maps.mapped_of line.now) mapped.old }
 {
-    match mapped_of(line) {
-        Some(found) => {
-            *mapped = found;
-            true
-        }
-        None => false,
-    }
+    write_found(mapped_of(line), mapped)
 }
 
 /// Whether this memory is shared with a file that the kernel writes back.

@@ -4,6 +4,7 @@ ghost use Rattle.uring_register.specs.declared.buffers.group.Buffer.{Buffer};
 ghost use Rattle.uring_register.specs.Buffers.Provided.{Change, Provided, Removed, Took, Registered, Unregistered, KeepsGroup, IsTold, left};
 ghost use Rattle.uring_register.specs.Buffers.Provided as spec;
 
+use crate::written::write_found;
 use uring_register::{Buffer, Buffers, Group, group_argument_fault};
 
 /// There is no group.
@@ -79,13 +80,7 @@ pub extern "C" fn wulgach_group_next(group: &Group, rows: &[Buffer], buffer: &mu
         → MatchOption (spec.next_of log) ((result ≡ false) × (buffer.new ≡ buffer.old))
         (λ next. (result ≡ true) × (buffer.new ≡ next)) }
 {
-    match group.next(rows) {
-        Some(next) => {
-            *buffer = next;
-            true
-        }
-        None => false,
-    }
+    write_found(group.next(rows), buffer)
 }
 
 /// Whether a group is a ring, and no list.
@@ -112,13 +107,7 @@ pub extern "C" fn wulgach_group_cell(
     ensures list { (log : List Change) (rows : List Buffer) → KeepsGroup log group.now rows
         → spec.is_ring log ≡ false → (result ≡ false) × (cell.new ≡ cell.old) }
 {
-    match group.cell(is_read, tail) {
-        Some(next) => {
-            *cell = next;
-            true
-        }
-        None => false,
-    }
+    write_found(group.cell(is_read, tail), cell)
 }
 
 /// Writes the buffer of a cell in which this stands, if that could be read. `false`: there is none, and nothing is written.
@@ -127,13 +116,7 @@ pub extern "C" fn wulgach_group_in_cell(is_read: bool, stands: &Buffer, buffer: 
     ensures { MatchOption (spec.in_cell is_read stands.now) ((result ≡ false) × (buffer.new ≡ buffer.old))
         (λ found. (result ≡ true) × (buffer.new ≡ found)) }
 {
-    match Group::in_cell(is_read, stands) {
-        Some(found) => {
-            *buffer = found;
-            true
-        }
-        None => false,
-    }
+    write_found(Group::in_cell(is_read, stands), buffer)
 }
 
 /// An operation has taken the next buffer.

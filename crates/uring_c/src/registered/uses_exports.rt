@@ -4,6 +4,7 @@ ghost use Rattle.uring_register.specs.Tables.Uses.{Use, Put, Lost, Taken, Given,
 ghost use Rattle.uring_register.specs.Buffers.Bytes as spec;
 ghost use Rattle.uring_c.specs.Registered.UsesForm.{word_of_ending};
 
+use crate::written::write_found;
 use uring_register::{
     Buffer, Uses, bytes_fault, flags_after, further_in, is_none, is_taken, part_of,
 };
@@ -99,9 +100,5 @@ pub extern "C" fn wulgach_buffer_further(had: &Buffer, moved: u32, further: &mut
     ensures { had.now.address + moved < 2 ^ 64 → MatchOption (spec.further_in had.now moved) ((result ≡ false) × (further.new ≡ further.old))
         (λ at. (result ≡ true) × (further.new ≡ at)) }
 {
-    let Some(at) = further_in(had, moved) else {
-        return false;
-    };
-    *further = at;
-    true
+    write_found(further_in(had, moved), further)
 }

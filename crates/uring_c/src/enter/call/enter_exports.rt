@@ -47,27 +47,17 @@ pub extern "C" fn wulgach_enter_next(
     ensures none { reply_of reply.now ≡ None → (result ≡ negsuc 21)
         × (call.new ≡ call.old) × (command.new ≡ command.old) }
 {
-    let Some(wanted) = take_reply(call, reply) else {
+    let Some(mut enter) = call.enter() else {
         return -22;
     };
-    *command = wanted;
-    0
-}
-
-/// Takes a reply, and returns what the call wants then, unless the reply doesn't answer what it wanted.
-fn take_reply(call: &mut EnterWords, reply: &ReplyWords) -> Option<CommandWords>
-    ensures next { (a : Asked) (log : List Reply) (r : Reply) → AreAfter a log call.old
-        → reply_of reply.now ≡ Some r → is_reply_to (due a log) r ≡ true
-        → (result ≡ Some (words_of_command (due a (r ∷ log)))) × AreAfter a (r ∷ log) call.new }
-    ensures wrong { (a : Asked) (log : List Reply) (r : Reply) → AreAfter a log call.old
-        → reply_of reply.now ≡ Some r → is_reply_to (due a log) r ≡ false → result ≡ None }
-    ensures none { reply_of reply.now ≡ None → result ≡ None }
-    ensures kept { result ≡ None → call.new ≡ call.old }
-{
-    let mut enter = call.enter()?;
-    let reply = reply.reply()?;
-    let wanted = enter.next(reply).ok()?;
+    let Some(reply) = reply.reply() else {
+        return -22;
+    };
+    let Ok(wanted) = enter.next(reply) else {
+        return -22;
+    };
     let words = enter_words(enter);
+    *command = words.wanted;
     *call = words;
-    Some(words.wanted)
+    0
 }

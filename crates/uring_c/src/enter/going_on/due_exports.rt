@@ -3,6 +3,7 @@ ghost use Rattle.std.specs.Prelude.{◌≡◌, ℕ, true, false, List, [], ◌�
 ghost use Rattle.uring_enter.specs.GoingOn.Due as spec;
 ghost use Rattle.uring_enter.specs.GoingOn.Due.{Happening, Noted, FoundBefore, KeepsDue, is_due};
 
+use crate::written::write_found;
 use uring_enter::{Due, DueSpan};
 
 /// None is due.
@@ -44,11 +45,5 @@ pub extern "C" fn wulgach_due_before(due: &Due, number: u64, span: &mut DueSpan)
     ensures may_be { result ≡ is_some (spec.span_before due.now number) }
     ensures span { span.new ≡ unwrap_or (spec.span_before due.now number) span.old }
 {
-    match due.before(number) {
-        Some(found) => {
-            *span = found;
-            true
-        }
-        None => false,
-    }
+    write_found(due.before(number), span)
 }

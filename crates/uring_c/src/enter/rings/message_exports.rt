@@ -4,6 +4,7 @@ ghost use Rattle.uring_enter.specs.Rings.Messages as spec;
 ghost use Rattle.uring_c.specs.Enter.Rings.MessageForm.{word_of_message, fault_of_sending};
 
 use crate::enter::going_on::duty_exports::bit;
+use crate::written::write_found;
 use uring_enter::{
     Message, Receiver, Sending, is_by_slot, may_be_ring, message_steps, sending_of, told_of,
 };
@@ -49,11 +50,5 @@ pub extern "C" fn wulgach_told_of(entry: &Submission, res: i32, message: &mut Me
     ensures is_told { result ≡ is_some (spec.told_of entry.now res) }
     ensures message { message.new ≡ unwrap_or (spec.told_of entry.now res) message.old }
 {
-    match told_of(entry, res) {
-        Some(told) => {
-            *message = told;
-            true
-        }
-        None => false,
-    }
+    write_found(told_of(entry, res), message)
 }

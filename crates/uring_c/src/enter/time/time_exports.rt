@@ -61,7 +61,8 @@ pub extern "C" fn wulgach_timeout_count(entry: &Submission) -> u64
 pub extern "C" fn wulgach_timeout_lasts(time: u64, now: u64, has_clock: bool) -> u64
     ensures { result ≡ lasts time (if has_clock then Some now else None) }
 {
-    lasts(time, if has_clock { Some(now) } else { None })
+    let now = if has_clock { Some(now) } else { None };
+    lasts(time, now)
 }
 
 /// A ring's time begins, and no timeout runs.

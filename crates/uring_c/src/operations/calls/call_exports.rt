@@ -10,6 +10,7 @@ ghost use Rattle.uring_c.specs.Operations.Calls.MeansForm.{words, words_of_means
 ghost use Rattle.uring_crossing.specs.LayerWords.WaitForm.{task_of};
 ghost use Rattle.uring_c.specs.Operations.Calls.ShuttingForm.{word_of_shutting, end_of_shutting, shutting_of};
 
+use crate::written::write_found;
 use uring_crossing::wait_words::task;
 use uring_operations::{
     Fault, Held, Listed, Means, Shutting, Submission, SystemCall, Transfer, Vectors, asks_anew,
@@ -147,11 +148,7 @@ pub extern "C" fn wulgach_asks_anew(is_pipe: bool, access: u32, flags: &mut u32)
     ensures { MatchOption (asking.asks_anew is_pipe access) ((result ≡ false) × (flags.new ≡ flags.old))
         (λ anew. (result ≡ true) × (flags.new ≡ anew)) }
 {
-    let Some(anew) = asks_anew(is_pipe, access) else {
-        return false;
-    };
-    *flags = anew;
-    true
+    write_found(asks_anew(is_pipe, access), flags)
 }
 
 /// Whether a connect that came to this goes on without its call.

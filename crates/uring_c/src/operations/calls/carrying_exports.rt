@@ -7,6 +7,7 @@ ghost use Rattle.uring_c.specs.Operations.Calls.CarryingForm.{res_of_source, wor
 ghost use Rattle.uring_c.specs.Operations.Calls.MeansForm.{fault_of_word};
 
 use crate::operations::calls::call_exports::fault_of;
+use crate::written::write_found;
 use uring_enter::{Source, calls_of, finish_steps, half_in, left_of_buffer, source_of};
 use uring_operations::{
     Locked, ToldLock, asked_descriptors, asked_flags, flags_after, next_of_locking,
@@ -68,11 +69,7 @@ pub extern "C" fn wulgach_asked_flags(is_known: bool, flags: u32, asked: &mut u3
     ensures { MatchOption (asking.asked_flags is_known flags) ((result ≡ false) × (asked.new ≡ asked.old))
         (λ set. (result ≡ true) × (asked.new ≡ set)) }
 {
-    let Some(set) = asked_flags(is_known, flags) else {
-        return false;
-    };
-    *asked = set;
-    true
+    write_found(asked_flags(is_known, flags), asked)
 }
 
 /// Writes which it gets once the call is over, where it was asked, or wasn't, and has these by then, if they are known. False, and nothing is written: it stays as it is.
@@ -86,11 +83,7 @@ pub extern "C" fn wulgach_flags_after(
     ensures { MatchOption (asking.flags_after was_asked is_known flags) ((result ≡ false) × (after.new ≡ after.old))
         (λ set. (result ≡ true) × (after.new ≡ set)) }
 {
-    let Some(set) = flags_after(was_asked, is_known, flags) else {
-        return false;
-    };
-    *after = set;
-    true
+    write_found(flags_after(was_asked, is_known, flags), after)
 }
 
 /// What is done as a request ends that was carried out, or that a cancel has found, of a send without copies or another, the bit of each step.

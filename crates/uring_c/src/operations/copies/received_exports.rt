@@ -3,6 +3,7 @@ ghost use Rattle.std.specs.Prelude.{◌≡◌, ◌+◌, ◌^◌, ◌<◌, is_som
 ghost use Rattle.uring_operations.specs.Calls.Advances as advances;
 ghost use Rattle.uring_operations.specs.Copies.Receipts as receipts;
 
+use crate::written::write_found;
 use uring_operations::{
     Field, Front, Received, Rest, Vector, front_of, moved_by, next_told, rest_of,
 };
@@ -13,13 +14,7 @@ pub extern "C" fn wulgach_next_told(received: &Received, told: u32, field: &mut 
     ensures is_told { result ≡ is_some (receipts.next_told received.now told) }
     ensures field { field.new ≡ unwrap_or (receipts.next_told received.now told) field.old }
 {
-    match next_told(received, told) {
-        Some(next) => {
-            *field = next;
-            true
-        }
-        None => false,
-    }
+    write_found(next_told(received, told), field)
 }
 
 /// Writes what stands in front of a message of so many bytes, in the buffer of a receive that goes on.

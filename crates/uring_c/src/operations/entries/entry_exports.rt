@@ -7,6 +7,7 @@ ghost use Rattle.uring_c.specs.Operations.Entries.EntryForm.{word_of_form};
 ghost use Rattle.uring_c.specs.Enter.Rings.RingForm.{form_of_word};
 
 use crate::operations::entries::form_exports::form_word;
+use crate::written::write_found;
 use uring_crossing::whole_call_memory::EntryWords;
 use uring_enter::{
     Beside, CoreEntry, beside_of, core_entry_between, extra_of, is_one_chain, slot_of, told_of_end,
@@ -110,13 +111,7 @@ pub extern "C" fn wulgach_layout_of(name: u32, control: u64, size: u64, layout: 
     ensures has_room { result ≡ is_some (layouts.layout_of name control size) }
     ensures layout { layout.new ≡ unwrap_or (layouts.layout_of name control size) layout.old }
 {
-    match layout_of(name, control, size) {
-        Some(found) => {
-            *layout = found;
-            true
-        }
-        None => false,
-    }
+    write_found(layout_of(name, control, size), layout)
 }
 
 /// How much of the buffer has something after a message of so many bytes.

@@ -141,7 +141,8 @@ pub extern "C" fn wulgach_signal_after(entry: &Submission, res: i32) -> u32
 pub extern "C" fn wulgach_is_taken_back(signal: u32, knows: bool, most: u64) -> bool
     ensures { result ≡ signals.is_taken_back signal (known_of knows most) }
 {
-    is_taken_back(signal, if knows { Some(most) } else { None })
+    let most = if knows { Some(most) } else { None };
+    is_taken_back(signal, most)
 }
 
 /// Whether a signal that was taken is that of the call.

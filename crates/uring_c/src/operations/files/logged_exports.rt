@@ -9,6 +9,7 @@ ghost use Rattle.uring_operations.specs.Files.Mapped as mapped;
 ghost use Rattle.uring_operations.specs.Files.Mapped.{IsChange};
 ghost use Rattle.uring_c.specs.Operations.Files.LoggedForm.{word_of_logged_call, word_of_written};
 
+use crate::written::write_found;
 use uring_operations::{
     Bits, CallWords, FilePart, LastPart, MappedMemory, SystemCall, asked_at, bits_of_call,
     changed_part, end_result, event_size, follows_link, has_synced_memory, is_entry_name, is_made,
@@ -31,11 +32,7 @@ pub extern "C" fn wulgach_bits_of_call(number: u64, bits: &mut Bits) -> bool
     ensures { MatchOption (calls.bits_of_call number) ((result ≡ false) × (bits.new ≡ bits.old))
         (λ some. (result ≡ true) × (bits.new ≡ some)) }
 {
-    let Some(some) = bits_of_call(number) else {
-        return false;
-    };
-    *bits = some;
-    true
+    write_found(bits_of_call(number), bits)
 }
 
 /// Writes what the arguments of a call are.
@@ -84,11 +81,7 @@ pub extern "C" fn wulgach_asked_at(begin: u64, length: u64, number: u64, at: &mu
     ensures { MatchOption (logged.asked_at begin length number) ((result ≡ false) × (at.new ≡ at.old))
         (λ place. (result ≡ true) × (at.new ≡ place)) }
 {
-    let Some(place) = asked_at(begin, length, number) else {
-        return false;
-    };
-    *at = place;
-    true
+    write_found(asked_at(begin, length, number), at)
 }
 
 /// Returns how many bytes can be read, where at so many places they could.
@@ -217,11 +210,7 @@ pub extern "C" fn wulgach_whole_pages(length: u64, bytes: &mut u64) -> bool
     ensures { MatchOption (mapped.whole_pages length) ((result ≡ false) × (bytes.new ≡ bytes.old))
         (λ all. (result ≡ true) × (bytes.new ≡ all)) }
 {
-    let Some(all) = whole_pages(length) else {
-        return false;
-    };
-    *bytes = all;
-    true
+    write_found(whole_pages(length), bytes)
 }
 
 /// Returns the page of a mapped file that is read next, from this place on, where the next bytes that it has were found here, or came to this error; `room`, or what is past it: none is.
@@ -238,11 +227,7 @@ pub extern "C" fn wulgach_changed_part(before: &[u8], now: &[u8], part: &mut Fil
     ensures change { IsChange before.now now.now (if result then Some part.new else None) }
     ensures unchanged { result ≡ false → part.new ≡ part.old }
 {
-    let Some(bytes) = changed_part(before, now) else {
-        return false;
-    };
-    *part = bytes;
-    true
+    write_found(changed_part(before, now), part)
 }
 
 /// Whether an msync that came to this has synced its pages.
@@ -264,9 +249,5 @@ pub extern "C" fn wulgach_synced_part(
     ensures { MatchOption (mapped.synced_part mapping.now begin length) ((result ≡ false) × (part.new ≡ part.old))
         (λ bytes. (result ≡ true) × (part.new ≡ bytes)) }
 {
-    let Some(bytes) = synced_part(mapping, begin, length) else {
-        return false;
-    };
-    *part = bytes;
-    true
+    write_found(synced_part(mapping, begin, length), part)
 }

@@ -5,6 +5,7 @@ ghost use Rattle.uring_c.specs.Operations.Files.LoggingForm.{word_of_begins, wor
 ghost use Rattle.uring_c.specs.Enter.Rings.RingForm.{form_of_word};
 
 use crate::operations::entries::entry_exports::form_by_word;
+use crate::written::write_found;
 use uring_operations::{
     Submission, SyncedBytes, SyncedKind, Writing, is_logged_kind, is_on_disk, logged_of,
     open_logged, synced_bytes, syncs_itself, unwaited, write_begins,
@@ -48,11 +49,7 @@ pub extern "C" fn wulgach_synced_bytes(entry: &Submission, bytes: &mut SyncedByt
     ensures { MatchOption (spec.synced_bytes entry.now) ((result ≡ false) × (bytes.new ≡ bytes.old))
         (λ part. (result ≡ true) × (bytes.new ≡ part)) }
 {
-    let Some(part) = synced_bytes(entry) else {
-        return false;
-    };
-    *bytes = part;
-    true
+    write_found(synced_bytes(entry), bytes)
 }
 
 /// Whether a path is of the folder that counts as the disk, or below.
@@ -77,9 +74,5 @@ pub extern "C" fn wulgach_unwaited(flags: u32, instead: &mut u32) -> bool
     ensures { MatchOption (spec.unwaited flags) ((result ≡ false) × (instead.new ≡ instead.old))
         (λ other. (result ≡ true) × (instead.new ≡ other)) }
 {
-    let Some(other) = unwaited(flags) else {
-        return false;
-    };
-    *instead = other;
-    true
+    write_found(unwaited(flags), instead)
 }

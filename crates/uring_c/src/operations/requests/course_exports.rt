@@ -17,6 +17,7 @@ ghost use Rattle.uring_enter.specs.Completions.Postings.{Posting, Ended, KeepsPo
 ghost use Rattle.uring_crossing.specs.LayerWords.CourseForm.{fact_of, word_of_act, res_of_act, last_of, word_of_end, is_refused, part_of};
 ghost use Rattle.uring_c.specs.Enter.Completions.ShownForm.{word_of_part, word_of_sought};
 
+use crate::written::write_found;
 use uring_crossing::completion_words::CompletionWords;
 use uring_crossing::course_words::{act_res, act_word, fact, last, part};
 use uring_enter::{
@@ -131,11 +132,7 @@ pub extern "C" fn wulgach_notice_of(entry: &Submission, may_post: bool, res: &mu
     ensures { MatchOption (noticed entry.now may_post) ((result ≡ false) × (res.new ≡ res.old))
         (λ shows. (result ≡ true) × (res.new ≡ shows)) }
 {
-    let Some(shows) = notice_of(entry, may_post) else {
-        return false;
-    };
-    *res = shows;
-    true
+    write_found(notice_of(entry, may_post), res)
 }
 
 /// Whether a result is a success to the links after the request of an entry that was carried out so, and to who posts, by Linux's rules or the manual pages'.

@@ -11,6 +11,7 @@ ghost use Rattle.uring_c.specs.Enter.Rings.RingForm.{form_of_word};
 ghost use Rattle.uring_crossing.specs.LayerWords.WaitForm.{word_of_finding, word_of_step, end_of_step, task_of, word_of_turn, end_of_turn, doing_of};
 
 use crate::operations::entries::entry_exports::form_by_word;
+use crate::written::write_found;
 use uring_crossing::wait_words::{
     doing, finding_word, step_end, step_word, task, turn_end, turn_word,
 };
@@ -154,11 +155,7 @@ pub extern "C" fn wulgach_poll_result(
     ensures { MatchOption (called.poll_result events present was_told) ((result ≡ false) × (res.new ≡ res.old))
         (λ ends. (result ≡ true) × (res.new ≡ ends)) }
 {
-    let Some(ends) = poll_result(events, present, was_told) else {
-        return false;
-    };
-    *res = ends;
-    true
+    write_found(poll_result(events, present, was_told), res)
 }
 
 /// Whether an epoll instance is asked for the poll of an entry.
