@@ -9,14 +9,14 @@ pub use Rattle.std.specs.Int.{w32}
 pub use Rattle.std.specs.List.{cons_option, list_any, zip}
 pub use Rattle.std.specs.Option.{option_and_then, option_map, option_to_list}
 pub use Rattle.std.specs.Ordering.{int_eq}
-pub use Rattle.std.specs.Prelude.{Err, IsOk, Ok, OnOk, Result, int_le, is_err, nat_eq}
+pub use Rattle.std.specs.Prelude.{Err, IsOk, Ok, OnErr, OnOk, Result, int_le, is_err, nat_eq}
 pub use Rattle.uring_core.specs.Core.{Core, FitsApart, HasNoLessMemory, IsCore, IsFinished, IsNoFinish, IsShortFor, ShowsWorld, elements_for_call, held_by, positions_of}
 pub use Rattle.uring_core.specs.Events.{Chose, accepted_by, closes_call, closes_ring, end_told_by, entry_taken_by, filled_by, is_flush, is_load_cq_tail, is_load_head, is_store_cq_head, is_store_tail, opened_by, opens_call, reaped_by, staged_by, started_by, takes_in, takes_position}
 pub use Rattle.uring_core.specs.Histories.{Event, History, IsLawfulApart, by_manual, history_of, world}
 pub use Rattle.uring_core.specs.StepAnswers.{CalledForApart, FinishesApart, IsEnded, IsIssued, OrAgain, begin_answer, end_answer_in, entry_answer, fill_answer, is_spent, issue_answer, next_answer_of, place_answer, reap_answer_of, take_answer, take_answer_in}
 pub use Rattle.uring_core.specs.Stops.{open_taken, reached, some_skips, stops_after, stops_at_word, stops_linux, taken_entries}
 pub use Rattle.uring_core.specs.Told.{begin_told, end_told, fill_told, index_told, issue_told, take_told, with_told}
-pub use Rattle.uring_core.specs.WholeCalls.{IsMadeAsTold, after_begin, after_entries, after_fill, after_head, after_index, after_published, after_reaps, after_takes}
+pub use Rattle.uring_core.specs.WholeCalls.{IsMadeAsTold, after_begin, after_entries, after_fill, after_head, after_index, after_published, after_reaps, after_refused, after_takes}
 pub use Rattle.uring_core.specs.World.{World, at_first, ending_of, filling, happens, reaping, requests_of, staging, stops_there, taking_entry_of, taking_of, taking_on, with_end_of}
 pub use Rattle.uring_core.specs.declared.answer.Answer.{Answer}
 pub use Rattle.uring_core.specs.declared.step.Step.{Step}

@@ -1,6 +1,6 @@
 -- Submission calls, from the layers' contracts to the core's: what a core shows as one opens.
 use Rattle.std.proofs.Common.{◌≡◌, ℕ, ◌+◌, ◌-◌, ◌^◌, ◌<◌, ◌≤◌, Bool, true, false, cond, ◌∷◌, length, None, is_some, refl, sym, ap, subst, ◌∙◌, arith, inl, inr}
-use Rattle.uring_core.proofs.Common.{Completions, Core, Cq, Err, FitsApart, History, IsOk, IsShortFor, KeepsMemory, LinuxRequests, Ok, OnOk, OrAgain, Result, Setup, ShowsCompletions, ShowsSubmission, ShowsWorld, Sq, Submission, World, begin_answer, begin_told, call_length, held_by, is_err, is_spent, ltb-false, requests_of, some_skips, with_begun, world}
+use Rattle.uring_core.proofs.Common.{Completions, Core, Cq, Err, FitsApart, History, IsOk, IsShortFor, KeepsMemory, LinuxRequests, Ok, OnOk, OrAgain, Result, Setup, ShowsCompletions, ShowsSubmission, ShowsWorld, Sq, Submission, World, begin_answer, begin_told, call_length, held_by, is_err, is_spent, ltb-false, requests_of, some_skips, with_begun, world, OnErr}
 use Rattle.uring_rings.specs.SqAnswers as ring
 use Rattle.uring_rings.specs.declared.answers.BeginAnswer.{BeginAnswer}
 use Rattle.uring_rings.specs.declared.answers.BeginAnswer.TheVariants as begin
@@ -114,6 +114,11 @@ call_goes p s' q d count n r opens same fits between shows kept room memory answ
 pub on_success : {A E : Type 0} (r : Result A E) (P : Type 0) → is_err r ≡ false → OnOk r P → P
 on_success (Ok x) P e holds = holds
 on_success (Err x) P e holds = cc
+
+-- what holds of a failure
+pub on_failure : {A E : Type 0} (r : Result A E) (P : Type 0) → is_err r ≡ true → OnErr r P → P
+on_failure (Ok x) P e holds = cc
+on_failure (Err x) P e holds = holds
 
 -- a success is no failure
 pub not_refused : {A E : Type 0} (r : Result A E) → IsOk r → is_err r ≡ true → ⊥

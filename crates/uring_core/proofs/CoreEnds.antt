@@ -1,6 +1,6 @@
 -- What a core shows as a submission call closes, as a request ends, and as it is made.
 use Rattle.std.proofs.Common.{◌≡◌, ℕ, ◌+◌, ◌-◌, ◌^◌, ◌≤◌, ℤ, Bool, true, false, not, cond, eqb, nat_lt, if◌then◌else◌, List, [], ◌∷◌, length, Option, Some, None, refl, sym, ap, subst, ◌∙◌, arith, inl, inr, IfSome}
-use Rattle.uring_core.proofs.Common.{Answer, Call, Completions, Core, Cq, FinishesApart, FitsApart, History, IsFinished, LinuxRequests, Op, Setup, ShowsCompletions, ShowsSubmission, ShowsWorld, Sq, Sqe, Submission, World, cases_Bool, cond_some, dropped, end_answer_in, ending_of, ends_doomed, entries_of, entry_of, eqb-false, eqb-true, held_by, is_cancel, is_outstanding, is_running, issue_answer, issue_told, le-ltb, length-append, lt-ltb, may_start, no_bytes, no_completion, no_submission, operation_of, pending, places_from, positions_of, posts, requests_of, some_skips, sum_by_push, taken, user_data_of, with_closed, with_end_of, with_posted, with_told, word_of, world}
+use Rattle.uring_core.proofs.Common.{Answer, Call, Completions, Core, Cq, FinishesApart, FitsApart, History, IsFinished, LinuxRequests, Op, Setup, ShowsCompletions, ShowsSubmission, ShowsWorld, Sq, Sqe, Submission, World, cases_Bool, cond_some, dropped, end_answer_in, ending_of, ends_doomed, entries_of, entry_of, eqb-false, eqb-true, held_by, is_cancel, is_outstanding, is_running, issue_answer, issue_told, le-ltb, length-append, lt-ltb, may_start, no_bytes, no_completion, no_submission, operation_of, pending, places_from, positions_of, posts, requests_of, some_skips, sum_by_push, taken, user_data_of, with_closed, with_end_of, with_posted, with_told, word_of, world, happens}
 use Rattle.uring_linux.specs.LinuxRequests.{no_request, with_started}
 use Rattle.uring_rules.specs.Rules.{doomed_result, cancel_result}
 use Rattle.uring_entry.specs.declared.operation.Outcome.{Outcome}
@@ -231,6 +231,17 @@ run_goes p d n op answered shows counts h f =
       shows = grind (arith, s, counts, started, between, rules);
       lawful = (ap issue_told called ∙ issue_same p.setup w n, f.lawful);
     }
+
+-- an Issue that is refused changes nothing
+pub issue_refused_goes : (p : Core) (d : Rules) (n : ℕ) (r : Issued)
+    → ((l : LinuxRequests) → ShowsRequests p.dispatch l → r ≡ issued p.dispatch.linux l n)
+    → d ≡ p.dispatch → ((w : World) → happens p.setup w (step.Issue n) (issue_told r) ≡ w)
+    → (h : History) → FitsApart p h
+    → FitsApart (record p { dispatch = d }) ((step.Issue n, issue_told r) ∷ h)
+issue_refused_goes p d n r answered same stays h f =
+    let w = world p.setup h in
+    let called = subst (λ linux. r ≡ issued linux (requests_of w) n) f.shows.rules (answered (requests_of w) f.shows.requests) in
+    rw same (record { shows = rw (stays w) f.shows; lawful = (ap issue_told called ∙ issue_same p.setup w n, f.lawful) })
 
 pub issue_ended_goes : (p : Core) (d : Rules) (q : Cq) (n : ℕ) (res : ℤ) (posted : Posts)
     → ((l : LinuxRequests) → ShowsRequests p.dispatch l → issue.Ended res posted ≡ issued p.dispatch.linux l n)

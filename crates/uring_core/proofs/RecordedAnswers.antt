@@ -61,6 +61,15 @@ pub followed : (r : Result Unit Refusal) (x : Unit) (refusal : Refusal) → r �
     → ⊥
 followed r x refusal ok err = cc
 
+-- what isn't answered Again where a call opens is answered that it does
+pub call_made : (x a given : Answer) (length : ℕ) → x ≡ answer.Call length
+    → given ≡ answer.Call length → (a ≡ answer.Again → ⊥) → OrAgain x a → a ≡ given
+call_made x a given length is same sure told =
+    elim (subst (λ y. OrAgain y a) is told) [
+      | inl e ↦ e ∙ sym same
+      | inr again ↦ absurd (sure again.0)
+    ]
+
 -- another answer than the call and Again is wrong where a call of some positions opens
 pub wrong_call : (x : Answer) (length : ℕ) (a : Answer) → x ≡ answer.Call length → 0 < length
     → (a ≡ answer.Call length → ⊥) → (a ≡ answer.Again → ⊥)

@@ -1,6 +1,6 @@
 -- Rows of steps that are made at once: one entry, one take or one completion more at their end, and what their answers are known to be.
 use Rattle.std.proofs.Common.{◌≡◌, ℕ, suc, ◌+◌, ◌≤◌, ◌<◌, Bool, true, false, cond, List, [], ◌∷◌, ◌++◌, length, take, set, get_or, is_some, refl, sym, ap, subst, ◌∙◌, arith, inl, inr}
-use Rattle.uring_core.proofs.Common.{Answer, CalledForApart, Core, Cqe, Err, FitsApart, HasNoLessMemory, History, IsShortFor, OrAgain, Result, Setup, Sqe, Step, World, after_entries, after_fill, after_index, after_reaps, after_takes, begin_answer, call_length, common_steps, elements_for_call, is_spent, length-take-le, take_answer, take_more, world}
+use Rattle.uring_core.proofs.Common.{Answer, CalledForApart, Core, Cqe, Err, FitsApart, HasNoLessMemory, History, IsShortFor, OrAgain, Result, Setup, Sqe, Step, World, after_entries, after_fill, after_index, after_reaps, after_takes, begin_answer, call_length, common_steps, elements_for_call, is_spent, length-take-le, take_answer, take_more, world, after_refused}
 use Rattle.uring_core.specs.declared.cores.submit.NotSubmitted.{NotSubmitted}
 use Rattle.uring_core.specs.declared.cores.submit.NotSubmitted.TheVariants as refused
 use Rattle.uring_core.specs.declared.step.Step.TheVariants as step
@@ -88,6 +88,12 @@ opened_called w count n told =
     by_tests false false true e = absurd (let f : answer.Call n ≡ answer.Spent = e in cc)
     by_tests false false false (inl e) = e
     by_tests false false false (inr e) = absurd (let f : answer.Call n ≡ answer.Again = e.0 in cc)
+
+-- a call that was refused before its Begin made nothing
+pub nothing_made : (g : Setup) (entries : List Sqe) (refusal : NotSubmitted) (h : History)
+    → ((a : Answer) → refusal ≡ refused.Begin a → ⊥) → after_refused g entries refusal h ≡ h
+nothing_made g entries (refused.Begin a) h before = absurd (before a refl)
+nothing_made g entries _ h before = refl
 
 -- one refusal, and one answer of a Begin that was refused
 pub one_refusal : (a b : NotSubmitted) → ◌≡◌ {A = Result Answer NotSubmitted} (Err a) (Err b)

@@ -17,7 +17,6 @@ mod reap_all;
 mod submit;
 
 use crate::answer::Answer;
-use crate::conversions::{next_answer, reaped};
 use crate::step::Step;
 use crate::stopping::{has_skipped, stop_after, stop_at_word};
 use std::alloc::{AllocError, Global};
@@ -299,16 +298,6 @@ impl Core {
         Answer::Tail(self.cq.load_tail())
     }
 
-    /// The application copies the next completion.
-    fn reap(&mut self) -> Answer
-        ensures setup { self.new.setup ≡ self.old.setup }
-        ensures fits { (h : History) → FitsApart self.old h
-            → FitsApart self.new ((step.Reap, result) ∷ h) }
-        ensures memory { HasNoLessMemory self.old self.new }
-    {
-        reaped(self.reap_next())
-    }
-
     /// The next completion, if the application copies one; else nothing changes.
     fn reap_next(&mut self) -> Option<Cqe>
         ensures setup { self.new.setup ≡ self.old.setup }
@@ -342,16 +331,6 @@ impl Core {
         }
         self.is_closed = true;
         Answer::Shut
-    }
-
-    /// The dispatcher asks for the least request that can be issued.
-    fn ask_next(&mut self) -> Answer
-        ensures setup { self.new.setup ≡ self.old.setup }
-        ensures fits { (h : History) → FitsApart self.old h
-            → FitsApart self.new ((step.Next, result) ∷ h) }
-        ensures memory { HasNoLessMemory self.old self.new }
-    {
-        next_answer(self.next())
     }
 }
 

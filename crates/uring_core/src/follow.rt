@@ -61,7 +61,12 @@ impl Core {
             → IsErrOf result Refusal.NoMemory → ⊥ }
     {
         match step {
-            Step::Begin { count } => self.follow_begin(memory, count, given),
+            Step::Begin { count } => match self.would_begin(count) {
+                Answer::Call(length) if length > 0 => {
+                    self.follow_call(memory, count, length, given)
+                }
+                _ => self.follow_sure(Step::Begin { count }, given),
+            },
             Step::Finish { number } => self.follow_finish(number, given),
             _ => self.follow_sure(step, given),
         }
@@ -86,36 +91,6 @@ impl Core {
     {
         let wanted = self.step(step);
         compared(wanted, given)
-    }
-
-    /// Follows a Begin.
-    fn follow_begin<M: Memory>(
-        &mut self,
-        memory: &M,
-        count: u32,
-        given: Answer,
-    ) -> Result<(), Refusal>
-        ensures setup { self.new.setup ≡ self.old.setup }
-        ensures ok { OnOk result
-            ((h : History) → FitsApart self.old h
-            → FitsApart self.new ((step.Begin count, given) ∷ h)) }
-        ensures refused { IfErr result
-            (λ refusal. (h : History) → FitsApart self.old h
-            → IsRefused (CalledForApart self.old.setup (world self.old.setup h) (step.Begin count)) given refusal) }
-        ensures resumed { IfErr result
-            (λ refusal. (h : History) → FitsApart self.old h
-            → FitsApart self.new (resumed (step.Begin count) refusal h)) }
-        ensures no_memory { IsErrOf result Refusal.NoMemory → (h : History) → FitsApart self.old h
-            → IsShortOfMemory self.old (world self.old.setup h) (step.Begin count) }
-        ensures memory { HasNoLessMemory self.old self.new }
-        ensures granted { (h : History) (n : ℕ) → FitsApart self.old h → M.grants memory.now n
-            → elements_for self.old (world self.old.setup h) (step.Begin count) ≤ n
-            → IsErrOf result Refusal.NoMemory → ⊥ }
-    {
-        match self.would_begin(count) {
-            Answer::Call(length) if length > 0 => self.follow_call(memory, count, length, given),
-            _ => self.follow_sure(Step::Begin { count }, given),
-        }
     }
 
     /// Follows a Begin that opens a call of this many positions, unless memory is refused.

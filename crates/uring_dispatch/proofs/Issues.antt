@@ -6,21 +6,22 @@ use Rattle.uring_dispatch.specs.declared.answers.Finished.TheVariants as finish
 use Rattle.uring_dispatch.specs.declared.answers.Posts.{Posts}
 use Rattle.uring_dispatch.specs.IssueAndFinish.{issued, issued_waiting, finished, posts_of, posted_by}
 
+none_faulty : {X : Type 0} (b : Bool) (x : X) → None ≡ (if b then None else Some x) → b ≡ true
+none_faulty true x is = refl
+none_faulty false x is = cc
+
+some_right : {X : Type 0} (b : Bool) (x y : X) → Some y ≡ (if b then None else Some x)
+    → (b ≡ false) × (y ≡ x)
+some_right true x y is = cc
+some_right false x y is = (refl, cc)
+
 -- what a kept operation says of its entry
 pub op_none : (e : Sqe) → None ≡ op_of e → is_faulty e ≡ true
-op_none e is = go (is_faulty e) is
-  where
-    go : (b : Bool) → None ≡ (if b then None else Some (operation_of e)) → b ≡ true
-    go true x = refl
-    go false x = cc
+op_none e is = none_faulty (is_faulty e) (operation_of e) is
 
 pub op_some : (e : Sqe) (op : Op) → Some op ≡ op_of e
     → (is_faulty e ≡ false) × (op ≡ operation_of e)
-op_some e op is = go (is_faulty e) is
-  where
-    go : (b : Bool) → Some op ≡ (if b then None else Some (operation_of e)) → (b ≡ false) × (op ≡ operation_of e)
-    go true x = cc
-    go false x = (refl, cc)
+op_some e op is = some_right (is_faulty e) (operation_of e) op is
 
 pub issued_faulty : (r : Requests) (n : ℕ) → n < length r.accepted → is_faulty (entry_of r n) ≡ true
     → Ended (negsuc 21) ≡ issued_waiting r n

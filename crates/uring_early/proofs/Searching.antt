@@ -1,5 +1,5 @@
 -- That a search covers all moves: `passed_one` and `dropped_one` where the next mark is passed or not, and `taken_all` where an operation takes effect first.
-use Rattle.std.proofs.Common.{◌≡◌, ◌<◌, ◌+◌, ℕ, true, false, not, List, [], ◌∷◌, ◌++◌, Option, Some, None, length, map, drop, is_some, refl, sym, ap, subst, ◌∙◌, inl, inr, arith, add-one, append-nil}
+use Rattle.std.proofs.Common.{◌≡◌, ◌<◌, ◌≤◌, ◌+◌, ℕ, true, false, not, List, [], ◌∷◌, ◌++◌, Option, Some, None, length, map, drop, is_some, refl, sym, ap, subst, ◌∙◌, inl, inr, arith, add-one, append-nil}
 use Rattle.uring_early.proofs.Common.{AreTakers, Contains, End, Ends, EndsBy, Goes, GoesOn, Idle, IsPlaced, IsSearch, IsWalk, Mark, MayTake, Move, OneGoes, Outcome, Pass, Passes, PassesAt, Replaces, Running, Seat, Standing, Starts, Take, Taker, at_first, awaits, awaits_at, drop-cons, drop_all, left_at, length-replicate, look, op_of, passed, passed_at, slice_index_or, taken_by, took, took_at}
 use Rattle.std.proofs.lemmas.List.Elements.{Contains-append_left, Contains-append_right, Contains-append_cases, Contains-push, Contains-push_cases}
 use Rattle.uring_early.proofs.Plain.{after_length}
@@ -161,6 +161,10 @@ taken_all count marks s takers old new placed waits are more = record {
 pub last_placed : (count : ℕ) (marks : List Mark) (rest : List Seat) (s : Seat)
     → IsSearch count marks (rest ++ s ∷ []) → IsPlaced count marks s
 last_placed count marks rest s search = (search.right s (Contains-push rest s)).0
+
+-- a place that isn't after all marks
+pub before_end : (place many : ℕ) → place ≤ many → (place ≡ many → ⊥) → place < many
+before_end place many within other = omega arith
 
 pub goes_on : (count : ℕ) (marks : List Mark) (rest new : List Seat) (s : Seat)
     → IsSearch count marks (rest ++ s ∷ []) → Replaces count marks s rest new → IsSearch count marks new

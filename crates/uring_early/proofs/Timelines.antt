@@ -1,5 +1,6 @@
 -- A search's moves are a timeline of the history, and a timeline whose effects wait is moves of the search.
 use Rattle.std.proofs.Common.{◌≡◌, ◌==◌, ℕ, ℤ, Bool, true, false, not, is_some, List, [], ◌∷◌, ◌++◌, Option, Some, None, if◌then◌else◌, refl, sym, ap, subst, ◌∙◌, append-nil, arith}
+use Rattle.std.proofs.lemmas.Bool.{false≢true}
 use Rattle.uring_early.proofs.Common.{Answer, EffectsWait, End, EndsAsTaken, EndsLast, Event, FileContents, FitsEnd, Goes, History, IsFated, IsFound, IsLawfulApart, IsLawfulEarly, IsLawfulLate, IsOutcome, IsTimely, IsWalk, Makes, Mark, MayTake, Move, Op, Outcome, Pass, Passes, Running, Setup, Standing, Step, Take, Takes, TakesEffect, Timeline, at_first, awaits, effect_of, end_in, ends_in_effect, eq-eqb, eqb-true, files_at, found_by, history_of, history_of_cons, is_end_of, is_running, made_in, mark_by, marks_after, operation_at, operation_running, passed, requests_in, reverse, reverse-reverse, same_Some, start_mark, taken_of, took}
 use Rattle.uring_core.specs.declared.step.Step.TheVariants as step
 use Rattle.uring_core.specs.declared.answer.Answer.TheVariants as answer
@@ -150,7 +151,7 @@ next_by_end (step.Finish k, answer.Ended res bytes) m t later ends free = record
   is = refl;
   free = ap (effect_of t) (sym (eqb-true m k ends)) ∙ free;
 }
-next_by_end _ m t later ends free = absurd cc
+next_by_end _ m t later ends free = absurd (false≢true ends)
 
 next_by : (g : Setup) (e : Event) (t : Timeline) (later : List Event) → IsTimely g t → EndsLast t e
     → IsNext t (e ∷ later)

@@ -321,11 +321,12 @@ outcome_other files op outcome (inr failed) =
 -- No operation is called for to end with ENOMEM.
 
 called_granted : (most : ℕ) (res : ℤ) → IsCalled most res → res ≡ neg_ℤ ENOMEM → ⊥
-called_granted most res (inl (inl n)) is = absurd (let f : pos n.0 ≡ neg_ℤ ENOMEM = sym n.2 ∙ is in cc)
+called_granted most res (inl (inl n)) is =
+    absurd (true≢false (ap (λ r. int_eq r (neg_ℤ ENOMEM)) (sym is ∙ n.2)))
 called_granted most res (inl (inr long)) is =
-    absurd (let f : neg_ℤ EFBIG ≡ neg_ℤ ENOMEM = sym long ∙ is in cc)
+    absurd (true≢false (ap (λ r. int_eq r (neg_ℤ ENOMEM)) (sym is ∙ long)))
 called_granted most res (inr none) is =
-    absurd (let f : neg_ℤ EBADF ≡ neg_ℤ ENOMEM = sym none ∙ is in cc)
+    absurd (true≢false (ap (λ r. int_eq r (neg_ℤ ENOMEM)) (sym is ∙ none)))
 
 pub result_granted : (files : List FileContents) (op : Op) → (result_of files op).res ≡ neg_ℤ ENOMEM → ⊥
 result_granted files op is =

@@ -1,6 +1,7 @@
 -- Which events go on from a part, and what is so of those that do.
 use Rattle.std.proofs.Common.{◌≡◌, ℕ, ◌+◌, ◌-◌, ◌≤◌, ℤ, pos, Bool, true, false, not, ◌&&◌, ◌||◌, cond, List, [], ◌∷◌, ◌++◌, length, Option, Some, None, if◌then◌else◌, refl, sym, ap, subst, ◌∙◌, inl, inr, arith, rules}
 use Rattle.uring_fill.proofs.Common.{Answer, Begins, CalledForApart, Completions, Core, Cqe, Ending, Event, FinishFits, FinishesApart, GivesAllowed, History, IsErrorOf, IsIdle, IsLawfulApart, IsPart, QuietResult, Requests, Setup, Sqe, StandsAt, TellsNext, World, and_parts, cancel_result, cases_lt, completion_for, completions_in, count_result, doomed_result, drop, ends_doomed, entry_of, has_ended, has_started, is_after_failure, is_drain, is_hidden, is_issuable, is_outstanding, is_running, is_some, is_stale, is_target, length-drop, may_start, neg_ℤ, no_bytes, or_left, or_parts, or_right, posts, put_by_flush, requests_of, result_for, seen_in, slice_get, target_of, targets_of, with_count, with_error, with_flushed, with_none, with_posted, world}
+use Rattle.std.proofs.lemmas.Bool.{false≢true}
 use Rattle.std.proofs.lemmas.Bool.Decides.{Decides-int_eq}
 use Rattle.uring_entry.specs.Preparation.{is_faulty, is_cancel, is_cancel_all}
 use Rattle.uring_entry.specs.Success.{is_success, posts_completion}
@@ -356,7 +357,7 @@ hidden_event g h (step.Issue n, a) lawful hidden = idle_one _ (record { hidden =
 hidden_event g h (step.Finish n, answer.Ended res bytes) lawful hidden = finish_end n res bytes
 hidden_event g h (step.Finish n, a) lawful hidden = idle_one _ (record { hidden = refl; same = refl })
 hidden_event g h (step.Flush, a) lawful hidden = flush a
-hidden_event g h (s, a) lawful hidden = absurd cc
+hidden_event g h (s, a) lawful hidden = absurd (false≢true hidden)
 
 -- Steps that are seen.
 

@@ -21,7 +21,7 @@ module _ (g : Setup) (w : World) (s c : List ℕ) (e : List Ending) (d : Drains)
   pub issue_same : (n : ℕ) → issue_answer g (with_lists w s c e d) n ≡ issue_answer g w n
   issue_same n =
       let l : LinuxRequests = requests_of w in
-      cc (outstanding_same l.requests s c e a n, running_same l.requests s c e a n, ends_doomed_same l s c e a g.linux n, may_start_same l s c e a g.linux d same n, cancel_result_same l s c e a g.linux n)
+      rw (outstanding_same l.requests s c e a n, running_same l.requests s c e a n, ends_doomed_same l s c e a g.linux n, may_start_same l s c e a g.linux d same n, cancel_result_same l s c e a g.linux n)
 
   called_same : files_of g w ≡ files_of g (with_lists w s c e d) → (x : Step) (b : Answer) → CalledFor g w x b
       → CalledFor g (with_lists w s c e d) x b

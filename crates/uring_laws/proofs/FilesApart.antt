@@ -1,7 +1,7 @@
 -- The laws of `files.rt` on lists of operations alone: the file of a descriptor is made by the operations on it,
 -- and operations that were dealt out by their file can be carried out at places with files of their own.
 -- From the lemmas of uring_files that each file stands by itself. Stable: other crates may import what is pub.
-use Rattle.std.proofs.Common.{◌≡◌, ℕ, ◌<◌, ◌==◌, ℤ, Bool, true, false, cond, List, [], ◌∷◌, map, refl, sym, ap, ◌∙◌, inl, inr, arith, subst}
+use Rattle.std.proofs.Common.{◌≡◌, ℕ, ◌<◌, ◌==◌, ℤ, Bool, true, false, cond, List, [], ◌∷◌, map, refl, sym, ap, ◌∙◌, inl, inr, subst}
 use Rattle.uring_laws.proofs.Common.{AreDone, Done, Ending, FileByItsEnds, FileContents, IsByFile, IsOutcome, Op, Outcome, Requests, after, both_ways, cond-true, cond_both, done_at, ends_of, entry_of, eq-eqb, false_from_ne_true, file_of, files_after, files_left, filter, operation_of}
 use Rattle.uring_files.specs.Laws.{AgreeAt, is_on}
 use Rattle.uring_files.proofs.StandAlone.{others_stay, files_apart, ends_apart}
@@ -36,11 +36,21 @@ after_is_left r files [] = refl
 after_is_left r files (e ∷ later) =
     after_is_left r (after files (operation_of (entry_of r e.number)) e.res) later
 
+-- the values of a function that pass a test are its values at the items that do
+with_values : {A B : Type 0} (f : A → B) (keeps : B → Bool) (xs : List A)
+    → map f (filter (λ x. keeps (f x)) xs) ≡ filter keeps (map f xs)
+with_values f keeps [] = refl
+with_values {A = A} f keeps (x ∷ later) =
+    at_first (keeps (f x)) (filter (λ y. keeps (f y)) later)
+    ∙ ap (λ ys. cond (keeps (f x)) (f x ∷ ys) ys) (with_values f keeps later) where
+      at_first : (kept : Bool) (ys : List A) → map f (cond kept (x ∷ ys) ys) ≡ cond kept (f x ∷ map f ys) (map f ys)
+      at_first true ys = refl
+      at_first false ys = refl
+
 own_ends : (r : Requests) (ends : List Ending) (fd : ℤ)
     → map (done_of r) (ends_of fd r ends) ≡ filter (λ d. is_on fd d.op) (map (done_of r) ends)
 unfolding done_of
-own_ends r [] fd = refl
-own_ends r (e ∷ later) fd = grind (arith, own_ends r later fd)
+own_ends r ends fd = with_values (done_of r) (λ d. is_on fd d.op) ends
 
 pub after_by_own : FileByItsEnds
 after_by_own r files ends fd =

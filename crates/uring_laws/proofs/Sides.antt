@@ -1,5 +1,5 @@
 -- The steps on the submission ring change places with those on requests and completions: `submission_then_rest` and `rest_then_submission`. Neither side reads what the other writes, by either's rules.
-use Rattle.std.proofs.Common.{rules, ◌≡◌, ℕ, ℤ, Bool, true, false, List, ◌∷◌, refl, sym, subst, ap, ◌∙◌}
+use Rattle.std.proofs.Common.{◌≡◌, ℕ, ℤ, Bool, true, false, List, ◌∷◌, refl, sym, subst, ap, ◌∙◌}
 use Rattle.uring_laws.proofs.Common.{Answer, CalledFor, Change, ChangePlaces, Completions, Drains, Ending, History, IsLawful, IsOnRest, IsOnSubmission, Requests, RestThenSubmission, Setup, Step, Submission, SubmissionThenRest, World, cancels, change_of, dooms, drains_ended, happens, no_bytes, refuses, requests_of, with_end_of, world}
 use Rattle.uring_core.proofs.Changes.{takes, drops}
 use Rattle.uring_rules.specs.Rules.{with_issued_end}
@@ -43,7 +43,7 @@ on_submission g w s a (takes entry call place opened left at valid) on =
     record { alone = rw opened; beside = λ x. rw opened }
 on_submission g w s a (drops call place opened left at invalid) on =
     record { alone = rw opened; beside = λ x. rw opened }
-on_submission g w s a _ on = search rules
+on_submission g w s a _ on = search
 
 -- an end as a request is issued changes neither entries nor cuts, by either's rules
 issued_alone : (linux : Bool) (r : Requests) (n : ℕ) (res : ℤ)
@@ -72,7 +72,7 @@ on_rest g w t b (dooms n outstanding idle doomed) on =
     record { alone = ends_alone g w n _ no_bytes; beside = λ x. refl }
 on_rest g w t b (cancels n outstanding idle spared ready cancel) on =
     record { alone = ends_alone g w n _ no_bytes; beside = λ x. refl }
-on_rest g w t b _ on = search rules
+on_rest g w t b _ on = search
 
 -- Answers.
 
@@ -83,12 +83,12 @@ CalledAlike g v w s a = (CalledFor g v s a → CalledFor g w s a) × (CalledFor 
 sub_called : (g : Setup) (w : World) (x : Rest) (s : Step) (a : Answer) → IsOnSubmission s
     → CalledAlike g w (with_rest w x) s a
 sub_called g w x (step.Issue n) a on = absurd on
-sub_called g w x _ a on = search rules
+sub_called g w x _ a on = search
 
 rest_called : (g : Setup) (w : World) (x : Submission) (t : Step) (b : Answer) → IsOnRest t
     → CalledAlike g w (submitted w x) t b
 rest_called g w x step.Take b on = absurd on
-rest_called g w x _ b on = search rules
+rest_called g w x _ b on = search
 
 record Sides (g : Setup) (h : History) (s t : Step) (a b : Answer) : Type 0 where
   later : ChangePlaces g h (s, a) (t, b)

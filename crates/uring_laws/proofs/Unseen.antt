@@ -1,6 +1,6 @@
 -- A start changes places with each step that is on the rings, by either's rules: `start_then_rings` and `rings_then_start`.
 -- Such a step asks nobody who runs; of the requests it changes at most which are accepted, after all that there are.
-use Rattle.std.proofs.Common.{rules, ◌≡◌, ℕ, ◌<◌, true, not, List, ◌∷◌, length, Some, sym, subst, ap, ◌∙◌}
+use Rattle.std.proofs.Common.{◌≡◌, ℕ, ◌<◌, true, not, List, ◌∷◌, length, Some, sym, subst, ap, ◌∙◌}
 use Rattle.uring_laws.proofs.Common.{Answer, CalledFor, Change, Drains, IsBetween, IsLawful, IsLawfulApart, IsOnRings, LinuxRequests, RingsThenStart, Setup, Sqe, StartThenRings, Step, World, and_parts, change_of, ending_of, entries_from, happens, has_ended, ltb-true, refuses, requests_of, sound_of, world}
 use Rattle.uring_core.proofs.Changes.{takes, drops, closes}
 use Rattle.uring_laws.proofs.Growth.{IsCut}
@@ -15,7 +15,7 @@ use Rattle.uring_laws.proofs.WholeLaws.{lawful_apart}
 called_either : (g : Setup) (w : World) (n : ℕ) (s : Step) (a : Answer) → IsOnRings s
     → (CalledFor g (begun w n) s a → CalledFor g w s a) × (CalledFor g w s a → CalledFor g (begun w n) s a)
 called_either g w n (step.Issue m) a on = absurd on
-called_either g w n _ a on = search rules
+called_either g w n _ a on = search
 
 -- Both orders make the same.
 
@@ -27,7 +27,7 @@ made_either g w n s a (takes entry call place opened left at valid) on = rw open
 made_either g w n s a (drops call place opened left at invalid) on = rw opened
 made_either g w n s a (closes accepted missed head call opened all told) on =
     rw opened (ap (λ (d : Drains). record (ending_of g (begun w n) (Some call)) { drains = d }) (drains_called_started g.linux (requests_of w) n (entries_from w.submission call.count)))
-made_either g w n s a _ on = search rules
+made_either g w n s a _ on = search
 
 -- Who could start before such a step can start after it, and the other way round.
 
@@ -48,7 +48,7 @@ module _ (g : Setup) (w : World) (n : ℕ) (cut : IsCut w.requests) (so : g.linu
   start_either s a (closes accepted missed head call opened all told) on =
       let entries : List Sqe = entries_from w.submission call.count in
       subst (λ o. Either (ending_of g w o)) (sym opened) (start_kept (requests_of w) entries cut n within g.linux so, start_was (requests_of w) entries cut n within g.linux so)
-  start_either s a _ on = search rules
+  start_either s a _ on = search
 
 pub start_then_rings : (g : Setup) → StartThenRings g
 start_then_rings g h n s a on lawful =

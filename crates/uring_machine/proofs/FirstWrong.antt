@@ -1,6 +1,8 @@
 -- The first wrong answer of a list, and what is told of a list where an answer was refused.
-use Rattle.std.proofs.Common.{◌≡◌, ℕ, ◌<◌, ◌≤◌, List, length, take, get_or, Option, Some, refl, sym, subst, arith}
+use Rattle.std.proofs.Common.{◌≡◌, ℕ, ◌+◌, ◌<◌, ◌≤◌, List, ◌∷◌, length, take, get_or, Option, Some, refl, sym, subst, arith}
 use Rattle.uring_machine.proofs.Common.{CalledFor, CalledForApart, Event, IfOk, IfOk-weaker, IsFirstWrongAnswer, IsFirstWrongApart, IsLawful, IsLawfulApart, IsOk, IsRefused, MatchOption, Ok, OnOk, Refusal, Result, Setup, history_of, world}
+use Rattle.std.proofs.lemmas.List.{take_more}
+use Rattle.uring_core.proofs.Following.{history_of_snoc}
 use Rattle.std.specs.declared.alloc.AllocError.{AllocError}
 use Rattle.std.proofs.lemmas.Option.{slice_get_read}
 use Rattle.uring_core.specs.declared.wanted.Wanted.{Wanted}
@@ -24,6 +26,13 @@ pub goes_on : (refusal : Refusal) (place : ℕ) (r : Result (Option (ℕ × Want
     → IsOk r
 goes_on (Wrong w) place r told some = subst (λ k. IsOk k) (sym (told w refl)) refl
 goes_on NoMemory place r told some = absurd (some refl)
+
+-- one event more
+pub history_next : (events : List Event) (place : ℕ) (e : Event) → place < length events
+    → e ≡ get_or events place e
+    → history_of (take (place + 1) events) ≡ e ∷ history_of (take place events)
+history_next events place e within at =
+    rw (take_more events place e within, ← at) (history_of_snoc (take place events) e)
 
 pub first_wrong_at : (g k : Setup) (events : List Event) (place : ℕ) (e : Event) (refusal : Refusal) (w : Wanted)
     → k ≡ g → place < length events → e ≡ get_or events place e

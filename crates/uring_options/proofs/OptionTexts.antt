@@ -1,6 +1,6 @@
 -- What the option of a name gives of words that clap finds no fault in.
 use Rattle.std.proofs.Common.{◌≡◌, ◌∙◌, ◌<◌, ◌≤◌, ◌^◌, ℕ, Bool, true, false, cond, List, [], ◌∷◌, Option, Some, None, Result, Ok, refl, sym, ap, subst, inl, inr, arith}
-use Rattle.uring_options.proofs.Common.{CommandOption, Gives, IsGiven, IsWithin, ParsesUnsigned, Row, Rule, TakesOption, TakesOptions, Text, codes, find, flag, number, or_cases, parser_for, value_kinds, values_kinds}
+use Rattle.uring_options.proofs.Common.{CommandOption, Gives, IsGiven, IsWithin, ParsesUnsigned, Row, Rule, TakesOption, TakesOptions, Text, codes, find, flag, number, or_cases, parser_for, values_kinds}
 use Rattle.clap.specs.Walk.{rows_of}
 use Rattle.std.specs.Str.{bytes_eq}
 use Rattle.std.proofs.lemmas.Slice.Eq.{bytes_eq-Decides}
@@ -37,14 +37,14 @@ among_parsers id (b ∷ rules) a (inr later) named =
     go true among = inr among
     go false among = among
 
+passes_test : {X : Type 0} (test : Bool) (x : X) → cond test [] (x ∷ []) ≡ [] → test ≡ true
+passes_test true x none = refl
+passes_test false x none = absurd cc
+
 first_passes : (ignore_case : Bool) (p : ValueParser) (t : Text) (rest : List Text)
     → values_kinds ignore_case p (t ∷ rest) ≡ [] → accepts ignore_case p t ≡ true
 first_passes ignore_case p t rest passes =
-    go (accepts ignore_case p t) refl (neither_fails _ _ passes).0
-  where
-    go : (b : Bool) → accepts ignore_case p t ≡ b → value_kinds ignore_case p t ≡ [] → accepts ignore_case p t ≡ true
-    go true e h = e
-    go false e h = absurd cc
+    passes_test (accepts ignore_case p t) _ (neither_fails _ _ passes).0
 
 -- the rules have one of this option's name, with its parser
 abbrev pub parsers_for : List Rule → CommandOption → List ValueParser

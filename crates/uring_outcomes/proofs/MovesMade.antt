@@ -115,6 +115,9 @@ ends_at_once g w n files left res =
       };
     }
 
+run_apart : answer.Run ≡ answer.Again → ⊥
+run_apart e = cc
+
 issue_made : (g : Setup) (w : World) (n : ℕ) (files : List FileContents) (left : List (List Sqe)) (outstanding running doomed ready cancel : Bool)
     → (outstanding && not running && (doomed || ready)) ≡ true
     → IssueMade (by_manual g) w n files left
@@ -125,7 +128,7 @@ issue_made g w n files left true false true ready cancel can =
 issue_made g w n files left true false false true true can =
     ends_at_once g w n files left (cancel_result w.requests n)
 issue_made g w n files left true false false true false can = record {
-  not_again = λ e. cc;
+  not_again = run_apart;
   moves = λ before. refl;
   shows = refl;
   aside = record { submission = refl; closed = refl; accepted = refl; reaped = refl; stored = refl };

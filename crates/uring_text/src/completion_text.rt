@@ -4,7 +4,7 @@ ghost use Rattle.std.specs.Prelude.{◌≡◌, ◌++◌, ℕ, OnOk, IsOk, string
 ghost use Rattle.uring_text.specs.Tokens.{hex_or_dash};
 ghost use Rattle.uring_text.specs.Completions.{completion_text, trimmed};
 
-use crate::growth::{TextMemory, push_hex, push_number, push_signed, push_text};
+use crate::growth::{TextMemory, push_hex, push_named, push_signed, push_text};
 use std::alloc::{AllocError, Global};
 use uring_entry::Cqe;
 
@@ -26,8 +26,7 @@ pub fn push_completion_in<M: TextMemory>(
         (string_bytes text.new ≡ string_bytes text.old ++ completion_text completion.now) }
     ensures granted { ((n : ℕ) → M.grants memory.now n) → IsOk result }
 {
-    push_text(memory, text, "cqe ")?;
-    push_number(memory, text, completion.user_data())?;
+    push_named(memory, text, "cqe ", completion.user_data())?;
     push_text(memory, text, " ")?;
     push_signed(memory, text, completion.res())?;
     push_text(memory, text, " ")?;

@@ -4,7 +4,7 @@ ghost use Rattle.std.specs.Prelude.{◌≡◌, ◌≤◌, ◌++◌, ℕ, OnOk, I
 ghost use Rattle.uring_text.specs.Flaws.{column_after, found_text, stop_text, flaw_text};
 ghost use Rattle.uring_text.specs.Places.{place_text};
 
-use crate::growth::{TextMemory, push_number, push_text};
+use crate::growth::{TextMemory, push_named, push_text};
 use crate::place::{Place, place_text};
 use crate::reach::Reach;
 use crate::visible::push_visible_in;
@@ -58,8 +58,7 @@ fn push_stop<M: TextMemory>(
         ≡ string_bytes text.old ++ stop_text column (map (λ token. token.now) tokens.now)) }
     ensures granted { ((n : ℕ) → M.grants memory.now n) → IsOk result }
 {
-    push_text(memory, text, "column ")?;
-    push_number(memory, text, column as u64)?;
+    push_named(memory, text, "column ", column as u64)?;
     push_text(memory, text, ": ")?;
     push_found(memory, text, tokens)
 }

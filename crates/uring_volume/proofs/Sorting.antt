@@ -127,3 +127,10 @@ pub count_next : {X : Type 0} (p : X → Bool) (xs ys : List X) (i n : ℕ) (x :
 count_next p xs ys i n x b within is size at passed =
     ap (λ k. k + cond b 1 0) size
     ∙ sym (length-filter_more p xs i x within ∙ ap (λ q. length (filter p (take i xs)) + cond q 1 0) (ap p (stands p xs ys i x within is at) ∙ passed))
+
+-- of the elements up to index i no more pass than there are
+pub no_more : {X : Type 0} (p : X → Bool) (xs : List X) (i n : ℕ) → i < length xs
+    → n ≡ length (filter p (take i xs)) → n ≤ i
+no_more p xs i n within size =
+    let both : length (filter p (take i xs)) + length (filter (λ x. not (p x)) (take i xs)) ≡ i = sizes p (take i xs) ∙ length-take-le i xs (omega arith) in
+    omega (arith, both, size)

@@ -1,6 +1,6 @@
 -- A new table of either ring: nothing was put, and every place is free.
 use Rattle.uring_words.proofs.Common.{IsPowerOfTwo, StandFrom, length-map, length-replicate, replicate}
-use Rattle.std.proofs.Common.{◌≡◌, ℕ, zero, suc, ◌+◌, ◌<◌, ◌≤◌, ◌^◌, ◌%◌, List, [], ◌∷◌, length, map, refl, ◌∙◌, arith}
+use Rattle.std.proofs.Common.{◌≡◌, ℕ, zero, suc, ◌+◌, ◌<◌, ◌≤◌, ◌^◌, ◌%◌, List, [], ◌∷◌, length, map, refl, ◌∙◌, arith, ap}
 use mathlib.Core.Option.{Option, some}
 use lib.ListN.{get_elem?}
 use Rattle.uring_words.proofs.RingLists.{ListsAgree}
@@ -41,3 +41,9 @@ module _ {S : Type 0} where
       let all : 0 + length (replicate size blank) ≡ length {A = S} [] + size = omega arith in
       let stand_free = all_stand start size 0 blank power in
       assumption tt
+
+-- the words and the places of a table fit where all of its elements do
+pub both_fit : {X : Type 0} (xs : List X) (x : X) (count size n : ℕ) → xs ≡ replicate size x
+    → count + size ≤ n → (count ≤ n) × (length xs ≤ n)
+both_fit xs x count size n is room =
+    (omega (arith, room), omega (arith, room, ap length is, length-replicate size x))

@@ -1,5 +1,5 @@
 -- One worker more after fresh ones, in order.
-use Rattle.std.proofs.Common.{◌≡◌, ℕ, ◌<◌, List, [], ◌∷◌, ◌++◌, length, get_or, ◌≤◌, inl, inr, refl, sym, subst, ap, ◌∙◌, arith}
+use Rattle.std.proofs.Common.{◌≡◌, ℕ, ◌<◌, List, [], ◌∷◌, ◌++◌, length, get_or, ◌≤◌, inl, inr, refl, sym, subst, ap, ◌∙◌, arith, ◌+◌}
 use Rattle.std.proofs.Math.Seq.{get_or-append_seam}
 use Rattle.std.proofs.lemmas.Bool.{cases_lt}
 use Rattle.std.proofs.lemmas.List.{get_or_append_left, length-append, length-replicate}
@@ -72,3 +72,6 @@ pub opened_next : {later mid : List WorkLanes} {more those : List Worker} (files
     → AreOpened files later more
 opened_next files lanes workers l w with_lanes same_lanes with_worker same_workers o jobs results jobs_hold results_hold pairing fresh =
     rw (with_lanes, same_lanes, with_worker, same_workers) (add_opened files lanes workers l w o jobs results jobs_hold results_hold pairing fresh)
+
+pub room_for_one : (n m : ℕ) → n + 1 ≤ m → n < m
+room_for_one n m room = omega arith

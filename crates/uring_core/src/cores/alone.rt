@@ -7,6 +7,7 @@ ghost use Rattle.uring_core.specs.declared.step.Step.TheVariants as step;
 
 use super::Core;
 use crate::answer::Answer;
+use crate::conversions::{next_answer, reaped};
 use crate::step::Step;
 
 impl Core {
@@ -32,10 +33,10 @@ impl Core {
             Step::Finish { .. } => unreachable!(),
             Step::Flush => return self.flush(),
             Step::LoadCqTail => return self.load_cq_tail(),
-            Step::Reap => return self.reap(),
+            Step::Reap => return reaped(self.reap_next()),
             Step::StoreCqHead => return self.store_cq_head(),
             Step::Close => return self.close(),
-            Step::Next => return self.ask_next(),
+            Step::Next => return next_answer(self.next()),
         }
     }
 }

@@ -3,7 +3,7 @@
 ghost use Rattle.std.specs.Prelude.{◌≡◌, ℕ, ◌≤◌, ◌∷◌, IfOk, IfErr, IsErrOf, IfSome, None, length};
 ghost use Rattle.uring_core.specs.Core.{FitsApart, HasNoLessMemory, IsShortFor, elements_for_call};
 ghost use Rattle.uring_core.specs.Histories.{History, world};
-ghost use Rattle.uring_core.specs.WholeCalls.{after_index, after_fill, after_entries, after_published, after_takes, after_taken, after_refused, not_made, IsMadeAsTold};
+ghost use Rattle.uring_core.specs.WholeCalls.{after_entries, after_published, after_takes, after_taken, after_refused, not_made, IsMadeAsTold};
 ghost use Rattle.uring_core.specs.declared.step.Step.TheVariants as step;
 ghost use Rattle.uring_core.specs.declared.answer.Answer.TheVariants as answer;
 
@@ -136,20 +136,10 @@ impl Core {
     {
         let mut slot = 0;
         for entry in entries {
-            self.put(slot, *entry);
+            self.fill(slot, entry);
+            self.index(slot);
             slot += 1;
         }
-    }
-
-    /// The application puts an entry in: it fills a slot and stages it.
-    fn put(&mut self, slot: u32, entry: Sqe)
-        ensures setup { self.new.setup ≡ self.old.setup }
-        ensures fits { (h : History) → FitsApart self.old h
-            → FitsApart self.new (after_index self.old.setup slot (after_fill self.old.setup slot entry h)) }
-        ensures others { self.new ≡ record self.old { sq = self.new.sq } }
-    {
-        self.fill(slot, &entry);
-        self.index(slot);
     }
 
     /// The dispatcher takes so many positions.

@@ -1,7 +1,7 @@
-use Rattle.std.proofs.Common.{ap, arith}
+use Rattle.std.proofs.Common.{ap, arith, ◌∙◌}
 use Rattle.std.proofs.lemmas.List.{take_all}
 use Rattle.std.specs.Prelude.{Err}
-use Rattle.uring_machine.proofs.FirstWrong.{stops, goes_on, no_more, first_wrong_at}
+use Rattle.uring_machine.proofs.FirstWrong.{history_next, stops, goes_on, no_more, first_wrong_at}
 use Rattle.uring_machine.proofs.checks.first_wrong.Goals as goal
 
 pub returns-in-Err-clause-found : goal.returns-in-Err-clause-found
@@ -19,3 +19,9 @@ returns-in-Err-clause-granted g c = λ sure.
 pub returns-clause-found : goal.returns-clause-found
 returns-clause-found g c =
     rw (take_all c.loop-place.place c.args.events.now c.loop-place-test.false, c.loop-place.invariant.setup) at c.loop-place.invariant.fits.lawful
+
+pub loop-place-preserved : goal.loop-place-preserved
+loop-place-preserved g c = record {
+  setup = c.follow_in.ensures.setup ∙ c.loop-place.invariant.setup;
+  fits = rw (history_next c.args.events.now c.loop-place.place c.index-events-place.result c.loop-place-test.true c.index-events-place.is) (c.in_default.ensures.ok _ c.loop-place.invariant.fits);
+}

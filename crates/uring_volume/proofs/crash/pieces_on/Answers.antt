@@ -1,5 +1,5 @@
 use Rattle.std.proofs.Common.{map, take, reverse, sym, ap, ◌∙◌, arith}
-use Rattle.uring_volume.proofs.Common.{filter, is_on, issued, WriteIssued}
+use Rattle.uring_volume.proofs.Common.{filter, is_on, issued, WriteIssued, take_all}
 use Rattle.uring_volume.proofs.Steps.{at_event, issued_same}
 use Rattle.uring_volume.proofs.Sorting.{passes, fails}
 use Rattle.uring_volume.proofs.Taking.{push_map}
@@ -36,3 +36,6 @@ loop-event-preserved g c =
         room = omega (arith, ap (λ v. v.cap) w.on-is, c.loop-event.invariant.room);
       }
     ]
+
+pub returns-clause-pieces : goal.returns-clause-pieces
+returns-clause-pieces g c = rw (take_all c.loop-event.event-index c.args.events.now c.loop-event-test.false) at c.loop-event.invariant.pieces

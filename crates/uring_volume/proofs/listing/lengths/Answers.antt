@@ -1,5 +1,5 @@
 use Rattle.std.proofs.Common.{◌+◌, map, drop, reverse, sym, ap, ◌∙◌}
-use Rattle.uring_volume.proofs.Common.{fewest_with, length_over, lengths_by, nat_eq, put_by, false≢true}
+use Rattle.uring_volume.proofs.Common.{fewest_with, length_over, lengths_by, nat_eq, put_by, false≢true, drop_all}
 use Rattle.uring_volume.proofs.Seeking.{dropped}
 use Rattle.uring_volume.proofs.listing.lengths.Goals as goal
 
@@ -15,3 +15,6 @@ returns-in_err-push-clause-granted g c = λ all. absurd (false≢true (c.in_err-
 
 pub returns-in_err-put_length-clause-granted : goal.returns-in_err-put_length-clause-granted
 returns-in_err-put_length-clause-granted g c = λ all. absurd (false≢true (c.in_err-put_length.ensures.granted all))
+
+pub returns-clause-lengths : goal.returns-clause-lengths
+returns-clause-lengths g c = rw (drop_all c.loop-piece.piece-index c.args.pieces.now c.loop-piece-test.false) at c.loop-piece.invariant

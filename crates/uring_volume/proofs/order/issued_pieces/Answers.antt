@@ -1,5 +1,5 @@
 use Rattle.std.proofs.Common.{map, sym, ap, ◌∙◌, arith}
-use Rattle.uring_volume.proofs.Common.{WriteIssued, issued}
+use Rattle.uring_volume.proofs.Common.{WriteIssued, issued, take_all}
 use Rattle.uring_volume.proofs.Steps.{at_event, issued_same}
 use Rattle.uring_volume.proofs.Taking.{push_map}
 use Rattle.uring_volume.proofs.order.issued_pieces.Goals as goal
@@ -25,3 +25,6 @@ loop-event-preserved g c =
         room = omega (arith, ap (λ v. v.cap) w.pieces-is, c.loop-event.invariant.room);
       }
     ]
+
+pub returns-clause-pieces : goal.returns-clause-pieces
+returns-clause-pieces g c = rw (take_all c.loop-event.event-index c.args.events.now c.loop-event-test.false) at c.loop-event.invariant.pieces

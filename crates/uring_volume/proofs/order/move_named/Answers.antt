@@ -1,7 +1,7 @@
 use Rattle.std.proofs.Common.{◌≡◌, ◌==◌, ◌+◌, ◌<◌, true, false, not, length, map, sym, ap, ◌∙◌, arith}
 use Rattle.std.proofs.lemmas.Bool.{eq-eqb, ne_eqb}
 use Rattle.uring_volume.proofs.Taking.{filter_of_map}
-use Rattle.uring_volume.proofs.Sorting.{sorted_all, sorted_next, sorted_same, count_next}
+use Rattle.uring_volume.proofs.Sorting.{sorted_all, sorted_next, sorted_same, count_next, no_more}
 use Rattle.uring_volume.proofs.order.move_named.Goals as goal
 use Rattle.uring_volume.proofs.order.move_named.Goals.{then-number-n, else-number-n}
 
@@ -34,3 +34,8 @@ pub returns-clause-others : goal.returns-clause-others
 returns-clause-others c =
     ap (map (λ p. p.now)) (sorted_all (λ p. p.now.number == c.args.n) c.args.rest.now c.loop-i.rest c.loop-i.i c.loop-i.count c.loop-i-test.false c.loop-i.invariant.sorted c.loop-i.invariant.count).1
     ∙ sym (filter_of_map (λ p. p.now) (λ w. not (w.number == c.args.n)) c.args.rest.now)
+
+pub overflow_add-count : goal.overflow_add-count
+overflow_add-count c =
+    let few = no_more (λ p. p.now.number == c.args.n) c.args.rest.now c.loop-i.i c.loop-i.count c.loop-i-test.true c.loop-i.invariant.count in
+    omega (arith, few)

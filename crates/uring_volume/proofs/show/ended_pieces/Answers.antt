@@ -1,5 +1,5 @@
 use Rattle.std.proofs.Common.{◌∙◌, ◌++◌, map, reverse, take, sym, ap}
-use Rattle.uring_volume.proofs.Common.{WriteEnded, WriteIssued, ended, issued, named, false≢true}
+use Rattle.uring_volume.proofs.Common.{WriteEnded, WriteIssued, ended, issued, named, false≢true, take_all}
 use Rattle.uring_volume.proofs.Steps.{at_event, ended_same, issued_same}
 use Rattle.uring_volume.proofs.Taking.{push_map}
 use Rattle.uring_volume.proofs.show.ended_pieces.Goals as goal
@@ -53,3 +53,6 @@ pub returns-in_err-push_named-in-WriteEnded-clause-granted :
     goal.returns-in_err-push_named-in-WriteEnded-clause-granted
 returns-in_err-push_named-in-WriteEnded-clause-granted g c =
     λ all. absurd (false≢true (c.in_err-push_named-in-WriteEnded.ensures.granted all))
+
+pub returns-clause-order : goal.returns-clause-order
+returns-clause-order g c = rw (take_all c.loop-event.event-index c.args.events.now c.loop-event-test.false) at c.loop-event.invariant.order

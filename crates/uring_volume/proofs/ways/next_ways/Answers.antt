@@ -1,5 +1,5 @@
 use Rattle.std.proofs.Common.{◌+◌, map, drop, reverse, sym, ap, ◌∙◌}
-use Rattle.uring_volume.proofs.Common.{false≢true, next_ways, steps_of, way}
+use Rattle.uring_volume.proofs.Common.{false≢true, next_ways, steps_of, way, drop_all}
 use Rattle.uring_volume.proofs.Seeking.{dropped}
 use Rattle.uring_volume.proofs.ways.next_ways.Goals as goal
 
@@ -16,3 +16,6 @@ loop-way-preserved g c =
     ∙ ap (λ bs. steps_of h c.args.from (way (map (λ p. p.now) c.way-item.result.rest.items) bs) (map (λ p. p.now) c.way-item.result.rest.items) old) c.deref-in-loop-way.ensures.value)
     ∙ sym (ap (λ ws. next_ways h c.args.from ws old) (dropped (λ s. way (map (λ p. p.now) s.rest.items) s.now.items) c.args.ways.now c.loop-way.way-index c.way-item.result c.loop-way-test.true c.way-item.is))
     ∙ c.loop-way.invariant
+
+pub returns-clause-next : goal.returns-clause-next
+returns-clause-next g c = rw (drop_all c.loop-way.way-index c.args.ways.now c.loop-way-test.false) at c.loop-way.invariant

@@ -1,5 +1,5 @@
 use Rattle.std.proofs.Common.{◌+◌, ◌≡◌, cond, map, drop, reverse, sym, ap, ◌∙◌}
-use Rattle.uring_volume.proofs.Common.{cond-false, cond-true, found_at, has_safe, nat_eq, pointwise, put_by, way, false≢true}
+use Rattle.uring_volume.proofs.Common.{cond-false, cond-true, found_at, has_safe, nat_eq, pointwise, put_by, way, false≢true, drop_all}
 use Rattle.uring_volume.proofs.Seeking.{dropped}
 use Rattle.uring_volume.proofs.ways.put_found.Goals as goal
 use Rattle.uring_volume.proofs.ways.put_found.Goals.{then-not-has_safe+in_ok-put_bytes, else-not-has_safe}
@@ -22,3 +22,6 @@ loop-way-preserved g c =
 
 pub returns-in_err-put_bytes-clause-granted : goal.returns-in_err-put_bytes-clause-granted
 returns-in_err-put_bytes-clause-granted g c = λ all. absurd (false≢true (c.in_err-put_bytes.ensures.granted all))
+
+pub returns-clause-found : goal.returns-clause-found
+returns-clause-found g c = rw (drop_all c.loop-way.way-index c.args.ways.now c.loop-way-test.false) at c.loop-way.invariant

@@ -1,5 +1,5 @@
 use Rattle.std.proofs.Common.{◌≡◌, ◌+◌, cond, map, drop, reverse, sym, ap, ◌∙◌}
-use Rattle.uring_volume.proofs.Common.{cond-false, cond-true, put_by, same_way, stepped, steps_of, waits_for_one, way, false≢true}
+use Rattle.uring_volume.proofs.Common.{cond-false, cond-true, put_by, same_way, stepped, steps_of, waits_for_one, way, false≢true, drop_all}
 use Rattle.uring_volume.proofs.Seeking.{dropped}
 use Rattle.uring_volume.proofs.ways.put_steps.Goals as goal
 use Rattle.uring_volume.proofs.ways.put_steps.Goals.{then-not-has_one_before+in_ok-put_step, else-not-has_one_before}
@@ -20,3 +20,6 @@ loop-piece-preserved g c =
 
 pub returns-in_err-put_step-clause-granted : goal.returns-in_err-put_step-clause-granted
 returns-in_err-put_step-clause-granted g c = λ all. absurd (false≢true (c.in_err-put_step.ensures.granted all))
+
+pub returns-clause-steps : goal.returns-clause-steps
+returns-clause-steps g c = rw (drop_all c.loop-piece.piece-index c.args.rest.now c.loop-piece-test.false) at c.loop-piece.invariant

@@ -1,8 +1,8 @@
-use Rattle.std.proofs.Common.{◌+◌, refl, sym, ◌∙◌, ap, arith, Err, inl}
+use Rattle.std.proofs.Common.{◌+◌, refl, sym, ◌∙◌, ap, arith, Err, inl, inr}
 use Rattle.uring_core.specs.declared.answer.Answer.TheVariants as answer
 use Rattle.uring_core.proofs.Common.{requests_of, world}
 use Rattle.uring_core.proofs.CoreSteps.{core_after}
-use Rattle.uring_core.proofs.CoreCalls.{opens_within, opens_with, again_goes, call_goes, on_success, not_refused}
+use Rattle.uring_core.proofs.CoreCalls.{opens_within, opens_with, again_goes, call_goes, on_success, not_refused, on_failure}
 use Rattle.uring_core.proofs.cores.Core.begin.Goals as goal
 
 pub overflow_add-ends : goal.overflow_add-ends
@@ -64,3 +64,12 @@ returns-then-is_err-clause-granted g c =
     let positions = opens_with _ c.args.count c.from-length.result (λ k fits. sym (told k fits) ∙ ap (λ j. answer.Call j) (sym c.from-length.ensures)) h f in
     let outstanding = c.outstanding.ensures.value in
     not_refused c.reserve_in-2.result (c.reserve_in-2.ensures.granted n grants (omega arith)) (sym c.is_err.ensures.value ∙ c.if-is_err.true))
+
+pub returns-then-is_err-clause-fits : goal.returns-then-is_err-clause-fits
+returns-then-is_err-clause-fits g c =
+    let told = rw (← c.self.view_is) at c.in-Call.ensures in
+    let failed = sym c.is_err.ensures.value ∙ c.if-is_err.true in
+    let short = on_failure c.reserve_in-2.result _ failed c.reserve_in-2.ensures.short in
+    rw (← c.self.view_is) (again_goes _ c.reserve_in.new.self c.reserve_in-2.new.self c.args.count c.from-length.result
+    (λ h f. sym (told h f) ∙ ap (λ k. answer.Call k) (sym c.from-length.ensures))
+    c.reserve_in.ensures.counts c.reserve_in.ensures.between c.reserve_in.ensures.shows (on_failure c.reserve_in-2.result _ failed c.reserve_in-2.ensures.err) (inr (rw c.outstanding.ensures.value at short)))

@@ -16,3 +16,9 @@ close_goes p no_call h f = record {
 
 pub invariant_of-self : goal.invariant_of-self
 invariant_of-self c = (c.self.invariant.0, core_after _ _ _ refl (close_goes _ (λ g l s. sym c.if-in_call.false ∙ c.in_call.ensures g l s)) c.self.invariant.1)
+
+pub returns-clause-fits : goal.returns-clause-fits
+returns-clause-fits c = rw (← c.self.view_is) (close_goes _ (λ g l s. sym c.if-in_call.false ∙ c.in_call.ensures g l s))
+
+pub returns-then-in_call-clause-fits : goal.returns-then-in_call-clause-fits
+returns-then-in_call-clause-fits c = rw (← c.self.view_is) (λ h f. record { shows = f.shows; lawful = (ap (λ b. cond b answer.InCall answer.Shut) (sym c.if-in_call.true ∙ c.in_call.ensures _ _ f.shows.submission), f.lawful) })

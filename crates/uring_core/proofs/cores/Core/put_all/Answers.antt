@@ -1,17 +1,25 @@
-use Rattle.std.proofs.Common.{take, subst, ◌∙◌, arith}
-use Rattle.uring_core.proofs.Common.{FitsApart, Setup, after_entries, after_fill, after_index}
-use Rattle.uring_core.proofs.WholeCalls.{entries_next, submission_then}
+use Rattle.std.proofs.Common.{◌+◌, take, ap, ◌∙◌}
+use Rattle.std.proofs.lemmas.List.{take_all}
+use Rattle.uring_core.specs.declared.step.Step.TheVariants as step
+use Rattle.uring_core.proofs.Common.{after_entries}
+use Rattle.uring_core.proofs.WholeCalls.{as_called, entries_next, submission_then}
 use Rattle.uring_core.proofs.cores.Core.put_all.Goals as goal
 
 pub loop-entry-preserved : goal.loop-entry-preserved
 loop-entry-preserved c =
     let i = c.loop-entry.invariant in
     record {
-      slot = omega (arith, i.slot);
-      setup = c.put.ensures.setup ∙ i.setup;
+      slot = ap (λ n. n + 1) i.slot;
+      setup = c.index.ensures.setup ∙ c.fill.ensures.setup ∙ i.setup;
       fits = λ h f.
-          let before = after_entries c.args.self.now.setup 0 (take c.loop-entry.entry-index c.args.entries.now) h in
-          rw (entries_next c.args.self.now.setup c.args.entries.now c.loop-entry.entry-index c.loop-entry.slot c.entry-item.result h i.slot (omega arith) c.entry-item.is)
-          (subst (λ (g : Setup). FitsApart c.put.new.self (after_index g c.loop-entry.slot (after_fill g c.loop-entry.slot c.entry-item.result before))) i.setup (c.put.ensures.fits before (i.fits h f)));
-      others = submission_then c.args.self.now c.loop-entry.self c.put.new.self i.others c.put.ensures.others;
+          let g = c.args.self.now.setup in
+          let before = after_entries g 0 (take c.loop-entry.entry-index c.args.entries.now) h in
+          let filled = as_called c.fill.new.self g (step.Fill c.loop-entry.slot c.entry-item.result) c.fill.result _ before (c.fill.ensures.setup ∙ i.setup) (λ e. e) (c.fill.ensures.fits before (i.fits h f)) in
+          rw (entries_next g c.args.entries.now c.loop-entry.entry-index c.loop-entry.slot c.entry-item.result h i.slot c.loop-entry-test.true c.entry-item.is)
+          (as_called c.index.new.self g (step.Index c.loop-entry.slot) c.index.result _ _ (c.index.ensures.setup ∙ c.fill.ensures.setup ∙ i.setup) (λ e. e) (c.index.ensures.fits _ filled));
+      others = submission_then c.args.self.now c.fill.new.self c.index.new.self (submission_then c.args.self.now c.loop-entry.self c.fill.new.self i.others c.fill.ensures.others) c.index.ensures.others;
     }
+
+pub returns-clause-fits : goal.returns-clause-fits
+returns-clause-fits c =
+    rw (← (take_all c.loop-entry.entry-index c.args.entries.now c.loop-entry-test.false)) c.loop-entry.invariant.fits

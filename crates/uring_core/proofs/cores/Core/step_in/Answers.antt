@@ -11,3 +11,6 @@ returns-in_default-clause-again g c = λ h f e.
 pub returns-in_default-clause-granted : goal.returns-in_default-clause-granted
 returns-in_default-clause-granted g c = λ h n f grants few e.
     never_again _ c.args.step c.step_alone.result h c.requires c.in_default.not-Begin (c.step_alone.ensures.fits h f) e
+
+pub returns-in-Begin-clause-fits : goal.returns-in-Begin-clause-fits
+returns-in-Begin-clause-fits g c = rw c.in-Begin.is c.begin.ensures.fits

@@ -3,7 +3,7 @@ use Rattle.uring_core.proofs.Common.{Answer, Core, FitsApart, IsMadeAsTold, IsSh
 use Rattle.uring_core.specs.declared.cores.submit.NotSubmitted.TheVariants as refused
 use Rattle.uring_core.specs.declared.step.Step.TheVariants as step
 use Rattle.uring_core.specs.declared.answer.Answer.TheVariants as answer
-use Rattle.uring_core.proofs.WholeCalls.{as_called, opened_called, short_for_more, more_elements, submission_keeps, memory_then, one_refusal, begin_refused}
+use Rattle.uring_core.proofs.WholeCalls.{as_called, opened_called, short_for_more, more_elements, submission_keeps, memory_then, one_refusal, begin_refused, nothing_made}
 use Rattle.uring_core.proofs.cores.Core.submit_in.Goals as goal
 
 pub returns-in-Some-clause-again : goal.returns-in-Some-clause-again
@@ -51,3 +51,6 @@ returns-clause-fits g c = λ h f.
     (c.begin.ensures.fits before (c.publish.ensures.fits h f)) in
     let taken = subst (λ (k : Setup). FitsApart c.take_all.new.self (after_takes k n (after_begin first n before))) same (c.take_all.ensures.fits (after_begin first n before) begun) in
     c.end.ensures.fits _ taken
+
+pub returns-in-Some-clause-refused : goal.returns-in-Some-clause-refused
+returns-in-Some-clause-refused g c = λ h. rw (nothing_made c.args.self.now.setup c.args.entries.now c.in-Some.refusal h c.in-Some.ensures.before) (λ f. f)

@@ -84,3 +84,6 @@ returns-clause-fits c =
       | in-Dropped w ↦ rw (c.from.ensures, w.self-is, w.answer-is, w.in-Dropped.is, ← c.self.view_is) (take_dropped_goes _ c.take-answer.new.self w.stop_at_word.new.sq w.in-Dropped.ensures.answer w.in-Dropped.ensures.shows w.stop_at_word.ensures)
       | in_default w ↦ rw (c.from.ensures, w.self-is, w.answer-is, ← c.self.view_is) (neither_goes _ c.take-answer.new.self c.take-answer.result w.in_default.not-Entry w.in_default.not-Dropped c.take-answer.ensures.answer c.take-answer.ensures.no_call c.take-answer.ensures.no_more)
     ]
+
+pub invariant_of-self-in_default : goal.invariant_of-self-in_default
+invariant_of-self-in_default c = (c.self.invariant.0, core_after _ _ _ refl (neither_goes _ c.take-answer.new.self c.take-answer.result c.in_default.not-Entry c.in_default.not-Dropped c.take-answer.ensures.answer c.take-answer.ensures.no_call c.take-answer.ensures.no_more) c.self.invariant.1)

@@ -43,3 +43,7 @@ returns-clause-counts c =
     let lost = c.end_by_key.ensures.counts in
     let none : one_if (runs (at c.make_choices-res.new.self.grouped.window c.args.n)) ≡ 0 = ap one_if (chosen.runs_on c.args.n ∙ c.requires.waits) in
     omega (arith, lost, chosen.as_before, chosen.running)
+
+pub returns-clause-answer : goal.returns-clause-answer
+returns-clause-answer c = λ r h named all.
+    rw (to_z-of_z w32 c.make_choices-res.result (search rules)) (c.make_choices-res.ensures.answer r h named all)

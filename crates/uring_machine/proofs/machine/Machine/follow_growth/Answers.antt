@@ -4,6 +4,7 @@ use Rattle.uring_machine.proofs.Common.{after, both_ways}
 use Rattle.std.proofs.lemmas.Int.{to_z-of_z}
 use Rattle.uring_core.specs.declared.step.Step.TheVariants as step
 use Rattle.uring_machine.proofs.RecordedEnds.{followed_end, followed_failure, runs_so, growth_wrong, growth_called, growth_failed, growth_bytes, kept_fits, ended_alike}
+use Rattle.uring_entry.specs.declared.operation.Outcome.{Outcome}
 use Rattle.uring_machine.proofs.machine.Machine.follow_growth.Goals as goal
 use Rattle.uring_files.proofs.OperationCases.{failed}
 
@@ -83,3 +84,18 @@ returns-clause-ok g c =
     followed_end c.self.inside.core c.finish-2.new.self c.self.inside.files c.args.number c.args.op.now c.apply_in-outcome.result c.apply_in-outcome.new.self c.finish-2.result c.args.given h c.finish-2.ensures.setup fits
     (running h fits) c.apply_in-outcome.ensures.outcome c.apply_in-outcome.ensures.files (c.finish-2.ensures.fits h fits.core) (c.finish-2.ensures.outcome h fits.core)
     (c.same_answer-2.ensures.0 c.if-not-same_answer.false ∙ success ∙ sym (ended_alike _ _ _ _ length bytes)))
+
+pub returns-then-outcome-length-clause-granted : goal.returns-then-outcome-length-clause-granted
+returns-then-outcome-length-clause-granted g c = λ h n fits grants few e.
+    let long = rw (← c.self.view_is) at c.requires.lengthens in
+    c.if-outcome-length.true (ap (λ (o : Outcome). of_z w32 o.res) (c.apply_in-outcome.ensures.granted n grants few ∙ c.written_length-length.ensures _ long))
+
+pub invariant_of-self-then-outcome-length : goal.invariant_of-self-then-outcome-length
+invariant_of-self-then-outcome-length g c =
+    let long = rw (← c.self.view_is) at c.requires.lengthens in (
+      c.self.invariant.0,
+      kept_fits c.self.inside.core c.self.inside.core c.self.inside.files c.apply_in-outcome.new.self c.self.invariant.0 refl
+          (c.apply_in-outcome.ensures.files ∙ ap (λ res. after c.self.inside.files c.args.op.now res)
+          (growth_failed c.self.inside.files c.args.op.now c.written_length-length.result c.apply_in-outcome.result (c.written_length-length.ensures _ long) c.apply_in-outcome.ensures.outcome (λ e. c.if-outcome-length.true (ap (of_z w32) e)))
+          ∙ failed c.self.inside.files c.args.op.now 11) c.self.invariant.1 c.self.invariant.1.core,
+    )

@@ -38,3 +38,6 @@ pub returns-in-Finish-clause-granted : goal.returns-in-Finish-clause-granted
 returns-in-Finish-clause-granted g c = λ h n fits grants few.
     let setup = c.args.self.now.core.setup in
     unrefused_finish setup (world setup h) c.args.self.now.core c.args.step c.in-Finish.number c.finish_in.result n c.in-Finish.is (λ enough. c.finish_in.ensures.granted h n fits grants enough) few
+
+pub returns-in-Finish-clause-fits : goal.returns-in-Finish-clause-fits
+returns-in-Finish-clause-fits g c = rw c.in-Finish.is c.finish_in.ensures.fits

@@ -27,7 +27,7 @@ returns-clause-made g c = λ calls m at.
     (c.finish.ensures.answer m.requests at.requests)
     (c.finish.ensures.shows m.requests at.requests)
     (finish_between c.finish.result _ _ c.finish.ensures.counts at.between)
-    (let same = to_z-of_z w32 c.apply_in-outcome.result.res (search rules) in cc (c.in_ok-post.ensures.posted, same)) c.apply_in-outcome.ensures.files refl
+    (let same = to_z-of_z w32 c.apply_in-outcome.result.res (search rules) in rw same at c.in_ok-post.ensures.posted) c.apply_in-outcome.ensures.files refl
 
 pub returns-then-outcome-clause-granted : goal.returns-then-outcome-clause-granted
 returns-then-outcome-clause-granted g c = λ all.

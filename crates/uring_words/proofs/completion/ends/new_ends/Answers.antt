@@ -1,6 +1,7 @@
 use Rattle.std.proofs.Common.{◌≤◌, [], arith, rules, refl}
+use Rattle.uring_words.proofs.Common.{false≢true}
 use Rattle.uring_words.proofs.CompletionPlays.{opens}
-use Rattle.uring_words.proofs.FirstTable.{start_word}
+use Rattle.uring_words.proofs.FirstTable.{both_fit, start_word}
 use Rattle.uring_words.proofs.SlotSeats.{splits}
 use Rattle.uring_words.proofs.completion.ends.new_ends.Goals as goal
 
@@ -32,3 +33,8 @@ invariant_of-writer g c =
       many = refl;
       few = omega arith;
     })
+
+pub returns-in_err-app-clause-granted : goal.returns-in_err-app-clause-granted
+returns-in_err-app-clause-granted g c = λ n grants room.
+    let fit = both_fit c.in_ok-cells.cells.items _ 3 c.args.shape.size n c.in_ok-cells.ensures.items room in
+    absurd (false≢true (c.in_err-app.ensures.granted n grants fit.0 fit.1))

@@ -1,9 +1,10 @@
 use Rattle.std.proofs.Common.{◌≡◌, rules, refl, ap, ◌∙◌, arith, length}
 use Rattle.uring_words.specs.Sides.{app_part}
-use Rattle.uring_words.proofs.Common.{End, Holder, has_loaded}
+use Rattle.uring_words.proofs.Common.{End, Holder, false≢true, has_loaded}
 use Rattle.uring_words.specs.Submission.Rule.{at_first}
 use Rattle.uring_words.specs.declared.submission.view.Position.TheVariants as position
 use Rattle.uring_words.proofs.Plays.{opens}
+use Rattle.uring_words.proofs.FirstTable.{both_fit}
 use Rattle.uring_words.proofs.SlotSeats.{splits}
 use Rattle.uring_words.proofs.submission.ends.new_ends.Goals as goal
 
@@ -20,3 +21,8 @@ returns-clause-app g c =
     let l = c.load_head.ensures in
     let end : c.load_head.new.self.knows.app.end ≡ c.args.shape.size = omega (arith, l.least, l.most, ap (λ (m : Holder). m.0.app.size) me, ap (λ (m : Holder). length m.0.app.published) me) in
     ap (λ (e : End). e.knows) l.is ∙ ap (λ (m : Holder). has_loaded m.0 c.load_head.new.self.knows.app.end) me ∙ ap (has_loaded (app_part (at_first c.args.shape))) end
+
+pub returns-in_err-app-clause-granted : goal.returns-in_err-app-clause-granted
+returns-in_err-app-clause-granted g c = λ n grants room.
+    let fit = both_fit c.in_ok-places.places.items _ 2 c.args.shape.size n c.in_ok-places.ensures.items room in
+    absurd (false≢true (c.in_err-app.ensures.granted n grants fit.0 fit.1))
