@@ -114,12 +114,11 @@ pub fn next_of_registering(has_ring: bool, last: Option<Check>, res: i32) -> Pas
     }
 }
 
-/// A call that is refused does nothing besides.
-pub fn refused_does_nothing()
-    ensures { RefusedDoesNothing }
-{}
-
-/// One that passes is carried out between what any call does as it begins and as it returns.
-pub fn made_between_duties()
-    ensures { MadeBetweenDuties }
+/// What holds of every call, whatever its checks come to.
+///
+/// - `refused_does_nothing`: a call that is refused does nothing besides.
+/// - `made_between_duties`: one that passes is carried out between what any call does as it begins and as it returns.
+pub fn passage_laws()
+    ensures refused_does_nothing { RefusedDoesNothing }
+    ensures made_between_duties { MadeBetweenDuties }
 {}

@@ -59,12 +59,11 @@ pub fn is_dropped(signal: u32, is_caught: bool, is_ignored: bool) -> bool
     is_ignored || (!is_caught && does_nothing)
 }
 
-/// A call sleeps only with signals blocked.
-pub fn sleeps_blocked()
-    ensures { SleepsBlocked }
-{}
-
-/// Nothing is done with signals open but the read of a file.
-pub fn reads_files_open()
-    ensures { ReadsFilesOpen }
+/// What holds of every call that blocks signals.
+///
+/// - `sleeps_blocked`: a call sleeps only with signals blocked.
+/// - `reads_files_open`: nothing is done with signals open but the read of a file.
+pub fn signal_laws()
+    ensures sleeps_blocked { SleepsBlocked }
+    ensures reads_files_open { ReadsFilesOpen }
 {}

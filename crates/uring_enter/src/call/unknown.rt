@@ -83,16 +83,15 @@ impl Times {
     }
 }
 
-/// Where that isn't asked, a call waits as it would if there were other threads, and if there were none.
-pub fn waits_alike_unasked()
-    ensures { (sources : WakeSources) (has_timeouts other : Bool) (now : ℕ) (until : Option ℕ)
+/// What isn't asked makes no difference to a call that waits.
+///
+/// - `waits_alike_unasked`: where it isn't asked whether another thread may make one, a call waits as it would if there were other threads, and if there were none.
+/// - `waits_alike_beside_descriptors`: where it isn't asked whether a signal does though it has a mask, a call waits the same whether a signal waits or none.
+pub fn unknown_laws()
+    ensures waits_alike_unasked { (sources : WakeSources) (has_timeouts other : Bool) (now : ℕ) (until : Option ℕ)
         → spec.asks_threads sources.has_streams has_timeouts ≡ false
         → wait_of sources has_timeouts now until ≡ wait_of (record sources { has_threads = other }) has_timeouts now until }
-{}
-
-/// Where that isn't asked though it has a mask, a call waits the same whether a signal waits or none.
-pub fn waits_alike_beside_descriptors()
-    ensures { (sources : WakeSources) (has_timeouts other : Bool) (now : ℕ) (until : Option ℕ)
+    ensures waits_alike_beside_descriptors { (sources : WakeSources) (has_timeouts other : Bool) (now : ℕ) (until : Option ℕ)
         → spec.asks_signals true sources.has_streams ≡ false
         → wait_of sources has_timeouts now until ≡ wait_of (record sources { has_signal = other }) has_timeouts now until }
 {}

@@ -86,12 +86,11 @@ fn told_by(known: &Prospect) -> Readable
     }
 }
 
-/// What is told is whether the descriptor is readable by all that is so, whatever was asked before.
-pub fn tells_what_is_so()
-    ensures { TellsWhatIsSo }
-{}
-
-/// Nothing is asked twice, and nothing while completions wait.
-pub fn asks_of_the_prospect_once()
-    ensures { AsksOnce }
+/// What holds of every look whether a ring's descriptor is readable.
+///
+/// - `tells_what_is_so`: what is told is whether the descriptor is readable by all that is so, whatever was asked before.
+/// - `asks_of_the_prospect_once`: nothing is asked twice, and nothing while completions wait.
+pub fn readable_laws()
+    ensures tells_what_is_so { TellsWhatIsSo }
+    ensures asks_of_the_prospect_once { AsksOnce }
 {}

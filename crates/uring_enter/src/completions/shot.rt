@@ -180,9 +180,13 @@ pub fn untold_after(part: Part, of_buffer: u32) -> u32
     }
 }
 
-/// After an event that told of a buffer no completion of its request tells of it again.
-pub fn tells_a_buffer_once()
-    ensures { TellsABufferOnce }
+/// What holds of the completions of every request.
+///
+/// - `tells_a_buffer_once`: after an event that told of a buffer no completion of its request tells of it again.
+/// - `notifies_at_last`: of the two completions of a send without copies the application sees first what it has sent, whatever is put off, and then the notice.
+pub fn shot_laws()
+    ensures tells_a_buffer_once { TellsABufferOnce }
+    ensures notifies_at_last { NotifiesAtLast }
 {}
 
 /// What the end of a send without copies tells of that has two completions, where the other was posted before, or is put off since memory was refused for it. io_uring_enter(2), IORING_OP_SEND_ZC; else our own rule.
@@ -191,11 +195,6 @@ pub fn end_of_send(is_posted: bool) -> Part
 {
     if is_posted { Part::Notice } else { Part::Sent }
 }
-
-/// Of the two completions of a send without copies the application sees first what it has sent, whatever is put off, and then the notice.
-pub fn notifies_at_last()
-    ensures { NotifiesAtLast }
-{}
 
 impl Posted {
     /// Whether an eventfd is told of this completion, where it is registered for all, or only for what ends after the call that submitted it.

@@ -105,17 +105,13 @@ fn cut(due: Due, end: u64) -> Due
     }
 }
 
-/// Each that is due before a request is looked at.
-pub fn looks_at_each_due()
-    ensures { LooksAtEachDue }
-{}
-
-/// And none that isn't before it.
-pub fn looks_before()
-    ensures { LooksBefore }
-{}
-
-/// And none of those that have found theirs, unless it or one before it was noted since.
-pub fn looks_at_none_again()
-    ensures { LooksAtNoneAgain }
+/// What holds of every look for what is due.
+///
+/// - `looks_at_each_due`: each that is due before a request is looked at.
+/// - `looks_before`: and none that isn't before it.
+/// - `looks_at_none_again`: and none of those that have found theirs, unless it or one before it was noted since.
+pub fn due_laws()
+    ensures looks_at_each_due { LooksAtEachDue }
+    ensures looks_before { LooksBefore }
+    ensures looks_at_none_again { LooksAtNoneAgain }
 {}

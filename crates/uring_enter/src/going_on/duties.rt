@@ -256,37 +256,21 @@ pub fn polls_instance(dormant: u64) -> bool
     dormant > 0
 }
 
-/// Nothing is to be done before a reply where all is shown that has ended, nor where nothing can go on in a ring without an eventfd.
-pub fn needs_no_asking()
-    ensures { NeedsNoAsking }
-{}
-
-/// The flags are shown after all else that a call does as it returns.
-pub fn shows_at_last()
-    ensures { ShowsAtLast }
-{}
-
-/// Where a call watches pipes for what runs, it has kept their files before, after those of what was accepted, and found them.
-pub fn watches_what_is_held()
-    ensures { WatchesWhatIsHeld }
-{}
-
-/// Of many that wait those become dormant after the pipes that are watched.
-pub fn lies_after_pipes()
-    ensures { LiesAfterPipes }
-{}
-
-/// A call of io_uring_register(2) that may post completions does what any call does as it begins, and as it returns.
-pub fn registers_as_it_enters()
-    ensures { RegistersAsItEnters }
-{}
-
-/// Whatever may post completions outside a call has heard the application before.
-pub fn hears_before_it_posts()
-    ensures { HearsBeforeItPosts }
-{}
-
-/// Whoever is woken by a registered eventfd sees the flags: they are shown before it is told.
-pub fn tells_of_what_is_shown()
-    ensures { TellsOfWhatIsShown }
+/// What holds of the duties of every call.
+///
+/// - `needs_no_asking`: nothing is to be done before a reply where all is shown that has ended, nor where nothing can go on in a ring without an eventfd.
+/// - `shows_at_last`: the flags are shown after all else that a call does as it returns.
+/// - `watches_what_is_held`: where a call watches pipes for what runs, it has kept their files before, after those of what was accepted, and found them.
+/// - `lies_after_pipes`: of many that wait those become dormant after the pipes that are watched.
+/// - `registers_as_it_enters`: a call of io_uring_register(2) that may post completions does what any call does as it begins, and as it returns.
+/// - `hears_before_it_posts`: whatever may post completions outside a call has heard the application before.
+/// - `tells_of_what_is_shown`: whoever is woken by a registered eventfd sees the flags: they are shown before it is told.
+pub fn duty_laws()
+    ensures needs_no_asking { NeedsNoAsking }
+    ensures shows_at_last { ShowsAtLast }
+    ensures watches_what_is_held { WatchesWhatIsHeld }
+    ensures lies_after_pipes { LiesAfterPipes }
+    ensures registers_as_it_enters { RegistersAsItEnters }
+    ensures hears_before_it_posts { HearsBeforeItPosts }
+    ensures tells_of_what_is_shown { TellsOfWhatIsShown }
 {}

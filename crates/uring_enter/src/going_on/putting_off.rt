@@ -53,12 +53,11 @@ fn after_refusal(what: Coming) -> Order
     }
 }
 
-/// Nothing is submitted or posted from when a completion was put off until it is posted.
-pub fn nothing_overtakes()
-    ensures { NothingOvertakes }
-{}
-
-/// A request ends meanwhile only if memory was refused once more just before.
-pub fn ends_after_a_try()
-    ensures { EndsAfterATry }
+/// What holds of every completion that was put off.
+///
+/// - `nothing_overtakes`: nothing is submitted or posted from when a completion was put off until it is posted.
+/// - `ends_after_a_try`: a request ends meanwhile only if memory was refused once more just before.
+pub fn putting_off_laws()
+    ensures nothing_overtakes { NothingOvertakes }
+    ensures ends_after_a_try { EndsAfterATry }
 {}

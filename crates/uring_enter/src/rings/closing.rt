@@ -114,17 +114,13 @@ pub fn next_before_sleep(last: Option<BeforeSleep>, has_brought: bool, fault: i3
     }
 }
 
-/// A ring that a descriptor is open on in any table is never gone, whatever else is known.
-pub fn stays_while_open()
-    ensures { StaysWhileOpen }
-{}
-
-/// Where it isn't asked how long ago it was, as many are looked at whatever that is.
-pub fn elapsed_matters_where_asked()
-    ensures { ElapsedMattersWhereAsked }
-{}
-
-/// No call sleeps before all of that was done.
-pub fn sleeps_after_all()
-    ensures { SleepsAfterAll }
+/// What holds of every ring that is closed.
+///
+/// - `stays_while_open`: a ring that a descriptor is open on in any table is never gone, whatever else is known.
+/// - `elapsed_matters_where_asked`: where it isn't asked how long ago it was, as many are looked at whatever that is.
+/// - `sleeps_after_all`: no call sleeps before all of that was done.
+pub fn closing_laws()
+    ensures stays_while_open { StaysWhileOpen }
+    ensures elapsed_matters_where_asked { ElapsedMattersWhereAsked }
+    ensures sleeps_after_all { SleepsAfterAll }
 {}

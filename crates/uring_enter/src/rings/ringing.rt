@@ -118,12 +118,11 @@ pub fn fate_of(is_own: bool, calls: u32, known: Option<bool>) -> Fate
     }
 }
 
-/// A set-up that fails drops the ring exactly if one was made before.
-pub fn drops_what_is_made()
-    ensures { DropsWhatIsMade }
-{}
-
-/// The parameters are told just before the descriptor is opened.
-pub fn tells_before_it_opens()
-    ensures { TellsBeforeItOpens }
+/// What holds of every ring that is made.
+///
+/// - `drops_what_is_made`: a set-up that fails drops the ring exactly if one was made before.
+/// - `tells_before_it_opens`: the parameters are told just before the descriptor is opened.
+pub fn ringing_laws()
+    ensures drops_what_is_made { DropsWhatIsMade }
+    ensures tells_before_it_opens { TellsBeforeItOpens }
 {}

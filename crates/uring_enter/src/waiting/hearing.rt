@@ -90,12 +90,11 @@ pub fn telling_of(poll: &PipePoll, watch: u32, is_known: bool) -> Telling
     }
 }
 
-/// One of all that wait by a watch is asked, and each of them is told.
-pub fn asks_one_of_all()
-    ensures { AsksOneOfAll }
-{}
-
-/// Nothing is read where no pipe is watched.
-pub fn reads_what_is_watched()
-    ensures { ReadsWhatIsWatched }
+/// What holds of every call that hears of descriptors.
+///
+/// - `asks_one_of_all`: one of all that wait by a watch is asked, and each of them is told.
+/// - `reads_what_is_watched`: nothing is read where no pipe is watched.
+pub fn hearing_laws()
+    ensures asks_one_of_all { AsksOneOfAll }
+    ensures reads_what_is_watched { ReadsWhatIsWatched }
 {}

@@ -41,12 +41,11 @@ pub fn left_of(maker: u32, process: u32) -> Left
     }
 }
 
-/// A child leaves its parent's ring as it is, whatever is due.
-pub fn leaves_parents()
-    ensures { LeavesParents }
-{}
-
-/// A process leaves nothing undone with a ring that it made.
-pub fn leaves_nothing_of_its_own()
-    ensures { LeavesNothingOfItsOwn }
+/// What holds of every process that leaves rings behind.
+///
+/// - `leaves_parents`: a child leaves its parent's ring as it is, whatever is due.
+/// - `leaves_nothing_of_its_own`: a process leaves nothing undone with a ring that it made.
+pub fn leaving_laws()
+    ensures leaves_parents { LeavesParents }
+    ensures leaves_nothing_of_its_own { LeavesNothingOfItsOwn }
 {}

@@ -190,22 +190,15 @@ impl Lookout {
     }
 }
 
-/// Who couldn't be finished before an end that isn't told to let others be finished can't be after it.
-pub fn end_lets_none()
-    ensures { EndLetsNone }
-{}
-
-/// A descriptor that isn't looked at again can't have become ready since it was.
-pub fn looks_afresh()
-    ensures { LooksAfresh }
-{}
-
-/// No change is slept through.
-pub fn wakes_for_each()
-    ensures { WakesForEach }
-{}
-
-/// What was written after an operation that was carried out is taken for the ring's own.
-pub fn takes_its_own()
-    ensures { TakesItsOwn }
+/// What holds of every lookout.
+///
+/// - `end_lets_none`: who couldn't be finished before an end that isn't told to let others be finished can't be after it.
+/// - `looks_afresh`: a descriptor that isn't looked at again can't have become ready since it was.
+/// - `wakes_for_each`: no change is slept through.
+/// - `takes_its_own`: what was written after an operation that was carried out is taken for the ring's own.
+pub fn lookout_laws()
+    ensures end_lets_none { EndLetsNone }
+    ensures looks_afresh { LooksAfresh }
+    ensures wakes_for_each { WakesForEach }
+    ensures takes_its_own { TakesItsOwn }
 {}

@@ -110,12 +110,11 @@ impl Waiter {
     }
 }
 
-/// Nothing need be noted of a request for what happens to its ring.
-pub fn keeps_through()
-    ensures { KeepsThrough }
-{}
-
-/// Where one has to wait, its ring knows that one has: so no end passes it over.
-pub fn ring_knows()
-    ensures { RingKnows }
+/// What holds of every call that waits.
+///
+/// - `keeps_through`: nothing need be noted of a request for what happens to its ring.
+/// - `ring_knows`: where one has to wait, its ring knows that one has: so no end passes it over.
+pub fn waiter_laws()
+    ensures keeps_through { KeepsThrough }
+    ensures ring_knows { RingKnows }
 {}

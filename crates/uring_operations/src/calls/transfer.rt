@@ -191,17 +191,13 @@ pub fn offset_of(transfer: &Transfer, offset: u64) -> u64
     }
 }
 
-/// Each call is asked not to wait, or its descriptor is, or what it is made on never waits.
-pub fn sleeps_never()
-    ensures { SleepsNever }
-{}
-
-/// A transfer ends with what the last call came to, or with what its start found out.
-pub fn tells_what_came()
-    ensures { TellsWhatCame }
-{}
-
-/// What a stream has given is told: no call is made after that.
-pub fn loses_nothing()
-    ensures { LosesNothing }
+/// What holds of every transfer.
+///
+/// - `sleeps_never`: each call is asked not to wait, or its descriptor is, or what it is made on never waits.
+/// - `tells_what_came`: a transfer ends with what the last call came to, or with what its start found out.
+/// - `loses_nothing`: what a stream has given is told: no call is made after that.
+pub fn transfer_laws()
+    ensures sleeps_never { SleepsNever }
+    ensures tells_what_came { TellsWhatCame }
+    ensures loses_nothing { LosesNothing }
 {}

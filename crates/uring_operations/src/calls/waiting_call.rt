@@ -314,17 +314,13 @@ pub fn unpolled_result(events: u16) -> i32
     if present == 0 { -22 } else { present as i32 }
 }
 
-/// A connection is accepted only right after its socket was found ready, and a connect that was begun is made again only right after it was found to have no error, or once more.
-pub fn accepts_what_came()
-    ensures { AcceptsWhatCame }
-{}
-
-/// A call ends with what came last, or with -11; but a connect that is found made, with 0.
-pub fn ends_with_what_came()
-    ensures { EndsWithWhatCame }
-{}
-
-/// Bytes that a message has moved are told: it ends with no error.
-pub fn loses_no_bytes()
-    ensures { LosesNoBytes }
+/// What holds of every call that waits.
+///
+/// - `accepts_what_came`: a connection is accepted only right after its socket was found ready, and a connect that was begun is made again only right after it was found to have no error, or once more.
+/// - `ends_with_what_came`: a call ends with what came last, or with -11; but a connect that is found made, with 0.
+/// - `loses_no_bytes`: bytes that a message has moved are told: it ends with no error.
+pub fn waiting_call_laws()
+    ensures accepts_what_came { AcceptsWhatCame }
+    ensures ends_with_what_came { EndsWithWhatCame }
+    ensures loses_no_bytes { LosesNoBytes }
 {}

@@ -91,14 +91,13 @@ pub fn flags_after(was_asked: bool, is_known: bool, flags: u32) -> Option<u32>
     }
 }
 
-/// An open file that was asked not to wait has its flags again after the call, and one that wasn't stays as it is.
-pub fn takes_back_what_it_asked()
-    ensures { TakesBackWhatItAsked }
-{}
-
-/// What may have to wait for its descriptor is asked not to, by a flag of its call or by its descriptors.
-pub fn calls_never_sleep()
-    ensures { CallsNeverSleep }
+/// What holds of whatever is asked of a file.
+///
+/// - `takes_back_what_it_asked`: an open file that was asked not to wait has its flags again after the call, and one that wasn't stays as it is.
+/// - `calls_never_sleep`: what may have to wait for its descriptor is asked not to, by a flag of its call or by its descriptors.
+pub fn asking_laws()
+    ensures takes_back_what_it_asked { TakesBackWhatItAsked }
+    ensures calls_never_sleep { CallsNeverSleep }
 {}
 
 /// Whether a try that came to this has the lock, or nobody can have it. fcntl(2), F_SETLK.

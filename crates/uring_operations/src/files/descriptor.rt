@@ -305,17 +305,13 @@ pub fn is_signals_name(name: &[u8]) -> bool
     name == "anon_inode:[signalfd]".as_bytes()
 }
 
-/// What is told of a request is what it is by all that its descriptor is, whatever was asked before.
-pub fn finds_the_kind()
-    ensures { FindsTheKind }
-{}
-
-/// What is made before its descriptor is asked what it is, and isn't asked not to wait, is made so because the user says that no device is read.
-pub fn asks_unless_said()
-    ensures { AsksUnlessSaid }
-{}
-
-/// A descriptor is asked nothing twice.
-pub fn asks_once()
-    ensures { AsksOnce }
+/// What holds of every descriptor that is looked at.
+///
+/// - `finds_the_kind`: what is told of a request is what it is by all that its descriptor is, whatever was asked before.
+/// - `asks_unless_said`: what is made before its descriptor is asked what it is, and isn't asked not to wait, is made so because the user says that no device is read.
+/// - `asks_once`: a descriptor is asked nothing twice.
+pub fn descriptor_laws()
+    ensures finds_the_kind { FindsTheKind }
+    ensures asks_unless_said { AsksUnlessSaid }
+    ensures asks_once { AsksOnce }
 {}

@@ -281,12 +281,11 @@ pub fn opening_next(
     }
 }
 
-/// What a path's own open is refused with ends it.
-pub fn ends_with_its_fault()
-    ensures { EndsWithItsFault }
-{}
-
-/// What is opened to read by its path doesn't end so: who writes is asked for before.
-pub fn waits_for_its_writer()
-    ensures { WaitsForItsWriter }
+/// What holds of every open of a pipe.
+///
+/// - `ends_with_its_fault`: what a path's own open is refused with ends it.
+/// - `waits_for_its_writer`: what is opened to read by its path doesn't end so: who writes is asked for before.
+pub fn pipe_open_laws()
+    ensures ends_with_its_fault { EndsWithItsFault }
+    ensures waits_for_its_writer { WaitsForItsWriter }
 {}

@@ -92,12 +92,11 @@ impl Remembered {
     }
 }
 
-/// Once it was asked for seals, no call by the number asks for them, until it is another file's.
-pub fn asks_what_was_a_file()
-    ensures { AsksWhatWasAFile }
-{}
-
-/// No call is made first by a number of which a call has shown that it isn't a file's.
-pub fn forgets_streams()
-    ensures { ForgetsStreams }
+/// What holds of what is remembered of files.
+///
+/// - `asks_what_was_a_file`: once it was asked for seals, no call by the number asks for them, until it is another file's.
+/// - `forgets_streams`: no call is made first by a number of which a call has shown that it isn't a file's.
+pub fn remembering_laws()
+    ensures asks_what_was_a_file { AsksWhatWasAFile }
+    ensures forgets_streams { ForgetsStreams }
 {}

@@ -96,17 +96,13 @@ impl Course {
     }
 }
 
-/// Whoever a cancel by io_uring_register(2) waits for ends the moment that it goes on: so the cancel's time limit isn't over before, however short it is.
-pub fn ends_at_once()
-    ensures { EndsAtOnce }
-{}
-
-/// A poll that is begun afresh asks for the events that it has got, after all that told of those which it had, and is looked at last.
-pub fn asks_what_was_changed()
-    ensures { AsksWhatWasChanged }
-{}
-
-/// Where it isn't asked whether the request may start, it doesn't matter.
-pub fn asks_for_the_start()
-    ensures { AsksForTheStart }
+/// What holds of polls that are updated, and of cancels that wait.
+///
+/// - `ends_at_once`: whoever a cancel by io_uring_register(2) waits for ends the moment that it goes on: so the cancel's time limit isn't over before, however short it is.
+/// - `asks_what_was_changed`: a poll that is begun afresh asks for the events that it has got, after all that told of those which it had, and is looked at last.
+/// - `asks_for_the_start`: where it isn't asked whether the request may start, it doesn't matter.
+pub fn afresh_laws()
+    ensures ends_at_once { EndsAtOnce }
+    ensures asks_what_was_changed { AsksWhatWasChanged }
+    ensures asks_for_the_start { AsksForTheStart }
 {}

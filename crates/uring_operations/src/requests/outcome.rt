@@ -255,9 +255,13 @@ pub fn sought_after(cancel: EndedCancel, res: i32) -> SoughtAfter
     }
 }
 
-/// A cancel that has cancelled a request looks for no other.
-pub fn cancels_one()
-    ensures { CancelsOne }
+/// What holds of every request's outcome.
+///
+/// - `cancels_one`: a cancel that has cancelled a request looks for no other.
+/// - `looks_in_time`: a cancel that looks for such a request once it has ended has looked for it before.
+pub fn outcome_laws()
+    ensures cancels_one { CancelsOne }
+    ensures looks_in_time { LooksInTime }
 {}
 
 /// Whether a cancel looks, before the core ends it, for a request which hasn't started and could: after its end others could start, which it doesn't find.
@@ -266,11 +270,6 @@ pub fn looks_ahead(is_cancel: bool, linux: bool) -> bool
 {
     is_cancel && linux
 }
-
-/// A cancel that looks for such a request once it has ended has looked for it before.
-pub fn looks_in_time()
-    ensures { LooksInTime }
-{}
 
 /// Whether a cancel that the core has ended so may have found one all the same.
 fn may_have_found(is_cancel: bool, res: i32) -> bool

@@ -337,14 +337,17 @@ pub(crate) fn has_message_flags(code: u8) -> bool
     is_of_sockets(code) && code != 13 && code != 16
 }
 
-/// What is told of a request is whether it can be finished by all that is so, whatever was asked before.
-pub fn finishes_what_can()
-    ensures { FinishesWhatCan }
-{}
-
-/// A request that can't be finished but once its descriptor is ready is polled.
-pub fn polls_what_matters()
-    ensures { PollsWhatMatters }
+/// What holds of every look whether a request can be finished.
+///
+/// - `finishes_what_can`: what is told of a request is whether it can be finished by all that is so, whatever was asked before.
+/// - `polls_what_matters`: a request that can't be finished but once its descriptor is ready is polled.
+/// - `needs_no_look`: one that waits for its descriptor alone can't be finished while that isn't ready.
+/// - `looks_once`: nothing is asked twice of a moment.
+pub fn ready_laws()
+    ensures finishes_what_can { FinishesWhatCan }
+    ensures polls_what_matters { PollsWhatMatters }
+    ensures needs_no_look { NeedsNoLook }
+    ensures looks_once { LooksOnce }
 {}
 
 /// For what a splice or a tee is polled.
@@ -367,13 +370,3 @@ pub fn splice_poll(is_source_ready: bool) -> SplicePoll
         events: if is_source_ready { 4 } else { 1 },
     }
 }
-
-/// One that waits for its descriptor alone can't be finished while that isn't ready.
-pub fn needs_no_look()
-    ensures { NeedsNoLook }
-{}
-
-/// Nothing is asked twice of a moment.
-pub fn looks_once()
-    ensures { LooksOnce }
-{}

@@ -48,12 +48,11 @@ pub fn next_to_go(count: u32, gone: u32) -> Option<u32>
     }
 }
 
-/// A table is registered only after all rows of its lists, and if none has a fault.
-pub fn puts_whole_lists()
-    ensures { PutsWholeLists }
-{}
-
-/// Of a table that is gone each slot goes once, the last one first.
-pub fn each_slot_goes_once()
-    ensures { EachSlotGoesOnce }
+/// What holds of every list that is registered.
+///
+/// - `puts_whole_lists`: a table is registered only after all rows of its lists, and if none has a fault.
+/// - `each_slot_goes_once`: of a table that is gone each slot goes once, the last one first.
+pub fn listing_laws()
+    ensures puts_whole_lists { PutsWholeLists }
+    ensures each_slot_goes_once { EachSlotGoesOnce }
 {}

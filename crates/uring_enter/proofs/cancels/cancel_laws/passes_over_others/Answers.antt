@@ -1,5 +1,0 @@
-use Rattle.uring_enter.proofs.CancelRuns.{passes_over_others}
-use Rattle.uring_enter.proofs.cancels.cancel_laws.passes_over_others.Goals as goal
-
-pub returns : goal.returns
-returns c = passes_over_others

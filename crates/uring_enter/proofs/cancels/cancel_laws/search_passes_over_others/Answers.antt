@@ -1,5 +1,0 @@
-use Rattle.uring_enter.proofs.CancelRuns.{search_passes_over_others}
-use Rattle.uring_enter.proofs.cancels.cancel_laws.search_passes_over_others.Goals as goal
-
-pub returns : goal.returns
-returns c = search_passes_over_others
