@@ -34,13 +34,10 @@ impl Accepted {
         ensures keeps { IfOk result (λ a. Keeps a []) }
         ensures granted { ((n : ℕ) → M.grants memory.now n) → IsOk result }
     {
-        let machine = Machine::new_in(memory, alloc, setup)?;
-        let entries = Vec::new(alloc);
-        let cuts = Vec::new(alloc);
         Ok(Accepted {
-            machine,
-            entries,
-            cuts,
+            machine: Machine::new_in(memory, alloc, setup)?,
+            entries: Vec::new(alloc),
+            cuts: Vec::new(alloc),
         })
     }
 
