@@ -1,11 +1,8 @@
 use Rattle.std.proofs.Common.{◌≡◌, Bool, true, false, refl, sym, ap, ◌∙◌, rules}
-use Rattle.uring_pictures.proofs.Common.{append-nil, arrows_below, entry_outstanding, is_linux_at, is_some, linux_at, requests_at}
+use Rattle.uring_pictures.proofs.Common.{arrows_below, entry_outstanding, is_linux_at, is_some, linux_at, requests_at}
 use Rattle.uring_pictures.proofs.Arrows.{arrows_more, before_next, up_to_same}
 use Rattle.uring_pictures.proofs.graph_text.push_arrows.Goals as goal
 use Rattle.uring_pictures.proofs.graph_text.push_arrows.Goals.{then-ends_chain, else-ends_chain+then-is_some, else-ends_chain+else-is_some}
-
-pub loop-number-init : goal.loop-number-init
-loop-number-init g c = record { arrows = λ h keeps. sym (append-nil _); chain = λ h keeps. refl }
 
 pub loop-number-preserved : goal.loop-number-preserved
 loop-number-preserved g c = record {

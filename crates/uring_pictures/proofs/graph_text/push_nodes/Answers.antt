@@ -1,11 +1,8 @@
 use Rattle.std.proofs.Common.{◌≡◌, Bool, true, false, refl, sym, ◌∙◌, rules}
-use Rattle.uring_pictures.proofs.Common.{append-nil, is_linux_at, linux_at, nodes_below, requests_at, row_text}
+use Rattle.uring_pictures.proofs.Common.{is_linux_at, linux_at, nodes_below, requests_at, row_text}
 use Rattle.uring_pictures.proofs.Arrows.{first_next, part_more, up_to_same}
 use Rattle.uring_pictures.proofs.graph_text.push_nodes.Goals as goal
 use Rattle.uring_pictures.proofs.graph_text.push_nodes.Goals.{then-ends_chain, else-ends_chain}
-
-pub loop-number-init : goal.loop-number-init
-loop-number-init g c = record { nodes = λ h keeps. sym (append-nil _); chain = λ h keeps. refl }
 
 pub loop-number-preserved : goal.loop-number-preserved
 loop-number-preserved g c = record {
