@@ -1,6 +1,7 @@
 -- The parts of a graph, one by one.
-use Rattle.std.proofs.Common.{◌≡◌, ℕ, suc, ◌+◌, List, ◌++◌, Bool, Option, Some, None, refl, ap, sym, ◌∙◌, append_assoc, arith}
+use Rattle.std.proofs.Common.{◌≡◌, ℕ, suc, ◌+◌, List, ◌++◌, Bool, not, ◌||◌, Option, Some, None, refl, ap, sym, ◌∙◌, append_assoc, arith}
 use Rattle.uring_pictures.proofs.Common.{Requests, Sqe, arrows_below, arrows_text, call_of, codes, entry_outstanding, first_of, if◌then◌else◌, in_chain, is_chained, is_last, is_some, line_text, member_before, node_text, placed_text, row_text}
+use Rattle.std.specs.Prelude.{nat_lt}
 use Rattle.uring_linux.specs.LinuxRequests.{LinuxRequests}
 use Rattle.uring_rules.specs.Rules.{why_of}
 use Rattle.uring_entry.specs.declared.why.Why.{Why}
@@ -38,13 +39,13 @@ first_next r n last first is same =
     ap (λ (b : Bool). if b then n + 1 else first) is ∙ ap (λ (k : ℕ). if is_last r n then n + 1 else k) same ∙ ap (λ (k : ℕ). if is_last r n then k else first_of r n) (sym next) ∙ ap (first_of r) next
 
 -- the outstanding member before the next request
-pub before_next : (r : Requests) (n : ℕ) (last : Bool) (found : Option Sqe) (before : Option ℕ) → last ≡ is_last r n
-    → found ≡ entry_outstanding r n → before ≡ member_before r n
-    → (if last then None else if is_some found then Some n else before) ≡ member_before r (n + 1)
-before_next r n last found before is has same =
+pub before_next : (r : Requests) (n : ℕ) (last some : Bool) (before : Option ℕ) → last ≡ is_last r n
+    → some ≡ is_some (entry_outstanding r n) → before ≡ member_before r n
+    → (if last then None else if some then Some n else before) ≡ member_before r (n + 1)
+before_next r n last some before is has same =
     let next : suc n ≡ n + 1 = omega arith in
-    ap (λ (b : Bool). if b then None else if is_some found then Some n else before) is
-    ∙ ap (λ (o : Option Sqe). if is_last r n then None else if is_some o then Some n else before) has
+    ap (λ (b : Bool). if b then None else if some then Some n else before) is
+    ∙ ap (λ (b : Bool). if is_last r n then None else if b then Some n else before) has
     ∙ ap (λ (o : Option ℕ). if is_last r n then None else if is_some (entry_outstanding r n) then Some n else o) same
     ∙ ap (member_before r) next
 
@@ -57,16 +58,16 @@ whole_graph front one two three four nodes arrows a b c d =
     ∙ simp append_assoc refl
 
 -- the line of a request, by what is asked of it
-pub row_placed : (linux : Bool) (l : LinuxRequests) (n : ℕ) (e : Sqe) (call first : ℕ) (chained : Bool) (why : Why) (before after : List ℕ)
-    → after ≡ before ++ placed_text call (in_chain chained first (node_text n e why))
-    → call ≡ call_of l.requests n → first ≡ first_of l.requests n → chained ≡ is_chained l.requests n
+pub row_placed : (linux : Bool) (l : LinuxRequests) (n : ℕ) (e : Sqe) (call first : ℕ) (last : Bool) (why : Why) (before after : List ℕ)
+    → after ≡ before ++ placed_text call (in_chain (not last || nat_lt first n) first (node_text n e why))
+    → call ≡ call_of l.requests n → first ≡ first_of l.requests n → last ≡ is_last l.requests n
     → why ≡ why_of linux l n → Some e ≡ entry_outstanding l.requests n
     → after ≡ before ++ row_text linux l n
-row_placed linux l n e call first chained why before after is calls same others stands found =
+row_placed linux l n e call first last why before after is calls same ends stands found =
     let r = l.requests in
-    is ∙ ap (λ (k : ℕ). before ++ placed_text k (in_chain chained first (node_text n e why))) calls
-    ∙ ap (λ (k : ℕ). before ++ placed_text (call_of r n) (in_chain chained k (node_text n e why))) same
-    ∙ ap (λ (b : Bool). before ++ placed_text (call_of r n) (in_chain b (first_of r n) (node_text n e why))) others
+    is ∙ ap (λ (k : ℕ). before ++ placed_text k (in_chain (not last || nat_lt first n) first (node_text n e why))) calls
+    ∙ ap (λ (k : ℕ). before ++ placed_text (call_of r n) (in_chain (not last || nat_lt k n) k (node_text n e why))) same
+    ∙ ap (λ (b : Bool). before ++ placed_text (call_of r n) (in_chain (not b || nat_lt (first_of r n) n) (first_of r n) (node_text n e why))) ends
     ∙ ap (λ (w : Why). before ++ placed_text (call_of r n) (in_chain (is_chained r n) (first_of r n) (node_text n e w))) stands
     ∙ ap (λ (o : Option Sqe). before ++ line_text linux l n o) found
 

@@ -1,6 +1,6 @@
 -- What a step makes of the entries and cuts that are kept.
 use Rattle.std.proofs.Common.{◌≡◌, ℕ, ℤ, ◌+◌, ◌<◌, ◌≤◌, Bool, true, false, not, ◌&&◌, List, [], ◌∷◌, ◌++◌, length, take, Option, Some, None, refl, sym, ap, subst, ◌∙◌, arith}
-use Rattle.uring_pictures.proofs.Common.{Accepted, Closes, Event, HasAll, History, IsLawfulApart, Keeping, Keeps, MakesStep, Requests, Setup, Sqe, entry_of, entry_outstanding, has_ended, if◌then◌else◌, is_outstanding, is_taken, length-append, lt-ltb, take-append-le, take_all, take_more, with_call, world, zero_entry}
+use Rattle.uring_pictures.proofs.Common.{Accepted, Event, HasAll, History, IsLawfulApart, Keeping, Keeps, MakesStep, Requests, Setup, Sqe, entry_of, entry_outstanding, has_ended, if◌then◌else◌, is_outstanding, length-append, lt-ltb, requests_at, take-append-le, take_all, take_more, with_call, world, zero_entry}
 use Rattle.std.specs.Option.{option_to_list}
 use Rattle.uring_entry.specs.Submission.{Call, entries_from}
 use Rattle.uring_linux.specs.LinuxRequests.{LinuxRequests}
@@ -19,6 +19,16 @@ use Rattle.uring_machine.specs.Machine.{Machine, Fits}
 -- no call closes by this step
 abbrev pub ClosesNone : Step → Answer → Type 0
 ClosesNone s a = (accepted missed head : ℕ) → s ≡ step.End → a ≡ answer.Taken accepted missed head → ⊥
+
+-- the entries that the machine has accepted since were added
+abbrev pub AddsAll : Accepted → Accepted → Type 0
+AddsAll old new = (h : History) → Fits new.machine h → HasAll old.entries.items (requests_at new h)
+    → new.entries.items ≡ (requests_at new h).accepted
+
+-- and that a call closed
+abbrev pub AddsCut : Accepted → Accepted → Type 0
+AddsCut old new = (h : History) → Fits new.machine h
+    → new.cuts.items ≡ old.cuts.items ++ length (requests_at new h).accepted ∷ []
 
 -- the same entries and cuts
 abbrev HasSameLists : Requests → Requests → Type 0
@@ -83,45 +93,38 @@ has_all r more sound = record {
   unended = λ n beyond. unended_by r n (has_ended r n) sound beyond refl;
 }
 
-taken_as : (a : Answer) → is_taken a ≡ true
-    → (accepted : ℕ) × (missed : ℕ) × (head : ℕ) × (a ≡ answer.Taken accepted missed head)
-taken_as (answer.Taken accepted missed head) is = (accepted, missed, head, refl)
-taken_as answer.Filled is = absurd cc
-taken_as answer.Staged is = absurd cc
-taken_as _ is = absurd cc
-
 -- a step by which a call closes, whose entries are added
-keeps_call : (old at new : Accepted) (accepted missed head : ℕ) (h : History)
-    → at.machine.core.setup ≡ old.machine.core.setup
-    → ((k : History) → Fits old.machine k → Fits at.machine ((step.End, answer.Taken accepted missed head) ∷ k))
-    → at.entries.items ≡ old.entries.items → at.cuts.items ≡ old.cuts.items → Closes at new → Keeps old h
-    → Keeping at.machine new.entries.items new.cuts.items ((step.End, answer.Taken accepted missed head) ∷ h)
-keeps_call old at new accepted missed head h same fits kept marked closes k =
+keeps_call : (old new : Accepted) (accepted missed head : ℕ) (h : History)
+    → new.machine.core.setup ≡ old.machine.core.setup
+    → ((k : History) → Fits old.machine k → Fits new.machine ((step.End, answer.Taken accepted missed head) ∷ k))
+    → AddsAll old new → AddsCut old new → Keeps old h
+    → Keeps new ((step.End, answer.Taken accepted missed head) ∷ h)
+keeps_call old new accepted missed head h same fits adds marks k =
     let e : Event = (step.End, answer.Taken accepted missed head) in
-    let g = at.machine.core.setup in
-    let now : Fits at.machine (e ∷ h) = fits h k.fits in
+    let g = new.machine.core.setup in
+    let now : Fits new.machine (e ∷ h) = fits h k.fits in
     let more = closed g h accepted missed head now.core.lawful in
-    let before : at.entries.items ≡ (world g h).requests.accepted = kept ∙ subst (λ (s : Setup). old.entries.items ≡ (world s h).requests.accepted) (sym same) k.entries in
-    let ends : at.cuts.items ≡ (world g h).requests.cuts = marked ∙ subst (λ (s : Setup). old.cuts.items ≡ (world s h).requests.cuts) (sym same) k.cuts in
-    let all : HasAll at.entries.items (world g (e ∷ h)).requests = subst (λ (q : Requests). HasAll at.entries.items q) (sym more.1) (subst (λ (xs : List Sqe). HasAll xs (with_call (world g h).requests more.0)) (sym before) (has_all (world g h).requests more.0 (sound_of g h now.core.lawful.1).requests)) in
+    let before : old.entries.items ≡ (world g h).requests.accepted = subst (λ (s : Setup). old.entries.items ≡ (world s h).requests.accepted) (sym same) k.entries in
+    let ends : old.cuts.items ≡ (world g h).requests.cuts = subst (λ (s : Setup). old.cuts.items ≡ (world s h).requests.cuts) (sym same) k.cuts in
+    let all : HasAll old.entries.items (world g (e ∷ h)).requests = subst (λ (q : Requests). HasAll old.entries.items q) (sym more.1) (subst (λ (xs : List Sqe). HasAll xs (with_call (world g h).requests more.0)) (sym before) (has_all (world g h).requests more.0 (sound_of g h now.core.lawful.1).requests)) in
     let cuts_now : (world g (e ∷ h)).requests.cuts ≡ (world g h).requests.cuts ++ length (world g (e ∷ h)).requests.accepted ∷ [] = subst (λ (q : Requests). q.cuts ≡ (world g h).requests.cuts ++ length q.accepted ∷ []) (sym more.1) refl in
     record {
       fits = now;
-      entries = closes.entries (e ∷ h) now all;
-      cuts = closes.cuts (e ∷ h) now ∙ ap (λ (ks : List ℕ). ks ++ length (world g (e ∷ h)).requests.accepted ∷ []) ends ∙ sym cuts_now;
+      entries = adds (e ∷ h) now all;
+      cuts = marks (e ∷ h) now ∙ ap (λ (ks : List ℕ). ks ++ length (world g (e ∷ h)).requests.accepted ∷ []) ends ∙ sym cuts_now;
     }
 
-pub call_made : (old at new : Accepted) (a : Answer) → is_taken a ≡ true
-    → at.machine.core.setup ≡ old.machine.core.setup
-    → ((k : History) → Fits old.machine k → Fits at.machine ((step.End, a) ∷ k))
-    → at.entries.items ≡ old.entries.items → at.cuts.items ≡ old.cuts.items → Closes at new
-    → MakesStep old new step.End
-call_made old at new a is same fits kept marked closes =
-    let t = taken_as a is in
+pub call_made : (old new : Accepted) (s : Step) (a : Answer) (accepted missed head : ℕ) → s ≡ step.End
+    → a ≡ answer.Taken accepted missed head → new.machine.core.setup ≡ old.machine.core.setup
+    → ((k : History) → Fits old.machine k → Fits new.machine ((s, a) ∷ k))
+    → AddsAll old new → AddsCut old new → MakesStep old new s
+call_made old new s a accepted missed head ends is same fits adds marks =
+    let both : (s, a) ≡ (step.End, answer.Taken accepted missed head) = ap (λ (t : Step). (t, a)) ends ∙ ap (λ (b : Answer). (step.End, b)) is in
+    let fits_now = subst (λ (e : Event). (k : History) → Fits old.machine k → Fits new.machine (e ∷ k)) both fits in
     record {
       answer = a;
-      same = ap (λ (m : Machine). m.core.setup) closes.same ∙ same;
-      keeps = λ h k. subst (λ (m : Machine). Keeping m new.entries.items new.cuts.items ((step.End, a) ∷ h)) (sym closes.same) (subst (λ (b : Answer). Keeping at.machine new.entries.items new.cuts.items ((step.End, b) ∷ h)) (sym t.3) (keeps_call old at new t.0 t.1 t.2 h same (subst (λ (b : Answer). (k : History) → Fits old.machine k → Fits at.machine ((step.End, b) ∷ k)) t.3 fits) kept marked closes k));
+      same = same;
+      keeps = λ h k. subst (λ (e : Event). Keeps new (e ∷ h)) (sym both) (keeps_call old new accepted missed head h same fits_now adds marks k);
     }
 
 -- a step by which none closes
@@ -136,9 +139,6 @@ step_made old new s a same fits kept marked none = record {
       let n = keeps_step old.machine new.machine old.entries.items old.cuts.items s a h same fits none k in
       record { fits = n.fits; entries = kept ∙ n.entries; cuts = marked ∙ n.cuts };
 }
-
-pub closes_none : (a : Answer) → is_taken a ≡ false → ClosesNone step.End a
-closes_none a is accepted missed head end taken = absurd (let no : true ≡ false = sym (ap is_taken taken) ∙ is in cc)
 
 -- One entry more.
 

@@ -8,7 +8,7 @@ pub use Rattle.uring_core.specs.Histories.{Event, History, IsLawfulApart, histor
 pub use Rattle.uring_entry.specs.Layout.{Sqe, user_data_of, zero_entry}
 pub use Rattle.uring_entry.specs.Requests.{Requests, entry_of, entry_outstanding, has_ended, is_joined, is_last, is_outstanding, with_call}
 pub use Rattle.uring_entry.specs.Setup.{Setup}
-pub use Rattle.uring_pictures.specs.Following.{Closes, Followed, Following, HasAll, HasFollowed, Keeping, Keeps, MakesStep, ReadsLine, is_linux_at, is_taken, linux_at, requests_at}
+pub use Rattle.uring_pictures.specs.Following.{Followed, Following, HasAll, HasFollowed, Keeping, Keeps, MakesStep, ReadsLine, is_linux_at, linux_at, requests_at}
 pub use Rattle.uring_pictures.specs.Graphs.{arrows_below, arrows_text, call_of, first_of, flag_text, graph_of, in_chain, is_chained, line_text, member_before, node_text, nodes_below, placed_text, row_text, shape_of, standing_text}
 pub use Rattle.uring_pictures.specs.Moments.{does_count, up_to}
 pub use Rattle.uring_pictures.specs.Readings.{EndsIn, EndsLine, ReadsAll, TakesIn}

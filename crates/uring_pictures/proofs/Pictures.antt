@@ -1,13 +1,13 @@
 -- What is drawn of all that was read.
-use Rattle.std.proofs.Common.{◌≡◌, ℕ, Bool, List, [], ◌++◌, Option, Ok, Err, sym, ap, subst, ◌∙◌}
-use Rattle.uring_pictures.proofs.Common.{Accepted, Appends, Explainer, HasFollowed, History, Keeps, OnOk, ReadsAll, Setup, graph_of, history_of, is_linux_at, linux_at, world}
+use Rattle.std.proofs.Common.{◌≡◌, ℕ, Bool, List, [], ◌++◌, Option, Ok, sym, ap, subst, ◌∙◌}
+use Rattle.uring_pictures.proofs.Common.{Accepted, Appends, Explainer, HasFollowed, History, Keeps, ReadsAll, Setup, graph_of, history_of, is_linux_at, linux_at, world}
 use Rattle.uring_core.specs.CalledFor.{IsLawful}
 use Rattle.uring_core.specs.World.{requests_of}
 use Rattle.uring_text.specs.Writing.{WritesText}
 use Rattle.uring_trace.specs.Exchanges.{events_of}
 use Rattle.uring_pictures.specs.Drawings.{Reads, Draws}
 use Rattle.uring_pictures.specs.declared.moment.Moment.{Moment}
-use Rattle.uring_pictures.proofs.Streams.{Done, Known}
+use Rattle.uring_pictures.proofs.Streams.{Known}
 
 -- what was read is drawn
 pub draws : (at : Option ℕ) (setup : Setup) (bad : Bool) (m : Moment) (drawn : Accepted) (a a' w w' x x' : Known)
@@ -37,13 +37,12 @@ draws at setup bad m drawn a a' w w' x x' both same writes =
     }
 
 -- a text that was written
-pub written_graph : (result : Done) (drawn : Accepted) (text none : List ℕ) (w w' : Known) → none ≡ []
+pub written_graph : (drawn : Accepted) (text none : List ℕ) (w w' : Known) → none ≡ []
     → ((h : History) → Keeps drawn h → text ≡ none ++ graph_of (is_linux_at drawn) (linux_at drawn h))
-    → (written : List ℕ) × Appends w w' written × WritesText result text written
-    → OnOk result ((h : History) → Keeps drawn h → Appends w w' (graph_of (is_linux_at drawn) (linux_at drawn h)))
-written_graph (Ok done) drawn text none w w' start tells x = λ h keeps.
+    → (written : List ℕ) × Appends w w' written × WritesText (Ok tt) text written
+    → (h : History) → Keeps drawn h → Appends w w' (graph_of (is_linux_at drawn) (linux_at drawn h))
+written_graph drawn text none w w' start tells x = λ h keeps.
     subst (λ (l : List ℕ). Appends w w' l) (x.2 ∙ tells h keeps ∙ ap (λ (l : List ℕ). l ++ graph_of (is_linux_at drawn) (linux_at drawn h)) start) x.1
-written_graph (Err f) drawn text none w w' start tells x = tt
 
 -- what was read, without a picture
 pub reads : (P : List ℕ → Type 0) (setup : Setup) (bad : Bool) (s : Explainer) (a a' x x' : Known)

@@ -25,14 +25,11 @@ took_in (Ok done) s s' more none none' new new' e e' a b feed w = λ setup befor
 took_in (Err f) s s' more none none' new new' e e' a b feed w = tt
 
 -- the end of the input, and its notes written
-pub ended_in : (result : Done) (s s' : Explainer) (none none' new new' : List ℕ) (e e' : Known)
-    → none ≡ [] → none' ≡ []
+pub ended_in : (s s' : Explainer) (none none' new new' : List ℕ) (e e' : Known) → none ≡ [] → none' ≡ []
     → ((setup : Setup) (before told noted : List ℕ) → HasTold setup s before (told ++ none) (noted ++ none') → HasEnded setup s' before (told ++ new) (noted ++ new'))
-    → (written : List ℕ) × Appends e e' written × WritesText result new' written
-    → OnOk result (EndsLine s s' e e')
-ended_in (Ok done) s s' none none' new new' e e' a b finish w = λ setup before told noted h.
+    → (written : List ℕ) × Appends e e' written × WritesText (Ok tt) new' written → EndsLine s s' e e'
+ended_in s s' none none' new new' e e' a b finish w = λ setup before told noted h.
     (new, new', subst (λ (l : List ℕ). Appends e e' l) w.2 w.1, finish setup before told noted (nothing_yet (telling_on setup) s before told noted none none' a b h))
-ended_in (Err f) s s' none none' new new' e e' a b finish w = tt
 
 -- What was read so far: the reader had a left and has r, and what is noted was held after x and makes e.
 abbrev pub Far : Setup → Known → Known → Known → Known → Explainer → Type 0

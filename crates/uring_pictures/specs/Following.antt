@@ -1,5 +1,5 @@
 -- Glue. What is kept of the requests of a trace as its lines come.
-use Rattle.std.specs.Prelude.{◌≡◌, ℕ, ◌≤◌, Bool, true, false, List, [], ◌∷◌, ◌++◌, length, take, Option}
+use Rattle.std.specs.Prelude.{◌≡◌, ℕ, ◌≤◌, Bool, false, List, ◌∷◌, length, take, Option}
 use Rattle.std.specs.List.{AllByRecursion}
 use Rattle.uring_entry.specs.Setup.{Setup}
 use Rattle.uring_entry.specs.Layout.{Sqe}
@@ -8,7 +8,6 @@ use Rattle.uring_linux.specs.LinuxRequests.{LinuxRequests}
 use Rattle.uring_core.specs.World.{requests_of}
 use Rattle.uring_core.specs.Histories.{Event, History, history_of, world}
 use Rattle.uring_core.specs.declared.answer.Answer.{Answer}
-use Rattle.uring_core.specs.declared.answer.Answer.TheVariants as answer
 use Rattle.uring_core.specs.declared.step.Step.{Step}
 use Rattle.uring_machine.specs.Machine.{Machine, Fits}
 use Rattle.uring_text.specs.Lines.{Splits, with_last}
@@ -41,24 +40,11 @@ linux_at a h = requests_of (world a.machine.core.setup h)
 abbrev pub is_linux_at : Accepted → Bool
 is_linux_at a = a.machine.core.setup.linux
 
--- whether an answer tells that a call has closed
-abbrev pub is_taken : Answer → Bool
-is_taken (answer.Taken accepted missed head) = true
-is_taken _ = false
-
 -- These entries are the first of the requests, and none of the further ones has ended.
 pub record HasAll (entries : List Sqe) (r : Requests) : Type 0 where
   pub front : entries ≡ take (length entries) r.accepted
   pub fewer : length entries ≤ length r.accepted
   pub unended : (n : ℕ) → length entries ≤ n → has_ended r n ≡ false
-
--- The entries that the machine has accepted since were added, and that a call closed.
-pub record Closes (old new : Accepted) : Type 0 where
-  pub same : new.machine ≡ old.machine
-  pub entries : (h : History) → Fits old.machine h → HasAll old.entries.items (requests_at old h)
-      → new.entries.items ≡ (requests_at old h).accepted
-  pub cuts : (h : History) → Fits old.machine h
-      → new.cuts.items ≡ old.cuts.items ++ length (requests_at old h).accepted ∷ []
 
 -- a step was made
 pub record MakesStep (old new : Accepted) (s : Step) : Type 0 where

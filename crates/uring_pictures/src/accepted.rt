@@ -1,14 +1,14 @@
 //! The requests that were accepted, as a machine goes along.
 
-ghost use Rattle.std.specs.Prelude.{◌≡◌, ◌++◌, ◌<◌, ◌-◌, ◌^◌, ℕ, [], length, count_by, nat_le, IfOk, IsOk, OnOk};
-ghost use Rattle.std.specs.Option.{option_to_list};
-ghost use Rattle.uring_entry.specs.Requests.{entry_of, entry_outstanding, is_last, is_linked};
+ghost use Rattle.std.specs.Prelude.{◌≡◌, ◌<◌, ◌-◌, ◌^◌, ℕ, [], length, IfOk, IsOk, OnOk};
+ghost use Rattle.uring_entry.specs.Requests.{entry_outstanding, is_last};
 ghost use Rattle.uring_rules.specs.Rules.{why_of};
 ghost use Rattle.uring_core.specs.Histories.{History, world};
 ghost use Rattle.uring_machine.specs.Machine.{Fits};
-ghost use Rattle.uring_pictures.specs.Following.{Closes, HasAll, Keeps, MakesStep, is_linux_at, is_taken, linux_at, requests_at};
+ghost use Rattle.uring_pictures.specs.Following.{HasAll, Keeps, MakesStep, is_linux_at, linux_at, requests_at};
 ghost use Rattle.uring_pictures.specs.Graphs.{call_of};
 
+use crate::pages::push_value;
 use std::alloc::{AllocError, Global};
 use uring_machine::{Answer, Machine, Setup, Sqe, Step, Why};
 use uring_memory::Memory;
@@ -34,50 +34,27 @@ impl Accepted {
         ensures keeps { IfOk result (λ a. Keeps a []) }
         ensures granted { ((n : ℕ) → M.grants memory.now n) → IsOk result }
     {
-        let machine = Machine::new_in(memory, alloc, setup)?;
-        let entries = Vec::new(alloc);
-        let cuts = Vec::new(alloc);
         Ok(Accepted {
-            machine,
-            entries,
-            cuts,
+            machine: Machine::new_in(memory, alloc, setup)?,
+            entries: Vec::new(alloc),
+            cuts: Vec::new(alloc),
         })
     }
 
-    /// Makes a step.
+    /// Makes a step. One that closes a call adds the entries that the machine has accepted since.
     pub(crate) fn step_in<M: Memory>(&mut self, memory: &M, step: Step) -> Result<(), AllocError>
         ensures made { OnOk result (MakesStep self.old self.new step) }
         ensures granted { ((n : ℕ) → M.grants memory.now n) → IsOk result }
     {
-        match step {
-            Step::End => self.end_call(memory),
-            _ => {
-                self.machine.step_in(memory, step);
-                Ok(())
-            }
-        }
-    }
-
-    /// Makes the step that closes a call.
-    fn end_call<M: Memory>(&mut self, memory: &M) -> Result<(), AllocError>
-        ensures made { OnOk result (MakesStep self.old self.new Step.End) }
-        ensures granted { ((n : ℕ) → M.grants memory.now n) → IsOk result }
-    {
-        let answer = self.machine.step_in(memory, Step::End);
-        if is_taken(&answer) {
-            return self.close(memory);
-        }
-        Ok(())
-    }
-
-    /// Adds the entries that the machine has accepted since, and that a call has closed.
-    fn close<M: Memory>(&mut self, memory: &M) -> Result<(), AllocError>
-        ensures closed { OnOk result (Closes self.old self.new) }
-        ensures granted { ((n : ℕ) → M.grants memory.now n) → IsOk result }
-    {
+        let answer = self.machine.step_in(memory, step);
+        let Step::End = &step else {
+            return Ok(());
+        };
+        let Answer::Taken { .. } = &answer else {
+            return Ok(());
+        };
         let accepted = self.machine.counts().accepted;
-        memory.reserve(&mut self.cuts, 1)?;
-        self.cuts.push_reserved(accepted);
+        push_value(memory, &mut self.cuts, accepted)?;
         add_entries(memory, &self.machine, &mut self.entries, accepted)
     }
 
@@ -111,17 +88,9 @@ impl Accepted {
         ensures { (h : History) → Keeps self.now h
             → result ≡ is_last (requests_at self.now h) number }
     {
-        !self.goes_on(number) || self.cuts.contains(&(number + 1))
-    }
-
-    /// Whether a request has a link.
-    fn goes_on(&self, number: u64) -> bool
-        ensures { (h : History) → Keeps self.now h
-            → result ≡ is_linked (entry_of (requests_at self.now h) number) }
-    {
         match self.entries.get(number as usize) {
-            Some(entry) => entry.is_linked(),
-            None => false,
+            Some(entry) => !entry.is_linked() || self.cuts.contains(&(number + 1)),
+            None => true,
         }
     }
 
@@ -130,28 +99,14 @@ impl Accepted {
         ensures { (h : History) → Keeps self.now h
             → result ≡ call_of (requests_at self.now h) number }
     {
-        count_up_to(&self.cuts, number)
-    }
-}
-
-/// Whether an answer tells that a call has closed.
-fn is_taken(answer: &Answer) -> bool
-    ensures { result ≡ is_taken answer.now }
-{
-    matches!(answer, Answer::Taken { .. })
-}
-
-/// How many numbers are no greater than this one.
-fn count_up_to(numbers: &[u64], number: u64) -> u64
-    ensures { result ≡ count_by (λ cut. nat_le cut number) numbers.now }
-{
-    let mut count: u64 = 0;
-    for cut in numbers {
-        if *cut <= number {
-            count += 1;
+        let mut count: u64 = 0;
+        for cut in &self.cuts {
+            if *cut <= number {
+                count += 1;
+            }
         }
+        count
     }
-    count
 }
 
 /// Adds the entries of the requests after those that are there, up to so many in all.
@@ -169,25 +124,9 @@ fn add_entries<M: Memory>(
     ensures granted { ((n : ℕ) → M.grants memory.now n) → IsOk result }
 {
     for number in entries.len() as u64..accepted {
-        add_entry(memory, machine.core().entry(number), entries)?;
+        if let Some(entry) = machine.core().entry(number) {
+            push_value(memory, entries, entry)?;
+        }
     }
-    Ok(())
-}
-
-/// Adds an entry.
-fn add_entry<M: Memory>(
-    memory: &M,
-    entry: Option<Sqe>,
-    entries: &mut Vec<Sqe>,
-) -> Result<(), AllocError>
-    ensures items { OnOk result
-        (entries.new.items ≡ entries.old.items ++ option_to_list entry) }
-    ensures granted { ((n : ℕ) → M.grants memory.now n) → IsOk result }
-{
-    let Some(entry) = entry else {
-        return Ok(());
-    };
-    memory.reserve(entries, 1)?;
-    entries.push_reserved(entry);
     Ok(())
 }

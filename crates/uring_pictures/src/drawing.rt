@@ -1,13 +1,9 @@
 //! The run of a trace of which a graph is drawn.
 
-ghost use Rattle.std.specs.Prelude.{◌≢◌, ℕ, [], Option, IfOk, OnOk, Err};
-ghost use Rattle.std.specs.Io.KnownBytes.{Appends};
-ghost use Rattle.uring_core.specs.Histories.{History};
+ghost use Rattle.std.specs.Prelude.{◌≢◌, ℕ, [], Option, IfOk, Err};
 ghost use Rattle.uring_pictures.specs.Drawings.{Draws};
-ghost use Rattle.uring_pictures.specs.Following.{Follows, Keeps, is_linux_at, linux_at};
-ghost use Rattle.uring_pictures.specs.Graphs.{graph_of};
+ghost use Rattle.uring_pictures.specs.Following.{Follows};
 
-use crate::accepted::Accepted;
 use crate::graph_text::push_graph;
 use crate::moment::Moment;
 use crate::watching::watch_trace;
@@ -73,27 +69,8 @@ fn draw_all<M: TextMemory, R: Read, W: Write, E: Write>(
     ensures granted { ((n : ℕ) → M.grants memory.now n) → result ≢ Err TraceFault.Memory }
 {
     let bad = watch_trace(memory, alloc, setup, moment, reader, errors)?;
-    match write_graph(memory, alloc, &moment.accepted, writer) {
-        Ok(()) => Ok(bad),
-        Err(fault) => Err(fault),
-    }
-}
-
-/// Writes the graph of the outstanding requests.
-fn write_graph<M: TextMemory, W: Write>(
-    memory: &M,
-    alloc: Global,
-    accepted: &Accepted,
-    writer: &mut W,
-) -> Result<(), TraceFault>
-    ensures drawn { OnOk result
-        ((h : History) → Keeps accepted.now h
-        → Appends (W.contents writer.old) (W.contents writer.new) (graph_of (is_linux_at accepted.now) (linux_at accepted.now h))) }
-    ensures granted { ((n : ℕ) → M.grants memory.now n) → result ≢ Err TraceFault.Memory }
-{
     let mut text = String::new(alloc);
-    match push_graph(memory, &mut text, accepted) {
-        Ok(()) => write_all(writer, text.as_bytes(), &mut Calls::new()),
-        Err(_) => Err(TraceFault::Memory),
-    }
+    push_graph(memory, &mut text, &moment.accepted)?;
+    write_all(writer, text.as_bytes(), &mut Calls::new())?;
+    Ok(bad)
 }

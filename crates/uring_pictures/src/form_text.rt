@@ -114,7 +114,12 @@ fn push_value<M: TextMemory>(
         Value::Text(more) => push_text(memory, text, more),
         Value::Quoted(bytes) => push_quoted(memory, text, bytes),
         Value::Seen(alloc, bytes) => push_seen(memory, *alloc, text, bytes),
-        Value::Told(name, bytes) => push_told(memory, text, name, bytes),
+        Value::Told(_, bytes) if bytes.is_empty() => Ok(()),
+        Value::Told(name, bytes) => {
+            push_text(memory, text, name)?;
+            push_quoted(memory, text, bytes)?;
+            push_plain(memory, text, b'"')
+        }
         Value::Operation(entry) => push_operation(memory, text, entry),
         Value::Flags(entry) => push_letters(memory, text, entry),
         Value::Member(name, Some(number)) => push_named(memory, text, name, *number),
@@ -176,45 +181,24 @@ fn push_seen<M: TextMemory>(
     }
 }
 
-/// Appends this text, then bytes and an end of a string, unless there are no bytes.
-fn push_told<M: TextMemory>(
-    memory: &M,
-    text: &mut String,
-    name: &str,
-    bytes: &[u8],
-) -> Result<(), AllocError>
-    ensures { ((n : ℕ) → M.grants memory.now n) → IsOk result }
-{
-    if bytes.is_empty() {
-        return Ok(());
-    }
-    push_text(memory, text, name)?;
-    push_quoted(memory, text, bytes)?;
-    push_plain(memory, text, b'"')
-}
-
 /// Appends printing bytes of ASCII, and ends of lines, as a string of JSON has them.
 fn push_quoted<M: TextMemory>(memory: &M, text: &mut String, bytes: &[u8]) -> Result<(), AllocError>
     ensures { ((n : ℕ) → M.grants memory.now n) → IsOk result }
 {
     for byte in bytes {
-        push_byte(memory, text, *byte)?;
+        let escape = match *byte {
+            b'"' => "\\\"",
+            b'\\' => "\\\\",
+            b'\n' => "\\n",
+            b'<' => "\\u003c",
+            _ => {
+                push_plain(memory, text, *byte)?;
+                continue;
+            }
+        };
+        push_text(memory, text, escape)?;
     }
     Ok(())
-}
-
-/// Appends a byte of a string.
-fn push_byte<M: TextMemory>(memory: &M, text: &mut String, byte: u8) -> Result<(), AllocError>
-    ensures { ((n : ℕ) → M.grants memory.now n) → IsOk result }
-{
-    let escape = match byte {
-        b'"' => "\\\"",
-        b'\\' => "\\\\",
-        b'\n' => "\\n",
-        b'<' => "\\u003c",
-        _ => return push_plain(memory, text, byte),
-    };
-    push_text(memory, text, escape)
 }
 
 /// Appends the character of this code.

@@ -1,10 +1,10 @@
 //! The graph of the outstanding requests, in Graphviz's language.
 
-ghost use Rattle.std.specs.Prelude.{◌≡◌, ◌++◌, ◌+◌, ◌-◌, ◌^◌, ◌<◌, ℕ, OnOk, IsOk, codes, string_bytes, decimal};
+ghost use Rattle.std.specs.Prelude.{◌≡◌, ◌++◌, ◌-◌, ◌^◌, ◌<◌, ℕ, OnOk, IsOk, length, codes, string_bytes, decimal};
 ghost use Rattle.uring_core.specs.Histories.{History};
 ghost use Rattle.uring_trace.specs.Reasons.{since_text};
 ghost use Rattle.uring_pictures.specs.Following.{Keeps, is_linux_at, linux_at, requests_at};
-ghost use Rattle.uring_pictures.specs.Graphs.{graph_of, nodes_below, arrows_below, first_of, is_chained, member_before, row_text, arrows_text, chain_arrow, drain_arrow};
+ghost use Rattle.uring_pictures.specs.Graphs.{graph_of, nodes_below, arrows_below, first_of, row_text, arrows_text, chain_arrow};
 
 use crate::accepted::Accepted;
 use crate::form_text::{Value, push_form};
@@ -25,43 +25,30 @@ pub(crate) fn push_graph<M: TextMemory>(
     ensures granted { ((n : ℕ) → M.grants memory.now n) → IsOk result }
 {
     push_text(memory, text, "digraph requests {\n")?;
-    push_nodes(memory, text, accepted, accepted.count())?;
-    push_arrows(memory, text, accepted, accepted.count())?;
+    push_nodes(memory, text, accepted)?;
+    push_arrows(memory, text, accepted)?;
     push_text(memory, text, "}\n")
 }
 
-/// Appends the lines of the outstanding ones of the first requests, so many.
+/// Appends the lines of the outstanding requests.
 fn push_nodes<M: TextMemory>(
     memory: &M,
     text: &mut String,
     accepted: &Accepted,
-    count: u64,
 ) -> Result<(), AllocError>
     ensures nodes { OnOk result
         ((h : History) → Keeps accepted.now h
-        → string_bytes text.new ≡ string_bytes text.old ++ nodes_below (is_linux_at accepted.now) (linux_at accepted.now h) count) }
+        → string_bytes text.new ≡ string_bytes text.old ++ nodes_below (is_linux_at accepted.now) (linux_at accepted.now h) (length (requests_at accepted.now h).accepted)) }
     ensures granted { ((n : ℕ) → M.grants memory.now n) → IsOk result }
 {
     let mut first: u64 = 0;
-    for number in 0..count {
+    for number in 0..accepted.count() {
         push_row(memory, text, accepted, number, first)?;
-        first = next_first(accepted, number, first);
+        if accepted.ends_chain(number) {
+            first = number + 1;
+        }
     }
     Ok(())
-}
-
-/// The first member of the chain of the next request.
-fn next_first(accepted: &Accepted, number: u64, first: u64) -> u64
-    requires { number < 2 ^ 64 - 1 }
-    ensures { (h : History) → Keeps accepted.now h
-        → first ≡ first_of (requests_at accepted.now h) number
-        → result ≡ first_of (requests_at accepted.now h) (number + 1) }
-{
-    if accepted.ends_chain(number) {
-        number + 1
-    } else {
-        first
-    }
 }
 
 /// Appends the line of a request, if it is outstanding.
@@ -85,58 +72,35 @@ fn push_row<M: TextMemory>(
     let place = Place {
         call: accepted.call(number),
         first,
-        is_chained: has_others(accepted, number, first),
+        is_chained: !accepted.ends_chain(number) | (first < number),
     };
     push_placed(memory, text, place, number, &entry, accepted.why(number))
 }
 
-/// Whether the chain of a request has another member.
-fn has_others(accepted: &Accepted, number: u64, first: u64) -> bool
-    requires { number < 2 ^ 64 - 1 }
-    ensures { (h : History) → Keeps accepted.now h
-        → first ≡ first_of (requests_at accepted.now h) number
-        → result ≡ is_chained (requests_at accepted.now h) number }
-{
-    !accepted.ends_chain(number) || first < number
-}
-
-/// Appends the arrows from the first requests, so many.
+/// Appends the arrows from all requests.
 fn push_arrows<M: TextMemory>(
     memory: &M,
     text: &mut String,
     accepted: &Accepted,
-    count: u64,
 ) -> Result<(), AllocError>
     ensures arrows { OnOk result
         ((h : History) → Keeps accepted.now h
-        → string_bytes text.new ≡ string_bytes text.old ++ arrows_below (is_linux_at accepted.now) (linux_at accepted.now h) count) }
+        → string_bytes text.new ≡ string_bytes text.old ++ arrows_below (is_linux_at accepted.now) (linux_at accepted.now h) (length (requests_at accepted.now h).accepted)) }
     ensures granted { ((n : ℕ) → M.grants memory.now n) → IsOk result }
 {
     let mut before: Option<u64> = None;
-    for number in 0..count {
+    for number in 0..accepted.count() {
         push_both(memory, text, number, before, accepted.why(number))?;
-        before = next_before(accepted, number, before);
+        if accepted.ends_chain(number) {
+            before = None;
+        } else if accepted.outstanding(number).is_some() {
+            before = Some(number);
+        }
     }
     Ok(())
 }
 
-/// The last outstanding member of the chain of the next request before that one.
-fn next_before(accepted: &Accepted, number: u64, before: Option<u64>) -> Option<u64>
-    requires { number < 2 ^ 64 - 1 }
-    ensures { (h : History) → Keeps accepted.now h
-        → before ≡ member_before (requests_at accepted.now h) number
-        → result ≡ member_before (requests_at accepted.now h) (number + 1) }
-{
-    if accepted.ends_chain(number) {
-        return None;
-    }
-    match accepted.outstanding(number) {
-        Some(_) => Some(number),
-        None => before,
-    }
-}
-
-/// Appends the arrows from a request, if it waits.
+/// Appends the arrows from a request, if it waits: to the member of its chain before it, and to the least request that it waits for, unless that is a member of its chain.
 fn push_both<M: TextMemory>(
     memory: &M,
     text: &mut String,
@@ -152,7 +116,11 @@ fn push_both<M: TextMemory>(
         return Ok(());
     };
     push_chain_arrow(memory, text, number, before)?;
-    push_drain_arrow(memory, text, number, least, since)
+    if matches!(since, Since::SameGroup) {
+        return Ok(());
+    }
+    let style = " [style=dashed, label=\"";
+    push_arrow(memory, text, number, least, style, since)
 }
 
 /// Appends the arrow to the member of its chain before it, if one is outstanding.
@@ -171,25 +139,6 @@ fn push_chain_arrow<M: TextMemory>(
     };
     let style = " [label=\"";
     push_arrow(memory, text, number, before, style, Since::SameGroup)
-}
-
-/// Appends the arrow to the least request that it waits for, unless that is a member of its chain.
-fn push_drain_arrow<M: TextMemory>(
-    memory: &M,
-    text: &mut String,
-    number: u64,
-    least: u64,
-    since: Since,
-) -> Result<(), AllocError>
-    ensures line { OnOk result
-        (string_bytes text.new ≡ string_bytes text.old ++ drain_arrow number least since) }
-    ensures granted { ((n : ℕ) → M.grants memory.now n) → IsOk result }
-{
-    if matches!(since, Since::SameGroup) {
-        return Ok(());
-    }
-    let style = " [style=dashed, label=\"";
-    push_arrow(memory, text, number, least, style, since)
 }
 
 /// Appends an arrow of this style, with the reason why the other request is waited for.

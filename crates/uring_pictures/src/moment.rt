@@ -1,6 +1,6 @@
 //! The moment after some line of a trace: the requests as the lines up to it have left them.
 
-ghost use Rattle.std.specs.Prelude.{◌≡◌, ◌+◌, ◌-◌, ◌^◌, [], ℕ, List, min, Option, IfOk, IsOk, OnOk, MatchOption};
+ghost use Rattle.std.specs.Prelude.{◌≡◌, [], ℕ, List, Option, IfOk, IsOk, OnOk, MatchOption};
 ghost use Rattle.uring_entry.specs.Setup.{Setup};
 ghost use Rattle.uring_text.specs.KeptLine.{kept_of};
 ghost use Rattle.uring_trace.specs.Spelling.{IsStep, IsBad};
@@ -58,17 +58,6 @@ impl Moment {
         }
     }
 
-    /// Begins the next line.
-    fn begin_line(&mut self)
-        ensures line { self.new.line ≡ kept_of [] }
-        ensures number { self.new.number ≡ min (self.old.number + 1) (2 ^ 64 - 1) }
-        ensures at { self.new.at ≡ self.old.at }
-        ensures accepted { self.new.accepted ≡ self.old.accepted }
-    {
-        self.line.clear();
-        self.number = self.number.saturating_add(1);
-    }
-
     /// Makes the step that the line is, if it is one.
     fn read_line<M: TextMemory>(&mut self, memory: &M) -> Result<(), AllocError>
         ensures read { OnOk result
@@ -116,10 +105,9 @@ impl Watcher for Moment {
     ) -> Result<(), AllocError> {
         if self.counts() {
             self.read_line(memory)?;
-            self.begin_line();
-            return Ok(());
         }
-        self.begin_line();
+        self.line.clear();
+        self.number = self.number.saturating_add(1);
         Ok(())
     }
 

@@ -48,14 +48,15 @@ pub(crate) fn push_placed<M: TextMemory>(
         Value::Number(place.first),
         Value::Number(place.first),
     ];
+    let mut before = ALONE;
+    let mut after = " }\n";
     if place.is_chained {
-        push_form(memory, text, CHAINED, &values)?;
-        push_node(memory, text, number, entry, why)?;
-        return push_text(memory, text, " } }\n");
+        before = CHAINED;
+        after = " } }\n";
     }
-    push_form(memory, text, ALONE, &values)?;
+    push_form(memory, text, before, &values)?;
     push_node(memory, text, number, entry, why)?;
-    push_text(memory, text, " }\n")
+    push_text(memory, text, after)
 }
 
 /// Appends a node: its shape tells how it stands, and its label number, operation and flags, user data, and how it stands.

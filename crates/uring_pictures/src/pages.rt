@@ -3,11 +3,9 @@
 mod change_text;
 mod changes;
 mod checked;
-mod entries;
 mod line_parts;
 mod recorder;
 mod requests;
-mod state_text;
 mod submission;
 mod viewer;
 mod watching;

@@ -67,7 +67,11 @@ impl Timeline {
             self.look_at(memory, number, machine.why(number), line, has_posted)?;
         }
         for place in self.counts.reaped..counts.reaped {
-            self.note_reaped(place, line);
+            if let Some(number) = self.posters.get(place as usize) {
+                if let Some(row) = self.rows.get_mut(*number as usize) {
+                    row.reaped = Some(line);
+                }
+            }
         }
         self.counts = counts;
         Ok(())
@@ -123,16 +127,6 @@ impl Timeline {
         Ok(())
     }
 
-    /// Notes that the completion that was posted at this place, from 0, was reaped by this line.
-    fn note_reaped(&mut self, place: u64, line: u64) {
-        let Some(number) = self.posters.get(place as usize) else {
-            return;
-        };
-        if let Some(row) = self.rows.get_mut(*number as usize) {
-            row.reaped = Some(line);
-        }
-    }
-
     /// Appends the timeline: a line of headings, and a row for each request.
     pub(crate) fn push_rows<M: TextMemory>(
         &self,
@@ -148,7 +142,15 @@ impl Timeline {
         )?;
         let mut number: u64 = 0;
         for row in &self.rows {
-            push_row(memory, text, number, row)?;
+            let values = [
+                Value::Wide(Some(number)),
+                Value::Wide(Some(row.accepted)),
+                Value::Wide(row.started),
+                Value::Wide(row.ended),
+                Value::Wide(row.posted),
+                Value::Wide(row.reaped),
+            ];
+            push_form(memory, text, "@ @ @ @ @ @\n", &values)?;
             number = number.saturating_add(1);
         }
         Ok(())
@@ -189,24 +191,4 @@ impl Watcher for Timeline {
     ) -> Result<(), AllocError> {
         self.end_line(memory, machine, told)
     }
-}
-
-/// Appends the row of a request.
-fn push_row<M: TextMemory>(
-    memory: &M,
-    text: &mut String,
-    number: u64,
-    row: &Row,
-) -> Result<(), AllocError>
-    ensures granted { ((n : ℕ) → M.grants memory.now n) → IsOk result }
-{
-    let values = [
-        Value::Wide(Some(number)),
-        Value::Wide(Some(row.accepted)),
-        Value::Wide(row.started),
-        Value::Wide(row.ended),
-        Value::Wide(row.posted),
-        Value::Wide(row.reaped),
-    ];
-    push_form(memory, text, "@ @ @ @ @ @\n", &values)
 }

@@ -44,42 +44,9 @@ pub fn timeline_in<M: TextMemory, R: Read, W: Write, E: Write>(
     ensures granted { ((n : ℕ) → M.grants memory.now n) → result ≢ Err TraceFault.Memory }
 {
     let mut timeline = Timeline::new(alloc);
-    draw_all(memory, alloc, setup, &mut timeline, reader, writer, errors)
-}
-
-/// Takes in all lines, and writes the timeline. Returns whether a line was bad.
-fn draw_all<M: TextMemory, R: Read, W: Write, E: Write>(
-    memory: &M,
-    alloc: Global,
-    setup: &Setup,
-    timeline: &mut Timeline,
-    reader: &mut R,
-    writer: &mut W,
-    errors: &mut E,
-) -> Result<bool, TraceFault>
-    ensures lines { IfOk result
-        (λ bad. Reads setup.now bad (R.remaining reader.old) (R.remaining reader.new) (E.contents errors.old) (E.contents errors.new)) }
-    ensures granted { ((n : ℕ) → M.grants memory.now n) → result ≢ Err TraceFault.Memory }
-{
-    let bad = watch_trace(memory, alloc, setup, timeline, reader, errors)?;
-    match write_timeline(memory, alloc, timeline, writer) {
-        Ok(()) => Ok(bad),
-        Err(fault) => Err(fault),
-    }
-}
-
-/// Writes the timeline.
-fn write_timeline<M: TextMemory, W: Write>(
-    memory: &M,
-    alloc: Global,
-    timeline: &Timeline,
-    writer: &mut W,
-) -> Result<(), TraceFault>
-    ensures granted { ((n : ℕ) → M.grants memory.now n) → result ≢ Err TraceFault.Memory }
-{
+    let bad = watch_trace(memory, alloc, setup, &mut timeline, reader, errors)?;
     let mut text = String::new(alloc);
-    match timeline.push_rows(memory, &mut text) {
-        Ok(()) => write_all(writer, text.as_bytes(), &mut Calls::new()),
-        Err(_) => Err(TraceFault::Memory),
-    }
+    timeline.push_rows(memory, &mut text)?;
+    write_all(writer, text.as_bytes(), &mut Calls::new())?;
+    Ok(bad)
 }

@@ -2,7 +2,7 @@
 
 ghost use Rattle.std.specs.Prelude.{◌≡◌, ◌≢◌, ℕ, List, [], ◌∷◌, ◌++◌, IfOk, IsOk, OnOk, Err, string_bytes};
 ghost use Rattle.uring_entry.specs.Setup.{Setup};
-ghost use Rattle.uring_trace.specs.Explaining.{HasTold, HasEnded};
+ghost use Rattle.uring_trace.specs.Explaining.{HasTold};
 ghost use Rattle.uring_pictures.specs.Drawings.{Reads};
 ghost use Rattle.uring_pictures.specs.Readings.{ReadsAll, TakesIn, EndsIn};
 
@@ -217,7 +217,7 @@ fn rest_of(text: &str, place: usize) -> &[u8] {
     rest.strip_suffix(b"\n").unwrap_or(rest)
 }
 
-/// Ends the input, and writes what is noted of its last line. Returns whether a line was bad.
+/// Ends the input, and its last line, and writes what is noted of it. Returns whether a line was bad.
 fn watch_end<M: TextMemory, W: Watcher, E: Write>(
     memory: &M,
     alloc: Global,
@@ -230,35 +230,15 @@ fn watch_end<M: TextMemory, W: Watcher, E: Write>(
         (λ bad. EndsIn bad explainer.old explainer.new (E.contents errors.old) (E.contents errors.new) × ((first : W) (bytes : List ℕ) → W.follows first watcher.old bytes → W.ended first watcher.new bytes)) }
     ensures granted { ((n : ℕ) → M.grants memory.now n) → result ≢ Err TraceFault.Memory }
 {
+    watcher.take_byte(memory, explainer.machine(), b'\n')?;
     let mut text = String::new(alloc);
     let mut notes = String::new(alloc);
-    end_last(memory, explainer, watcher, &mut text, &mut notes)?;
+    explainer.finish_in(memory, &mut text, &mut notes)?;
+    let told = Told {
+        text: rest_of(&text, 0),
+        note: rest_of(&notes, 0),
+    };
+    watcher.end_input(memory, explainer.machine(), told)?;
     write_all(errors, notes.as_bytes(), writes)?;
     Ok(explainer.has_bad())
-}
-
-/// Ends the input, and its last line.
-fn end_last<M: TextMemory, W: Watcher>(
-    memory: &M,
-    explainer: &mut Explainer,
-    watcher: &mut W,
-    text: &mut String,
-    notes: &mut String,
-) -> Result<(), TraceFault>
-    ensures ended { OnOk result
-        ((setup : Setup) (before told noted : List ℕ)
-        → HasTold setup explainer.old before (told ++ string_bytes text.old) (noted ++ string_bytes notes.old)
-        → HasEnded setup explainer.new before (told ++ string_bytes text.new) (noted ++ string_bytes notes.new)) }
-    ensures followed { OnOk result
-        ((first : W) (bytes : List ℕ) → W.follows first watcher.old bytes
-        → W.ended first watcher.new bytes) }
-    ensures granted { ((n : ℕ) → M.grants memory.now n) → result ≢ Err TraceFault.Memory }
-{
-    watcher.take_byte(memory, explainer.machine(), b'\n')?;
-    explainer.finish_in(memory, text, notes)?;
-    let told = Told {
-        text: rest_of(text, 0),
-        note: rest_of(notes, 0),
-    };
-    Ok(watcher.end_input(memory, explainer.machine(), told)?)
 }

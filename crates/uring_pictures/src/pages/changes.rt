@@ -2,7 +2,7 @@
 
 ghost use Rattle.std.specs.Prelude.{ℕ, IsOk};
 
-use crate::pages::change_text::{push_end, push_standing, push_state};
+use crate::pages::change_text::{push_standing, push_state};
 use crate::pages::line_parts::result_of;
 use crate::pages::requests::Request;
 use crate::pages::submission::push_value;
@@ -64,7 +64,7 @@ impl Changes {
         }
     }
 
-    /// Adds the requests that a call accepted.
+    /// Adds the requests that a call accepted. A chain ends with its call, and after an entry without a link.
     pub(crate) fn accept<M: TextMemory>(
         &mut self,
         memory: &M,
@@ -73,44 +73,25 @@ impl Changes {
     ) -> Result<(), AllocError>
         ensures { ((n : ℕ) → M.grants memory.now n) → IsOk result }
     {
-        let mut is_first = true;
         for entry in entries {
-            self.accept_one(memory, entry, call, is_first)?;
-            is_first = false;
+            let number = self.requests.len() as u64;
+            let chain = match self.requests.last() {
+                Some(before) if before.call == call && before.entry.is_linked() => before.chain,
+                _ => number,
+            };
+            let request = Request {
+                entry: *entry,
+                call,
+                chain,
+                why: Why::NeverAccepted,
+                issued: None,
+                ended: None,
+            };
+            push_value(memory, &mut self.requests, request)?;
+            push_value(memory, &mut self.outstanding, number)?;
+            push_state(memory, &mut self.text, number, "accepted")?;
         }
         Ok(())
-    }
-
-    /// Adds the request that this call accepted next. `is_first`: it is the first of its call.
-    fn accept_one<M: TextMemory>(
-        &mut self,
-        memory: &M,
-        entry: &Sqe,
-        call: u64,
-        is_first: bool,
-    ) -> Result<(), AllocError>
-        ensures { ((n : ℕ) → M.grants memory.now n) → IsOk result }
-    {
-        let number = self.requests.len() as u64;
-        let request = Request {
-            entry: *entry,
-            call,
-            chain: self.next_chain(is_first),
-            why: Why::NeverAccepted,
-            issued: None,
-            ended: None,
-        };
-        push_value(memory, &mut self.requests, request)?;
-        push_value(memory, &mut self.outstanding, number)?;
-        push_state(memory, &mut self.text, number, "accepted")
-    }
-
-    /// The first member of the chain of the next request: a chain ends with its call, and after an entry without a link.
-    fn next_chain(&self, is_first: bool) -> u64 {
-        match self.requests.last() {
-            Some(before) if !is_first && before.entry.is_linked() => before.chain,
-            _ => self.requests.len() as u64,
-        }
     }
 
     /// Appends what has changed by a line.
@@ -127,39 +108,20 @@ impl Changes {
         if counts == self.counts && put == self.put {
             return Ok(());
         }
-        self.note_issue(look);
+        if let Some(number) = look.moved {
+            if let Some(request) = self.requests.get_mut(number as usize) {
+                request.issued = request.issued.or(Some(look.line));
+            }
+        }
         self.look_at_all(memory, machine, look)?;
-        self.note_completions(memory, put, &counts, look)?;
-        self.put = put;
-        self.counts = counts;
-        self.note_safe(memory, look)
-    }
-
-    /// Notes that a completion was posted, and appends which were put into the ring and which were reaped.
-    fn note_completions<M: TextMemory>(
-        &mut self,
-        memory: &M,
-        put: u64,
-        counts: &Counts,
-        look: &Look<'_>,
-    ) -> Result<(), AllocError>
-        ensures { ((n : ℕ) → M.grants memory.now n) → IsOk result }
-    {
         if counts.posted > self.counts.posted {
             self.post(memory, put, look.moved)?;
         }
         self.push_posted(memory, self.put, put, "ring")?;
-        self.push_posted(memory, self.counts.reaped, counts.reaped, "reaped")
-    }
-
-    /// Notes at which line a request was issued.
-    fn note_issue(&mut self, look: &Look<'_>) {
-        let Some(number) = look.moved else { return };
-        if let Some(request) = self.requests.get_mut(number as usize) {
-            if request.issued.is_none() {
-                request.issued = Some(look.line);
-            }
-        }
+        self.push_posted(memory, self.counts.reaped, counts.reaped, "reaped")?;
+        self.put = put;
+        self.counts = counts;
+        self.note_safe(memory, look)
     }
 
     /// Looks at each outstanding request, and keeps those that haven't ended.
@@ -187,7 +149,7 @@ impl Changes {
         Ok(())
     }
 
-    /// Appends how a request stands, if that has changed.
+    /// Notes and appends how a request stands, if that has changed.
     fn look_at<M: TextMemory>(
         &mut self,
         memory: &M,
@@ -197,28 +159,17 @@ impl Changes {
     ) -> Result<(), AllocError>
         ensures { ((n : ℕ) → M.grants memory.now n) → IsOk result }
     {
-        if !self.has_changed(number, why, look.line) {
-            return Ok(());
-        }
-        match why {
-            Why::HasEnded => push_end(memory, &mut self.text, number, look),
-            _ => push_standing(memory, &mut self.text, number, why, look),
-        }
-    }
-
-    /// Notes how a request stands at this line. Returns whether that has changed.
-    fn has_changed(&mut self, number: u64, why: Why, line: u64) -> bool {
         let Some(request) = self.requests.get_mut(number as usize) else {
-            return false;
+            return Ok(());
         };
         if request.why == why {
-            return false;
+            return Ok(());
         }
         request.why = why;
         if matches!(why, Why::HasEnded) {
-            request.ended = Some(line);
+            request.ended = Some(look.line);
         }
-        true
+        push_standing(memory, &mut self.text, number, why, look)
     }
 
     /// Notes that the request of this line has posted its completion: to the ring, or to the overflow list.
@@ -266,29 +217,28 @@ impl Changes {
         let Some(number) = look.moved else {
             return Ok(());
         };
-        let Some(entry) = self.succeeded_at(number, look) else {
+        let Some(request) = self.requests.get(number as usize) else {
             return Ok(());
         };
+        let (entry, issued) = (request.entry, request.issued.unwrap_or(0));
+        if request.ended != Some(look.line) || !succeeded(&entry, result_of(look.answer)) {
+            return Ok(());
+        }
         match entry.opcode() {
-            opcode::FSYNC => self.make_safe(memory, number),
+            opcode::FSYNC => self.make_safe(memory, entry.fd(), issued),
             opcode::READ => Ok(()),
             _ if entry.is_on_file() => push_value(memory, &mut self.writes, number),
             _ => Ok(()),
         }
     }
 
-    /// The entry of a request, if it has ended at this line and has succeeded.
-    fn succeeded_at(&self, number: u64, look: &Look<'_>) -> Option<Sqe> {
-        let request = self.requests.get(number as usize)?;
-        if request.ended == Some(look.line) && succeeded(&request.entry, result_of(look.answer)) {
-            Some(request.entry)
-        } else {
-            None
-        }
-    }
-
-    /// Appends which writes a sync makes safe, and keeps the others.
-    fn make_safe<M: TextMemory>(&mut self, memory: &M, sync: u64) -> Result<(), AllocError>
+    /// Appends which writes a sync of their file makes safe, which are those that had ended when it was issued, and keeps the others.
+    fn make_safe<M: TextMemory>(
+        &mut self,
+        memory: &M,
+        fd: i32,
+        issued: u64,
+    ) -> Result<(), AllocError>
         ensures { ((n : ℕ) → M.grants memory.now n) → IsOk result }
     {
         let mut kept: usize = 0;
@@ -297,7 +247,11 @@ impl Changes {
                 continue;
             };
             let number = *number;
-            if self.is_covered(number, sync) {
+            let is_safe = match self.requests.get(number as usize) {
+                Some(write) => write.entry.fd() == fd && write.ended.unwrap_or(u64::MAX) < issued,
+                None => false,
+            };
+            if is_safe {
                 push_state(memory, &mut self.text, number, "safe")?;
             } else {
                 kept = put_at(&mut self.writes, kept, number);
@@ -305,18 +259,6 @@ impl Changes {
         }
         self.writes.truncate(kept);
         Ok(())
-    }
-
-    /// Whether a write had ended when a sync of its file was issued.
-    fn is_covered(&self, write: u64, sync: u64) -> bool {
-        let all = &self.requests;
-        match (all.get(write as usize), all.get(sync as usize)) {
-            (Some(write), Some(sync)) => {
-                write.entry.fd() == sync.entry.fd()
-                    && write.ended.unwrap_or(u64::MAX) < sync.issued.unwrap_or(0)
-            }
-            _ => false,
-        }
     }
 }
 

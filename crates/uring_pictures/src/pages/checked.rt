@@ -3,7 +3,7 @@
 ghost use Rattle.std.specs.Prelude.{◌≢◌, ℕ, Err};
 
 use crate::pages::line_parts::{last_number, split_at_mark};
-use crate::pages::recorder::Recorder;
+use crate::pages::recorder::{RESULT, Recorder};
 use crate::pages::watching::{Form, write_form};
 use crate::watching::{Told, Watcher, watch_byte, watch_bytes};
 use std::alloc::Global;
@@ -11,9 +11,6 @@ use std::io::Write;
 use uring_machine::Setup;
 use uring_text::{TextMemory, TraceFault, is_name};
 use uring_trace::Explainer;
-
-/// What stands between a step and its answer; a line without it is all step.
-const RESULT: &[u8] = b" = ";
 
 /// Writes to `writer` what the lines of a recorded trace show, of which `report` is what `uring_check::check` wrote without going on after a fault: up to the first that is wrong or bad, and of that what the report tells. As JSON, or as a page.
 ///
@@ -54,15 +51,6 @@ pub fn recorded_page_in<M: TextMemory, W: Write>(
     written
 }
 
-/// The number of the line that isn't lawful, as the report tells it.
-fn last_line(report: &[u8]) -> u64 {
-    if report.starts_with(b"line ") {
-        last_number(split_at_mark(report, b":").0)
-    } else {
-        u64::MAX
-    }
-}
-
 /// Records the lines up to that which the report tells of.
 fn record_lines<M: TextMemory>(
     memory: &M,
@@ -91,7 +79,11 @@ fn record_all<M: TextMemory>(
 ) -> Result<(), TraceFault>
     ensures { ((n : ℕ) → M.grants memory.now n) → result ≢ Err TraceFault.Memory }
 {
-    let last = last_line(report);
+    let last = if report.starts_with(b"line ") {
+        last_number(split_at_mark(report, b":").0)
+    } else {
+        u64::MAX
+    };
     let mut number: u64 = 1;
     let mut rest = trace;
     for _ in 0..trace.len() {
@@ -100,7 +92,7 @@ fn record_all<M: TextMemory>(
         }
         let (line, after) = split_at_mark(rest, b"\n");
         if number == last {
-            return record_wrong(memory, recorder, line, report);
+            return Ok(recorder.push_wrong(memory, line, report)?);
         }
         if !record_line(memory, alloc, explainer, recorder, line)? {
             break;
@@ -111,7 +103,7 @@ fn record_all<M: TextMemory>(
     Ok(())
 }
 
-/// Records a line that is lawful or passed over. Returns whether the explainer goes along with it.
+/// Records a line that is lawful, as it is explained, or that is passed over. Returns whether the explainer goes along with it.
 fn record_line<M: TextMemory>(
     memory: &M,
     alloc: Global,
@@ -124,7 +116,7 @@ fn record_line<M: TextMemory>(
     let (step, answer) = split_at_mark(line, RESULT);
     let is_again = is_name(answer, "again");
     if is_again || is_name(answer, "ended -12") {
-        keep_all(recorder, step);
+        recorder.keep_all(step);
         let told = Told {
             text: answer,
             note: b"",
@@ -132,51 +124,9 @@ fn record_line<M: TextMemory>(
         recorder.end_line(memory, explainer.machine(), told)?;
         return Ok(is_again);
     }
-    explain_line(memory, alloc, explainer, recorder, step)?;
-    Ok(true)
-}
-
-/// Has a step explained, and recorded.
-fn explain_line<M: TextMemory>(
-    memory: &M,
-    alloc: Global,
-    explainer: &mut Explainer,
-    recorder: &mut Recorder,
-    step: &[u8],
-) -> Result<(), TraceFault>
-    ensures { ((n : ℕ) → M.grants memory.now n) → result ≢ Err TraceFault.Memory }
-{
     let mut text = String::new(alloc);
     let mut notes = String::new(alloc);
-    match watch_bytes(memory, explainer, recorder, step, &mut text, &mut notes) {
-        Ok(()) => watch_byte(memory, explainer, recorder, b'\n', &mut text, &mut notes),
-        Err(fault) => Err(fault),
-    }
-}
-
-/// Records the line that isn't lawful.
-fn record_wrong<M: TextMemory>(
-    memory: &M,
-    recorder: &mut Recorder,
-    line: &[u8],
-    report: &[u8],
-) -> Result<(), TraceFault>
-    ensures { ((n : ℕ) → M.grants memory.now n) → result ≢ Err TraceFault.Memory }
-{
-    let (step, answer) = split_at_mark(line, RESULT);
-    keep_all(recorder, step);
-    Ok(recorder.push_wrong(memory, answer, told_of(report))?)
-}
-
-/// Takes in the bytes of a line.
-fn keep_all(recorder: &mut Recorder, line: &[u8]) {
-    for byte in line {
-        recorder.line.push(*byte);
-    }
-}
-
-/// What a report tells after its first line, without the last end of a line.
-fn told_of(report: &[u8]) -> &[u8] {
-    let told = split_at_mark(report, b"\n").1;
-    told.strip_suffix(b"\n").unwrap_or(told)
+    watch_bytes(memory, explainer, recorder, step, &mut text, &mut notes)?;
+    watch_byte(memory, explainer, recorder, b'\n', &mut text, &mut notes)?;
+    Ok(true)
 }

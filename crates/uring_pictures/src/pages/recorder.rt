@@ -6,14 +6,20 @@ use crate::form_text::{Value, push_form};
 use crate::moment::step_of;
 use crate::pages::changes::{Changes, Look};
 use crate::pages::line_parts::{last_number, split_at_mark};
-use crate::pages::requests::{push_requests, separator};
-use crate::pages::state_text::{push_head, push_state};
+use crate::pages::requests::separator;
 use crate::pages::submission::Submission;
 use crate::watching::{Told, Watcher};
 use std::alloc::{AllocError, Global};
 use uring_entry::opcode;
 use uring_machine::{Found, Machine, Setup, Step};
 use uring_text::{KeptLine, TextMemory, push_text};
+
+/// What stands between a step and its answer in a recorded trace; a line without it is all step.
+pub(crate) const RESULT: &[u8] = b" = ";
+
+/// The set-up, and the beginning of the lines.
+const HEAD: &str =
+    "{\"form\":1,\"setup\":{\"sq\":@,\"cq\":@,\"files\":@,\"start\":@,\"stops\":@},\"lines\":[";
 
 /// How many index words there are.
 const WORDS: u64 = 4_294_967_296;
@@ -24,13 +30,13 @@ pub(crate) struct Recorder {
     alloc: Global,
     setup: Setup,
     // The unfinished line, and its number, from 1 on.
-    pub(crate) line: KeptLine,
+    line: KeptLine,
     number: u64,
     // The step that it is, and the request that its cancel finds.
     step: Option<Step>,
     found: Option<u64>,
     submission: Submission,
-    changes: Changes,
+    pub(crate) changes: Changes,
     pub(crate) text: String,
 }
 
@@ -43,8 +49,15 @@ impl Recorder {
     ) -> Result<Recorder, AllocError>
         ensures { ((n : ℕ) → M.grants memory.now n) → IsOk result }
     {
+        let values = [
+            Value::Number(u64::from(setup.sq())),
+            Value::Number(u64::from(setup.cq())),
+            Value::Number(u64::from(setup.files())),
+            Value::Number(u64::from(setup.start())),
+            Value::Text(if setup.stops() { "true" } else { "false" }),
+        ];
         let mut text = String::new(alloc);
-        push_head(memory, &mut text, setup)?;
+        push_form(memory, &mut text, HEAD, &values)?;
         let line = KeptLine::new_in(memory, alloc)?;
         Ok(Recorder {
             alloc,
@@ -59,39 +72,11 @@ impl Recorder {
         })
     }
 
-    /// Looks at the machine before the line is answered.
-    fn look<M: TextMemory>(&mut self, memory: &M, machine: &Machine) -> Result<(), AllocError>
-        ensures { ((n : ℕ) → M.grants memory.now n) → IsOk result }
-    {
-        self.step = step_of(memory, self.alloc, &self.line)?;
-        self.found = match self.step {
-            Some(Step::Issue { number }) => found_number(machine.would_find(number)),
-            _ => None,
-        };
-        Ok(())
-    }
-
-    /// Appends the object of the line: what is told of it and what it has changed.
-    fn push_ended<M: TextMemory>(
-        &mut self,
-        memory: &M,
-        machine: &Machine,
-        told: Told<'_>,
-    ) -> Result<(), AllocError>
-        ensures { ((n : ℕ) → M.grants memory.now n) → IsOk result }
-    {
-        let (answer, reason) = split_at_mark(told.text, b"  # ");
-        self.push_line(memory)?;
-        let values = [
-            Value::Told(",\"answer\":\"", answer),
-            Value::Told(",\"reason\":\"", reason),
-            Value::Told(",\"bad\":\"", told.note),
-        ];
-        push_form(memory, &mut self.text, "@@@", &values)?;
-        if let Some(step) = self.step {
-            self.push_step(memory, machine, &step, answer)?;
+    /// Takes in the bytes of a line.
+    pub(crate) fn keep_all(&mut self, line: &[u8]) {
+        for byte in line {
+            self.line.push(*byte);
         }
-        push_text(memory, &mut self.text, "}")
     }
 
     /// Begins the object of the line, with its number and itself: nothing, if it has more than 300 bytes.
@@ -112,28 +97,25 @@ impl Recorder {
         )
     }
 
-    /// Appends a line of a recorded trace whose answer isn't called for, with what a check told of it.
+    /// Appends the line of a recorded trace that isn't lawful, with what a check told of it after its first line.
     pub(crate) fn push_wrong<'a, M: TextMemory>(
         &mut self,
         memory: &M,
-        answer: &'a [u8],
+        line: &'a [u8],
         report: &'a [u8],
     ) -> Result<(), AllocError>
         ensures { ((n : ℕ) → M.grants memory.now n) → IsOk result }
     {
+        let (step, answer) = split_at_mark(line, RESULT);
+        let told = split_at_mark(report, b"\n").1;
+        self.keep_all(step);
         self.push_line(memory)?;
-        let values = [Value::Seen(self.alloc, answer), Value::Quoted(report)];
+        let values = [
+            Value::Seen(self.alloc, answer),
+            Value::Quoted(told.strip_suffix(b"\n").unwrap_or(told)),
+        ];
         let form = ",\"answer\":\"@\",\"wrong\":\"@\"}";
         push_form(memory, &mut self.text, form, &values)
-    }
-
-    /// Ends all that was written.
-    pub(crate) fn end<M: TextMemory>(&mut self, memory: &M) -> Result<(), AllocError>
-        ensures { ((n : ℕ) → M.grants memory.now n) → IsOk result }
-    {
-        push_text(memory, &mut self.text, "\n],\"requests\":[")?;
-        push_requests(memory, &mut self.text, &self.changes.requests)?;
-        push_text(memory, &mut self.text, "\n]}\n")
     }
 
     /// Appends what a step has changed.
@@ -148,45 +130,54 @@ impl Recorder {
     {
         self.submission.take_in(memory, step, answer)?;
         let put = self.changes.put;
-        self.note_changes(memory, machine, step, answer)?;
-        let (name, index) = index_of(step, answer);
-        let tail = self.tail_after(put);
-        let changes = self.changes.text.as_str();
-        push_effects(memory, &mut self.text, changes, name, index, tail)?;
-        self.push_file(memory, machine, step, answer)
-    }
-
-    /// Notes what a step has changed.
-    fn note_changes<M: TextMemory>(
-        &mut self,
-        memory: &M,
-        machine: &Machine,
-        step: &Step,
-        answer: &[u8],
-    ) -> Result<(), AllocError>
-        ensures { ((n : ℕ) → M.grants memory.now n) → IsOk result }
-    {
         self.changes.text.clear();
         if matches!(step, Step::End) && answer.starts_with(b"taken ") {
-            let call = self.submission.call();
+            let call = self.submission.calls.saturating_sub(1);
             self.changes.accept(memory, &self.submission.entries, call)?;
         }
         let look = Look {
             line: self.number,
-            moved: moved_by(step),
+            moved: match step {
+                Step::Issue { number } => Some(*number),
+                Step::Finish { number } => Some(*number),
+                _ => None,
+            },
             found: self.found,
             answer,
         };
-        self.changes.look(memory, machine, &look)
+        self.changes.look(memory, machine, &look)?;
+        self.push_effects(memory, step, answer, put)?;
+        self.push_file(memory, machine, step, answer)
     }
 
-    /// The completion ring's tail, if it isn't that which so many completions had made.
-    fn tail_after(&self, put: u64) -> Option<u64> {
+    /// Appends what a step has changed, the head or tail that it has stored or loaded, and the completion ring's tail, if it isn't that which so many completions had made.
+    fn push_effects<M: TextMemory>(
+        &mut self,
+        memory: &M,
+        step: &Step,
+        answer: &[u8],
+        put: u64,
+    ) -> Result<(), AllocError>
+        ensures { ((n : ℕ) → M.grants memory.now n) → IsOk result }
+    {
+        let name = match step {
+            Step::StoreTail => ",\"sq_tail\":",
+            Step::End if answer.starts_with(b"taken ") => ",\"sq_head\":",
+            Step::LoadHead => ",\"sq_head_seen\":",
+            Step::StoreCqHead => ",\"cq_head\":",
+            Step::LoadCqTail => ",\"cq_tail_seen\":",
+            _ => "",
+        };
+        let changes = self.changes.text.as_str();
         let now = self.changes.put;
-        if now == put {
-            return None;
-        }
-        Some(u64::from(self.setup.start()).wrapping_add(now) % WORDS)
+        let tail = u64::from(self.setup.start()).wrapping_add(now) % WORDS;
+        let values = [
+            Value::Text(changes),
+            Value::Text(if changes.is_empty() { "" } else { "]" }),
+            Value::Member(name, (!name.is_empty()).then_some(last_number(answer))),
+            Value::Member(",\"cq_tail\":", (now != put).then_some(tail)),
+        ];
+        push_form(memory, &mut self.text, "@@@@", &values)
     }
 
     /// Appends how the file of a request stands that a finish has ended.
@@ -209,11 +200,17 @@ impl Recorder {
         if !answer.starts_with(b"ended ") || !entry.is_on_file() || entry.opcode() == opcode::READ {
             return Ok(());
         }
-        let fd = entry.fd();
-        let Some(state) = machine.state(fd) else {
+        let Some(state) = machine.state(entry.fd()) else {
             return Ok(());
         };
-        push_state(memory, &mut self.text, fd, &state)
+        let values = [
+            Value::Signed(entry.fd()),
+            Value::Number(u64::from(state.len)),
+            Value::Number(state.writes),
+            Value::Number(state.synced),
+        ];
+        let form = ",\"file\":{\"file\":@,\"length\":@,\"writes\":@,\"synced\":@}";
+        push_form(memory, &mut self.text, form, &values)
     }
 }
 
@@ -229,22 +226,41 @@ impl Watcher for Recorder {
         machine: &Machine,
         byte: u8,
     ) -> Result<(), AllocError> {
-        if byte == b'\n' {
-            self.look(memory, machine)
-        } else {
+        if byte != b'\n' {
             self.line.push(byte);
-            Ok(())
+            return Ok(());
         }
+        self.step = step_of(memory, self.alloc, &self.line)?;
+        self.found = match self.step {
+            Some(Step::Issue { number }) => match machine.would_find(number) {
+                Some(Found::Running(found)) => Some(found),
+                Some(Found::Chosen(found)) => Some(found),
+                _ => None,
+            },
+            _ => None,
+        };
+        Ok(())
     }
 
-    /// Appends what is told of a line and what it has changed, and begins the next.
+    /// Appends the object of the line, with what is told of it and what it has changed, and begins the next.
     fn end_line<M: TextMemory>(
         &mut self,
         memory: &M,
         machine: &Machine,
         told: Told<'_>,
     ) -> Result<(), AllocError> {
-        self.push_ended(memory, machine, told)?;
+        let (answer, reason) = split_at_mark(told.text, b"  # ");
+        self.push_line(memory)?;
+        let values = [
+            Value::Told(",\"answer\":\"", answer),
+            Value::Told(",\"reason\":\"", reason),
+            Value::Told(",\"bad\":\"", told.note),
+        ];
+        push_form(memory, &mut self.text, "@@@", &values)?;
+        if let Some(step) = self.step {
+            self.push_step(memory, machine, &step, answer)?;
+        }
+        push_text(memory, &mut self.text, "}")?;
         self.step = None;
         self.found = None;
         self.line.clear();
@@ -264,55 +280,4 @@ impl Watcher for Recorder {
         }
         self.end_line(memory, machine, told)
     }
-}
-
-/// The request that a step issues or finishes.
-fn moved_by(step: &Step) -> Option<u64> {
-    match step {
-        Step::Issue { number } => Some(*number),
-        Step::Finish { number } => Some(*number),
-        _ => None,
-    }
-}
-
-/// The request that a cancel finds.
-fn found_number(found: Option<Found>) -> Option<u64> {
-    match found {
-        Some(Found::Running(number)) => Some(number),
-        Some(Found::Chosen(number)) => Some(number),
-        _ => None,
-    }
-}
-
-/// The head or tail that a step has stored or loaded, if it has, after the beginning of its member.
-fn index_of(step: &Step, answer: &[u8]) -> (&'static str, Option<u64>) {
-    let name = match step {
-        Step::StoreTail => ",\"sq_tail\":",
-        Step::End if answer.starts_with(b"taken ") => ",\"sq_head\":",
-        Step::LoadHead => ",\"sq_head_seen\":",
-        Step::StoreCqHead => ",\"cq_head\":",
-        Step::LoadCqTail => ",\"cq_tail_seen\":",
-        _ => return ("", None),
-    };
-    (name, Some(last_number(answer)))
-}
-
-/// Appends what a step has changed, the head or tail that it has stored or loaded, and the completion ring's tail.
-fn push_effects<M: TextMemory>(
-    memory: &M,
-    text: &mut String,
-    changes: &str,
-    name: &'static str,
-    index: Option<u64>,
-    tail: Option<u64>,
-) -> Result<(), AllocError>
-    ensures { ((n : ℕ) → M.grants memory.now n) → IsOk result }
-{
-    let values = [
-        Value::Text(changes),
-        Value::Text(if changes.is_empty() { "" } else { "]" }),
-        Value::Member(name, index),
-        Value::Member(",\"cq_tail\":", tail),
-    ];
-    push_form(memory, text, "@@@@", &values)
 }

@@ -1,6 +1,6 @@
 //! What the application has filled and staged, and what the open call has taken of it.
 
-ghost use Rattle.std.specs.Prelude.{ℕ, IsOk};
+ghost use Rattle.std.specs.Prelude.{◌≡◌, ◌++◌, ◌∷◌, [], ℕ, IsOk, OnOk};
 
 use std::alloc::{AllocError, Global};
 use uring_machine::{Sqe, Step};
@@ -19,7 +19,7 @@ pub(crate) struct Submission {
     // The entries that the open call took.
     pub(crate) entries: Vec<Sqe>,
     // How many calls were opened.
-    calls: u64,
+    pub(crate) calls: u64,
 }
 
 impl Submission {
@@ -61,31 +61,19 @@ impl Submission {
                 self.calls = self.calls.saturating_add(1);
                 self.entries.clear();
             }
-            Step::Take if answer.starts_with(b"entry ") => return self.take(memory),
+            Step::Take if answer.starts_with(b"entry ") => {
+                let place = self.taken;
+                self.taken = place.saturating_add(1);
+                if let Some(word) = self.staged.get(place) {
+                    if let Some(Some(entry)) = self.slots.get(*word as usize) {
+                        return push_value(memory, &mut self.entries, *entry);
+                    }
+                }
+            }
             Step::Take if is_name(answer, "dropped") => self.taken = self.taken.saturating_add(1),
             _ => {}
         }
         Ok(())
-    }
-
-    /// The number of the open call, from 0.
-    pub(crate) fn call(&self) -> u64 {
-        self.calls.saturating_sub(1)
-    }
-
-    /// Takes the entry that the next word names.
-    fn take<M: Memory>(&mut self, memory: &M) -> Result<(), AllocError>
-        ensures { ((n : ℕ) → M.grants memory.now n) → IsOk result }
-    {
-        let place = self.taken;
-        self.taken = place.saturating_add(1);
-        let Some(word) = self.staged.get(place) else {
-            return Ok(());
-        };
-        match self.slots.get(*word as usize) {
-            Some(Some(entry)) => push_value(memory, &mut self.entries, *entry),
-            _ => Ok(()),
-        }
     }
 }
 
@@ -95,7 +83,8 @@ pub(crate) fn push_value<M: Memory, T: Drop>(
     list: &mut Vec<T>,
     value: T,
 ) -> Result<(), AllocError>
-    ensures { ((n : ℕ) → M.grants memory.now n) → IsOk result }
+    ensures items { OnOk result (list.new.items ≡ list.old.items ++ value ∷ []) }
+    ensures granted { ((n : ℕ) → M.grants memory.now n) → IsOk result }
 {
     memory.reserve(list, 1)?;
     list.push_reserved(value);

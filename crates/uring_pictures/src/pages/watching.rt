@@ -4,6 +4,7 @@ ghost use Rattle.std.specs.Prelude.{◌≢◌, ℕ, IfOk, Err};
 ghost use Rattle.uring_pictures.specs.Drawings.{Reads};
 
 use crate::pages::recorder::Recorder;
+use crate::pages::requests::push_requests;
 use crate::pages::viewer;
 use crate::watching::watch_trace;
 use std::alloc::Global;
@@ -87,10 +88,8 @@ fn draw_all<M: TextMemory, R: Read, W: Write, E: Write>(
     ensures granted { ((n : ℕ) → M.grants memory.now n) → result ≢ Err TraceFault.Memory }
 {
     let bad = watch_trace(memory, alloc, setup, recorder, reader, errors)?;
-    match write_form(memory, recorder, writer, form) {
-        Ok(()) => Ok(bad),
-        Err(fault) => Err(fault),
-    }
+    write_form(memory, recorder, writer, form)?;
+    Ok(bad)
 }
 
 /// Writes what was recorded.
@@ -102,7 +101,7 @@ pub(crate) fn write_form<M: TextMemory, W: Write>(
 ) -> Result<(), TraceFault>
     ensures { ((n : ℕ) → M.grants memory.now n) → result ≢ Err TraceFault.Memory }
 {
-    recorder.end(memory)?;
+    push_requests(memory, &mut recorder.text, &recorder.changes.requests)?;
     let text = recorder.text.as_str();
     let mut writes = Calls::new();
     match form {

@@ -1,18 +1,23 @@
-use Rattle.std.proofs.Common.{◌≡◌, refl, sym, rules}
-use Rattle.uring_pictures.proofs.Common.{append-nil, arrows_below, is_linux_at, linux_at}
-use Rattle.uring_pictures.proofs.Arrows.{arrows_more, up_to_same}
+use Rattle.std.proofs.Common.{◌≡◌, Bool, true, false, refl, sym, ap, ◌∙◌, rules}
+use Rattle.uring_pictures.proofs.Common.{arrows_below, entry_outstanding, is_linux_at, is_some, linux_at, requests_at}
+use Rattle.uring_pictures.proofs.Arrows.{arrows_more, before_next, up_to_same}
 use Rattle.uring_pictures.proofs.graph_text.push_arrows.Goals as goal
-
-pub loop-number-init : goal.loop-number-init
-loop-number-init g c = record { arrows = λ h keeps. sym (append-nil _); chain = λ h keeps. refl }
+use Rattle.uring_pictures.proofs.graph_text.push_arrows.Goals.{then-ends_chain, else-ends_chain+then-is_some, else-ends_chain+else-is_some}
 
 pub loop-number-preserved : goal.loop-number-preserved
 loop-number-preserved g c = record {
   arrows = λ h keeps. arrows_more (is_linux_at c.args.accepted.now) (linux_at c.args.accepted.now h) c.loop-number.number _ _ _ _ _ (c.loop-number.invariant.arrows h keeps) c.in_ok-push_both.ensures.arrows (c.loop-number.invariant.chain h keeps) (c.why.ensures h keeps);
-  chain = λ h keeps. c.next_before-before.ensures h keeps (c.loop-number.invariant.chain h keeps);
+  chain = λ h keeps.
+      let r = requests_at c.args.accepted.now h in
+      let next = λ (last some : Bool) (ends : c.ends_chain.result ≡ last) (has : some ≡ is_some (entry_outstanding r c.loop-number.number)). before_next r c.loop-number.number last some _ (sym ends ∙ c.ends_chain.ensures h keeps) has (c.loop-number.invariant.chain h keeps) in
+      elim c.if-ends_chain.branch [
+        | then-ends_chain w ↦ w.before-is ∙ next true _ w.if-ends_chain.true refl
+        | else-ends_chain+then-is_some w ↦ w.before-is ∙ next false true w.if-ends_chain.false (sym w.if-is_some.true ∙ w.is_some.ensures ∙ ap is_some (w.outstanding.ensures h keeps))
+        | else-ends_chain+else-is_some w ↦ w.before-is ∙ next false false w.if-ends_chain.false (sym w.if-is_some.false ∙ w.is_some.ensures ∙ ap is_some (w.outstanding.ensures h keeps))
+      ];
 }
 
 pub returns-clause-arrows : goal.returns-clause-arrows
 returns-clause-arrows g c =
-    let last : c.loop-number.number ≡ c.args.count = search rules in
-    λ h keeps. up_to_same (arrows_below (is_linux_at c.args.accepted.now) (linux_at c.args.accepted.now h)) _ _ _ _ (c.loop-number.invariant.arrows h keeps) last
+    let last : c.loop-number.number ≡ c.count-number-end.result = search rules in
+    λ h keeps. up_to_same (arrows_below (is_linux_at c.args.accepted.now) (linux_at c.args.accepted.now h)) _ _ _ _ (c.loop-number.invariant.arrows h keeps) (last ∙ c.count-number-end.ensures h keeps)

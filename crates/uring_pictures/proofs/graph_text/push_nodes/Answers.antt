@@ -1,10 +1,8 @@
-use Rattle.std.proofs.Common.{◌≡◌, refl, sym, rules}
-use Rattle.uring_pictures.proofs.Common.{append-nil, is_linux_at, linux_at, nodes_below, row_text}
-use Rattle.uring_pictures.proofs.Arrows.{part_more, up_to_same}
+use Rattle.std.proofs.Common.{◌≡◌, Bool, true, false, refl, sym, ◌∙◌, rules}
+use Rattle.uring_pictures.proofs.Common.{is_linux_at, linux_at, nodes_below, requests_at, row_text}
+use Rattle.uring_pictures.proofs.Arrows.{first_next, part_more, up_to_same}
 use Rattle.uring_pictures.proofs.graph_text.push_nodes.Goals as goal
-
-pub loop-number-init : goal.loop-number-init
-loop-number-init g c = record { nodes = λ h keeps. sym (append-nil _); chain = λ h keeps. refl }
+use Rattle.uring_pictures.proofs.graph_text.push_nodes.Goals.{then-ends_chain, else-ends_chain}
 
 pub loop-number-preserved : goal.loop-number-preserved
 loop-number-preserved g c = record {
@@ -12,10 +10,15 @@ loop-number-preserved g c = record {
       let linux = is_linux_at c.args.accepted.now in
       let l = linux_at c.args.accepted.now h in
       part_more (nodes_below linux l) (row_text linux l c.loop-number.number) c.loop-number.number _ _ _ (c.loop-number.invariant.nodes h keeps) (c.in_ok-push_row.ensures.row h keeps (c.loop-number.invariant.chain h keeps)) refl;
-  chain = λ h keeps. c.next_first-first.ensures h keeps (c.loop-number.invariant.chain h keeps);
+  chain = λ h keeps.
+      let next = λ (last : Bool) (ends : c.ends_chain.result ≡ last). first_next (requests_at c.args.accepted.now h) c.loop-number.number last _ (sym ends ∙ c.ends_chain.ensures h keeps) (c.loop-number.invariant.chain h keeps) in
+      elim c.if-ends_chain.branch [
+        | then-ends_chain w ↦ w.first-is ∙ next true w.if-ends_chain.true
+        | else-ends_chain w ↦ w.first-is ∙ next false w.if-ends_chain.false
+      ];
 }
 
 pub returns-clause-nodes : goal.returns-clause-nodes
 returns-clause-nodes g c =
-    let last : c.loop-number.number ≡ c.args.count = search rules in
-    λ h keeps. up_to_same (nodes_below (is_linux_at c.args.accepted.now) (linux_at c.args.accepted.now h)) _ _ _ _ (c.loop-number.invariant.nodes h keeps) last
+    let last : c.loop-number.number ≡ c.count-number-end.result = search rules in
+    λ h keeps. up_to_same (nodes_below (is_linux_at c.args.accepted.now) (linux_at c.args.accepted.now h)) _ _ _ _ (c.loop-number.invariant.nodes h keeps) (last ∙ c.count-number-end.ensures h keeps)

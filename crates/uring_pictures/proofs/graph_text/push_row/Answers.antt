@@ -11,5 +11,5 @@ pub returns-clause-row : goal.returns-clause-row
 returns-clause-row g c =
     on_ok_weaker c.push_placed.result
     (λ line h keeps same.
-    row_placed (is_linux_at c.args.accepted.now) (linux_at c.args.accepted.now h) c.args.number c.in-Some.entry _ _ _ _ _ _ line (c.call.ensures h keeps) same (c.has_others.ensures h keeps same) (c.why.ensures h keeps) (sym c.in-Some.is ∙ c.outstanding.ensures h keeps))
+    row_placed (is_linux_at c.args.accepted.now) (linux_at c.args.accepted.now h) c.args.number c.in-Some.entry _ _ _ _ _ _ line (c.call.ensures h keeps) same (c.ends_chain.ensures h keeps) (c.why.ensures h keeps) (sym c.in-Some.is ∙ c.outstanding.ensures h keeps))
     c.push_placed.ensures.line

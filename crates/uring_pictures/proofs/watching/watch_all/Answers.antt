@@ -9,11 +9,12 @@ loop-alloc-init g c = λ setup h.
 
 pub returns-in-Ok-eq0-clause-lines : goal.returns-in-Ok-eq0-clause-lines
 returns-in-Ok-eq0-clause-lines g c =
+    IfOk-weaker c.watch_end.result _ _
+    (λ bad ends setup h.
     let none_is : c.in-Ok-eq0.field-0 ≡ 0 = search rules in
     let read : Consumes (g.R.Read.remaining c.loop-alloc.reader) (g.R.Read.remaining c.read_once.new.reader) [] =
     subst (λ (n : ℕ). Consumes (g.R.Read.remaining c.loop-alloc.reader) (g.R.Read.remaining c.read_once.new.reader) (take n c.read_once.new.buf)) none_is c.in-Ok-eq0.ensures.bytes.0 in
-    IfOk-weaker c.watch_end.result _ _
-    (λ bad ends setup h. with_end (λ bytes. (first : _) → g.W.Watcher.follows first c.args.watcher.now [] → g.W.Watcher.follows first c.loop-alloc.watcher bytes) (λ bytes. (first : _) → g.W.Watcher.follows first c.args.watcher.now [] → g.W.Watcher.ended first c.watch_end.new.watcher bytes) setup bad _ _ _ _ _ _ c.loop-alloc.explainer c.watch_end.new.explainer read (c.in-Ok-eq0.ensures.bytes.1 none_is (search rules)) ends.0 (λ bytes since first f. ends.1 first bytes (since first f)) (c.loop-alloc.invariant setup h))
+    with_end (λ bytes. (first : _) → g.W.Watcher.follows first c.args.watcher.now [] → g.W.Watcher.follows first c.loop-alloc.watcher bytes) (λ bytes. (first : _) → g.W.Watcher.follows first c.args.watcher.now [] → g.W.Watcher.ended first c.watch_end.new.watcher bytes) setup bad _ _ _ _ _ _ c.loop-alloc.explainer c.watch_end.new.explainer read (c.in-Ok-eq0.ensures.bytes.1 none_is (search rules)) ends.0 (λ bytes since first f. ends.1 first bytes (since first f)) (c.loop-alloc.invariant setup h))
     c.watch_end.ensures.ended
 
 pub loop-alloc-preserved-in-Continue-1 : goal.loop-alloc-preserved-in-Continue-1

@@ -4,6 +4,3 @@ use Rattle.uring_pictures.proofs.watching.watch_byte.Goals as goal
 pub returns-in_ok-end_line-clause-followed : goal.returns-in_ok-end_line-clause-followed
 returns-in_ok-end_line-clause-followed g c = λ first before f.
     subst (λ (b : ℕ). g.W.Watcher.follows first c.end_line.new.self (before ++ b ∷ [])) (sym c.if-byte-eq10.true) (c.in_ok-end_line.ensures.taken first before (c.in_ok-take_byte.ensures.mark c.if-byte-eq10.true first before f))
-
-pub returns-else-byte-eq10-clause-followed : goal.returns-else-byte-eq10-clause-followed
-returns-else-byte-eq10-clause-followed g c = λ first before f. c.in_ok-take_byte.ensures.taken c.if-byte-eq10.false first before f
