@@ -1,14 +1,11 @@
 //! What a check makes of lines, one by one.
 
-ghost use Rattle.std.specs.Prelude.{◌≡◌, ◌∷◌, ◌++◌, [], true, false, not, ℕ, List, Bool, IfOk, IsOk, OnOk, codes, string_bytes};
+ghost use Rattle.std.specs.Prelude.{◌≡◌, ◌∷◌, [], true, false, ℕ, List, Bool, IfOk, IsOk, OnOk, string_bytes};
 ghost use Rattle.uring_core.specs.Histories.{History};
 ghost use Rattle.uring_text.specs.KeptLine.{kept_of};
-ghost use Rattle.uring_text.specs.Lines.{ended};
-ghost use Rattle.uring_text.specs.Visible.{visible_line};
-ghost use Rattle.uring_check.specs.Checking.{FitsBy, reasons_by, rules_of, Looks, LooksAt, LooksBy, IsTold};
+ghost use Rattle.uring_check.specs.Checking.{FitsBy, rules_of, Looks, LooksAt, LooksBy, IsTold};
 ghost use Rattle.uring_check.specs.Findings.{first_fault};
 ghost use Rattle.uring_check.specs.Rules.{Rules};
-ghost use Rattle.uring_check.specs.Reports.{completion_wanted, line_text, missed_text, wanted_text};
 ghost use Rattle.uring_check.specs.Records.{IsRecord, IsNoRecord};
 
 use crate::answer_text::AnswerText;
@@ -22,7 +19,7 @@ use crate::telling::{tell_bad, tell_end, tell_wrong};
 use crate::verdict::Verdict;
 use std::alloc::{AllocError, Global};
 use std::mem;
-use uring_machine::{Setup, Step, Wanted};
+use uring_machine::{Setup, Step};
 use uring_text::{KeptLine, TextMemory, push_text};
 use uring_trace::read_step_in;
 
@@ -81,7 +78,7 @@ impl Checker {
         })
     }
 
-    /// Takes in the next line.
+    /// Takes in the next line. The first one may say a set-up.
     pub(crate) fn take_line<M: TextMemory>(
         &mut self,
         memory: &M,
@@ -94,23 +91,9 @@ impl Checker {
         ensures granted { ((n : ℕ) → M.grants memory.now n) → (g : Rules) (all : Bool)
             (lines : List (List ℕ)) → Looks g all lines self.old → IsOk result }
     {
-        if self.awaits {
-            self.take_first(memory, line)
-        } else {
-            self.take_next(memory, line)
+        if !self.awaits {
+            return self.take_next(memory, line);
         }
-    }
-
-    /// Takes in the first line, which may say a set-up.
-    fn take_first<M: TextMemory>(&mut self, memory: &M, line: &KeptLine) -> Result<(), AllocError>
-        requires { self.old.awaits ≡ true }
-        ensures looks { OnOk result
-            ((g : Rules) (all : Bool) (lines : List (List ℕ)) (text : List ℕ)
-            → line.now ≡ kept_of text → Looks g all lines self.old
-            → Looks g all (text ∷ lines) self.new) }
-        ensures granted { ((n : ℕ) → M.grants memory.now n) → (g : Rules) (all : Bool)
-            (lines : List (List ℕ)) → Looks g all lines self.old → IsOk result }
-    {
         let said = said_by_in(memory, self.alloc, line)?;
         self.awaits = false;
         match said {
@@ -119,7 +102,12 @@ impl Checker {
                 self.begin_at(memory, &setup)?;
                 self.take_next(memory, line)
             }
-            Said::Misses => self.miss(memory),
+            // It is bad, and no line after it is looked at.
+            Said::Misses => {
+                self.verdict = Verdict::Bad;
+                self.is_over = true;
+                push_text(memory, &mut self.report, MISSED)
+            }
         }
     }
 
@@ -135,19 +123,6 @@ impl Checker {
         let begun = Follower::new(memory, self.alloc, setup, self.machine.ends())?;
         mem::replace(&mut self.machine, begun).let_go();
         Ok(())
-    }
-
-    /// Finds that the first line says no set-up, though it begins so: it is bad, and no line after it is looked at.
-    fn miss<M: TextMemory>(&mut self, memory: &M) -> Result<(), AllocError>
-        ensures told { OnOk result (string_bytes self.new.report ≡ string_bytes self.old.report ++ missed_text) }
-        ensures kept { OnOk result
-            (self.new
-            ≡ record self.old { verdict = Verdict.Bad; is_over = true; report = self.new.report }) }
-        ensures granted { ((n : ℕ) → M.grants memory.now n) → IsOk result }
-    {
-        self.verdict = Verdict::Bad;
-        self.is_over = true;
-        push_text(memory, &mut self.report, MISSED)
     }
 
     /// Takes in a line after which no set-up is said.
@@ -256,36 +231,19 @@ impl Checker {
                 self.steps = self.steps.saturating_add(1);
                 Ok(())
             }
-            Some(wanted) => self.find_wrong(memory, line, &wanted, &standing),
+            Some(wanted) => {
+                self.fault(Verdict::Wrong);
+                self.is_over = !self.is_all;
+                tell_wrong(
+                    memory,
+                    &mut self.report,
+                    self.number,
+                    line,
+                    &wanted,
+                    &standing,
+                )
+            }
         }
-    }
-
-    /// Finds a line whose answer isn't called for.
-    fn find_wrong<M: TextMemory>(
-        &mut self,
-        memory: &M,
-        line: &[u8],
-        wanted: &Wanted,
-        standing: &Standing,
-    ) -> Result<(), AllocError>
-        ensures kept { OnOk result
-            (self.new
-            ≡ record self.old { verdict = first_fault self.old.verdict Verdict.Wrong; is_over = not self.old.is_all; report = self.new.report }) }
-        ensures told { OnOk result
-            (string_bytes self.new.report
-            ≡ string_bytes self.old.report ++ line_text self.old.number ++ ended (visible_line line.now) ++ codes "wanted: " ++ ended (wanted_text standing.now.asked wanted.now) ++ reasons_by standing.now (completion_wanted wanted.now)) }
-        ensures granted { ((n : ℕ) → M.grants memory.now n) → IsOk result }
-    {
-        self.fault(Verdict::Wrong);
-        self.is_over = !self.is_all;
-        tell_wrong(
-            memory,
-            &mut self.report,
-            self.number,
-            line,
-            wanted,
-            standing,
-        )
     }
 
     /// Notes a fault, unless there was one before.

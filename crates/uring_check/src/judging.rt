@@ -8,7 +8,7 @@ ghost use Rattle.uring_core.specs.declared.answer.Answer.TheVariants as answer;
 ghost use Rattle.uring_text.specs.Spelling.{IsFile};
 ghost use Rattle.uring_trace.specs.Text.{text_of};
 ghost use Rattle.uring_check.specs.Rules.{AllowedBy, CalledBy, IsPlain, MayGive, is_apart};
-ghost use Rattle.uring_check.specs.Checking.{FitsBy, rules_of, Judges, IsJudged, IsOneJudged, HasOneAnswer, IsWanted, IsEither};
+ghost use Rattle.uring_check.specs.Checking.{FitsBy, rules_of, Judges, IsJudged, IsOneJudged, IsWanted, IsEither};
 
 use crate::answer_text::AnswerText;
 use crate::follower::Follower;
@@ -31,32 +31,20 @@ pub(crate) fn judge<M: TextMemory>(
         → IsOk result }
 {
     match step {
-        Step::Begin { .. } | Step::Finish { .. } => judge_open(memory, told, machine, step, text),
+        // It follows an answer that neither is ever given, and so is told those that are.
+        Step::Begin { .. } | Step::Finish { .. } => {
+            match machine.follow(memory, step, &Answer::Filled) {
+                Err(Refusal::Wrong(wanted)) => {
+                    judge_wanted(memory, told, machine, step, wanted, text)
+                }
+                Err(Refusal::NoMemory) => Err(AllocError),
+                Ok(()) => Err(AllocError),
+            }
+        }
         _ => {
             let answer = machine.step(memory, step);
             judge_one(memory, told, answer, text)
         }
-    }
-}
-
-/// Judges a Begin or a Finish, to which two answers may be called for. It follows an answer that neither is ever given, and so is told those that are.
-fn judge_open<M: TextMemory>(
-    memory: &M,
-    told: &mut AnswerText,
-    machine: &mut Follower,
-    step: &Step,
-    text: &[u8],
-) -> Result<Option<Wanted>, AllocError>
-    requires { HasOneAnswer step.now → ⊥ }
-    ensures rules { rules_of machine.new ≡ rules_of machine.old }
-    ensures judges { IfOk result (Judges machine.old machine.new step.now text.now) }
-    ensures granted { ((n : ℕ) → M.grants memory.now n) → (h : History) → FitsBy machine.old h
-        → IsOk result }
-{
-    match machine.follow(memory, step, &Answer::Filled) {
-        Err(Refusal::Wrong(wanted)) => judge_wanted(memory, told, machine, step, wanted, text),
-        Err(Refusal::NoMemory) => Err(AllocError),
-        Ok(()) => Err(AllocError),
     }
 }
 

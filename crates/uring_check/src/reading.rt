@@ -1,6 +1,6 @@
 //! The lines of bytes, given to a checker one by one.
 
-ghost use Rattle.std.specs.Prelude.{◌≡◌, ◌≢◌, ℕ, List, [], ◌∷◌, ◌++◌, Bool, Err, IfErr, IfOk, IsOk, OnOk, string_bytes};
+ghost use Rattle.std.specs.Prelude.{◌≡◌, ◌≢◌, ℕ, List, [], ◌++◌, Bool, Err, IfErr, IfOk, IsOk, OnOk, string_bytes};
 ghost use Rattle.uring_text.specs.Streams.{AreOver};
 ghost use Rattle.uring_check.specs.Checking.{Has, ReadsIn};
 ghost use Rattle.uring_check.specs.Checks.{IsVerdict};
@@ -82,7 +82,8 @@ impl Reading {
     {
         for byte in bytes {
             if *byte == b'\n' {
-                self.end_line(memory)?;
+                self.checker.take_line(memory, &self.line)?;
+                self.line.clear();
             } else {
                 self.line.push(*byte);
             }
@@ -115,18 +116,5 @@ impl Reading {
     /// Lets it go.
     pub(crate) fn let_go(self) {
         self.checker.let_go();
-    }
-
-    /// Gives the line to the checker, and begins the next line.
-    fn end_line<M: TextMemory>(&mut self, memory: &M) -> Result<(), AllocError>
-        ensures ends { OnOk result
-            ((g : Rules) (all : Bool) (before : List ℕ) → Has g all self.old before
-            → Has g all self.new (before ++ 10 ∷ [])) }
-        ensures granted { ((n : ℕ) → M.grants memory.now n) → (g : Rules) (all : Bool)
-            (before : List ℕ) → Has g all self.old before → IsOk result }
-    {
-        self.checker.take_line(memory, &self.line)?;
-        self.line.clear();
-        Ok(())
     }
 }

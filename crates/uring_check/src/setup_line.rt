@@ -1,8 +1,8 @@
 //! The set-up that the first line of a recorded trace says.
 
-ghost use Rattle.std.specs.Prelude.{◌≡◌, ◌≤◌, ℕ, List, IfOk, IsOk, false, length, map};
+ghost use Rattle.std.specs.Prelude.{◌≡◌, ℕ, List, IfOk, IsOk, false, map};
 ghost use Rattle.uring_text.specs.KeptLine.{kept_of};
-ghost use Rattle.uring_check.specs.SetupLines.{IsSaid, IsSaidBy, IsSaidOf, named_number, sizes_of, sizes_said, words_said, one_asked, both_asked};
+ghost use Rattle.uring_check.specs.SetupLines.{IsSaid, IsSaidBy, IsSaidOf, named_number, sizes_of, sizes_said, words_said, one_asked};
 
 use std::alloc::{AllocError, Global};
 use uring_machine::Setup;
@@ -53,19 +53,12 @@ pub fn said_by_in<M: Memory>(memory: &M, alloc: Global, line: &KeptLine) -> Resu
     ensures granted { ((n : ℕ) → M.grants memory.now n) → IsOk result }
 {
     match line.whole() {
-        Some(bytes) => said_short(memory, alloc, bytes),
+        Some(bytes) => {
+            let tokens = split_tokens_in(memory, alloc, bytes)?;
+            Ok(said_of(tokens.as_slice()))
+        }
         None => Ok(Said::Nothing),
     }
-}
-
-/// What a line of at most 300 bytes says of a set-up.
-fn said_short<M: Memory>(memory: &M, alloc: Global, line: &[u8]) -> Result<Said, AllocError>
-    requires { length line.now ≤ 300 }
-    ensures said { IfOk result (λ said. IsSaid line.now said) }
-    ensures granted { ((n : ℕ) → M.grants memory.now n) → IsOk result }
-{
-    let tokens = split_tokens_in(memory, alloc, line)?;
-    Ok(said_of(tokens.as_slice()))
 }
 
 /// What tokens say of a set-up.
@@ -151,7 +144,16 @@ fn words_said(words: &[&[u8]]) -> Option<Asked>
             linux: false,
         }),
         [word] => one_asked(word),
-        [first, second] => both_asked(first, second),
+        [first, second] => {
+            if is_name(first, "--stop") && is_name(second, "--linux") {
+                Some(Asked {
+                    stops: true,
+                    linux: true,
+                })
+            } else {
+                None
+            }
+        }
         _ => None,
     }
 }
@@ -173,20 +175,6 @@ fn one_asked(word: &[u8]) -> Option<Asked>
         });
     }
     None
-}
-
-/// What two words after the numbers ask for.
-fn both_asked(first: &[u8], second: &[u8]) -> Option<Asked>
-    ensures { result ≡ both_asked first.now second.now }
-{
-    if is_name(first, "--stop") && is_name(second, "--linux") {
-        Some(Asked {
-            stops: true,
-            linux: true,
-        })
-    } else {
-        None
-    }
 }
 
 /// The sizes of these numbers and words, if each is one.

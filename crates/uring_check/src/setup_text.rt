@@ -1,20 +1,20 @@
 //! The line of a set-up, as it is written.
 
-ghost use Rattle.std.specs.Prelude.{◌≡◌, ◌++◌, OnOk, codes, decimal, string_bytes};
+ghost use Rattle.std.specs.Prelude.{◌≡◌, ◌++◌, OnOk, string_bytes};
 ghost use Rattle.uring_check.specs.SetupLines.{setup_text, end_text};
 
 use std::alloc::{AllocError, Global};
 use uring_machine::Setup;
-use uring_text::{push_number, push_text};
+use uring_text::{push_named, push_text};
 
 /// Appends the line of a set-up, in the form that `said_by` reads.
 pub fn push_setup(alloc: Global, text: &mut String, setup: &Setup) -> Result<(), AllocError>
     ensures { OnOk result (string_bytes text.new ≡ string_bytes text.old ++ setup_text setup.now) }
 {
-    push_named(alloc, text, "# setup --sq ", setup.sq())?;
-    push_named(alloc, text, " --cq ", setup.cq())?;
-    push_named(alloc, text, " --files ", setup.files())?;
-    push_named(alloc, text, " --start ", setup.start())?;
+    push_named(&alloc, text, "# setup --sq ", u64::from(setup.sq()))?;
+    push_named(&alloc, text, " --cq ", u64::from(setup.cq()))?;
+    push_named(&alloc, text, " --files ", u64::from(setup.files()))?;
+    push_named(&alloc, text, " --start ", u64::from(setup.start()))?;
     push_text(&alloc, text, end_of(setup.stops(), setup.is_linux()))
 }
 
@@ -28,13 +28,4 @@ fn end_of(stops: bool, linux: bool) -> &'static str
         (false, true) => " --linux\n",
         (false, false) => "\n",
     }
-}
-
-/// Appends a number after its name.
-fn push_named(alloc: Global, text: &mut String, name: &str, number: u32) -> Result<(), AllocError>
-    ensures { OnOk result
-        (string_bytes text.new ≡ string_bytes text.old ++ name.now ++ decimal number) }
-{
-    push_text(&alloc, text, name)?;
-    push_number(&alloc, text, u64::from(number))
 }

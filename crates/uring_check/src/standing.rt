@@ -15,7 +15,7 @@ use std::alloc::{AllocError, Global};
 use uring_entry::Sqe;
 use uring_machine::{Core, Found, Step, Why};
 use uring_memory::Memory;
-use uring_text::{TextMemory, push_number, push_text};
+use uring_text::{TextMemory, push_named, push_text};
 use uring_trace::{chosen_text, push_found_in, push_why_in};
 
 /// What is asked before a step.
@@ -139,8 +139,7 @@ fn push_reason<M: TextMemory>(
     let Some((number, why)) = why else {
         return Ok(());
     };
-    push_text(memory, text, "why: ")?;
-    push_number(memory, text, number)?;
+    push_named(memory, text, "why: ", number)?;
     push_text(memory, text, " ")?;
     push_why_in(memory, text, why)?;
     push_text(memory, text, "\n")
@@ -200,10 +199,8 @@ fn push_whose<M: TextMemory>(
 {
     match (completion, poster) {
         (Some(user_data), Some(number)) => {
-            push_text(memory, text, "whose: ")?;
-            push_number(memory, text, number)?;
-            push_text(memory, text, ", user data ")?;
-            push_number(memory, text, user_data)?;
+            push_named(memory, text, "whose: ", number)?;
+            push_named(memory, text, ", user data ", user_data)?;
             push_text(memory, text, "\n")
         }
         _ => Ok(()),

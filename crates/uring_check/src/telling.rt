@@ -1,9 +1,9 @@
 //! The lines of a report.
 
-ghost use Rattle.std.specs.Prelude.{◌≡◌, ℕ, List, ◌++◌, OnOk, IsOk, None, string_bytes, codes};
+ghost use Rattle.std.specs.Prelude.{◌≡◌, ℕ, List, ◌++◌, OnOk, IsOk, string_bytes, codes};
 ghost use Rattle.uring_text.specs.Forms.{deed_text};
 ghost use Rattle.uring_text.specs.Lines.{ended};
-ghost use Rattle.uring_check.specs.Reports.{closing, completion_wanted, end_text, line_text, operation_text, wanted_text, why_bad};
+ghost use Rattle.uring_check.specs.Reports.{closing, completion_wanted, line_text, operation_text, wanted_text, why_bad};
 ghost use Rattle.uring_check.specs.Checking.{reasons_by};
 ghost use Rattle.uring_text.specs.KeptLine.{kept_of};
 ghost use Rattle.uring_text.specs.Visible.{visible_line};
@@ -113,27 +113,23 @@ fn push_wanted<M: TextMemory>(
 {
     match wanted {
         Wanted::Only(answer) => push_answer_in(memory, text, answer),
-        Wanted::CallOrAgain(length) => push_call_or_again(memory, text, *length),
-        Wanted::AnyEnd => push_end(memory, text, asked),
-        Wanted::EndOrNoMemory(res) => push_end_or_no_memory(memory, text, *res),
+        Wanted::CallOrAgain(length) => {
+            push_named(memory, text, "call ", u64::from(*length))?;
+            push_text(memory, text, " or again")
+        }
+        Wanted::AnyEnd => match asked {
+            Some(entry) => {
+                push_text(memory, text, "a result of ")?;
+                push_operation(memory, text, entry)
+            }
+            None => push_text(memory, text, "an end"),
+        },
+        Wanted::EndOrNoMemory(res) => {
+            push_text(memory, text, "ended ")?;
+            push_signed(memory, text, *res)?;
+            push_text(memory, text, " or ended -12")
+        }
     }
-}
-
-/// Appends an end: any, or one with a result of this entry's operation.
-fn push_end<M: TextMemory>(
-    memory: &M,
-    text: &mut String,
-    asked: &Option<Sqe>,
-) -> Result<(), AllocError>
-    ensures told { OnOk result
-        (string_bytes text.new ≡ string_bytes text.old ++ end_text asked.now) }
-    ensures granted { ((n : ℕ) → M.grants memory.now n) → IsOk result }
-{
-    let Some(entry) = asked else {
-        return push_text(memory, text, "an end");
-    };
-    push_text(memory, text, "a result of ")?;
-    push_operation(memory, text, entry)
 }
 
 /// Appends what a request of this entry does, and of a read and a write its length.
@@ -163,33 +159,4 @@ fn deed(code: u8) -> &'static str
         Some(name) => name.deed(),
         None => "a no-op",
     }
-}
-
-/// Appends a call of this length, or `again`.
-fn push_call_or_again<M: TextMemory>(
-    memory: &M,
-    text: &mut String,
-    length: u32,
-) -> Result<(), AllocError>
-    ensures told { OnOk result
-        (string_bytes text.new ≡ string_bytes text.old ++ wanted_text None (Wanted.CallOrAgain length)) }
-    ensures granted { ((n : ℕ) → M.grants memory.now n) → IsOk result }
-{
-    push_named(memory, text, "call ", u64::from(length))?;
-    push_text(memory, text, " or again")
-}
-
-/// Appends an end with this result, or one for want of memory.
-fn push_end_or_no_memory<M: TextMemory>(
-    memory: &M,
-    text: &mut String,
-    res: i32,
-) -> Result<(), AllocError>
-    ensures told { OnOk result
-        (string_bytes text.new ≡ string_bytes text.old ++ wanted_text None (Wanted.EndOrNoMemory res)) }
-    ensures granted { ((n : ℕ) → M.grants memory.now n) → IsOk result }
-{
-    push_text(memory, text, "ended ")?;
-    push_signed(memory, text, res)?;
-    push_text(memory, text, " or ended -12")
 }

@@ -1,6 +1,6 @@
 -- What is told of lines, by what the search came to.
-use Rattle.std.proofs.Common.{◌≡◌, ◌++◌, ◌+◌, ℕ, List, [], ◌∷◌, length, refl, sym, ap, subst, ◌∙◌, append_assoc, append-nil, arith, inl, inr}
-use Rattle.uring_seen.proofs.Common.{AreAnswered, AreShown, Begins, Event, Fills, HasNoFilling, History, IsAnswered, IsBadLine, IsFar, IsFilling, IsHiddenLine, IsLawfulApart, IsSaid, IsToldBy, IsToldOf, Names, Reads, SaysFirst, Setup, ShowsNever, Tells, TellsFar, codes, decimal, history_of, lines_in, reverse, reverse-reverse, seen_in, setup_text, visible, ◌==◌}
+use Rattle.std.proofs.Common.{◌≡◌, ◌++◌, ◌+◌, ℕ, List, [], ◌∷◌, length, sym, ap, subst, ◌∙◌, append_assoc, append-nil, arith}
+use Rattle.uring_seen.proofs.Common.{AreAnswered, AreShown, Begins, Event, Fills, HasNoFilling, History, IsAnswered, IsFar, IsFaulty, IsFilling, IsLawfulApart, IsSaid, IsToldBy, IsToldOf, Names, Reads, SaysFirst, Setup, ShowsNever, Tells, TellsFar, codes, decimal, history_of, lines_in, reverse, reverse-reverse, seen_in, setup_text, visible, ◌==◌}
 use Rattle.std.proofs.lemmas.List.Splits.{length-slice_split}
 use Rattle.uring_text.specs.Lines.{joined}
 use Rattle.uring_check.specs.declared.setup_line.Said.{Said}
@@ -55,31 +55,10 @@ pub far_reach : (g : Setup) (seen events : List Event) (place : ℕ) → IsReach
     → IsFar g seen (history_of events)
 far_reach g seen events place r = (r.part.lawful, r.part.shows)
 
-pub told_found : (g : Setup) (lines : List (List ℕ)) (seen events : List Event) (told : Told)
-    → told.verdict ≡ verdict.Found → Reads g (reverse lines) (history_of seen) → IsFilling g seen (history_of events)
-    → Tells g (history_of events) told.text.items [] → IsToldOf g lines told.verdict told.text.items
-told_found g lines seen events told is r f tells =
-    subst (λ (v : Verdict). IsToldOf g lines v told.text.items) (sym is)
-    (history_of events, fills_by g (reverse lines) seen (history_of events) r f, tells)
-
-pub told_nothing : (g : Setup) (lines : List (List ℕ)) (told : Told) → HasNoFilling g (reverse lines)
-    → told.verdict ≡ verdict.Nothing → TellsFar g told.text.items → IsToldOf g lines told.verdict told.text.items
-told_nothing g lines told none is far =
-    subst (λ (v : Verdict). IsToldOf g lines v told.text.items) (sym is) (none, far)
-
-pub told_gave_up : (g : Setup) (lines : List (List ℕ)) (told : Told) → told.verdict ≡ verdict.GaveUp
-    → TellsFar g told.text.items → IsToldOf g lines told.verdict told.text.items
-told_gave_up g lines told is far = subst (λ (v : Verdict). IsToldOf g lines v told.text.items) (sym is) far
-
-pub told_hidden : (g : Setup) (lines : List (List ℕ)) (place : ℕ) (told : Told) → IsHiddenLine lines place
+pub told_faulty : (g : Setup) (lines : List (List ℕ)) (place : ℕ) (told : Told) → IsFaulty lines place
     → told.verdict ≡ verdict.Bad → Names place told.text.items → IsToldOf g lines told.verdict told.text.items
-told_hidden g lines place told hidden is names =
-    subst (λ (v : Verdict). IsToldOf g lines v told.text.items) (sym is) (place, inr hidden, names)
-
-pub told_faulty : (g : Setup) (lines : List (List ℕ)) (place : ℕ) (told : Told) → IsBadLine lines place
-    → told.verdict ≡ verdict.Bad → Names place told.text.items → IsToldOf g lines told.verdict told.text.items
-told_faulty g lines place told bad is names =
-    subst (λ (v : Verdict). IsToldOf g lines v told.text.items) (sym is) (place, inl bad, names)
+told_faulty g lines place told faulty is names =
+    subst (λ (v : Verdict). IsToldOf g lines v told.text.items) (sym is) (place, faulty, names)
 
 -- ---- texts
 
@@ -98,36 +77,22 @@ tells_far g h a b c d e remark line lawful tells p q r s =
     (h, lawful, (remark ++ line ++ 10 ∷ [], (tells.0, tells.1, text ∙ far_flat (setup_text g) (joined tells.0) remark line)))
 
 -- a text that names a line
-pub named : (place : ℕ) (z a b c d y bytes e flaw : List ℕ) → z ≡ [] → a ≡ z ++ codes "line "
-    → b ≡ a ++ decimal (place + 1) → c ≡ b ++ codes ": bad line: " → d ≡ c ++ flaw → y ≡ [] → bytes ≡ d
-    → e ≡ y ++ bytes → Names place e
-named place z a b c d y bytes e flaw z_is a_is b_is c_is d_is y_is is more =
-    let first : a ≡ codes "line " = a_is ∙ ap (λ (l : List ℕ). l ++ codes "line ") z_is in
-    let whole : d ≡ ((codes "line " ++ decimal (place + 1)) ++ codes ": bad line: ") ++ flaw = d_is ∙ ap (λ (l : List ℕ). l ++ flaw) (c_is ∙ ap (λ (l : List ℕ). l ++ codes ": bad line: ") (b_is ∙ ap (λ (l : List ℕ). l ++ decimal (place + 1)) first)) in
-    (flaw, more ∙ ap (λ (l : List ℕ). l ++ bytes) y_is ∙ is ∙ whole)
+pub named : (place : ℕ) (z a b c flaw : List ℕ) → z ≡ [] → a ≡ z ++ codes "line " ++ decimal (place + 1)
+    → b ≡ a ++ codes ": bad line: " → c ≡ b ++ flaw → Names place c
+named place z a b c flaw z_is a_is b_is c_is =
+    (flaw, c_is ∙ ap (λ (l : List ℕ). l ++ flaw) (b_is ∙ ap (λ (l : List ℕ). l ++ codes ": bad line: ") (a_is ∙ ap (λ (l : List ℕ). l ++ codes "line " ++ decimal (place + 1)) z_is)))
 
 -- ---- the first line
 
 -- bytes have a line at least
-pub some_line : (bytes : List ℕ) (lines : List (List ℕ)) → lines ≡ lines_in bytes
-    → (first : List ℕ) × (rest : List (List ℕ)) × (lines ≡ first ∷ rest)
-some_line bytes [] is =
+pub no_line : (bytes : List ℕ) → [] ≡ lines_in bytes → ⊥
+no_line bytes is =
     let none : 0 ≡ length (lines_in bytes) = ap length is in
-    absurd (omega (arith, none, length-slice_split (λ b. b == 10) bytes))
-some_line bytes (first ∷ rest) is = (first, rest, refl)
-
-pub answered : (given : Setup) (bytes : List ℕ) (lines : List (List ℕ)) (told : Told) → lines ≡ lines_in bytes
-    → ((first : List ℕ) (rest : List (List ℕ)) → lines ≡ first ∷ rest → AreAnswered given lines told)
-    → IsAnswered given bytes told
-answered given bytes lines told is by =
-    let some = some_line bytes lines is in
-    subst (λ (ls : List (List ℕ)). AreAnswered given ls told) is (by some.0 some.1 some.2)
+    omega (arith, none, length-slice_split (λ b. b == 10) bytes)
 
 -- what is told by what the first line says
-pub said_answered : (given : Setup) (lines : List (List ℕ)) (first : List ℕ) (rest : List (List ℕ)) (said x : Said) (told : Told)
-    → lines ≡ first ∷ rest → SaysFirst lines said → said ≡ x → IsToldBy given lines x told
-    → AreAnswered given lines told
-said_answered given lines first rest said x told is says same by =
-    let first_says : IsSaid first x = subst (λ (s : Said). IsSaid first s) same (subst (λ (ls : List (List ℕ)). SaysFirst ls said) is says) in
-    subst (λ (ls : List (List ℕ)). AreAnswered given ls told) (sym is)
-    (x, first_says, subst (λ (ls : List (List ℕ)). IsToldBy given ls x told) is by)
+pub answered : (given : Setup) (bytes : List ℕ) (lines : List (List ℕ)) (said x : Said) (told : Told) → lines ≡ lines_in bytes
+    → SaysFirst lines said → said ≡ x → IsToldBy given lines x told → IsAnswered given bytes told
+answered given bytes [] said x told is says same by = absurd (no_line bytes is)
+answered given bytes (first ∷ rest) said x told is says same by =
+    subst (λ (ls : List (List ℕ)). AreAnswered given ls told) is (x, subst (λ (s : Said). IsSaid first s) same says, by)

@@ -99,17 +99,6 @@ one_written old mid new events i e line low is of more w = record {
 abbrev pub HasLineOf : List ℕ → List ℕ → Event → Type 0
 HasLineOf old new e = (line : List ℕ) × IsLineOf line e × (new ≡ old ++ ended line)
 
-hidden_line : (e : Event) (s : Step) → e.0 ≡ s → is_hidden s ≡ true
-    → IsLineOf (hidden_text s ++ codes " = " ++ text_of e.1) e
-hidden_line e s is hidden =
-    subst (λ (t : Step). IsLineOf (hidden_text s ++ codes " = " ++ text_of e.1) (t, e.1)) (sym is)
-    (subst (λ (b : Bool). IsLineIf b (hidden_text s ++ codes " = " ++ text_of e.1) (s, e.1)) (sym hidden) refl)
-
-pub hidden_more : (old new : List ℕ) (e : Event) (s : Step) → e.0 ≡ s → is_hidden s ≡ true
-    → new ≡ old ++ ended (hidden_text s ++ codes " = " ++ text_of e.1) → HasLineOf old new e
-hidden_more old new e s is hidden more =
-    (hidden_text s ++ codes " = " ++ text_of e.1, hidden_line e s is hidden, more)
-
 pub shown_more : (lines : List (List ℕ)) (k : ℕ) (old new : List ℕ) (e : Event) → is_hidden e.0 ≡ false
     → (line : List ℕ) × (slice_get lines k ≡ Some line) × Shows line e
     → ((line : List ℕ) → slice_get lines k ≡ Some line → new ≡ old ++ ended line) → HasLineOf old new e
@@ -128,8 +117,6 @@ unhidden _ issue finish flush = refl
 pub one_at_most : (hidden : Bool) (n : ℕ) → n ≡ (if hidden then 0 else 1) → n ≤ 1
 one_at_most true n e = omega arith
 one_at_most false n e = omega arith
-
--- ---- the line of a set-up
 
 -- ---- all of it
 

@@ -1,6 +1,6 @@
 -- What a step with the text of an answer shows.
-use Rattle.std.proofs.Common.{◌≡◌, ℕ, Bool, true, false, List, ◌∷◌, Option, Some, None, drop, ◌<◌, ◌^◌, is_some, if◌then◌else◌, get_or, refl, sym, ap, subst, ◌∙◌, inl, inr, arith}
-use Rattle.uring_seen.proofs.Common.{Answer, CalledForApart, Core, Cqe, FitsApart, HasNoAnswer, History, IsBare, IsGuess, IsGuessed, IsNoFinish, IsOnly, IsSeenAs, IsSure, OrAgain, Setup, Step, World, begin_answer, call_length, is_hidden, is_spent, is_submitting, next_answer_of, reap_answer_of, requests_of, submitted, text_of, world}
+use Rattle.std.proofs.Common.{◌≡◌, ℕ, true, false, List, ◌∷◌, Option, Some, None, drop, ◌<◌, ◌^◌, get_or, refl, sym, ap, subst, ◌∙◌, inl, inr, arith}
+use Rattle.uring_seen.proofs.Common.{Answer, CalledForApart, Core, Cqe, FitsApart, History, IsAnsweredAs, IsBare, IsFollowed, IsGuess, IsGuessed, IsNoFinish, IsSeenAs, IsShownIf, OrAgain, Setup, Sight, Step, World, begin_answer, is_hidden, is_submitting, next_answer_of, reap_answer_of, requests_of, submitted, text_of, world}
 use Rattle.uring_entry.specs.Completions.{next_to_reap}
 use Rattle.uring_rules.specs.Rules.{next_of}
 use Rattle.uring_core.specs.declared.step.Step.TheVariants as step
@@ -10,136 +10,87 @@ use Rattle.uring_seen.specs.declared.sight.Sight.TheVariants as sight
 use Rattle.uring_seen.proofs.Sides.{may_submitted}
 use Rattle.uring_seen.proofs.Texts.{number_once, completion_once}
 
--- ---- steps to which one answer is called for
+-- ---- steps to which one answer is called for, but for memory that is refused
 
-pub sure_submitting : (s : Step) → IsSure s → is_submitting s ≡ true
-sure_submitting (step.Begin count) sure = absurd sure
-sure_submitting s sure = sure
+-- that it was is the only answer of its text
+again_only : (b : Answer) → text_of b ≡ text_of answer.Again → b ≡ answer.Again
+again_only answer.Again same = refl
+again_only b same = let first = ap (λ (l : List ℕ). get_or l 0 0) same in absurd (omega (arith, first))
 
-pub sure_no_finish : (s : Step) → IsSure s → IsNoFinish s
-sure_no_finish (step.Finish n) sure = absurd (let f : false ≡ true = sure in cc)
-sure_no_finish _ sure = tt
+answer_once : (g : Setup) (w : World) (s : Step) (a b : Answer) → IsNoFinish s → CalledForApart g w s a
+    → CalledForApart g w s b → text_of b ≡ text_of a → b ≡ a
+answer_once g w (step.Begin count) a b of e f same = begin_once (begin_answer w count) b a f e same
+answer_once g w (step.Finish n) a b of e f same = absurd of
+answer_once g w _ a b of e f same = f ∙ sym e
 
-sure_seen : (s : Step) → IsSure s → is_hidden s ≡ false
-sure_seen (step.Issue n) sure = absurd (let f : false ≡ true = sure in cc)
-sure_seen (step.Finish n) sure = absurd (let f : false ≡ true = sure in cc)
-sure_seen step.Flush sure = absurd (let f : false ≡ true = sure in cc)
-sure_seen _ sure = refl
+begin_other : (x a b : Answer) (text : List ℕ) → (text_of answer.Again ≡ text → ⊥) → (a ≡ answer.Again → ⊥)
+    → (text_of a ≡ text → ⊥) → OrAgain x a → OrAgain x b → text_of b ≡ text → ⊥
+begin_other (answer.Call n) a b text no_again lasts other (inl e) (inl f) same = other (ap text_of (e ∙ sym f) ∙ same)
+begin_other (answer.Call n) a b text no_again lasts other (inl e) (inr f) same = no_again (ap text_of (sym f.0) ∙ same)
+begin_other (answer.Call n) a b text no_again lasts other (inr e) f same = lasts e.0
+begin_other x a b text no_again lasts other e f same = other (ap text_of (e ∙ sym f) ∙ same)
 
-sure_bare : (s : Step) (a : Answer) → IsSure s → IsBare s a
-sure_bare step.LoadCqTail a sure = absurd (let f : false ≡ true = sure in cc)
-sure_bare step.Reap a sure = absurd (let f : false ≡ true = sure in cc)
-sure_bare step.StoreCqHead a sure = absurd (let f : false ≡ true = sure in cc)
-sure_bare step.Next a sure = absurd (let f : false ≡ true = sure in cc)
-sure_bare _ a sure = tt
+-- none has a text that is neither its own nor that memory was refused
+answer_other : (g : Setup) (w : World) (s : Step) (a b : Answer) (text : List ℕ) → IsNoFinish s
+    → (text_of answer.Again ≡ text → ⊥) → (a ≡ answer.Again → ⊥) → (text_of a ≡ text → ⊥)
+    → CalledForApart g w s a → CalledForApart g w s b → text_of b ≡ text → ⊥
+answer_other g w (step.Begin count) a b text of no_again lasts other e f same =
+    begin_other (begin_answer w count) a b text no_again lasts other e f same
+answer_other g w (step.Finish n) a b text of no_again lasts other e f same = absurd of
+answer_other g w _ a b text of no_again lasts other e f same = other (ap text_of (e ∙ sym f) ∙ same)
 
-sure_one : (g : Setup) (w : World) (s : Step) (a b : Answer) → IsSure s → CalledForApart g w s a
-    → CalledForApart g w s b → b ≡ a
-sure_one g w (step.Begin count) a b sure e f = absurd sure
-sure_one g w (step.Finish n) a b sure e f = absurd (let f : false ≡ true = sure in cc)
-sure_one g w _ a b sure e f = f ∙ sym e
+-- memory was refused, if that is called for
+pub again_answered : (core : Core) (h : History) (s : Step) (text : List ℕ) (x : Sight) → text_of answer.Again ≡ text
+    → IsFollowed core h s answer.Again x → IsAnsweredAs core h s text x
+again_answered core h s text (sight.Shown t a) same (t_is, a_is, fits) = (
+  t_is,
+  ap text_of a_is ∙ same,
+  (λ b called is. again_only b (is ∙ sym same) ∙ sym a_is),
+  subst (λ (y : Answer). FitsApart core ((s, y) ∷ h)) (sym a_is) fits,
+)
+again_answered core h s text sight.Wrong same never = λ b called is.
+    never (subst (CalledForApart core.setup (world core.setup h) s) (again_only b (is ∙ sym same)) called)
+again_answered core h s text _ same none = absurd none
 
-sure_only : (core : Core) (seen : History) (s : Step) (a : Answer) (text : List ℕ) → IsSure s
-    → FitsApart core ((s, a) ∷ submitted seen) → IsOnly core.setup seen s text a
-sure_only core seen s a text sure fits = λ b may same bare.
-    sure_one core.setup (world core.setup (submitted seen)) s a b sure fits.lawful.0 (may_submitted core.setup seen s b (sure_submitting s sure) may)
+pub step_answered : (core : Core) (h : History) (s : Step) (a : Answer) (text : List ℕ) (x : Sight) → IsNoFinish s
+    → (text_of answer.Again ≡ text → ⊥) → (a ≡ answer.Again → ⊥) → FitsApart core ((s, a) ∷ h)
+    → IsShownIf s a text x → IsAnsweredAs core h s text x
+step_answered core h s a text (sight.Shown t b) of no_again lasts fits (t_is, b_is, same) = (
+  t_is,
+  ap text_of b_is ∙ same,
+  (λ d called is. answer_once core.setup (world core.setup h) s a d of fits.lawful.0 called (is ∙ sym same) ∙ sym b_is),
+  subst (λ (y : Answer). FitsApart core ((s, y) ∷ h)) (sym b_is) fits,
+)
+step_answered core h s a text sight.Wrong of no_again lasts fits other = λ b called is.
+    answer_other core.setup (world core.setup h) s a b text of no_again lasts other fits.lawful.0 called is
+step_answered core h s a text _ of no_again lasts fits none = absurd none
 
-fits_submitted : (core : Core) (seen : History) (s : Step) (a : Answer) → is_submitting s ≡ true
-    → FitsApart core ((s, a) ∷ submitted seen) → FitsApart core (submitted ((s, a) ∷ seen))
-fits_submitted core seen s a of fits = rw of fits
+submitting_seen : (s : Step) → is_submitting s ≡ true → is_hidden s ≡ false
+submitting_seen (step.Issue n) of = absurd (let f : false ≡ true = of in cc)
+submitting_seen (step.Finish n) of = absurd (let f : false ≡ true = of in cc)
+submitting_seen step.Flush of = absurd (let f : false ≡ true = of in cc)
+submitting_seen _ of = refl
 
-pub sure_shown : (core : Core) (seen : History) (s : Step) (a : Answer) (text : List ℕ) → IsSure s
-    → text_of a ≡ text → FitsApart core ((s, a) ∷ submitted seen)
-    → IsSeenAs core seen s text (sight.Shown s a)
-sure_shown core seen s a text sure same fits =
-    (refl, same, sure_seen s sure, sure_bare s a sure, sure_only core seen s a text sure fits, fits_submitted core seen s a (sure_submitting s sure) fits)
+submitting_bare : (s : Step) (a : Answer) → is_submitting s ≡ true → IsBare s a
+submitting_bare step.LoadCqTail a of = absurd (let f : false ≡ true = of in cc)
+submitting_bare step.Reap a of = absurd (let f : false ≡ true = of in cc)
+submitting_bare step.StoreCqHead a of = absurd (let f : false ≡ true = of in cc)
+submitting_bare step.Next a of = absurd (let f : false ≡ true = of in cc)
+submitting_bare _ a of = tt
 
-pub sure_wrong : (core : Core) (seen : History) (s : Step) (a : Answer) (text : List ℕ) → IsSure s
-    → (text_of a ≡ text → ⊥) → FitsApart core ((s, a) ∷ submitted seen)
-    → IsSeenAs core seen s text sight.Wrong
-sure_wrong core seen s a text sure other fits = λ b may same bare.
-    other (sym (ap text_of (sure_only core seen s a text sure fits b may same bare)) ∙ same)
-
--- ---- Begin
-
-pub begin_no_finish : (s : Step) → (count : ℕ) × (s ≡ step.Begin count) → IsNoFinish s
-begin_no_finish s (count, is) = subst IsNoFinish (sym is) tt
-
-begin_only : (core : Core) (seen : History) (count : ℕ) (a : Answer)
-    → FitsApart core ((step.Begin count, a) ∷ submitted seen)
-    → IsOnly core.setup seen (step.Begin count) (text_of a) a
-begin_only core seen count a fits = λ b may same bare.
-    begin_once (begin_answer (world core.setup (submitted seen)) count) b a (may_submitted core.setup seen (step.Begin count) b refl may) fits.lawful.0 same
-
-pub begin_shown : (core : Core) (seen : History) (s : Step) (a : Answer) (text : List ℕ)
-    → (count : ℕ) × (s ≡ step.Begin count) → text_of a ≡ text
-    → FitsApart core ((s, a) ∷ submitted seen) → IsSeenAs core seen s text (sight.Shown s a)
-begin_shown core seen s a text (count, is) same =
-    subst (λ (t : Step). FitsApart core ((t, a) ∷ submitted seen) → IsSeenAs core seen t text (sight.Shown t a)) (sym is)
-    (subst (λ (l : List ℕ). FitsApart core ((step.Begin count, a) ∷ submitted seen) → IsSeenAs core seen (step.Begin count) l (sight.Shown (step.Begin count) a)) same
-    (λ fits. (refl, refl, refl, tt, begin_only core seen count a fits, fits)))
-
--- a text that is neither that of the answer nor that memory was refused
-pub begin_wrong : (core : Core) (seen : History) (s : Step) (a : Answer) (text : List ℕ)
-    → (count : ℕ) × (s ≡ step.Begin count) → (text_of answer.Again ≡ text → ⊥)
-    → (a ≡ answer.Again → ⊥) → (text_of a ≡ text → ⊥)
-    → FitsApart core ((s, a) ∷ submitted seen) → IsSeenAs core seen s text sight.Wrong
-begin_wrong core seen s a text (count, is) no_again lasts other =
-    subst (λ (t : Step). FitsApart core ((t, a) ∷ submitted seen) → HasNoAnswer core.setup seen t text) (sym is)
-    (λ fits b may same bare. go (begin_answer (world core.setup (submitted seen)) count) b fits.lawful.0 (may_submitted core.setup seen (step.Begin count) b refl may) same)
-  where
-    go : (x b : Answer) → OrAgain x a → OrAgain x b → text_of b ≡ text → ⊥
-    go (answer.Call n) b (inl e) (inl f) same = other (ap text_of (e ∙ sym f) ∙ same)
-    go (answer.Call n) b (inl e) (inr f) same = no_again (ap text_of (sym f.0) ∙ same)
-    go (answer.Call n) b (inr e) f same = lasts e.0
-    go x b e f same = other (ap text_of (e ∙ sym f) ∙ same)
-
-pub call_again : (n : ℕ) → text_of (answer.Call n) ≡ text_of answer.Again → ⊥
-call_again n e =
-    let first : 99 ≡ 97 = ap (λ (l : List ℕ). get_or l 0 0) e in absurd (omega (arith, first))
-
--- what a Begin is answered if memory is there
-abbrev pub IsBegun : Answer → Type 0
-IsBegun (answer.Call n) = Unit {0}
-IsBegun answer.Closed = Unit {0}
-IsBegun answer.InCall = Unit {0}
-IsBegun answer.Spent = Unit {0}
-IsBegun _ = ⊥
-
-pub begun : (closed opened spent : Bool) (n : ℕ)
-    → IsBegun (if closed then answer.Closed else if opened then answer.InCall else if spent then answer.Spent else answer.Call n)
-begun true opened spent n = tt
-begun false true spent n = tt
-begun false false true n = tt
-begun false false false n = tt
-
--- it never has this text
-pub again_answer : (x : Answer) → IsBegun x → text_of x ≡ text_of answer.Again → ⊥
-again_answer (answer.Call n) begun text = call_again n text
-again_answer answer.Closed begun text = absurd (let first : 99 ≡ 97 = ap (λ (l : List ℕ). get_or l 0 0) text in omega (arith, first))
-again_answer answer.InCall begun text = absurd (let first : 105 ≡ 97 = ap (λ (l : List ℕ). get_or l 0 0) text in omega (arith, first))
-again_answer answer.Spent begun text = absurd (let first : 115 ≡ 97 = ap (λ (l : List ℕ). get_or l 0 0) text in omega (arith, first))
-again_answer _ begun text = absurd begun
-
--- it isn't called for that memory was refused
-pub again_wrong : (core : Core) (seen : History) (s : Step) (setup : Setup) → core.setup ≡ setup
-    → (count : ℕ) × (s ≡ step.Begin count)
-    → (CalledForApart setup (world setup (submitted seen)) s answer.Again → ⊥)
-    → IsSeenAs core seen s (text_of answer.Again) sight.Wrong
-again_wrong core seen s setup same (count, is) =
-    subst (λ (g : Setup). (CalledForApart g (world g (submitted seen)) s answer.Again → ⊥) → IsSeenAs core seen s (text_of answer.Again) sight.Wrong) same
-    (subst (λ (t : Step). (CalledForApart core.setup (world core.setup (submitted seen)) t answer.Again → ⊥) → HasNoAnswer core.setup seen t (text_of answer.Again)) (sym is)
-    (λ never b may text bare. never (go (begin_answer (world core.setup (submitted seen)) count) b (begins count) (may_submitted core.setup seen (step.Begin count) b refl may) text)))
-  where
-    begins : (count : ℕ) → IsBegun (begin_answer (world core.setup (submitted seen)) count)
-    begins count =
-        let w : World = world core.setup (submitted seen) in
-        begun w.is_closed (is_some w.submission.call) (is_spent w (call_length w.submission count)) (call_length w.submission count)
-
-    go : (x b : Answer) → IsBegun x → OrAgain x b → text_of b ≡ text_of answer.Again → OrAgain x answer.Again
-    go (answer.Call n) b is (inl e) text = absurd (call_again n (ap text_of (sym e) ∙ text))
-    go (answer.Call n) b is (inr e) text = inr (refl, e.1)
-    go x b is e text = absurd (again_answer x is (ap text_of (sym e) ∙ text))
+-- what is called for is what may be shown
+pub answered_seen : (core : Core) (seen : History) (s : Step) (text : List ℕ) (x : Sight) → is_submitting s ≡ true
+    → IsAnsweredAs core (submitted seen) s text x → IsSeenAs core seen s text x
+answered_seen core seen s text (sight.Shown t a) of (t_is, same, only, fits) = (
+  t_is,
+  same,
+  submitting_seen s of,
+  submitting_bare s a of,
+  (λ b may is bare. only b (may_submitted core.setup seen s b of may) is),
+  rw of fits,
+)
+answered_seen core seen s text sight.Wrong of none = λ b may is bare. none b (may_submitted core.setup seen s b of may) is
+answered_seen core seen s text _ of none = absurd none
 
 -- ---- steps whose answer their text alone tells
 

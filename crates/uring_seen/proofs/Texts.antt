@@ -1,7 +1,7 @@
 -- The texts of completions and numbers, each of one alone.
 use Rattle.std.proofs.Common.{◌≡◌, ◌≢◌, ℕ, ℤ, ◌+◌, ◌<◌, ◌^◌, true, false, List, [], ◌∷◌, ◌++◌, drop, Some, refl, sym, ap, subst, ◌∙◌, append_assoc, arith}
 use mathlib.Core.List.{head-eq_of_cons-eq, tail-eq_of_cons-eq}
-use Rattle.uring_seen.proofs.Common.{Cqe, IsBare, IsCompletion, IsFile, IsFramed, IsNoCompletion, IsNoNumber, IsParted, IsUnframed, IsUnparted, SpellsNumber, and_parts, append_cancel_right, codes, decimal, no_bytes, text_of}
+use Rattle.uring_seen.proofs.Common.{Cqe, IsBare, IsCompletion, IsFile, IsNoCompletion, IsNoNumber, IsParted, IsUnparted, SpellsNumber, and_parts, append_cancel_right, codes, decimal, no_bytes, text_of}
 use Rattle.std.specs.Char.{is_ascii_digit}
 use Rattle.std.specs.Fmt.{signed_decimal}
 use Rattle.std.specs.List.{AllByRecursion, list_all}
@@ -86,14 +86,19 @@ completion_once c d same p q =
 
 -- ---- a completion that is read
 
--- a text that begins otherwise has no frame
-pub front_unframed : (text : List ℕ) → ((rest : List ℕ) → text ≢ codes "cqe " ++ rest) → IsUnframed text
-front_unframed text none = λ mid f. none (mid ++ codes " -") f
+-- a text that begins otherwise is that of none
+pub no_front : (text : List ℕ) → ((rest : List ℕ) → text ≢ codes "cqe " ++ rest) → IsNoCompletion text
+no_front text none = λ c is. none (middle c.user_data c.res ++ codes " -") (completion_is text c is)
 
 -- nor one that ends otherwise
-pub back_unframed : (text rest : List ℕ) → text ≡ codes "cqe " ++ rest
-    → ((mid : List ℕ) → rest ≢ mid ++ codes " -") → IsUnframed text
-back_unframed text rest front none = λ mid f. none mid (ap (λ (l : List ℕ). drop 4 l) (sym front ∙ f))
+pub no_back : (text rest : List ℕ) → text ≡ codes "cqe " ++ rest → ((mid : List ℕ) → rest ≢ mid ++ codes " -")
+    → IsNoCompletion text
+no_back text rest front none = λ c is.
+    none (middle c.user_data c.res) (ap (λ (l : List ℕ). drop 4 l) (sym front ∙ completion_is text c is))
+
+-- this stands in a text between `cqe ` and ` -`
+abbrev pub IsFramed : List ℕ → List ℕ → Type 0
+IsFramed text mid = text ≡ codes "cqe " ++ (mid ++ codes " -")
 
 pub framed : (text rest mid : List ℕ) → text ≡ codes "cqe " ++ rest → rest ≡ mid ++ codes " -"
     → IsFramed text mid
@@ -104,11 +109,7 @@ middle_is : (text mid : List ℕ) (c : Cqe) → IsFramed text mid → IsCompleti
 middle_is text mid c f is =
     append_cancel_right mid (middle c.user_data c.res) (codes " -") (ap (λ (l : List ℕ). drop 4 l) (sym f ∙ completion_is text c is))
 
--- the text of a completion has a frame
-pub unframed_none : (text : List ℕ) → IsUnframed text → IsNoCompletion text
-unframed_none text none = λ c is. none (middle c.user_data c.res) (completion_is text c is)
-
--- and a blank in it
+-- the text of a completion has a blank in it
 pub unparted_none : (text mid : List ℕ) → IsFramed text mid → IsUnparted mid → IsNoCompletion text
 unparted_none text mid f none = λ c is.
     none_and_one (decimal c.user_data) (signed_decimal c.res) (subst HasNoBlank (middle_is text mid c f is) none)

@@ -12,7 +12,7 @@ use Rattle.uring_early.proofs.Loosening.{blanks_bare}
 use Rattle.uring_check.specs.declared.setup_line.Said.{Said}
 use Rattle.uring_seen.specs.declared.early.Early.{Early}
 use Rattle.uring_seen.specs.declared.sight.Sight.TheVariants as sight
-use Rattle.uring_seen.proofs.Answered.{some_line}
+use Rattle.uring_seen.proofs.Answered.{no_line}
 use Rattle.uring_seen.proofs.OneLine.{one_more, split_lines}
 
 -- a line that is no step with an answer
@@ -239,16 +239,8 @@ early_found g lines events found.GaveUp steps r open_ = tt
 
 -- ---- the first line
 
-pub early_answered : (given : Setup) (bytes : List ℕ) (lines : List (List ℕ)) (x : Early) → lines ≡ lines_in bytes
-    → ((first : List ℕ) (rest : List (List ℕ)) → lines ≡ first ∷ rest → IsEarlyIn given lines x)
-    → IsEarlyText given bytes x
-early_answered given bytes lines x is by =
-    let some = some_line bytes lines is in
-    subst (λ (ls : List (List ℕ)). IsEarlyIn given ls x) is (by some.0 some.1 some.2)
-
-pub early_said : (given : Setup) (lines : List (List ℕ)) (first : List ℕ) (rest : List (List ℕ)) (said y : Said) (x : Early)
-    → lines ≡ first ∷ rest → SaysFirst lines said → said ≡ y → IsEarlyBy given lines y x → IsEarlyIn given lines x
-early_said given lines first rest said y x is says same by =
-    let first_says : IsSaid first y = subst (λ (s : Said). IsSaid first s) same (subst (λ (ls : List (List ℕ)). SaysFirst ls said) is says) in
-    subst (λ (ls : List (List ℕ)). IsEarlyIn given ls x) (sym is)
-    (y, first_says, subst (λ (ls : List (List ℕ)). IsEarlyBy given ls y x) is by)
+pub early_answered : (given : Setup) (bytes : List ℕ) (lines : List (List ℕ)) (said y : Said) (x : Early) → lines ≡ lines_in bytes
+    → SaysFirst lines said → said ≡ y → IsEarlyBy given lines y x → IsEarlyText given bytes x
+early_answered given bytes [] said y x is says same by = absurd (no_line bytes is)
+early_answered given bytes (first ∷ rest) said y x is says same by =
+    subst (λ (ls : List (List ℕ)). IsEarlyIn given ls x) is (y, subst (λ (s : Said). IsSaid first s) same says, by)

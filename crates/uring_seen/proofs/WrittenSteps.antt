@@ -1,101 +1,36 @@
 -- What a step with the text of an answer is, of a core that knows no bytes.
-use Rattle.std.proofs.Common.{◌≡◌, ℕ, ℤ, Bool, true, false, List, ◌∷◌, Option, Some, None, drop, is_some, get_or, refl, sym, ap, subst, ◌∙◌, inl, inr, arith}
-use Rattle.uring_seen.proofs.Common.{Answer, CalledForApart, CompletesTo, Core, Cqe, Event, FinishesApart, FitsApart, HasText, History, IsCompleted, IsFile, IsFinishAnswer, IsFollowed, IsNeverWritten, IsNoFinish, IsOneStep, IsSized, IsWrittenAs, OrAgain, Setup, Sight, Step, World, bare, begin_answer, blank_answer, blank_completion, call_length, is_running, is_spent, no_bytes, same_Some, text_of, world}
+use Rattle.std.proofs.Common.{◌≡◌, ℕ, ℤ, Bool, true, false, List, ◌∷◌, Option, Some, None, drop, get_or, refl, sym, ap, subst, ◌∙◌, arith}
+use Rattle.uring_seen.proofs.Common.{Answer, CalledForApart, CompletesTo, Core, Cqe, Event, FinishesApart, FitsApart, HasNoBytes, HasText, History, IsAnsweredAs, IsCompleted, IsFile, IsFinishAnswer, IsFollowed, IsShownIf, IsSized, IsWrittenAs, Sight, Step, bare, blank_answer, blank_completion, is_running, no_bytes, same_Some, text_of, world}
 use Rattle.uring_core.specs.declared.answer.Answer.TheVariants as answer
 use Rattle.uring_core.specs.declared.step.Step.TheVariants as step
-use Rattle.uring_check.proofs.SameTexts.{begin_once}
 use Rattle.uring_seen.specs.declared.sight.Sight.TheVariants as sight
-use Rattle.uring_seen.proofs.Showing.{again_answer, begun, call_again, IsBegun}
 use Rattle.uring_seen.proofs.Texts.{signed_once}
 use Rattle.uring_seen.proofs.WrittenCompletions.{blank_own}
 
--- ---- steps to which one answer alone is called for
+-- ---- steps to which what is called for has no bytes
 
-pub one_no_finish : (s : Step) → IsOneStep s → IsNoFinish s
-one_no_finish (step.Finish n) one = absurd one
-one_no_finish _ one = tt
+own_blank : (s : Step) (a : Answer) → HasNoBytes s → blank_answer s a ≡ a
+own_blank (step.Finish n) a of = absurd of
+own_blank step.Reap a of = absurd of
+own_blank _ a of = refl
 
-one_blank : (s : Step) (a : Answer) → IsOneStep s → blank_answer s a ≡ a
-one_blank (step.Begin count) a one = absurd one
-one_blank (step.Finish n) a one = absurd one
-one_blank step.Reap a one = absurd one
-one_blank _ a one = refl
+own_sized : (s : Step) (a : Answer) → HasNoBytes s → IsSized s a
+own_sized (step.Finish n) a of = absurd of
+own_sized step.Reap a of = absurd of
+own_sized _ a of = tt
 
-one_sized : (s : Step) (a : Answer) → IsOneStep s → IsSized s a
-one_sized (step.Finish n) a one = absurd one
-one_sized step.Reap a one = absurd one
-one_sized _ a one = tt
-
-one_same : (g : Setup) (w : World) (s : Step) (a b : Answer) → IsOneStep s → CalledForApart g w s a
-    → CalledForApart g w s b → b ≡ a
-one_same g w (step.Begin count) a b one e f = absurd one
-one_same g w (step.Finish n) a b one e f = absurd one
-one_same g w step.Reap a b one e f = absurd one
-one_same g w _ a b one e f = f ∙ sym e
-
-one_is : (core : Core) (h : History) (s : Step) (a b : Answer) → IsOneStep s → FitsApart core ((s, a) ∷ h)
-    → CalledForApart core.setup (world core.setup h) s (blank_answer s b) → b ≡ a
-one_is core h s a b one fits called =
-    one_same core.setup (world core.setup h) s a b one fits.lawful.0 (subst (CalledForApart core.setup (world core.setup h) s) (one_blank s b one) called)
-
-pub one_written : (core : Core) (h : History) (s : Step) (a : Answer) (text : List ℕ) → IsOneStep s → text_of a ≡ text
-    → FitsApart core ((s, a) ∷ h) → IsWrittenAs core h s text (sight.Shown s a)
-one_written core h s a text one same fits = (
-  refl,
+pub answered_written : (core : Core) (h : History) (s : Step) (text : List ℕ) (x : Sight) → HasNoBytes s
+    → IsAnsweredAs core h s text x → IsWrittenAs core h s text x
+answered_written core h s text (sight.Shown t a) of (t_is, same, only, fits) = (
+  t_is,
   same,
-  one_sized s a one,
-  λ b called text_is sized. ap (λ (x : Answer). bare (s, x)) (one_is core h s a b one fits called),
-  subst (λ (x : Answer). FitsApart core ((s, x) ∷ h)) (sym (one_blank s a one)) fits,
+  own_sized s a of,
+  (λ b called is sized. ap (λ (y : Answer). bare (s, y)) (only b (subst (CalledForApart core.setup (world core.setup h) s) (own_blank s b of) called) is)),
+  subst (λ (y : Answer). FitsApart core ((s, y) ∷ h)) (sym (own_blank s a of)) fits,
 )
-
-pub one_never : (core : Core) (h : History) (s : Step) (a : Answer) (text : List ℕ) → IsOneStep s
-    → (text_of a ≡ text → ⊥) → FitsApart core ((s, a) ∷ h) → IsWrittenAs core h s text sight.Wrong
-one_never core h s a text one other fits = λ b called text_is sized.
-    other (sym (ap text_of (one_is core h s a b one fits called)) ∙ text_is)
-
--- ---- Begin
-
-pub begin_written : (core : Core) (h : History) (s : Step) (a : Answer) (text : List ℕ)
-    → (count : ℕ) × (s ≡ step.Begin count) → text_of a ≡ text → FitsApart core ((s, a) ∷ h)
-    → IsWrittenAs core h s text (sight.Shown s a)
-begin_written core h s a text (count, is) same =
-    subst (λ (t : Step). FitsApart core ((t, a) ∷ h) → IsWrittenAs core h t text (sight.Shown t a)) (sym is)
-    (λ fits. (refl, same, tt, λ b called text_is sized. ap (λ (x : Answer). bare (step.Begin count, x)) (begin_once (begin_answer (world core.setup h) count) b a called fits.lawful.0 (text_is ∙ sym same)), fits))
-
-pub begin_never : (core : Core) (h : History) (s : Step) (a : Answer) (text : List ℕ)
-    → (count : ℕ) × (s ≡ step.Begin count) → (text_of answer.Again ≡ text → ⊥)
-    → (a ≡ answer.Again → ⊥) → (text_of a ≡ text → ⊥) → FitsApart core ((s, a) ∷ h)
-    → IsWrittenAs core h s text sight.Wrong
-begin_never core h s a text (count, is) no_again lasts other =
-    subst (λ (t : Step). FitsApart core ((t, a) ∷ h) → IsNeverWritten core.setup h t text) (sym is)
-    (λ fits b called text_is sized. go (begin_answer (world core.setup h) count) b fits.lawful.0 called text_is)
-  where
-    go : (x b : Answer) → OrAgain x a → OrAgain x b → text_of b ≡ text → ⊥
-    go (answer.Call n) b (inl e) (inl f) same = other (ap text_of (e ∙ sym f) ∙ same)
-    go (answer.Call n) b (inl e) (inr f) same = no_again (ap text_of (sym f.0) ∙ same)
-    go (answer.Call n) b (inr e) f same = lasts e.0
-    go x b e f same = other (ap text_of (e ∙ sym f) ∙ same)
-
-again_called : (x b : Answer) → IsBegun x → OrAgain x b → text_of b ≡ text_of answer.Again → OrAgain x answer.Again
-again_called (answer.Call n) b is (inl e) text = absurd (call_again n (ap text_of (sym e) ∙ text))
-again_called (answer.Call n) b is (inr e) text = inr (refl, e.1)
-again_called x b is e text = absurd (again_answer x is (ap text_of (sym e) ∙ text))
-
--- memory was refused, if that is called for
-pub again_followed : (core : Core) (h : History) (s : Step) (text : List ℕ) (x : Sight) → (count : ℕ) × (s ≡ step.Begin count)
-    → text_of answer.Again ≡ text → IsFollowed core h s answer.Again x → IsWrittenAs core h s text x
-again_followed core h s text (sight.Shown t b) begins same (t_is, b_is, fits) =
-    subst (λ (u : Step). IsWrittenAs core h s text (sight.Shown u b)) (sym t_is)
-    (subst (λ (y : Answer). IsWrittenAs core h s text (sight.Shown s y)) (sym b_is) (begin_written core h s answer.Again text begins same fits))
-again_followed core h s text sight.Wrong (count, is) same never = λ b called text_is sized.
-    never (subst (λ (t : Step). CalledForApart core.setup (world core.setup h) t answer.Again) (sym is) (again_called (begin_answer (world core.setup h) count) b (begins (world core.setup h)) (subst (λ (t : Step). CalledForApart core.setup (world core.setup h) t (blank_answer t b)) is called) (text_is ∙ sym same)))
-  where
-    begins : (w : World) → IsBegun (begin_answer w count)
-    begins w =
-        begun w.is_closed (is_some w.submission.call) (is_spent w (call_length w.submission count)) (call_length w.submission count)
-again_followed core h s text sight.Passed begins same none = absurd none
-again_followed core h s text sight.Hidden begins same none = absurd none
-again_followed core h s text sight.Bad begins same none = absurd none
+answered_written core h s text sight.Wrong of none = λ b called is sized.
+    none b (subst (CalledForApart core.setup (world core.setup h) s) (own_blank s b of) called) is
+answered_written core h s text _ of none = absurd none
 
 -- ---- Finish
 
@@ -227,31 +162,29 @@ none_is : (a b : Answer) → IsNone a → blank_answer step.Reap b ≡ a → b �
 none_is a (answer.Reaped c) none is = absurd (none (blank_completion c) (sym is))
 none_is a b none is = is
 
-pub none_written : (core : Core) (h : History) (a : Answer) (text : List ℕ) → ((c : Cqe) → a ≡ answer.Reaped c → ⊥)
-    → text_of a ≡ text → FitsApart core ((step.Reap, a) ∷ h) → IsWrittenAs core h step.Reap text (sight.Shown step.Reap a)
-none_written core h a text none same fits = (
-  refl,
-  same,
-  none_sized a none,
-  λ b called text_is sized. ap (λ (y : Answer). bare (step.Reap, y)) (none_is a b none (called ∙ sym fits.lawful.0)),
-  subst (λ (y : Answer). FitsApart core ((step.Reap, y) ∷ h)) (sym (none_blank a none)) fits,
-)
-
-pub none_never : (core : Core) (h : History) (a : Answer) (text : List ℕ) → ((c : Cqe) → a ≡ answer.Reaped c → ⊥)
-    → (text_of a ≡ text → ⊥) → FitsApart core ((step.Reap, a) ∷ h) → IsWrittenAs core h step.Reap text sight.Wrong
-none_never core h a text none other fits = λ b called text_is sized.
-    other (ap text_of (sym (none_is a b none (called ∙ sym fits.lawful.0))) ∙ text_is)
+pub none_written : (core : Core) (h : History) (a : Answer) (text : List ℕ) (x : Sight) → ((c : Cqe) → a ≡ answer.Reaped c → ⊥)
+    → FitsApart core ((step.Reap, a) ∷ h) → IsShownIf step.Reap a text x → IsWrittenAs core h step.Reap text x
+none_written core h a text (sight.Shown t b) none fits (t_is, b_is, same) =
+    subst (λ (u : Step). IsWrittenAs core h step.Reap text (sight.Shown u b)) (sym t_is)
+    (subst (λ (y : Answer). IsWrittenAs core h step.Reap text (sight.Shown step.Reap y)) (sym b_is) (
+      refl,
+      same,
+      none_sized a none,
+      (λ d called is sized. ap (λ (y : Answer). bare (step.Reap, y)) (none_is a d none (called ∙ sym fits.lawful.0))),
+      subst (λ (y : Answer). FitsApart core ((step.Reap, y) ∷ h)) (sym (none_blank a none)) fits,
+    ))
+none_written core h a text sight.Wrong none fits other = λ d called is sized.
+    other (ap text_of (sym (none_is a d none (called ∙ sym fits.lawful.0))) ∙ is)
+none_written core h a text _ none fits so = absurd so
 
 -- what a text comes to after which a completion without bytes is reaped
-pub completed_shown : (c d : Cqe) (text : List ℕ) → c.payload ≡ no_bytes → CompletesTo c text d
-    → text_of (answer.Reaped d) ≡ text → IsCompleted c text (sight.Shown step.Reap (answer.Reaped d))
-completed_shown c d text none to same =
-    (d, refl, refl, to.same ∙ blank_own c none, record { same = to.same; sized = to.sized; text_is = same }, to.only)
-
-pub completed_wrong : (c d : Cqe) (text : List ℕ) → CompletesTo c text d → (text_of (answer.Reaped d) ≡ text → ⊥)
-    → IsCompleted c text sight.Wrong
-completed_wrong c d text to other = λ e same has.
-    other (ap (λ (x : Cqe). text_of (answer.Reaped x)) (sym (to.only e has)) ∙ has.text_is)
+pub completed_whole : (c d : Cqe) (text : List ℕ) (x : Sight) → c.payload ≡ no_bytes → CompletesTo c text d
+    → IsShownIf step.Reap (answer.Reaped d) text x → IsCompleted c text x
+completed_whole c d text (sight.Shown s a) none to (s_is, a_is, same) =
+    (d, s_is, a_is, to.same ∙ blank_own c none, record { same = to.same; sized = to.sized; text_is = same }, to.only)
+completed_whole c d text sight.Wrong none to other = λ e same has.
+    other (ap (λ (y : Cqe). text_of (answer.Reaped y)) (sym (to.only e has)) ∙ has.text_is)
+completed_whole c d text _ none to so = absurd so
 
 pub completed_full : (c : Cqe) (text : List ℕ) → (c.payload ≡ no_bytes → ⊥) → IsCompleted c text sight.Wrong
 completed_full c text full = λ e same has. full (ap (λ (x : Cqe). x.payload) (sym same))

@@ -1,5 +1,5 @@
 -- Glue. What a reading keeps of the lines that it took in.
-use Rattle.std.specs.Prelude.{◌≡◌, ◌≢◌, ℕ, ◌+◌, ◌^◌, ◌<◌, Bool, true, false, List, [], ◌∷◌, ◌++◌, if◌then◌else◌, Some, codes, slice_get, reverse}
+use Rattle.std.specs.Prelude.{◌≡◌, ◌≢◌, ℕ, ◌+◌, ◌^◌, ◌<◌, Bool, true, false, List, [], ◌∷◌, ◌++◌, if◌then◌else◌, Some, slice_get, reverse}
 use Rattle.std.specs.List.{AllByRecursion}
 use Rattle.uring_entry.specs.Layout.{Cqe}
 use Rattle.uring_entry.specs.Setup.{Setup}
@@ -30,11 +30,6 @@ is_submitting step.Reap = false
 is_submitting step.StoreCqHead = false
 is_submitting step.Next = false
 is_submitting _ = true
-
--- one answer alone is called for to it
-abbrev pub IsSure : Step → Type 0
-IsSure (step.Begin count) = ⊥
-IsSure s = is_submitting s ≡ true
 
 -- the text alone tells the answer to it
 abbrev pub IsGuessed : Step → Type 0
@@ -74,6 +69,27 @@ IsOnly g seen s text a = (b : Answer) → MayShow g seen s b → text_of b ≡ t
 abbrev pub HasNoAnswer : Setup → History → Step → List ℕ → Type 0
 HasNoAnswer g seen s text = (b : Answer) → MayShow g seen s b → text_of b ≡ text → IsBare s b → ⊥
 
+-- what an answer comes to that was tried
+abbrev pub IsFollowed : Core → History → Step → Answer → Sight → Type 0
+IsFollowed core h s a (sight.Shown t b) = (t ≡ s) × (b ≡ a) × FitsApart core ((s, a) ∷ h)
+IsFollowed core h s a sight.Wrong = CalledForApart core.setup (world core.setup h) s a → ⊥
+IsFollowed core h s a _ = ⊥
+
+-- what an answer comes to of which this may be the text
+abbrev pub IsShownIf : Step → Answer → List ℕ → Sight → Type 0
+IsShownIf s a text (sight.Shown t b) = (t ≡ s) × (b ≡ a) × (text_of a ≡ text)
+IsShownIf s a text sight.Wrong = text_of a ≡ text → ⊥
+IsShownIf s a text _ = ⊥
+
+-- the one answer of this text that is called for, or that none is
+abbrev pub IsAnsweredAs : Core → History → Step → List ℕ → Sight → Type 0
+IsAnsweredAs core h s text (sight.Shown t a) = (t ≡ s) × (text_of a ≡ text)
+    × ((b : Answer) → CalledForApart core.setup (world core.setup h) s b → text_of b ≡ text → b ≡ a)
+    × FitsApart core ((s, a) ∷ h)
+IsAnsweredAs core h s text sight.Wrong =
+    (b : Answer) → CalledForApart core.setup (world core.setup h) s b → text_of b ≡ text → ⊥
+IsAnsweredAs core h s text _ = ⊥
+
 -- What was made of a step with the text of an answer after these events, and what the core fits then.
 abbrev pub IsSeenAs : Core → History → Step → List ℕ → Sight → Type 0
 IsSeenAs core seen s text (sight.Shown s' a) =
@@ -104,14 +120,6 @@ IsSightOfNone line _ = ⊥
 pub record Reads (g : Setup) (lines : List (List ℕ)) (seen : History) : Type 0 where
   pub shown : AreShown lines seen
   pub only : (h : History) → IsLawfulApart g h → AreShown lines (visible h) → visible h ≡ seen
-
--- this stands in a text between `cqe ` and ` -`
-abbrev pub IsFramed : List ℕ → List ℕ → Type 0
-IsFramed text mid = text ≡ codes "cqe " ++ (mid ++ codes " -")
-
--- nothing does
-abbrev pub IsUnframed : List ℕ → Type 0
-IsUnframed text = (mid : List ℕ) → IsFramed text mid → ⊥
 
 -- what stands before and after the first blank of a text
 pub record IsParted (text before after : List ℕ) : Type 0 where

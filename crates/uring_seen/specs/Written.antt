@@ -101,18 +101,11 @@ IsWrittenSight core h line sight.Wrong =
 IsWrittenSight core h line sight.Hidden = ⊥
 IsWrittenSight core h line sight.Bad = IsNoRecord line × (is_remark line ≡ false)
 
--- what an answer comes to that was tried
-abbrev pub IsFollowed : Core → History → Step → Answer → Sight → Type 0
-IsFollowed core h s a (sight.Shown t b) = (t ≡ s) × (b ≡ a) × FitsApart core ((s, a) ∷ h)
-IsFollowed core h s a sight.Wrong = CalledForApart core.setup (world core.setup h) s a → ⊥
-IsFollowed core h s a _ = ⊥
-
--- one answer alone is called for to it, and it has no bytes
-abbrev pub IsOneStep : Step → Type 0
-IsOneStep (step.Begin count) = ⊥
-IsOneStep (step.Finish n) = ⊥
-IsOneStep step.Reap = ⊥
-IsOneStep s = Unit {0}
+-- what is called for to it has no bytes
+abbrev pub HasNoBytes : Step → Type 0
+HasNoBytes (step.Finish n) = ⊥
+HasNoBytes step.Reap = ⊥
+HasNoBytes s = Unit {0}
 
 -- what a finish may be answered, without bytes
 abbrev pub IsFinishAnswer : Answer → Type 0

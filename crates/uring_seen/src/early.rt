@@ -1,8 +1,7 @@
 //! Whether a recorded trace is that of a history that is lawful by early effects.
 
-ghost use Rattle.std.specs.Prelude.{◌≡◌, ◌∷◌, [], ℕ, List, IfOk, map, reverse};
-ghost use Rattle.uring_core.specs.Histories.{history_of};
-ghost use Rattle.uring_seen.specs.Written.{IsEarlyIn, IsEarlyOf, IsEarlyText, ReadsWritten};
+ghost use Rattle.std.specs.Prelude.{◌≡◌, IfOk, map, reverse};
+ghost use Rattle.uring_seen.specs.Written.{IsEarlyOf, IsEarlyText};
 ghost use Rattle.uring_seen.specs.Written as spec;
 
 use crate::filling::said_of;
@@ -11,7 +10,7 @@ use crate::reading::Done;
 use crate::written_reading::read_written;
 use std::alloc::{AllocError, Global};
 use uring_check::Said;
-use uring_core::{Answer, Core, Setup, Step};
+use uring_core::{Core, Setup};
 use uring_early::{Found, find_bytes};
 
 /// What was found of a recorded trace.
@@ -47,18 +46,8 @@ pub fn check_early(
 ) -> Result<Early, AllocError>
     ensures { IfOk result (IsEarlyText setup.now input.now) }
 {
-    let lines = lines_of(alloc, input)?;
-    let found = check_all(alloc, setup, lines.as_slice(), most);
-    drop(lines);
-    found
-}
-
-/// Whether these lines are, of which the first may say the set-up.
-fn check_all(alloc: Global, setup: &Setup, lines: &[&[u8]], most: u64) -> Result<Early, AllocError>
-    ensures { IfOk result
-        (λ found. (first : List ℕ) (rest : List (List ℕ)) → map (λ line. line.now) lines.now ≡ first ∷ rest
-        → IsEarlyIn setup.now (map (λ line. line.now) lines.now) found) }
-{
+    let held = lines_of(alloc, input)?;
+    let lines = held.as_slice();
     let said = said_of(alloc, lines)?;
     match said {
         Said::Nothing => check_lines(alloc, setup, lines, most),
@@ -76,52 +65,23 @@ fn check_lines(
 ) -> Result<Early, AllocError>
     ensures { IfOk result (IsEarlyOf setup.now (reverse (map (λ line. line.now) lines.now))) }
 {
-    let mut events = Vec::new(alloc);
-    let found = check_read(alloc, setup, lines, &mut events, most);
-    drop(events);
-    found
-}
-
-/// Reads these lines, and looks for moments. No event is there yet.
-fn check_read(
-    alloc: Global,
-    setup: &Setup,
-    lines: &[&[u8]],
-    events: &mut Vec<(Step, Answer)>,
-    most: u64,
-) -> Result<Early, AllocError>
-    requires { events.old.items ≡ [] }
-    ensures { IfOk result (IsEarlyOf setup.now (reverse (map (λ line. line.now) lines.now))) }
-{
     let mut core = Core::new(alloc, setup)?;
-    let done = read_written(alloc, &mut core, lines, events);
+    let mut events = Vec::new(alloc);
+    let done = read_written(alloc, &mut core, lines, &mut events);
     drop(core);
     match done? {
-        Done::All => found_of(alloc, setup, lines, events.as_slice(), most),
+        Done::All => {
+            let found = find_bytes(alloc, setup, events.as_slice(), most)?;
+            Ok(early_of(found, events.len() as u64))
+        }
         Done::Bad(place) => Ok(Early::Bad(number_of(place))),
-        Done::Wrong(place) => Ok(Early::Wrong(number_of(place))),
-        Done::Hidden(place) => Ok(Early::Wrong(number_of(place))),
+        Done::Wrong(place) | Done::Hidden(place) => Ok(Early::Wrong(number_of(place))),
     }
 }
 
 /// The number of the line of this place.
 fn number_of(place: usize) -> u64 {
     (place as u64).saturating_add(1)
-}
-
-/// Looks for moments for the events of these lines.
-fn found_of(
-    alloc: Global,
-    setup: &Setup,
-    lines: &[&[u8]],
-    events: &[(Step, Answer)],
-    most: u64,
-) -> Result<Early, AllocError>
-    requires { ReadsWritten setup.now (reverse (map (λ line. line.now) lines.now)) (history_of events.now) }
-    ensures { IfOk result (IsEarlyOf setup.now (reverse (map (λ line. line.now) lines.now))) }
-{
-    let found = find_bytes(alloc, setup, events, most)?;
-    Ok(early_of(found, events.len() as u64))
 }
 
 /// What that is of a trace of so many steps.

@@ -1,22 +1,20 @@
 //! A history that shows what was seen, from text to text.
 
-ghost use Rattle.std.specs.Prelude.{◌≡◌, ◌∷◌, [], ◌<◌, ◌+◌, ◌^◌, List, ℕ, IfOk, map, reverse};
-ghost use Rattle.uring_entry.specs.Setup.{Setup};
-ghost use Rattle.uring_core.specs.Histories.{Event, history_of};
+ghost use Rattle.std.specs.Prelude.{◌≡◌, [], ◌<◌, ◌+◌, ◌^◌, IfOk, map, reverse};
+ghost use Rattle.uring_core.specs.Histories.{history_of};
 ghost use Rattle.uring_text.specs.KeptLine.{kept_of};
 ghost use Rattle.uring_fill.specs.Filling.{Begins, seen_in};
-ghost use Rattle.uring_fill.specs.Found.{IsFound};
 ghost use Rattle.uring_seen.specs.Sights.{ArePaired, IsRead, Reads, ShowsNever};
-ghost use Rattle.uring_seen.specs.Told.{AreAnswered, IsAnswered, IsFar, IsToldOf, Names, SaysFirst, Tells, TellsFar};
+ghost use Rattle.uring_seen.specs.Told.{IsAnswered, IsFar, IsToldOf, Names, SaysFirst, Tells, TellsFar};
 
 use crate::lines::lines_of;
 use crate::reading::{Done, read};
-use crate::writing::{push_events, push_setup_line};
+use crate::writing::push_events;
 use std::alloc::{AllocError, Global};
-use uring_check::{Said, said_by};
+use uring_check::{Said, push_setup, said_by};
 use uring_core::{Answer, Core, Setup, Step};
 use uring_fill::{Filled, Reach, fill};
-use uring_text::{KeptLine, push_bytes, push_number, push_text};
+use uring_text::{KeptLine, push_bytes, push_named, push_text};
 use uring_trace::{Language, push_line_flaw};
 
 /// What was found of what was seen.
@@ -60,18 +58,8 @@ struct Seen<'a> {
 pub fn fill_text(alloc: Global, setup: &Setup, input: &[u8], most: u64) -> Result<Told, AllocError>
     ensures { IfOk result (IsAnswered setup.now input.now) }
 {
-    let lines = lines_of(alloc, input)?;
-    let told = fill_all(alloc, setup, lines.as_slice(), most);
-    drop(lines);
-    told
-}
-
-/// Looks for a history that shows these lines, of which the first may say the set-up.
-fn fill_all(alloc: Global, setup: &Setup, lines: &[&[u8]], most: u64) -> Result<Told, AllocError>
-    ensures { IfOk result
-        (λ told. (first : List ℕ) (rest : List (List ℕ)) → map (λ line. line.now) lines.now ≡ first ∷ rest
-        → AreAnswered setup.now (map (λ line. line.now) lines.now) told) }
-{
+    let held = lines_of(alloc, input)?;
+    let lines = held.as_slice();
     let said = said_of(alloc, lines)?;
     match said {
         Said::Nothing => fill_lines(alloc, setup, lines, most),
@@ -133,7 +121,13 @@ fn fill_seen<'a>(
         Done::All => told_of(alloc, setup, lines, seen, most),
         Done::Wrong(place) => told_wrong(alloc, setup, lines, seen, place, most),
         Done::Hidden(place) => told_bad(alloc, place, "a step that can't be seen"),
-        Done::Bad(place) => told_flaw(alloc, lines, place),
+        Done::Bad(place) => {
+            let kept = kept(alloc, line_at(lines, place))?;
+            let mut flaw = String::new(alloc);
+            push_line_flaw(alloc, &mut flaw, &kept, Language::Records)?;
+            drop(kept);
+            told_bad(alloc, place, flaw.as_str())
+        }
     }
 }
 
@@ -173,38 +167,30 @@ fn told_of(
 {
     let filled = fill(alloc, setup, seen.events.as_slice(), most)?;
     match filled {
-        Filled::Whole(events) => told_whole(alloc, setup, seen, events),
-        Filled::Nothing(reach) => told_reach(
-            alloc,
-            setup,
-            seen,
-            reach,
-            b"the end",
-            Verdict::Nothing,
-        ),
-        Filled::GaveUp(reach) => told_reach(alloc, setup, seen, reach, b"the end", Verdict::GaveUp),
+        Filled::Whole(events) => {
+            let text = text_of(alloc, setup, seen, events.as_slice());
+            drop(events);
+            let text = text?;
+            Ok(Told {
+                verdict: Verdict::Found,
+                text,
+            })
+        }
+        Filled::Nothing(reach) => {
+            let text = far_text(alloc, setup, seen, reach, b"the end", "none shows: ")?;
+            Ok(Told {
+                verdict: Verdict::Nothing,
+                text,
+            })
+        }
+        Filled::GaveUp(reach) => {
+            let text = far_text(alloc, setup, seen, reach, b"the end", "gave up before: ")?;
+            Ok(Told {
+                verdict: Verdict::GaveUp,
+                text,
+            })
+        }
     }
-}
-
-/// What is told of a history that shows all that was read.
-fn told_whole(
-    alloc: Global,
-    setup: &Setup,
-    seen: &Seen<'_>,
-    events: Vec<(Step, Answer)>,
-) -> Result<Told, AllocError>
-    requires begins { Begins (seen_in (history_of events.items)) seen.now.events.items }
-    requires paired { ArePaired (map (λ line. line.now) seen.now.shown.items) seen.now.events.items }
-    ensures verdict { IfOk result (λ told. told.verdict ≡ Verdict.Found) }
-    ensures text { IfOk result
-        (λ told. Tells setup.now (history_of events.items) told.text.items []) }
-{
-    let text = text_of(alloc, setup, seen, events.as_slice());
-    drop(events);
-    Ok(Told {
-        verdict: Verdict::Found,
-        text: text?,
-    })
 }
 
 /// Looks for a history that shows what the lines show before the one of this place, which no history shows.
@@ -222,27 +208,20 @@ fn told_wrong(
         (λ told. IsToldOf setup.now (map (λ line. line.now) lines.now) told.verdict told.text.items) }
 {
     let filled = fill(alloc, setup, seen.events.as_slice(), most)?;
-    let reach = reach_of(filled, seen.shown.len());
-    told_reach(
-        alloc,
-        setup,
-        seen,
-        reach,
-        line_at(lines, place),
-        Verdict::Nothing,
-    )
-}
-
-/// How far a search came: all the way of so many steps if it found a history.
-fn reach_of(filled: Filled, all: usize) -> Reach
-    ensures { (g : Setup) (seen : List Event) → IsFound g seen filled
-        → IsFar g seen (history_of result.events.items) }
-{
-    match filled {
-        Filled::Whole(events) => Reach { events, place: all },
+    let reach = match filled {
+        Filled::Whole(events) => Reach {
+            events,
+            place: seen.shown.len(),
+        },
         Filled::Nothing(reach) => reach,
         Filled::GaveUp(reach) => reach,
-    }
+    };
+    let last = line_at(lines, place);
+    let text = far_text(alloc, setup, seen, reach, last, "none shows: ")?;
+    Ok(Told {
+        verdict: Verdict::Nothing,
+        text,
+    })
 }
 
 /// The line of this place.
@@ -253,61 +232,26 @@ fn line_at<'a>(lines: &[&'a [u8]], place: usize) -> &'a [u8] {
     }
 }
 
-/// What is told where a history comes so far: the first line that it doesn't show, or if it shows all that was read this one.
-fn told_reach(
+/// The text of a history that comes so far, with a remark on a line after it: on the first one that it doesn't show, or if it shows all that was read on this one.
+fn far_text(
     alloc: Global,
     setup: &Setup,
     seen: &Seen<'_>,
     reach: Reach,
     last: &[u8],
-    verdict: Verdict,
-) -> Result<Told, AllocError>
+    remark: &str,
+) -> Result<Vec<u8>, AllocError>
     requires far { IsFar setup.now seen.now.events.items (history_of reach.events.items) }
     requires paired { ArePaired (map (λ line. line.now) seen.now.shown.items) seen.now.events.items }
-    ensures verdict { IfOk result (λ told. told.verdict ≡ verdict) }
-    ensures text { IfOk result (λ told. TellsFar setup.now told.text.items) }
+    ensures { IfOk result (λ text. TellsFar setup.now text.items) }
 {
     let line = match seen.shown.get(reach.place) {
         Some(line) => *line,
         None => last,
     };
-    let text = far_text(
-        alloc,
-        setup,
-        seen,
-        reach.events.as_slice(),
-        remark_of(verdict),
-        line,
-    );
+    let text = text_of(alloc, setup, seen, reach.events.as_slice());
     drop(reach);
-    Ok(Told {
-        verdict,
-        text: text?,
-    })
-}
-
-/// What is said of the line that no history shows, after `# `.
-fn remark_of(verdict: Verdict) -> &'static str {
-    match verdict {
-        Verdict::GaveUp => "gave up before: ",
-        _ => "none shows: ",
-    }
-}
-
-/// The text of a history, with a remark on a line after it.
-fn far_text(
-    alloc: Global,
-    setup: &Setup,
-    seen: &Seen<'_>,
-    events: &[(Step, Answer)],
-    remark: &str,
-    line: &[u8],
-) -> Result<Vec<u8>, AllocError>
-    requires far { IsFar setup.now seen.now.events.items (history_of events.now) }
-    requires paired { ArePaired (map (λ line. line.now) seen.now.shown.items) seen.now.events.items }
-    ensures { IfOk result (λ text. TellsFar setup.now text.items) }
-{
-    let mut text = text_of(alloc, setup, seen, events)?;
+    let mut text = text?;
     push_bytes(&alloc, &mut text, b"# ")?;
     push_bytes(&alloc, &mut text, remark.as_bytes())?;
     push_bytes(&alloc, &mut text, line)?;
@@ -326,23 +270,11 @@ fn text_of(
     requires paired { ArePaired (map (λ line. line.now) seen.now.shown.items) seen.now.events.items }
     ensures { IfOk result (λ text. Tells setup.now (history_of events.now) text.items []) }
 {
-    let mut text = Vec::new(alloc);
-    push_setup_line(alloc, &mut text, setup)?;
+    let mut line = String::new(alloc);
+    push_setup(alloc, &mut line, setup)?;
+    let mut text = line.into_bytes();
     push_events(alloc, &mut text, events, seen.shown.as_slice())?;
     Ok(text)
-}
-
-/// What is told of a line that isn't in the language.
-fn told_flaw(alloc: Global, lines: &[&[u8]], place: usize) -> Result<Told, AllocError>
-    requires { place + 1 < 2 ^ 64 }
-    ensures verdict { IfOk result (λ told. told.verdict ≡ Verdict.Bad) }
-    ensures text { IfOk result (λ told. Names place told.text.items) }
-{
-    let kept = kept(alloc, line_at(lines, place))?;
-    let mut flaw = String::new(alloc);
-    push_line_flaw(alloc, &mut flaw, &kept, Language::Records)?;
-    drop(kept);
-    told_bad(alloc, place, flaw.as_str())
 }
 
 /// What is told of a bad line, and why it is one.
@@ -352,14 +284,11 @@ fn told_bad(alloc: Global, place: usize, flaw: &str) -> Result<Told, AllocError>
     ensures text { IfOk result (λ told. Names place told.text.items) }
 {
     let mut line = String::new(alloc);
-    push_text(&alloc, &mut line, "line ")?;
-    push_number(&alloc, &mut line, place as u64 + 1)?;
+    push_named(&alloc, &mut line, "line ", place as u64 + 1)?;
     push_text(&alloc, &mut line, ": bad line: ")?;
     push_text(&alloc, &mut line, flaw)?;
-    let mut text = Vec::new(alloc);
-    push_bytes(&alloc, &mut text, line.as_bytes())?;
     Ok(Told {
         verdict: Verdict::Bad,
-        text,
+        text: line.into_bytes(),
     })
 }

@@ -1,13 +1,11 @@
 //! The answers that texts spell, of the steps whose answer the submission ring doesn't tell.
 
-ghost use Rattle.std.specs.Prelude.{◌≡◌, ◌≢◌, ◌<◌, ◌≤◌, ◌^◌, ◌++◌, ◌∷◌, ℕ, ℤ, List, length, take, slice_index, MatchOption};
+ghost use Rattle.std.specs.Prelude.{◌≡◌, ◌≢◌, ◌<◌, ◌≤◌, ◌^◌, ℕ, length, take, slice_index, MatchOption};
 ghost use Rattle.std.specs.List.{AllByRecursion};
 ghost use Rattle.uring_entry.specs.Layout.{Cqe};
-ghost use Rattle.uring_entry.specs.Requests.{no_bytes};
 ghost use Rattle.uring_core.specs.declared.answer.Answer.TheVariants as answer;
-ghost use Rattle.uring_text.specs.Spelling.{IsFile};
 ghost use Rattle.uring_trace.specs.Text.{text_of};
-ghost use Rattle.uring_seen.specs.Sights.{IsParted, IsUnparted, IsFramed, IsUnframed, IsNoCompletion, IsCompletion};
+ghost use Rattle.uring_seen.specs.Sights.{IsParted, IsUnparted, IsNoCompletion, IsCompletion};
 
 use uring_core::Cqe;
 use uring_text::{spelled_long, spelled_number, spelled_signed};
@@ -43,19 +41,12 @@ pub(crate) fn next_of(text: &[u8]) -> Option<u64>
 pub(crate) fn completion_of(text: &[u8]) -> Option<Cqe>
     ensures { MatchOption result (IsNoCompletion text.now) (IsCompletion text.now) }
 {
-    let middle = framed(text)?;
+    let rest = text.strip_prefix(b"cqe ")?;
+    let middle = rest.strip_suffix(b" -")?;
     let (before, after) = parted(middle)?;
     let user_data = spelled_long(before)?;
     let res = spelled_signed(after)?;
     Some(Cqe::new(user_data, res, [0; 64]))
-}
-
-/// What stands between `cqe ` and ` -`.
-fn framed(text: &[u8]) -> Option<&[u8]>
-    ensures { MatchOption result (IsUnframed text.now) (λ middle. IsFramed text.now middle.now) }
-{
-    let rest = text.strip_prefix(b"cqe ")?;
-    Some(rest.strip_suffix(b" -")?)
 }
 
 /// What stands before and after the first blank.

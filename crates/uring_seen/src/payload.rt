@@ -1,7 +1,6 @@
 //! The bytes of a completion, by the token that has them.
 
-ghost use Rattle.std.specs.Bool.{Decides};
-ghost use Rattle.std.specs.Prelude.{◌≡◌, ◌≤◌, codes, drop, length, take, MatchOption, None, Some};
+ghost use Rattle.std.specs.Prelude.{◌≡◌, ◌≤◌, drop, length, take, MatchOption, None, Some};
 ghost use Rattle.std.specs.List.{list_any};
 ghost use Rattle.uring_entry.specs.Requests.{no_bytes};
 ghost use Rattle.uring_text.specs.Reading.{data_of, hex_of, is_capital};
@@ -15,8 +14,9 @@ pub(crate) fn payload_of(token: &[u8]) -> Option<[u8; 64]>
     ensures { MatchOption result (data_of token.now ≡ None)
         (λ room. IsPadded (data_of token.now) room) }
 {
-    if is_dash(token) {
-        return Some(zeros());
+    let dash = token == b"-".as_slice();
+    if dash {
+        return Some([0; SIZE]);
     }
     let count = token.len() / 2;
     if count == 0 {
@@ -26,20 +26,6 @@ pub(crate) fn payload_of(token: &[u8]) -> Option<[u8; 64]>
         return None;
     }
     decoded(token, count)
-}
-
-/// No bytes.
-fn zeros() -> [u8; 64]
-    ensures { result ≡ no_bytes }
-{
-    [0; SIZE]
-}
-
-/// Whether a token spells no bytes.
-fn is_dash(token: &[u8]) -> bool
-    ensures { Decides result (token.now ≡ codes "-") }
-{
-    token == b"-".as_slice()
 }
 
 /// So many bytes that a token spells, and zeros after them.

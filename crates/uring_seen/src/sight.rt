@@ -1,16 +1,14 @@
 //! What a line of what was seen shows.
 
-ghost use Rattle.std.specs.Prelude.{◌≡◌, ◌≤◌, ◌==◌, ℕ, IfOk, if◌then◌else◌, MatchOption, length};
-ghost use Rattle.std.specs.Bool.{Decides};
-ghost use Rattle.uring_core.specs.Core.{Core, FitsApart};
+ghost use Rattle.std.specs.Prelude.{◌≡◌, ◌≤◌, IfOk, MatchOption, length};
+ghost use Rattle.uring_core.specs.Core.{FitsApart, IsNoFinish};
 ghost use Rattle.uring_core.specs.Histories.{History};
 ghost use Rattle.uring_core.specs.declared.answer.Answer.{Answer};
-ghost use Rattle.uring_core.specs.declared.answer.Answer.TheVariants as answer;
 ghost use Rattle.uring_trace.specs.Text.{text_of};
 ghost use Rattle.uring_check.specs.Checking.{IsSplit};
 ghost use Rattle.uring_check.specs.Records.{IsNoRecord};
 ghost use Rattle.uring_seen.specs.Seen.{IsBare};
-ghost use Rattle.uring_seen.specs.Sights.{IsSight, IsSightOfNone, IsSeenAs, IsSure, IsGuess, IsGuessed, submitted};
+ghost use Rattle.uring_seen.specs.Sights.{IsAnsweredAs, IsFollowed, IsGuess, IsGuessed, IsSeenAs, IsShownIf, IsSight, IsSightOfNone, submitted};
 
 use crate::guess::{completion_of, head_of, next_of, tail_of};
 use std::alloc::{AllocError, Global};
@@ -72,17 +70,10 @@ pub(crate) fn split_short(line: &[u8]) -> Option<(&[u8], &[u8])>
 pub(crate) fn sight_of_none(line: &[u8]) -> Sight
     ensures { IsSightOfNone line.now result }
 {
-    match line.first() {
-        Some(byte) => sight_of_first(*byte),
-        None => Sight::Passed,
-    }
-}
-
-/// What a line shows that begins so and is no step with an answer.
-fn sight_of_first(byte: u8) -> Sight
-    ensures { result ≡ (if byte == 35 then Sight.Passed else Sight.Bad) }
-{
-    if byte == b'#' {
+    let Some(byte) = line.first() else {
+        return Sight::Passed;
+    };
+    if *byte == b'#' {
         Sight::Passed
     } else {
         Sight::Bad
@@ -104,98 +95,67 @@ fn sight_of_step(
     match step {
         Step::Issue { .. } | Step::Finish { .. } | Step::Flush => Ok(Sight::Hidden),
         Step::LoadCqTail | Step::Reap | Step::StoreCqHead | Step::Next => {
-            Ok(sight_of_guess(step, text))
+            match guess(step, text) {
+                Some(answer) => Ok(Sight::Shown(*step, answer)),
+                None => Ok(Sight::Wrong),
+            }
         }
-        Step::Begin { .. } => sight_of_begin(alloc, core, step, text),
-        _ => sight_of_sure(alloc, core, step, text),
+        _ => answered(alloc, core, step, text),
     }
 }
 
-/// What a step shows to which the submission ring and the calls tell the one answer.
-fn sight_of_sure(
+/// What a step but a finish comes to of which this is the text of its answer. A Begin may be said to be refused for want of memory.
+pub(crate) fn answered(
     alloc: Global,
     core: &mut Core,
     step: &Step,
     text: &[u8],
 ) -> Result<Sight, AllocError>
-    requires { IsSure step.now }
+    requires { IsNoFinish step.now }
     ensures setup { core.new.setup ≡ core.old.setup }
     ensures sight { IfOk result
-        (λ seen. (events : History) → FitsApart core.old (submitted events)
-        → IsSeenAs core.new events step.now text.now seen) }
+        (λ seen. (h : History) → FitsApart core.old h → IsAnsweredAs core.new h step.now text.now seen) }
 {
-    let answer = core.step(*step);
-    let same = is_text(alloc, &answer, text)?;
-    if same {
-        Ok(Sight::Shown(*step, answer))
-    } else {
-        Ok(Sight::Wrong)
-    }
-}
-
-/// What a Begin shows, which memory may have been refused to.
-fn sight_of_begin(
-    alloc: Global,
-    core: &mut Core,
-    step: &Step,
-    text: &[u8],
-) -> Result<Sight, AllocError>
-    requires { (count : ℕ) × (step.now ≡ Step.Begin count) }
-    ensures setup { core.new.setup ≡ core.old.setup }
-    ensures sight { IfOk result
-        (λ seen. (events : History) → FitsApart core.old (submitted events)
-        → IsSeenAs core.new events step.now text.now seen) }
-{
-    let refused = is_text(alloc, &Answer::Again, text)?;
+    let refused = text == b"again".as_slice();
     if refused {
-        return sight_of_again(core, step);
+        return followed(core, step, &Answer::Again);
     }
     let answer = core.step(*step);
-    if is_again(&answer) {
-        return Err(AllocError);
-    }
-    let same = is_text(alloc, &answer, text)?;
-    if same {
-        Ok(Sight::Shown(*step, answer))
-    } else {
-        Ok(Sight::Wrong)
+    match answer {
+        Answer::Again => Err(AllocError),
+        _ => shown_if(alloc, step, &answer, text),
     }
 }
 
-/// What a Begin shows to which memory was refused.
-fn sight_of_again(core: &mut Core, step: &Step) -> Result<Sight, AllocError>
-    requires { (count : ℕ) × (step.now ≡ Step.Begin count) }
+/// Follows a step with an answer, if that is called for.
+pub(crate) fn followed(core: &mut Core, step: &Step, given: &Answer) -> Result<Sight, AllocError>
     ensures setup { core.new.setup ≡ core.old.setup }
-    ensures sight { IfOk result
-        (λ seen. (events : History) → FitsApart core.old (submitted events)
-        → IsSeenAs core.new events step.now (text_of answer.Again) seen) }
+    ensures followed { IfOk result
+        (λ seen. (h : History) → FitsApart core.old h → IsFollowed core.new h step.now given.now seen) }
 {
-    match core.follow(*step, Answer::Again) {
-        Ok(()) => Ok(Sight::Shown(*step, Answer::Again)),
+    match core.follow(*step, *given) {
+        Ok(()) => Ok(Sight::Shown(*step, *given)),
         Err(Refusal::Wrong(_)) => Ok(Sight::Wrong),
         Err(Refusal::NoMemory) => Err(AllocError),
     }
 }
 
-/// Whether memory was refused.
-pub(crate) fn is_again(given: &Answer) -> bool
-    ensures { Decides result (given.now ≡ answer.Again) }
+/// A step with its answer, if this is the text of the answer.
+pub(crate) fn shown_if(
+    alloc: Global,
+    step: &Step,
+    given: &Answer,
+    text: &[u8],
+) -> Result<Sight, AllocError>
+    ensures { IfOk result (IsShownIf step.now given.now text.now) }
 {
-    match given {
-        Answer::Again => true,
-        _ => false,
-    }
-}
-
-/// What a step shows whose answer its text alone tells.
-fn sight_of_guess(step: &Step, text: &[u8]) -> Sight
-    requires { IsGuessed step.now }
-    ensures { (core : Core) (events : History) → FitsApart core (submitted events)
-        → IsSeenAs core events step.now text.now result }
-{
-    match guess(step, text) {
-        Some(answer) => Sight::Shown(*step, answer),
-        None => Sight::Wrong,
+    let mut told = String::new(alloc);
+    push_answer(alloc, &mut told, given)?;
+    let same = told.as_bytes() == text;
+    if same {
+        Ok(Sight::Shown(*step, *given))
+    } else {
+        Ok(Sight::Wrong)
     }
 }
 
@@ -206,43 +166,13 @@ fn guess(step: &Step, text: &[u8]) -> Option<Answer>
         ((a : Answer) → IsGuess step.now a → text_of a ≡ text.now → IsBare step.now a → ⊥)
         (λ a. IsGuess step.now a × (text_of a ≡ text.now) × IsBare step.now a) }
 {
+    let nothing = text == b"none".as_slice();
     match step {
         Step::LoadCqTail => Some(Answer::Tail(tail_of(text)?)),
         Step::StoreCqHead => Some(Answer::Head(head_of(text)?)),
-        Step::Reap => guess_reaped(text),
-        _ => guess_next(text),
+        Step::Reap if nothing => Some(Answer::Nothing),
+        Step::Reap => Some(Answer::Reaped(completion_of(text)?)),
+        _ if nothing => Some(Answer::Nothing),
+        _ => Some(Answer::Next(next_of(text)?)),
     }
-}
-
-/// The answer to a Reap that has this text.
-fn guess_reaped(text: &[u8]) -> Option<Answer>
-    ensures { MatchOption result
-        ((a : Answer) → IsGuess Step.Reap a → text_of a ≡ text.now → IsBare Step.Reap a → ⊥)
-        (λ a. IsGuess Step.Reap a × (text_of a ≡ text.now) × IsBare Step.Reap a) }
-{
-    if let b"none" = text {
-        return Some(Answer::Nothing);
-    }
-    Some(Answer::Reaped(completion_of(text)?))
-}
-
-/// The answer to a Next that has this text.
-fn guess_next(text: &[u8]) -> Option<Answer>
-    ensures { MatchOption result
-        ((a : Answer) → IsGuess Step.Next a → text_of a ≡ text.now → IsBare Step.Next a → ⊥)
-        (λ a. IsGuess Step.Next a × (text_of a ≡ text.now) × IsBare Step.Next a) }
-{
-    if let b"none" = text {
-        return Some(Answer::Nothing);
-    }
-    Some(Answer::Next(next_of(text)?))
-}
-
-/// Whether this is the text of an answer.
-pub(crate) fn is_text(alloc: Global, given: &Answer, text: &[u8]) -> Result<bool, AllocError>
-    ensures { IfOk result (λ same. Decides same (text_of given.now ≡ text.now)) }
-{
-    let mut told = String::new(alloc);
-    push_answer(alloc, &mut told, given)?;
-    Ok(told.as_bytes() == text)
 }

@@ -17,5 +17,5 @@ returns c =
     let stop : c.end_of.result.now ≡ end_text g.stops g.linux = c.end_of.ensures ∙ ap₂ end_text c.stops.ensures.value c.is_linux.ensures.value in
     on_ok_weaker c.push_text.result
     (λ last. five_parts (string_bytes c.args.text.now) _ _ _ _ _ (codes "# setup --sq ") (decimal g.sq) (codes " --cq ") (decimal g.cq) (codes " --files ") (decimal g.files) (codes " --start ") (decimal g.start) _ _
-    (rw c.sq.ensures.value at c.in_ok-push_named.ensures) (rw c.cq.ensures.value at c.in_ok-push_named-2.ensures) (rw c.files.ensures.value at c.in_ok-push_named-3.ensures) (rw c.start.ensures.value at c.in_ok-push_named-4.ensures) last stop)
+    (rw (c.from.ensures, c.sq.ensures.value) at c.in_ok-push_named.ensures.bytes) (rw (c.from-2.ensures, c.cq.ensures.value) at c.in_ok-push_named-2.ensures.bytes) (rw (c.from-3.ensures, c.files.ensures.value) at c.in_ok-push_named-3.ensures.bytes) (rw (c.from-4.ensures, c.start.ensures.value) at c.in_ok-push_named-4.ensures.bytes) last stop)
     c.push_text.ensures.bytes

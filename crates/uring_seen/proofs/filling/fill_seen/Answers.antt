@@ -1,6 +1,6 @@
-use Rattle.std.proofs.Common.{map}
+use Rattle.std.proofs.Common.{map, inl, inr}
 use Rattle.uring_trace.proofs.ExplainLines.{if_ok_both}
-use Rattle.uring_seen.proofs.Answered.{told_hidden, told_faulty}
+use Rattle.uring_seen.proofs.Answered.{told_faulty}
 use Rattle.uring_seen.proofs.filling.fill_seen.Goals as goal
 
 pub told_of-requires : goal.told_of-requires
@@ -15,12 +15,12 @@ told_bad-requires c = let is = rw c.in-Hidden.is at c.in_ok-done.ensures.read in
 pub returns-in-Hidden : goal.returns-in-Hidden
 returns-in-Hidden c =
     let is = rw c.in-Hidden.is at c.in_ok-done.ensures.read in
-    if_ok_both c.told_bad.result _ _ _ (λ told bad names. told_hidden c.args.setup.now (map (λ line. line.now) c.args.lines.now) c.in-Hidden.place told is.0 bad names) c.told_bad.ensures.verdict c.told_bad.ensures.text
+    if_ok_both c.told_bad.result _ _ _ (λ told bad names. told_faulty c.args.setup.now (map (λ line. line.now) c.args.lines.now) c.in-Hidden.place told (inr is.0) bad names) c.told_bad.ensures.verdict c.told_bad.ensures.text
 
-pub told_flaw-requires : goal.told_flaw-requires
-told_flaw-requires c = let is = rw c.in-Bad.is at c.in_ok-done.ensures.read in is.1
+pub told_bad-requires-in-Bad : goal.told_bad-requires-in-Bad
+told_bad-requires-in-Bad c = let is = rw c.in-Bad.is at c.in_ok-done.ensures.read in is.1
 
-pub returns-in-Bad : goal.returns-in-Bad
-returns-in-Bad c =
+pub returns-in_ok-push_line_flaw-in-Bad : goal.returns-in_ok-push_line_flaw-in-Bad
+returns-in_ok-push_line_flaw-in-Bad c =
     let is = rw c.in-Bad.is at c.in_ok-done.ensures.read in
-    if_ok_both c.told_flaw.result _ _ _ (λ told bad names. told_faulty c.args.setup.now (map (λ line. line.now) c.args.lines.now) c.in-Bad.place told is.0 bad names) c.told_flaw.ensures.verdict c.told_flaw.ensures.text
+    if_ok_both c.told_bad-in-Bad.result _ _ _ (λ told bad names. told_faulty c.args.setup.now (map (λ line. line.now) c.args.lines.now) c.in-Bad.place told (inl is.0) bad names) c.told_bad-in-Bad.ensures.verdict c.told_bad-in-Bad.ensures.text

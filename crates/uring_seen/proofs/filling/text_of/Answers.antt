@@ -11,4 +11,5 @@ push_events-requires c = (
 )
 
 pub returns : goal.returns
-returns c = text_told c.args.setup.now _ _ _ _ c.new-text.ensures.items c.in_ok-push_setup_line.ensures c.in_ok-push_events.ensures
+returns c =
+    text_told c.args.setup.now _ _ _ _ c.new-line.ensures.bytes (rw c.into_bytes-text.ensures.value c.in_ok-push_setup.ensures) c.in_ok-push_events.ensures

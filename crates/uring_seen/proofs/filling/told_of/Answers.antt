@@ -1,37 +1,33 @@
-use Rattle.std.proofs.Common.{map}
-use Rattle.uring_trace.proofs.ExplainLines.{if_ok_both}
-use Rattle.uring_seen.proofs.Answered.{filling_begins, far_reach, found_at, none_by, told_found, told_nothing, told_gave_up}
+use Rattle.uring_seen.proofs.Common.{history_of}
+use Rattle.uring_seen.proofs.Answered.{far_reach, fills_by, filling_begins, found_at, none_by}
 use Rattle.uring_seen.proofs.filling.told_of.Goals as goal
 
-pub told_whole-requires : goal.told_whole-requires
-told_whole-requires c = record {
-  begins = filling_begins _ _ _ (found_at _ _ _ _ _ c.as_slice.ensures.value c.in-Whole.is c.in_ok-filled.ensures);
+pub text_of-text-requires : goal.text_of-text-requires
+text_of-text-requires c = record {
+  begins = rw c.as_slice-in-Whole.ensures.value (filling_begins _ _ _ (found_at _ _ _ _ _ c.as_slice.ensures.value c.in-Whole.is c.in_ok-filled.ensures));
   paired = c.requires.paired;
 }
 
-pub returns-in-Whole : goal.returns-in-Whole
-returns-in-Whole c =
-    if_ok_both c.told_whole.result _ _ _
-    (λ told is tells. told_found c.args.setup.now (map (λ line. line.now) c.args.lines.now) c.args.seen.now.events.items c.in-Whole.events.items told is c.requires.reads (found_at _ _ _ _ _ c.as_slice.ensures.value c.in-Whole.is c.in_ok-filled.ensures) tells)
-    c.told_whole.ensures.verdict c.told_whole.ensures.text
+pub returns-in_ok-text-in-Whole : goal.returns-in_ok-text-in-Whole
+returns-in_ok-text-in-Whole c = (
+  history_of c.in-Whole.events.items,
+  fills_by c.args.setup.now _ c.args.seen.now.events.items _ c.requires.reads (found_at _ _ _ _ _ c.as_slice.ensures.value c.in-Whole.is c.in_ok-filled.ensures),
+  rw c.as_slice-in-Whole.ensures.value at c.in_ok-text-in-Whole.ensures,
+)
 
-pub told_reach-requires : goal.told_reach-requires
-told_reach-requires c =
+pub far_text-requires : goal.far_text-requires
+far_text-requires c =
     let found = found_at _ _ _ _ _ c.as_slice.ensures.value c.in-Nothing.is c.in_ok-filled.ensures in
     record { far = far_reach _ _ _ _ found.1; paired = c.requires.paired }
 
-pub returns-in-Nothing : goal.returns-in-Nothing
-returns-in-Nothing c =
+pub returns-in_ok-text-in-Nothing : goal.returns-in_ok-text-in-Nothing
+returns-in_ok-text-in-Nothing c =
     let found = found_at _ _ _ _ _ c.as_slice.ensures.value c.in-Nothing.is c.in_ok-filled.ensures in
-    if_ok_both c.told_reach.result _ _ _
-    (λ told is far. told_nothing c.args.setup.now (map (λ line. line.now) c.args.lines.now) told (none_by _ _ _ _ c.requires.reads found.0) is far)
-    c.told_reach.ensures.verdict c.told_reach.ensures.text
+    (none_by _ _ _ _ c.requires.reads found.0, c.in_ok-text-in-Nothing.ensures)
 
-pub told_reach-requires-in-GaveUp : goal.told_reach-requires-in-GaveUp
-told_reach-requires-in-GaveUp c =
+pub far_text-requires-in-GaveUp : goal.far_text-requires-in-GaveUp
+far_text-requires-in-GaveUp c =
     record { far = far_reach _ _ _ _ (found_at _ _ _ _ _ c.as_slice.ensures.value c.in-GaveUp.is c.in_ok-filled.ensures); paired = c.requires.paired }
 
-pub returns-in-GaveUp : goal.returns-in-GaveUp
-returns-in-GaveUp c =
-    if_ok_both c.told_reach-in-GaveUp.result _ _ _ (λ told is far. told_gave_up c.args.setup.now (map (λ line. line.now) c.args.lines.now) told is far)
-    c.told_reach-in-GaveUp.ensures.verdict c.told_reach-in-GaveUp.ensures.text
+pub returns-in_ok-text-in-GaveUp : goal.returns-in_ok-text-in-GaveUp
+returns-in_ok-text-in-GaveUp c = c.in_ok-text-in-GaveUp.ensures

@@ -1,15 +1,16 @@
-use Rattle.std.proofs.Common.{List, map, subst}
-use Rattle.uring_seen.proofs.Common.{Event, IsFar, history_of, if_ok_both}
-use Rattle.uring_seen.proofs.Answered.{never_none, told_nothing}
+use Rattle.uring_seen.proofs.Answered.{far_reach, far_whole, found_at, never_none}
 use Rattle.uring_seen.proofs.filling.told_wrong.Goals as goal
+use Rattle.uring_seen.proofs.filling.told_wrong.Goals.{in-Whole, in-Nothing, in-GaveUp}
 
-pub told_reach-requires : goal.told_reach-requires
-told_reach-requires c = record {
-  far = subst (λ (es : List Event). IsFar c.args.setup.now es (history_of c.reach_of-reach.result.events.items)) c.as_slice.ensures.value (c.reach_of-reach.ensures _ _ c.in_ok-filled.ensures);
+pub far_text-requires : goal.far_text-requires
+far_text-requires c = record {
+  far = elim c.match-filled.branch [
+    | in-Whole w ↦ rw w.reach-is (far_whole _ _ _ (found_at _ _ _ _ _ c.as_slice.ensures.value w.in-Whole.is c.in_ok-filled.ensures))
+    | in-Nothing w ↦ rw w.reach-is (let found = found_at _ _ _ _ _ c.as_slice.ensures.value w.in-Nothing.is c.in_ok-filled.ensures in far_reach _ _ _ _ found.1)
+    | in-GaveUp w ↦ rw w.reach-is (far_reach _ _ _ _ (found_at _ _ _ _ _ c.as_slice.ensures.value w.in-GaveUp.is c.in_ok-filled.ensures))
+  ];
   paired = c.requires.paired;
 }
 
 pub returns : goal.returns
-returns c =
-    if_ok_both c.told_reach.result _ _ _ (λ told is far. told_nothing c.args.setup.now (map (λ line. line.now) c.args.lines.now) told (never_none _ _ c.requires.never) is far)
-    c.told_reach.ensures.verdict c.told_reach.ensures.text
+returns c = (never_none _ _ c.requires.never, c.in_ok-text.ensures)

@@ -1,19 +1,21 @@
-use Rattle.std.proofs.Common.{◌≡◌, refl, sym, subst, ◌∙◌, rules}
-use Rattle.uring_seen.proofs.Common.{Answer, IfOk-weaker, IsFollowed, false≢true, no_bytes}
+use Rattle.std.proofs.Common.{◌≡◌, refl, subst, rules}
+use Rattle.uring_seen.proofs.Common.{Answer, IfOk-weaker, IsFollowed, no_bytes, text_of}
 use Rattle.uring_core.specs.declared.answer.Answer.TheVariants as answer
 use Rattle.uring_core.specs.declared.step.Step.TheVariants as step
 use Rattle.uring_seen.proofs.WrittenSteps.{finish_followed, no_answer, no_finish}
 use Rattle.uring_seen.proofs.written.written_finish.Goals as goal
 
-pub returns-then-is_idle-clause-sight : goal.returns-then-is_idle-clause-sight
-returns-then-is_idle-clause-sight c =
+pub returns-then-idle-clause-sight : goal.returns-then-idle-clause-sight
+returns-then-idle-clause-sight c =
+    let same : text_of answer.NotRunning ≡ c.args.text.now = search rules in
     IfOk-weaker c.followed.result _ _
-    (λ seen so h fits. finish_followed c.followed.new.core h c.args.number c.args.text.now answer.NotRunning seen tt (c.is_idle.ensures.0 c.if-is_idle.true) (λ m. tt) (so h fits))
+    (λ seen so h fits. finish_followed c.followed.new.core h c.args.number c.args.text.now answer.NotRunning seen tt same (λ m. tt) (so h fits))
     c.followed.ensures.followed
 
 pub returns-in_default-clause-sight : goal.returns-in_default-clause-sight
 returns-in_default-clause-sight c = λ h fits.
-    no_finish c.args.core.now h c.args.number c.args.text.now (no_answer c.args.text.now (λ e. false≢true (sym c.if-is_idle.false ∙ c.is_idle.ensures.1 e)) c.in_default.ensures)
+    let other : text_of answer.NotRunning ≡ c.args.text.now → ⊥ = search rules in
+    no_finish c.args.core.now h c.args.number c.args.text.now (no_answer c.args.text.now other c.in_default.ensures)
 
 pub returns-clause-sight : goal.returns-clause-sight
 returns-clause-sight c =

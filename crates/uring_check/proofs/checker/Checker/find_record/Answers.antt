@@ -1,5 +1,5 @@
-use Rattle.std.proofs.Common.{◌∙◌}
-use Rattle.uring_trace.proofs.ExplainLines.{if_ok_both}
+use Rattle.std.proofs.Common.{not, ap, ◌∙◌}
+use Rattle.uring_check.proofs.Common.{Checker, on_ok_weaker}
 use Rattle.uring_check.proofs.Looking.{Notes, looked_right, looked_wrong}
 use Rattle.uring_check.proofs.checker.Checker.find_record.Goals as goal
 
@@ -20,9 +20,9 @@ returns-clause-looks g c =
       more = c.in_ok-note_poster.ensures.noted;
     } in
     let judged = rw c.in-Some.is at c.in_ok-judged.ensures.judges in
-    if_ok_both c.find_wrong.result _ _ _
-    (λ done kept told rec. looked_wrong c.args.self.now c.find_wrong.new.self c.judge.new.machine c.judge.new.told c.note_poster.new.posters _ _ c.args.step.now c.args.text.now c.args.line.now c.in-Some.wanted c.in_ok-standing.standing notes c.in_ok-judged.ensures.rules (λ h k. c.in_ok-standing.ensures.standing h k.0 (c.as_slice.ensures.value ∙ k.1)) judged kept told rec)
-    c.find_wrong.ensures.kept c.find_wrong.ensures.told
+    on_ok_weaker c.tell_wrong.result
+    (λ told rec. looked_wrong c.args.self.now _ c.judge.new.machine c.judge.new.told c.note_poster.new.posters _ _ c.args.step.now c.args.text.now c.args.line.now c.in-Some.wanted c.in_ok-standing.standing notes c.in_ok-judged.ensures.rules (λ h k. c.in_ok-standing.ensures.standing h k.0 (c.as_slice.ensures.value ∙ k.1)) judged (ap (λ (x : Checker). record x { is_over = not x.is_all; report = c.tell_wrong.new.report }) c.fault.ensures) (rw c.fault.ensures at told) rec)
+    c.tell_wrong.ensures.told
 
 pub returns-clause-granted : goal.returns-clause-granted
-returns-clause-granted g c = λ sure h fits. c.find_wrong.ensures.granted sure
+returns-clause-granted g c = λ sure h fits. c.tell_wrong.ensures.granted sure
