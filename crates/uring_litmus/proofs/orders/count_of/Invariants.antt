@@ -1,7 +1,7 @@
 use Rattle.std.proofs.Common.{◌↔◌, ℕ, List}
 use Rattle.uring_litmus.proofs.Common.{Contains, texts_of}
 use Rattle.uring_litmus.proofs.OrderCounts.{HasBelow}
-use Rattle.uring_litmus.proofs.orders.orders_of.Given as goal
+use Rattle.uring_litmus.proofs.orders.count_of.Given as goal
 
 abbrev pub invariant-loop-at : goal.invariant-loop-at
 invariant-loop-at l = (order : List ℕ) → Contains (texts_of l.own.items) order
