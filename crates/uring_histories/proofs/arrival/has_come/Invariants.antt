@@ -1,6 +1,6 @@
 use Rattle.std.proofs.Common.{◌≡◌, ◌<◌, ℕ, []}
 use Rattle.uring_histories.proofs.Common.{Fits, History, slice_get, world}
-use Rattle.uring_histories.proofs.arrival.has_posted.Given as goal
+use Rattle.uring_histories.proofs.arrival.has_come.Given as goal
 
 abbrev pub invariant-loop-place : goal.invariant-loop-place
 invariant-loop-place l = (h : History) → Fits l.machine h → (world l.machine.core.setup h).completions.reaped ≡ []

@@ -1,6 +1,6 @@
 use Rattle.std.proofs.Common.{◌≡◌, ◌<◌, ℕ}
 use Rattle.uring_histories.proofs.Common.{Fits, History, byte_of, files_of, world}
-use Rattle.uring_histories.proofs.arrival.has_bytes.Given as goal
+use Rattle.uring_histories.proofs.arrival.has_file.Given as goal
 
 abbrev pub invariant-loop-at : goal.invariant-loop-at
 invariant-loop-at l = (h : History) → Fits l.machine h → (k : ℕ) → k < l.at
