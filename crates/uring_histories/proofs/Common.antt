@@ -1,7 +1,7 @@
 -- The names that several of these files cite, passed on from one place. Declares nothing.
 pub use Rattle.std.proofs.lemmas.List.{length-map, length-replicate, length-take-le, length_push, map-append, take_all, take_more}
-pub use Rattle.std.proofs.lemmas.Result.{IfOk-weaker, on_ok_weaker}
-pub use Rattle.std.specs.Prelude.{IfSome, neg_ℤ, slice_get, string_bytes}
+pub use Rattle.std.proofs.lemmas.Result.{on_ok_weaker}
+pub use Rattle.std.specs.Prelude.{neg_ℤ, slice_get, string_bytes}
 pub use Rattle.uring_core.specs.CalledFor.{CalledFor, EndsOn, IsLawful, files_after, files_of}
 pub use Rattle.uring_core.specs.Histories.{History, world}
 pub use Rattle.uring_core.specs.World.{World, beginning, filling, happens, staging, taking, with_end_of}

@@ -17,18 +17,9 @@ pub(crate) fn is_accepted(alloc: Global, setup: &Setup, bytes: &[u8]) -> Result<
     let checked = check(alloc, &mut reader, &mut report, setup, false, Ends::Given);
     drop(report);
     match checked {
-        Ok(verdict) => Ok(is_lawful(verdict)),
+        Ok(Verdict::Lawful) => Ok(true),
+        Ok(_) => Ok(false),
         // A list takes what is written to it unless memory is refused, and no read of bytes fails.
         Err(_) => Err(PlayFault::Memory),
-    }
-}
-
-/// Whether a verdict is that all is lawful.
-fn is_lawful(verdict: Verdict) -> bool
-    ensures { result ≡ true → verdict ≡ Verdict.Lawful }
-{
-    match verdict {
-        Verdict::Lawful => true,
-        _ => false,
     }
 }

@@ -1,10 +1,11 @@
 //! A machine on which moves are tried that are to come to an outcome.
 
+use crate::arrival::has_files;
 use std::alloc::{AllocError, Global};
 use uring_core::{Answer, Step};
 use uring_entry::Setup;
 use uring_machine::Machine;
-use uring_outcomes::{Ending, Files, Move};
+use uring_outcomes::{Ending, Move};
 
 /// How an attempt stands.
 #[derive(Clone, Copy)]
@@ -112,18 +113,11 @@ impl Attempt {
         self.next_call += 1;
         for step in steps {
             if let Answer::Taken { accepted, .. } = self.machine.step(*step) {
-                self.add_waiting(accepted)?;
+                let count = self.standing.len().saturating_add(accepted as usize);
+                self.standing.resize(count, 0)?;
             }
         }
         Ok(true)
-    }
-
-    /// Notes that so many more requests wait.
-    fn add_waiting(&mut self, count: u32) -> Result<(), AllocError> {
-        for _ in 0..count {
-            self.standing.push(0)?;
-        }
-        Ok(())
     }
 
     /// Notes what became of a request, and tells whether anything did.
@@ -160,8 +154,13 @@ impl Attempt {
 
     /// How it stands, if what it posted is the beginning of what is wanted.
     fn judged(&self, calls: &[Vec<Step>], wanted: &Ending) -> Standing {
-        if self.next_call < calls.len() || !self.are_ended() {
+        if self.next_call < calls.len() {
             return Standing::GoesOn;
+        }
+        for standing in &self.standing {
+            if *standing < 2 {
+                return Standing::GoesOn;
+            }
         }
         if self.posted == wanted.posted().len() as u64 && has_files(&self.machine, wanted.files()) {
             Standing::Arrives
@@ -169,41 +168,4 @@ impl Attempt {
             Standing::Strays
         }
     }
-
-    /// Whether each request has ended.
-    fn are_ended(&self) -> bool {
-        for standing in &self.standing {
-            if *standing < 2 {
-                return false;
-            }
-        }
-        true
-    }
-}
-
-/// Whether a machine has these files.
-fn has_files(machine: &Machine, files: &Files) -> bool {
-    for fd in 0..Setup::MAX_FILES {
-        if !has_file(machine, files, fd as i32) {
-            return false;
-        }
-    }
-    true
-}
-
-/// Whether it has the same file of this descriptor.
-fn has_file(machine: &Machine, files: &Files, fd: i32) -> bool {
-    let state = files.state(fd);
-    if machine.state(fd) != state {
-        return false;
-    }
-    let Some(state) = state else {
-        return true;
-    };
-    for at in 0..state.len {
-        if machine.byte(fd, u64::from(at)) != files.byte(fd, u64::from(at)) {
-            return false;
-        }
-    }
-    true
 }

@@ -2,7 +2,6 @@
 
 ghost use Rattle.std.specs.Prelude.{◌≡◌, ◌<◌, ◌++◌, ◌^◌, ◌∷◌, [], true, OnOk, length};
 ghost use Rattle.uring_entry.specs.Setup.{Setup};
-ghost use Rattle.uring_entry.specs.Submission.{IsItem};
 ghost use Rattle.uring_core.specs.Histories.{History};
 ghost use Rattle.uring_ports.specs.Items.{published_as, all_published_as, AreItems};
 ghost use Rattle.uring_core.specs.declared.step.Step.TheVariants as step;
@@ -69,32 +68,16 @@ fn put_item(
         → OnOk result (HasMade g recording.new h (steps_of_item slot (published_as item.now))) }
 {
     match item {
-        Item::Entry(entry) => put_entry(recording, alloc, slot, *entry, text),
+        Item::Entry(entry) => {
+            fill(recording, alloc, slot, *entry, text)?;
+            let number = u64::from(slot);
+            recording.make_numbered(alloc, "index ", number, &Step::Index { word: slot })
+        }
         Item::Bad(word) => {
             let word = *word;
             recording.make_numbered(alloc, "index ", u64::from(word), &Step::Index { word })
         }
     }
-}
-
-/// Fills this slot with an entry, and stages it.
-fn put_entry(
-    recording: &mut Recording,
-    alloc: Global,
-    slot: u32,
-    entry: Sqe,
-    text: &str,
-) -> Result<(), RecordingFault>
-    ensures { (g : Setup) (h : History) → IsRecorded g recording.old h
-        → OnOk result (HasMade g recording.new h (step.Fill slot entry ∷ step.Index slot ∷ [])) }
-{
-    fill(recording, alloc, slot, entry, text)?;
-    recording.make_numbered(
-        alloc,
-        "index ",
-        u64::from(slot),
-        &Step::Index { word: slot },
-    )
 }
 
 /// Fills this slot with an entry.
@@ -134,19 +117,11 @@ pub(crate) fn are_items(items: &[Item], size: u32) -> bool
     ensures { result ≡ true → AreItems size items.now }
 {
     for item in items {
-        if !is_item(item, size) {
-            return false;
+        if let Item::Bad(word) = item {
+            if *word < size {
+                return false;
+            }
         }
     }
     true
-}
-
-/// Whether this is an item of a ring of this size.
-fn is_item(item: &Item, size: u32) -> bool
-    ensures { result ≡ true → IsItem size (published_as item.now) }
-{
-    match item {
-        Item::Entry(_) => true,
-        Item::Bad(word) => size <= *word,
-    }
 }

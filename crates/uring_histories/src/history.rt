@@ -1,29 +1,27 @@
 //! The history of an outcome, as a recorded trace.
 
-ghost use Rattle.std.specs.Prelude.{◌≡◌, ◌++◌, ℕ, List, Ok, true, false, IfOk, IfSome, OnOk, map, string_bytes};
-ghost use Rattle.std.specs.Io.KnownBytes.{Appends};
+ghost use Rattle.std.specs.Prelude.{◌≡◌, ◌++◌, ℕ, List, Ok, true, false, IfOk, IfSome, map, string_bytes};
 ghost use Rattle.uring_ports.specs.declared.item.Item.{Item};
 ghost use Rattle.uring_ports.specs.Items.{all_published_as};
 ghost use Rattle.uring_play_text.specs.Inputs.{IsTold};
 ghost use Rattle.uring_litmus.specs.Lines.{IsLineOf};
 ghost use Rattle.uring_check.specs.SetupLines.{setup_text};
-ghost use Rattle.uring_histories.specs.Recordings.{published_in};
-ghost use Rattle.uring_histories.specs.Shown.{IsAccepted, IsHistoryOf, WritesHistory, remark_text, whole};
+ghost use Rattle.uring_histories.specs.Shown.{IsHistoryOf, WritesHistory, remark_text, whole};
 
 use crate::accepted::is_accepted;
 use crate::recording_fault::RecordingFault;
 use crate::replay::replayed;
 use crate::search::moves_to;
-use crate::steps::steps_of;
 use crate::texts::texts_of;
 use std::alloc::{AllocError, Global};
+use std::fmt::Write as _;
 use std::io::Write;
 use uring_check::push_setup;
 use uring_entry::Setup;
 use uring_litmus::{Form, PlayFault, line_of};
-use uring_outcomes::{Ending, Move};
-use uring_play_text::{Item, read_calls};
-use uring_text::{Calls, push_text, write_all};
+use uring_outcomes::Ending;
+use uring_play_text::read_calls;
+use uring_text::{Calls, write_all};
 
 /// What the remark on an outcome shows: its completions in their order, and its files.
 const WHOLE: Form = Form {
@@ -58,40 +56,18 @@ pub fn write_history<W: Write>(
     let whole = with_head(alloc, setup, ending, text.as_str());
     drop(text);
     let whole = whole?;
-    write_accepted(alloc, writer, setup, whole.as_str())
-}
-
-/// Writes a text, if it is a recorded trace that a check finds lawful.
-fn write_accepted<W: Write>(
-    alloc: Global,
-    writer: &mut W,
-    setup: &Setup,
-    text: &str,
-) -> Result<bool, PlayFault>
-    ensures written { IfOk result (λ is_written. is_written ≡ true
-        → IsAccepted setup.now text.now × Appends (W.contents writer.old) (W.contents writer.new) text.now) }
-    ensures kept { IfOk result (λ is_written. is_written ≡ false
-        → W.contents writer.new ≡ W.contents writer.old) }
-{
-    let is_accepted = is_accepted(alloc, setup, text.as_bytes())?;
+    let bytes = whole.as_bytes();
+    let is_accepted = is_accepted(alloc, setup, bytes)?;
     if !is_accepted {
         return Ok(false);
     }
-    write_text(writer, text)?;
-    Ok(true)
-}
-
-/// Writes a text.
-fn write_text<W: Write>(writer: &mut W, text: &str) -> Result<(), PlayFault>
-    ensures { OnOk result (Appends (W.contents writer.old) (W.contents writer.new) text.now) }
-{
-    match write_all(writer, text.as_bytes(), &mut Calls::new()) {
-        Ok(()) => Ok(()),
+    match write_all(writer, bytes, &mut Calls::new()) {
+        Ok(()) => Ok(true),
         Err(_) => Err(PlayFault::Write),
     }
 }
 
-/// This text after the line of the set-up, and a remark with the outcome.
+/// This text after the line of the set-up and a remark with the outcome.
 fn with_head(
     alloc: Global,
     setup: &Setup,
@@ -101,22 +77,12 @@ fn with_head(
     ensures { IfOk result (λ all. (line : List ℕ) × IsLineOf whole ending.now line
         × (string_bytes all ≡ setup_text setup.now ++ (remark_text line ++ text.now))) }
 {
+    let line = line_of(alloc, ending, WHOLE)?;
+    let outcome = line.as_str();
     let mut all = String::new(alloc);
     push_setup(alloc, &mut all, setup)?;
-    push_remark(alloc, &mut all, ending)?;
-    push_text(&alloc, &mut all, text)?;
+    write!(all, "# outcome {outcome}\n{text}")?;
     Ok(all)
-}
-
-/// Appends a remark with the outcome.
-fn push_remark(alloc: Global, text: &mut String, ending: &Ending) -> Result<(), AllocError>
-    ensures { OnOk result ((line : List ℕ) × IsLineOf whole ending.now line
-        × (string_bytes text.new ≡ string_bytes text.old ++ remark_text line)) }
-{
-    let line = line_of(alloc, ending, WHOLE)?;
-    push_text(&alloc, text, "# outcome ")?;
-    push_text(&alloc, text, line.as_str())?;
-    push_text(&alloc, text, "\n")
 }
 
 /// The history of the calls that the input has, if it is found.
@@ -132,64 +98,25 @@ fn history_of(
 {
     let mut reader = input;
     let calls = read_calls(alloc, &mut reader, setup)?;
-    let text = history_of_calls(alloc, setup, input, calls.as_slice(), ending);
-    drop(calls);
-    text
-}
-
-/// The history of these calls, of which the input has the texts, if it is found.
-fn history_of_calls(
-    alloc: Global,
-    setup: &Setup,
-    input: &[u8],
-    calls: &[Vec<Item>],
-    ending: &Ending,
-) -> Result<Option<String>, PlayFault>
-    ensures { IfOk result (λ found. IfSome found
-        (λ text. IsHistoryOf setup.now (published_in calls.now) ending.now (string_bytes text))) }
-{
-    let Some(moves) = moves_of(alloc, setup, calls, ending)? else {
+    let items = calls.as_slice();
+    let Some(moves) = moves_to(alloc, setup, items, ending)? else {
         return Ok(None);
     };
-    let texts = texts_of(alloc, input);
-    let shown = match texts {
-        Ok(texts) => history_by(alloc, setup, calls, texts, moves.as_slice(), ending),
-        Err(error) => Err(PlayFault::from(error)),
-    };
-    drop(moves);
-    shown
-}
-
-/// The history that these moves make, if they come to the outcome.
-fn history_by(
-    alloc: Global,
-    setup: &Setup,
-    calls: &[Vec<Item>],
-    texts: Vec<Vec<String>>,
-    moves: &[Move],
-    ending: &Ending,
-) -> Result<Option<String>, PlayFault>
-    ensures { IfOk result (λ found. IfSome found
-        (λ text. IsHistoryOf setup.now (published_in calls.now) ending.now (string_bytes text))) }
-{
-    let shown = replayed(alloc, setup, calls, texts.as_slice(), moves, ending);
+    let texts = texts_of(alloc, input)?;
+    let shown = replayed(
+        alloc,
+        setup,
+        items,
+        texts.as_slice(),
+        moves.as_slice(),
+        ending,
+    );
     drop(texts);
+    drop(moves);
+    drop(calls);
     match shown {
         Ok(text) => Ok(Some(text)),
         Err(RecordingFault::Memory) => Err(PlayFault::Memory),
         Err(RecordingFault::Astray) => Ok(None),
     }
-}
-
-/// Moves by which these calls come to this outcome, if they are found.
-fn moves_of(
-    alloc: Global,
-    setup: &Setup,
-    calls: &[Vec<Item>],
-    ending: &Ending,
-) -> Result<Option<Vec<Move>>, AllocError> {
-    let steps = steps_of(alloc, calls)?;
-    let moves = moves_to(alloc, setup, steps.as_slice(), ending);
-    drop(steps);
-    moves
 }

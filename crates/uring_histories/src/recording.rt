@@ -12,7 +12,7 @@ ghost use Rattle.uring_histories.specs.Recordings.{IsRecorded, HasMade};
 
 use crate::recording_fault::RecordingFault;
 use std::alloc::{AllocError, Global};
-use uring_core::{Answer, Step, same_answer};
+use uring_core::{Answer, Step};
 use uring_entry::{Setup, errno};
 use uring_machine::Machine;
 use uring_text::{push_number, push_text};
@@ -80,22 +80,14 @@ impl Recording {
     }
 }
 
-/// Whether an answer says that memory was refused, or that the numbers are spent.
+/// Whether an answer says that memory was refused, as by the end of a write with -12 (ENOMEM), or that the numbers are spent.
 fn refuses(given: &Answer) -> bool
     ensures again { result ≡ false → given.now ≡ answer.Again → ⊥ }
     ensures spent { result ≡ false → given.now ≡ answer.Spent → ⊥ }
     ensures ended { (bytes : List ℕ) → result ≡ false → given.now ≡ answer.Ended (neg_ℤ ENOMEM) bytes → ⊥ }
 {
-    same_answer(given, &Answer::Again)
-        || same_answer(given, &Answer::Spent)
-        || is_out_of_memory(given)
-}
-
-/// Whether an answer is the end of a write that was refused memory: -12 (ENOMEM).
-fn is_out_of_memory(given: &Answer) -> bool
-    ensures { (bytes : List ℕ) → result ≡ false → given.now ≡ answer.Ended (neg_ℤ ENOMEM) bytes → ⊥ }
-{
     match given {
+        Answer::Again | Answer::Spent => true,
         Answer::Ended { res, .. } => *res == -errno::ENOMEM,
         _ => false,
     }

@@ -1,10 +1,9 @@
 //! Moves that are made on a machine and recorded, if they come to an outcome.
 
-ghost use Rattle.std.specs.Prelude.{◌≡◌, ◌++◌, ◌∷◌, [], List, false, IfOk, OnOk, take, string_bytes};
+ghost use Rattle.std.specs.Prelude.{◌≡◌, [], List, false, IfOk, OnOk, take, string_bytes};
 ghost use Rattle.uring_entry.specs.Setup.{Setup};
 ghost use Rattle.uring_entry.specs.Layout.{Cqe};
 ghost use Rattle.uring_entry.specs.Submission.{Published};
-ghost use Rattle.uring_ports.specs.Items.{all_published_as};
 ghost use Rattle.uring_histories.specs.Recordings.{published_in, IsAmid, IsEnded, ShowsOnly};
 ghost use Rattle.uring_histories.specs.Shown.{IsHistoryOf};
 
@@ -73,19 +72,6 @@ fn play(
         (IsHistoryOf setup.now (published_in calls.now) ending.now (string_bytes recording.new.text)) }
 {
     make_moves(recording, alloc, setup, calls, texts, moves)?;
-    end_with(recording, alloc, setup, ending)
-}
-
-/// Reaps what was posted, and sees whether it came to this outcome.
-fn end_with(
-    recording: &mut Recording,
-    alloc: Global,
-    setup: &Setup,
-    ending: &Ending,
-) -> Result<(), RecordingFault>
-    ensures { (calls : List (List Published)) → IsAmid setup.now recording.old calls
-        → OnOk result (IsHistoryOf setup.now calls ending.now (string_bytes recording.new.text)) }
-{
     let has_come = has_come(&recording.machine, ending.posted());
     if !has_come {
         return Err(RecordingFault::Astray);
@@ -145,25 +131,13 @@ fn make_move(
 {
     match next {
         Move::Accept => accept_next(recording, alloc, setup, calls, texts, done),
-        Move::Issue { number } => issue(recording, alloc, number),
-        Move::Finish { number } => finish(recording, alloc, number),
+        Move::Issue { number } => {
+            recording.make_numbered(alloc, "issue ", number, &Step::Issue { number })
+        }
+        Move::Finish { number } => {
+            recording.make_numbered(alloc, "finish ", number, &Step::Finish { number })
+        }
     }
-}
-
-/// Issues a request.
-fn issue(recording: &mut Recording, alloc: Global, number: u64) -> Result<(), RecordingFault>
-    ensures { (g : Setup) (calls : List (List Published)) → IsAmid g recording.old calls
-        → OnOk result (IsAmid g recording.new calls) }
-{
-    recording.make_numbered(alloc, "issue ", number, &Step::Issue { number })
-}
-
-/// Finishes a request.
-fn finish(recording: &mut Recording, alloc: Global, number: u64) -> Result<(), RecordingFault>
-    ensures { (g : Setup) (calls : List (List Published)) → IsAmid g recording.old calls
-        → OnOk result (IsAmid g recording.new calls) }
-{
-    recording.make_numbered(alloc, "finish ", number, &Step::Finish { number })
 }
 
 /// Accepts the call after those that were accepted.
@@ -187,30 +161,7 @@ fn accept_next(
     let Some(lines) = texts.get(*done) else {
         return Err(RecordingFault::Astray);
     };
-    accept(
-        recording,
-        alloc,
-        setup,
-        calls[*done].as_slice(),
-        lines.as_slice(),
-    )?;
-    *done += 1;
-    Ok(())
-}
-
-/// Accepts a call of these items.
-fn accept(
-    recording: &mut Recording,
-    alloc: Global,
-    setup: &Setup,
-    items: &[Item],
-    texts: &[String],
-) -> Result<(), RecordingFault>
-    requires goes_on { setup.now.stops ≡ false }
-    requires manual { setup.now.linux ≡ false }
-    ensures { (calls : List (List Published)) → IsAmid setup.now recording.old calls
-        → OnOk result (IsAmid setup.now recording.new (calls ++ all_published_as items.now ∷ [])) }
-{
+    let items = calls[*done].as_slice();
     let size = setup.sq();
     let count = items.len();
     if count > size as usize {
@@ -220,7 +171,9 @@ fn accept(
     if !are_fit {
         return Err(RecordingFault::Astray);
     }
-    submit(recording, alloc, items, texts, count as u32)
+    submit(recording, alloc, items, lines.as_slice(), count as u32)?;
+    *done += 1;
+    Ok(())
 }
 
 /// Reaps so many completions, at most as many at a time as the ring has entries.
@@ -239,24 +192,16 @@ fn reap_all(
             return Ok(());
         }
         let now = min(left, size);
-        reap_some(recording, alloc, now)?;
+        show(recording, alloc, "flush", &Step::Flush)?;
+        show(recording, alloc, "cqtail", &Step::LoadCqTail)?;
+        reap_each(recording, alloc, now)?;
+        show(recording, alloc, "cqhead", &Step::StoreCqHead)?;
         left -= now;
     }
     Ok(())
 }
 
-/// Reaps so many completions that the ring holds.
-fn reap_some(recording: &mut Recording, alloc: Global, count: u64) -> Result<(), RecordingFault>
-    ensures { (g : Setup) (calls : List (List Published)) (posted : List Cqe)
-        → IsEnded g recording.old calls posted → OnOk result (IsEnded g recording.new calls posted) }
-{
-    show(recording, alloc, "flush", &Step::Flush)?;
-    show(recording, alloc, "cqtail", &Step::LoadCqTail)?;
-    reap_each(recording, alloc, count)?;
-    show(recording, alloc, "cqhead", &Step::StoreCqHead)
-}
-
-/// Reaps so many completions.
+/// Reaps so many completions, which the ring holds.
 fn reap_each(recording: &mut Recording, alloc: Global, count: u64) -> Result<(), RecordingFault>
     ensures { (g : Setup) (calls : List (List Published)) (posted : List Cqe)
         → IsEnded g recording.old calls posted → OnOk result (IsEnded g recording.new calls posted) }

@@ -1,11 +1,13 @@
 //! The search for moves that come to an outcome. Nothing is promised of it: what it finds is tried on a machine.
 
 use crate::attempt::{Attempt, Standing};
+use crate::steps::steps_of;
 use std::alloc::{AllocError, Global};
 use std::collections::BTreeSet;
 use uring_core::Step;
 use uring_entry::Setup;
 use uring_outcomes::{Ending, Move};
+use uring_play_text::Item;
 
 /// What is still to be tried, and what was.
 #[derive(Drop)]
@@ -18,15 +20,17 @@ struct Search {
 pub(crate) fn moves_to(
     alloc: Global,
     setup: &Setup,
-    calls: &[Vec<Step>],
+    calls: &[Vec<Item>],
     wanted: &Ending,
 ) -> Result<Option<Vec<Move>>, AllocError> {
+    let steps = steps_of(alloc, calls)?;
     let mut search = Search {
         todo: Vec::new(alloc),
         been: BTreeSet::new(alloc),
     };
-    let found = search_all(alloc, setup, calls, wanted, &mut search);
+    let found = search_all(alloc, setup, steps.as_slice(), wanted, &mut search);
     drop(search);
+    drop(steps);
     found
 }
 

@@ -8,48 +8,34 @@ use uring_play_text::Item;
 pub(crate) fn steps_of(alloc: Global, calls: &[Vec<Item>]) -> Result<Vec<Vec<Step>>, AllocError> {
     let mut all = Vec::new(alloc);
     for call in calls {
-        push_call(alloc, &mut all, call.as_slice())?;
+        let mut steps = Vec::new(alloc);
+        let count = push_items(&mut steps, call.as_slice())?;
+        steps.push(Step::StoreTail)?;
+        steps.push(Step::Begin { count })?;
+        push_takes(&mut steps, count)?;
+        steps.push(Step::End)?;
+        steps.push(Step::LoadHead)?;
+        all.push(steps)?;
     }
     Ok(all)
-}
-
-/// Adds the steps of a call.
-fn push_call(alloc: Global, all: &mut Vec<Vec<Step>>, items: &[Item]) -> Result<(), AllocError> {
-    let mut steps = Vec::new(alloc);
-    let count = push_items(&mut steps, items)?;
-    steps.push(Step::StoreTail)?;
-    steps.push(Step::Begin { count })?;
-    push_takes(&mut steps, count)?;
-    steps.push(Step::End)?;
-    steps.push(Step::LoadHead)?;
-    all.push(steps)?;
-    Ok(())
 }
 
 /// Adds the steps that stage these items, each for its own slot from 0 on, and returns how many they are.
 fn push_items(steps: &mut Vec<Step>, items: &[Item]) -> Result<u32, AllocError> {
     let mut slot = 0_u32;
     for item in items {
-        push_item(steps, slot, item)?;
+        let word = match item {
+            Item::Entry(entry) => {
+                let entry = *entry;
+                steps.push(Step::Fill { slot, entry })?;
+                slot
+            }
+            Item::Bad(word) => *word,
+        };
+        steps.push(Step::Index { word })?;
         slot = slot.saturating_add(1);
     }
     Ok(slot)
-}
-
-/// Adds the steps that stage an item for this slot.
-fn push_item(steps: &mut Vec<Step>, slot: u32, item: &Item) -> Result<(), AllocError> {
-    match item {
-        Item::Entry(entry) => {
-            let entry = *entry;
-            steps.push(Step::Fill { slot, entry })?;
-            steps.push(Step::Index { word: slot })?;
-        }
-        Item::Bad(word) => {
-            let word = *word;
-            steps.push(Step::Index { word })?;
-        }
-    }
-    Ok(())
 }
 
 /// Adds so many takes.

@@ -10,23 +10,15 @@ pub(crate) fn texts_of(alloc: Global, input: &[u8]) -> Result<Vec<Vec<String>>, 
     for line in input.split(|byte| *byte == b'\n') {
         if line.is_empty() {
             end_call(alloc, &mut call, &mut calls)?;
-        } else {
-            add_line(alloc, &mut call, line)?;
+        } else if let Ok(text) = str::from_utf8(line) {
+            // A line that is no text is none of an item.
+            let copy = String::from_str(alloc, text)?;
+            call.push(copy)?;
         }
     }
     end_call(alloc, &mut call, &mut calls)?;
     drop(call);
     Ok(calls)
-}
-
-/// Adds a line. One that is no text is none of an item.
-fn add_line(alloc: Global, call: &mut Vec<String>, line: &[u8]) -> Result<(), AllocError> {
-    let Ok(text) = str::from_utf8(line) else {
-        return Ok(());
-    };
-    let copy = String::from_str(alloc, text)?;
-    call.push(copy)?;
-    Ok(())
 }
 
 /// Ends a call, if it has a line.

@@ -127,6 +127,12 @@ last_part parts wanted i A r past is both =
       λ a. is ∙ eq-eqb (length wanted) 0 (sym many ∙ among_none (texts_of wanted) (subst (λ l. AreAmong (texts_of wanted) (texts_of l)) none (both.0 a))),
     )
 
+-- nothing more is wanted
+pub none_wanted : (wanted : List (String Global)) (parts : List (List ℕ)) (A : Type 0) → length wanted ≡ 0
+    → A ↔ AreAmong (texts_of wanted) parts → (true ≡ true) ↔ A
+none_wanted [] parts A none both = (λ yes. both.1 tt, λ a. refl)
+none_wanted (w ∷ wanted) parts A none both = absurd (omega arith)
+
 -- The first one wanted, as the code has it.
 pub met_at : (wanted : List (String Global)) (first : String Global) (p : List ℕ) (after : List (List ℕ)) → 0 < length wanted
     → first ≡ get_or wanted 0 first → string_bytes first ≡ p

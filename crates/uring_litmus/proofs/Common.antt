@@ -4,13 +4,13 @@ pub use Rattle.std.proofs.lemmas.List.Elements.{Contains-append_cases, Contains-
 pub use Rattle.std.proofs.lemmas.Option.{slice_get-get_or, slice_get-map, slice_get_past, slice_get_read, slice_get_within}
 pub use Rattle.std.proofs.lemmas.Result.{IfOk-weaker, on_ok_weaker}
 pub use Rattle.std.specs.List.{AllByRecursion, AllZip, dedup}
-pub use Rattle.std.specs.Option.{ok_or, option_and_then, option_map, option_to_list}
+pub use Rattle.std.specs.Option.{option_and_then, option_map, option_to_list}
 pub use Rattle.std.specs.Prelude.{Contains, MatchOption, codes, false, flat_map, nat_eq, slice_get, string_bytes, suc, zero}
 pub use Rattle.std.specs.declared.alloc.Global.{Global}
 pub use Rattle.std.specs.declared.string.String.{String}
 pub use Rattle.std.specs.declared.vec.Vec.{Vec}
 pub use Rattle.uring_files.specs.Operations.{byte_of, file_of}
-pub use Rattle.uring_litmus.specs.Claims.{AreAmong, IsAgainst, IsSoOf, IsVerdict, Judges, ShowsSome, StandsSome, is_so, lines_in, parts_in, so_of}
+pub use Rattle.uring_litmus.specs.Claims.{AreAmong, IsAgainst, IsSoOf, IsVerdict, Judges, ShowsSome, StandsSome, is_so, lines_in, parts_in}
 pub use Rattle.uring_litmus.specs.Items.{accepted_of, entry_of}
 pub use Rattle.uring_litmus.specs.Lines.{AreLinesOf, IsLineOf, IsSortedOnce, ShowAll, joined, parted}
 pub use Rattle.uring_litmus.specs.Listings.{AreFound, CountsOrders, Finds, HasBoth, IsListOf, IsNoted, Lists, count_text, lines_text, order_text, told_count}

@@ -1,7 +1,6 @@
 -- What is listed of calls, and shows what they may come to.
 use Rattle.std.proofs.Common.{◌≡◌, ℕ, zero, suc, Bool, List, [], ◌∷◌, ◌++◌, length, map, Option, Ok, sym, ap, subst, ◌∙◌, refl, arith, append_assoc}
-use Rattle.uring_litmus.proofs.Common.{AllZip, AreFound, AreLinesOf, Contains, Ending, Finds, Form, Global, IsLineOf, IsListOf, IsNoted, IsSortedOnce, Lists, ReadsCalls, ShowAll, String, Vec, accepted_of, codes, count_text, length-map, lines_text, lists_of, order_text, string_bytes, texts_of, told_count}
-use Rattle.std.specs.Io.KnownBytes.{Appends}
+use Rattle.uring_litmus.proofs.Common.{AllZip, AreFound, AreLinesOf, Contains, Ending, Finds, Form, Global, IsLineOf, IsListOf, IsNoted, IsSortedOnce, ReadsCalls, ShowAll, String, Vec, accepted_of, codes, count_text, length-map, lines_text, lists_of, order_text, string_bytes, texts_of, told_count}
 use Rattle.uring_entry.specs.Setup.{Setup}
 use Rattle.uring_ports.specs.declared.item.Item.{Item}
 
@@ -64,10 +63,3 @@ finds setup items endings is_all a a' read found = record {
   told = read.returned;
   found = found;
 }
-
-pub listed : (form : Form) (setup : Setup) (most : ℕ) (is_all all : Bool) (endings : List Ending) (text : List ℕ) (a a' b b' : Option (List ℕ))
-    → is_all ≡ all → Finds setup endings all a a' → IsListOf form endings all most text → Appends b b' text
-    → Lists form setup most is_all a a' b b'
-listed form setup most is_all all endings text a a' b b' same finding list writes =
-    subst (λ (x : Bool). Lists form setup most x a a' b b') (sym same)
-    (record { endings = endings; finding = finding; text = text; list = list; written = writes })

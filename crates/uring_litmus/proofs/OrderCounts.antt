@@ -1,6 +1,6 @@
 -- The orders of the outcomes that have a line.
-use Rattle.std.proofs.Common.{◌≡◌, ◌↔◌, ◌⊎◌, ℕ, ◌+◌, ◌<◌, ◌≤◌, List, [], ◌∷◌, ◌++◌, length, map, get_or, Option, Some, None, refl, sym, ap, subst, ◌∙◌, arith, append-nil, inl, inr}
-use Rattle.uring_litmus.proofs.Common.{AreLinesOf, Contains, Contains-append_cases, Contains-append_left, Contains-append_right, CountsOrders, Ending, Form, Global, HasBoth, IsLineOf, IsSortedOnce, String, completion_parts, false, joined, length-map, option_map, option_to_list, order_text, slice_get, slice_get-map, slice_get_past, slice_get_read, slice_get_within, string_bytes, suc, texts_of, zero}
+use Rattle.std.proofs.Common.{◌≡◌, ◌↔◌, ℕ, ◌+◌, ◌<◌, List, [], ◌∷◌, ◌++◌, length, map, get_or, Some, refl, sym, ap, subst, ◌∙◌, arith, append-nil, inl, inr}
+use Rattle.uring_litmus.proofs.Common.{AreLinesOf, Contains, Contains-append_left, Contains-append_right, Contains-push_cases, CountsOrders, Ending, Form, Global, HasBoth, IsLineOf, IsSortedOnce, String, completion_parts, false, joined, length-map, option_map, order_text, slice_get, slice_get-map, slice_get_read, slice_get_within, string_bytes, texts_of, zero}
 use Rattle.std.proofs.lemmas.Bool.{cases_lt}
 
 -- the same below a place
@@ -15,22 +15,37 @@ none_below each orders line order own none = (
   λ has. absurd (let low = has.1 in omega arith),
 )
 
-pub one_below : (each orders : List (List ℕ)) (line order text : List ℕ) (i : ℕ) (before after : List (List ℕ))
-    → slice_get each i ≡ Some text → Contains before order ↔ HasBelow each orders line i order
-    → Contains after order ↔ (Contains before order ⊎ ((text ≡ line) × (slice_get orders i ≡ Some order)))
+pub same_text : {x y : List ℕ} → Some x ≡ Some y → x ≡ y
+same_text e = cc
+
+-- one order more, if the outcome has the line
+pub pushed_below : (each orders : List (List ℕ)) (line copy order : List ℕ) (i : ℕ) (before after : List (List ℕ))
+    → slice_get each i ≡ Some line → slice_get orders i ≡ Some copy → after ≡ before ++ copy ∷ []
+    → Contains before order ↔ HasBelow each orders line i order
     → Contains after order ↔ HasBelow each orders line (i + 1) order
-one_below each orders line order text i before after at was now = (
-  λ has. elim (now.0 has) [
+pushed_below each orders line copy order i before after at one is was = (
+  λ has. elim (Contains-push_cases before copy order (subst (λ l. Contains l order) is has)) [
     | inl old ↦ (let b = was.0 old in (b.0, (let low = b.1 in omega arith), b.2, b.3))
-    | inr new ↦ (i, omega arith, at ∙ ap Some new.0, new.1)
+    | inr same ↦ (i, omega arith, at, one ∙ ap Some same)
   ],
-  λ has. now.1 (elim (cases_lt has.0 i) [
-    | inl low ↦ inl (was.1 (has.0, low, has.2, has.3))
-    | inr high ↦ inr (let below = has.1 in let same : has.0 ≡ i = omega arith in (same_line (sym at ∙ ap (slice_get each) (sym same) ∙ has.2), ap (slice_get orders) (sym same) ∙ has.3))
+  λ has. subst (λ l. Contains l order) (sym is) (elim (cases_lt has.0 i) [
+    | inl low ↦ Contains-append_left before (copy ∷ []) order (was.1 (has.0, low, has.2, has.3))
+    | inr high ↦ (let below = has.1 in let same : has.0 ≡ i = omega arith in Contains-append_right before (copy ∷ []) order (zero, omega arith, same_text (sym one ∙ ap (slice_get orders) (sym same) ∙ has.3)))
   ]),
-) where
-  same_line : {x y : List ℕ} → Some x ≡ Some y → x ≡ y
-  same_line e = cc
+)
+
+-- none, if it hasn't, or there is no order
+pub passed_below : (each orders : List (List ℕ)) (line order : List ℕ) (i : ℕ) (own : List (List ℕ))
+    → (slice_get each i ≡ Some line → slice_get orders i ≡ Some order → ⊥)
+    → Contains own order ↔ HasBelow each orders line i order
+    → Contains own order ↔ HasBelow each orders line (i + 1) order
+passed_below each orders line order i own other was = (
+  λ has. (let b = was.0 has in (b.0, (let low = b.1 in omega arith), b.2, b.3)),
+  λ has. elim (cases_lt has.0 i) [
+    | inl low ↦ was.1 (has.0, low, has.2, has.3)
+    | inr high ↦ absurd (let below = has.1 in let same : has.0 ≡ i = omega arith in other (ap (slice_get each) (sym same) ∙ has.2) (ap (slice_get orders) (sym same) ∙ has.3))
+  ],
+)
 
 pub all_below : (each orders : List (List ℕ)) (line order : List ℕ) (i : ℕ) (own : List (List ℕ))
     → length each ≡ i → Contains own order ↔ HasBelow each orders line i order
@@ -39,11 +54,6 @@ all_below each orders line order i own many both = (
   λ has. (let b = both.0 has in (b.0, b.2, b.3)),
   λ has. both.1 (has.0, (let low = slice_get_within each has.0 line has.1 in omega arith), has.1, has.2),
 )
-
-in_option : (o : Option (List ℕ)) (order : List ℕ) → Contains (option_to_list o) order → o ≡ Some order
-in_option None order has = absurd (let low = has.1 in omega arith)
-in_option (Some x) order (zero, low, is) = ap Some is
-in_option (Some x) order (suc k, low, is) = absurd (omega arith)
 
 -- the count of what is sorted once
 pub counted : (each orders : List (List ℕ)) (line : List ℕ) (own sorted : List (String Global)) (count : ℕ)
@@ -74,39 +84,8 @@ orders_are (e ∷ endings) [] are = absurd are
 orders_are (e ∷ endings) (line ∷ lines) are =
     ap (λ l. l ∷ lines) (order_is e line are.0) ∙ ap (λ l. order_text e ∷ l) (orders_are endings lines are.1)
 
--- one order more, if the text is the line
-pub added_if : (orders : List (List ℕ)) (line text order : List ℕ) (i : ℕ) (before after : List (List ℕ))
-    → text ≡ line → after ≡ before ++ option_to_list (slice_get orders i)
-    → Contains after order ↔ (Contains before order ⊎ ((text ≡ line) × (slice_get orders i ≡ Some order)))
-added_if orders line text order i before after same is = (
-  λ has. elim (Contains-append_cases before (option_to_list (slice_get orders i)) order (subst (λ l. Contains l order) is has)) [
-    | inl old ↦ inl old
-    | inr new ↦ inr (same, in_option (slice_get orders i) order new)
-  ],
-  λ has. subst (λ l. Contains l order) (sym is) (elim has [
-    | inl old ↦ Contains-append_left before (option_to_list (slice_get orders i)) order old
-    | inr new ↦ Contains-append_right before (option_to_list (slice_get orders i)) order (to_option (slice_get orders i) order new.1)
-  ]),
-) where
-  to_option : (o : Option (List ℕ)) (x : List ℕ) → o ≡ Some x → Contains (option_to_list o) x
-  to_option None x is = absurd cc
-  to_option (Some y) x is = let same : y ≡ x = cc in (zero, omega arith, same)
-
-pub kept_if : (orders : List (List ℕ)) (line text order : List ℕ) (i : ℕ) (before : List (List ℕ))
-    → (text ≡ line → ⊥)
-    → Contains before order ↔ (Contains before order ⊎ ((text ≡ line) × (slice_get orders i ≡ Some order)))
-kept_if orders line text order i before other = (
-  λ has. inl has,
-  λ has. elim has [ inl old ↦ old | inr new ↦ absurd (other new.0) ],
-)
-
 -- the text at a place
 pub text_at : (each : List (String Global)) (i : ℕ) (text : String Global) → i < length each
     → text ≡ get_or each i text → slice_get (texts_of each) i ≡ Some (string_bytes text)
 text_at each i text low is =
     slice_get-map string_bytes each i ∙ ap (option_map string_bytes) (slice_get_read each (length each) i text refl low is)
-
-pub no_text_at : (texts : List (String Global)) (i : ℕ) (copies : List (List ℕ)) → length texts ≤ i
-    → copies ≡ copies ++ option_to_list (slice_get (texts_of texts) i)
-no_text_at texts i copies past =
-    sym (ap (λ o. copies ++ option_to_list o) (slice_get_past (texts_of texts) i (omega (arith, length-map texts string_bytes))) ∙ append-nil copies)

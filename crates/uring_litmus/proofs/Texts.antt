@@ -46,10 +46,10 @@ zip_texts R lines ys i line noted low is all one =
     (subst (λ (l : List (List ℕ)). AllZip R (texts_of (take i lines) ++ string_bytes line ∷ []) l) (sym (one_more ys noted)) both)
 
 -- one more element, and one more text that it has
-pub zip_more : {X : Type 0} (R : X → List ℕ → Type 0) (xs : List X) (i : ℕ) (x : X) (before after : List (List ℕ)) (line : List ℕ)
-    → i < length xs → x ≡ get_or xs i x → AllZip R (take i xs) before → after ≡ before ++ line ∷ []
-    → R x line → AllZip R (take (i + 1) xs) after
-zip_more R xs i x before after line low is all now one =
-    let both = zip_push R (take i xs) before x line all one in
-    subst (λ (l : List (List ℕ)). AllZip R (take (i + 1) xs) l) (sym now)
-    (subst (λ l. AllZip R l (before ++ line ∷ [])) (sym (next_taken xs i x low is)) both)
+pub zip_more : {X : Type 0} (R : X → List ℕ → Type 0) (xs : List X) (ys : List (String Global)) (i : ℕ) (x : X) (line : String Global)
+    → i < length xs → x ≡ get_or xs i x → AllZip R (take i xs) (texts_of ys) → R x (string_bytes line)
+    → AllZip R (take (i + 1) xs) (texts_of (ys ++ line ∷ []))
+zip_more R xs ys i x line low is all one =
+    let both = zip_push R (take i xs) (texts_of ys) x (string_bytes line) all one in
+    subst (λ (l : List (List ℕ)). AllZip R (take (i + 1) xs) l) (sym (one_more ys line))
+    (subst (λ l. AllZip R l (texts_of ys ++ string_bytes line ∷ [])) (sym (next_taken xs i x low is)) both)

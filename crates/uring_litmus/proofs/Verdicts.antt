@@ -1,17 +1,19 @@
 -- Verdicts on claims of what was found, and outcomes that are chosen among it.
-use Rattle.std.proofs.Common.{◌≡◌, ◌↔◌, ◌+◌, ◌-◌, ◌<◌, ◌≤◌, ℕ, Bool, true, false, not, List, [], ◌∷◌, ◌++◌, length, map, take, get_or, Option, Some, None, Result, Ok, Err, refl, sym, ap, subst, ◌∙◌, inl, inr, arith}
-use Rattle.uring_litmus.proofs.Common.{AreFound, CanEnd, Contains, Contains-push_cases, Ending, Finds, Form, Global, IsAgainst, IsLineOf, IsShown, IsSoOf, IsSortedOnce, IsVerdict, Judges, MatchOption, ShowsSome, String, accepted_of, completion_parts, files_texts, is_so, map-append, ok_or, parts_in, slice_get, slice_get_read, slice_get_within, so_of, string_bytes, take_all, texts_of}
+use Rattle.std.proofs.Common.{◌≡◌, ◌↔◌, ◌+◌, ◌<◌, ◌≤◌, ℕ, Bool, true, false, not, List, [], ◌∷◌, ◌++◌, length, map, take, get_or, Option, Some, None, Result, Ok, Err, if◌then◌else◌, refl, sym, ap, subst, ◌∙◌, inl, inr, arith}
+use Rattle.uring_litmus.proofs.Common.{Contains, Contains-push_cases, Ending, Finds, Form, Global, IsAgainst, IsLineOf, IsShown, IsSoOf, IsVerdict, Judges, MatchOption, ShowsSome, StandsSome, String, accepted_of, completion_parts, files_texts, is_so, map-append, parts_in, slice_get, slice_get_read, slice_get_within, string_bytes, take_all, texts_of}
 use Rattle.uring_entry.specs.Setup.{Setup}
-use Rattle.uring_entry.specs.Layout.{Sqe}
 use Rattle.uring_litmus.specs.declared.claims.Claim.{Claim}
 use Rattle.uring_litmus.specs.declared.claims.Claim.TheVariants as claims
 use Rattle.uring_litmus.specs.declared.judging.Judged.{Judged}
-use Rattle.uring_litmus.specs.declared.judging.Chosen.{Chosen}
+use Rattle.uring_litmus.specs.declared.judging.Judged.TheVariants as judged
 use Rattle.uring_litmus.specs.declared.judging.Chosen.TheVariants as chosen
-use Rattle.uring_litmus.specs.Choices.{IsChosen, IsPlaceBy, IsPlaceOf, Chooses}
+use Rattle.uring_litmus.specs.Choices.{IsPlaceOf, Chooses}
 use Rattle.uring_litmus.proofs.Texts.{next_taken}
 use Rattle.uring_litmus.proofs.Places.{at_place, zip_at}
 use Rattle.uring_litmus.proofs.Listed.{all_shown}
+
+some_same : {x y : Ending} → Some x ≡ Some y → x ≡ y
+some_same e = cc
 
 -- A claim is so of the first so many outcomes, and of one more.
 pub so_of_more : (claim : Claim) (lines : List (List (List ℕ))) (endings : List Ending) (i : ℕ) (x : Ending)
@@ -44,62 +46,62 @@ against_at claim lines endings i x low is other = record {
   against = other;
 }
 
--- what is said where one was found of which it isn't so, and where none was
-pub said_some : (claim : Claim) (lines : List (List (List ℕ))) (endings : List Ending) (found : Option ℕ) (at : ℕ)
-    → found ≡ Some at
-    → MatchOption found ((e : Ending) → Contains endings e → IsSoOf claim lines e) (λ k. IsAgainst claim lines endings k)
-    → IsAgainst claim lines endings at
-said_some claim lines endings found at is said =
-    subst (λ f. MatchOption f ((e : Ending) → Contains endings e → IsSoOf claim lines e) (λ k. IsAgainst claim lines endings k)) is said
+-- what is said of where one was found of which it isn't so
+abbrev pub IsSaid : Claim → List (List (List ℕ)) → List Ending → Option ℕ → Type 0
+IsSaid claim lines endings found =
+    MatchOption found ((e : Ending) → Contains endings e → IsSoOf claim lines e) (λ at. IsAgainst claim lines endings at)
 
-pub said_none : (claim : Claim) (lines : List (List (List ℕ))) (endings : List Ending) (found : Option ℕ)
-    → found ≡ None
-    → MatchOption found ((e : Ending) → Contains endings e → IsSoOf claim lines e) (λ k. IsAgainst claim lines endings k)
-    → (e : Ending) → Contains endings e → IsSoOf claim lines e
-said_none claim lines endings found is said =
-    subst (λ f. MatchOption f ((e : Ending) → Contains endings e → IsSoOf claim lines e) (λ k. IsAgainst claim lines endings k)) is said
+pub against_low : (claim : Claim) (lines : List (List (List ℕ))) (endings : List Ending) (found : Option ℕ) (at : ℕ)
+    → found ≡ Some at → IsSaid claim lines endings found → at < length endings
+against_low claim lines endings found at is said =
+    let against : IsAgainst claim lines endings at = subst (λ f. IsSaid claim lines endings f) is said in
+    slice_get_within endings at against.ending against.there
 
--- It fails of one of those that were found.
-pub fails_of : (g : Setup) (calls : List (List Sqe)) (claim : Claim) (lines : List (List (List ℕ))) (endings : List Ending) (is_all : Bool) (at : ℕ) (e : Ending)
-    → AreFound g calls endings is_all → IsAgainst claim lines endings at → slice_get endings at ≡ Some e
-    → CanEnd g calls e × (IsSoOf claim lines e → ⊥)
-fails_of g calls claim lines endings is_all at e found against there =
-    let same : against.ending ≡ e = some_same (sym against.there ∙ there) in
-    (found.right e (at_place endings at e there), subst (λ x. IsSoOf claim lines x → ⊥) same against.against) where
-      some_same : {x y : Ending} → Some x ≡ Some y → x ≡ y
-      some_same e = cc
-
--- It is so of all that were found.
-pub stands_of : (g : Setup) (calls : List (List Sqe)) (claim : Claim) (lines : List (List (List ℕ))) (endings : List Ending) (is_all : Bool) (count : ℕ)
-    → AreFound g calls endings is_all → ((e : Ending) → Contains endings e → IsSoOf claim lines e)
-    → count ≡ length endings → IsVerdict g calls claim lines (so_of count is_all)
-stands_of g calls claim lines endings true count found so many = record {
-  so = λ e can. so e ((found.all refl e).1 can);
-  endings = endings;
-  all = found.all refl;
-  once = found.once;
-  many = sym many;
-}
-stands_of g calls claim lines endings false count found so many = record {
-  endings = endings;
-  right = found.right;
-  once = found.once;
-  so = so;
-  many = sym many;
-}
-
-pub judges : (g : Setup) (claim : Claim) (lines : List (List (List ℕ))) (endings : List Ending) (is_all : Bool) (said : Judged) (a a' : Option (List ℕ))
-    → Finds g endings is_all a a'
-    → ((h : Setup) (calls : List (List Sqe)) → AreFound h calls endings is_all → IsVerdict h calls claim lines said)
-    → Judges g claim lines said a a'
+judges : (g : Setup) (claim : Claim) (lines : List (List (List ℕ))) (endings : List Ending) (is_all : Bool) (said : Judged) (a a' : Option (List ℕ))
+    → (finding : Finds g endings is_all a a')
+    → IsVerdict g (map accepted_of finding.calls) claim lines said → Judges g claim lines said a a'
 judges g claim lines endings is_all said a a' finding verdict = record {
   bytes = finding.bytes;
   consumed = finding.consumed;
   at_end = finding.at_end;
   calls = finding.calls;
   told = finding.told;
-  verdict = verdict g (map accepted_of finding.calls) finding.found;
+  verdict = verdict;
 }
+
+-- It fails of one of those that were found.
+pub fails : (g : Setup) (claim : Claim) (lines : List (List (List ℕ))) (endings : List Ending) (is_all : Bool) (found : Option ℕ) (at : ℕ) (e : Ending) (a a' : Option (List ℕ))
+    → Finds g endings is_all a a' → found ≡ Some at → IsSaid claim lines endings found
+    → slice_get endings at ≡ Some e → Judges g claim lines (judged.Fails e) a a'
+fails g claim lines endings is_all found at e a a' finding is said there =
+    let against : IsAgainst claim lines endings at = subst (λ f. IsSaid claim lines endings f) is said in
+    let same : against.ending ≡ e = some_same (sym against.there ∙ there) in
+    judges g claim lines endings is_all (judged.Fails e) a a' finding (record {
+      can = finding.found.right e (at_place endings at e there);
+      against = subst (λ x. IsSoOf claim lines x → ⊥) same against.against;
+    })
+
+-- It is so of all that were found.
+pub stands : (g : Setup) (claim : Claim) (lines : List (List (List ℕ))) (endings : List Ending) (is_all : Bool) (found : Option ℕ) (count : ℕ) (a a' : Option (List ℕ))
+    → Finds g endings is_all a a' → found ≡ None → IsSaid claim lines endings found → count ≡ length endings
+    → Judges g claim lines (if is_all then judged.Holds count else judged.Unknown count) a a'
+stands g claim lines endings true found count a a' finding is said many =
+    let so : (e : Ending) → Contains endings e → IsSoOf claim lines e = subst (λ f. IsSaid claim lines endings f) is said in
+    judges g claim lines endings true (judged.Holds count) a a' finding (record {
+      so = λ e can. so e ((finding.found.all refl e).1 can);
+      endings = endings;
+      all = finding.found.all refl;
+      once = finding.found.once;
+      many = sym many;
+    })
+stands g claim lines endings false found count a a' finding is said many =
+    judges g claim lines endings false (judged.Unknown count) a a' finding (record {
+      endings = endings;
+      right = finding.found.right;
+      once = finding.found.once;
+      so = subst (λ f. IsSaid claim lines endings f) is said;
+      many = sym many;
+    })
 
 -- The first place of a line.
 
@@ -121,35 +123,25 @@ pub not_at_all : (each : List (String Global)) (i : ℕ) (line : List ℕ) → l
 not_at_all each i line past none has =
     none (subst (λ l. Contains (texts_of l) line) (sym (take_all i each past)) has)
 
--- The line of a number.
-
--- it is somewhere among those that were sorted
-pub found_by : (each lines : List (List ℕ)) (number count : ℕ) (line : List ℕ) (first : Option ℕ) (found : Result ℕ ℕ)
-    → IsSortedOnce each lines → 0 < number → slice_get lines (number - 1) ≡ Some line
-    → MatchOption first (Contains each line → ⊥) (λ at. slice_get each at ≡ Some line)
-    → found ≡ ok_or first count
-    → IsPlaceBy each lines number found
-found_by each lines number count line None found sorted some at is said =
-    absurd (is (sorted.right line (at_place lines (number - 1) line at)))
-found_by each lines number count line (Some k) found sorted some at is said =
-    subst (λ f. IsPlaceBy each lines number f) (sym said) (line, some, at, is)
-
 -- The outcome of a line.
 
-pub place_low : (form : Form) (endings : List Ending) (number at : ℕ) → IsPlaceOf form endings number (Ok at)
-    → at < length endings
-place_low form endings number at place =
+pub place_low : (form : Form) (endings : List Ending) (number : ℕ) (found : Result ℕ ℕ) (at : ℕ) → found ≡ Ok at
+    → IsPlaceOf form endings number found → at < length endings
+place_low form endings number found at is said =
+    let place : IsPlaceOf form endings number (Ok at) = subst (λ f. IsPlaceOf form endings number f) is said in
     let x = zip_at (IsLineOf form) endings place.0 at place.2.2.0 place.1 place.2.2.3 in
     slice_get_within endings at x.0 x.1
 
-pub chosen_of : (form : Form) (endings : List Ending) (is_all : Bool) (number at : ℕ) (e : Ending)
-    → IsPlaceOf form endings number (Ok at) → slice_get endings at ≡ Some e
-    → IsChosen form endings is_all number (chosen.Outcome e is_all)
-chosen_of form endings is_all number at e place there =
+pub chooses : (form : Form) (setup : Setup) (number : ℕ) (endings : List Ending) (is_all : Bool) (found : Result ℕ ℕ) (at : ℕ) (e : Ending) (a a' : Option (List ℕ))
+    → Finds setup endings is_all a a' → found ≡ Ok at → IsPlaceOf form endings number found
+    → slice_get endings at ≡ Some e → Chooses form setup number (chosen.Outcome e is_all) a a'
+chooses form setup number endings is_all found at e a a' finding is said there =
+    let place : IsPlaceOf form endings number (Ok at) = subst (λ f. IsPlaceOf form endings number f) is said in
     let line : List ℕ = place.2.2.0 in
     let x = zip_at (IsLineOf form) endings place.0 at line place.1 place.2.2.3 in
     record {
-      same = refl;
+      endings = endings;
+      finding = finding;
       lines = place.2.0;
       show_all = all_shown form endings place.0 place.2.0 place.1 place.2.1;
       choice = record {
@@ -159,33 +151,23 @@ chosen_of form endings is_all number at e place there =
         there = at_place endings at e there;
         shown = subst (λ y. IsLineOf form y line) (some_same (sym x.1 ∙ there)) x.2;
       };
-    } where
-      some_same : {x y : Ending} → Some x ≡ Some y → x ≡ y
-      some_same e = cc
+    }
 
-pub none_of : (form : Form) (endings : List Ending) (is_all : Bool) (number count : ℕ)
-    → IsPlaceOf form endings number (Err count)
-    → IsChosen form endings is_all number (chosen.Missing count is_all)
-none_of form endings is_all number count place = record {
-  same = refl;
-  lines = place.2.0;
-  show_all = all_shown form endings place.0 place.2.0 place.1 place.2.1;
-  choice = place.2.2;
-}
-
-pub chooses : (form : Form) (setup : Setup) (number : ℕ) (endings : List Ending) (is_all : Bool) (said : Chosen) (a a' : Option (List ℕ))
-    → Finds setup endings is_all a a' → IsChosen form endings is_all number said
-    → Chooses form setup number said a a'
-chooses form setup number endings is_all said a a' finding choice = record {
-  endings = endings;
-  finding = subst (λ x. Finds setup endings x a a') (sym choice.same) finding;
-  lines = choice.lines;
-  show_all = choice.show_all;
-  choice = choice.choice;
-}
+pub misses : (form : Form) (setup : Setup) (number : ℕ) (endings : List Ending) (is_all : Bool) (found : Result ℕ ℕ) (count : ℕ) (a a' : Option (List ℕ))
+    → Finds setup endings is_all a a' → found ≡ Err count → IsPlaceOf form endings number found
+    → Chooses form setup number (chosen.Missing count is_all) a a'
+misses form setup number endings is_all found count a a' finding is said =
+    let place : IsPlaceOf form endings number (Err count) = subst (λ f. IsPlaceOf form endings number f) is said in
+    record {
+      endings = endings;
+      finding = finding;
+      lines = place.2.0;
+      show_all = all_shown form endings place.0 place.2.0 place.1 place.2.1;
+      choice = place.2.2;
+    }
 
 -- all of an outcome
-pub whole_is : (e : Ending) (parts : List (List ℕ)) → IsShown (record { is_sorted = false; has_files = true }) e parts
+whole_is : (e : Ending) (parts : List (List ℕ)) → IsShown (record { is_sorted = false; has_files = true }) e parts
     → parts ≡ parts_in e
 whole_is e parts shown =
     shown.are ∙ ap (λ cs. completion_parts cs ++ files_texts 0 e.files) shown.ordered
@@ -201,7 +183,13 @@ never_if false r S is both = (
   λ none. is,
 )
 
-pub so_if : (claim : Claim) (lines : List (List (List ℕ))) (e : Ending) (b r : Bool) → r ≡ is_so claim b
+so_if : (claim : Claim) (lines : List (List (List ℕ))) (e : Ending) (b r : Bool) → r ≡ is_so claim b
     → (b ≡ true) ↔ ShowsSome lines e → (r ≡ true) ↔ IsSoOf claim lines e
 so_if claims.Never lines e b r is both = never_if b r (ShowsSome lines e) is both
 so_if claims.Always lines e b r is both = (λ yes. both.0 (sym is ∙ yes), λ some. is ∙ both.1 some)
+
+pub so_by_parts : (claim : Claim) (lines : List (List (List ℕ))) (e : Ending) (parts : List (List ℕ)) (b r : Bool)
+    → IsShown (record { is_sorted = false; has_files = true }) e parts → (b ≡ true) ↔ StandsSome lines parts
+    → r ≡ is_so claim b → (r ≡ true) ↔ IsSoOf claim lines e
+so_by_parts claim lines e parts b r shown both is =
+    so_if claim lines e b r is (subst (λ l. (b ≡ true) ↔ StandsSome lines l) (whole_is e parts shown) both)

@@ -39,22 +39,11 @@ IsPlaceBy each lines number (Ok at) = (line : List ℕ) × (0 < number)
     × (slice_get lines (number - 1) ≡ Some line) × (slice_get each at ≡ Some line)
 IsPlaceBy each lines number (Err count) = HasNoLine lines number count
 
--- the lines are these, sorted and each once
-abbrev pub IsPlaceAmong : List (List ℕ) → ℕ → Result ℕ ℕ → Type 0
-IsPlaceAmong each number found =
-    (lines : List (List ℕ)) × IsSortedOnce each lines × IsPlaceBy each lines number found
-
--- each outcome has one
+-- each outcome has a line, and the lines are these, sorted and each once
 abbrev pub IsPlaceOf : Form → List Ending → ℕ → Result ℕ ℕ → Type 0
 IsPlaceOf form endings number found =
-    (each : List (List ℕ)) × AreLinesOf form endings each × IsPlaceAmong each number found
-
--- what is chosen by a number among these outcomes, which are all or not
-pub record IsChosen (form : Form) (endings : List Ending) (is_all : Bool) (number : ℕ) (said : Chosen) : Type 0 where
-  pub same : is_all_of said ≡ is_all
-  pub lines : List (List ℕ)
-  pub show_all : ShowAll form endings lines
-  pub choice : IsChoice form endings lines number said
+    (each : List (List ℕ)) × AreLinesOf form endings each
+    × ((lines : List (List ℕ)) × IsSortedOnce each lines × IsPlaceBy each lines number found)
 
 -- Calls were read to the end of the input, and an outcome of them was chosen: by the number of its line in the list of those that were found, which are all if it is said.
 pub record Chooses (form : Form) (setup : Setup) (number : ℕ) (said : Chosen) (left_before left_after : Option (List ℕ)) : Type 0 where

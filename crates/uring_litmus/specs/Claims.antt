@@ -81,11 +81,6 @@ abbrev pub is_so : Claim → Bool → Bool
 is_so claims.Never shown = not shown
 is_so claims.Always shown = shown
 
--- Glue. The verdict on a claim that is so of so many outcomes, which are all or not.
-abbrev pub so_of : ℕ → Bool → Judged
-so_of count true = judged.Holds count
-so_of count false = judged.Unknown count
-
 -- Calls were read to the end of the input, and this became of a claim of them.
 pub record Judges (g : Setup) (claim : Claim) (lines : List (List (List ℕ))) (said : Judged) (left_before left_after : Option (List ℕ)) : Type 0 where
   pub bytes : List ℕ

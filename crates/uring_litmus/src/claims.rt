@@ -1,6 +1,6 @@
 //! Claims of what calls may come to.
 
-ghost use Rattle.std.specs.Prelude.{◌≡◌, ◌↔◌, ◌∷◌, ℕ, List, [], Some, IsTrue, IfOk, MatchOption, Contains, slice_get};
+ghost use Rattle.std.specs.Prelude.{◌≡◌, ◌↔◌, IsTrue, IfOk, MatchOption, Contains};
 ghost use Rattle.uring_outcomes.specs.Outcomes.{Ending};
 ghost use Rattle.uring_litmus.specs.Parts.{texts_of};
 ghost use Rattle.uring_litmus.specs.Claims.{lines_in, AreAmong, StandsSome, IsSoOf, IsAgainst, is_so};
@@ -39,28 +39,15 @@ pub(crate) fn first_against(
         (λ at. IsAgainst claim (lines_in lines.now) endings.now at)) }
 {
     for (at, ending) in endings.iter().enumerate() {
-        let so = is_so_of(alloc, ending, claim, lines)?;
+        let parts = parts_of(alloc, ending, WHOLE)?;
+        let is_shown = shows_some(parts.as_slice(), lines);
+        drop(parts);
+        let so = so_by(claim, is_shown);
         if !so {
             return Ok(Some(at));
         }
     }
     Ok(None)
-}
-
-/// Whether the claim is so of an outcome.
-fn is_so_of(
-    alloc: Global,
-    ending: &Ending,
-    claim: Claim,
-    lines: &[Vec<String>],
-) -> Result<bool, AllocError>
-    ensures { IfOk result (λ so. IsTrue so ↔ IsSoOf claim (lines_in lines.now) ending.now) }
-{
-    let parts = parts_of(alloc, ending, WHOLE)?;
-    let is_shown = shows_some(parts.as_slice(), lines);
-    drop(parts);
-    let so = so_by(claim, is_shown);
-    Ok(so)
 }
 
 /// Whether a claim is so of an outcome, by whether that shows some of the lines.
@@ -91,22 +78,12 @@ fn shows(parts: &[String], line: &[String]) -> bool
 {
     let mut wanted = line;
     for part in parts {
-        wanted = without_first(wanted, part.as_str());
+        let [first, rest @ ..] = wanted else {
+            return true;
+        };
+        if is_same_text(first.as_str(), part.as_str()) {
+            wanted = rest;
+        }
     }
     wanted.is_empty()
-}
-
-/// The parts that are still wanted after this part of an outcome.
-fn without_first<'a>(wanted: &'a [String], part: &str) -> &'a [String]
-    ensures { (after : List (List ℕ)) → AreAmong (texts_of wanted.now) (part.now ∷ after)
-        ↔ AreAmong (texts_of result.now) after }
-{
-    let [first, rest @ ..] = wanted else {
-        return wanted;
-    };
-    if is_same_text(first.as_str(), part) {
-        rest
-    } else {
-        wanted
-    }
 }

@@ -9,7 +9,7 @@ use crate::wanted::split_parts;
 use std::alloc::{AllocError, Global};
 use std::io::{Read, Write};
 use uring_entry::Setup;
-use uring_play_text::{Item, PlayFault, read_calls};
+use uring_play_text::{PlayFault, read_calls};
 use uring_power::{Crash, CrashFault, FoundCrashes, crashes_within};
 
 /// The most images that may be left of one file at one moment.
@@ -103,8 +103,12 @@ fn crash_lines<R: Read>(
     most: u64,
 ) -> Result<Option<(Vec<String>, bool)>, PlayFault> {
     let items = read_calls(alloc, reader, setup)?;
-    let found = crashes_of(alloc, items.as_slice(), setup, unit, most);
+    let calls = entries_in(alloc, items.as_slice());
     drop(items);
+    let calls = calls?;
+    let unit = u64::from(unit).max(1);
+    let found = crashes_within(alloc, setup, unit, calls.as_slice(), most, MOST_IMAGES);
+    drop(calls);
     match found {
         Ok(FoundCrashes { crashes, is_all }) => {
             let each = each_line(alloc, crashes.as_slice());
@@ -118,60 +122,29 @@ fn crash_lines<R: Read>(
     }
 }
 
-/// What a power failure may show of calls of these items.
-fn crashes_of(
-    alloc: Global,
-    items: &[Vec<Item>],
-    setup: &Setup,
-    unit: u32,
-    most: u64,
-) -> Result<FoundCrashes, CrashFault> {
-    let calls = entries_in(alloc, items)?;
-    let unit = u64::from(unit).max(1);
-    let found = crashes_within(alloc, setup, unit, calls.as_slice(), most, MOST_IMAGES);
-    drop(calls);
-    found
-}
-
-/// The line of each.
+/// The line of what each power failure shows.
 fn each_line(alloc: Global, crashes: &[Crash]) -> Result<Vec<String>, AllocError> {
     let mut lines = Vec::new(alloc);
     for crash in crashes {
-        lines.push(line_of_crash(alloc, crash)?)?;
+        let parts = parts_of_crash(alloc, crash)?;
+        let line = join(alloc, parts.as_slice());
+        drop(parts);
+        lines.push(line?)?;
     }
     Ok(lines)
 }
 
-/// The line of what a power failure shows: the completions, and what is left of each file.
-fn line_of_crash(alloc: Global, crash: &Crash) -> Result<String, AllocError> {
-    let parts = parts_of_crash(alloc, crash)?;
-    let line = join(alloc, parts.as_slice());
-    drop(parts);
-    line
-}
-
-/// The parts of what a power failure shows, in order.
+/// The parts of what a power failure shows, in order: the completions, and what is left of each file.
 fn parts_of_crash(alloc: Global, crash: &Crash) -> Result<Vec<String>, AllocError> {
     let mut parts = Vec::new(alloc);
     add_completions(alloc, &mut parts, crash.posted())?;
     for (fd, bytes) in crash.left().iter().enumerate() {
-        add_left(alloc, &mut parts, fd, bytes.as_slice())?;
+        let len = bytes.len();
+        let mut text = format!(in alloc; "file {fd} len {len} data ")?;
+        push_hex(alloc, &mut text, bytes.as_slice())?;
+        parts.push(text)?;
     }
     Ok(parts)
-}
-
-/// Adds the text of what is left of a file.
-fn add_left(
-    alloc: Global,
-    parts: &mut Vec<String>,
-    fd: usize,
-    bytes: &[u8],
-) -> Result<(), AllocError> {
-    let len = bytes.len();
-    let mut text = format!(in alloc; "file {fd} len {len} data ")?;
-    push_hex(alloc, &mut text, bytes)?;
-    parts.push(text)?;
-    Ok(())
 }
 
 /// The first of these lines of which the claim isn't so, if there is one.
@@ -182,22 +155,12 @@ fn first_against(
     lines: &[Vec<String>],
 ) -> Result<Option<String>, AllocError> {
     for line in shown {
-        if !is_so_of(alloc, line.as_str(), claim, lines)? {
+        let parts = split_parts(alloc, line.as_str())?;
+        let is_shown = shows_some(parts.as_slice(), lines);
+        drop(parts);
+        if !so_by(claim, is_shown) {
             return Ok(Some(String::from_str(alloc, line.as_str())?));
         }
     }
     Ok(None)
-}
-
-/// Whether the claim is so of this line.
-fn is_so_of(
-    alloc: Global,
-    line: &str,
-    claim: Claim,
-    lines: &[Vec<String>],
-) -> Result<bool, AllocError> {
-    let parts = split_parts(alloc, line)?;
-    let is_shown = shows_some(parts.as_slice(), lines);
-    drop(parts);
-    Ok(so_by(claim, is_shown))
 }

@@ -1,13 +1,10 @@
 //! Claims that are judged, and outcomes that are chosen.
 
-ghost use Rattle.std.specs.Prelude.{◌≡◌, ◌<◌, List, Some, IfOk, MatchOption, Contains, length, slice_get};
-ghost use Rattle.uring_entry.specs.Setup.{Setup};
-ghost use Rattle.uring_entry.specs.Layout.{Sqe};
+ghost use Rattle.std.specs.Prelude.{◌≡◌, ◌<◌, Some, IfOk, length, slice_get};
 ghost use Rattle.uring_litmus.specs.Parts.{texts_of};
 ghost use Rattle.uring_litmus.specs.Lines.{IsSortedOnce};
-ghost use Rattle.uring_litmus.specs.Listings.{AreFound};
-ghost use Rattle.uring_litmus.specs.Claims.{lines_in, so_of, IsVerdict, Judges};
-ghost use Rattle.uring_litmus.specs.Choices.{Chooses, IsChosen, IsPlaceAmong, IsPlaceBy, IsPlaceOf};
+ghost use Rattle.uring_litmus.specs.Claims.{lines_in, Judges};
+ghost use Rattle.uring_litmus.specs.Choices.{Chooses, IsPlaceBy, IsPlaceOf};
 
 use crate::claims::{Claim, first_against};
 use crate::form::Form;
@@ -57,20 +54,6 @@ pub fn judge<R: Read>(
         (λ judged. Judges setup.now claim (lines_in lines.now) judged (R.remaining reader.old) (R.remaining reader.new)) }
 {
     let found = endings_in(alloc, reader, setup, most)?;
-    verdict_in(alloc, found, claim, lines)
-}
-
-/// The verdict on a claim of what was found.
-fn verdict_in(
-    alloc: Global,
-    found: Found,
-    claim: Claim,
-    lines: &[Vec<String>],
-) -> Result<Judged, PlayFault>
-    ensures { IfOk result
-        (λ judged. (g : Setup) (calls : List (List Sqe)) → AreFound g calls found.endings.items found.is_all
-        → IsVerdict g calls claim (lines_in lines.now) judged) }
-{
     let Found { endings, is_all } = found;
     let against = first_against(alloc, endings.as_slice(), claim, lines);
     let count = endings.len();
@@ -80,23 +63,16 @@ fn verdict_in(
         }),
         Ok(None) => {
             drop(endings);
-            Ok(standing(count, is_all))
+            if is_all {
+                Ok(Judged::Holds { count })
+            } else {
+                Ok(Judged::Unknown { count })
+            }
         }
         Err(_) => {
             drop(endings);
             Err(PlayFault::Memory)
         }
-    }
-}
-
-/// The verdict on a claim that is so of so many outcomes, which are all or not.
-fn standing(count: usize, is_all: bool) -> Judged
-    ensures { result ≡ so_of count is_all }
-{
-    if is_all {
-        Judged::Holds { count }
-    } else {
-        Judged::Unknown { count }
     }
 }
 
@@ -126,14 +102,6 @@ pub fn choose<R: Read>(
         (λ chosen. Chooses form setup.now number chosen (R.remaining reader.old) (R.remaining reader.new)) }
 {
     let found = endings_in(alloc, reader, setup, most)?;
-    choice_in(alloc, found, form, number)
-}
-
-/// What this number chooses of what was found.
-fn choice_in(alloc: Global, found: Found, form: Form, number: u32) -> Result<Chosen, PlayFault>
-    ensures { IfOk result
-        (λ chosen. IsChosen form found.endings.items found.is_all number chosen) }
-{
     let Found { endings, is_all } = found;
     let place = place_of(alloc, endings.as_slice(), form, number);
     match place {
@@ -162,22 +130,10 @@ fn place_of(
     ensures { IfOk result (λ found. IsPlaceOf form endings.now number found) }
 {
     let each = each_line(alloc, endings, form)?;
-    let found = place_among(alloc, each.as_slice(), number);
-    drop(each);
-    found
-}
-
-/// The place of the line of this number, of these lines sorted and each once, among these lines, or how many there are, each once.
-fn place_among(
-    alloc: Global,
-    each: &[String],
-    number: u32,
-) -> Result<Result<usize, usize>, AllocError>
-    ensures { IfOk result (λ found. IsPlaceAmong (texts_of each.now) number found) }
-{
-    let lines = sorted_of(alloc, each)?;
-    let found = place_by(each, lines.as_slice(), number);
+    let lines = sorted_of(alloc, each.as_slice())?;
+    let found = place_by(each.as_slice(), lines.as_slice(), number);
     drop(lines);
+    drop(each);
     Ok(found)
 }
 
@@ -194,18 +150,11 @@ fn place_by(each: &[String], lines: &[String], number: u32) -> Result<usize, usi
     if at >= count {
         return Err(count);
     }
-    first_of(each, lines[at].as_str()).ok_or(count)
-}
-
-/// The first place of this line among these.
-fn first_of(each: &[String], line: &str) -> Option<usize>
-    ensures { MatchOption result (Contains (texts_of each.now) line.now → ⊥)
-        (λ at. slice_get (texts_of each.now) at ≡ Some line.now) }
-{
-    for (at, text) in each.iter().enumerate() {
+    let line = lines[at].as_str();
+    for (place, text) in each.iter().enumerate() {
         if is_same_text(text.as_str(), line) {
-            return Some(at);
+            return Ok(place);
         }
     }
-    None
+    Err(count)
 }

@@ -1,6 +1,6 @@
 //! The lines of outcomes, sorted, each once.
 
-ghost use Rattle.std.specs.Prelude.{◌≡◌, ◌↔◌, ◌++◌, ◌∷◌, [], List, ℕ, IsTrue, IfOk, OnOk, flat_map, codes, string_bytes};
+ghost use Rattle.std.specs.Prelude.{◌≡◌, ◌↔◌, ◌++◌, ◌∷◌, [], IsTrue, IfOk, OnOk, flat_map, codes, string_bytes};
 ghost use Rattle.uring_litmus.specs.Parts.{texts_of};
 ghost use Rattle.uring_litmus.specs.Lines.{joined, parted, AreLinesOf, IsLineOf, IsSortedOnce};
 
@@ -19,7 +19,8 @@ pub(crate) fn each_line(
 {
     let mut lines = Vec::new(alloc);
     for ending in endings {
-        push_line(alloc, &mut lines, ending, form)?;
+        let line = line_of(alloc, ending, form)?;
+        lines.push(line)?;
     }
     Ok(lines)
 }
@@ -29,20 +30,11 @@ pub(crate) fn sorted_of(alloc: Global, each: &[String]) -> Result<Vec<String>, A
     ensures { IfOk result (λ lines. IsSortedOnce (texts_of each.now) (texts_of lines.items)) }
 {
     let mut lines = Vec::new(alloc);
-    push_copies(alloc, &mut lines, each)?;
+    for text in each {
+        push_copy(alloc, &mut lines, text.as_str())?;
+    }
     sort_once(&mut lines);
     Ok(lines)
-}
-
-/// Adds a copy of each of these texts.
-fn push_copies(alloc: Global, copies: &mut Vec<String>, texts: &[String]) -> Result<(), AllocError>
-    ensures { OnOk result
-        (texts_of copies.new.items ≡ texts_of copies.old.items ++ texts_of texts.now) }
-{
-    for text in texts {
-        push_copy(alloc, copies, text.as_str())?;
-    }
-    Ok(())
 }
 
 /// Adds a copy of a text.
@@ -72,22 +64,6 @@ pub(crate) fn sort_once(lines: &mut Vec<String>)
 {
     lines.sort_unstable();
     lines.dedup();
-}
-
-/// Adds the line of an outcome.
-fn push_line(
-    alloc: Global,
-    lines: &mut Vec<String>,
-    ending: &Ending,
-    form: Form,
-) -> Result<(), AllocError>
-    ensures { OnOk result
-        ((line : List ℕ) × (texts_of lines.new.items ≡ texts_of lines.old.items ++ line ∷ [])
-        × IsLineOf form ending.now line) }
-{
-    let line = line_of(alloc, ending, form)?;
-    lines.push(line)?;
-    Ok(())
 }
 
 /// The line of an outcome.

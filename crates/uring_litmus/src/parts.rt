@@ -1,18 +1,14 @@
 //! The parts of an outcome as text: its completions, and its files.
 
-ghost use Rattle.std.specs.Prelude.{◌≡◌, ◌++◌, ◌∷◌, [], ◌<◌, ◌≤◌, pos, IfOk, OnOk, MatchOption, Some, length, string_bytes, if◌then◌else◌};
-ghost use Rattle.uring_entry.specs.Layout.{Cqe};
+ghost use Rattle.std.specs.Prelude.{◌≡◌, ◌++◌, ◌<◌, pos, IfOk, OnOk, Some, length, string_bytes};
 ghost use Rattle.uring_files.specs.Contents.{FileContents};
-ghost use Rattle.std.specs.Option.{option_to_list};
-ghost use Rattle.uring_files.specs.Operations.{file_of, state_of, byte_of};
-ghost use Rattle.uring_text.specs.Completions.{completion_text};
+ghost use Rattle.uring_files.specs.Operations.{file_of, state_of};
 ghost use Rattle.uring_text.specs.Tokens.{hex_or_dash};
-ghost use Rattle.uring_litmus.specs.Parts.{texts_of, IsShown, IsOrderedBy, completion_parts, state_text, file_text, files_texts};
+ghost use Rattle.uring_litmus.specs.Parts.{texts_of, IsShown, completion_parts, state_text, files_texts};
 
 use crate::form::Form;
 use crate::lines::push_copy;
 use std::alloc::{AllocError, Global};
-use std::fmt::Write;
 use uring_entry::Setup;
 use uring_files::FileState;
 use uring_outcomes::{Cqe, Ending, Files};
@@ -30,22 +26,16 @@ pub(crate) fn parts_of(
 ) -> Result<Vec<String>, AllocError>
     ensures { IfOk result (λ parts. IsShown form ending.now (texts_of parts.items)) }
 {
-    let completions = ordered(alloc, ending.posted(), form.is_sorted)?;
-    let mut parts = Vec::new(alloc);
-    add_completions(alloc, &mut parts, completions.as_slice())?;
-    add_files_if(alloc, &mut parts, ending.files(), form.has_files)?;
-    Ok(parts)
-}
-
-/// The completions, sorted if that is asked for.
-fn ordered(alloc: Global, posted: &[Cqe], is_sorted: bool) -> Result<Vec<Cqe>, AllocError>
-    ensures { IfOk result (λ shown. IsOrderedBy is_sorted posted.now shown.items) }
-{
-    let mut completions = Vec::from_slice(alloc, posted)?;
-    if is_sorted {
+    let mut completions = Vec::from_slice(alloc, ending.posted())?;
+    if form.is_sorted {
         sort(completions.as_mut_slice());
     }
-    Ok(completions)
+    let mut parts = Vec::new(alloc);
+    add_completions(alloc, &mut parts, completions.as_slice())?;
+    if form.has_files {
+        add_files(alloc, &mut parts, ending.files())?;
+    }
+    Ok(parts)
 }
 
 /// Adds the text of each completion, or `none` if there is none.
@@ -61,38 +51,9 @@ pub(crate) fn add_completions(
         return push_copy(alloc, parts, "none");
     }
     for completion in completions {
-        add_completion(alloc, parts, completion)?;
-    }
-    Ok(())
-}
-
-/// Adds the text of a completion.
-fn add_completion(
-    alloc: Global,
-    parts: &mut Vec<String>,
-    completion: &Cqe,
-) -> Result<(), AllocError>
-    ensures { OnOk result
-        (texts_of parts.new.items ≡ texts_of parts.old.items ++ completion_text completion.now ∷ []) }
-{
-    let mut text = String::new(alloc);
-    push_completion(alloc, &mut text, completion)?;
-    parts.push(text)?;
-    Ok(())
-}
-
-/// Adds the text of each file, if that is asked for.
-fn add_files_if(
-    alloc: Global,
-    parts: &mut Vec<String>,
-    files: &Files,
-    has_files: bool,
-) -> Result<(), AllocError>
-    ensures { OnOk result
-        (texts_of parts.new.items ≡ texts_of parts.old.items ++ (if has_files then files_texts 0 files.now else [])) }
-{
-    if has_files {
-        add_files(alloc, parts, files)?;
+        let mut text = String::new(alloc);
+        push_completion(alloc, &mut text, completion)?;
+        parts.push(text)?;
     }
     Ok(())
 }
@@ -103,35 +64,16 @@ fn add_files(alloc: Global, parts: &mut Vec<String>, files: &Files) -> Result<()
         (texts_of parts.new.items ≡ texts_of parts.old.items ++ files_texts 0 files.now) }
 {
     for fd in 0..PAST_FILES {
-        match state_at(files, fd) {
-            None => return Ok(()),
-            Some(_) => add_file(alloc, parts, files, fd)?,
-        }
+        let Some(state) = state_at(files, fd) else {
+            return Ok(());
+        };
+        let bytes = bytes_of(alloc, files, fd, state.len)?;
+        let text = text_of_file(alloc, fd, &state, bytes.as_slice());
+        drop(bytes);
+        let text = text?;
+        parts.push(text)?;
     }
     Err(AllocError)
-}
-
-/// Adds the text of the file of this descriptor, if there is one.
-fn add_file(
-    alloc: Global,
-    parts: &mut Vec<String>,
-    files: &Files,
-    fd: u32,
-) -> Result<(), AllocError>
-    requires { fd < 65 }
-    ensures { OnOk result
-        (MatchOption (file_of files.now (pos fd)) (texts_of parts.new.items ≡ texts_of parts.old.items)
-        (λ file. texts_of parts.new.items ≡ texts_of parts.old.items ++ file_text fd file ∷ [])) }
-{
-    let Some(state) = state_at(files, fd) else {
-        return Ok(());
-    };
-    let bytes = bytes_of(alloc, files, fd, state.len)?;
-    let text = text_of_file(alloc, fd, &state, bytes.as_slice());
-    drop(bytes);
-    let text = text?;
-    parts.push(text)?;
-    Ok(())
 }
 
 /// How the file of this descriptor stands.
@@ -152,22 +94,10 @@ fn text_of_file(
     ensures { IfOk result
         (λ text. string_bytes text ≡ state_text fd state.now ++ hex_or_dash bytes.now) }
 {
-    let mut text = String::new(alloc);
-    push_state(&mut text, fd, state)?;
+    let (len, writes, synced) = (state.len, state.writes, state.synced);
+    let mut text = format!(in alloc; "file {fd} len {len} writes {writes} synced {synced} data ")?;
     push_hex(alloc, &mut text, bytes)?;
     Ok(text)
-}
-
-/// Appends which file it is and how it stands.
-fn push_state(text: &mut String, fd: u32, state: &FileState) -> Result<(), AllocError>
-    ensures { OnOk result
-        (string_bytes text.new ≡ string_bytes text.old ++ state_text fd state.now) }
-{
-    let (len, writes, synced) = (state.len, state.writes, state.synced);
-    write!(
-        text,
-        "file {fd} len {len} writes {writes} synced {synced} data "
-    )
 }
 
 /// The bytes of the file of this descriptor, which has so many.
@@ -178,21 +108,11 @@ fn bytes_of(alloc: Global, files: &Files, fd: u32, len: u32) -> Result<Vec<u8>, 
 {
     let mut bytes = Vec::new(alloc);
     for at in 0..len {
-        push_byte(&mut bytes, files, fd, at)?;
+        if let Some(byte) = files.byte(fd as i32, u64::from(at)) {
+            bytes.push(byte)?;
+        }
     }
     Ok(bytes)
-}
-
-/// Appends the byte of a file at this offset, if there is one.
-fn push_byte(bytes: &mut Vec<u8>, files: &Files, fd: u32, at: u32) -> Result<(), AllocError>
-    requires { fd < 65 }
-    ensures { OnOk result
-        (bytes.new.items ≡ bytes.old.items ++ option_to_list (byte_of files.now (pos fd) at)) }
-{
-    if let Some(byte) = files.byte(fd as i32, u64::from(at)) {
-        bytes.push(byte)?;
-    }
-    Ok(())
 }
 
 /// Appends bytes as two lower case hexadecimal digits each, or `-` for none.

@@ -51,35 +51,33 @@ fn is_part(alloc: Global, part: &str) -> Result<bool, AllocError> {
 /// Whether these tokens are such words and values, each in its place.
 fn fit(tokens: &[&[u8]], wanted: &[&str]) -> bool {
     for at in 0..tokens.len() {
-        if at >= wanted.len() || !fits(tokens[at], wanted[at]) {
+        if at >= wanted.len() {
+            return false;
+        }
+        let token = tokens[at];
+        let fits = match wanted[at] {
+            "<u32>" => spelled_number(token).is_some(),
+            "<u64>" => spelled_long(token).is_some(),
+            "<i32>" => spelled_signed(token).is_some(),
+            "<data>" => is_data(token),
+            word => token == word.as_bytes(),
+        };
+        if !fits {
             return false;
         }
     }
     true
 }
 
-/// Whether a token is this word, or a value of this kind.
-fn fits(token: &[u8], wanted: &str) -> bool {
-    match wanted {
-        "<u32>" => spelled_number(token).is_some(),
-        "<u64>" => spelled_long(token).is_some(),
-        "<i32>" => spelled_signed(token).is_some(),
-        "<data>" => is_data(token),
-        _ => token == wanted.as_bytes(),
-    }
-}
-
 /// Whether this is `-`, or two lower case hexadecimal digits for each byte of some.
 fn is_data(token: &[u8]) -> bool {
-    token == b"-".as_slice() || !token.is_empty() && token.len() % 2 == 0 && are_digits(token)
-}
-
-/// Whether these are lower case hexadecimal digits.
-fn are_digits(token: &[u8]) -> bool {
+    if token == b"-".as_slice() {
+        return true;
+    }
     for byte in token {
         if !matches!(byte, b'0'..=b'9' | b'a'..=b'f') {
             return false;
         }
     }
-    true
+    !token.is_empty() && token.len() % 2 == 0
 }

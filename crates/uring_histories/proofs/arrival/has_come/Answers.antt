@@ -8,4 +8,4 @@ returns c = λ h fits none so.
     let counts = c.counts-counts.ensures h fits in
     let all : length w.completions.posted ≡ length c.args.posted.now = omega (arith, counts.posted) in
     let over : outstanding_in w.requests ≡ 0 = omega (arith, counts.outstanding) in
-    (over, same_by_places w.completions.posted c.args.posted.now (length c.args.posted.now) (omega arith) (omega arith) (c.has_posted.ensures h fits none so))
+    (over, same_by_places w.completions.posted c.args.posted.now c.loop-place.place (omega arith) (omega arith) (c.loop-place.invariant h fits none))

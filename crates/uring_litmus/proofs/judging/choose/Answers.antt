@@ -1,9 +1,14 @@
-use Rattle.std.proofs.lemmas.Result.{IfOk-weaker}
-use Rattle.uring_litmus.proofs.Verdicts.{chooses}
+use Rattle.uring_litmus.proofs.Verdicts.{place_low, chooses, misses}
 use Rattle.uring_litmus.proofs.judging.choose.Goals as goal
 
-pub returns : goal.returns
-returns g c =
-    IfOk-weaker c.choice_in.result _ _
-    (λ said choice. chooses c.args.form c.args.setup.now c.args.number c.in_ok-found.found.endings.items c.in_ok-found.found.is_all said _ _ c.in_ok-found.ensures choice)
-    c.choice_in.ensures
+pub taken-requires : goal.taken-requires
+taken-requires g c =
+    place_low c.args.form c.in_ok-found.found.endings.items c.args.number c.in-Ok-Ok.field-0 c.in-Ok-Ok.at (rw c.in-Ok-Ok.is at c.in-Ok-Ok.field-0-is) (rw (c.as_slice.ensures.value, c.in-Ok-Ok.is) at c.place_of-place.ensures)
+
+pub returns-in-Ok-Ok : goal.returns-in-Ok-Ok
+returns-in-Ok-Ok g c =
+    chooses c.args.form c.args.setup.now c.args.number c.in_ok-found.found.endings.items c.in_ok-found.found.is_all c.in-Ok-Ok.field-0 c.in-Ok-Ok.at c.taken.result _ _ c.in_ok-found.ensures (rw c.in-Ok-Ok.is at c.in-Ok-Ok.field-0-is) (rw (c.as_slice.ensures.value, c.in-Ok-Ok.is) at c.place_of-place.ensures) c.taken.ensures
+
+pub returns-in-Ok-Err : goal.returns-in-Ok-Err
+returns-in-Ok-Err g c =
+    misses c.args.form c.args.setup.now c.args.number c.in_ok-found.found.endings.items c.in_ok-found.found.is_all c.in-Ok-Err.field-0 c.in-Ok-Err.count _ _ c.in_ok-found.ensures (rw c.in-Ok-Err.is at c.in-Ok-Err.field-0-is) (rw (c.as_slice.ensures.value, c.in-Ok-Err.is) at c.place_of-place.ensures)

@@ -1,7 +1,8 @@
-use Rattle.std.proofs.Common.{◌<◌, ◌-◌, inl, inr, rules, arith}
+use Rattle.std.proofs.Common.{◌≡◌, ◌-◌, true, false, Some, ap, sym, ◌∙◌, inl, inr, rules, arith}
 use Rattle.uring_litmus.proofs.Common.{length-map, string_bytes, texts_of}
 use Rattle.uring_litmus.proofs.OrderCounts.{text_at}
-use Rattle.uring_litmus.proofs.Verdicts.{found_by}
+use Rattle.uring_litmus.proofs.Places.{at_place}
+use Rattle.uring_litmus.proofs.Verdicts.{not_before, not_yet, not_at_all}
 use Rattle.uring_litmus.proofs.judging.place_by.Goals as goal
 
 pub returns-then-number-eq0 : goal.returns-then-number-eq0
@@ -16,8 +17,24 @@ returns-then-at-count c = record {
   past = inr (omega arith);
 }
 
+pub loop-place-init : goal.loop-place-init
+loop-place-init c = not_yet _
+
+pub returns-then-is_same_text : goal.returns-then-is_same_text
+returns-then-is_same_text c = (
+  string_bytes c.index-lines-at.result,
+  omega arith,
+  text_at c.args.lines.now (c.args.number - 1) c.index-lines-at.result (search rules) c.index-lines-at.is,
+  text_at c.args.each.now c.loop-place.place c.index-each-place.result (search rules) c.index-each-place.is ∙ ap Some ((rw (c.as_str.ensures.value, c.as_str-line.ensures.value) at c.is_same_text.ensures).0 c.if-is_same_text.true),
+)
+
+pub loop-place-preserved : goal.loop-place-preserved
+loop-place-preserved c =
+    not_before c.args.each.now c.loop-place.place c.index-each-place.result _ (search rules) c.index-each-place.is c.loop-place.invariant
+    (λ same. let no : false ≡ true = sym c.if-is_same_text.false ∙ (rw c.as_str.ensures.value at c.is_same_text.ensures).1 same in cc)
+
 pub returns : goal.returns
 returns c =
-    let some : 0 < c.args.number = omega arith in
-    found_by (texts_of c.args.each.now) (texts_of c.args.lines.now) c.args.number _ (string_bytes c.index-lines-at.result) c.first_of.result c.ok_or.result c.requires some
-    (text_at c.args.lines.now (c.args.number - 1) c.index-lines-at.result (search rules) c.index-lines-at.is) (rw c.as_str.ensures.value at c.first_of.ensures) c.ok_or.ensures.value
+    let lines = texts_of c.args.lines.now in
+    let at = text_at c.args.lines.now (c.args.number - 1) c.index-lines-at.result (search rules) c.index-lines-at.is in
+    absurd (not_at_all c.args.each.now c.loop-place.place _ (omega arith) (rw c.as_str-line.ensures.value at c.loop-place.invariant) (c.requires.right _ (at_place lines (c.args.number - 1) _ at)))

@@ -1,8 +1,13 @@
-use Rattle.std.proofs.Common.{◌++◌, ap, subst, ◌∙◌}
-use Rattle.uring_litmus.proofs.Common.{IsSortedOnce, texts_of}
+use Rattle.std.proofs.Common.{[], ap, subst, ◌∙◌, rules, arith}
+use Rattle.uring_litmus.proofs.Common.{IsSortedOnce, string_bytes, take_all, texts_of}
+use Rattle.uring_litmus.proofs.Texts.{map_more}
 use Rattle.uring_litmus.proofs.lines.sorted_of.Goals as goal
+
+pub loop-text-preserved : goal.loop-text-preserved
+loop-text-preserved c =
+    map_more string_bytes c.args.each.now c.loop-text.text-index c.text-item.result [] _ _ (search rules) c.text-item.is c.loop-text.invariant (rw c.as_str.ensures.value at c.in_ok-push_copy.ensures)
 
 pub returns : goal.returns
 returns c =
     subst (λ l. IsSortedOnce l (texts_of c.sort_once.new.lines.items))
-    (c.in_ok-push_copies.ensures ∙ ap (λ l. l ++ texts_of c.args.each.now) (ap texts_of c.new-lines.ensures.items)) c.sort_once.ensures
+    (c.loop-text.invariant ∙ ap texts_of (take_all c.loop-text.text-index c.args.each.now (omega arith))) c.sort_once.ensures

@@ -1,4 +1,4 @@
-use Rattle.std.proofs.Common.{◌<◌, ◌≤◌, length, arith, ◌∙◌}
+use Rattle.std.proofs.Common.{◌<◌, ◌≤◌, length, rules, arith, ◌∙◌}
 use Rattle.std.proofs.lemmas.List.{take_all}
 use Rattle.uring_litmus.proofs.FileTexts.{byte_more}
 use Rattle.uring_litmus.proofs.parts.bytes_of.Goals as goal
@@ -6,7 +6,7 @@ use Rattle.uring_litmus.proofs.parts.bytes_of.Goals as goal
 pub loop-at-preserved : goal.loop-at-preserved
 loop-at-preserved c = λ file is len.
     let low : c.loop-at.at < length file.bytes = omega arith in
-    byte_more c.args.files.now c.args.fd file c.loop-at.at _ _ is low (c.loop-at.invariant file is len) c.in_ok-push_byte.ensures
+    byte_more c.args.files.now c.args.fd file c.loop-at.at _ _ is low (c.loop-at.invariant file is len) (search rules)
 
 pub returns : goal.returns
 returns c = λ file is len.

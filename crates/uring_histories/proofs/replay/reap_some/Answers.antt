@@ -1,8 +1,0 @@
-use Rattle.uring_histories.proofs.replay.reap_some.Goals as goal
-
-pub returns : goal.returns
-returns c = λ g calls posted done.
-    let flushed = c.in_ok-show.ensures g calls posted done in
-    let loaded = c.in_ok-show-2.ensures g calls posted flushed in
-    let reaped = c.in_ok-reap_each.ensures g calls posted loaded in
-    c.show-3.ensures g calls posted reaped

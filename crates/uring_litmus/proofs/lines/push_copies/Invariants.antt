@@ -1,6 +1,0 @@
-use Rattle.std.proofs.Common.{◌≡◌, ◌++◌, take}
-use Rattle.uring_litmus.specs.Parts.{texts_of}
-use Rattle.uring_litmus.proofs.lines.push_copies.Given as goal
-
-abbrev pub invariant-loop-text : goal.invariant-loop-text
-invariant-loop-text l = texts_of l.copies.items ≡ texts_of l.fn.copies.items ++ texts_of (take l.text-index l.texts)
