@@ -71,28 +71,19 @@ pub(crate) fn find(
         → (unit : ℕ) (setup : Setup) (fd : ℤ) (h : History) → Watches unit setup fd watch.now h
         → IsPlain (log_of unit setup fd h).volume.history off bytes.now → ⊥) }
 {
-    if is_plain(watch, off, bytes)? {
-        return Ok(Found::Nowhere);
-    }
-    match try_choices(alloc, watch, unit, off, bytes)? {
-        Some(image) => Ok(Found::Without(image)),
-        None => find_listed(alloc, watch, off, bytes, most),
-    }
-}
-
-/// Whether it is plain that each image has these bytes.
-fn is_plain(watch: &Watch, off: u64, bytes: &[u8]) -> Result<bool, AllocError>
-    ensures yes { IfOk result (λ plain. plain ≡ true → (unit : ℕ) (setup : Setup) (fd : ℤ) (h : History)
-        → Watches unit setup fd watch.now h
-        → IsFound off bytes.now 0 unit (log_of unit setup fd h).volume.history Found.Nowhere) }
-    ensures no { IfOk result (λ plain. plain ≡ false → off + length bytes.now < 2 ^ 64
-        → (unit : ℕ) (setup : Setup) (fd : ℤ) (h : History) → Watches unit setup fd watch.now h
-        → IsPlain (log_of unit setup fd h).volume.history off bytes.now → ⊥) }
-{
     let log = watch.log();
     log.volume().is_sound();
-    let events = log.events()?;
-    Ok(keeps(events, off, bytes))
+    if keeps(log.events()?, off, bytes) {
+        return Ok(Found::Nowhere);
+    }
+    if let Some(image) = try_choices(alloc, watch, unit, off, bytes)? {
+        return Ok(Found::Without(image));
+    }
+    match watch.images(alloc, most) {
+        Ok(images) => find_in(alloc, &images, off, bytes),
+        Err(ImagesError::TooMany) => Ok(Found::TooMany),
+        Err(ImagesError::OutOfMemory) => Err(AllocError),
+    }
 }
 
 /// What a choice leaves, if that hasn't these bytes.
@@ -156,25 +147,6 @@ fn try_choices(
         }
     }
     Ok(None)
-}
-
-/// An image without these bytes among all of them, if there are no more than `most`.
-fn find_listed(
-    alloc: Global,
-    watch: &Watch,
-    off: u64,
-    bytes: &[u8],
-    most: u32,
-) -> Result<Found, AllocError>
-    ensures { IfOk result (λ found. (unit : ℕ) (setup : Setup) (fd : ℤ) (h : History)
-        → Watches unit setup fd watch.now h
-        → IsFound off bytes.now most unit (log_of unit setup fd h).volume.history found) }
-{
-    match watch.images(alloc, most) {
-        Ok(images) => find_in(alloc, &images, off, bytes),
-        Err(ImagesError::TooMany) => Ok(Found::TooMany),
-        Err(ImagesError::OutOfMemory) => Err(AllocError),
-    }
 }
 
 /// The first of these images that hasn't these bytes.
