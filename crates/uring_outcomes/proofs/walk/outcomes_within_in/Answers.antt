@@ -8,16 +8,13 @@ take_all-requires g c =
     let same : c.files.result ≡ c.args.setup.now.files = c.files.ensures.value in
     λ names. c.in_ok-walk.ensures.goes c.args.setup.now (entries_of c.args.calls.now) names (sym same) (omega arith)
 
-pub returns-in-Ok-clause-all : goal.returns-in-Ok-clause-all
-returns-in-Ok-clause-all g c = λ all.
-    subst (AreAllEndings c.args.setup.now (entries_of c.args.calls.now)) (sym c.into_endings.ensures) (c.in-Ok.ensures.all all)
+pub returns-clause-all : goal.returns-clause-all
+returns-clause-all g c = λ all.
+    subst (AreAllEndings c.args.setup.now (entries_of c.args.calls.now)) (sym c.into_endings.ensures) (c.in_ok-is_all.ensures.all all)
 
-pub returns-in-Ok-clause-right : goal.returns-in-Ok-clause-right
-returns-in-Ok-clause-right g c =
-    subst (AreEndings c.args.setup.now (entries_of c.args.calls.now)) (sym c.into_endings.ensures) c.in-Ok.ensures.right
+pub returns-clause-right : goal.returns-clause-right
+returns-clause-right g c =
+    subst (AreEndings c.args.setup.now (entries_of c.args.calls.now)) (sym c.into_endings.ensures) c.in_ok-is_all.ensures.right
 
-pub returns-in-Ok-clause-once : goal.returns-in-Ok-clause-once
-returns-in-Ok-clause-once g c = subst AreOnce (sym c.into_endings.ensures) c.in-Ok.ensures.once
-
-pub returns-in-Err-clause-fault : goal.returns-in-Err-clause-fault
-returns-in-Err-clause-fault g c = c.in-Err.ensures.fault
+pub returns-clause-once : goal.returns-clause-once
+returns-clause-once g c = subst AreOnce (sym c.into_endings.ensures) c.in_ok-is_all.ensures.once

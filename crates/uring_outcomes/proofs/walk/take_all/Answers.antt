@@ -1,7 +1,7 @@
 use Rattle.std.proofs.Common.{subst, sym}
 use Rattle.uring_outcomes.proofs.Common.{AreNamed, among, entries_of}
 use Rattle.uring_outcomes.proofs.Walking.{both_ok, over}
-use Rattle.uring_outcomes.proofs.walk.take_named.Goals as goal
+use Rattle.uring_outcomes.proofs.walk.take_all.Goals as goal
 
 pub returns-clause-all : goal.returns-clause-all
 returns-clause-all g c =
