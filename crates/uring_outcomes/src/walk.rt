@@ -104,8 +104,11 @@ pub fn outcomes_within_in<M: MapMemory>(
     ensures once { IfOk result (λ found. AreOnce found.endings.items) }
     ensures fault { IfErr result (IsReason (M.grants memory.now) (entries_of calls.now)) }
 {
+    let mut names = Vec::new(alloc);
+    add_names(memory, calls, &mut names)?;
     let mut walk = Walk::new(memory, alloc, setup.files())?;
-    let is_all = take_all(memory, alloc, setup, calls, most, &mut walk)?;
+    let names = names.as_slice();
+    let is_all = take_turns(memory, alloc, setup, calls, names, most, &mut walk)?;
     Ok(Found {
         endings: walk.into_endings(),
         is_all,
@@ -161,27 +164,6 @@ impl Walk {
         drop(todo);
         drop(places);
         list
-    }
-
-    /// Takes a path: the one that it is on, or one of those that are still to be taken. Tells whether there was one.
-    fn turn<M: MapMemory>(
-        &mut self,
-        memory: &M,
-        alloc: Global,
-        setup: &Setup,
-        calls: &[Vec<Sqe>],
-        names: &[u64],
-    ) -> Result<bool, WalkFault>
-        requires { Goes setup.now (entries_of calls.now) names.now self.old }
-        ensures goes { OnOk result (Goes setup.now (entries_of calls.now) names.now self.new) }
-        ensures over { IfOk result (λ taken. taken ≡ false → waiting self.new ≡ []) }
-        ensures fault { IfErr result (IsReason (M.grants memory.now) (entries_of calls.now)) }
-    {
-        if !self.resume(memory, alloc, setup, calls)? {
-            return Ok(false);
-        }
-        self.go_on(memory, alloc, calls, names)?;
-        Ok(true)
     }
 
     /// Goes back to a path that is still to be taken, unless it is on one, and makes its moves on a new run; it is on the path if all can be made. Tells whether there was one.
@@ -242,29 +224,7 @@ impl Walk {
     }
 }
 
-/// Takes at most so many paths, and tells whether none is left.
-fn take_all<M: MapMemory>(
-    memory: &M,
-    alloc: Global,
-    setup: &Setup,
-    calls: &[Vec<Sqe>],
-    most: u64,
-    walk: &mut Walk,
-) -> Result<bool, WalkFault>
-    requires { (names : List ℕ) → Goes setup.now (entries_of calls.now) names walk.old }
-    ensures right { OnOk result
-        (AreEndings setup.now (entries_of calls.now) walk.new.found.list.items) }
-    ensures all { IfOk result
-        (λ is_all. is_all ≡ true → AreAllEndings setup.now (entries_of calls.now) walk.new.found.list.items) }
-    ensures once { OnOk result (AreOnce walk.new.found.list.items) }
-    ensures fault { IfErr result (IsReason (M.grants memory.now) (entries_of calls.now)) }
-{
-    let mut names = Vec::new(alloc);
-    add_names(memory, calls, &mut names)?;
-    take_turns(memory, alloc, setup, calls, names.as_slice(), most, walk)
-}
-
-/// Takes at most so many paths, and tells whether none is left.
+/// Takes at most so many paths, each the one that it is on or one of those that are still to be taken, and tells whether none is left.
 fn take_turns<M: MapMemory>(
     memory: &M,
     alloc: Global,
@@ -280,9 +240,10 @@ fn take_turns<M: MapMemory>(
     ensures fault { IfErr result (IsReason (M.grants memory.now) (entries_of calls.now)) }
 {
     'turns: for _ in 0..most {
-        if !walk.turn(memory, alloc, setup, calls, names)? {
+        if !walk.resume(memory, alloc, setup, calls)? {
             return Ok(true);
         }
+        walk.go_on(memory, alloc, calls, names)?;
     }
     Ok(!walk.is_on_path && walk.todo.is_empty())
 }
