@@ -1,6 +1,7 @@
 -- What a follower keeps, byte by byte and line by line.
 use Rattle.std.proofs.Common.{◌≡◌, ◌≢◌, ◌⊎◌, inl, inr, ℕ, ℤ, zero, suc, ◌+◌, ◌<◌, Bool, true, false, not, ◌||◌, List, [], ◌∷◌, ◌++◌, length, Some, None, refl, sym, ap, subst, ◌∙◌, append_assoc, arith}
-use Rattle.uring_crash.proofs.Common.{Exchange, Followed, Following, History, MakesStep, ReadsLine, Setup, TookLines, Watch, Watches, append-nil, events_of, history_of, is_bad, lines_of}
+use Rattle.uring_crash.proofs.Common.{Exchange, Followed, Following, History, ReadsLine, Setup, TookLines, Watch, Watches, append-nil, events_of, history_of, is_bad, lines_of}
+use Rattle.uring_core.specs.declared.answer.Answer.{Answer}
 use Rattle.uring_core.specs.declared.step.Step.{Step}
 use Rattle.uring_text.specs.Lines.{Splits}
 use Rattle.uring_text.specs.KeptLine.{KeptLine, kept_of}
@@ -113,10 +114,11 @@ first_begun most (suc left) bytes lines rest some t = record {
 
 -- What becomes of a line: a step, a remark, or a bad one.
 
-pub line_made : (old new : Watch) (was_bad bad : Bool) (line : List ℕ) (s : Step) → IsStep line s → bad ≡ was_bad
-    → MakesStep old new s → ReadsLine old new was_bad bad line
-line_made old new was_bad bad line s is same made =
-    record { event = Some (s, made.answer); read = is; now_bad = same; watches = made.watches }
+pub line_made : (old new : Watch) (bad : Bool) (line : List ℕ) (s : Step) (answer : Answer) → IsStep line s
+    → ((unit : ℕ) (setup : Setup) (fd : ℤ) (h : History) → Watches unit setup fd old h → Watches unit setup fd new ((s, answer) ∷ h))
+    → ReadsLine old new bad bad line
+line_made old new bad line s answer is made =
+    record { event = Some (s, answer); read = is; now_bad = refl; watches = made }
 
 pub line_remarked : (watch : Watch) (bad : Bool) (line : List ℕ) → IsBad line → is_remark line ≡ true
     → ReadsLine watch watch bad bad line
@@ -127,13 +129,13 @@ line_remarked watch bad line none is = record {
   watches = λ unit setup fd h w. w;
 }
 
-pub line_bad : (watch watch' : Watch) (was_bad bad : Bool) (line : List ℕ) → IsBad line → is_remark line ≡ false
-    → watch' ≡ watch → bad ≡ true → ReadsLine watch watch' was_bad bad line
-line_bad watch watch' was_bad bad line none is same now = record {
+pub line_bad : (watch : Watch) (was_bad : Bool) (line : List ℕ) → IsBad line → is_remark line ≡ false
+    → ReadsLine watch watch was_bad true line
+line_bad watch was_bad line none is = record {
   event = None;
   read = none;
-  now_bad = now ∙ ap (λ (r : Bool). not r || was_bad) (sym is);
-  watches = λ unit setup fd h w. subst (λ (v : Watch). Watches unit setup fd v h) (sym same) w;
+  now_bad = ap (λ (r : Bool). not r || was_bad) (sym is);
+  watches = λ unit setup fd h w. w;
 }
 
 -- nothing yet

@@ -1,10 +1,8 @@
 -- What was read to the end, and what is left after it.
-use Rattle.std.proofs.Common.{◌≡◌, ℕ, ℤ, Bool, true, false, List, [], ◌++◌, Option, Result, Ok, Err, sym, ap, subst, ◌∙◌}
-use Rattle.uring_crash.proofs.Common.{Appends, Consumes, Follows, HasFollowed, History, IsAtEnd, IsImage, Keeps, Leaves, OnOk, Setup, Watch, Watches, append-nil, events_of, history_of, image_text, log_of}
+use Rattle.std.proofs.Common.{◌≡◌, ℕ, ℤ, Bool, true, false, List, [], ◌++◌, Option, sym, ap, subst, ◌∙◌}
+use Rattle.uring_crash.proofs.Common.{Appends, Consumes, Follows, HasFollowed, History, IsAtEnd, IsImage, Keeps, Leaves, Setup, Watch, Watches, append-nil, events_of, history_of, image_text, log_of}
 use Rattle.std.proofs.KnownBytes.{Consumes-nil, Appends-nil, Consumes-trans, Consumes-kept}
 use Rattle.uring_core.specs.CalledFor.{IsLawful}
-use Rattle.uring_text.specs.declared.trace_fault.TraceFault.{TraceFault}
-use Rattle.uring_text.specs.Writing.{WritesText}
 use Rattle.uring_crash.specs.Runs.{ReadsAll}
 use Rattle.uring_crash.specs.declared.crash_run.Asked.{Asked}
 use Rattle.uring_crash.specs.declared.follower.Follower.{Follower}
@@ -42,17 +40,11 @@ far_end unit setup fd most a r r' s s' read end ends so = record {
   followed = subst (λ (l : List ℕ). HasFollowed unit setup fd most s' l) (sym (append-nil so.0)) (ends unit setup fd most so.0 so.2);
 }
 
--- the text of an image was written, and the words
-pub written_image : (result : Result (Unit {0}) TraceFault) (w : Watch) (image seen words none first text : List ℕ) (a a' : Known)
-    → seen ≡ image → none ≡ [] → first ≡ none ++ image_text seen → text ≡ first ++ words
-    → ((unit : ℕ) (setup : Setup) (fd : ℤ) (h : History) → Watches unit setup fd w h → IsImage unit [] (log_of unit setup fd h).volume.history image)
-    → (written : List ℕ) × Appends a a' written × WritesText result text written
-    → OnOk result
-    ((image : List ℕ) × (words : List ℕ) × Appends a a' (image_text image ++ words)
-    × ((unit : ℕ) (setup : Setup) (fd : ℤ) (h : History) → Watches unit setup fd w h → IsImage unit [] (log_of unit setup fd h).volume.history image))
-written_image (Ok done) w image seen words none first text a a' same start line whole is x =
-    (image, words, subst (λ (l : List ℕ). Appends a a' l) (x.2 ∙ whole ∙ ap (λ (l : List ℕ). l ++ words) (line ∙ ap (λ (l : List ℕ). none ++ image_text l) same ∙ ap (λ (l : List ℕ). l ++ image_text image) start)) x.1, is)
-written_image (Err e) w image seen words none first text a a' same start line whole is x = tt
+-- the text of an image, and the words
+pub image_told : (image seen words none first text : List ℕ) → seen ≡ image → none ≡ []
+    → first ≡ none ++ image_text seen → text ≡ first ++ words → text ≡ image_text image ++ words
+image_told image seen words none first text same start line whole =
+    whole ∙ ap (λ (l : List ℕ). l ++ words) (line ∙ ap (λ (l : List ℕ). none ++ image_text l) same ∙ ap (λ (l : List ℕ). l ++ image_text image) start)
 
 -- an image is left
 pub image_left : (asked : Asked) (setup : Setup) (bad : Bool) (s : Follower) (w : Watch) (image words : List ℕ) (a a' b b' : Known)

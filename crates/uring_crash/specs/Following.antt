@@ -1,10 +1,8 @@
 -- Glue. What a follower of a trace keeps of the lines that it took in.
-use Rattle.std.specs.Prelude.{◌≡◌, ℕ, ℤ, ◌+◌, ◌⊎◌, ◌||◌, Bool, List, [], ◌∷◌, ◌++◌, length, Option}
+use Rattle.std.specs.Prelude.{◌≡◌, ℕ, ℤ, ◌+◌, ◌⊎◌, ◌||◌, Bool, List, [], ◌++◌, length, Option}
 use Rattle.std.specs.List.{AllByRecursion, list_any}
 use Rattle.uring_entry.specs.Setup.{Setup}
 use Rattle.uring_core.specs.Histories.{Event, History, history_of}
-use Rattle.uring_core.specs.declared.answer.Answer.{Answer}
-use Rattle.uring_core.specs.declared.step.Step.{Step}
 use Rattle.uring_text.specs.Lines.{Splits}
 use Rattle.uring_text.specs.KeptLine.{KeptLine, kept_of}
 use Rattle.uring_trace.specs.Exchanges.{Exchange, IsReadAs, lines_of, events_of}
@@ -24,12 +22,6 @@ pub record TookLines (most left : ℕ) (bytes : List ℕ) (lines : List (List �
   pub count : length lines + left ≡ most
   pub over : left ≡ 0 → rest ≡ []
   pub enough : (passed ≡ []) ⊎ (left ≡ 0)
-
--- a step was made
-pub record MakesStep (old new : Watch) (s : Step) : Type 0 where
-  pub answer : Answer
-  pub watches : (unit : ℕ) (setup : Setup) (fd : ℤ) (h : History) → Watches unit setup fd old h
-      → Watches unit setup fd new ((s, answer) ∷ h)
 
 -- a line was read: the step that it is was made, or it is none
 pub record ReadsLine (old new : Watch) (was_bad bad : Bool) (line : List ℕ) : Type 0 where

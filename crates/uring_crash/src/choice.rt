@@ -42,9 +42,7 @@ pub(crate) fn least_choice(
             push_if(&mut part, write, is_safe(events, write))?;
         }
     }
-    let choice = repeated(alloc, events, unit, &mut part);
-    drop(part);
-    choice
+    repeated(alloc, events, unit, &mut part)
 }
 
 /// The choice that shows a write as far as it may be seen: in each part first the writes that it isn't before, then it, and then the safe ones that it is before, in the order in which they began.
@@ -72,9 +70,7 @@ pub(crate) fn showing_choice(
             push_if(&mut part, write, is_later && is_safe(events, write))?;
         }
     }
-    let choice = repeated(alloc, events, unit, &mut part);
-    drop(part);
-    choice
+    repeated(alloc, events, unit, &mut part)
 }
 
 /// Names a write after others, if it is wanted.
@@ -85,30 +81,23 @@ fn push_if(part: &mut Vec<u64>, write: &Piece, is_wanted: bool) -> Result<(), Al
     Ok(())
 }
 
-/// A choice by a seed: the same each time for the same seed. One number in four ends a part.
+/// A choice by a seed: the same each time for the same seed. One number in four is 0, which ends a part.
 pub(crate) fn seeded_choice(
     alloc: Global,
     log: &FileLog,
     unit: u64,
     seed: u64,
 ) -> Result<Vec<u64>, AllocError> {
+    let last = log.count();
     let mut seed = seed;
     let mut choice = Vec::new(alloc);
     for _ in 0..count_parts(log.events()?, unit).saturating_mul(4) {
         seed = seed.wrapping_add(0x9e37_79b9_7f4a_7c15);
-        choice.push(number_by(seed, log.count()))?;
+        let mut bits = (seed ^ (seed >> 30)).wrapping_mul(0xbf58_476d_1ce4_e5b9);
+        bits = (bits ^ (bits >> 27)).wrapping_mul(0x94d0_49bb_1331_11eb);
+        bits ^= bits >> 31;
+        let is_end = bits % 4 == 0 || last == 0;
+        choice.push(if is_end { 0 } else { bits / 4 % last + 1 })?;
     }
     Ok(choice)
-}
-
-/// A number up to `last` by a seed: 0 for one seed in four.
-fn number_by(seed: u64, last: u64) -> u64 {
-    let mut bits = (seed ^ (seed >> 30)).wrapping_mul(0xbf58_476d_1ce4_e5b9);
-    bits = (bits ^ (bits >> 27)).wrapping_mul(0x94d0_49bb_1331_11eb);
-    bits ^= bits >> 31;
-    if bits % 4 == 0 || last == 0 {
-        0
-    } else {
-        bits / 4 % last + 1
-    }
 }

@@ -1,21 +1,15 @@
 //! The run of a trace after which the power fails.
 
-ghost use Rattle.std.specs.Prelude.{◌≡◌, ◌<◌, ◌++◌, [], ℕ, ℤ, List, IfOk, OnOk};
-ghost use Rattle.std.specs.Io.KnownBytes.{Appends};
+ghost use Rattle.std.specs.Prelude.{◌≡◌, ◌<◌, [], ℕ, ℤ, IfOk, OnOk};
 ghost use Rattle.uring_entry.specs.Setup.{Setup};
-ghost use Rattle.uring_core.specs.Histories.{History};
-ghost use Rattle.uring_volume.specs.Images.{IsImage};
-ghost use Rattle.uring_epochs.specs.Logs.{log_of};
-ghost use Rattle.uring_crash.specs.Watches.{Watches};
 ghost use Rattle.uring_crash.specs.Following.{Follows};
-ghost use Rattle.uring_crash.specs.Crashes.{Leaves, image_text};
+ghost use Rattle.uring_crash.specs.Crashes.{Leaves};
 ghost use Rattle.uring_crash.specs.Runs.{ReadsAll};
 
 use crate::choice::{least_choice, seeded_choice};
 use crate::follower::Follower;
 use crate::image_text::{push_image, told_writes};
-use crate::watch::Watch;
-use std::alloc::{AllocError, Global};
+use std::alloc::Global;
 use std::io::{Read, Write};
 use uring_machine::Setup;
 use uring_text::{Calls, TraceFault, push_text, read_once, write_all};
@@ -81,7 +75,17 @@ fn leave_all<R: Read, W: Write, E: Write>(
     if has_bad {
         return Ok(true);
     }
-    write_image(alloc, follower.watch(), writer, asked)?;
+    let watch = follower.watch();
+    let choice = match asked.seed {
+        Some(seed) => seeded_choice(alloc, watch.log(), asked.unit, seed)?,
+        None => least_choice(alloc, watch.log().events()?, asked.unit)?,
+    };
+    let image = watch.crash(&choice)?;
+    let words = told_writes(alloc, watch.log(), &image)?;
+    let mut text = String::new(alloc);
+    push_image(alloc, &mut text, &image)?;
+    push_text(&alloc, &mut text, words.as_str())?;
+    write_all(writer, text.as_bytes(), &mut Calls::new())?;
     Ok(false)
 }
 
@@ -119,38 +123,4 @@ fn read_all<R: Read>(follower: &mut Follower, reader: &mut R) -> Result<(), Trac
         }
     }
     Err(TraceFault::Read)
-}
-
-/// Writes what a crash leaves of the file, and what it shows of each write.
-fn write_image<W: Write>(
-    alloc: Global,
-    watch: &Watch,
-    writer: &mut W,
-    asked: &Asked,
-) -> Result<(), TraceFault>
-    ensures { OnOk result
-        ((image : List ℕ) × (words : List ℕ)
-        × Appends (W.contents writer.old) (W.contents writer.new) (image_text image ++ words)
-        × ((unit : ℕ) (setup : Setup) (fd : ℤ) (h : History) → Watches unit setup fd watch.now h
-        → IsImage unit [] (log_of unit setup fd h).volume.history image)) }
-{
-    let image = left_image(alloc, watch, asked)?;
-    let words = told_writes(alloc, watch.log(), &image)?;
-    let mut text = String::new(alloc);
-    push_image(alloc, &mut text, &image)?;
-    push_text(&alloc, &mut text, words.as_str())?;
-    write_all(writer, text.as_bytes(), &mut Calls::new())
-}
-
-/// The bytes that a crash leaves of the file, as they are asked for.
-fn left_image(alloc: Global, watch: &Watch, asked: &Asked) -> Result<Vec<u8>, AllocError>
-    ensures { IfOk result (λ now. (unit : ℕ) (setup : Setup) (fd : ℤ) (h : History)
-        → Watches unit setup fd watch.now h
-        → IsImage unit [] (log_of unit setup fd h).volume.history now.items) }
-{
-    let choice = match asked.seed {
-        Some(seed) => seeded_choice(alloc, watch.log(), asked.unit, seed)?,
-        None => least_choice(alloc, watch.log().events()?, asked.unit)?,
-    };
-    watch.crash(&choice)
 }

@@ -1,10 +1,10 @@
 //! Follows the lines of a trace, and watches a file.
 
-ghost use Rattle.std.specs.Prelude.{◌≡◌, ◌≢◌, ◌+◌, ◌<◌, ◌++◌, ◌∷◌, [], ℕ, ℤ, List, true, false, IfOk, OnOk, MatchOption};
+ghost use Rattle.std.specs.Prelude.{◌≡◌, ◌<◌, ◌++◌, ◌∷◌, [], ℕ, ℤ, List, true, false, IfOk, OnOk, MatchOption};
 ghost use Rattle.uring_entry.specs.Setup.{Setup};
 ghost use Rattle.uring_text.specs.KeptLine.{kept_of};
 ghost use Rattle.uring_trace.specs.Spelling.{IsStep, IsBad};
-ghost use Rattle.uring_crash.specs.Following.{ReadsLine, MakesStep, Follows, HasFollowed};
+ghost use Rattle.uring_crash.specs.Following.{ReadsLine, Follows, HasFollowed};
 
 use crate::watch::Watch;
 use std::alloc::{AllocError, Global};
@@ -97,62 +97,20 @@ impl Follower {
         self.read_line()
     }
 
-    /// Takes in one byte. After the last of the lines it is passed over.
+    /// Takes in one byte, and reads the line that it ends, if it ends one. After the last of the lines it is passed over.
     fn take(&mut self, byte: u8) -> Result<(), AllocError>
         ensures { OnOk result
             ((unit : ℕ) (setup : Setup) (fd : ℤ) (most : ℕ) (before : List ℕ)
             → Follows unit setup fd most self.old before
             → Follows unit setup fd most self.new (before ++ byte ∷ [])) }
     {
-        if self.is_over() {
+        if self.left == 0 {
             return Ok(());
         }
-        self.take_in(byte)
-    }
-
-    /// Whether no line may come any more.
-    fn is_over(&self) -> bool
-        ensures over { result ≡ true → self.now.left ≡ 0 }
-        ensures more { result ≡ false → 0 < self.now.left }
-    {
-        self.left == 0
-    }
-
-    /// Takes in one byte, and reads the line that it ends, if it ends one.
-    fn take_in(&mut self, byte: u8) -> Result<(), AllocError>
-        requires { 0 < self.old.left }
-        ensures { OnOk result
-            ((unit : ℕ) (setup : Setup) (fd : ℤ) (most : ℕ) (before : List ℕ)
-            → Follows unit setup fd most self.old before
-            → Follows unit setup fd most self.new (before ++ byte ∷ [])) }
-    {
-        if byte == b'\n' {
-            self.end_line()?;
-        } else {
-            self.keep(byte);
+        if byte != b'\n' {
+            self.line.push(byte);
+            return Ok(());
         }
-        Ok(())
-    }
-
-    /// Takes in one byte of a line, which isn't its end.
-    fn keep(&mut self, byte: u8)
-        requires inside { byte ≢ 10 }
-        requires more { 0 < self.old.left }
-        ensures { (unit : ℕ) (setup : Setup) (fd : ℤ) (most : ℕ) (before : List ℕ)
-            → Follows unit setup fd most self.old before
-            → Follows unit setup fd most self.new (before ++ byte ∷ []) }
-    {
-        self.line.push(byte);
-    }
-
-    /// Reads the line, and begins the next one.
-    fn end_line(&mut self) -> Result<(), AllocError>
-        requires { 0 < self.old.left }
-        ensures { OnOk result
-            ((unit : ℕ) (setup : Setup) (fd : ℤ) (most : ℕ) (before : List ℕ)
-            → Follows unit setup fd most self.old before
-            → Follows unit setup fd most self.new (before ++ 10 ∷ [])) }
-    {
         self.read_line()?;
         self.line.clear();
         self.left -= 1;
@@ -160,7 +118,7 @@ impl Follower {
         Ok(())
     }
 
-    /// Makes the step that the line is, and notes if it is bad.
+    /// Makes the step that the line is. Notes if it is bad, and what is wrong with the first that is.
     fn read_line(&mut self) -> Result<(), AllocError>
         ensures line { self.new.line ≡ self.old.line }
         ensures left { self.new.left ≡ self.old.left }
@@ -168,62 +126,23 @@ impl Follower {
             ((line : List ℕ) → self.old.line ≡ kept_of line
             → ReadsLine self.old.watch self.new.watch self.old.has_bad self.new.has_bad line) }
     {
-        match step_of(self.alloc, &self.line)? {
-            Some(step) => self.make(step),
-            None => self.pass(),
+        if let Some(step) = step_of(self.alloc, &self.line)? {
+            self.watch.step(step)?;
+            return Ok(());
         }
-    }
-
-    /// Passes over a line that is no step, and notes if it is bad.
-    fn pass(&mut self) -> Result<(), AllocError>
-        ensures line { self.new.line ≡ self.old.line }
-        ensures left { self.new.left ≡ self.old.left }
-        ensures read { OnOk result
-            ((line : List ℕ) → self.old.line ≡ kept_of line → IsBad line
-            → ReadsLine self.old.watch self.new.watch self.old.has_bad self.new.has_bad line) }
-    {
         if self.line.is_remark() {
             return Ok(());
         }
-        self.note_bad()
-    }
-
-    /// Makes a step.
-    fn make(&mut self, step: Step) -> Result<(), AllocError>
-        ensures line { self.new.line ≡ self.old.line }
-        ensures left { self.new.left ≡ self.old.left }
-        ensures bad { self.new.has_bad ≡ self.old.has_bad }
-        ensures made { OnOk result (MakesStep self.old.watch self.new.watch step) }
-    {
-        self.watch.step(step)?;
-        Ok(())
-    }
-
-    /// Notes that the line is bad, and what is wrong with it, if it is the first bad one.
-    fn note_bad(&mut self) -> Result<(), AllocError>
-        ensures line { self.new.line ≡ self.old.line }
-        ensures left { self.new.left ≡ self.old.left }
-        ensures watch { self.new.watch ≡ self.old.watch }
-        ensures bad { OnOk result (self.new.has_bad ≡ true) }
-    {
         if self.has_bad {
+            // Only the first bad line is told.
             return Ok(());
         }
         self.has_bad = true;
-        push_note(self.alloc, &mut self.note, self.number, &self.line)
+        write!(self.note, "uring: line {}: bad line: ", self.number)?;
+        push_line_flaw(self.alloc, &mut self.note, &self.line, Language::Steps)?;
+        self.note.push_str("\n")?;
+        Ok(())
     }
-}
-
-/// Appends the note on a bad line of this number.
-fn push_note(
-    alloc: Global,
-    note: &mut String,
-    number: u64,
-    line: &KeptLine,
-) -> Result<(), AllocError> {
-    write!(note, "uring: line {number}: bad line: ")?;
-    push_line_flaw(alloc, note, line, Language::Steps)?;
-    note.push_str("\n")
 }
 
 /// The step that a line is, if it is one. A line of more than 300 bytes is none.

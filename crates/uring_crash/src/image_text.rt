@@ -63,20 +63,15 @@ fn push_write(
     } else {
         "not safe"
     };
-    let there = count_there(write, image);
+    let after = image.get(off as usize..).unwrap_or_default();
+    let there = after
+        .iter()
+        .zip(write.bytes())
+        .filter(|(found, written)| found == written)
+        .count();
     let all = write.bytes().len();
     write!(
         text,
         "write {request} at {off}: {safe}, {there} of {all} bytes\n"
     )
-}
-
-/// How many bytes of a write stand in an image.
-fn count_there(write: &Piece, image: &[u8]) -> usize {
-    let after = image.get(write.off() as usize..).unwrap_or_default();
-    after
-        .iter()
-        .zip(write.bytes())
-        .filter(|(found, written)| found == written)
-        .count()
 }

@@ -1,6 +1,6 @@
 //! Whether each image of a file that began empty has some bytes at an offset, by what happened to it.
 
-ghost use Rattle.std.specs.Prelude.{◌≡◌, ◌+◌, ◌<◌, ◌^◌, true, false, ℕ, List, [], length, reverse, slice_index};
+ghost use Rattle.std.specs.Prelude.{◌≡◌, ◌+◌, ◌<◌, ◌^◌, true, false, ℕ, List, [], length, reverse};
 ghost use Rattle.std.specs.List.{list_any};
 ghost use Rattle.uring_volume.specs.Images as images_spec;
 ghost use Rattle.uring_volume.specs.Images.{IsImage};
@@ -62,13 +62,6 @@ fn some_may_show_other(events: &[Event], k: u64, byte: u8) -> bool
     found
 }
 
-/// Whether a write is safe and writes byte `k`.
-fn is_safe_over(events: &[Event], k: u64, piece: &Piece) -> bool
-    ensures { result ≡ spec.is_safe_over (reverse events.now) k piece.now }
-{
-    is_under(piece, k) && is_safe(events, piece)
-}
-
 /// Whether some safe write writes byte `k`.
 fn some_is_safe_over(events: &[Event], k: u64) -> bool
     ensures { result
@@ -77,7 +70,7 @@ fn some_is_safe_over(events: &[Event], k: u64) -> bool
     let mut found = false;
     for event in events {
         if let Event::WriteIssued(piece) = event {
-            found = found || is_safe_over(events, k, piece);
+            found = found || (is_under(piece, k) && is_safe(events, piece));
         }
     }
     found
@@ -111,22 +104,6 @@ fn keeps_byte(events: &[Event], k: u64, byte: u8) -> bool
     !some_may_show_other(events, k, byte) && (byte == 0 || some_is_safe_over(events, k))
 }
 
-/// Whether each image that has bytes at these offsets has these there.
-fn keeps_bytes(events: &[Event], off: u64, bytes: &[u8]) -> bool
-    requires { off + length bytes.now < 2 ^ 64 }
-    ensures yes { result ≡ true → (j : ℕ) → j < length bytes.now
-        → spec.keeps_byte (reverse events.now) (off + j) (slice_index bytes.now j) ≡ true }
-    ensures no { result ≡ false → ((j : ℕ) → j < length bytes.now
-        → spec.keeps_byte (reverse events.now) (off + j) (slice_index bytes.now j) ≡ true) → ⊥ }
-{
-    for j in 0..bytes.len() {
-        if !keeps_byte(events, off + j as u64, bytes[j]) {
-            return false;
-        }
-    }
-    true
-}
-
 /// Whether it is plain that each image has these bytes at an offset: a safe write reaches after them, and of each of them no write shows another one but under a safe one.
 pub(crate) fn keeps(events: &[Event], off: u64, bytes: &[u8]) -> bool
     ensures yes { result ≡ true → (unit : ℕ) (now : List ℕ) → 0 < unit
@@ -137,8 +114,16 @@ pub(crate) fn keeps(events: &[Event], off: u64, bytes: &[u8]) -> bool
     if bytes.is_empty() {
         return true;
     }
-    match off.checked_add(bytes.len() as u64) {
-        Some(end) => some_is_safe_up_to(events, end) && keeps_bytes(events, off, bytes),
-        None => false,
+    let Some(end) = off.checked_add(bytes.len() as u64) else {
+        return false;
+    };
+    if !some_is_safe_up_to(events, end) {
+        return false;
     }
+    for j in 0..bytes.len() {
+        if !keeps_byte(events, off + j as u64, bytes[j]) {
+            return false;
+        }
+    }
+    true
 }

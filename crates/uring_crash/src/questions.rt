@@ -1,13 +1,12 @@
 //! What is asked of all images that a crash may leave: how many there are, which, and whether each has some bytes.
 
-ghost use Rattle.std.specs.Prelude.{◌≡◌, ◌<◌, ◌++◌, [], ℕ, ℤ, List, map, codes, IfOk, OnOk, string_bytes};
+ghost use Rattle.std.specs.Prelude.{◌≡◌, ◌<◌, ◌++◌, [], ℕ, ℤ, map, IfOk, OnOk, string_bytes};
 ghost use Rattle.uring_entry.specs.Setup.{Setup};
 ghost use Rattle.uring_core.specs.Histories.{History};
 ghost use Rattle.uring_epochs.specs.Logs.{log_of};
 ghost use Rattle.uring_crash.specs.Watches.{Watches};
 ghost use Rattle.uring_crash.specs.Following.{Follows};
-ghost use Rattle.uring_crash.specs.Crashes.{image_text};
-ghost use Rattle.uring_crash.specs.Questions.{Asks, Replies, AreCounted, AreListed, AreKept, count_text, images_text, kept_text};
+ghost use Rattle.uring_crash.specs.Questions.{Asks, Replies, AreKept, count_text, images_text, kept_text};
 
 use crate::crash_run::{Asked, reads_bad_line};
 use crate::follower::Follower;
@@ -118,34 +117,18 @@ fn replied(
         → Replies question.now unit (log_of unit setup fd h).volume.history r.0 (string_bytes r.1)) }
 {
     match question {
-        Question::Count => counted(alloc, watch),
-        Question::All { most } => listed(alloc, watch, *most),
+        Question::Count => {
+            let count = watch.log().volume().count_images(alloc)?;
+            let mut text = String::new(alloc);
+            push_count(alloc, &mut text, count)?;
+            Ok((Reply::Answered, text))
+        }
+        Question::All { most } => match watch.images(alloc, *most) {
+            Ok(images) => Ok((Reply::Answered, text_of_images(alloc, &images)?)),
+            Err(ImagesError::TooMany) => Ok((Reply::TooMany, String::new(alloc))),
+            Err(ImagesError::OutOfMemory) => Err(AllocError),
+        },
         Question::Keeps { off, bytes, most } => kept(alloc, watch, unit, *off, bytes, *most),
-    }
-}
-
-/// How many images there are.
-fn counted(alloc: Global, watch: &Watch) -> Result<(Reply, String), AllocError>
-    ensures { IfOk result (λ r. (unit : ℕ) (setup : Setup) (fd : ℤ) (h : History)
-        → Watches unit setup fd watch.now h
-        → AreCounted unit (log_of unit setup fd h).volume.history r.0 (string_bytes r.1)) }
-{
-    let count = watch.count_images(alloc)?;
-    let mut text = String::new(alloc);
-    push_count(alloc, &mut text, count)?;
-    Ok((Reply::Answered, text))
-}
-
-/// The images, each once.
-fn listed(alloc: Global, watch: &Watch, most: u32) -> Result<(Reply, String), AllocError>
-    ensures { IfOk result (λ r. (unit : ℕ) (setup : Setup) (fd : ℤ) (h : History)
-        → Watches unit setup fd watch.now h
-        → AreListed most unit (log_of unit setup fd h).volume.history r.0 (string_bytes r.1)) }
-{
-    match watch.images(alloc, most) {
-        Ok(images) => Ok((Reply::Answered, text_of_images(alloc, &images)?)),
-        Err(ImagesError::TooMany) => Ok((Reply::TooMany, String::new(alloc))),
-        Err(ImagesError::OutOfMemory) => Err(AllocError),
     }
 }
 
@@ -163,9 +146,18 @@ fn kept(
         → AreKept off bytes.now most unit (log_of unit setup fd h).volume.history r.0 (string_bytes r.1)) }
 {
     match find(alloc, watch, unit, off, bytes, most)? {
-        Found::Nowhere => Ok((Reply::Answered, text_of_kept(alloc, off, bytes)?)),
+        Found::Nowhere => {
+            let mut text = String::new(alloc);
+            push_wanted(alloc, &mut text, off, bytes)?;
+            Ok((Reply::Answered, text))
+        }
         Found::Without(image) => {
-            let text = text_of_image_without(alloc, watch, off, bytes, &image)?;
+            let words = told_writes(alloc, watch.log(), &image)?;
+            let mut text = String::new(alloc);
+            push_text(&alloc, &mut text, "not ")?;
+            push_wanted(alloc, &mut text, off, bytes)?;
+            push_image(alloc, &mut text, &image)?;
+            push_text(&alloc, &mut text, words.as_str())?;
             Ok((Reply::NotKept, text))
         }
         Found::TooMany => Ok((Reply::TooMany, String::new(alloc))),
@@ -209,33 +201,4 @@ fn push_wanted(alloc: Global, text: &mut String, off: u64, bytes: &[u8]) -> Resu
     push_text(&alloc, text, ": ")?;
     push_bytes(alloc, text, bytes)?;
     push_text(&alloc, text, "\n")
-}
-
-/// That each image has these bytes.
-fn text_of_kept(alloc: Global, off: u64, bytes: &[u8]) -> Result<String, AllocError>
-    ensures { IfOk result (λ text. string_bytes text ≡ kept_text off bytes.now) }
-{
-    let mut text = String::new(alloc);
-    push_wanted(alloc, &mut text, off, bytes)?;
-    Ok(text)
-}
-
-/// That not every image has these bytes, and one that hasn't.
-fn text_of_image_without(
-    alloc: Global,
-    watch: &Watch,
-    off: u64,
-    bytes: &[u8],
-    image: &[u8],
-) -> Result<String, AllocError>
-    ensures { IfOk result (λ text. (words : List ℕ)
-        × (string_bytes text ≡ codes "not " ++ kept_text off bytes.now ++ image_text image.now ++ words)) }
-{
-    let mut text = String::new(alloc);
-    push_text(&alloc, &mut text, "not ")?;
-    push_wanted(alloc, &mut text, off, bytes)?;
-    push_image(alloc, &mut text, image)?;
-    let words = told_writes(alloc, watch.log(), image)?;
-    push_text(&alloc, &mut text, words.as_str())?;
-    Ok(text)
 }

@@ -1,6 +1,6 @@
 //! The search for an image that hasn't some bytes at an offset.
 
-ghost use Rattle.std.specs.Prelude.{◌≡◌, ◌+◌, ◌<◌, ◌^◌, [], ℕ, ℤ, true, false, length, slice_index, map, IfOk, IfSome};
+ghost use Rattle.std.specs.Prelude.{◌≡◌, ◌+◌, ◌<◌, ◌^◌, [], ℕ, ℤ, true, false, length, map, IfOk, IfSome};
 ghost use Rattle.uring_entry.specs.Setup.{Setup};
 ghost use Rattle.uring_volume.specs.Events as volume;
 ghost use Rattle.uring_volume.specs.Listing.{AreTheImages};
@@ -29,26 +29,14 @@ pub(crate) enum Found {
     TooMany,
 }
 
-/// Whether an image has this byte at offset `off + j`.
-fn has_byte(image: &[u8], off: u64, j: u64, byte: u8) -> bool
-    ensures yes { result ≡ true
-        → (off + j < length image.now) × (slice_index image.now (off + j) ≡ byte) }
-    ensures no { result ≡ false → off + j < length image.now
-        → slice_index image.now (off + j) ≡ byte → ⊥ }
-{
-    match off.checked_add(j) {
-        Some(k) if k < image.len() as u64 => image[k as usize] == byte,
-        _ => false,
-    }
-}
-
 /// Whether an image has these bytes at an offset.
 fn holds(image: &[u8], off: u64, bytes: &[u8]) -> bool
     ensures yes { result ≡ true → Holds off bytes.now image.now }
     ensures no { result ≡ false → Holds off bytes.now image.now → ⊥ }
 {
     for j in 0..bytes.len() {
-        if !has_byte(image, off, j as u64, bytes[j]) {
+        let k = off.saturating_add(j as u64);
+        if k >= image.len() as u64 || image[k as usize] != bytes[j] {
             return false;
         }
     }
@@ -71,28 +59,19 @@ pub(crate) fn find(
         → (unit : ℕ) (setup : Setup) (fd : ℤ) (h : History) → Watches unit setup fd watch.now h
         → IsPlain (log_of unit setup fd h).volume.history off bytes.now → ⊥) }
 {
-    if is_plain(watch, off, bytes)? {
-        return Ok(Found::Nowhere);
-    }
-    match try_choices(alloc, watch, unit, off, bytes)? {
-        Some(image) => Ok(Found::Without(image)),
-        None => find_listed(alloc, watch, off, bytes, most),
-    }
-}
-
-/// Whether it is plain that each image has these bytes.
-fn is_plain(watch: &Watch, off: u64, bytes: &[u8]) -> Result<bool, AllocError>
-    ensures yes { IfOk result (λ plain. plain ≡ true → (unit : ℕ) (setup : Setup) (fd : ℤ) (h : History)
-        → Watches unit setup fd watch.now h
-        → IsFound off bytes.now 0 unit (log_of unit setup fd h).volume.history Found.Nowhere) }
-    ensures no { IfOk result (λ plain. plain ≡ false → off + length bytes.now < 2 ^ 64
-        → (unit : ℕ) (setup : Setup) (fd : ℤ) (h : History) → Watches unit setup fd watch.now h
-        → IsPlain (log_of unit setup fd h).volume.history off bytes.now → ⊥) }
-{
     let log = watch.log();
     log.volume().is_sound();
-    let events = log.events()?;
-    Ok(keeps(events, off, bytes))
+    if keeps(log.events()?, off, bytes) {
+        return Ok(Found::Nowhere);
+    }
+    if let Some(image) = try_choices(alloc, watch, unit, off, bytes)? {
+        return Ok(Found::Without(image));
+    }
+    match watch.images(alloc, most) {
+        Ok(images) => find_in(alloc, &images, off, bytes),
+        Err(ImagesError::TooMany) => Ok(Found::TooMany),
+        Err(ImagesError::OutOfMemory) => Err(AllocError),
+    }
 }
 
 /// What a choice leaves, if that hasn't these bytes.
@@ -156,25 +135,6 @@ fn try_choices(
         }
     }
     Ok(None)
-}
-
-/// An image without these bytes among all of them, if there are no more than `most`.
-fn find_listed(
-    alloc: Global,
-    watch: &Watch,
-    off: u64,
-    bytes: &[u8],
-    most: u32,
-) -> Result<Found, AllocError>
-    ensures { IfOk result (λ found. (unit : ℕ) (setup : Setup) (fd : ℤ) (h : History)
-        → Watches unit setup fd watch.now h
-        → IsFound off bytes.now most unit (log_of unit setup fd h).volume.history found) }
-{
-    match watch.images(alloc, most) {
-        Ok(images) => find_in(alloc, &images, off, bytes),
-        Err(ImagesError::TooMany) => Ok(Found::TooMany),
-        Err(ImagesError::OutOfMemory) => Err(AllocError),
-    }
 }
 
 /// The first of these images that hasn't these bytes.

@@ -1,6 +1,6 @@
 //! A machine, and the log of one of its files.
 
-ghost use Rattle.std.specs.Prelude.{◌≡◌, ◌<◌, ◌≤◌, ◌-◌, ◌^◌, ◌∷◌, [], ℕ, ℤ, List, Err, min, map, length, IfOk};
+ghost use Rattle.std.specs.Prelude.{◌≡◌, ◌<◌, ◌≤◌, ◌-◌, ◌∷◌, [], ℕ, ℤ, List, Err, map, length, IfOk};
 ghost use Rattle.uring_entry.specs.Setup.{Setup};
 ghost use Rattle.uring_volume.specs.Images.{IsImage};
 ghost use Rattle.uring_volume.specs.Listing.{AreTheImages};
@@ -40,34 +40,20 @@ impl Watch {
             → Watches unit setup fd self.old h → Watches unit setup fd self.new ((step, answer) ∷ h)) }
     {
         match step {
-            Step::Issue { number } => self.issue(number),
-            Step::Finish { number } => Ok(self.finish(number)),
+            Step::Issue { number } => {
+                let answer = self.machine.step(Step::Issue { number });
+                let op = self.machine.running_op(number);
+                self.log.note_issue(number, op, &answer)?;
+                Ok(answer)
+            }
+            Step::Finish { number } => {
+                let op = self.machine.running_op(number);
+                let answer = self.machine.step(Step::Finish { number });
+                self.log.note_finish(number, op, &answer);
+                Ok(answer)
+            }
             _ => Ok(self.machine.step(step)),
         }
-    }
-
-    /// Issues a request, and logs it if it runs from then on.
-    fn issue(&mut self, number: u64) -> Result<Answer, AllocError>
-        ensures { IfOk result (λ answer. (unit : ℕ) (setup : Setup) (fd : ℤ) (h : History)
-            → Watches unit setup fd self.old h
-            → Watches unit setup fd self.new ((Step.Issue number, answer) ∷ h)) }
-    {
-        let answer = self.machine.step(Step::Issue { number });
-        let op = self.machine.running_op(number);
-        self.log.note_issue(number, op, &answer)?;
-        Ok(answer)
-    }
-
-    /// Finishes a request, and logs its end if it ran.
-    fn finish(&mut self, number: u64) -> Answer
-        ensures { (unit : ℕ) (setup : Setup) (fd : ℤ) (h : History)
-            → Watches unit setup fd self.old h
-            → Watches unit setup fd self.new ((Step.Finish number, result) ∷ h) }
-    {
-        let op = self.machine.running_op(number);
-        let answer = self.machine.step(Step::Finish { number });
-        self.log.note_finish(number, op, &answer);
-        answer
     }
 
     /// The bytes that a crash leaves of the file after the steps so far, by a choice of numbers: any numbers are a choice.
@@ -77,16 +63,6 @@ impl Watch {
             → IsImage unit [] (log_of unit setup fd h).volume.history now.items) }
     {
         self.log.crash(choice)
-    }
-
-    /// How many images a crash after the steps so far may leave, 2^64 - 1 if there are as many or more.
-    pub(crate) fn count_images(&self, alloc: Global) -> Result<u64, AllocError>
-        ensures { IfOk result (λ count. (unit : ℕ) (setup : Setup) (fd : ℤ) (h : History)
-            → Watches unit setup fd self.now h → (all : List (List ℕ))
-            × AreTheImages unit [] (log_of unit setup fd h).volume.history all
-            × (count ≡ min (length all) (2 ^ 64 - 1))) }
-    {
-        self.log.volume().count_images(alloc)
     }
 
     /// The images that a crash after the steps so far may leave, each once, if there are no more than `most`.

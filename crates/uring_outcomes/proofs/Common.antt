@@ -38,6 +38,6 @@ pub use Rattle.uring_outcomes.specs.Outcomes.{AreAllEndings, AreEndings, AreOnce
 pub use Rattle.uring_outcomes.specs.Prompt.{AreNamed, ArePrompt, IsPrompt, NamesAll, PromptMovesLead, is_named}
 pub use Rattle.uring_outcomes.specs.Recorded.{moves_in, with_event}
 pub use Rattle.uring_outcomes.specs.Runs.{HasBelow, HasNext, IsQuiet, IsReached, LedTo, MadeAs, Stands, StandsAt, among, entries_of}
-pub use Rattle.uring_outcomes.specs.Walks.{AddsOnce, BeginsIn, Goes, HasLonger, HasNoted, IsBefore, IsCovered, IsWalk, TakesPath, ending_of, longer_by, paths_of, waiting}
+pub use Rattle.uring_outcomes.specs.Walks.{AddsOnce, BeginsIn, Goes, HasLonger, HasNoted, IsCovered, IsWalk, TakesPath, ending_of, longer_by, paths_of, waiting}
 pub use Rattle.uring_outcomes.specs.declared.move_of_calls.Move.{Move}
 pub use Rattle.uring_outcomes.specs.declared.run.Run.{Run}

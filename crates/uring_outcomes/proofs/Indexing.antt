@@ -1,8 +1,10 @@
 -- Endings and the places that are noted for their marks: what is there is found, and what is added is noted.
-use Rattle.std.proofs.Common.{◌≡◌, ℕ, ◌+◌, Bool, true, false, List, [], ◌∷◌, ◌++◌, Some, None, refl, sym, subst, ap, ◌∙◌, cond}
-use Rattle.uring_outcomes.proofs.Common.{Contains, Contains-append_left, Contains-push, Ending, Global, HasPlace, IsSomeAnd, NotesPlace, Vec, both_ways, eq-eqb, eqb-true, nat_eq, slice_get}
+use Rattle.std.proofs.Common.{◌≡◌, ℕ, ◌+◌, Bool, true, false, List, [], ◌∷◌, ◌++◌, length, get_or, Some, None, refl, sym, subst, ap, ◌∙◌, cond, arith, inl, inr}
+use Rattle.uring_outcomes.proofs.Common.{Contains, Contains-append_left, Contains-push, Ending, Global, HasPlace, IsSomeAnd, NotesPlace, Vec, both_ways, cases_lt, eq-eqb, eqb-true, get_or_append_left, length_push, nat_eq, slice_get}
 use Rattle.std.specs.HashMap.{HashMap, get}
-use Rattle.std.proofs.lemmas.Option.{slice_get-get_or}
+use Rattle.std.proofs.lemmas.Option.{get_or_from_slice_get, slice_get-get_or, slice_get_within}
+use Rattle.std.proofs.lemmas.List.{get_or_push}
+use Rattle.uring_outcomes.specs.Index.{mark_of}
 
 -- what stands in a list stands at a place of it
 pub place_of : (xs : List Ending) (e : Ending) → Contains xs e → (k : ℕ) × (slice_get xs k ≡ Some e)
@@ -30,6 +32,22 @@ noted_more old mid new known more mark place knows others is updates = record {
   by_mark m k has false other =
       let e : get nat_eq new m ≡ get nat_eq old m = updates m ∙ (ap (λ b. cond b (Some more) (get nat_eq mid m)) other ∙ others m (λ s. both_ways (nat_eq mark m) other (eq-eqb mark m (sym s)))) in
       subst (λ o. IsSomeAnd o (λ v. Contains v.items k)) (sym e) has
+
+-- one ending more, whose place is noted for its mark
+pub indexed_more : {S : Type 0} (olds news : List Ending) (old new : HashMap ℕ (Vec ℕ Global) S) (e : Ending) (mark place : ℕ)
+    → ((k : ℕ) (x : Ending) → slice_get olds k ≡ Some x → HasPlace old (mark_of x.posted) k)
+    → mark ≡ mark_of e.posted → place ≡ length olds → news ≡ olds ++ e ∷ [] → NotesPlace old new mark place
+    → (k : ℕ) (x : Ending) → slice_get news k ≡ Some x → HasPlace new (mark_of x.posted) k
+indexed_more olds news old new e mark place was is at more noted k x there =
+    let here : slice_get (olds ++ e ∷ []) k ≡ Some x = subst (λ es. slice_get es k ≡ Some x) more there in
+    let got : get_or (olds ++ e ∷ []) k x ≡ x = get_or_from_slice_get (olds ++ e ∷ []) k x x here in
+    elim (cases_lt k (length olds)) [
+      | inl low ↦ noted.kept (mark_of x.posted) k (was k x (slice_get-get_or olds k x low ∙ ap (λ y. Some y) (sym (get_or_append_left olds (e ∷ []) x k low) ∙ got)))
+      | inr high ↦
+          let last : length olds ≡ k = omega (arith, high, slice_get_within (olds ++ e ∷ []) k x here, length_push olds e) in
+          let same : e ≡ x = sym (get_or_push olds e x k last) ∙ got in
+          subst (λ m. HasPlace new m k) (is ∙ ap (λ (y : Ending). mark_of y.posted) same) (subst (λ p. HasPlace new mark p) (at ∙ last) noted.noted)
+    ]
 
 pub known_place : {S : Type 0} (places : HashMap ℕ (Vec ℕ Global) S) (known : Vec ℕ Global) (mark k : ℕ)
     → Some known ≡ get nat_eq places mark → HasPlace places mark k → Contains known.items k

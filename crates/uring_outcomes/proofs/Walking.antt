@@ -1,6 +1,6 @@
 -- The walk's functions: lists of paths as they are pushed and popped, and what is so once no path is left.
-use Rattle.std.proofs.Common.{◌≡◌, ℕ, ◌+◌, ◌<◌, Bool, true, false, not, ◌&&◌, ◌||◌, List, [], ◌∷◌, ◌++◌, length, take, get_or, Option, Some, None, Result, Ok, Err, if◌then◌else◌, refl, sym, subst, ap, ap₂, ◌∙◌, append-nil, arith}
-use Rattle.uring_outcomes.proofs.Common.{All-more, All-push, AreAllEndings, AreNamed, Ending, Global, Goes, HasNoted, IfOk, IsIndexed, IsOver, IsWalk, LedTo, MadeAs, Moment, Move, NamesAll, Setup, Sqe, StandsAt, Vec, addr_of, after_moves, among, and_parts, both_ways, entries_of, eq-eqb, has_ended, has_started, is_cancel, is_doomed, is_issuable, is_outstanding, is_ready, is_running, list_any_push, lt-ltb, map-append, moved, nat_eq, or_left, or_right, outstanding_in, paths_of, starting, take_more, waiting}
+use Rattle.std.proofs.Common.{◌≡◌, ℕ, ◌+◌, ◌<◌, Bool, true, false, not, ◌&&◌, ◌||◌, List, [], ◌∷◌, ◌++◌, length, take, get_or, Option, Some, None, if◌then◌else◌, refl, sym, subst, ap, ap₂, ◌∙◌, append-nil, arith}
+use Rattle.uring_outcomes.proofs.Common.{All-more, All-push, AreAllEndings, AreNamed, Ending, Global, Goes, HasNoted, IsIndexed, IsOver, IsWalk, LedTo, MadeAs, Moment, Move, NamesAll, Setup, Sqe, StandsAt, Vec, addr_of, after_moves, among, and_parts, both_ways, entries_of, eq-eqb, has_ended, has_started, is_cancel, is_doomed, is_issuable, is_outstanding, is_ready, is_running, list_any_push, lt-ltb, map-append, moved, nat_eq, or_left, or_right, outstanding_in, paths_of, starting, take_more, waiting}
 use Rattle.std.proofs.lemmas.List.Folds.{list_any-append}
 use Rattle.uring_dispatch.proofs.Counting.{count_below_some}
 use Rattle.uring_outcomes.specs.declared.move_of_calls.Move.TheVariants as move
@@ -8,12 +8,6 @@ use Rattle.uring_outcomes.specs.declared.walk.Walk.{Walk}
 use Rattle.uring_outcomes.proofs.Moving.{none_accepted, issue_can, finish_can, issuable_accepted, finishable_tells}
 use Rattle.uring_outcomes.proofs.Replaying.{made_tells, not_made_tells, led_first}
 use Rattle.uring_outcomes.proofs.Covering.{at_first, all_found, path_taken, no_path}
-
--- two facts of a value that is there
-pub both_ok : {T E : Type 0} (r : Result T E) (P Q R : T → Type 0) → ((x : T) → P x → Q x → R x)
-    → IfOk r P → IfOk r Q → IfOk r R
-both_ok (Ok x) P Q R f p q = f x p q
-both_ok (Err e) P Q R f p q = tt
 
 -- The user data that cancels name.
 

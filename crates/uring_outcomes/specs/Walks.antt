@@ -80,20 +80,3 @@ pub record Goes (g : Setup) (calls : List (List Sqe)) (names : List ℕ) (w : Wa
   pub walk : IsWalk g calls names (waiting w) w.found.list.items
   pub indexed : IsIndexed w.found
   pub there : w.is_on_path ≡ true → LedTo calls (starting g calls) w.path.items w.run
-
--- its path was taken out of those that are still to be taken, and no move of it was made
-pub record IsOff (g : Setup) (calls : List (List Sqe)) (names : List ℕ) (w : Walk) : Type 0 where
-  pub walk : IsWalk g calls names (paths_of w.todo.items ++ w.path.items ∷ []) w.found.list.items
-  pub indexed : IsIndexed w.found
-
--- its run has made the moves of its path, and not all is over
-pub record IsAmid (g : Setup) (calls : List (List Sqe)) (names : List ℕ) (w : Walk) : Type 0 where
-  pub off : IsOff g calls names w
-  pub there : LedTo calls (starting g calls) w.path.items w.run
-  pub more : IsOver there.last → ⊥
-
--- its run has made the moves of its path, and this move is to be taken after them, if there is one
-pub record IsBefore (g : Setup) (calls : List (List Sqe)) (names : List ℕ) (next : Option Move) (w : Walk) : Type 0 where
-  pub walk : IsWalk g calls names (paths_of w.todo.items ++ longer_by w.path.items next) w.found.list.items
-  pub indexed : IsIndexed w.found
-  pub there : LedTo calls (starting g calls) w.path.items w.run

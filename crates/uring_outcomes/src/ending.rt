@@ -112,16 +112,9 @@ fn same_bytes(one: &Files, other: &Files, fd: i32, len: u32) -> bool
         ↔ ((k : ℕ) → k < len → byte_of one.now fd k ≡ byte_of other.now fd k) }
 {
     for at in 0..len {
-        if !same_byte(one.byte(fd, u64::from(at)), other.byte(fd, u64::from(at))) {
+        if one.byte(fd, u64::from(at)) != other.byte(fd, u64::from(at)) {
             return false;
         }
     }
     true
-}
-
-/// Whether two bytes are the same, or there is neither.
-fn same_byte(one: Option<u8>, other: Option<u8>) -> bool
-    ensures { IsTrue result ↔ (one ≡ other) }
-{
-    one == other
 }

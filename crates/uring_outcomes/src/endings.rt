@@ -1,8 +1,8 @@
 //! The endings that a walk has found, each once.
 
-ghost use Rattle.std.specs.Prelude.{◌≡◌, ◌↔◌, ◌<◌, ◌≤◌, ◌++◌, ◌∷◌, ℕ, [], true, false, Some, IsTrue, IfOk, IsOk, OnOk, Contains, length, slice_get, nat_eq, vec_len, vec_capacity};
+ghost use Rattle.std.specs.Prelude.{◌≡◌, ◌↔◌, ◌<◌, ◌≤◌, ℕ, [], true, false, Some, IsTrue, IsOk, OnOk, Contains, slice_get, nat_eq};
 ghost use Rattle.std.specs.HashMap.{get, spare};
-ghost use Rattle.uring_outcomes.specs.Index.{mixed, mark_of, HasPlace, IsIndexed, NotesPlace};
+ghost use Rattle.uring_outcomes.specs.Index.{mark_of, HasPlace, IsIndexed, NotesPlace};
 ghost use Rattle.uring_outcomes.specs.Walks.{AddsOnce};
 
 use crate::ending::{Ending, is_same};
@@ -31,15 +31,6 @@ impl Endings {
         }
     }
 
-    /// The endings as a list.
-    pub(crate) fn into_list(self) -> Vec<Ending>
-        ensures { result.items ≡ self.list.items }
-    {
-        let Endings { list, places } = self;
-        drop(places);
-        list
-    }
-
     /// Adds an ending, unless it is there.
     pub(crate) fn add_once<M: MapMemory>(
         &mut self,
@@ -57,7 +48,10 @@ impl Endings {
             drop(ending);
             return Ok(());
         }
-        self.push(memory, alloc, mark, ending)
+        memory.reserve(&mut self.list, 1)?;
+        note_place(memory, alloc, &mut self.places, mark, self.list.len())?;
+        self.list.push_reserved(ending);
+        Ok(())
     }
 
     /// Whether an ending of this mark is there.
@@ -71,44 +65,6 @@ impl Endings {
             None => false,
         }
     }
-
-    /// Adds an ending of this mark.
-    fn push<M: MapMemory>(
-        &mut self,
-        memory: &M,
-        alloc: Global,
-        mark: u64,
-        ending: Ending,
-    ) -> Result<(), AllocError>
-        requires indexed { IsIndexed self.old }
-        requires mark { mark ≡ mark_of ending.posted }
-        ensures is { OnOk result (self.new.list.items ≡ self.old.list.items ++ ending ∷ []) }
-        ensures indexed { OnOk result (IsIndexed self.new) }
-        ensures granted { ((n : ℕ) → M.grants memory.now n) → IsOk result }
-    {
-        if let Err(refused) = self.make_place(memory, alloc, mark) {
-            drop(ending);
-            return Err(refused);
-        }
-        self.list.push_reserved(ending);
-        Ok(())
-    }
-
-    /// Makes room for an ending of this mark, and notes its place.
-    fn make_place<M: MapMemory>(
-        &mut self,
-        memory: &M,
-        alloc: Global,
-        mark: u64,
-    ) -> Result<(), AllocError>
-        ensures list { self.new.list.items ≡ self.old.list.items }
-        ensures room { OnOk result (vec_len self.new.list < vec_capacity self.new.list) }
-        ensures noted { OnOk result (NotesPlace self.old.places self.new.places mark (length self.old.list.items)) }
-        ensures granted { ((n : ℕ) → M.grants memory.now n) → IsOk result }
-    {
-        memory.reserve(&mut self.list, 1)?;
-        note_place(memory, alloc, &mut self.places, mark, self.list.len())
-    }
 }
 
 /// Whether an ending is at one of these places of a list.
@@ -118,21 +74,13 @@ fn is_at(list: &[Ending], places: &[usize], ending: &Ending) -> bool
         → slice_get list.now k ≡ Some ending.now → ⊥ }
 {
     for place in places {
-        if is_one(list, *place, ending) {
+        if let Some(one) = list.get(*place)
+            && is_same(one, ending)
+        {
             return true;
         }
     }
     false
-}
-
-/// Whether an ending is at this place of a list.
-fn is_one(list: &[Ending], place: usize, ending: &Ending) -> bool
-    ensures { IsTrue result ↔ (slice_get list.now place ≡ Some ending.now) }
-{
-    match list.get(place) {
-        Some(one) => is_same(one, ending),
-        None => false,
-    }
 }
 
 /// Notes one more place for a mark.
@@ -147,9 +95,10 @@ fn note_place<M: MapMemory>(
     ensures granted { ((n : ℕ) → M.grants memory.now n) → IsOk result }
 {
     memory.reserve_map(places, 1)?;
-    let known = take_known(alloc, places, mark);
-    let more = with_place(memory, known, place)?;
-    places.insert(mark, more)?;
+    let mut known = take_known(alloc, places, mark);
+    memory.reserve(&mut known, 1)?;
+    known.push_reserved(place);
+    places.insert(mark, known)?;
     Ok(())
 }
 
@@ -166,38 +115,18 @@ fn take_known(alloc: Global, places: &mut HashMap<u64, Vec<usize>>, mark: u64) -
     }
 }
 
-/// These places and one more.
-fn with_place<M: Memory>(
-    memory: &M,
-    mut known: Vec<usize>,
-    place: usize,
-) -> Result<Vec<usize>, AllocError>
-    ensures items { IfOk result (λ more. more.items ≡ known.items ++ place ∷ []) }
-    ensures granted { ((n : ℕ) → M.grants memory.now n) → IsOk result }
-{
-    memory.reserve(&mut known, 1)?;
-    known.push_reserved(place);
-    Ok(known)
-}
-
 /// A number by which most endings differ: of the completions posted, by user data and results.
 fn mark(posted: &[Cqe]) -> u64
     ensures { result ≡ mark_of posted.now }
 {
-    let mut mark = 0;
+    let mut mark: u64 = 0;
     for completion in posted {
-        mark = mix(mark, completion);
+        let res = u64::from(completion.res().cast_unsigned());
+        mark = mark
+            .wrapping_mul(31)
+            .wrapping_add(completion.user_data())
+            .wrapping_mul(31)
+            .wrapping_add(res);
     }
     mark
-}
-
-/// The mark with one completion more.
-fn mix(mark: u64, completion: &Cqe) -> u64
-    ensures { result ≡ mixed mark completion.now }
-{
-    let res = u64::from(completion.res().cast_unsigned());
-    mark.wrapping_mul(31)
-        .wrapping_add(completion.user_data())
-        .wrapping_mul(31)
-        .wrapping_add(res)
 }

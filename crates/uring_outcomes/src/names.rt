@@ -1,6 +1,6 @@
 //! The user data that cancels name.
 
-ghost use Rattle.std.specs.Prelude.{◌≡◌, ◌++◌, ◌∷◌, [], ℕ, true, IsOk, OnOk};
+ghost use Rattle.std.specs.Prelude.{◌≡◌, ℕ, true, IsOk, OnOk};
 ghost use Rattle.uring_outcomes.specs.Prompt.{NamesAll, AreNamed};
 ghost use Rattle.uring_outcomes.specs.Runs.{among, entries_of};
 
@@ -32,18 +32,9 @@ fn add_named<M: Memory>(memory: &M, entries: &[Sqe], names: &mut Vec<u64>) -> Re
 {
     for entry in entries {
         if entry.opcode() == opcode::ASYNC_CANCEL {
-            push_name(memory, names, entry.addr())?;
+            memory.reserve(names, 1)?;
+            names.push_reserved(entry.addr());
         }
     }
-    Ok(())
-}
-
-/// Adds a user data.
-fn push_name<M: Memory>(memory: &M, names: &mut Vec<u64>, name: u64) -> Result<(), AllocError>
-    ensures pushed { OnOk result (names.new.items ≡ names.old.items ++ name ∷ []) }
-    ensures granted { ((n : ℕ) → M.grants memory.now n) → IsOk result }
-{
-    memory.reserve(names, 1)?;
-    names.push_reserved(name);
     Ok(())
 }

@@ -7,7 +7,7 @@ ghost use Rattle.uring_outcomes.specs.Moments.{Moment, moved, is_finishable};
 ghost use Rattle.uring_outcomes.specs.Direct.{AreUnnamed, IsNextUnnamed};
 ghost use Rattle.uring_outcomes.specs.declared.move_of_calls.Move.TheVariants as move;
 ghost use Rattle.uring_outcomes.specs.declared.move_of_calls.Move.{Move};
-ghost use Rattle.uring_outcomes.specs.Runs.{among, entries_of, Stands, StandsAt, HasNext, IsQuiet, HasBelow};
+ghost use Rattle.uring_outcomes.specs.Runs.{among, entries_of, Stands, StandsAt, HasNext, IsQuiet};
 
 use crate::move_of_calls::Move;
 use crate::run::Run;
@@ -28,14 +28,12 @@ pub(crate) fn next_moves<M: Memory>(
         → IfOk result (λ moves. HasNext names.now m moves.items) }
     ensures granted { ((n : ℕ) → M.grants memory.now n) → IsOk result }
 {
+    let Some(only) = only_move(run, calls, names) else {
+        return all_next(memory, alloc, run, calls);
+    };
     let mut moves = Vec::new(alloc);
-    match add_next(memory, run, calls, names, &mut moves) {
-        Ok(()) => Ok(moves),
-        Err(refused) => {
-            drop(moves);
-            Err(refused)
-        }
-    }
+    push_move(memory, &mut moves, only)?;
+    Ok(moves)
 }
 
 /// Every move that can be made next, with others, by this memory. If it grants whatever is asked for, there is no error.
@@ -52,33 +50,8 @@ pub fn all_next<M: Memory>(
     ensures granted { ((n : ℕ) → M.grants memory.now n) → IsOk result }
 {
     let mut moves = Vec::new(alloc);
-    match add_all(memory, run, calls, &mut moves) {
-        Ok(()) => Ok(moves),
-        Err(refused) => {
-            drop(moves);
-            Err(refused)
-        }
-    }
-}
-
-/// Adds the direct moves that can be made next to none.
-fn add_next<M: Memory>(
-    memory: &M,
-    run: &Run,
-    calls: &[Vec<Sqe>],
-    names: &[u64],
-    moves: &mut Vec<Move>,
-) -> Result<(), AllocError>
-    requires stands { Stands (entries_of calls.now) run.now }
-    requires none { moves.old.items ≡ [] }
-    ensures next { (m : Moment) → StandsAt (entries_of calls.now) run.now m
-        → OnOk result (HasNext names.now m moves.new.items) }
-    ensures granted { ((n : ℕ) → M.grants memory.now n) → IsOk result }
-{
-    let Some(only) = only_move(run, calls, names) else {
-        return add_all(memory, run, calls, moves);
-    };
-    push_move(memory, moves, only)
+    add_all(memory, run, calls, &mut moves)?;
+    Ok(moves)
 }
 
 /// Adds a move.

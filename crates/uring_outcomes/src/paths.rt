@@ -30,12 +30,8 @@ pub(crate) fn fork<M: Memory>(
 {
     let mut moves = next_moves(memory, alloc, run, calls, names)?;
     let next = moves.pop();
-    let done = push_longer(memory, alloc, path, moves.as_slice(), todo);
-    drop(moves);
-    match done {
-        Ok(()) => Ok(next),
-        Err(refused) => Err(refused),
-    }
+    push_longer(memory, alloc, path, moves.as_slice(), todo)?;
+    Ok(next)
 }
 
 /// Puts this path with each of these moves after it among those to be taken, by this memory. If it grants whatever is asked for, there is no error.
@@ -69,24 +65,11 @@ fn push_one<M: Memory>(
     ensures granted { ((n : ℕ) → M.grants memory.now n) → IsOk result }
 {
     memory.reserve(todo, 1)?;
-    todo.push_reserved(with_move(memory, alloc, path, next)?);
-    Ok(())
-}
-
-/// This path with this move after it.
-fn with_move<M: Memory>(
-    memory: &M,
-    alloc: Global,
-    path: &[Move],
-    next: Move,
-) -> Result<Vec<Move>, AllocError>
-    ensures path { IfOk result (λ longer. longer.items ≡ path.now ++ next ∷ []) }
-    ensures granted { ((n : ℕ) → M.grants memory.now n) → IsOk result }
-{
     let mut longer = Vec::new(alloc);
     memory.reserve(&mut longer, path.len())?;
     longer.extend_from_slice(path)?;
     memory.reserve(&mut longer, 1)?;
     longer.push_reserved(next);
-    Ok(longer)
+    todo.push_reserved(longer);
+    Ok(())
 }

@@ -1,15 +1,14 @@
 //! The walk over all lists of moves.
 
-ghost use Rattle.std.specs.Prelude.{◌≡◌, ◌↔◌, ◌≤◌, ◌^◌, [], ℕ, List, Some, Err, true, false, map, IfOk, IfErr, IsOk, OnOk, IsTrue};
+ghost use Rattle.std.specs.Prelude.{◌≡◌, ◌↔◌, ◌≤◌, ◌^◌, [], ℕ, List, Some, Err, true, false, IfOk, IfErr, IsOk, OnOk, IsTrue};
 ghost use Rattle.uring_entry.specs.Setup.{Setup};
 ghost use Rattle.uring_entry.specs.Layout.{Sqe};
 ghost use Rattle.uring_outcomes.specs.Moments.{Moment};
 ghost use Rattle.uring_outcomes.specs.CallOutcomes.{IsOver};
-ghost use Rattle.uring_outcomes.specs.Prompt.{NamesAll, AreNamed};
 ghost use Rattle.uring_outcomes.specs.Outcomes.{AreAllEndings, AreEndings, AreOnce};
 ghost use Rattle.uring_outcomes.specs.Faults.{entry_count, IsReason};
-ghost use Rattle.uring_outcomes.specs.Runs.{among, entries_of, Stands, StandsAt};
-ghost use Rattle.uring_outcomes.specs.Walks.{paths_of, longer_by, waiting, HasLonger, Goes};
+ghost use Rattle.uring_outcomes.specs.Runs.{entries_of, Stands, StandsAt};
+ghost use Rattle.uring_outcomes.specs.Walks.{waiting, Goes};
 
 use crate::ending::{Ending, note};
 use crate::endings::Endings;
@@ -105,17 +104,15 @@ pub fn outcomes_within_in<M: MapMemory>(
     ensures once { IfOk result (λ found. AreOnce found.endings.items) }
     ensures fault { IfErr result (IsReason (M.grants memory.now) (entries_of calls.now)) }
 {
+    let mut names = Vec::new(alloc);
+    add_names(memory, calls, &mut names)?;
     let mut walk = Walk::new(memory, alloc, setup.files())?;
-    match take_all(memory, alloc, setup, calls, most, &mut walk) {
-        Ok(is_all) => Ok(Found {
-            endings: walk.into_endings(),
-            is_all,
-        }),
-        Err(fault) => {
-            drop(walk);
-            Err(fault)
-        }
-    }
+    let names = names.as_slice();
+    let is_all = take_turns(memory, alloc, setup, calls, names, most, &mut walk)?;
+    Ok(Found {
+        endings: walk.into_endings(),
+        is_all,
+    })
 }
 
 /// How a walk stands: the path that it is on, if it is on one, the paths that are still to be taken, and what it has found.
@@ -133,7 +130,7 @@ pub(crate) struct Walk {
 }
 
 impl Walk {
-    ghost use Rattle.uring_outcomes.specs.Walks.{Goes, IsOff, IsAmid, IsBefore, waiting};
+    ghost use Rattle.uring_outcomes.specs.Walks.{Goes, waiting};
 
     /// At the beginning: on the path of no move, with nothing found.
     fn new<M: MapMemory>(memory: &M, alloc: Global, files: u32) -> Result<Walk, AllocError>
@@ -161,34 +158,15 @@ impl Walk {
             found,
             ..
         } = self;
+        let Endings { list, places } = found;
         drop(run);
         drop(path);
         drop(todo);
-        found.into_list()
+        drop(places);
+        list
     }
 
-    /// Takes a path: the one that it is on, or one of those that are still to be taken. Tells whether there was one.
-    fn turn<M: MapMemory>(
-        &mut self,
-        memory: &M,
-        alloc: Global,
-        setup: &Setup,
-        calls: &[Vec<Sqe>],
-        names: &[u64],
-    ) -> Result<bool, WalkFault>
-        requires { Goes setup.now (entries_of calls.now) names.now self.old }
-        ensures goes { OnOk result (Goes setup.now (entries_of calls.now) names.now self.new) }
-        ensures over { IfOk result (λ taken. taken ≡ false → waiting self.new ≡ []) }
-        ensures fault { IfErr result (IsReason (M.grants memory.now) (entries_of calls.now)) }
-    {
-        if !self.resume(memory, alloc, setup, calls)? {
-            return Ok(false);
-        }
-        self.go_on(memory, alloc, calls, names)?;
-        Ok(true)
-    }
-
-    /// Goes back to a path that is still to be taken, unless it is on one. Tells whether there was one.
+    /// Goes back to a path that is still to be taken, unless it is on one, and makes its moves on a new run; it is on the path if all can be made. Tells whether there was one.
     fn resume<M: MapMemory>(
         &mut self,
         memory: &M,
@@ -208,29 +186,13 @@ impl Walk {
             return Ok(false);
         };
         self.path = path;
-        self.go_back(memory, alloc, setup, calls)?;
-        Ok(true)
-    }
-
-    /// Makes the moves of its path on a new run, and is on it if all can be made.
-    fn go_back<M: MapMemory>(
-        &mut self,
-        memory: &M,
-        alloc: Global,
-        setup: &Setup,
-        calls: &[Vec<Sqe>],
-    ) -> Result<(), WalkFault>
-        ensures goes { (names : List ℕ) → IsOff setup.now (entries_of calls.now) names self.old
-            → OnOk result (Goes setup.now (entries_of calls.now) names self.new) }
-        ensures fault { IfErr result (IsReason (M.grants memory.now) (entries_of calls.now)) }
-    {
         let run = Run::new(memory, alloc, setup.files())?;
         drop(mem::replace(&mut self.run, run));
         self.is_on_path = self.run.replay(memory, calls, self.path.as_slice())?;
-        Ok(())
+        Ok(true)
     }
 
-    /// Goes on from where it is, if it is on a path: notes what the calls came to if all is over, and else takes one of the next moves and leaves the others to be taken.
+    /// Goes on from where it is, if it is on a path: notes what the calls came to if all is over, and else takes one of the next moves, if there is one and it can be made, and leaves the others to be taken.
     fn go_on<M: MapMemory>(
         &mut self,
         memory: &M,
@@ -250,60 +212,11 @@ impl Walk {
             self.is_on_path = false;
             return Ok(note(memory, alloc, &mut self.run, &mut self.found)?);
         }
-        self.move_on(memory, alloc, calls, names)
-    }
-
-    /// Takes one of the next moves, if there is one, and leaves the others to be taken. Not all is over.
-    fn move_on<M: MapMemory>(
-        &mut self,
-        memory: &M,
-        alloc: Global,
-        calls: &[Vec<Sqe>],
-        names: &[u64],
-    ) -> Result<(), WalkFault>
-        requires { Stands (entries_of calls.now) self.old.run }
-        ensures goes { (g : Setup) → IsAmid g (entries_of calls.now) names.now self.old
-            → OnOk result (Goes g (entries_of calls.now) names.now self.new) }
-        ensures fault { IfErr result (IsReason (M.grants memory.now) (entries_of calls.now)) }
-    {
         let path = self.path.as_slice();
-        let next = fork(memory, alloc, &self.run, calls, path, names, &mut self.todo)?;
-        self.take(memory, calls, next)
-    }
-
-    /// Takes this move, if there is one and it can be made.
-    fn take<M: MapMemory>(
-        &mut self,
-        memory: &M,
-        calls: &[Vec<Sqe>],
-        next: Option<Move>,
-    ) -> Result<(), WalkFault>
-        requires { Stands (entries_of calls.now) self.old.run }
-        ensures goes { (g : Setup) (names : List ℕ) → IsBefore g (entries_of calls.now) names next self.old
-            → OnOk result (Goes g (entries_of calls.now) names self.new) }
-        ensures fault { IfErr result (IsReason (M.grants memory.now) (entries_of calls.now)) }
-    {
-        match next {
-            Some(next) => self.step(memory, calls, next),
-            None => {
-                self.is_on_path = false;
-                Ok(())
-            }
-        }
-    }
-
-    /// Takes this move, if it can be made.
-    fn step<M: MapMemory>(
-        &mut self,
-        memory: &M,
-        calls: &[Vec<Sqe>],
-        next: Move,
-    ) -> Result<(), WalkFault>
-        requires { Stands (entries_of calls.now) self.old.run }
-        ensures goes { (g : Setup) (names : List ℕ) → IsBefore g (entries_of calls.now) names (Some next) self.old
-            → OnOk result (Goes g (entries_of calls.now) names self.new) }
-        ensures fault { IfErr result (IsReason (M.grants memory.now) (entries_of calls.now)) }
-    {
+        let Some(next) = fork(memory, alloc, &self.run, calls, path, names, &mut self.todo)? else {
+            self.is_on_path = false;
+            return Ok(());
+        };
         self.is_on_path = self.run.make(memory, calls, next)?;
         memory.reserve(&mut self.path, 1)?;
         self.path.push_reserved(next);
@@ -311,52 +224,7 @@ impl Walk {
     }
 }
 
-/// Takes at most so many paths, and tells whether none is left.
-fn take_all<M: MapMemory>(
-    memory: &M,
-    alloc: Global,
-    setup: &Setup,
-    calls: &[Vec<Sqe>],
-    most: u64,
-    walk: &mut Walk,
-) -> Result<bool, WalkFault>
-    requires { (names : List ℕ) → Goes setup.now (entries_of calls.now) names walk.old }
-    ensures right { OnOk result
-        (AreEndings setup.now (entries_of calls.now) walk.new.found.list.items) }
-    ensures all { IfOk result
-        (λ is_all. is_all ≡ true → AreAllEndings setup.now (entries_of calls.now) walk.new.found.list.items) }
-    ensures once { OnOk result (AreOnce walk.new.found.list.items) }
-    ensures fault { IfErr result (IsReason (M.grants memory.now) (entries_of calls.now)) }
-{
-    let mut names = Vec::new(alloc);
-    let done = take_named(memory, alloc, setup, calls, most, &mut names, walk);
-    drop(names);
-    done
-}
-
-/// Takes at most so many paths, and tells whether none is left. No name is known yet.
-fn take_named<M: MapMemory>(
-    memory: &M,
-    alloc: Global,
-    setup: &Setup,
-    calls: &[Vec<Sqe>],
-    most: u64,
-    names: &mut Vec<u64>,
-    walk: &mut Walk,
-) -> Result<bool, WalkFault>
-    requires { (names : List ℕ) → Goes setup.now (entries_of calls.now) names walk.old }
-    ensures right { OnOk result
-        (AreEndings setup.now (entries_of calls.now) walk.new.found.list.items) }
-    ensures all { IfOk result
-        (λ is_all. is_all ≡ true → AreAllEndings setup.now (entries_of calls.now) walk.new.found.list.items) }
-    ensures once { OnOk result (AreOnce walk.new.found.list.items) }
-    ensures fault { IfErr result (IsReason (M.grants memory.now) (entries_of calls.now)) }
-{
-    add_names(memory, calls, names)?;
-    take_turns(memory, alloc, setup, calls, names.as_slice(), most, walk)
-}
-
-/// Takes at most so many paths, and tells whether none is left.
+/// Takes at most so many paths, each the one that it is on or one of those that are still to be taken, and tells whether none is left.
 fn take_turns<M: MapMemory>(
     memory: &M,
     alloc: Global,
@@ -372,9 +240,10 @@ fn take_turns<M: MapMemory>(
     ensures fault { IfErr result (IsReason (M.grants memory.now) (entries_of calls.now)) }
 {
     'turns: for _ in 0..most {
-        if !walk.turn(memory, alloc, setup, calls, names)? {
+        if !walk.resume(memory, alloc, setup, calls)? {
             return Ok(true);
         }
+        walk.go_on(memory, alloc, calls, names)?;
     }
     Ok(!walk.is_on_path && walk.todo.is_empty())
 }

@@ -1,8 +1,9 @@
-use Rattle.std.proofs.Common.{◌≡◌, ℕ, false, true, [], ◌∷◌, ◌++◌, take, sym, subst, ap, ◌∙◌, arith}
+use Rattle.std.proofs.Common.{◌≡◌, ◌+◌, ℕ, false, true, [], ◌∷◌, ◌++◌, length, take, sym, subst, ap, ◌∙◌, arith}
 use Rattle.uring_outcomes.proofs.Common.{Global, NamesAll, Vec, addr_of, among, both_ways, is_cancel, ne_eqb, take_all}
+use Rattle.std.proofs.lemmas.Bool.{false≢true}
 use Rattle.uring_outcomes.proofs.Walking.{among_kept, among_pushed, names_kept, names_more}
 use Rattle.uring_outcomes.proofs.names.add_named.Goals as goal
-use Rattle.uring_outcomes.proofs.names.add_named.Goals.{then-opcode-eq-ASYNC_CANCEL+in_ok-push_name, else-opcode-eq-ASYNC_CANCEL}
+use Rattle.uring_outcomes.proofs.names.add_named.Goals.{then-opcode-eq-ASYNC_CANCEL+in_ok-reserve, else-opcode-eq-ASYNC_CANCEL}
 
 pub loop-entry-preserved : goal.loop-entry-preserved
 loop-entry-preserved g c =
@@ -11,8 +12,8 @@ loop-entry-preserved g c =
     let at = c.loop-entry.entry-index in
     let e = c.entry-item.result in
     elim c.if-opcode-eq-ASYNC_CANCEL.branch [
-      | then-opcode-eq-ASYNC_CANCEL+in_ok-push_name w ↦
-          let is : new ≡ names ++ w.addr.result ∷ [] = ap (λ (v : Vec ℕ Global). v.items) w.names-is ∙ w.in_ok-push_name.ensures.pushed in
+      | then-opcode-eq-ASYNC_CANCEL+in_ok-reserve w ↦
+          let is : new ≡ names ++ w.addr.result ∷ [] = ap (λ (v : Vec ℕ Global). v.items) w.names-is ∙ w.push_reserved.ensures.items ∙ ap (λ us. us ++ w.addr.result ∷ []) w.reserve.ensures.items in
           let kept : (u : ℕ) → among names u ≡ true → among new u ≡ true = λ u there. subst (λ xs. among xs u ≡ true) (sym is) (among_kept names (w.addr.result ∷ []) u there) in
           let here : among new (addr_of e) ≡ true = subst (λ xs. among xs (addr_of e) ≡ true) (sym is) (subst (λ u. among (names ++ w.addr.result ∷ []) u ≡ true) w.addr.ensures (among_pushed names w.addr.result)) in
           record {
@@ -31,3 +32,6 @@ loop-entry-preserved g c =
 
 pub returns-clause-named : goal.returns-clause-named
 returns-clause-named g c = subst (NamesAll (among c.loop-entry.names.items)) (take_all c.loop-entry.entry-index c.args.entries.now (omega arith)) c.loop-entry.invariant.named
+
+pub returns-in_err-reserve-clause-granted : goal.returns-in_err-reserve-clause-granted
+returns-in_err-reserve-clause-granted g c = λ all. absurd (false≢true (c.in_err-reserve.ensures.granted (length c.loop-entry.names.items + 1) (all _) (omega arith)))

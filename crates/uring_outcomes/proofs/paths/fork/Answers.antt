@@ -16,6 +16,6 @@ longer_but_last names m path moves rest pushed next old new has split same is =
           ∙ ap (λ ps. old ++ ps) (sym (map-append longer rest (option_to_list next)));
     }
 
-pub returns-in-Ok-clause-longer : goal.returns-in-Ok-clause-longer
-returns-in-Ok-clause-longer g c = λ m at.
-    longer_but_last c.args.names.now m c.args.path.now c.in_ok-moves.moves.items c.pop-next.new.self.items c.as_slice.result.now c.pop-next.result (paths_of c.args.todo.now.items) (paths_of c.push_longer-done.new.todo.items) (c.in_ok-moves.ensures.next m at) c.pop-next.ensures.items c.as_slice.ensures.value c.in-Ok.ensures.pushed
+pub returns-clause-longer : goal.returns-clause-longer
+returns-clause-longer g c = λ m at.
+    longer_but_last c.args.names.now m c.args.path.now c.in_ok-moves.moves.items c.pop-next.new.self.items c.as_slice.result.now c.pop-next.result (paths_of c.args.todo.now.items) (paths_of c.push_longer.new.todo.items) (c.in_ok-moves.ensures.next m at) c.pop-next.ensures.items c.as_slice.ensures.value c.in_ok-push_longer.ensures.pushed

@@ -1,6 +1,6 @@
 use Rattle.std.proofs.Common.{◌≡◌, ◌+◌, ◌<◌, ℕ, true, reverse}
 use Rattle.uring_crash.proofs.Common.{keeps_byte, slice_index}
-use Rattle.uring_crash.proofs.keeping.keeps_bytes.Given as goal
+use Rattle.uring_crash.proofs.keeping.keeps.Given as goal
 
 abbrev pub invariant-loop-j : goal.invariant-loop-j
 invariant-loop-j l =
