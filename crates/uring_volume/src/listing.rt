@@ -210,6 +210,29 @@ fn fronts<M: Memory>(
     Ok(files)
 }
 
+/// The files of each of these lengths.
+fn files_of_lengths<M: Memory>(
+    memory: &M,
+    alloc: Global,
+    unit: u64,
+    first: &[u8],
+    events: &[Event],
+    lengths: &[u64],
+) -> Result<Vec<Vec<u8>>, AllocError>
+    requires { 0 < unit }
+    ensures files { IfOk result (λ files. map (λ b. b.items) files.items
+        ≡ files_of unit first.now (reverse events.now) lengths.now) }
+    ensures granted { ((n : ℕ) → M.grants memory.now n) → IsOk result }
+{
+    let mut all = Vec::new(alloc);
+    for len in lengths {
+        let mut files = fronts(memory, alloc, unit, first, events, *len)?;
+        memory.reserve(&mut all, files.len())?;
+        let _ = all.append(&mut files);
+    }
+    Ok(all)
+}
+
 /// How many files of this length may be left, or 2^64 - 1 if there are more.
 fn count_fronts<M: Memory>(
     memory: &M,
@@ -232,6 +255,28 @@ fn count_fronts<M: Memory>(
     Ok(count)
 }
 
+/// How many files of these lengths may be left, or 2^64 - 1 if there are more.
+fn count_files<M: Memory>(
+    memory: &M,
+    alloc: Global,
+    unit: u64,
+    first: &[u8],
+    events: &[Event],
+    lengths: &[u64],
+) -> Result<u64, AllocError>
+    requires { 0 < unit }
+    ensures count { IfOk result (λ count. count
+        ≡ min (length (files_of unit first.now (reverse events.now) lengths.now)) (2 ^ 64 - 1)) }
+    ensures granted { ((n : ℕ) → M.grants memory.now n) → IsOk result }
+{
+    let mut count: u64 = 0;
+    for len in lengths {
+        let more = count_fronts(memory, alloc, unit, first, events, *len)?;
+        count = count.saturating_add(more);
+    }
+    Ok(count)
+}
+
 /// How many images there are of a file, or 2^64 - 1 if there are more.
 pub fn count_images<M: Memory>(
     memory: &M,
@@ -247,12 +292,7 @@ pub fn count_images<M: Memory>(
 {
     let pieces = issued_pieces(memory, alloc, events)?;
     let lengths = lengths(memory, alloc, events, &pieces, first.len() as u64)?;
-    let mut count: u64 = 0;
-    for len in &lengths {
-        let more = count_fronts(memory, alloc, unit, first, events, *len)?;
-        count = count.saturating_add(more);
-    }
-    Ok(count)
+    count_files(memory, alloc, unit, first, events, &lengths)
 }
 
 /// The images of a file, each once.
@@ -270,11 +310,5 @@ pub fn list_images<M: Memory>(
 {
     let pieces = issued_pieces(memory, alloc, events)?;
     let lengths = lengths(memory, alloc, events, &pieces, first.len() as u64)?;
-    let mut all = Vec::new(alloc);
-    for len in &lengths {
-        let mut files = fronts(memory, alloc, unit, first, events, *len)?;
-        memory.reserve(&mut all, files.len())?;
-        let _ = all.append(&mut files);
-    }
-    Ok(all)
+    files_of_lengths(memory, alloc, unit, first, events, &lengths)
 }
