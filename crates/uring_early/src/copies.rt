@@ -30,33 +30,14 @@ fn bytes_of(alloc: Global, files: &Files, fd: u32) -> Result<Vec<u8>, AllocError
     ensures limit { IfOk result (λ bytes. vec_len bytes ≤ max_len) }
 {
     let mut bytes = Vec::new(alloc);
-    for at in 0..len_of(files, fd) {
-        match byte_at(files, fd, at) {
+    let Some(state) = files.state(fd as i32) else {
+        return Ok(bytes);
+    };
+    for at in 0..state.len {
+        match files.byte(fd as i32, u64::from(at)) {
             Some(byte) => bytes.push(byte)?,
             None => {}
         }
     }
     Ok(bytes)
-}
-
-/// The length of the file at this place, 0 if there is none.
-fn len_of(files: &Files, fd: u32) -> u32
-    requires { fd ≤ 64 }
-    ensures value { (f : FileContents) → slice_get files.now fd ≡ Some f
-        → result ≡ length f.bytes }
-    ensures limit { result ≤ max_len }
-{
-    match files.state(fd as i32) {
-        Some(state) => state.len,
-        None => 0,
-    }
-}
-
-/// A byte of the file at this place.
-fn byte_at(files: &Files, fd: u32, at: u32) -> Option<u8>
-    requires { fd ≤ 64 }
-    ensures { (f : FileContents) → slice_get files.now fd ≡ Some f
-        → result ≡ slice_get f.bytes at }
-{
-    files.byte(fd as i32, u64::from(at))
 }

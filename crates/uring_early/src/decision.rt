@@ -1,11 +1,10 @@
 //! Whether a history is lawful by early effects.
 
-ghost use Rattle.std.specs.Prelude.{◌≡◌, [], IfOk};
+ghost use Rattle.std.specs.Prelude.{◌≡◌, IfOk};
 ghost use Rattle.uring_core.specs.Histories.{history_of};
 ghost use Rattle.uring_early.specs.Decided as decided;
 ghost use Rattle.uring_early.specs.Decided.{IsFound};
 
-use crate::mark::Mark;
 use crate::marks::add_marks;
 use crate::search::{Fate, explain};
 use std::alloc::{AllocError, Global};
@@ -38,25 +37,9 @@ pub fn find_effects(
 ) -> Result<Found, AllocError>
     ensures { IfOk result (IsFound setup.now (history_of events.now)) }
 {
-    let mut marks = Vec::new(alloc);
-    let found = find_by(alloc, setup, events, most, &mut marks);
-    drop(marks);
-    found
-}
-
-/// Whether it is, by its marks. None is there yet.
-fn find_by(
-    alloc: Global,
-    setup: &Setup,
-    events: &[(Step, Answer)],
-    most: u64,
-    marks: &mut Vec<Mark>,
-) -> Result<Found, AllocError>
-    requires { marks.old.items ≡ [] }
-    ensures { IfOk result (IsFound setup.now (history_of events.now)) }
-{
     let mut core = Core::new(alloc, setup)?;
-    let lawful = add_marks(&mut core, events, marks);
+    let mut marks = Vec::new(alloc);
+    let lawful = add_marks(&mut core, events, &mut marks);
     drop(core);
     if !lawful? {
         return Ok(Found::Unlawful);

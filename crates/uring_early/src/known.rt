@@ -90,44 +90,16 @@ pub(crate) fn add_known(
         → IssuesMeet core.old.setup told.now [] events.now → ⊥) }
 {
     for event in events {
-        if !add_one(core, event, told, marks)? {
+        let before = posted(core);
+        if !follow_one(core, event)? {
             return Ok(false);
         }
+        let known = bytes_at(told, before, posted(core));
+        if !issue_meets(&known, event) {
+            return Ok(false);
+        }
+        marks.push(mark_known(core, event, &known))?;
     }
-    Ok(true)
-}
-
-/// Follows an event, if it is called for, with its mark, and tells whether it is, and has the bytes that are known if it is an issue.
-fn add_one(
-    core: &mut Core,
-    event: &(Step, Answer),
-    told: &[[u8; 64]],
-    marks: &mut Vec<Mark>,
-) -> Result<bool, AllocError>
-    ensures setup { core.new.setup ≡ core.old.setup }
-    ensures called { IfOk result
-        (λ called. called ≡ true → (h : History) → FitsApart core.old h → FitsApart core.new (event.now ∷ h)) }
-    ensures meets { IfOk result
-        (λ called. called ≡ true → (h : History) → FitsApart core.old h
-        → IssueMeets (known_by core.old.setup told.now h event.now) event.now) }
-    ensures mark { IfOk result
-        (λ called. called ≡ true → (h : History) → FitsApart core.old h
-        → marks.new.items
-        ≡ marks.old.items ++ known_mark (known_by core.old.setup told.now h event.now) (world core.old.setup (event.now ∷ h)).requests event.now ∷ []) }
-    ensures wrong { IfOk result
-        (λ called. called ≡ false → (h : History) → FitsApart core.old h
-        → CalledForApart core.old.setup (world core.old.setup h) event.now.0 event.now.1
-        → IssueMeets (known_by core.old.setup told.now h event.now) event.now → ⊥) }
-{
-    let before = posted(core);
-    if !follow_one(core, event)? {
-        return Ok(false);
-    }
-    let known = bytes_at(told, before, posted(core));
-    if !issue_meets(&known, event) {
-        return Ok(false);
-    }
-    marks.push(mark_known(core, event, &known))?;
     Ok(true)
 }
 
@@ -154,18 +126,11 @@ fn issue_meets(known: &Option<[u8; 64]>, event: &(Step, Answer)) -> bool
     ensures { IsTrue result ↔ IssueMeets known.now event.now }
 {
     match event {
-        (Step::Issue { .. }, Answer::Ended { bytes, .. }) => meets(known, bytes),
+        (Step::Issue { .. }, Answer::Ended { bytes, .. }) => match known {
+            Some(known) => known == bytes,
+            None => true,
+        },
         _ => true,
-    }
-}
-
-/// Whether bytes that are known are these.
-fn meets(known: &Option<[u8; 64]>, bytes: &[u8; 64]) -> bool
-    ensures { IsTrue result ↔ MeetsBytes known.now bytes.now }
-{
-    match known {
-        Some(known) => known == bytes,
-        None => true,
     }
 }
 

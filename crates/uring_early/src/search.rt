@@ -49,25 +49,15 @@ fn search_all(
 {
     todo.push(State::new(alloc, count)?)?;
     'moves: for _ in 0..most {
-        let fate = search_one(alloc, count, marks, todo)?;
-        if !is_open(fate) {
-            return Ok(fate);
+        match search_one(alloc, count, marks, todo)? {
+            Fate::Open => {}
+            fate => return Ok(fate),
         }
     }
     Ok(Fate::Open)
 }
 
-/// Whether some are left to be tried.
-fn is_open(fate: Fate) -> bool
-    ensures { result ≡ true → fate ≡ Fate.Open }
-{
-    match fate {
-        Fate::Open => true,
-        _ => false,
-    }
-}
-
-/// Goes on from the last state, if there is one.
+/// Goes on from the last state, if there is one, unless it stands after all marks.
 fn search_one(
     alloc: Global,
     count: u32,
@@ -81,22 +71,7 @@ fn search_one(
     let Some(state) = todo.pop() else {
         return Ok(Fate::Over);
     };
-    go_on(alloc, count, marks, state, todo)
-}
-
-/// Goes on from this state, unless it stands after all marks.
-fn go_on(
-    alloc: Global,
-    count: u32,
-    marks: &[Mark],
-    state: State,
-    todo: &mut Vec<State>,
-) -> Result<Fate, AllocError>
-    requires limit { count ≤ 64 }
-    requires stands { IsSearch count marks.now (seats_of todo.old.items ++ seat_of state ∷ []) }
-    ensures { IfOk result (HasFate count marks.now (seats_of todo.new.items)) }
-{
-    if state.is_over(marks) {
+    if state.place == marks.len() {
         drop(state);
         return Ok(Fate::Explained);
     }
@@ -104,12 +79,12 @@ fn go_on(
     Ok(Fate::Open)
 }
 
-/// Puts in place of a state before a mark those that are one move further.
+/// Puts in place of a state before a mark those that are one move further: past the mark, or with each operation having taken effect that may, each in a state of its own.
 fn replace(
     alloc: Global,
     count: u32,
     marks: &[Mark],
-    state: State,
+    mut state: State,
     todo: &mut Vec<State>,
 ) -> Result<(), AllocError>
     requires limit { count ≤ 64 }
@@ -117,10 +92,12 @@ fn replace(
     requires before { state.place < length marks.now }
     ensures { OnOk result (Replaces count marks.now (seat_of state) (seats_of todo.old.items) (seats_of todo.new.items)) }
 {
-    match state.awaited(marks) {
-        Some(number) => branch(alloc, count, marks, state, number, todo),
-        None => pass(alloc, count, marks, state, todo),
-    }
+    let Some(awaited) = state.awaited(marks) else {
+        return pass(alloc, count, marks, state, todo);
+    };
+    let takers = state.takers(alloc, marks, awaited)?;
+    push_all(alloc, count, marks, state, takers.as_slice(), todo)?;
+    Ok(())
 }
 
 /// Goes past the mark, if that may be.
@@ -144,31 +121,12 @@ fn pass(
     Ok(())
 }
 
-/// Has each operation take effect that may, each in a state of its own.
-fn branch(
-    alloc: Global,
-    count: u32,
-    marks: &[Mark],
-    mut state: State,
-    awaited: u64,
-    todo: &mut Vec<State>,
-) -> Result<(), AllocError>
-    requires limit { count ≤ 64 }
-    requires placed { IsPlaced count marks.now (seat_of state) }
-    requires waits { awaits_at marks.now (seat_of state) ≡ true }
-    ensures { OnOk result (Replaces count marks.now (seat_of state) (seats_of todo.old.items) (seats_of todo.new.items)) }
-{
-    let takers = state.takers(alloc, marks, awaited)?;
-    push_all(alloc, count, marks, state, takers.as_slice(), todo)?;
-    Ok(())
-}
-
 /// Puts this state after each of these effects among those to be gone on from, the last in its own memory.
 fn push_all(
     alloc: Global,
     count: u32,
     marks: &[Mark],
-    state: State,
+    mut state: State,
     takers: &[Taker],
     todo: &mut Vec<State>,
 ) -> Result<(), AllocError>
@@ -185,22 +143,7 @@ fn push_all(
     let before = takers.len() - 1;
     let last = takers[before];
     push_others(alloc, count, marks, &state, &takers[..before], todo)?;
-    push_last(alloc, marks, state, &last, todo)
-}
-
-/// Puts this state after this effect among those to be gone on from, in its own memory.
-fn push_last(
-    alloc: Global,
-    marks: &[Mark],
-    mut state: State,
-    taker: &Taker,
-    todo: &mut Vec<State>,
-) -> Result<(), AllocError>
-    requires { MayTakeAt marks.now (seat_of state) taker.now }
-    ensures { OnOk result
-        (seats_of todo.new.items ≡ seats_of todo.old.items ++ took_at (seat_of state) taker.now ∷ []) }
-{
-    state.take(alloc, marks, taker)?;
+    state.take(alloc, marks, &last)?;
     todo.push(state)?;
     Ok(())
 }
@@ -221,28 +164,9 @@ fn push_others(
         (seats_of todo.new.items ≡ seats_of todo.old.items ++ map (took_at (seat_of state.now)) takers.now) }
 {
     for taker in takers {
-        push_other(alloc, count, marks, state, taker, todo)?;
+        let mut other = state.copied(alloc, count)?;
+        other.take(alloc, marks, taker)?;
+        todo.push(other)?;
     }
-    Ok(())
-}
-
-/// Puts this state after this effect among those to be gone on from.
-fn push_other(
-    alloc: Global,
-    count: u32,
-    marks: &[Mark],
-    state: &State,
-    taker: &Taker,
-    todo: &mut Vec<State>,
-) -> Result<(), AllocError>
-    requires limit { count ≤ 64 }
-    requires placed { IsPlaced count marks.now (seat_of state.now) }
-    requires may { MayTakeAt marks.now (seat_of state.now) taker.now }
-    ensures { OnOk result
-        (seats_of todo.new.items ≡ seats_of todo.old.items ++ took_at (seat_of state.now) taker.now ∷ []) }
-{
-    let mut other = state.copied(alloc, count)?;
-    other.take(alloc, marks, taker)?;
-    todo.push(other)?;
     Ok(())
 }

@@ -8,11 +8,10 @@ ghost use Rattle.uring_early.specs.Search.{seat_of, took_at, passed_at, left_at,
 
 use crate::apply::carry_out;
 use crate::copies::copied;
-use crate::mark::{End, Mark};
+use crate::mark::Mark;
 use crate::running::{Running, look, taken_by, took_effect_so, with_taken, without};
 use crate::takers::{Taker, takers_of};
 use std::alloc::{AllocError, Global};
-use uring_entry::Op;
 use uring_files::Files;
 
 /// How files and operations stand before the mark of this place.
@@ -51,27 +50,13 @@ impl State {
         })
     }
 
-    /// Whether it stands after the last mark.
-    pub(crate) fn is_over(&self, marks: &[Mark]) -> bool
-        ensures { IsTrue result ↔ (self.now.place ≡ length marks.now) }
-    {
-        self.place == marks.len()
-    }
-
     /// The request whose end is next, if its operation has taken no effect.
     pub(crate) fn awaited(&self, marks: &[Mark]) -> Option<u64>
         ensures { is_some result ≡ awaits_at marks.now (seat_of self.now) }
     {
-        match marks.get(self.place) {
-            Some(mark) => self.awaited_by(mark),
-            None => None,
-        }
-    }
-
-    /// The request that this mark ends, if its operation has taken no effect.
-    fn awaited_by(&self, mark: &Mark) -> Option<u64>
-        ensures { (later : List Mark) → is_some result ≡ awaits self.now.running.items (mark.now ∷ later) }
-    {
+        let Some(mark) = marks.get(self.place) else {
+            return None;
+        };
         let Mark::Ends { number, .. } = mark else {
             return None;
         };
@@ -111,55 +96,22 @@ impl State {
     {
         match *mark {
             Mark::Starts { number, op } => {
-                self.start(number, op)?;
+                self.running.push(Running {
+                    number,
+                    op,
+                    taken: None,
+                })?;
                 Ok(true)
             }
-            Mark::Ends { number, end } => self.end_so(alloc, number, &end),
+            Mark::Ends { number, end } => {
+                if !took_effect_so(self.running.as_slice(), number, &end) {
+                    return Ok(false);
+                }
+                self.running = without(alloc, self.running.as_slice(), number)?;
+                Ok(true)
+            }
             Mark::Idle => Ok(true),
         }
-    }
-
-    /// The operation of a request ends like this, if it took effect so, and tells whether it did.
-    fn end_so(&mut self, alloc: Global, number: u64, end: &End) -> Result<bool, AllocError>
-        ensures so { IfOk result
-            (λ so. so ≡ true
-            → moves.EndsBy (moves.taken_by self.old.running.items number) end.now
-            × (self.new.running.items ≡ moves.without self.old.running.items number)) }
-        ensures other { IfOk result
-            (λ so. so ≡ false → moves.EndsBy (moves.taken_by self.old.running.items number) end.now → ⊥) }
-        ensures kept { OnOk result (self.new ≡ record self.old { running = self.new.running }) }
-    {
-        if !took_effect_so(self.running.as_slice(), number, end) {
-            return Ok(false);
-        }
-        self.end(alloc, number)?;
-        Ok(true)
-    }
-
-    /// An operation starts.
-    fn start(&mut self, number: u64, op: Op) -> Result<(), AllocError>
-        ensures kept { OnOk result (self.new ≡ record self.old { running = self.new.running }) }
-        ensures running { OnOk result
-            (self.new.running.items
-            ≡ self.old.running.items ++ record { number = number; op = op; taken = None } ∷ []) }
-    {
-        self.running.push(Running {
-            number,
-            op,
-            taken: None,
-        })?;
-        Ok(())
-    }
-
-    /// That of a request ends.
-    fn end(&mut self, alloc: Global, number: u64) -> Result<(), AllocError>
-        ensures kept { OnOk result (self.new ≡ record self.old { running = self.new.running }) }
-        ensures running { OnOk result
-            (self.new.running.items ≡ moves.without self.old.running.items number) }
-    {
-        let rest = without(alloc, self.running.as_slice(), number)?;
-        self.running = rest;
-        Ok(())
     }
 
     /// Has an operation take effect that may.

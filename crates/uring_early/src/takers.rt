@@ -79,7 +79,11 @@ fn add_taker(
     ensures { OnOk result
         (Adds (λ x. (x ≡ record { number = number; outcome = outcome }) × FitsEnd wanted.now outcome) takers.old.items takers.new.items) }
 {
-    if fits(wanted, &outcome) {
+    let fits = match wanted {
+        Some(end) => end.is_met_by(&outcome),
+        None => true,
+    };
+    if fits {
         takers.push(Taker { number, outcome })?;
     }
     Ok(())
@@ -97,14 +101,4 @@ fn end_of(left: &[Mark], number: u64) -> Option<End>
         }
     }
     None
-}
-
-/// Whether an operation with this outcome may end as is wanted, if an end is.
-fn fits(wanted: &Option<End>, outcome: &Outcome) -> bool
-    ensures { IsTrue result ↔ FitsEnd wanted.now outcome.now }
-{
-    match wanted {
-        Some(end) => end.is_met_by(outcome),
-        None => true,
-    }
 }

@@ -11,7 +11,7 @@ ghost use Rattle.uring_volume.specs.Volume.{with_write, with_sync};
 ghost use Rattle.uring_volume.specs.declared.event.SyncRange.TheVariants.{Whole};
 ghost use Rattle.uring_epochs.specs.Asked.{is_safe_of};
 ghost use Rattle.uring_epochs.specs.Logs as spec;
-ghost use Rattle.uring_epochs.specs.Logs.{request_of, log_on, begun, begun_of, issued_as, finished, finished_of, finished_as, write_ended, sync_with};
+ghost use Rattle.uring_epochs.specs.Logs.{request_of, log_on, begun, issued_as, finished, finished_as, write_ended, sync_with};
 
 mod readings;
 
@@ -142,7 +142,10 @@ impl FileLog {
         ensures granted { ((k : ℕ) → M.grants memory.now k) → IsOk result }
     {
         match answer {
-            Answer::Run => self.begin_running(memory, n, op),
+            Answer::Run => match op {
+                Some(op) => self.begin(memory, n, &op),
+                None => Ok(()),
+            },
             _ => Ok(()),
         }
     }
@@ -164,39 +167,11 @@ impl FileLog {
         ensures first { self.new.volume.first ≡ self.old.volume.first }
     {
         match answer {
-            Answer::Ended { res, .. } => self.end_running(memory, n, op, *res),
+            Answer::Ended { res, .. } => match op {
+                Some(op) => self.end(memory, n, &op, *res),
+                None => {}
+            },
             _ => {}
-        }
-    }
-
-    /// A request begins, if it runs.
-    fn begin_running<M: Memory>(
-        &mut self,
-        memory: &M,
-        n: u64,
-        op: Option<Op>,
-    ) -> Result<(), AllocError>
-        requires { IfSome op IsForFiles }
-        ensures log { OnOk result (self.new ≡ begun_of n op self.old) }
-        ensures unit { self.new.volume.unit ≡ self.old.volume.unit }
-        ensures first { self.new.volume.first ≡ self.old.volume.first }
-        ensures granted { ((k : ℕ) → M.grants memory.now k) → IsOk result }
-    {
-        match op {
-            Some(op) => self.begin(memory, n, &op),
-            None => Ok(()),
-        }
-    }
-
-    /// A request ends, if it ran.
-    fn end_running<M: Memory>(&mut self, memory: &M, n: u64, op: Option<Op>, res: i32)
-        ensures log { self.new ≡ finished_of n op res self.old }
-        ensures unit { self.new.volume.unit ≡ self.old.volume.unit }
-        ensures first { self.new.volume.first ≡ self.old.volume.first }
-    {
-        match op {
-            Some(op) => self.end(memory, n, &op, res),
-            None => {}
         }
     }
 

@@ -2,7 +2,6 @@
 
 ghost use Rattle.std.specs.Prelude.{◌≡◌, ◌+◌, ◌-◌, ◌*◌, ◌^◌, ◌<◌, ◌≤◌, ◌∷◌, [], ◌++◌, ◌&&◌, ◌||◌, ℕ, min, max, nat_eq, length, if◌then◌else◌, map, reverse, IfOk, OnOk, IsOk};
 ghost use Rattle.std.specs.List.{filter};
-ghost use Rattle.uring_volume.specs.Events as spec_events;
 ghost use Rattle.uring_volume.specs.Images.{end_of, length_over};
 ghost use Rattle.uring_volume.specs.Choices.{issued};
 ghost use Rattle.uring_volume.specs.Ways as spec;
@@ -24,20 +23,12 @@ fn goes_with(events: &[Event], n: u64, piece: &Piece) -> bool
     piece.number() == n || is_before(events, piece.number(), n)
 }
 
-/// Whether a write is to be left because this one is safe.
-fn needs(events: &[Event], safe: &Piece, piece: &Piece) -> bool
-    ensures { result ≡ (spec_events.is_safe (reverse events.now) safe.now
-        && spec.goes_with (reverse events.now) safe.now.number piece.now) }
-{
-    is_safe(events, safe) && goes_with(events, safe.number(), piece)
-}
-
 /// Whether a write is to be left because one of these is safe.
 fn is_needed(events: &[Event], pieces: &[&Piece], piece: &Piece) -> bool
     ensures { result ≡ spec.is_needed (reverse events.now) (map (λ p. p.now) pieces.now) piece.now }
 {
     for safe in pieces {
-        if needs(events, safe, piece) {
+        if is_safe(events, safe) && goes_with(events, safe.number(), piece) {
             return true;
         }
     }
@@ -66,21 +57,14 @@ fn least_length(events: &[Event], pieces: &[&Piece], first: u64) -> u64
     len
 }
 
-/// Whether a write is to be left if write `n` is, or anyway.
-fn is_left_with(events: &[Event], pieces: &[&Piece], n: u64, piece: &Piece) -> bool
-    ensures { result ≡ (spec.goes_with (reverse events.now) n piece.now
-        || spec.is_needed (reverse events.now) (map (λ p. p.now) pieces.now) piece.now) }
-{
-    goes_with(events, n, piece) || is_needed(events, pieces, piece)
-}
-
 /// The length that the fewest of these writes make that may be left with write `n`.
 fn least_length_with(events: &[Event], pieces: &[&Piece], n: u64, first: u64) -> u64
     ensures { result ≡ length_over first (fewest_with (reverse events.now) (map (λ p. p.now) pieces.now) n) }
 {
     let mut len = first;
     for piece in pieces {
-        len = longer_if(is_left_with(events, pieces, n, piece), len, piece);
+        let is_left = goes_with(events, n, piece) || is_needed(events, pieces, piece);
+        len = longer_if(is_left, len, piece);
     }
     len
 }
@@ -164,22 +148,6 @@ fn unit_contents<M: Memory>(
     contents(memory, alloc, events, from, on, bytes)
 }
 
-/// Some bytes with others after them.
-fn with_end<M: Memory>(
-    memory: &M,
-    alloc: Global,
-    front: &[u8],
-    end: &[u8],
-) -> Result<Vec<u8>, AllocError>
-    ensures bytes { IfOk result (λ file. file.items ≡ front.now ++ end.now) }
-    ensures granted { ((n : ℕ) → M.grants memory.now n) → IsOk result }
-{
-    let mut file = copied(memory, alloc, front)?;
-    memory.reserve(&mut file, end.len())?;
-    let _ = file.extend_from_slice(end);
-    Ok(file)
-}
-
 /// Puts a front with each of these ends after some files.
 fn put_joined<M: Memory>(
     memory: &M,
@@ -193,7 +161,9 @@ fn put_joined<M: Memory>(
     ensures granted { ((n : ℕ) → M.grants memory.now n) → IsOk result }
 {
     for end in ends {
-        let file = with_end(memory, alloc, front, end)?;
+        let mut file = copied(memory, alloc, front)?;
+        memory.reserve(&mut file, end.len())?;
+        let _ = file.extend_from_slice(end);
         push(memory, files, file)?;
     }
     Ok(())
@@ -240,19 +210,6 @@ fn fronts<M: Memory>(
     Ok(files)
 }
 
-/// Moves these files after others.
-fn move_all<M: Memory>(
-    memory: &M,
-    files: &mut Vec<Vec<u8>>,
-    all: &mut Vec<Vec<u8>>,
-) -> Result<(), AllocError>
-    ensures moved { OnOk result (all.new.items ≡ all.old.items ++ files.old.items) }
-    ensures granted { ((n : ℕ) → M.grants memory.now n) → IsOk result }
-{
-    memory.reserve(all, files.len())?;
-    all.append(files)
-}
-
 /// The files of each of these lengths.
 fn files_of_lengths<M: Memory>(
     memory: &M,
@@ -270,7 +227,8 @@ fn files_of_lengths<M: Memory>(
     let mut all = Vec::new(alloc);
     for len in lengths {
         let mut files = fronts(memory, alloc, unit, first, events, *len)?;
-        move_all(memory, &mut files, &mut all)?;
+        memory.reserve(&mut all, files.len())?;
+        let _ = all.append(&mut files);
     }
     Ok(all)
 }

@@ -31,18 +31,6 @@ pub fn copied<M: Memory>(memory: &M, alloc: Global, bytes: &[u8]) -> Result<Vec<
     grown(memory, alloc, bytes, bytes.len())
 }
 
-/// Whether these bytes are among those found.
-fn has_bytes(found: &[Vec<u8>], bytes: &[u8]) -> bool
-    ensures { result ≡ list_any (λ y. pointwise nat_eq y bytes.now) (map (λ b. b.items) found.now) }
-{
-    for one in found {
-        if one.as_slice() == bytes {
-            return true;
-        }
-    }
-    false
-}
-
 /// Puts these bytes after those found, if they aren't among them.
 fn put_bytes<M: Memory>(
     memory: &M,
@@ -54,8 +42,10 @@ fn put_bytes<M: Memory>(
         ≡ put_by (pointwise nat_eq) (map (λ b. b.items) found.old.items) bytes.now) }
     ensures granted { ((n : ℕ) → M.grants memory.now n) → IsOk result }
 {
-    if has_bytes(found, bytes) {
-        return Ok(());
+    for one in found.iter() {
+        if one.as_slice() == bytes {
+            return Ok(());
+        }
     }
     let copy = copied(memory, alloc, bytes)?;
     push(memory, found, copy)
@@ -83,21 +73,13 @@ fn are_same_writes(one: &[&Piece], other: &[&Piece]) -> bool
     true
 }
 
-/// Whether a way has these writes still to come and these bytes.
-fn is_same_way(way: &Way, rest: &[&Piece], now: &[u8]) -> bool
-    ensures { result ≡ same_way (spec.way (map (λ p. p.now) way.entry.now.rest.items) way.entry.now.now.items)
-        (spec.way (map (λ p. p.now) rest.now) now.now) }
-{
-    way.now.as_slice() == now && are_same_writes(&way.rest, rest)
-}
-
 /// Whether a way is among these.
 fn has_way(ways: &[Way], rest: &[&Piece], now: &[u8]) -> bool
     ensures { result ≡ list_any (λ y. same_way y (spec.way (map (λ p. p.now) rest.now) now.now))
         (map (λ s. spec.way (map (λ p. p.now) s.rest.items) s.now.items) ways.now) }
 {
     for way in ways {
-        if is_same_way(way, rest, now) {
+        if way.now.as_slice() == now && are_same_writes(&way.rest, rest) {
             return true;
         }
     }
@@ -162,28 +144,7 @@ fn others<'a, M: Memory>(
     Ok(others)
 }
 
-/// Puts the way on by a write after these ways, if it isn't among them.
-fn put_step<'a, M: Memory>(
-    memory: &M,
-    alloc: Global,
-    from: u64,
-    rest: &[&'a Piece],
-    now: &[u8],
-    piece: &Piece,
-    next: &mut Vec<Way<'a>>,
-) -> Result<(), AllocError>
-    ensures put { OnOk result (map (λ s. spec.way (map (λ p. p.now) s.rest.items) s.now.items) next.new.items
-        ≡ put_by same_way (map (λ s. spec.way (map (λ p. p.now) s.rest.items) s.now.items) next.old.items)
-        (spec.stepped from (spec.way (map (λ p. p.now) rest.now) now.now) piece.now)) }
-    ensures granted { ((n : ℕ) → M.grants memory.now n) → IsOk result }
-{
-    let rest = others(memory, alloc, rest, piece.number())?;
-    let mut left = copied(memory, alloc, now)?;
-    write_at(&mut left, from, piece);
-    put_way(memory, next, Way { rest, now: left })
-}
-
-/// Puts the ways on from one after others, by each of its writes that may come next.
+/// Puts the ways on from one after others, by each of its writes that may come next, each if it isn't among them.
 fn put_steps<'a, M: Memory>(
     memory: &M,
     alloc: Global,
@@ -200,7 +161,14 @@ fn put_steps<'a, M: Memory>(
 {
     for piece in rest {
         if !has_one_before(events, rest, piece.number()) {
-            put_step(memory, alloc, from, rest, now, piece, next)?;
+            let later = others(memory, alloc, rest, piece.number())?;
+            let mut left = copied(memory, alloc, now)?;
+            write_at(&mut left, from, piece);
+            let way = Way {
+                rest: later,
+                now: left,
+            };
+            put_way(memory, next, way)?;
         }
     }
     Ok(())

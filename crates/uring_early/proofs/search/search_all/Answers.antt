@@ -17,9 +17,7 @@ moves-init c =
     subst (λ (xs : List State). IsSearch c.args.count c.args.marks.now (seats_of xs)) (sym (c.in_ok-push.ensures.items ∙ ap (λ (xs : List State). xs ++ c.in_ok-new.field-0 ∷ []) c.requires.none)) (begins c.args.count c.args.marks.now (seat_of c.in_ok-new.field-0) c.in_ok-new.ensures)
 
 pub moves-preserved : goal.moves-preserved
-moves-preserved c =
-    let goes : c.is_open.result ≡ true = search (rules, not-false) in
-    subst (HasFate c.args.count c.args.marks.now (seats_of c.search_one.new.todo.items)) (c.is_open.ensures goes) c.in_ok-fate.ensures
+moves-preserved c = subst (HasFate c.args.count c.args.marks.now (seats_of c.search_one.new.todo.items)) c.in-Open.is c.in_ok-fate.ensures
 
-pub returns-then-not-is_open : goal.returns-then-not-is_open
-returns-then-not-is_open c = fated c.args.count c.args.marks.now (seats_of c.search_one.new.todo.items) c.in_ok-fate.fate c.in_ok-fate.ensures
+pub returns-in_default : goal.returns-in_default
+returns-in_default c = fated c.args.count c.args.marks.now (seats_of c.search_one.new.todo.items) _ c.in_ok-fate.ensures

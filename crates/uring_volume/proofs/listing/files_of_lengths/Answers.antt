@@ -1,10 +1,11 @@
-use Rattle.std.proofs.Common.{◌+◌, ◌++◌, map, drop, reverse, append_assoc, sym, ap, ◌∙◌}
+use Rattle.std.proofs.Common.{◌≡◌, rules, ◌+◌, ◌++◌, map, drop, reverse, append_assoc, sym, ap, ◌∙◌}
 use Rattle.uring_volume.proofs.Common.{append-nil, drop_all, drop_more, files_of, map-append, false≢true}
 use Rattle.uring_volume.proofs.listing.files_of_lengths.Goals as goal
 
 pub loop-len-preserved : goal.loop-len-preserved
 loop-len-preserved g c =
-    ap (λ xs. map (λ b. b.items) xs ++ files_of c.args.unit c.args.first.now (reverse c.args.events.now) (drop (c.loop-len.len-index + 1) c.args.lengths.now)) c.in_ok-move_all.ensures.moved
+    let appended : c.append.new.self.items ≡ c.loop-len.all.items ++ c.in_ok-files.files.items = search rules in
+    ap (λ xs. map (λ b. b.items) xs ++ files_of c.args.unit c.args.first.now (reverse c.args.events.now) (drop (c.loop-len.len-index + 1) c.args.lengths.now)) appended
     ∙ ap (λ xs. xs ++ files_of c.args.unit c.args.first.now (reverse c.args.events.now) (drop (c.loop-len.len-index + 1) c.args.lengths.now)) (map-append (λ b. b.items) c.loop-len.all.items c.in_ok-files.files.items)
     ∙ append_assoc (map (λ b. b.items) c.loop-len.all.items) (map (λ b. b.items) c.in_ok-files.files.items) (files_of c.args.unit c.args.first.now (reverse c.args.events.now) (drop (c.loop-len.len-index + 1) c.args.lengths.now))
     ∙ ap (λ f. map (λ b. b.items) c.loop-len.all.items ++ (f ++ files_of c.args.unit c.args.first.now (reverse c.args.events.now) (drop (c.loop-len.len-index + 1) c.args.lengths.now))) c.in_ok-files.ensures.fronts
@@ -19,6 +20,3 @@ returns-clause-files g c =
 
 pub returns-in_err-files-clause-granted : goal.returns-in_err-files-clause-granted
 returns-in_err-files-clause-granted g c = λ all. absurd (false≢true (c.in_err-files.ensures.granted all))
-
-pub returns-in_err-move_all-clause-granted : goal.returns-in_err-move_all-clause-granted
-returns-in_err-move_all-clause-granted g c = λ all. absurd (false≢true (c.in_err-move_all.ensures.granted all))

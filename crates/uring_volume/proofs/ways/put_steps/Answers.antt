@@ -1,8 +1,9 @@
-use Rattle.std.proofs.Common.{◌≡◌, ◌+◌, cond, map, drop, reverse, sym, ap, ◌∙◌}
-use Rattle.uring_volume.proofs.Common.{cond-false, cond-true, put_by, same_way, stepped, steps_of, waits_for_one, way, false≢true, drop_all}
+use Rattle.std.proofs.Common.{◌≡◌, ◌+◌, ◌++◌, cond, length, map, take, drop, reverse, sym, ap, ◌∙◌, rules}
+use Rattle.uring_volume.proofs.Common.{bytes_over, cond-false, cond-true, put_by, same_way, stepped, steps_of, waits_for_one, way, without, false≢true, drop_all}
+use Rattle.uring_volume.proofs.Painting.{written_back}
 use Rattle.uring_volume.proofs.Seeking.{dropped}
 use Rattle.uring_volume.proofs.ways.put_steps.Goals as goal
-use Rattle.uring_volume.proofs.ways.put_steps.Goals.{then-not-has_one_before+in_ok-put_step, else-not-has_one_before}
+use Rattle.uring_volume.proofs.ways.put_steps.Goals.{then-not-has_one_before+in_ok-later+in_ok-left+in_ok-put_way, else-not-has_one_before}
 
 pub loop-piece-preserved : goal.loop-piece-preserved
 loop-piece-preserved g c =
@@ -11,15 +12,29 @@ loop-piece-preserved g c =
     (elim c.if-not-has_one_before.branch as (λ _. map (λ s. way (map (λ p. p.now) s.rest.items) s.now.items) c.if-not-has_one_before.next.items
     ≡ cond (waits_for_one (reverse c.args.events.now) (map (λ p. p.now) c.args.rest.now) c.piece-item.result.now.number) (map (λ s. way (map (λ p. p.now) s.rest.items) s.now.items) c.loop-piece.next.items)
     (put_by same_way (map (λ s. way (map (λ p. p.now) s.rest.items) s.now.items) c.loop-piece.next.items) (stepped c.args.from (way (map (λ p. p.now) c.args.rest.now) c.args.now.now) c.piece-item.result.now))) [
-      | then-not-has_one_before+in_ok-put_step w ↦ ap (λ v. map (λ s. way (map (λ p. p.now) s.rest.items) s.now.items) v.items) w.next-is ∙ w.in_ok-put_step.ensures.put ∙ sym (cond-false _ _ _ (waits ∙ w.if-not-has_one_before.true))
+      | then-not-has_one_before+in_ok-later+in_ok-left+in_ok-put_way w ↦
+          ap (λ v. map (λ s. way (map (λ p. p.now) s.rest.items) s.now.items) v.items) w.next-is
+          ∙ w.in_ok-put_way.ensures.put
+          ∙ ap (λ ws. put_by same_way (map (λ s. way (map (λ p. p.now) s.rest.items) s.now.items) c.loop-piece.next.items) (way ws (take w.in_ok-left.left.len (w.write_at.new.now ++ drop (length w.write_at.new.now) w.in_ok-left.left.items))))
+          (w.in_ok-later.ensures.others ∙ ap (λ n. without n (map (λ p. p.now) c.args.rest.now)) w.number-then-not-has_one_before.ensures)
+          ∙ ap (λ bs. put_by same_way (map (λ s. way (map (λ p. p.now) s.rest.items) s.now.items) c.loop-piece.next.items) (way (without c.piece-item.result.now.number (map (λ p. p.now) c.args.rest.now)) bs))
+          (written_back w.write_at.new.now w.in_ok-left.left.items w.in_ok-left.left.len (search rules) (w.write_at.auto.now ∙ ap length w.deref_mut.ensures.value)
+          ∙ w.write_at.ensures ∙ ap (λ bs. bytes_over c.args.from bs c.piece-item.result.now) (w.deref_mut.ensures.value ∙ w.in_ok-left.ensures.bytes))
+          ∙ sym (cond-false _ _ _ (waits ∙ w.if-not-has_one_before.true))
       | else-not-has_one_before w ↦ ap (λ v. map (λ s. way (map (λ p. p.now) s.rest.items) s.now.items) v.items) w.next-is ∙ sym (cond-true _ _ _ (waits ∙ w.if-not-has_one_before.false))
     ])
     ∙ sym (ap (λ ws. steps_of (reverse c.args.events.now) c.args.from (way (map (λ p. p.now) c.args.rest.now) c.args.now.now) ws (map (λ s. way (map (λ p. p.now) s.rest.items) s.now.items) c.loop-piece.next.items))
     (dropped (λ p. p.now) c.args.rest.now c.loop-piece.piece-index c.piece-item.result c.loop-piece-test.true c.piece-item.is))
     ∙ c.loop-piece.invariant
 
-pub returns-in_err-put_step-clause-granted : goal.returns-in_err-put_step-clause-granted
-returns-in_err-put_step-clause-granted g c = λ all. absurd (false≢true (c.in_err-put_step.ensures.granted all))
+pub returns-in_err-later-clause-granted : goal.returns-in_err-later-clause-granted
+returns-in_err-later-clause-granted g c = λ all. absurd (false≢true (c.in_err-later.ensures.granted all))
+
+pub returns-in_err-left-clause-granted : goal.returns-in_err-left-clause-granted
+returns-in_err-left-clause-granted g c = λ all. absurd (false≢true (c.in_err-left.ensures.granted all))
+
+pub returns-in_err-put_way-clause-granted : goal.returns-in_err-put_way-clause-granted
+returns-in_err-put_way-clause-granted g c = λ all. absurd (false≢true (c.in_err-put_way.ensures.granted all))
 
 pub returns-clause-steps : goal.returns-clause-steps
 returns-clause-steps g c = rw (drop_all c.loop-piece.piece-index c.args.rest.now c.loop-piece-test.false) at c.loop-piece.invariant

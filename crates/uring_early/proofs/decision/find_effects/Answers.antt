@@ -1,7 +1,7 @@
 use Rattle.std.proofs.Common.{◌≡◌, ℕ, true, [], List, ap, sym, subst, ◌∙◌, rules}
 use Rattle.uring_early.proofs.Common.{IsFated, IsFound, IsLawfulApart, Mark, Setup, history_of, marks_after, not-false}
 use Rattle.uring_early.proofs.Timelines.{decided}
-use Rattle.uring_early.proofs.decision.find_by.Goals as goal
+use Rattle.uring_early.proofs.decision.find_effects.Goals as goal
 
 pub returns : goal.returns
 returns c =

@@ -1,8 +1,8 @@
-use Rattle.std.proofs.Common.{List, ap, map, sym, subst, ◌++◌, ◌∙◌}
-use Rattle.uring_early.proofs.Common.{Contains, IsPlaced, MayTakeAt, Taker, seat_of, seats_of, took_at}
+use Rattle.std.proofs.Common.{◌≡◌, true, rules, List, ap, map, sym, subst, ◌++◌, ◌∙◌}
+use Rattle.uring_early.proofs.Common.{Contains, IsPlaced, MayTakeAt, Taker, awaits_at, seat_of, seats_of, took_at}
 use Rattle.uring_early.specs.declared.state.State.{State}
 use Rattle.uring_early.proofs.Searching.{taken_all}
-use Rattle.uring_early.proofs.search.branch.Goals as goal
+use Rattle.uring_early.proofs.search.replace.Goals as goal
 
 pub push_all-requires-clause-placed : goal.push_all-requires-clause-placed
 push_all-requires-clause-placed c =
@@ -14,7 +14,8 @@ push_all-requires-clause-may c = λ x there.
 
 pub returns : goal.returns
 returns c =
-    taken_all c.args.count c.args.marks.now (seat_of c.args.state) c.in_ok-takers.takers.items (seats_of c.args.todo.now.items) (seats_of c.push_all.new.todo.items) c.requires.placed c.requires.waits c.in_ok-takers.ensures.takers (
+    let waits : awaits_at c.args.marks.now (seat_of c.args.state) ≡ true = search rules in
+    taken_all c.args.count c.args.marks.now (seat_of c.args.state) c.in_ok-takers.takers.items (seats_of c.args.todo.now.items) (seats_of c.push_all.new.todo.items) c.requires.placed waits c.in_ok-takers.ensures.takers (
     c.in_ok-push_all.ensures
     ∙ ap (λ (s : State). seats_of c.args.todo.now.items ++ map (took_at (seat_of s)) c.as_slice.result.now) c.in_ok-takers.ensures.same
     ∙ ap (λ (xs : List Taker). seats_of c.args.todo.now.items ++ map (took_at (seat_of c.args.state)) xs) c.as_slice.ensures.value

@@ -1,7 +1,0 @@
-use Rattle.std.proofs.Common.{◌≡◌, false, map, take}
-use Rattle.uring_volume.proofs.Common.{list_any, nat_eq, pointwise}
-use Rattle.uring_volume.proofs.ways.has_bytes.Given as goal
-
-abbrev pub invariant-loop-one : goal.invariant-loop-one
-invariant-loop-one l =
-    list_any (λ y. pointwise nat_eq y l.bytes) (map (λ b. b.items) (take l.one-index l.found)) ≡ false
