@@ -1,6 +1,6 @@
 //! The calls that the bytes of a reader spell.
 
-ghost use Rattle.std.specs.Prelude.{◌≡◌, ◌≢◌, ◌⊎◌, ◌-◌, ◌^◌, ℕ, List, [], ◌∷◌, ◌++◌, Err, IfErr, IfOk, IsOk, OnOk};
+ghost use Rattle.std.specs.Prelude.{◌≡◌, ◌≢◌, ◌⊎◌, ◌-◌, ◌^◌, ℕ, List, [], ◌++◌, Err, IfErr, IfOk, IsOk, OnOk};
 ghost use Rattle.uring_text.specs.Streams.{AreOver};
 ghost use Rattle.uring_play_text.specs.Inputs.{ReadsCalls, IsReturned};
 ghost use Rattle.uring_play_text.specs.Readings.{Has, ReadsIn};
@@ -107,7 +107,12 @@ impl Reading {
         ensures granted { ((n : ℕ) → M.grants memory.now n) → result ≢ Err PlayFault.Memory }
     {
         for byte in bytes {
-            self.take(memory, *byte)?;
+            if *byte == b'\n' {
+                self.script.take_line(memory, self.line.whole())?;
+                self.line.clear();
+            } else {
+                self.line.push(*byte);
+            }
         }
         Ok(())
     }
@@ -124,36 +129,5 @@ impl Reading {
         }
         self.script.take_line(memory, self.line.whole())?;
         self.script.end(memory)
-    }
-
-    /// Takes in one byte.
-    fn take<M: Memory>(&mut self, memory: &M, byte: u8) -> Result<(), PlayFault>
-        ensures ok { OnOk result
-            ((size : ℕ) (before : List ℕ) → Has size self.old before
-            → Has size self.new (before ++ byte ∷ [])) }
-        ensures early { IfErr result IsEarly }
-        ensures read { result ≡ Err PlayFault.Read → self.new.script.number ≡ 2 ^ 64 - 1 }
-        ensures granted { ((n : ℕ) → M.grants memory.now n) → result ≢ Err PlayFault.Memory }
-    {
-        if byte == b'\n' {
-            self.end_line(memory)?;
-        } else {
-            self.line.push(byte);
-        }
-        Ok(())
-    }
-
-    /// Gives the line to the script, and begins the next line.
-    fn end_line<M: Memory>(&mut self, memory: &M) -> Result<(), PlayFault>
-        ensures ok { OnOk result
-            ((size : ℕ) (before : List ℕ) → Has size self.old before
-            → Has size self.new (before ++ 10 ∷ [])) }
-        ensures early { IfErr result IsEarly }
-        ensures read { result ≡ Err PlayFault.Read → self.new.script.number ≡ 2 ^ 64 - 1 }
-        ensures granted { ((n : ℕ) → M.grants memory.now n) → result ≢ Err PlayFault.Memory }
-    {
-        self.script.take_line(memory, self.line.whole())?;
-        self.line.clear();
-        Ok(())
     }
 }

@@ -1,7 +1,7 @@
 //! The calls that lines spell, gathered line by line.
 
 ghost use Rattle.std.specs.Prelude.{◌≡◌, ◌-◌, ◌+◌, ◌^◌, ◌≢◌, ℕ, List, [], ◌∷◌, ◌++◌, Err, IfErr, IsOk, OnOk, None};
-ghost use Rattle.uring_play_text.specs.LineReads.{IsGiven, IsReadAs};
+ghost use Rattle.uring_play_text.specs.LineReads.{IsGiven};
 ghost use Rattle.uring_play_text.specs.Scripts.{Gathers, Returns, IsEarly, Adds, EndsCall};
 
 use crate::line_read::{LineRead, read_line};
@@ -64,7 +64,12 @@ impl Script {
             return Err(PlayFault::Read);
         };
         let read = read_line(memory, self.alloc, self.size, line)?;
-        self.take(memory, read, number)?;
+        self.number = number;
+        match read {
+            LineRead::Blank => self.end_call(memory)?,
+            LineRead::Submits(item) => self.add(memory, item)?,
+            LineRead::Bad => self.fault = Some(PlayFault::Line(number)),
+        }
         Ok(())
     }
 
@@ -79,26 +84,6 @@ impl Script {
         match self.fault {
             Some(fault) => Err(fault),
             None => Ok(self.calls),
-        }
-    }
-
-    /// Takes in a line that says this, and has this number.
-    fn take<M: Memory>(&mut self, memory: &M, read: LineRead, number: u64) -> Result<(), AllocError>
-        requires none { self.old.fault ≡ None }
-        requires next { number ≡ self.old.number + 1 }
-        ensures lines { OnOk result
-            ((size : ℕ) (lines : List (List ℕ)) (text : List ℕ) → IsReadAs self.old.size text read
-            → Gathers size lines self.old → Gathers size (lines ++ text ∷ []) self.new) }
-        ensures granted { ((n : ℕ) → M.grants memory.now n) → IsOk result }
-    {
-        self.number = number;
-        match read {
-            LineRead::Blank => self.end_call(memory),
-            LineRead::Submits(item) => self.add(memory, item),
-            LineRead::Bad => {
-                self.fault = Some(PlayFault::Line(number));
-                Ok(())
-            }
         }
     }
 

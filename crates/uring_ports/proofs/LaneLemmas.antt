@@ -1,6 +1,6 @@
 -- One message more on the lane of calls, at either end, and a whole call or the close mark taken.
-use Rattle.std.proofs.Common.{◌≡◌, ℕ, suc, ◌+◌, ◌-◌, ◌<◌, true, false, List, [], ◌∷◌, ◌++◌, length, get_or, take, sym, ◌∙◌, ap, arith, append_assoc, append-nil, if◌then◌else◌, zero-add}
-use Rattle.std.proofs.lemmas.List.{take_more}
+use Rattle.std.proofs.Common.{◌≡◌, ℕ, suc, ◌+◌, ◌-◌, ◌<◌, ◌≤◌, true, false, List, [], ◌∷◌, ◌++◌, length, get_or, take, sym, ◌∙◌, ap, arith, append_assoc, append-nil, if◌then◌else◌, zero-add}
+use Rattle.std.proofs.lemmas.List.{take_all, take_more}
 use mathlib.Core.List.{IsPrefix}
 use Rattle.uring_ports.specs.declared.item.Item.{Item}
 use Rattle.uring_ports.specs.declared.message.Message.{Message}
@@ -31,6 +31,15 @@ sends_item ms past items i n x below at left is =
     ∙ ap (λ l. ms ++ l) (items_before_snoc n (take i items) x)
     ∙ ap (λ l. ms ++ items_before n l) (sym taken)
     ∙ ap (λ k. ms ++ items_before k (take (i + 1) items)) (sym next)
+
+-- and in the end all of them
+pub sends_all : (ms past : List Message) (items : List Item) (i : ℕ) → AreWhole ms
+    → has_close_mark ms ≡ false → 0 < length items → length items ≤ i
+    → past ≡ ms ++ items_before (length items - i) (take i items)
+    → Sent past (with_call (put_of ms) items)
+sends_all ms past items i are_whole open' some all is =
+    let none : length items - i ≡ 0 = omega arith in
+    rw is (rw (none, take_all i items all) (sends_call ms items are_whole open' some))
 
 -- one item more is taken
 pub takes_item : (before past : List Message) (items : List Item) (left n : ℕ) (m : Message)

@@ -1,9 +1,8 @@
 //! The application's end: it submits calls, reaps completions and closes.
-ghost use Rattle.std.specs.Prelude.{◌≡◌, ◌≢◌, ℕ, ◌<◌, ◌≤◌, ◌↔◌, true, false, None, ◌∷◌, is_some, IsTrue, IsOk, length, OnOk, IfOk, IfErr, MatchOption};
+ghost use Rattle.std.specs.Prelude.{◌≡◌, ◌≢◌, ℕ, ◌<◌, ◌≤◌, true, false, None, ◌∷◌, is_some, IsOk, length, OnOk, IfOk, IfErr, MatchOption};
 ghost use mathlib.Core.List.{IsPrefix};
-ghost use Rattle.uring_entry.specs.Submission.{IsItem};
 ghost use Rattle.uring_ports.specs.Dropped.{WereStored};
-ghost use Rattle.uring_ports.specs.Items.{AreItems, published_as};
+ghost use Rattle.uring_ports.specs.Items.{AreItems};
 ghost use Rattle.uring_ports.specs.Ports.{nothing_put, items_of_calls, LeavesItems, LeavesCompletions};
 ghost use Rattle.uring_ports.specs.AppEnd.{submits, closes, reaps, sees_room, sees_completions, loads, IsSound, IsAmiss, RefusesCall, RefusesClose};
 ghost use Rattle.uring_ports.specs.Seen.{FindsNoRoom, FindsNoCompletion};
@@ -220,29 +219,12 @@ fn check_call(items: &[Item], size: u32) -> Result<(), SubmitRefusal>
     if items.len() > size as usize {
         return Err(SubmitRefusal::TooLong);
     }
-    if !are_items(items, size) {
-        return Err(SubmitRefusal::NotBad);
-    }
-    Ok(())
-}
-
-/// Whether no bad word is below the size.
-fn are_items(items: &[Item], size: u32) -> bool
-    ensures { IsTrue result ↔ AreItems size items.now }
-{
     for item in items {
-        if !is_item(item, size) {
-            return false;
+        if let Item::Bad(word) = item {
+            if *word < size {
+                return Err(SubmitRefusal::NotBad);
+            }
         }
     }
-    true
-}
-
-fn is_item(item: &Item, size: u32) -> bool
-    ensures { IsTrue result ↔ IsItem size (published_as item.now) }
-{
-    match item {
-        Item::Entry(_) => true,
-        Item::Bad(word) => *word >= size,
-    }
+    Ok(())
 }

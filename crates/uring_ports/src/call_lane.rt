@@ -33,22 +33,10 @@ pub fn put_call(lane: &mut Producer<Message, Global, WholeCalls>, items: &[Item]
         × (producer_capacity lane.old < places_of (put_of (sent lane.old)) + length items.now)) }
     ensures room { MatchBool result (Unit {0}) (known_free lane.new < length items.now) }
 {
-    if !has_room_for(lane, items.len()) {
+    let count = items.len();
+    if !has_room_for(lane, count) {
         return false;
     }
-    push_items(lane, items);
-    true
-}
-
-/// Puts the items of one call, for all of which there is room.
-fn push_items(lane: &mut Producer<Message, Global, WholeCalls>, items: &[Item])
-    requires whole { AreWhole (sent lane.old) }
-    requires open { has_close_mark (sent lane.old) ≡ false }
-    requires room { length items.now ≤ known_free lane.old }
-    ensures ring { SameProducer lane.old lane.new }
-    ensures sent { sent lane.new ≡ sent lane.old ++ items_before 0 items.now }
-{
-    let count = items.len();
     for (index, item) in items.iter().enumerate() {
         lane.push_reserved(Message {
             item: *item,
@@ -56,6 +44,7 @@ fn push_items(lane: &mut Producer<Message, Global, WholeCalls>, items: &[Item])
             closes: false,
         });
     }
+    true
 }
 
 /// Puts the close mark, if there is room for it.

@@ -1,8 +1,8 @@
 //! What is left on the lanes when both of their ends are in one hand.
-ghost use Rattle.std.specs.Prelude.{◌≡◌, ◌+◌, ◌≤◌, [], ◌++◌, length, vec_capacity, vec_len};
-ghost use Rattle.rtrb.specs.Ring.{sent, received, known_items, consumer_capacity, IsPair};
+ghost use Rattle.std.specs.Prelude.{◌≡◌, ◌≤◌, [], vec_capacity};
+ghost use Rattle.rtrb.specs.Ring.{sent, received, consumer_capacity, IsPair};
 ghost use Rattle.uring_ports.specs.Ports.{LeavesItems, LeavesCompletions};
-ghost use Rattle.uring_ports.specs.Messages.{items_of, put_of, AreWhole};
+ghost use Rattle.uring_ports.specs.Messages.{put_of, AreWhole};
 
 use crate::item::Item;
 use crate::message::{Message, WholeCalls};
@@ -24,14 +24,6 @@ pub fn take_unsent(
     ensures { LeavesItems (put_of (sent sender.old)) (put_of (received lane.old)) items.new.items }
 {
     lane.slots_beside(sender);
-    take_known_items(lane, items);
-}
-
-/// Takes the items whose messages are known to be there, up to the close mark.
-fn take_known_items(lane: &mut Consumer<Message, Global, WholeCalls>, items: &mut Vec<Item>)
-    requires room { vec_len items.old + length (known_items lane.old) ≤ vec_capacity items.old }
-    ensures { items.new.items ≡ items.old.items ++ items_of (known_items lane.old) }
-{
     for _ in 0..lane.cached_slots() {
         let message = lane.pop_known();
         if message.closes {
@@ -53,15 +45,6 @@ pub fn take_undelivered(
     ensures { LeavesCompletions (sent sender.old) (received lane.old) completions.new.items }
 {
     lane.slots_beside(sender);
-    take_known(lane, completions);
-}
-
-/// Takes the completions that are known to be there.
-fn take_known(lane: &mut Consumer<Cqe>, completions: &mut Vec<Cqe>)
-    requires room { vec_len completions.old + length (known_items lane.old)
-        ≤ vec_capacity completions.old }
-    ensures { completions.new.items ≡ completions.old.items ++ known_items lane.old }
-{
     for _ in 0..lane.cached_slots() {
         completions.push_reserved(lane.pop_known());
     }

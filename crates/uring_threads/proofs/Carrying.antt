@@ -1,9 +1,8 @@
 -- What the lanes of the workers have carried, as the trace goes on; a lane for jobs that shows no room has carried as many as it holds, so as many requests were started.
 use Rattle.std.proofs.Common.{◌≡◌, ◌≢◌, ℕ, ◌<◌, ◌==◌, cond, List, [], ◌∷◌, ◌++◌, length, get_or, count_by, Option, Some, None, ℤ, refl, sym, subst, ap, ap₂, ◌∙◌, inl, inr, arith, ◌+◌, ◌≤◌}
-use Rattle.uring_threads.proofs.Common.{Answer, Appends, AreTakenIn, Bool, Collects, Err, Event, Grows, HasCarried, HaveCarried, History, HoldJobs, IfOk, IsEnded, IsSent, Job, Kept, None, Ok, OnlyPosts, Op, OthersStay, Result, Setup, SomeIsFull, Tally, WorkLanes, World, cases_eq, count_by-le-length, done_by, done_by_worker, done_in, filter, history, history_of, history_of_cons, issues_request, issuing, job_by, job_in, jobs_at, jobs_in, jobs_sent, jobs_to, length-append, length-filter, length-set, next_in, no_bytes, now, place_of, results_of, results_received, set, starts_request, sum_by-append, takes_result, with_told, world, ◌⊎◌}
+use Rattle.uring_threads.proofs.Common.{Answer, Appends, AreTakenIn, Bool, Collects, Err, Event, Grows, HasCarried, HaveCarried, History, HoldJobs, IfOk, IsEnded, IsSent, Job, Kept, None, Ok, OnlyPosts, Op, OthersStay, Result, Setup, SomeIsFull, Tally, WorkLanes, World, cases_eq, count_by-le-length, done_by, done_by_worker, done_in, entry_of, filter, history, history_of, history_of_cons, issues_request, issuing, job_by, job_in, jobs_at, jobs_in, jobs_sent, jobs_to, length-append, length-filter, length-set, next_in, no_bytes, now, operation_of, place_of, results_of, results_received, set, starts_request, sum_by-append, takes_result, with_told, world, ◌⊎◌}
 use Rattle.uring_core.specs.declared.step.Step.TheVariants as step
 use Rattle.uring_core.specs.declared.answer.Answer.TheVariants as answer
-use Rattle.uring_threads.specs.Issued.{IssuedAs}
 use Rattle.uring_threads.proofs.Posting.{end_posts, accepted_issued}
 use Rattle.uring_threads.proofs.TraceSteps.{grown, grown_history, longer_history}
 use Rattle.uring_threads.proofs.Sent.{one_more_at, none_more_at}
@@ -66,6 +65,12 @@ carried_stays a b lanes stays carried = λ k d low.
     record { jobs = c.jobs ∙ sym (stays.jobs (length lanes) k); results = c.results ∙ ap results_of (sym (stays.done (length lanes) k)) }
 
 -- A request was issued.
+
+-- It runs, and this is its operation; or, without one, it ended at once.
+abbrev pub IssuedAs : Kept → Kept → ℕ → Option Op → Type 0
+IssuedAs old new n (Some op) =
+    Grows old new (step.Issue n, answer.Run) × (op ≡ operation_of (entry_of (now old).requests n))
+IssuedAs old new n None = (a : Answer) × Grows old new (step.Issue n, a) × IsEnded a
 
 only_posts : (a : Kept) (n : ℕ) (res : ℤ) (bytes : List ℕ)
     → OnlyPosts (now a) (issuing a.setup (now a) n (answer.Ended res bytes))

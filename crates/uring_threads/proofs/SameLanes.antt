@@ -1,6 +1,6 @@
 -- Lanes that stay the same, as they are looked at and as jobs and results go through them.
-use Rattle.std.proofs.Common.{◌≢◌, ℕ, ◌<◌, ◌≤◌, List, length, get_or, refl, sym, subst, ◌∙◌, arith, inl, inr}
-use Rattle.uring_threads.proofs.Common.{AreSameLanes, HoldJobs, HoldResults, OnlyReceives, WorkLanes, cases_eq, get_or-set_other, get_or-set_same, get_or_default, length-set, set}
+use Rattle.std.proofs.Common.{◌≡◌, ◌≢◌, ℕ, ◌<◌, ◌≤◌, List, length, get_or, refl, sym, subst, ◌∙◌, arith, inl, inr}
+use Rattle.uring_threads.proofs.Common.{AreSameLanes, HoldJobs, HoldResults, IsSent, Job, OnlyReceives, WorkLanes, cases_eq, get_or-set_other, get_or-set_same, get_or_default, length-set, set}
 
 -- what holds of one element that is set, and of each other as it was
 pub set_cases : {X : Type 0} (P : ℕ → X → Type 0) (xs : List X) (i : ℕ) (x : X) (k : ℕ) (d : X)
@@ -49,6 +49,26 @@ lanes_set lanes place y d low receives =
           elim (cases_eq k place) [
             | inl here ↦ rw (here, get_or-set_same lanes place y e low, get_or_default lanes place e d low) receives.ring
             | inr other ↦ rw (get_or-set_other lanes place k y e other) ((refl, refl, refl, refl), refl)
+          ];
+    }
+
+-- lanes of which one was sent a job
+pub lanes_sent : (old new : List WorkLanes) (place : ℕ) (j : Job) → length new ≡ length old
+    → ((d : WorkLanes) → IsSent j (get_or old place d) (get_or new place d))
+    → ((k : ℕ) (d : WorkLanes) → k < length old → k ≢ place → get_or new k d ≡ get_or old k d)
+    → AreSameLanes old new
+lanes_sent old new place j many sent others =
+    record {
+      many = many;
+      jobs = λ k d low.
+          elim (cases_eq k place) [
+            | inl here ↦ rw here (sent d).ring
+            | inr other ↦ rw (others k d low other) ((refl, refl, refl, refl), refl)
+          ];
+      results = λ k d low.
+          elim (cases_eq k place) [
+            | inl here ↦ rw (here, (sent d).results) ((refl, refl, refl, refl), refl)
+            | inr other ↦ rw (others k d low other) ((refl, refl, refl, refl), refl)
           ];
     }
 

@@ -17,7 +17,7 @@ ghost use Rattle.uring_threads.specs.declared.calls.CallMade.TheVariants as made
 
 use crate::intake::Intake;
 use crate::kept::Kept;
-use crate::put_items::put_items;
+use crate::put_items::put_item;
 use uring_core::{Answer, Setup, Step};
 use uring_memory::Memory;
 use uring_ports::Item;
@@ -119,7 +119,7 @@ pub fn begin_calls<M: Memory>(memory: &M, kept: &mut Kept, count: u32) -> Intake
     Intake::Ready
 }
 
-/// Puts the items of a call into the ring and publishes them. Conditions: nothing is staged and no position waits, there are at most as many items as the ring has entries, and the trace has room for an event and two for each item.
+/// Puts the items of a call into the ring, each entry into the slot of its place in the call, and publishes them. Conditions: nothing is staged and no position waits, there are at most as many items as the ring has entries, and the trace has room for an event and two for each item.
 pub fn publish_items(kept: &mut Kept, items: &[Item])
     requires room { length kept.old.trace + 2 * length items.now + 1 ≤ kept.old.room }
     requires few { length items.now ≤ kept.old.setup.sq }
@@ -132,6 +132,10 @@ pub fn publish_items(kept: &mut Kept, items: &[Item])
     ensures length { length kept.new.trace ≤ length kept.old.trace + 2 * length items.now + 1 }
 {
     kept.is_lawful();
-    put_items(kept, items);
+    let mut slot = 0;
+    for item in items {
+        put_item(kept, slot, *item);
+        slot += 1;
+    }
     kept.step_reserved(Step::StoreTail);
 }

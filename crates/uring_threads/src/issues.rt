@@ -1,41 +1,17 @@
 //! Requests that the dispatcher issues.
-ghost use Rattle.std.specs.Prelude.{◌≡◌, ◌≤◌, ◌<◌, ℕ, ◌⊎◌, [], ◌∷◌, length, None, Some, IfSome, IsOk, IfOk, OnErr};
-ghost use Rattle.uring_files.specs.Operations.{IsForFiles};
+ghost use Rattle.std.specs.Prelude.{◌≡◌, ◌≤◌, ◌<◌, ℕ, ◌⊎◌, length, None, Some, IsOk, IfOk, OnErr};
 ghost use Rattle.uring_core.specs.declared.step.Step.TheVariants as step;
 ghost use Rattle.uring_threads.specs.Dispatched.{HaveCarried};
 ghost use Rattle.uring_workers.specs.WorkLanes.{ShowRoom, SomeIsFull, AreSameLanes};
-ghost use Rattle.uring_threads.specs.Issued.{IssuedAs};
-ghost use Rattle.uring_threads.specs.EventRows.{Records, Repeats};
+ghost use Rattle.uring_threads.specs.EventRows.{Repeats};
 ghost use Rattle.uring_threads.specs.Kept.{next_in};
-ghost use Rattle.uring_threads.specs.Tallies.{Appends, issues_counted};
+ghost use Rattle.uring_threads.specs.Tallies.{issues_counted};
 
 use crate::kept::Kept;
 use std::alloc::AllocError;
 use uring_core::{Answer, Step};
-use uring_entry::Op;
 use uring_memory::Memory;
 use uring_workers::{Job, WorkLanes, all_show_room, place_of, send};
-
-/// Issues the request of this number: returns its operation if it runs, and nothing if it ended at once. Conditions: it is the next that can be issued, and the trace has room for an event.
-pub fn issue_next(kept: &mut Kept, number: u64) -> Option<Op>
-    requires room { length kept.old.trace < kept.old.room }
-    requires next { next_in kept.old ≡ Some number }
-    ensures issued { IssuedAs kept.old kept.new number result }
-    ensures asks { IfSome result IsForFiles }
-    ensures tally { Appends kept.old kept.new (issues_counted 1) }
-    ensures row { Records kept.old kept.new (step.Issue number ∷ []) }
-{
-    match kept.step_reserved(Step::Issue { number }) {
-        Answer::Run => {
-            let Some(op) = kept.running_op(number) else {
-                unreachable!()
-            };
-            Some(op)
-        }
-        Answer::Ended { .. } => None,
-        _ => unreachable!(),
-    }
-}
 
 /// Issues the request of this number, and if it runs, sends its job to its worker. Conditions: it is the next that can be issued, each worker's lane shows room, and the trace has room for an event.
 fn issue_one(kept: &mut Kept, lanes: &mut [WorkLanes], number: u64)
@@ -49,9 +25,16 @@ fn issue_one(kept: &mut Kept, lanes: &mut [WorkLanes], number: u64)
     ensures lanes { AreSameLanes lanes.old lanes.new }
     ensures repeats { Repeats kept.old kept.new step.Issue (issues_counted 1) }
 {
-    if let Some(op) = issue_next(kept, number) {
-        let place = place_of(&op, lanes.len() as u32, kept.setup().files());
-        send(lanes, place, Job { number, op });
+    match kept.step_reserved(Step::Issue { number }) {
+        Answer::Run => {
+            let Some(op) = kept.running_op(number) else {
+                unreachable!()
+            };
+            let place = place_of(&op, lanes.len() as u32, kept.setup().files());
+            send(lanes, place, Job { number, op });
+        }
+        Answer::Ended { .. } => {}
+        _ => unreachable!(),
     }
 }
 

@@ -1,10 +1,10 @@
 //! The application's items, put into the submission ring one by one.
-ghost use Rattle.std.specs.Prelude.{◌≡◌, ◌+◌, ◌*◌, ◌<◌, ◌≤◌, [], length};
+ghost use Rattle.std.specs.Prelude.{◌≡◌, ◌+◌, ◌<◌, ◌≤◌, length};
 ghost use Rattle.uring_laws.specs.Standing.{Stands};
-ghost use Rattle.uring_ports.specs.Items.{published_as, all_published_as};
-ghost use Rattle.uring_threads.specs.EventRows.{Records, item_row, items_row};
+ghost use Rattle.uring_ports.specs.Items.{published_as};
+ghost use Rattle.uring_threads.specs.EventRows.{Records, item_row};
 ghost use Rattle.uring_threads.specs.Kept.{now};
-ghost use Rattle.uring_threads.specs.Rows.{with_item_put, with_items_put};
+ghost use Rattle.uring_threads.specs.Rows.{with_item_put};
 ghost use Rattle.uring_threads.specs.Tallies.{Appends, items_counted};
 
 use crate::kept::Kept;
@@ -30,23 +30,5 @@ pub fn put_item(kept: &mut Kept, slot: u32, item: Item)
         Item::Bad(word) => {
             kept.step_reserved(Step::Index { word });
         }
-    }
-}
-
-/// Puts the items of a call, each entry into the slot of its place in the call. Conditions: nothing is staged and no position waits, there are at most as many as the ring has entries, and the trace has room for two events each.
-pub fn put_items(kept: &mut Kept, items: &[Item])
-    requires room { length kept.old.trace + 2 * length items.now ≤ kept.old.room }
-    requires few { length items.now ≤ kept.old.setup.sq }
-    requires stands { Stands (now kept.old).submission [] 0 }
-    ensures world { now kept.new ≡ with_items_put (now kept.old) (all_published_as items.now) }
-    ensures tally { Appends kept.old kept.new (items_counted (length items.now)) }
-    ensures row { Records kept.old kept.new (items_row 0 items.now) }
-    ensures length { length kept.new.trace ≤ length kept.old.trace + 2 * length items.now }
-{
-    kept.is_lawful();
-    let mut slot = 0;
-    for item in items {
-        put_item(kept, slot, *item);
-        slot += 1;
     }
 }

@@ -5,4 +5,3 @@ pub mod Turns
 pub mod Broken
 pub mod Unreaped
 pub mod Committing
-mod Staying

@@ -66,20 +66,13 @@ impl Disk {
     {
         let count = len.min(64);
         for done in 0..count {
-            if !self.fill(off.saturating_add(u64::from(done)), bytes[done as usize]) {
+            let block = off.saturating_add(u64::from(done));
+            if block >= BLOCKS as u64 || self.bad == Some(block) {
                 return if done == 0 { -EIO } else { done as i32 };
             }
+            let start = block as usize * BLOCK;
+            self.bytes[start..start + BLOCK].fill(bytes[done as usize]);
         }
         count as i32
-    }
-
-    /// Fills a block with a byte, if it is on the disk and isn't bad.
-    fn fill(&mut self, block: u64, byte: u8) -> bool {
-        if block >= BLOCKS as u64 || self.bad == Some(block) {
-            return false;
-        }
-        let start = block as usize * BLOCK;
-        self.bytes[start..start + BLOCK].fill(byte);
-        true
     }
 }

@@ -24,13 +24,15 @@ use crate::settling::settled_rest;
 use crate::simulator::{break_chain, simulate};
 use crate::submissions::{submit, submit_to_machine};
 use bitflags::Flags;
-use std::alloc::Global;
 use std::io::Read;
 use std::process::ExitCode;
 use uring_machine::{Answer, Core, Cqe, Machine, Setup, Sqe, SqeFlags, Step};
 
 fn main(rt: HostRuntime) -> ExitCode {
-    let is_shown = if has_input(&rt) {
+    // With a byte on the standard input the program goes through the play to which `growth/check` refuses memory, and nothing else: to look for a byte takes none.
+    let mut byte = [0];
+    let has_input = matches!(rt.stdin().read(&mut byte), Ok(1));
+    let is_shown = if has_input {
         show_growth(&rt)
     } else {
         show_uses(&rt)
@@ -40,12 +42,6 @@ fn main(rt: HostRuntime) -> ExitCode {
     } else {
         ExitCode::FAILURE
     }
-}
-
-/// Whether there is a byte on the standard input. If so the program goes through the play to which `growth/check` refuses memory, and nothing else: to look for a byte takes none.
-fn has_input(rt: &HostRuntime) -> bool {
-    let mut byte = [0];
-    matches!(rt.stdin().read(&mut byte), Ok(1))
 }
 
 /// What each caller does, and each play. As in all that follow, whether it was printed: else the system is out of memory, or the output fails.
@@ -100,27 +96,17 @@ fn print_starts(rt: &HostRuntime, machine: &mut Machine) -> bool {
     ).is_ok()
 }
 
-/// The same steps on two machines.
+/// The same steps on two machines: how many answers they have, and whether the second machine gives the same ones.
 fn show_list(rt: &HostRuntime, setup: &Setup) -> bool {
-    match replay(rt.alloc(), setup) {
-        Some((count, is_same)) => println!(rt;
-            "a list of steps\n  {count} steps, the same answers: {is_same}"
-        ).is_ok(),
-        None => false,
-    }
-}
-
-/// How many answers a list of steps has, and whether a second machine gives the same ones.
-fn replay(alloc: Global, setup: &Setup) -> Option<(usize, bool)> {
-    match run_twice(alloc, setup, &write_and_sync()) {
+    match run_twice(rt.alloc(), setup, &write_and_sync()) {
         Ok((first, second)) => {
             let is_same = first.as_slice() == second.as_slice();
             let count = first.len();
             drop(first);
             drop(second);
-            Some((count, is_same))
+            println!(rt; "a list of steps\n  {count} steps, the same answers: {is_same}").is_ok()
         }
-        Err(_) => None,
+        Err(_) => false,
     }
 }
 
@@ -160,7 +146,15 @@ fn show_simulation(rt: &HostRuntime, setup: &Setup) -> bool {
 
 fn show_simulation_of(rt: &HostRuntime, core: &mut Core) -> bool {
     submit(core, &soft_chain());
-    submit(core, &hard_chain());
+    // Two writes joined by a hard link. The first begins at block 4.
+    let hard = SqeFlags::IO_HARDLINK.bits();
+    submit(
+        core,
+        &[
+            Sqe::write(33, hard, 0, 4, &[4]),
+            Sqe::write(34, 0, 0, 7, &[5]),
+        ],
+    );
     match Disk::new(rt.alloc(), Some(4)) {
         Ok(mut disk) => {
             simulate(core, &mut disk);
@@ -181,15 +175,6 @@ fn soft_chain() -> [Sqe; 3] {
         Sqe::write(30, soft, 0, 0, &[1, 1]),
         Sqe::write(31, soft, 0, 3, &[2, 2]),
         Sqe::write(32, 0, 0, 6, &[3]),
-    ]
-}
-
-/// Two writes joined by a hard link. The first begins at block 4.
-fn hard_chain() -> [Sqe; 2] {
-    let hard = SqeFlags::IO_HARDLINK.bits();
-    [
-        Sqe::write(33, hard, 0, 4, &[4]),
-        Sqe::write(34, 0, 0, 7, &[5]),
     ]
 }
 
@@ -249,7 +234,16 @@ fn show_settling(rt: &HostRuntime, setup: &Setup) -> bool {
 }
 
 fn print_left(rt: &HostRuntime, machine: &mut Machine) -> bool {
-    submit_to_machine(machine, &mixed_entries());
+    // A write, a no-op whose success is skipped, and a read.
+    let skip = SqeFlags::CQE_SKIP_SUCCESS.bits();
+    submit_to_machine(
+        machine,
+        &[
+            Sqe::write(50, 0, 0, 0, b"abc"),
+            Sqe::nop(51, skip),
+            Sqe::read(52, 0, 0, 1, 4),
+        ],
+    );
     match settled_rest(rt.alloc(), machine) {
         Ok(rest) => {
             let printed = print_completions(rt, rest.as_slice());
@@ -277,16 +271,6 @@ fn show_recorded(rt: &HostRuntime, setup: &Setup) -> bool {
     let right = are_told(rt.alloc(), setup, 1, None);
     let wrong = are_told(rt.alloc(), setup, 2, Some(2));
     println!(rt; "recorded answers\n  lawful: {right}\n  another tail is told: {wrong}").is_ok()
-}
-
-/// A write, a no-op whose success is skipped, and a read.
-fn mixed_entries() -> [Sqe; 3] {
-    let skip = SqeFlags::CQE_SKIP_SUCCESS.bits();
-    [
-        Sqe::write(50, 0, 0, 0, b"abc"),
-        Sqe::nop(51, skip),
-        Sqe::read(52, 0, 0, 1, 4),
-    ]
 }
 
 /// A completion's user data and result, on a line.

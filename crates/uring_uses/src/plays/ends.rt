@@ -1,12 +1,11 @@
 //! All ends of a set-up in one value, so that they can be settled at any moment.
-ghost use Rattle.std.specs.Prelude.{◌<◌, length};
 ghost use Rattle.uring_threads.specs.Report.{AreTogether};
 
-use super::rows::{Put, completion, items};
+use super::rows::{Put, items};
 use std::alloc::Global;
 use uring_threads::{
-    AppEnd, CloseRefusal, Gate, Kernel, KernelLanes, KernelPort, KernelWords, Report, Setup,
-    SubmitRefusal, Turn, Worked, Worker, lanes, settle, words,
+    AppEnd, Gate, Kernel, KernelLanes, KernelPort, KernelWords, Report, Setup, SubmitRefusal, Turn,
+    Worked, Worker, lanes, settle, words,
 };
 
 /// All ends of one set-up over ports of this kind.
@@ -61,35 +60,11 @@ impl Ports for KernelWords {
     }
 }
 
-/// A turn of the worker at this place, which goes on to be of the same set-up.
-fn turn_at<G: Gate>(workers: &mut [Worker<G>], k: usize) -> Worked
-    requires { k < length workers.old }
-    ensures { (app : _) (kernel : _) → AreTogether app kernel workers.old
-        → AreTogether app kernel workers.new }
-{
-    workers[k].turn()
-}
-
 impl<K: KernelPort, G: Gate> Ends<K, G> {
     /// Whether the submission of these items is answered so.
     pub fn submits(&mut self, puts: &[Put], wanted: Result<(), SubmitRefusal>) -> bool {
         let count = puts.len().min(5);
         self.app.submit(&items(puts)[..count]) == wanted
-    }
-
-    /// Whether closing the application's end is answered so.
-    pub fn closes(&mut self, wanted: Result<(), CloseRefusal>) -> bool {
-        self.app.close() == wanted
-    }
-
-    /// Whether the application reaps this completion, or finds none.
-    pub fn reaps(&mut self, wanted: Option<u64>) -> bool {
-        self.app.reap() == wanted.map(completion)
-    }
-
-    /// Whether this is the dropped word as the application sees it.
-    pub fn shows(&mut self, wanted: Option<u32>) -> bool {
-        self.app.dropped() == wanted
     }
 
     /// A turn of the dispatcher, unless the system is out of memory.
@@ -102,7 +77,7 @@ impl<K: KernelPort, G: Gate> Ends<K, G> {
         if place >= self.workers.len() {
             return None;
         }
-        Some(turn_at(&mut self.workers, place))
+        Some(self.workers[place].turn())
     }
 
     /// What all ends leave, or the ends as they were: out of memory.

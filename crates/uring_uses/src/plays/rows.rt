@@ -102,10 +102,10 @@ fn goes<K: Ports, G: Gate>(ends: &mut Ends<K, G>, row: Row) -> bool {
     match row {
         Row::Submit(puts) => ends.submits(puts, Ok(())),
         Row::Refused(puts, refusal) => ends.submits(puts, Err(refusal)),
-        Row::Close => ends.closes(Ok(())),
-        Row::CloseRefused(refusal) => ends.closes(Err(refusal)),
-        Row::Reap(wanted) => ends.reaps(wanted),
-        Row::Dropped(word) => ends.shows(K::shown(word)),
+        Row::Close => ends.app.close() == Ok(()),
+        Row::CloseRefused(refusal) => ends.app.close() == Err(refusal),
+        Row::Reap(wanted) => ends.app.reap() == wanted.map(completion),
+        Row::Dropped(word) => ends.app.dropped() == K::shown(word),
         Row::Turn(popped, issued, finished, delivered) => {
             ends.turn() == Some(turn(popped, issued, finished, delivered))
         }

@@ -1,5 +1,5 @@
 //! The application's end of the completion ring: it gets completions, and loads the dropped word.
-ghost use Rattle.std.specs.Prelude.{◌≡◌, ◌+◌, ◌<◌, ◌≤◌, true, [], ◌∷◌, ◌++◌, length, vec_capacity, vec_len, MatchOption};
+ghost use Rattle.std.specs.Prelude.{◌≡◌, ◌+◌, ◌<◌, ◌≤◌, true, [], ◌∷◌, ◌++◌, length, vec_capacity, MatchOption};
 ghost use mathlib.Core.List.{IsPrefix};
 ghost use Rattle.uring_ports.specs.Dropped.{WereHad};
 ghost use Rattle.uring_ports.specs.Ports.{LeavesCompletions};
@@ -120,18 +120,6 @@ impl CompletionReader {
             .load::<LoadDropped>(&mut self.seat, DROPPED) as u32
     }
 
-    /// Takes the completions that are known to be there.
-    fn take_known(&mut self, completions: &mut Vec<Cqe>)
-        requires { vec_len completions.old + length self.old.knows.app.known
-            ≤ vec_capacity completions.old }
-        ensures { completions.new.items
-            ≡ completions.old.items ++ self.old.knows.app.known }
-    {
-        for _ in 0..self.waiting() {
-            completions.push_reserved(self.get_one());
-        }
-    }
-
     /// Takes the completions that were put and not got.
     pub fn take_undelivered(self, writer: CompletionWriter, completions: &mut Vec<Cqe>)
         requires table { self.table ≡ writer.table }
@@ -158,6 +146,8 @@ impl CompletionReader {
             head,
         };
         both.load_tail();
-        both.take_known(completions);
+        for _ in 0..both.waiting() {
+            completions.push_reserved(both.get_one());
+        }
     }
 }

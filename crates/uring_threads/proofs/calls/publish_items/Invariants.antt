@@ -1,6 +1,6 @@
 use Rattle.std.proofs.Common.{◌≡◌, ◌+◌, ◌*◌, ◌≤◌, length, take}
 use Rattle.uring_threads.proofs.Common.{Appends, Records, all_published_as, items_counted, items_row, now, with_items_put}
-use Rattle.uring_threads.proofs.put_items.put_items.Given as goal
+use Rattle.uring_threads.proofs.calls.publish_items.Given as goal
 
 -- the items so far are put, with at most two events each
 abbrev pub invariant-loop-item : goal.invariant-loop-item

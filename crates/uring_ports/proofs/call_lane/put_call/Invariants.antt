@@ -1,7 +1,7 @@
 use Rattle.std.proofs.Common.{◌≡◌, ◌+◌, ◌-◌, ◌≤◌, ◌++◌, length, take}
 use Rattle.rtrb.specs.Ring.{sent, known_free, SameProducer}
 use Rattle.uring_ports.specs.Messages.{items_before}
-use Rattle.uring_ports.proofs.call_lane.push_items.Given as goal
+use Rattle.uring_ports.proofs.call_lane.put_call.Given as goal
 
 abbrev pub invariant-loop-index : goal.invariant-loop-index
 invariant-loop-index l =
