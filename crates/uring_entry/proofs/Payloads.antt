@@ -1,26 +1,31 @@
 -- The 64 bytes of data and the eight words that hold them.
-use Rattle.std.proofs.Common.{◌≡◌, ℕ, zero, suc, ◌+◌, ◌*◌, ◌^◌, ◌<◌, ◌∙◌, refl, sym, ap, subst, List, [], ◌∷◌, ◌++◌, length, get_or, take, drop, set, take-add, arith}
-use Rattle.std.proofs.lemmas.List.{places, take_more}
+use Rattle.std.proofs.Common.{◌≡◌, ℕ, zero, suc, ◌+◌, ◌*◌, ◌^◌, ◌<◌, ◌∙◌, refl, sym, ap, List, [], ◌∷◌, ◌++◌, length, get_or, take, drop, set, take-add, arith}
+use Rattle.std.proofs.lemmas.List.{places, take_all, take_more}
+use Rattle.std.proofs.lemmas.Nat.{le_bytes_8}
 use Rattle.std.proofs.lemmas.Slice.{put_mid-paste, take-put_mid}
 use borrow.Rule.Slice.PartMut.{put_mid}
 use Rattle.std.proofs.lemmas.Grind.{common_steps, flat_map-append}
-use Rattle.uring_entry.proofs.Common.{AreWords, bytes_of, take_more_set, to_le_bytes, w64}
+use Rattle.uring_entry.proofs.Common.{AreWords, bytes_of, from_le_bytes, take_more_set, to_le_bytes, w64}
 
--- eight words and 64 bytes are all of both
-pub all_taken : (i : ℕ) (bytes words : List ℕ) → i ≡ 8 → length bytes ≡ 64 → length words ≡ 8
+-- all words and all bytes
+pub all_taken : (i : ℕ) (bytes words : List ℕ) → length words ≡ i → length bytes ≡ 8 * i
     → take (8 * i) bytes ≡ bytes_of (take i words) → bytes ≡ bytes_of words
-all_taken i bytes words i_is bytes_length words_length same =
-    let e : take 64 bytes ≡ bytes_of (take 8 words) = subst (λ j. take (8 * j) bytes ≡ bytes_of (take j words)) i_is same in
-    let a : take 64 bytes ≡ bytes = grind (arith, common_steps) in
-    let b : take 8 words ≡ words = grind (arith, common_steps) in
-    sym a ∙ e ∙ ap bytes_of b
+all_taken i bytes words words_length bytes_length same =
+    sym (take_all (8 * i) bytes (omega arith)) ∙ same ∙ ap bytes_of (take_all i words (omega arith))
 
--- one word more
-pub word_more : (i : ℕ) (bytes words : List ℕ) (word : ℕ) → i < length words
+part_fits : (n k : ℕ) (xs : List ℕ) → ((i : ℕ) → get_or xs i 0 < 256) → (i : ℕ)
+    → get_or (take k (drop n xs)) i 0 < 256
+part_fits n k xs fits i = grind (arith, places, fits (n + i))
+
+-- one word more, which the next eight bytes make
+pub word_more : (i k word : ℕ) (bytes words eight : List ℕ) → i < length words
+    → ((j : ℕ) → get_or bytes j 0 < 256)
+    → eight ≡ take k (drop (8 * i) bytes) → k ≡ 8 → length eight ≡ 8 → word ≡ from_le_bytes w64 eight
     → bytes_of (take i words) ≡ take (8 * i) bytes
-    → to_le_bytes w64 word ≡ take 8 (drop (8 * i) bytes)
     → bytes_of (take (i + 1) (set words i word)) ≡ take (8 * (i + 1)) bytes
-word_more i bytes words word within same last =
+word_more i k word bytes words eight within fits next k_is size is same =
+    let eight_is : eight ≡ take 8 (drop (8 * i) bytes) = next ∙ ap (λ n. take n (drop (8 * i) bytes)) k_is in
+    let last : to_le_bytes w64 word ≡ take 8 (drop (8 * i) bytes) = le_bytes_8 _ _ (ap length (sym eight_is) ∙ size) (part_fits (8 * i) 8 bytes fits) (is ∙ ap (from_le_bytes w64) eight_is) in
     ap bytes_of (take_more_set words i word within) ∙ flat_map-append (to_le_bytes w64) (take i words) (word ∷ [])
     ∙ ap (λ xs. xs ++ to_le_bytes w64 word) same ∙ ap (λ xs. take (8 * i) bytes ++ xs) last ∙ sym (take-add (8 * i) 8 bytes) ∙ ap (λ n. take n bytes) (omega arith)
 

@@ -1,7 +1,6 @@
 //! The 64 bytes of data as eight words, the low byte of each word first.
 
-ghost use Rattle.std.specs.Prelude.{◌≡◌, ◌≤◌, length, take, drop};
-ghost use Rattle.std.specs.Int.{w64, to_le_bytes};
+ghost use Rattle.std.specs.Prelude.{◌≡◌, ◌≤◌, length};
 ghost use Rattle.uring_entry.specs.Layout.{bytes_of, padded, AreWords};
 
 /// The bytes that eight words hold.
@@ -23,19 +22,11 @@ pub(crate) fn words_of_bytes(bytes: &[u8; 64]) -> [u64; 8]
 {
     let mut words = [0; 8];
     for i in 0..8 {
-        words[i] = word_at(bytes, 8 * i);
+        let mut eight = [0; 8];
+        eight.copy_from_slice(&bytes[8 * i..8 * i + 8]);
+        words[i] = u64::from_le_bytes(eight);
     }
     words
-}
-
-/// The word that eight bytes hold, from this place on.
-fn word_at(bytes: &[u8; 64], at: usize) -> u64
-    requires { at ≤ 56 }
-    ensures { to_le_bytes w64 result ≡ take 8 (drop at bytes.now) }
-{
-    let mut eight = [0; 8];
-    eight.copy_from_slice(&bytes[at..at + 8]);
-    u64::from_le_bytes(eight)
 }
 
 /// Up to 64 bytes, with zeros after them.

@@ -18,31 +18,21 @@ pub fn prepare(entry: &Sqe) -> Result<Op, Fault>
         (λ op. (fault_of entry.now ≡ None) × (op ≡ operation_of entry.now)) }
     ensures faulty { IfErr result (λ fault. fault_of entry.now ≡ Some fault) }
 {
-    match first_fault(entry) {
-        Some(fault) => Err(fault),
-        None => Ok(Op::of(entry)),
-    }
-}
-
-/// The first fault of an entry.
-fn first_fault(entry: &Sqe) -> Option<Fault>
-    ensures { result ≡ fault_of entry.now }
-{
     if SqeFlags::from_bits_retain(entry.flags()).intersects(SqeFlags::REFUSED) {
-        Some(Fault::Flags)
+        Err(Fault::Flags)
     } else if !entry.is_served() {
-        Some(Fault::Opcode)
+        Err(Fault::Opcode)
     } else if entry.ioprio() != 0 {
-        Some(Fault::Ioprio)
+        Err(Fault::Ioprio)
     } else if entry.operation_flags() != 0 && !entry.is_cancel_all() {
-        Some(Fault::OpFlags)
+        Err(Fault::OpFlags)
     } else if entry.has_reserved_bits() {
-        Some(Fault::Reserved)
+        Err(Fault::Reserved)
     } else if entry.len() > 64 {
-        Some(Fault::Len)
+        Err(Fault::Len)
     } else if entry.is_transfer() && entry.off() == u64::MAX {
-        Some(Fault::Off)
+        Err(Fault::Off)
     } else {
-        None
+        Ok(Op::of(entry))
     }
 }

@@ -1,7 +1,6 @@
 //! The results that an operation may give on files that nobody knows.
 
-ghost use Rattle.std.specs.Prelude.{◌≡◌, int_le, pos, min, ◌-◌, ◌^◌};
-ghost use Rattle.std.specs.Ordering.{int_eq};
+ghost use Rattle.std.specs.Prelude.{◌≡◌, int_le, pos};
 ghost use Rattle.uring_entry.specs.Results as spec;
 
 use crate::errno;
@@ -31,17 +30,10 @@ pub fn greatest_result(entry: &Sqe) -> i32
     ensures { result ≡ pos (spec.greatest_result entry.now) }
 {
     if entry.is_transfer() {
-        as_result(entry.len())
+        entry.len().min(MAX_RESULT) as i32
     } else {
         0
     }
-}
-
-/// A length as a result, as far as it can tell it.
-fn as_result(len: u32) -> i32
-    ensures { result ≡ pos (min len (2 ^ 31 - 1)) }
-{
-    len.min(MAX_RESULT) as i32
 }
 
 /// Whether a result is an error that an operation gives by itself.
@@ -54,7 +46,7 @@ fn is_own_error(res: i32) -> bool
     if !is_at_most(res, -1) {
         return false;
     }
-    !is_same(res, -errno::ECANCELED)
+    i64::from(res) != i64::from(-errno::ECANCELED)
 }
 
 /// Whether a number is at most another.
@@ -62,11 +54,4 @@ fn is_at_most(a: i32, b: i32) -> bool
     ensures { result ≡ int_le a b }
 {
     a <= b
-}
-
-/// Whether a number is another.
-fn is_same(a: i32, b: i32) -> bool
-    ensures { result ≡ int_eq a b }
-{
-    i64::from(a) == i64::from(b)
 }

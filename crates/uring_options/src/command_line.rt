@@ -1,6 +1,6 @@
 //! The command line.
 
-ghost use Rattle.std.specs.Prelude.{◌≡◌, ◌↔◌, List, Some, [], ◌∷◌, IfOk, IfErr, IsErrOf, IsErrAnd, ◌||◌, if◌then◌else◌};
+ghost use Rattle.std.specs.Prelude.{◌≡◌, ◌↔◌, List, Some, [], ◌∷◌, IfOk, IfErr, IsErrOf, IsErrAnd, ◌||◌};
 ghost use Rattle.clap.specs.Words.{FailsBy, HasMatchesOf, fault_of, found_of, kind_of, rows_of, subcommand_of};
 ghost use Rattle.clap.specs.Walk.{Text, texts};
 ghost use Rattle.uring_options.specs.CommandLine.{uring, Run, AskFor, AskForTooSmall, IsWords, IsMemory, IsFaultOf};
@@ -9,7 +9,7 @@ ghost use Rattle.uring_options.specs.OptionRows.{TakesFor, TakesNamed, Answers, 
 use crate::answers::{Options, OptionsFault};
 use crate::commands::uring_command;
 use crate::values::{
-    file_of, given_number, is_given, played_setup_of, setup_of, setup_over, traced_setup_of,
+    DEFAULT_FILE, given_number, is_given, played_setup_of, setup_of, setup_over, traced_setup_of,
     unit_of, workers_of,
 };
 use clap::ArgMatches;
@@ -114,33 +114,30 @@ fn checked(matches: &ArgMatches<'_>) -> Result<Options, OptionsFault>
     ensures { Answers Run.Checks (rows_of (found_of matches.now)) result }
 {
     let setup = traced_setup_of(matches)?;
+    let is_early = is_given(matches, "early-effects");
+    if is_early {
+        let most = given_number(matches, "most");
+        return Ok(Options::CheckEarly { setup, most });
+    }
     let is_all = is_given(matches, "all");
     let is_apart = is_given(matches, "apart");
     let has_results = is_given(matches, "results");
-    let page = is_given(matches, "page");
-    let json = is_given(matches, "json");
     let verdict = Options::Check {
         setup,
         is_all,
         is_apart,
         has_results,
     };
-    let tells = asks_verdict(is_all, is_apart, has_results);
-    let plain = checked_over(setup, verdict, tells, page, json);
-    let is_early = is_given(matches, "early-effects");
-    let most = given_number(matches, "most");
-    Ok(early_or(setup, is_early, most, plain))
-}
-
-/// What a check is asked for over the set-up: whether effects at any moment explain the trace if that is asked, and else what the other options ask for.
-fn early_or(setup: Setup, is_early: bool, most: Option<u32>, plain: Options) -> Options
-    ensures { result ≡ (if is_early then Options.CheckEarly setup most else plain) }
-{
-    if is_early {
-        Options::CheckEarly { setup, most }
-    } else {
-        plain
+    if asks_verdict(is_all, is_apart, has_results) {
+        return Ok(verdict);
     }
+    if is_given(matches, "page") {
+        return Ok(Options::CheckPage(setup));
+    }
+    if is_given(matches, "json") {
+        return Ok(Options::CheckJson(setup));
+    }
+    Ok(verdict)
 }
 
 /// Whether the verdict alone is asked for.
@@ -150,59 +147,26 @@ fn asks_verdict(is_all: bool, is_apart: bool, has_results: bool) -> bool
     is_all || is_apart || has_results
 }
 
-/// What is written of a recorded trace over the set-up: the verdict if that alone is asked for, else a page or its data if one is, and else the verdict.
-fn checked_over(setup: Setup, verdict: Options, tells: bool, page: bool, json: bool) -> Options
-    ensures { result
-        ≡ (if tells then verdict else if page then Options.CheckPage setup else if json then Options.CheckJson setup else verdict) }
-{
-    if tells {
-        verdict
-    } else if page {
-        Options::CheckPage(setup)
-    } else if json {
-        Options::CheckJson(setup)
-    } else {
-        verdict
-    }
-}
-
 /// What the options of `uring explain` ask for.
 fn explained(matches: &ArgMatches<'_>) -> Result<Options, OptionsFault>
     requires { TakesFor Run.Explains (rows_of (found_of matches.now)) }
     ensures { Answers Run.Explains (rows_of (found_of matches.now)) result }
 {
     let setup = traced_setup_of(matches)?;
-    let graph = is_given(matches, "graph");
-    let at = given_number(matches, "at");
-    let timeline = is_given(matches, "timeline");
-    let page = is_given(matches, "page");
-    let json = is_given(matches, "json");
-    Ok(explained_over(setup, graph, at, timeline, page, json))
-}
-
-/// What is written of a trace over the set-up: a picture, a page or its data if one is asked for, and else the answers with their reasons.
-fn explained_over(
-    setup: Setup,
-    graph: bool,
-    at: Option<u32>,
-    timeline: bool,
-    page: bool,
-    json: bool,
-) -> Options
-    ensures { result
-        ≡ (if graph then Options.Graph setup at else if timeline then Options.Timeline setup else if page then Options.Page setup else if json then Options.Json setup else Options.Explain setup) }
-{
-    if graph {
-        Options::Graph { setup, at }
-    } else if timeline {
-        Options::Timeline(setup)
-    } else if page {
-        Options::Page(setup)
-    } else if json {
-        Options::Json(setup)
-    } else {
-        Options::Explain(setup)
+    if is_given(matches, "graph") {
+        let at = given_number(matches, "at");
+        return Ok(Options::Graph { setup, at });
     }
+    if is_given(matches, "timeline") {
+        return Ok(Options::Timeline(setup));
+    }
+    if is_given(matches, "page") {
+        return Ok(Options::Page(setup));
+    }
+    if is_given(matches, "json") {
+        return Ok(Options::Json(setup));
+    }
+    Ok(Options::Explain(setup))
 }
 
 /// What the options of `uring play` ask for.
@@ -212,20 +176,10 @@ fn played(matches: &ArgMatches<'_>) -> Result<Options, OptionsFault>
 {
     let setup = played_setup_of(matches)?;
     let workers = workers_of(matches);
-    let shared = is_given(matches, "shared");
-    Ok(played_over(setup, workers, shared))
-}
-
-/// The play over the set-up, with so many workers: over shared words if that is asked for, and else over lanes.
-fn played_over(setup: Setup, workers: u32, shared: bool) -> Options
-    ensures { result
-        ≡ (if shared then Options.Shared setup workers else Options.Play setup workers) }
-{
-    if shared {
-        Options::Shared(setup, workers)
-    } else {
-        Options::Play(setup, workers)
+    if is_given(matches, "shared") {
+        return Ok(Options::Shared(setup, workers));
     }
+    Ok(Options::Play(setup, workers))
 }
 
 /// What the options of `uring crash` ask for.
@@ -234,7 +188,7 @@ fn crashed(matches: &ArgMatches<'_>) -> Result<Options, OptionsFault>
     ensures { Answers Run.Crashes (rows_of (found_of matches.now)) result }
 {
     let setup = traced_setup_of(matches)?;
-    let file = file_of(matches);
+    let file = given_number(matches, "file").unwrap_or(DEFAULT_FILE);
     let unit = unit_of(matches);
     let at = given_number(matches, "at");
     let seed = given_number(matches, "seed");

@@ -5,7 +5,7 @@ ghost use Rattle.clap.specs.Words.{app_of, rule_of, with_rule};
 ghost use Rattle.clap.specs.Simple.{new_app, with_subcommand};
 ghost use Rattle.clap.specs.declared.builder.command.Command.TheViews.{out-Command};
 ghost use Rattle.uring_options.specs.OptionRows.{app_of_row, rule_of_row, with_command_rows, with_rows_of};
-ghost use Rattle.uring_options.specs.CommandLine.{Run, app_for, option_rule, flag_rule, uring};
+ghost use Rattle.uring_options.specs.CommandLine.{Run, app_for, uring};
 
 use crate::helps::{CLAIMS, IMAGES, ITEMS, REASONS, RECORDS, SEEN, STEPS};
 use crate::option_rows::{
@@ -219,34 +219,12 @@ fn option_of<'a>(alloc: Global, row: OptionRow) -> Arg<'a>
     ensures rule { rule_of result ≡ rule_of_row row }
     ensures local { result.global ≡ false }
 {
+    let option = Arg::new(alloc, row.id).long(row.id).help(row.help);
     match row.numbers {
-        Some((least, most)) => {
-            number_option(alloc, row.id, row.help, ValueParser::Signed(least, most))
-        }
-        None => flag_option(alloc, row.id, row.help),
+        Some((least, most)) => option
+            .value_name("N")
+            .value_parser(ValueParser::Signed(least, most))
+            .action(ArgAction::Set),
+        None => option.action(ArgAction::SetTrue),
     }
-}
-
-/// An option that takes a number.
-fn number_option<'a>(alloc: Global, id: &'a str, help: &'a str, parser: ValueParser<'a>) -> Arg<'a>
-    ensures rule { rule_of result ≡ option_rule id.now parser.entry }
-    ensures local { result.global ≡ false }
-{
-    Arg::new(alloc, id)
-        .long(id)
-        .value_name("N")
-        .help(help)
-        .value_parser(parser)
-        .action(ArgAction::Set)
-}
-
-/// An option that takes no value.
-fn flag_option<'a>(alloc: Global, id: &'a str, help: &'a str) -> Arg<'a>
-    ensures rule { rule_of result ≡ flag_rule id.now }
-    ensures local { result.global ≡ false }
-{
-    Arg::new(alloc, id)
-        .long(id)
-        .help(help)
-        .action(ArgAction::SetTrue)
 }

@@ -22,18 +22,10 @@ const DEFAULT_START: u32 = 0;
 const DEFAULT_WORKERS: u32 = 2;
 
 /// The file that a crash is of if the command line doesn't say.
-const DEFAULT_FILE: u32 = 0;
+pub(crate) const DEFAULT_FILE: u32 = 0;
 
 /// Bytes of a unit if the command line doesn't say.
 const DEFAULT_UNIT: u32 = 1;
-
-/// The file that the options of `uring crash` give.
-pub(crate) fn file_of(matches: &ArgMatches<'_>) -> u32
-    requires { TakesOption (rows_of (found_of matches.now)) (number (codes "file") 0 63) }
-    ensures { IsNumberOr (rows_of (found_of matches.now)) (codes "file") 0 63 0 result }
-{
-    given_number(matches, "file").unwrap_or(DEFAULT_FILE)
-}
 
 /// The bytes of a unit that the options of `uring crash` and `uring outcomes` give.
 pub(crate) fn unit_of(matches: &ArgMatches<'_>) -> u32

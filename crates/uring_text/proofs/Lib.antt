@@ -1,8 +1,7 @@
 -- In the order in which they are best read.
 mod Common
--- Bytes, and steps that may give nothing:
+-- Steps that may give nothing, and zeros at the end of bytes:
 pub mod Options
-pub mod Bytes
 pub mod Trimming
 -- A token that is read and the token that is written are one: numbers, flags, digits:
 pub mod Numbers

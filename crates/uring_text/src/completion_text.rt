@@ -1,7 +1,6 @@
 //! The text of a completion.
 
 ghost use Rattle.std.specs.Prelude.{◌≡◌, ◌++◌, ℕ, OnOk, IsOk, string_bytes};
-ghost use Rattle.uring_text.specs.Tokens.{hex_or_dash};
 ghost use Rattle.uring_text.specs.Completions.{completion_text, trimmed};
 
 use crate::growth::{TextMemory, push_hex, push_named, push_signed, push_text};
@@ -31,15 +30,7 @@ pub fn push_completion_in<M: TextMemory>(
     push_signed(memory, text, completion.res())?;
     push_text(memory, text, " ")?;
     let payload = completion.payload();
-    push_data(memory, text, without_zeros(&payload))
-}
-
-/// Appends bytes as two lower case hexadecimal digits each, or `-` for none.
-fn push_data<M: TextMemory>(memory: &M, text: &mut String, bytes: &[u8]) -> Result<(), AllocError>
-    ensures bytes { OnOk result
-        (string_bytes text.new ≡ string_bytes text.old ++ hex_or_dash bytes.now) }
-    ensures granted { ((n : ℕ) → M.grants memory.now n) → IsOk result }
-{
+    let bytes = without_zeros(&payload);
     if bytes.is_empty() {
         return push_text(memory, text, "-");
     }

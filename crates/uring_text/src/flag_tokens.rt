@@ -2,13 +2,13 @@
 
 ghost use Rattle.std.specs.Prelude.{◌≡◌, ◌==◌, None, Some, if◌then◌else◌};
 ghost use Rattle.uring_text.specs.Tokens.{flag_value};
-ghost use Rattle.uring_text.specs.Reading.{flags_of, letters_of};
+ghost use Rattle.uring_text.specs.Reading.{flags_of};
 
 use bitflags::Flags;
 use uring_entry::SqeFlags;
 
 /// The flag bits that a token names: `-` for none, or one or more of the letters D, L, H, A and S in any order, each at most once.
-#[tactic(auto, unfolding(crate::specs::Reading::flags_of))]
+#[tactic(auto, unfolding(crate::specs::Reading::flags_of, crate::specs::Reading::letters_of))]
 pub(crate) fn flag_bits(token: &[u8]) -> Option<u8>
     ensures { result ≡ flags_of token.now }
 {
@@ -18,14 +18,6 @@ pub(crate) fn flag_bits(token: &[u8]) -> Option<u8>
     if token.is_empty() {
         return None;
     }
-    letters(token)
-}
-
-/// The bits of these letters, if each is a flag's and stands there once.
-#[tactic(auto, unfolding(crate::specs::Reading::letters_of))]
-fn letters(token: &[u8]) -> Option<u8>
-    ensures { result ≡ letters_of 0 token.now }
-{
     let mut bits = 0;
     for letter in token {
         let bit = flag_bit(*letter)?;

@@ -1,11 +1,10 @@
 //! The words for the first place at which a line isn't one of the language.
 
-ghost use Rattle.std.specs.Prelude.{◌≡◌, ◌≤◌, ◌++◌, ℕ, OnOk, IsOk, length, map, string_bytes, codes};
-ghost use Rattle.uring_text.specs.Flaws.{column_after, found_text, stop_text, flaw_text};
-ghost use Rattle.uring_text.specs.Places.{place_text};
+ghost use Rattle.std.specs.Prelude.{◌≡◌, ◌≤◌, ◌++◌, ℕ, OnOk, IsOk, length, map, string_bytes};
+ghost use Rattle.uring_text.specs.Flaws.{column_after, found_text, flaw_text};
 
 use crate::growth::{TextMemory, push_named, push_text};
-use crate::place::{Place, place_text};
+use crate::place::place_text;
 use crate::reach::Reach;
 use crate::visible::push_visible_in;
 use std::alloc::{AllocError, Global};
@@ -42,36 +41,11 @@ pub fn push_flaw_in<M: TextMemory>(
 {
     let column = column_after(line, reach.tokens);
     let (_, rest) = tokens.split_at(reach.tokens);
-    push_stop(memory, text, column, rest)?;
-    push_wanted(memory, text, reach.wanted)
-}
-
-/// Appends a column, and what stands there: the first of these tokens.
-fn push_stop<M: TextMemory>(
-    memory: &M,
-    text: &mut String,
-    column: usize,
-    tokens: &[&[u8]],
-) -> Result<(), AllocError>
-    ensures bytes { OnOk result
-        (string_bytes text.new
-        ≡ string_bytes text.old ++ stop_text column (map (λ token. token.now) tokens.now)) }
-    ensures granted { ((n : ℕ) → M.grants memory.now n) → IsOk result }
-{
     push_named(memory, text, "column ", column as u64)?;
     push_text(memory, text, ": ")?;
-    push_found(memory, text, tokens)
-}
-
-/// Appends what may stand at a place.
-fn push_wanted<M: TextMemory>(memory: &M, text: &mut String, place: Place) -> Result<(), AllocError>
-    ensures bytes { OnOk result
-        (string_bytes text.new
-        ≡ string_bytes text.old ++ (codes ", wanted: " ++ place_text place)) }
-    ensures granted { ((n : ℕ) → M.grants memory.now n) → IsOk result }
-{
+    push_found(memory, text, rest)?;
     push_text(memory, text, ", wanted: ")?;
-    push_text(memory, text, place_text(place))
+    push_text(memory, text, place_text(reach.wanted))
 }
 
 /// Appends what stands where these tokens are left.

@@ -169,18 +169,9 @@ pub fn push_operation<M: TextMemory>(
     ensures granted { ((n : ℕ) → M.grants memory.now n) → IsOk result }
 {
     if entry.is_cancel_all() {
-        push_text(memory, text, "cancelall")
-    } else {
-        push_code(memory, text, entry.opcode())
+        return push_text(memory, text, "cancelall");
     }
-}
-
-/// Appends the operation of this number.
-fn push_code<M: TextMemory>(memory: &M, text: &mut String, code: u8) -> Result<(), AllocError>
-    ensures bytes { OnOk result
-        (string_bytes text.new ≡ string_bytes text.old ++ spec.named_text code) }
-    ensures granted { ((n : ℕ) → M.grants memory.now n) → IsOk result }
-{
+    let code = entry.opcode();
     match Name::of_code(code) {
         Some(name) => push_text(memory, text, name.text()),
         None => push_named(memory, text, "op ", u64::from(code)),

@@ -1,6 +1,6 @@
 //! Growth of texts and of lists of bytes by a memory.
 
-ghost use Rattle.std.specs.Prelude.{◌≡◌, ◌+◌, ◌<◌, ◌≤◌, ◌++◌, ◌∷◌, [], ℕ, length, codes, slice_index, ◌/◌, ◌%◌, OnOk, OnErr, IsOk, string_bytes, string_len, string_capacity, decimal};
+ghost use Rattle.std.specs.Prelude.{◌≡◌, ◌+◌, ◌<◌, ◌≤◌, ◌++◌, ◌∷◌, [], ℕ, length, codes, slice_index, OnOk, OnErr, IsOk, string_bytes, string_len, string_capacity, decimal};
 ghost use Rattle.std.specs.Fmt.{signed_decimal};
 ghost use Rattle.hex.specs.Hex.{encode_lower, lower_digits};
 
@@ -99,20 +99,10 @@ pub(crate) fn push_hex<M: TextMemory>(
     ensures granted { ((n : ℕ) → M.grants memory.now n) → IsOk result }
 {
     for byte in bytes {
-        push_pair(memory, text, *byte)?;
+        push_text(memory, text, digit(*byte / 16))?;
+        push_text(memory, text, digit(*byte % 16))?;
     }
     Ok(())
-}
-
-/// Appends a byte as two lower case hexadecimal digits.
-fn push_pair<M: TextMemory>(memory: &M, text: &mut String, byte: u8) -> Result<(), AllocError>
-    ensures bytes { OnOk result
-        (string_bytes text.new
-        ≡ string_bytes text.old ++ slice_index lower_digits (byte / 16) ∷ [] ++ slice_index lower_digits (byte % 16) ∷ []) }
-    ensures granted { ((n : ℕ) → M.grants memory.now n) → IsOk result }
-{
-    push_text(memory, text, digit(byte / 16))?;
-    push_text(memory, text, digit(byte % 16))
 }
 
 /// The hexadecimal digit of a number below 16.

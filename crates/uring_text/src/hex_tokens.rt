@@ -1,20 +1,24 @@
 //! Tokens that are bytes, two lower case hexadecimal digits each.
 
-ghost use Rattle.std.specs.Prelude.{◌≡◌, ◌≤◌, ◌+◌, length, take, drop, MatchOption, None, Some};
+ghost use Rattle.std.specs.Prelude.{◌≡◌, length, MatchOption, None, Some};
 ghost use Rattle.std.specs.List.{list_any};
-ghost use Rattle.std.specs.Int.{w64, to_le_bytes};
-ghost use Rattle.uring_entry.specs.Layout.{bytes_of, AreWords};
 ghost use Rattle.uring_text.specs.Forms.{HasBytes};
 ghost use Rattle.uring_text.specs.Reading.{is_capital, hex_of};
 
 use uring_entry::Sqe;
 
-/// The entry of these 128 bytes, byte 0 first.
+/// The entry of these 128 bytes, byte 0 first and in the low byte of word 0.
 pub(crate) fn entry_of_bytes(bytes: &[u8]) -> Sqe
     requires { length bytes.now ≡ 128 }
     ensures { HasBytes result bytes.now }
 {
-    Sqe::from_words(words_of(bytes))
+    let mut words = [0; 16];
+    for i in 0..16 {
+        let mut eight = [0; 8];
+        eight.copy_from_slice(&bytes[8 * i..8 * i + 8]);
+        words[i] = u64::from_le_bytes(eight);
+    }
+    Sqe::from_words(words)
 }
 
 /// Puts the bytes that a token spells into `bytes`, which they must fill.
@@ -34,27 +38,4 @@ fn has_capitals(token: &[u8]) -> bool
     ensures { result ≡ list_any is_capital token.now }
 {
     token.iter().any(|digit| digit.is_ascii_uppercase())
-}
-
-/// The words of 64 bits that hold these bytes, the low byte of each word first.
-fn words_of(bytes: &[u8]) -> [u64; 16]
-    requires { length bytes.now ≡ 128 }
-    ensures bytes { bytes_of result ≡ bytes.now }
-    ensures words { AreWords result }
-{
-    let mut words = [0; 16];
-    for i in 0..16 {
-        words[i] = word_at(bytes, 8 * i);
-    }
-    words
-}
-
-/// The word that eight bytes hold, from this place on.
-fn word_at(bytes: &[u8], at: usize) -> u64
-    requires { at + 8 ≤ length bytes.now }
-    ensures { to_le_bytes w64 result ≡ take 8 (drop at bytes.now) }
-{
-    let mut eight = [0; 8];
-    eight.copy_from_slice(&bytes[at..at + 8]);
-    u64::from_le_bytes(eight)
 }

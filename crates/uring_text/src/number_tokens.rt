@@ -1,6 +1,6 @@
 //! Tokens that are numbers.
 
-ghost use Rattle.std.specs.Prelude.{◌≡◌, ◌^◌, ◌<◌, ℤ, pos, option_map, IfSome, MatchOption};
+ghost use Rattle.std.specs.Prelude.{◌≡◌, ◌^◌, ◌<◌, ℤ, IfSome, MatchOption};
 ghost use Rattle.std.specs.Char.{is_ascii_digit};
 ghost use Rattle.std.specs.List.{list_all};
 ghost use Rattle.std.specs.Fmt.{signed_decimal};
@@ -78,7 +78,7 @@ pub(crate) fn file(token: &[u8]) -> Option<i32>
     match token {
         [] => None,
         [b'-', digits @ ..] => negative(number(digits)?),
-        [_, ..] => not_negative(token),
+        [_, ..] => Some(number_below(token, 2_147_483_648)? as i32),
     }
 }
 
@@ -90,13 +90,6 @@ fn negative(n: u64) -> Option<i32>
         return None;
     }
     Some(-(n as i64) as i32)
-}
-
-/// A number up to 2^31 - 1, as a signed one.
-fn not_negative(token: &[u8]) -> Option<i32>
-    ensures { result ≡ option_map (λ n. pos n) (number_of (2 ^ 31) token.now) }
-{
-    Some(number_below(token, 2_147_483_648)? as i32)
 }
 
 /// A number below `limit`.

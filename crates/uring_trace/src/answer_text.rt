@@ -1,8 +1,6 @@
 //! The text of an answer.
 
-ghost use Rattle.std.specs.Prelude.{◌≡◌, ◌++◌, ℕ, OnOk, IsOk, string_bytes, codes, decimal};
-ghost use Rattle.std.specs.Fmt.{signed_decimal};
-ghost use Rattle.uring_core.specs.declared.answer.Answer.TheVariants as answer;
+ghost use Rattle.std.specs.Prelude.{◌≡◌, ◌++◌, ℕ, OnOk, IsOk, string_bytes};
 ghost use Rattle.uring_trace.specs.Text.{text_of, word_of};
 
 use std::alloc::{AllocError, Global};
@@ -34,8 +32,15 @@ pub fn push_answer_in<M: TextMemory>(
             accepted,
             dropped,
             head,
-        } => push_taken(memory, text, *accepted, *dropped, *head),
-        Answer::Ended { res, .. } => push_ended(memory, text, *res),
+        } => {
+            push_named(memory, text, "taken ", u64::from(*accepted))?;
+            push_named(memory, text, " dropped ", u64::from(*dropped))?;
+            push_named(memory, text, " head ", u64::from(*head))
+        }
+        Answer::Ended { res, .. } => {
+            push_text(memory, text, "ended ")?;
+            push_signed(memory, text, *res)
+        }
         Answer::Moved(count) => push_named(memory, text, "moved ", u64::from(*count)),
         Answer::Reaped(completion) => push_completion_in(memory, text, completion),
         Answer::Next(number) => push_named(memory, text, "next ", *number),
@@ -68,32 +73,4 @@ fn word_of(answer: &Answer) -> &'static str
         Answer::Nothing => "none",
         _ => "",
     }
-}
-
-/// Appends the end of a request.
-fn push_ended<M: TextMemory>(memory: &M, text: &mut String, res: i32) -> Result<(), AllocError>
-    ensures bytes { OnOk result
-        (string_bytes text.new ≡ string_bytes text.old ++ (codes "ended " ++ signed_decimal res)) }
-    ensures granted { ((n : ℕ) → M.grants memory.now n) → IsOk result }
-{
-    push_text(memory, text, "ended ")?;
-    push_signed(memory, text, res)
-}
-
-/// Appends the end of a call: how many requests it accepted, how many entries it dropped, and the head after it.
-fn push_taken<M: TextMemory>(
-    memory: &M,
-    text: &mut String,
-    accepted: u32,
-    dropped: u32,
-    head: u32,
-) -> Result<(), AllocError>
-    ensures bytes { OnOk result
-        (string_bytes text.new
-        ≡ string_bytes text.old ++ text_of (answer.Taken accepted dropped head)) }
-    ensures granted { ((n : ℕ) → M.grants memory.now n) → IsOk result }
-{
-    push_named(memory, text, "taken ", u64::from(accepted))?;
-    push_named(memory, text, " dropped ", u64::from(dropped))?;
-    push_named(memory, text, " head ", u64::from(head))
 }

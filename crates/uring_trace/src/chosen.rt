@@ -146,14 +146,9 @@ fn is_target_of(core: &Core, number: u64, sought: u64, other: u64) -> bool
 fn is_target_by(number: u64, sought: u64, other: u64, user_data: u64, why: Why) -> bool
     ensures { result ≡ (not (other == number) && (user_data == sought) && is_open why) }
 {
-    other != number && user_data == sought && is_open(why)
-}
-
-/// Whether a request that stands so is outstanding, and neither runs nor is doomed.
-fn is_open(why: Why) -> bool
-    ensures { result ≡ is_open why }
-{
-    matches!(why, Why::Waits { .. } | Why::MayStart)
+    // It neither runs nor is doomed.
+    let is_open = matches!(why, Why::Waits { .. } | Why::MayStart);
+    other != number && user_data == sought && is_open
 }
 
 /// Appends whom a cancel of all dooms after an answer, if that is told.

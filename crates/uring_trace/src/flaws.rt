@@ -2,7 +2,7 @@
 
 ghost use Rattle.std.specs.Prelude.{◌≡◌, ◌≤◌, ◌++◌, ℕ, List, OnOk, IsOk, length, map, option_map, string_bytes};
 ghost use Rattle.uring_text.specs.KeptLine.{kept_of};
-ghost use Rattle.uring_trace.specs.Flaws.{fill_reach, step_reach, shown_kinds, shown_reach, asked_reach, with_answer, line_reach, line_flaw};
+ghost use Rattle.uring_trace.specs.Flaws.{fill_reach, step_reach, shown_kinds, shown_reach, asked_reach, line_reach, line_flaw};
 
 use crate::step_lines::{kinds_of, step_named};
 use std::alloc::{AllocError, Global};
@@ -51,31 +51,15 @@ pub fn push_line_flaw_in<M: TextMemory>(
         → string_bytes text.new ≡ string_bytes text.old ++ line_flaw language bytes) }
     ensures granted { ((n : ℕ) → M.grants memory.now n) → IsOk result }
 {
-    match line.whole() {
-        Some(bytes) => push_short_flaw(memory, alloc, text, bytes, language),
-        None => push_text(memory, text, "more than 300 bytes"),
-    }
-}
-
-/// Appends what is wrong with a line of at most 300 bytes.
-fn push_short_flaw<M: TextMemory>(
-    memory: &M,
-    alloc: Global,
-    text: &mut String,
-    line: &[u8],
-    language: Language,
-) -> Result<(), AllocError>
-    requires { length line.now ≤ 300 }
-    ensures bytes { OnOk result
-        (string_bytes text.new ≡ string_bytes text.old ++ line_flaw language line.now) }
-    ensures granted { ((n : ℕ) → M.grants memory.now n) → IsOk result }
-{
-    if line.is_empty() {
+    let Some(bytes) = line.whole() else {
+        return push_text(memory, text, "more than 300 bytes");
+    };
+    if bytes.is_empty() {
         return push_text(memory, text, "an empty line");
     }
-    let tokens = split_tokens_in(memory, alloc, line)?;
+    let tokens = split_tokens_in(memory, alloc, bytes)?;
     let reach = line_reach(language, tokens.as_slice());
-    push_flaw_in(memory, text, line, tokens.as_slice(), reach)
+    push_flaw_in(memory, text, bytes, tokens.as_slice(), reach)
 }
 
 /// How far tokens fit a line of a language.
@@ -86,22 +70,14 @@ fn line_reach(language: Language, tokens: &[&[u8]]) -> Reach
     match language {
         Language::Steps => step_reach(tokens),
         Language::Questions => asked_reach(tokens),
-        Language::Records => recorded(step_reach(tokens)),
-    }
-}
-
-/// A reach in a recorded trace, where this is the one in a trace.
-fn recorded(reach: Reach) -> Reach
-    ensures tokens { result.tokens ≡ reach.tokens }
-    ensures wanted { result.wanted ≡ with_answer reach.wanted }
-{
-    let wanted = match reach.wanted {
-        Place::End | Place::NoAnswer => Place::Answer,
-        place => place,
-    };
-    Reach {
-        tokens: reach.tokens,
-        wanted,
+        Language::Records => {
+            let reach = step_reach(tokens);
+            let wanted = match reach.wanted {
+                Place::End | Place::NoAnswer => Place::Answer,
+                place => place,
+            };
+            Reach { wanted, ..reach }
+        }
     }
 }
 

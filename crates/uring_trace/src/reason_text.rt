@@ -1,6 +1,6 @@
 //! The reason of an answer, and its text.
 
-ghost use Rattle.std.specs.Prelude.{◌≡◌, ◌++◌, ℕ, OnOk, IsOk, string_bytes, codes, decimal};
+ghost use Rattle.std.specs.Prelude.{◌≡◌, ◌++◌, ℕ, OnOk, IsOk, string_bytes, codes};
 ghost use Rattle.uring_entry.specs.Texts.{fault_text};
 ghost use Rattle.uring_core.specs.Histories.{History, world};
 ghost use Rattle.uring_core.specs.World.{requests_of};
@@ -137,7 +137,11 @@ pub fn push_why_in<M: TextMemory>(memory: &M, text: &mut String, why: Why) -> Re
         Why::HasEnded => push_text(memory, text, "has ended"),
         Why::Runs => push_text(memory, text, "runs"),
         Why::IsDoomed(doom) => push_doomed(memory, text, doom),
-        Why::Waits { least, since } => push_wait(memory, text, least, since),
+        Why::Waits { least, since } => {
+            push_named(memory, text, "waits for ", least)?;
+            push_text(memory, text, ": ")?;
+            push_since_in(memory, text, least, since)
+        }
         Why::MayStart => push_text(memory, text, "waits for nobody"),
     }
 }
@@ -171,23 +175,6 @@ fn fault_text(fault: Fault) -> &'static str
         Fault::Len => "a length above 64",
         Fault::Off => "the offset of the file position",
     }
-}
-
-/// Appends which request is waited for, and why.
-fn push_wait<M: TextMemory>(
-    memory: &M,
-    text: &mut String,
-    least: u64,
-    since: Since,
-) -> Result<(), AllocError>
-    ensures bytes { OnOk result
-        (string_bytes text.new
-        ≡ string_bytes text.old ++ (codes "waits for " ++ decimal least ++ codes ": " ++ since_text least since)) }
-    ensures granted { ((n : ℕ) → M.grants memory.now n) → IsOk result }
-{
-    push_named(memory, text, "waits for ", least)?;
-    push_text(memory, text, ": ")?;
-    push_since_in(memory, text, least, since)
 }
 
 /// Appends why request `least` is waited for.

@@ -4,9 +4,8 @@ ghost use Rattle.std.specs.Prelude.{◌≡◌, ◌≤◌, ◌^◌, ℕ, List, If
 ghost use Rattle.uring_text.specs.KeptLine.{kept_of};
 ghost use Rattle.uring_trace.specs.Spelling as spelling;
 ghost use Rattle.uring_trace.specs.Spelling.{IsStep, IsBad, name_of};
-ghost use Rattle.uring_text.specs.Reading.{form_of, number_of};
 ghost use Rattle.uring_trace.specs.Reading as spec;
-ghost use Rattle.uring_trace.specs.Reading.{ReadsStep, ReadsFill, step_of_one};
+ghost use Rattle.uring_trace.specs.Reading.{ReadsStep};
 
 use std::alloc::{AllocError, Global};
 use uring_core::same_step;
@@ -81,38 +80,23 @@ fn read_words(tokens: &[&[u8]]) -> Option<Step>
 {
     let (name, tokens) = tokens.split_first()?;
     let Some((token, tokens)) = tokens.split_first() else {
-        return step_of_name(name);
+        let step = step_named(name)?;
+        return if kinds_of(&step).is_empty() {
+            Some(step)
+        } else {
+            None
+        };
     };
     if is_name(name, "fill") {
-        fill(token, tokens)
+        Some(Step::Fill {
+            slot: spelled_number(token)?,
+            entry: spelled_entry(tokens)?,
+        })
     } else if tokens.is_empty() {
         numbered(token, &step_named(name)?)
     } else {
         None
     }
-}
-
-/// The step of one token.
-fn step_of_name(name: &[u8]) -> Option<Step>
-    ensures { result ≡ step_of_one name.now }
-{
-    let step = step_named(name)?;
-    if kinds_of(&step).is_empty() {
-        Some(step)
-    } else {
-        None
-    }
-}
-
-/// A fill of a slot with the entry of these tokens.
-fn fill(slot: &[u8], entry: &[&[u8]]) -> Option<Step>
-    ensures { ReadsFill result (number_of (2 ^ 32) slot.now)
-        (form_of (map (λ token. token.now) entry.now)) }
-{
-    Some(Step::Fill {
-        slot: spelled_number(slot)?,
-        entry: spelled_entry(entry)?,
-    })
 }
 
 /// What a step is called.

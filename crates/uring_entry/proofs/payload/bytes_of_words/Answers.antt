@@ -3,8 +3,7 @@ use Rattle.uring_entry.proofs.Payloads.{all_taken, bytes_more}
 use Rattle.uring_entry.proofs.payload.bytes_of_words.Goals as goal
 
 pub returns : goal.returns
-returns c =
-    all_taken c.loop-i.i _ _ (omega arith) c.loop-i.invariant.1 c.requires c.loop-i.invariant.0
+returns c = all_taken c.loop-i.i _ _ (omega arith) (omega arith) c.loop-i.invariant.0
 
 pub loop-i-preserved : goal.loop-i-preserved
 loop-i-preserved c =

@@ -1,6 +1,6 @@
 use Rattle.std.proofs.Common.{◌≡◌, drop}
 use Rattle.uring_text.specs.Reading.{letters_of}
-use Rattle.uring_text.proofs.flag_tokens.letters.Given as goal
+use Rattle.uring_text.proofs.flag_tokens.flag_bits.Given as goal
 
 -- what is read of the rest is read of the whole
 abbrev pub invariant-loop-letter : goal.invariant-loop-letter

@@ -1,6 +1,6 @@
 use Rattle.std.proofs.Common.{◌≡◌, ◌*◌, length, take}
 use Rattle.uring_entry.specs.Layout.{bytes_of, AreWords}
-use Rattle.uring_text.proofs.hex_tokens.words_of.Given as goal
+use Rattle.uring_text.proofs.hex_tokens.entry_of_bytes.Given as goal
 
 -- the first words hold the bytes so far
 abbrev pub invariant-loop-i : goal.invariant-loop-i
