@@ -53,28 +53,9 @@ impl ByUserData {
         ensures stop { self.new.stop ≤ end }
         ensures granted { (n : ℕ) → M.grants memory.now n → end ≤ n → IsOk result }
     {
-        if self.ends.len() as u64 > 2 * (end - first) {
-            return self.renew(memory, alloc, first, end);
+        if self.ends.len() as u64 <= 2 * (end - first) {
+            return memory.reserve_keys(&mut self.ends, (end - self.stop) as usize);
         }
-        memory.reserve_keys(&mut self.ends, (end - self.stop) as usize)
-    }
-
-    /// Forgets what was looked at, with the memory of the numbers below `end`.
-    fn renew<M: Memory>(
-        &mut self,
-        memory: &M,
-        alloc: Global,
-        first: u64,
-        end: u64,
-    ) -> Result<(), AllocError>
-        requires first { first ≤ end }
-        requires stop { self.old.stop ≤ end }
-        ensures places { OnOk result (HasPlaces self.new end) }
-        ensures kept { (n : ℕ) → n ≤ end → HasPlaces self.old n → HasPlaces self.new n }
-        ensures same { KeepsFrom self.old self.new first }
-        ensures stop { self.new.stop ≤ end }
-        ensures granted { (n : ℕ) → M.grants memory.now n → end ≤ n → IsOk result }
-    {
         let mut ends = HashMap::new(alloc);
         if let Err(refused) = memory.reserve_keys(&mut ends, (end - first) as usize) {
             return Err(refused);
@@ -151,23 +132,12 @@ fn note(ends: &mut HashMap<u64, Ends>, window: &Window, user_data: u64, n: u64)
     ensures len { hash_map_len ends.new ≤ hash_map_len ends.old + 1 }
 {
     let first = match ends.get(&user_data) {
-        Some(ends) => first_with(window, *ends, n),
+        Some(ends) if ends.first == ends.last && window.get(ends.first).is_none() => n,
+        Some(ends) => ends.first.min(n),
         None => n,
     };
     match ends.insert(user_data, Ends { first, last: n }) {
         Ok(_) => {}
         Err(_) => unreachable!(),
     }
-}
-
-/// The least number of those noted and `n`, without what has ended if it is one alone.
-fn first_with(window: &Window, ends: Ends, n: u64) -> u64
-    ensures within { result ≤ n }
-    ensures kept { (k : ℕ) → is_some (at window.now k) ≡ true → k ≤ n
-        → ends.first ≤ k → k ≤ ends.last → result ≤ k }
-{
-    if ends.first == ends.last && window.get(ends.first).is_none() {
-        return n;
-    }
-    ends.first.min(n)
 }

@@ -146,13 +146,6 @@ fn standing_of(grouped: &Grouped, n: u64) -> Standing
     };
     Standing {
         is_head: group.least == n,
-        is_doomed: dooms(group, n) || request.is_cancelled,
+        is_doomed: group.fault.is_some() || is_before(group.broken, n) || request.is_cancelled,
     }
-}
-
-/// Whether a group dooms its member `n`.
-fn dooms(group: &Group, n: u64) -> bool
-    ensures { result ≡ dooms (Some group.now) n }
-{
-    group.fault.is_some() || is_before(group.broken, n)
 }

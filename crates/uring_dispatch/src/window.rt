@@ -252,7 +252,7 @@ impl Window {
         ensures room { self.new.room ≡ self.old.room }
     {
         let request = self.requests.remove(key);
-        self.running = less_if(self.running, request.is_running);
+        self.running -= u64::from(request.is_running);
         forget(&mut self.keys, (n - self.first) as usize);
         trim(&mut self.first, &mut self.keys);
         request
@@ -267,14 +267,6 @@ fn forget(keys: &mut VecDeque<Option<usize>>, place: usize)
     ensures capacity { deque_capacity keys.new ≡ deque_capacity keys.old }
 {
     keys[place] = None;
-}
-
-/// One less, if this holds.
-fn less_if(count: u64, is_less: bool) -> u64
-    requires { one_if is_less ≤ count }
-    ensures { result + one_if is_less ≡ count }
-{
-    if is_less { count - 1 } else { count }
 }
 
 /// Drops the numbers that have ended before the first that hasn't.
