@@ -1,8 +1,8 @@
 //! Between which numbers the requests with the same user data are, so that a cancel looks at no others. Our own structure: a map from user data to the least and the greatest number that it may stand at. Numbers are looked at when a cancel comes, so that who never cancels pays for the memory alone.
 
-ghost use Rattle.std.specs.Prelude.{◌≡◌, ℕ, ◌+◌, ◌^◌, ◌<◌, ◌≤◌, true, None, is_some, OnOk, OnErr, IsOk, IfSome, nat_eq, if◌then◌else◌};
+ghost use Rattle.std.specs.Prelude.{◌≡◌, ℕ, ◌+◌, ◌^◌, ◌<◌, ◌≤◌, None, OnOk, IsOk, nat_eq};
 ghost use Rattle.std.specs.HashMap.{get, spare, hash_map_len};
-ghost use Rattle.uring_dispatch.specs.Window.{at, end_of};
+ghost use Rattle.uring_dispatch.specs.Window.{end_of};
 ghost use Rattle.uring_dispatch.specs.Noted.{IsBetween, KeepsBetween};
 
 use crate::window::Window;
@@ -34,7 +34,7 @@ pub(crate) struct ByUserData {
 }
 
 impl ByUserData {
-    ghost use Rattle.uring_dispatch.specs.ByUserData.{limit_of, HasPlaces, KeepsPlaces, AreFound, KeepsFrom, Spans};
+    ghost use Rattle.uring_dispatch.specs.ByUserData.{HasPlaces, KeepsPlaces, AreFound, KeepsFrom};
 
     /// Asks for the memory of the numbers below `end`, where none before `first` is outstanding. If more than half of what is kept is of requests that have ended, it begins anew.
     pub(crate) fn reserve_in<M: Memory>(

@@ -4,7 +4,7 @@ ghost use Rattle.std.specs.Prelude.{◌≡◌, ℕ, ◌+◌, ◌/◌, ◌^◌, �
 ghost use Rattle.uring_number_set.specs.NumberSet.{stop_of, Puts, HasSame, HasMoved};
 ghost use Rattle.uring_dispatch.specs.Window.{at};
 ghost use Rattle.uring_dispatch.specs.Groups.{group_at};
-ghost use Rattle.uring_dispatch.specs.Waiting.{waits_at_head, waits_doomed, dooms, IsListedAt, CanTell, Keeps, CanGrow, GrowsTo, Starts, IsFirstTold};
+ghost use Rattle.uring_dispatch.specs.Waiting.{waits_at_head, waits_doomed, IsListedAt, CanTell, Keeps, CanGrow, GrowsTo, Starts, IsFirstTold};
 
 use crate::group::{Group, is_before};
 use crate::grouped::Grouped;

@@ -2,9 +2,8 @@
 
 ghost use Rattle.std.specs.Prelude.{◌≡◌, ◌<◌, true, Some, None, is_some};
 ghost use Rattle.uring_entry.specs.Requests.{Requests};
-ghost use Rattle.uring_entry.specs.Why.{why_of, doom_of, since_of, holder_of, waiting_for};
+ghost use Rattle.uring_entry.specs.Why.{why_of, doom_of, since_of};
 ghost use Rattle.uring_dispatch.specs.Window.{at};
-ghost use Rattle.uring_dispatch.specs.Groups.{group_at, drain_of};
 ghost use Rattle.uring_dispatch.specs.Grouped.{Shows};
 ghost use Rattle.uring_dispatch.specs.Waits.{IsFirstHolder};
 

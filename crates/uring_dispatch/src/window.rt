@@ -1,6 +1,6 @@
 //! The outstanding requests by their numbers.
 
-ghost use Rattle.std.specs.Prelude.{◌≡◌, ◌≢◌, ℕ, ◌+◌, ◌-◌, ◌^◌, ◌<◌, ◌≤◌, length, true, false, Some, None, IsOk, OnOk, OnErr, IfSome, MatchOption, is_some, option_copied, slice_set};
+ghost use Rattle.std.specs.Prelude.{◌≡◌, ℕ, ◌+◌, ◌-◌, ◌^◌, ◌<◌, ◌≤◌, length, true, false, Some, None, IsOk, OnOk, OnErr, IfSome, MatchOption, is_some, option_copied, slice_set};
 ghost use Rattle.std.specs.VecDeque.{deque_len, deque_capacity};
 ghost use Rattle.slab.specs.Slab.{slab_len};
 ghost use Rattle.uring_dispatch.specs.Window.{key_at, found_by, at, end_of, runs, one_if, started, chosen, Changes, IsFirst, IsTrimmed, IsAsBefore, HasBefore};

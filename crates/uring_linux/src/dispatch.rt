@@ -324,16 +324,6 @@ fn has_skipped(before: bool, entry: &Sqe) -> bool
     before || asks_to_skip(entry)
 }
 
-/// Whether an entry is faulty by itself.
-fn is_faulty(entry: &Sqe) -> bool
-    ensures { result ≡ preparation.is_faulty entry.now }
-{
-    match prepare(entry) {
-        Ok(_) => false,
-        Err(_) => true,
-    }
-}
-
 /// What is kept of request `n` as it is accepted, in a group of its own.
 fn new_request(entry: Sqe, has_skipped: bool, n: u64) -> Request
     requires { n < 2 ^ 63 }
@@ -341,7 +331,7 @@ fn new_request(entry: Sqe, has_skipped: bool, n: u64) -> Request
 {
     let is_draining = asks_to_drain(&entry);
     let is_linked = entry.is_linked();
-    let is_faulty = is_faulty(&entry);
+    let is_faulty = prepare(&entry).is_err();
     let is_refused = is_draining && has_skipped;
     Request {
         entry,

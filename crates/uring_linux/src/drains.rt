@@ -249,17 +249,9 @@ fn go_on(groups: &mut VecDeque<Deferred>, is_alone: bool)
     let Some(first) = groups.pop_front() else {
         return;
     };
-    if !first.drains {
-        drop_plain(groups);
+    if first.drains {
+        return;
     }
-}
-
-/// Drops the groups before the first that drains.
-fn drop_plain(groups: &mut VecDeque<Deferred>)
-    ensures items { groups.new.items ≡ from_drain groups.old.items }
-    ensures shorter { deque_len groups.new ≤ deque_len groups.old }
-    ensures capacity { deque_capacity groups.new ≡ deque_capacity groups.old }
-{
     while let Some(Deferred { drains: false, .. }) = groups.front() {
         groups.pop_front();
     }

@@ -33,7 +33,10 @@ impl Window {
             → result ≡ why_of l n }
     {
         let Some(request) = self.get(n) else {
-            return self.gone(n);
+            if n < self.end() {
+                return Why::HasEnded;
+            }
+            return Why::NeverAccepted;
         };
         if request.has_ended {
             return Why::HasEnded;
@@ -42,18 +45,6 @@ impl Window {
             return Why::Runs;
         }
         self.waiting(drains, n, request)
-    }
-
-    /// Why request `n` isn't kept any more, or not yet.
-    fn gone(&self, n: u64) -> Why
-        requires { at self.now n ≡ None }
-        ensures { (l : LinuxRequests) → Shows self.now l.requests → result ≡ why_of l n }
-    {
-        if n < self.end() {
-            Why::HasEnded
-        } else {
-            Why::NeverAccepted
-        }
     }
 
     /// How request `n` stands, which hasn't ended and doesn't run.

@@ -226,7 +226,9 @@ impl Window {
             if !request.has_ended {
                 return to;
             }
-            to = if_last(request, n + 1, to);
+            if request.is_last {
+                to = n + 1;
+            }
         }
         to
     }
@@ -295,14 +297,6 @@ fn item(items: &VecDeque<Request>, place: usize) -> Option<&Request>
     ensures { option_copied result ≡ slice_get items.now.items place }
 {
     items.get(place)
-}
-
-/// The number after a request if it is the last of its group, else that after the last before.
-fn if_last(request: &Request, after: u64, before: u64) -> u64
-    ensures last { request.now.is_last ≡ true → result ≡ after }
-    ensures other { request.now.is_last ≡ false → result ≡ before }
-{
-    if request.is_last { after } else { before }
 }
 
 /// Drops the requests before this number.
