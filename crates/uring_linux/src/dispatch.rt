@@ -1,13 +1,13 @@
 //! The dispatcher: accepts requests, says which may start, issues them and ends them, as Linux 6.18 does.
 
-ghost use Rattle.std.specs.Prelude.{◌≡◌, ◌||◌, ℕ, List, ◌+◌, ◌-◌, ◌^◌, ◌<◌, ◌≤◌, ◌↔◌, IsTrue, true, false, OnOk, OnErr, IsErrOf, length, None, Some};
+ghost use Rattle.std.specs.Prelude.{◌≡◌, ◌||◌, ℕ, List, ◌+◌, ◌-◌, ◌^◌, ◌<◌, ◌≤◌, ◌↔◌, IsTrue, true, false, OnOk, OnErr, IsErrOf, None, Some};
 ghost use Rattle.uring_dispatch.specs.Window.{one_if};
 ghost use Rattle.uring_entry.specs.Requests.{is_outstanding, operation_running, entry_outstanding, least_of, outstanding_in, running_in};
 ghost use Rattle.uring_linux.specs.Laws.{is_refusal};
 ghost use Rattle.uring_linux.specs.Issues.{issued, after_issue, posted_by, after_end};
 ghost use Rattle.uring_linux.specs.LinuxRequests.{LinuxRequests, asks_to_skip, no_request, with_accepted, with_cut, with_started, with_ended, next_of};
 ghost use Rattle.uring_entry.specs.Preparation as preparation;
-ghost use Rattle.uring_linux.specs.Window.{end_of, at, is_unended, IsOpen};
+ghost use Rattle.uring_linux.specs.Window.{at, is_unended, IsOpen};
 ghost use Rattle.uring_linux.specs.Window as spec;
 ghost use Rattle.uring_linux.specs.LinuxRequests as spec_of;
 

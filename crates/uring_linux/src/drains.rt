@@ -3,7 +3,7 @@
 ghost use Rattle.std.specs.Prelude.{◌≡◌, ℕ, ◌+◌, ◌<◌, ◌≤◌, true, false, OnOk, OnErr, IsOk, length};
 ghost use Rattle.std.specs.VecDeque.{deque_len, deque_capacity};
 ghost use Rattle.uring_entry.specs.Requests.{Requests, is_linked};
-ghost use Rattle.uring_linux.specs.Drains.{no_drains, with_entry, is_in_some, still_deferred, from_drain, deferred_with, with_ring};
+ghost use Rattle.uring_linux.specs.Drains.{no_drains, with_entry, is_in_some, still_deferred, deferred_with, with_ring};
 ghost use Rattle.uring_linux.specs.LinuxRequests as linux;
 ghost use Rattle.uring_linux.specs.Window.{Shows, end_of};
 ghost use Rattle.uring_linux.specs.KeptDrains.{accepted_drains, cut_drains, with_request};

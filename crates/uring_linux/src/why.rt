@@ -1,6 +1,6 @@
 //! Why a request stands as it does, by Linux's rules: what dooms it, or the least request that it waits for. The order in which reasons are told is our own rule.
 
-ghost use Rattle.std.specs.Prelude.{◌≡◌, ℕ, not, ◌&&◌, IsTrue, Some, None};
+ghost use Rattle.std.specs.Prelude.{◌≡◌, ◌&&◌, IsTrue, Some, None};
 ghost use Rattle.uring_entry.specs.Below.{least_below};
 ghost use Rattle.uring_entry.specs.Requests.{Requests};
 ghost use Rattle.uring_linux.specs.LinuxDispatch.{ShowsRequests};

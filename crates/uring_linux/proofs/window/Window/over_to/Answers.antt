@@ -1,5 +1,5 @@
 use Rattle.std.proofs.Common.{◌≡◌, ℕ, true, Some, sym, ◌∙◌, ap, arith, inl, inr, ◌<◌, ◌+◌}
-use Rattle.uring_linux.proofs.Common.{Request, Window, at, cases_Bool, cases_lt}
+use Rattle.uring_linux.proofs.Common.{Request, Window, at, cases_lt}
 use Rattle.uring_linux.proofs.WindowEvents.{at_within}
 use Rattle.uring_linux.proofs.window.Window.over_to.Goals as goal
 use Rattle.uring_linux.proofs.window.Window.over_to.Goals.{then-request, else-request}
