@@ -74,23 +74,10 @@ impl ByUserData {
         ensures places { KeepsPlaces self.old self.new }
     {
         for n in self.stop..window.end() {
-            self.look_at(window, n);
-        }
-    }
-
-    /// Looks at the number `n`, the one after the last that was looked at.
-    fn look_at(&mut self, window: &Window, n: u64)
-        requires found { AreFound window.now self.old }
-        requires next { self.old.stop ≡ n }
-        requires within { n < end_of window.now }
-        requires fits { n < 2 ^ 63 }
-        ensures found { AreFound window.now self.new }
-        ensures stop { self.new.stop ≡ n + 1 }
-        ensures places { KeepsPlaces self.old self.new }
-    {
-        self.stop = n + 1;
-        if let Some(request) = window.get(n) {
-            note(&mut self.ends, window, request.entry.user_data(), n);
+            self.stop = n + 1;
+            if let Some(request) = window.get(n) {
+                note(&mut self.ends, window, request.entry.user_data(), n);
+            }
         }
     }
 
