@@ -173,7 +173,7 @@ impl Window {
         ensures room { self.new.room ≡ self.old.room }
         ensures limit { end_of self.new < 2 ^ 63 }
     {
-        put(&mut self.items, (n - self.first) as usize, request);
+        self.items[(n - self.first) as usize] = request;
     }
 
     /// Ends a submission call: the last request is the last of its group.
@@ -280,16 +280,6 @@ pub(crate) fn passes(request: &Request, test: Test) -> bool
         Test::Faulty => request.is_faulty || request.is_refused,
         Test::Runs(user_data) => request.is_running && request.entry.user_data() == user_data,
     }
-}
-
-/// Puts a request in this place.
-fn put(items: &mut VecDeque<Request>, place: usize, request: Request)
-    requires { place < deque_len items.old }
-    ensures items { items.new.items ≡ slice_set items.old.items place request }
-    ensures len { deque_len items.new ≡ deque_len items.old }
-    ensures capacity { deque_capacity items.new ≡ deque_capacity items.old }
-{
-    items[place] = request;
 }
 
 /// The request in this place, if there is one.
