@@ -253,20 +253,10 @@ impl Window {
     {
         let request = self.requests.remove(key);
         self.running -= u64::from(request.is_running);
-        forget(&mut self.keys, (n - self.first) as usize);
+        self.keys[(n - self.first) as usize] = None;
         trim(&mut self.first, &mut self.keys);
         request
     }
-}
-
-/// Forgets the key at this place.
-fn forget(keys: &mut VecDeque<Option<usize>>, place: usize)
-    requires { place < deque_len keys.old }
-    ensures items { keys.new.items ≡ slice_set keys.old.items place None }
-    ensures len { deque_len keys.new ≡ deque_len keys.old }
-    ensures capacity { deque_capacity keys.new ≡ deque_capacity keys.old }
-{
-    keys[place] = None;
 }
 
 /// Drops the numbers that have ended before the first that hasn't.
