@@ -18,7 +18,7 @@ mod submit;
 
 use crate::answer::Answer;
 use crate::step::Step;
-use crate::stopping::{has_skipped, stop_after, stop_at_word};
+use crate::stopping::{has_skipped, stop_if, stops_after};
 use std::alloc::{AllocError, Global};
 use std::marker::Model;
 pub use submit::NotSubmitted;
@@ -234,9 +234,11 @@ impl Core {
             TakeAnswer::Entry(entry) => {
                 self.held.push_reserved(entry);
                 self.has_skipped = has_skipped(self.has_skipped, &entry);
-                stop_after(&mut self.sq, self.setup, self.has_skipped, &entry);
+                let stops = stops_after(self.setup, self.has_skipped, &entry);
+                stop_if(&mut self.sq, stops);
             }
-            TakeAnswer::Dropped => stop_at_word(&mut self.sq, self.setup),
+            // A word that names no slot.
+            TakeAnswer::Dropped => stop_if(&mut self.sq, self.setup.is_linux()),
             _ => {}
         }
         Answer::from(answer)

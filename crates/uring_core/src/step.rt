@@ -71,15 +71,36 @@ pub struct StepWords {
 }
 
 impl StepWords {
-    ghost use Rattle.uring_core.specs.StepForm.{step_of, core_step_of, app_step_of, kernel_step_of, words_of_step};
+    ghost use Rattle.uring_core.specs.StepForm.{step_of, core_step_of, words_of_step};
 
     /// The step that the words give, if they give one.
     pub fn step(&self) -> Option<Step>
         ensures { result ≡ step_of self.now }
     {
         match self.kind {
-            0..=3 | 10..=12 => self.app_step(),
-            _ => self.kernel_step(),
+            0 => Some(Step::Fill {
+                slot: self.word,
+                entry: Sqe::from_words(self.entry),
+            }),
+            1 => Some(Step::Index { word: self.word }),
+            2 => Some(Step::StoreTail),
+            3 => Some(Step::LoadHead),
+            4 => Some(Step::Begin { count: self.word }),
+            5 => Some(Step::Take),
+            6 => Some(Step::End),
+            7 => Some(Step::Issue {
+                number: self.number,
+            }),
+            8 => Some(Step::Finish {
+                number: self.number,
+            }),
+            9 => Some(Step::Flush),
+            10 => Some(Step::LoadCqTail),
+            11 => Some(Step::Reap),
+            12 => Some(Step::StoreCqHead),
+            13 => Some(Step::Close),
+            14 => Some(Step::Next),
+            _ => None,
         }
     }
 
@@ -118,46 +139,6 @@ impl StepWords {
         ensures { result ≡ core_step_of self.now }
     {
         if self.kind == 8 { None } else { self.step() }
-    }
-
-    /// The step of the application that the words give, if they give one.
-    fn app_step(&self) -> Option<Step>
-        ensures { result ≡ app_step_of self.now }
-    {
-        match self.kind {
-            0 => Some(Step::Fill {
-                slot: self.word,
-                entry: Sqe::from_words(self.entry),
-            }),
-            1 => Some(Step::Index { word: self.word }),
-            2 => Some(Step::StoreTail),
-            3 => Some(Step::LoadHead),
-            10 => Some(Step::LoadCqTail),
-            11 => Some(Step::Reap),
-            12 => Some(Step::StoreCqHead),
-            _ => None,
-        }
-    }
-
-    /// The step of the dispatcher that the words give, if they give one.
-    fn kernel_step(&self) -> Option<Step>
-        ensures { result ≡ kernel_step_of self.now }
-    {
-        match self.kind {
-            4 => Some(Step::Begin { count: self.word }),
-            5 => Some(Step::Take),
-            6 => Some(Step::End),
-            7 => Some(Step::Issue {
-                number: self.number,
-            }),
-            8 => Some(Step::Finish {
-                number: self.number,
-            }),
-            9 => Some(Step::Flush),
-            13 => Some(Step::Close),
-            14 => Some(Step::Next),
-            _ => None,
-        }
     }
 }
 

@@ -18,7 +18,7 @@ pub(crate) fn has_skipped(before: bool, entry: &Sqe) -> bool
 }
 
 /// Stops the open call, if this holds.
-fn stop_if(sq: &mut Sq, stops: bool)
+pub(crate) fn stop_if(sq: &mut Sq, stops: bool)
     ensures { (g : Setup) (l : Submission) → ShowsSubmission g sq.old l
         → ShowsSubmission g sq.new (with_stopped stops l) }
 {
@@ -27,24 +27,8 @@ fn stop_if(sq: &mut Sq, stops: bool)
     }
 }
 
-/// Stops the open call, if a call of this set-up stops after this entry.
-pub(crate) fn stop_after(sq: &mut Sq, setup: Setup, has_skipped: bool, entry: &Sqe)
-    ensures { (g : Setup) (l : Submission) → ShowsSubmission g sq.old l
-        → ShowsSubmission g sq.new (with_stopped (stops_after setup has_skipped entry.now) l) }
-{
-    stop_if(sq, stops_after(setup, has_skipped, entry));
-}
-
-/// Stops the open call, if a call of this set-up stops after a word that names no slot.
-pub(crate) fn stop_at_word(sq: &mut Sq, setup: Setup)
-    ensures { (g : Setup) (l : Submission) → ShowsSubmission g sq.old l
-        → ShowsSubmission g sq.new (with_stopped (stops_at_word setup) l) }
-{
-    stop_if(sq, setup.is_linux());
-}
-
 /// Whether a call of this set-up stops after this entry, if it or an entry taken before asks for skipped success, or none does.
-fn stops_after(setup: Setup, has_skipped: bool, entry: &Sqe) -> bool
+pub(crate) fn stops_after(setup: Setup, has_skipped: bool, entry: &Sqe) -> bool
     ensures { result ≡ stops_after setup has_skipped entry.now }
 {
     if !setup.stops() {

@@ -1,5 +1,6 @@
 -- The first number of the window, and what the calls of the window ask of the others.
-use Rattle.std.proofs.Common.{◌≡◌, ℕ, ◌+◌, ◌-◌, ◌^◌, ◌<◌, ◌≤◌, List, [], ◌∷◌, ◌++◌, length, get_or, true, false, Option, Some, None, is_some, refl, sym, ◌∙◌, ap, arith, inl, inr}
+use Rattle.std.specs.Int.{from_bool}
+use Rattle.std.proofs.Common.{◌≡◌, ℕ, ◌+◌, ◌-◌, ◌^◌, ◌<◌, ◌≤◌, List, [], ◌∷◌, ◌++◌, length, get_or, Bool, true, false, Option, Some, None, is_some, refl, sym, ◌∙◌, ap, arith, inl, inr}
 use Rattle.uring_dispatch.proofs.Common.{HasBefore, IfSome, IsFirst, IsTrimmed, IsWindow, Request, Window, at, both_ways, cases_Bool, cases_lt, chosen, end_of, false≢true, found_by, is_some_value, key_at, one_if, runs, started}
 use Rattle.uring_dispatch.proofs.Counting.{count_below_some, count_below_within}
 use Rattle.uring_dispatch.proofs.WindowLemmas.{IsSameBut, key_at_low, key_at_high, key_at_past, key_at_within, at_keyed, write_window}
@@ -105,10 +106,15 @@ runs_counted w n key i e =
       | inr still ↦ let none : one_if (runs (at w n)) ≡ 0 = ap one_if still in omega arith
     ]
 
+pub one_is : (b : Bool) → from_bool b ≡ one_if b
+one_is true = refl
+one_is false = refl
+
 pub ended_counted : (w : Window) (n key : ℕ) (q : Request) → IsWindow w
     → key_at w.first w.keys n ≡ Some key → get_or w.requests key None ≡ Some q
-    → one_if q.is_running ≤ w.running
+    → from_bool q.is_running ≤ w.running
 ended_counted w n key q i e is =
+    let one = one_is q.is_running in
     let counted = runs_counted w n key i e in
     let same : one_if (runs (at w n)) ≡ one_if q.is_running = ap (λ o. one_if (runs o)) (by_key w n key e ∙ is) in
     omega arith

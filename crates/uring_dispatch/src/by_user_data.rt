@@ -1,8 +1,8 @@
 //! Between which numbers the requests with the same user data are, so that a cancel looks at no others. Our own structure: a map from user data to the least and the greatest number that it may stand at. Numbers are looked at when a cancel comes, so that who never cancels pays for the memory alone.
 
-ghost use Rattle.std.specs.Prelude.{◌≡◌, ℕ, ◌+◌, ◌^◌, ◌<◌, ◌≤◌, true, None, is_some, OnOk, OnErr, IsOk, IfSome, nat_eq, if◌then◌else◌};
+ghost use Rattle.std.specs.Prelude.{◌≡◌, ℕ, ◌+◌, ◌^◌, ◌<◌, ◌≤◌, None, OnOk, IsOk, nat_eq};
 ghost use Rattle.std.specs.HashMap.{get, spare, hash_map_len};
-ghost use Rattle.uring_dispatch.specs.Window.{at, end_of};
+ghost use Rattle.uring_dispatch.specs.Window.{end_of};
 ghost use Rattle.uring_dispatch.specs.Noted.{IsBetween, KeepsBetween};
 
 use crate::window::Window;
@@ -34,7 +34,7 @@ pub(crate) struct ByUserData {
 }
 
 impl ByUserData {
-    ghost use Rattle.uring_dispatch.specs.ByUserData.{limit_of, HasPlaces, KeepsPlaces, AreFound, KeepsFrom, Spans};
+    ghost use Rattle.uring_dispatch.specs.ByUserData.{HasPlaces, KeepsPlaces, AreFound, KeepsFrom};
 
     /// Asks for the memory of the numbers below `end`, where none before `first` is outstanding. If more than half of what is kept is of requests that have ended, it begins anew.
     pub(crate) fn reserve_in<M: Memory>(
@@ -53,28 +53,9 @@ impl ByUserData {
         ensures stop { self.new.stop ≤ end }
         ensures granted { (n : ℕ) → M.grants memory.now n → end ≤ n → IsOk result }
     {
-        if self.ends.len() as u64 > 2 * (end - first) {
-            return self.renew(memory, alloc, first, end);
+        if self.ends.len() as u64 <= 2 * (end - first) {
+            return memory.reserve_keys(&mut self.ends, (end - self.stop) as usize);
         }
-        memory.reserve_keys(&mut self.ends, (end - self.stop) as usize)
-    }
-
-    /// Forgets what was looked at, with the memory of the numbers below `end`.
-    fn renew<M: Memory>(
-        &mut self,
-        memory: &M,
-        alloc: Global,
-        first: u64,
-        end: u64,
-    ) -> Result<(), AllocError>
-        requires first { first ≤ end }
-        requires stop { self.old.stop ≤ end }
-        ensures places { OnOk result (HasPlaces self.new end) }
-        ensures kept { (n : ℕ) → n ≤ end → HasPlaces self.old n → HasPlaces self.new n }
-        ensures same { KeepsFrom self.old self.new first }
-        ensures stop { self.new.stop ≤ end }
-        ensures granted { (n : ℕ) → M.grants memory.now n → end ≤ n → IsOk result }
-    {
         let mut ends = HashMap::new(alloc);
         if let Err(refused) = memory.reserve_keys(&mut ends, (end - first) as usize) {
             return Err(refused);
@@ -93,23 +74,10 @@ impl ByUserData {
         ensures places { KeepsPlaces self.old self.new }
     {
         for n in self.stop..window.end() {
-            self.look_at(window, n);
-        }
-    }
-
-    /// Looks at the number `n`, the one after the last that was looked at.
-    fn look_at(&mut self, window: &Window, n: u64)
-        requires found { AreFound window.now self.old }
-        requires next { self.old.stop ≡ n }
-        requires within { n < end_of window.now }
-        requires fits { n < 2 ^ 63 }
-        ensures found { AreFound window.now self.new }
-        ensures stop { self.new.stop ≡ n + 1 }
-        ensures places { KeepsPlaces self.old self.new }
-    {
-        self.stop = n + 1;
-        if let Some(request) = window.get(n) {
-            note(&mut self.ends, window, request.entry.user_data(), n);
+            self.stop = n + 1;
+            if let Some(request) = window.get(n) {
+                note(&mut self.ends, window, request.entry.user_data(), n);
+            }
         }
     }
 
@@ -151,23 +119,12 @@ fn note(ends: &mut HashMap<u64, Ends>, window: &Window, user_data: u64, n: u64)
     ensures len { hash_map_len ends.new ≤ hash_map_len ends.old + 1 }
 {
     let first = match ends.get(&user_data) {
-        Some(ends) => first_with(window, *ends, n),
+        Some(ends) if ends.first == ends.last && window.get(ends.first).is_none() => n,
+        Some(ends) => ends.first.min(n),
         None => n,
     };
     match ends.insert(user_data, Ends { first, last: n }) {
         Ok(_) => {}
         Err(_) => unreachable!(),
     }
-}
-
-/// The least number of those noted and `n`, without what has ended if it is one alone.
-fn first_with(window: &Window, ends: Ends, n: u64) -> u64
-    ensures within { result ≤ n }
-    ensures kept { (k : ℕ) → is_some (at window.now k) ≡ true → k ≤ n
-        → ends.first ≤ k → k ≤ ends.last → result ≤ k }
-{
-    if ends.first == ends.last && window.get(ends.first).is_none() {
-        return n;
-    }
-    ends.first.min(n)
 }

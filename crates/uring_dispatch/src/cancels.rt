@@ -1,7 +1,7 @@
 //! What a cancel makes of the outstanding requests. io_uring_enter(2), IORING_OP_ASYNC_CANCEL, and io_uring_prep_cancel(3), IORING_ASYNC_CANCEL_ALL.
 
 ghost use Rattle.std.specs.Prelude.{◌≡◌, [], ◌∷◌, length, true, false, None, is_some};
-ghost use Rattle.uring_entry.specs.Requests.{Requests, entry_of, with_cancelled, with_issued_end, chosen_by, target_of, targets_of, result_for};
+ghost use Rattle.uring_entry.specs.Requests.{Requests, entry_of, with_cancelled, with_issued_end, chosen_by, targets_of};
 ghost use Rattle.uring_entry.specs.Requests as spec;
 ghost use Rattle.uring_entry.specs.Preparation.{is_cancel, is_cancel_all};
 ghost use Rattle.uring_entry.specs.Layout.{addr_of};
@@ -39,7 +39,7 @@ impl Outstanding {
         res
     }
 
-    /// Notes whom the cancel `n` of these user data chooses, and gives its result.
+    /// Notes whom the cancel `n` of these user data chooses, and gives its result: of a cancel of one request ENOENT if there is none to choose, EALREADY if the one chosen is running, else 0.
     fn make_choices(&mut self, n: u64, user_data: u64, all: bool) -> i32
         ensures chosen { HasChosen self.old self.new }
         ensures answer { (r : Requests) → Shows self.old.grouped r → user_data ≡ addr_of (entry_of r n)
@@ -49,21 +49,8 @@ impl Outstanding {
             → Shows self.new.grouped (with_cancelled r (chosen_by r n result)) }
     {
         if all {
-            count_result(self.choose_targets(n, user_data))
-        } else {
-            self.choose_target(n, user_data)
+            return count_result(self.choose_targets(n, user_data));
         }
-    }
-
-    /// Notes whom the cancel `n` of one request with these user data chooses, and gives its result: ENOENT if there is no request to choose, EALREADY if the one chosen is running, else 0.
-    fn choose_target(&mut self, n: u64, user_data: u64) -> i32
-        ensures chosen { HasChosen self.old self.new }
-        ensures answer { (r : Requests) → Shows self.old.grouped r → user_data ≡ addr_of (entry_of r n)
-            → result ≡ result_for r (target_of r n) }
-        ensures shows { (r : Requests) → Shows self.old.grouped r → user_data ≡ addr_of (entry_of r n)
-            → is_cancel (entry_of r n) ≡ true → is_cancel_all (entry_of r n) ≡ false
-            → Shows self.new.grouped (with_cancelled r (chosen_by r n result)) }
-    {
         self.by_user_data.fill(&self.grouped.window);
         let span = self.by_user_data.span(user_data);
         let Some(m) = self.grouped.target(n, user_data, span) else {

@@ -211,20 +211,12 @@ fn least_left(window: &Window, group: &Group, n: u64) -> u64
     if group.least != n {
         return group.least;
     }
-    next_outstanding(window, n + 1, group.end)
-}
-
-/// The least outstanding number from this one on and below the end, or else the end.
-fn next_outstanding(window: &Window, from: u64, end: u64) -> u64
-    requires { from ≤ end }
-    ensures { IsNext window.now from end result }
-{
-    for m in from..end {
+    for m in n + 1..group.end {
         if window.get(m).is_some() {
             return m;
         }
     }
-    end
+    group.end
 }
 
 /// Whether a request that ended so dooms the members after it.

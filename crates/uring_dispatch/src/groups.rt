@@ -183,8 +183,14 @@ fn put(
 {
     match last {
         Some(key) => {
-            let group = joined(&groups[key], n, drains, is_faulty);
-            write(groups, key, group);
+            let group = groups[key];
+            let joined = Group {
+                end: n + 1,
+                fault: found_or(group.fault, is_faulty, n),
+                drain: found_or(group.drain, drains, n),
+                ..group
+            };
+            write(groups, key, joined);
             key
         }
         None => groups.insert_reserved(Group {
@@ -195,19 +201,6 @@ fn put(
             drain: found_or(None, drains, n),
             broken: None,
         }),
-    }
-}
-
-/// A group with one more member.
-fn joined(group: &Group, n: u64, drains: bool, is_faulty: bool) -> Group
-    requires { n + 1 < 2 ^ 64 }
-    ensures { result ≡ with_member (Some group.now) n drains is_faulty }
-{
-    Group {
-        end: n + 1,
-        fault: found_or(group.fault, is_faulty, n),
-        drain: found_or(group.drain, drains, n),
-        ..*group
     }
 }
 

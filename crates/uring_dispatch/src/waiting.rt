@@ -4,7 +4,7 @@ ghost use Rattle.std.specs.Prelude.{◌≡◌, ℕ, ◌+◌, ◌/◌, ◌^◌, �
 ghost use Rattle.uring_number_set.specs.NumberSet.{stop_of, Puts, HasSame, HasMoved};
 ghost use Rattle.uring_dispatch.specs.Window.{at};
 ghost use Rattle.uring_dispatch.specs.Groups.{group_at};
-ghost use Rattle.uring_dispatch.specs.Waiting.{waits_at_head, waits_doomed, dooms, IsListedAt, CanTell, Keeps, CanGrow, GrowsTo, Starts, IsFirstTold};
+ghost use Rattle.uring_dispatch.specs.Waiting.{waits_at_head, waits_doomed, IsListedAt, CanTell, Keeps, CanGrow, GrowsTo, Starts, IsFirstTold};
 
 use crate::group::{Group, is_before};
 use crate::grouped::Grouped;
@@ -146,13 +146,6 @@ fn standing_of(grouped: &Grouped, n: u64) -> Standing
     };
     Standing {
         is_head: group.least == n,
-        is_doomed: dooms(group, n) || request.is_cancelled,
+        is_doomed: group.fault.is_some() || is_before(group.broken, n) || request.is_cancelled,
     }
-}
-
-/// Whether a group dooms its member `n`.
-fn dooms(group: &Group, n: u64) -> bool
-    ensures { result ≡ dooms (Some group.now) n }
-{
-    group.fault.is_some() || is_before(group.broken, n)
 }

@@ -2,9 +2,8 @@
 
 ghost use Rattle.std.specs.Prelude.{◌≡◌, ◌<◌, true, Some, None, is_some};
 ghost use Rattle.uring_entry.specs.Requests.{Requests};
-ghost use Rattle.uring_entry.specs.Why.{why_of, doom_of, since_of, holder_of, waiting_for};
+ghost use Rattle.uring_entry.specs.Why.{why_of, doom_of, since_of};
 ghost use Rattle.uring_dispatch.specs.Window.{at};
-ghost use Rattle.uring_dispatch.specs.Groups.{group_at, drain_of};
 ghost use Rattle.uring_dispatch.specs.Grouped.{Shows};
 ghost use Rattle.uring_dispatch.specs.Waits.{IsFirstHolder};
 
@@ -18,7 +17,10 @@ impl Grouped {
         ensures { (r : Requests) → Shows self.now r → result ≡ why_of r n }
     {
         let Some(request) = self.window.get(n) else {
-            return self.gone(n);
+            if n < self.window.end() {
+                return Why::HasEnded;
+            }
+            return Why::NeverAccepted;
         };
         if request.is_running {
             return Why::Runs;
@@ -26,19 +28,12 @@ impl Grouped {
         if self.is_doomed(n, request) {
             return Why::IsDoomed(self.doom(n, request));
         }
-        self.waiting(n, request)
-    }
-
-    /// Why there is no request `n` any more, or none yet.
-    fn gone(&self, n: u64) -> Why
-        requires { at self.now.window n ≡ None }
-        ensures { (r : Requests) → Shows self.now r → result ≡ why_of r n }
-    {
-        if n < self.window.end() {
-            Why::HasEnded
-        } else {
-            Why::NeverAccepted
+        let least = self.first_holder(n, request);
+        if least >= n {
+            return Why::MayStart;
         }
+        let since = self.since(n, request, least);
+        Why::Waits { least, since }
     }
 
     /// What dooms request `n`, if it is doomed.
@@ -56,21 +51,6 @@ impl Grouped {
         match group.broken {
             Some(m) if m < n => Doom::FailureOf(m),
             _ => Doom::Cancel,
-        }
-    }
-
-    /// Whether request `n`, which isn't doomed, waits for a request, the least that keeps it from starting, or may start.
-    fn waiting(&self, n: u64, request: &Request) -> Why
-        requires { at self.now.window n ≡ Some request.now }
-        ensures { (r : Requests) → Shows self.now r
-            → result ≡ waiting_for r n (holder_of r n) }
-    {
-        let least = self.first_holder(n, request);
-        if least < n {
-            let since = self.since(n, request, least);
-            Why::Waits { least, since }
-        } else {
-            Why::MayStart
         }
     }
 
@@ -107,18 +87,10 @@ impl Grouped {
         if other.group == request.group {
             return Since::SameGroup;
         }
-        if self.drains(m, other) {
+        if self.group_of(m, other).drain.is_some() {
             Since::ItDrains
         } else {
             Since::OwnDrains
         }
-    }
-
-    /// Whether the group of request `n` drains.
-    fn drains(&self, n: u64, request: &Request) -> bool
-        requires { at self.now.window n ≡ Some request.now }
-        ensures { result ≡ is_some (drain_of (group_at self.now.groups request.now.group)) }
-    {
-        self.group_of(n, request).drain.is_some()
     }
 }

@@ -1,6 +1,6 @@
 //! The outstanding requests by their numbers.
 
-ghost use Rattle.std.specs.Prelude.{◌≡◌, ◌≢◌, ℕ, ◌+◌, ◌-◌, ◌^◌, ◌<◌, ◌≤◌, length, true, false, Some, None, IsOk, OnOk, OnErr, IfSome, MatchOption, is_some, option_copied, slice_set};
+ghost use Rattle.std.specs.Prelude.{◌≡◌, ℕ, ◌+◌, ◌-◌, ◌^◌, ◌<◌, ◌≤◌, length, true, false, Some, None, IsOk, OnOk, OnErr, IfSome, MatchOption, is_some, option_copied, slice_set};
 ghost use Rattle.std.specs.VecDeque.{deque_len, deque_capacity};
 ghost use Rattle.slab.specs.Slab.{slab_len};
 ghost use Rattle.uring_dispatch.specs.Window.{key_at, found_by, at, end_of, runs, one_if, started, chosen, Changes, IsFirst, IsTrimmed, IsAsBefore, HasBefore};
@@ -252,29 +252,11 @@ impl Window {
         ensures room { self.new.room ≡ self.old.room }
     {
         let request = self.requests.remove(key);
-        self.running = less_if(self.running, request.is_running);
-        forget(&mut self.keys, (n - self.first) as usize);
+        self.running -= u64::from(request.is_running);
+        self.keys[(n - self.first) as usize] = None;
         trim(&mut self.first, &mut self.keys);
         request
     }
-}
-
-/// Forgets the key at this place.
-fn forget(keys: &mut VecDeque<Option<usize>>, place: usize)
-    requires { place < deque_len keys.old }
-    ensures items { keys.new.items ≡ slice_set keys.old.items place None }
-    ensures len { deque_len keys.new ≡ deque_len keys.old }
-    ensures capacity { deque_capacity keys.new ≡ deque_capacity keys.old }
-{
-    keys[place] = None;
-}
-
-/// One less, if this holds.
-fn less_if(count: u64, is_less: bool) -> u64
-    requires { one_if is_less ≤ count }
-    ensures { result + one_if is_less ≡ count }
-{
-    if is_less { count - 1 } else { count }
 }
 
 /// Drops the numbers that have ended before the first that hasn't.

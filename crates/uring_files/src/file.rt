@@ -2,7 +2,7 @@
 
 ghost use Rattle.std.specs.Prelude.{◌≡◌, ℕ, ◌≤◌, ◌↔◌, length, IsTrue, OnOk, OnErr, IsErrOf, slice_get, pos, not, ◌&&◌};
 ghost use Rattle.uring_entry.specs.Layout.{padded};
-ghost use Rattle.uring_files.specs.Contents.{empty_file, file_of_bytes, max_len, read_outcome, is_too_long, is_past_end, written, with_writes_synced};
+ghost use Rattle.uring_files.specs.Contents.{empty_file, max_len};
 
 use std::alloc::Global;
 use std::marker::Model;
@@ -49,18 +49,6 @@ impl File {
     {
         File {
             bytes: Vec::new(alloc),
-            writes: 0,
-            synced: 0,
-        }
-    }
-
-    /// A file of these bytes.
-    pub(crate) fn of_bytes(bytes: Vec<u8>) -> File
-        requires { length bytes.items ≤ max_len }
-        ensures { result ≡ file_of_bytes bytes.items }
-    {
-        File {
-            bytes,
             writes: 0,
             synced: 0,
         }

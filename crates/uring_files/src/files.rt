@@ -55,7 +55,11 @@ impl Files {
         requires short { length bytes.items ≤ max_len }
         ensures { self.new ≡ slice_set self.old place (file_of_bytes bytes.items) }
     {
-        self.files[place] = File::of_bytes(bytes);
+        self.files[place] = File {
+            bytes,
+            writes: 0,
+            synced: 0,
+        };
     }
 
     /// How the file of a descriptor stands: `None` if there is none.

@@ -123,10 +123,16 @@ impl Files {
         ensures { result ≡ is_lengthening self.now op.now }
     {
         match op {
-            Op::Write { fd, off, len, .. } => match self.file(*fd) {
-                Some(file) => file.is_lengthened(*off, *len),
-                None => false,
-            },
+            Op::Write { fd, off, len, .. } => {
+                match (self.file(*fd), off.checked_add(u64::from(*len))) {
+                    (Some(file), Some(end)) => {
+                        *len != 0
+                            && end <= u64::from(File::MAX_LEN)
+                            && end > file.bytes.len() as u64
+                    }
+                    _ => false,
+                }
+            }
             _ => false,
         }
     }
@@ -139,13 +145,12 @@ impl Files {
         match op {
             Op::Nop | Op::Cancel { .. } => with_result(0),
             Op::Read { fd, off, len } => self.read(*fd, *off, *len),
-            Op::Write {
-                fd,
-                off,
-                len,
-                bytes,
-            } => with_result(self.write_called(*fd, *off, *len, bytes)),
-            Op::Fsync { fd } => with_result(self.sync_called(*fd)),
+            Op::Write { fd, .. } | Op::Fsync { fd } if self.file(*fd).is_none() => {
+                with_result(-errno::EBADF)
+            }
+            Op::Write { off, len, .. } if is_too_long(*off, *len) => with_result(-errno::EFBIG),
+            Op::Write { len, .. } => with_result(*len as i32),
+            Op::Fsync { .. } => with_result(0),
         }
     }
 
@@ -154,10 +159,12 @@ impl Files {
         requires { len ≤ 64 }
         ensures { result ≡ result_of self.now (Op.Read fd off len) }
     {
-        match self.file(fd) {
-            Some(file) => file.read(off, len),
-            None => with_result(-errno::EBADF),
-        }
+        let Some(file) = self.file(fd) else {
+            return with_result(-errno::EBADF);
+        };
+        let start = file.bytes.len().min(off as usize);
+        let end = file.bytes.len().min(start + len as usize);
+        found(&file.bytes[start..end])
     }
 
     /// Writes the first `len` of the bytes to the file of a descriptor at `off`, and returns the result.
@@ -183,33 +190,9 @@ impl Files {
         let Some(place) = self.place(fd) else {
             return -errno::EBADF;
         };
-        self.files[place].sync();
+        let file = &mut self.files[place];
+        file.synced = file.writes;
         0
-    }
-
-    /// The result that a write calls for.
-    fn write_called(&self, fd: i32, off: u64, len: u32, bytes: &[u8; 64]) -> i32
-        requires { len ≤ 64 }
-        ensures { spec.ended_with result ≡ result_of self.now (Op.Write fd off len bytes.now) }
-    {
-        if self.file(fd).is_none() {
-            -errno::EBADF
-        } else if is_too_long(off, len) {
-            -errno::EFBIG
-        } else {
-            len as i32
-        }
-    }
-
-    /// The result that a sync calls for.
-    fn sync_called(&self, fd: i32) -> i32
-        ensures { spec.ended_with result ≡ result_of self.now (Op.Fsync fd) }
-    {
-        if self.file(fd).is_none() {
-            -errno::EBADF
-        } else {
-            0
-        }
     }
 }
 
@@ -217,29 +200,7 @@ impl File {
     ghost use Rattle.std.specs.Ordering.{int_eq};
     ghost use Rattle.std.specs.Prelude.{◌≡◌, ℕ, ◌≤◌, ◌⊎◌, pos, neg_ℤ, true, not, ◌&&◌, take, if◌then◌else◌};
     ghost use Rattle.uring_entry.specs.declared.errno.TheConstants.{EFBIG, ENOMEM};
-    ghost use Rattle.uring_files.specs.Contents.{max_len, read_outcome, is_too_long, is_past_end, written, with_writes_synced};
-
-    /// Whether a write of `len` bytes at `off` makes the file longer, within the largest size.
-    pub(crate) fn is_lengthened(&self, off: u64, len: u32) -> bool
-        ensures { result ≡ (not (is_too_long off len) && is_past_end off len self.now) }
-    {
-        match off.checked_add(u64::from(len)) {
-            Some(end) => {
-                len != 0 && end <= u64::from(File::MAX_LEN) && end > self.bytes.len() as u64
-            }
-            None => false,
-        }
-    }
-
-    /// Reads at most `len` bytes from `off` on.
-    pub(crate) fn read(&self, off: u64, len: u32) -> Outcome
-        requires { len ≤ 64 }
-        ensures { result ≡ read_outcome off len self.now }
-    {
-        let start = self.bytes.len().min(off as usize);
-        let end = self.bytes.len().min(start + len as usize);
-        found(&self.bytes[start..end])
-    }
+    ghost use Rattle.uring_files.specs.Contents.{max_len, is_too_long, is_past_end, written};
 
     /// Writes the first `len` of the bytes at `off`, grows by this memory, and returns the result. One below 0 changes nothing.
     pub(crate) fn write<M: Memory>(
@@ -272,13 +233,6 @@ impl File {
         }
         self.writes = self.writes.wrapping_add(1);
         len as i32
-    }
-
-    /// Notes the successful writes so far as safe.
-    pub(crate) fn sync(&mut self)
-        ensures { self.new ≡ with_writes_synced self.old }
-    {
-        self.synced = self.writes;
     }
 }
 

@@ -1,13 +1,13 @@
 //! The dispatcher: accepts requests, says which may start, issues them and ends them, as Linux 6.18 does.
 
-ghost use Rattle.std.specs.Prelude.{◌≡◌, ◌||◌, ℕ, List, ◌+◌, ◌-◌, ◌^◌, ◌<◌, ◌≤◌, ◌↔◌, IsTrue, true, false, OnOk, OnErr, IsErrOf, length, None, Some};
+ghost use Rattle.std.specs.Prelude.{◌≡◌, ◌||◌, ℕ, List, ◌+◌, ◌-◌, ◌^◌, ◌<◌, ◌≤◌, ◌↔◌, IsTrue, true, false, OnOk, OnErr, IsErrOf, None, Some};
 ghost use Rattle.uring_dispatch.specs.Window.{one_if};
 ghost use Rattle.uring_entry.specs.Requests.{is_outstanding, operation_running, entry_outstanding, least_of, outstanding_in, running_in};
 ghost use Rattle.uring_linux.specs.Laws.{is_refusal};
 ghost use Rattle.uring_linux.specs.Issues.{issued, after_issue, posted_by, after_end};
 ghost use Rattle.uring_linux.specs.LinuxRequests.{LinuxRequests, asks_to_skip, no_request, with_accepted, with_cut, with_started, with_ended, next_of};
 ghost use Rattle.uring_entry.specs.Preparation as preparation;
-ghost use Rattle.uring_linux.specs.Window.{end_of, at, is_unended, IsOpen};
+ghost use Rattle.uring_linux.specs.Window.{at, is_unended, IsOpen};
 ghost use Rattle.uring_linux.specs.Window as spec;
 ghost use Rattle.uring_linux.specs.LinuxRequests as spec_of;
 
@@ -324,16 +324,6 @@ fn has_skipped(before: bool, entry: &Sqe) -> bool
     before || asks_to_skip(entry)
 }
 
-/// Whether an entry is faulty by itself.
-fn is_faulty(entry: &Sqe) -> bool
-    ensures { result ≡ preparation.is_faulty entry.now }
-{
-    match prepare(entry) {
-        Ok(_) => false,
-        Err(_) => true,
-    }
-}
-
 /// What is kept of request `n` as it is accepted, in a group of its own.
 fn new_request(entry: Sqe, has_skipped: bool, n: u64) -> Request
     requires { n < 2 ^ 63 }
@@ -341,7 +331,7 @@ fn new_request(entry: Sqe, has_skipped: bool, n: u64) -> Request
 {
     let is_draining = asks_to_drain(&entry);
     let is_linked = entry.is_linked();
-    let is_faulty = is_faulty(&entry);
+    let is_faulty = prepare(&entry).is_err();
     let is_refused = is_draining && has_skipped;
     Request {
         entry,

@@ -3,7 +3,7 @@
 ghost use Rattle.std.specs.Prelude.{◌≡◌, ℕ, ◌+◌, ◌<◌, ◌≤◌, true, false, OnOk, OnErr, IsOk, length};
 ghost use Rattle.std.specs.VecDeque.{deque_len, deque_capacity};
 ghost use Rattle.uring_entry.specs.Requests.{Requests, is_linked};
-ghost use Rattle.uring_linux.specs.Drains.{no_drains, with_entry, is_in_some, still_deferred, from_drain, deferred_with, with_ring};
+ghost use Rattle.uring_linux.specs.Drains.{no_drains, with_entry, is_in_some, still_deferred, deferred_with, with_ring};
 ghost use Rattle.uring_linux.specs.LinuxRequests as linux;
 ghost use Rattle.uring_linux.specs.Window.{Shows, end_of};
 ghost use Rattle.uring_linux.specs.KeptDrains.{accepted_drains, cut_drains, with_request};
@@ -249,17 +249,9 @@ fn go_on(groups: &mut VecDeque<Deferred>, is_alone: bool)
     let Some(first) = groups.pop_front() else {
         return;
     };
-    if !first.drains {
-        drop_plain(groups);
+    if first.drains {
+        return;
     }
-}
-
-/// Drops the groups before the first that drains.
-fn drop_plain(groups: &mut VecDeque<Deferred>)
-    ensures items { groups.new.items ≡ from_drain groups.old.items }
-    ensures shorter { deque_len groups.new ≤ deque_len groups.old }
-    ensures capacity { deque_capacity groups.new ≡ deque_capacity groups.old }
-{
     while let Some(Deferred { drains: false, .. }) = groups.front() {
         groups.pop_front();
     }

@@ -1,6 +1,6 @@
 //! Why a request stands as it does, by Linux's rules: what dooms it, or the least request that it waits for. The order in which reasons are told is our own rule.
 
-ghost use Rattle.std.specs.Prelude.{◌≡◌, ℕ, not, ◌&&◌, IsTrue, Some, None};
+ghost use Rattle.std.specs.Prelude.{◌≡◌, ◌&&◌, IsTrue, Some, None};
 ghost use Rattle.uring_entry.specs.Below.{least_below};
 ghost use Rattle.uring_entry.specs.Requests.{Requests};
 ghost use Rattle.uring_linux.specs.LinuxDispatch.{ShowsRequests};
@@ -33,7 +33,10 @@ impl Window {
             → result ≡ why_of l n }
     {
         let Some(request) = self.get(n) else {
-            return self.gone(n);
+            if n < self.end() {
+                return Why::HasEnded;
+            }
+            return Why::NeverAccepted;
         };
         if request.has_ended {
             return Why::HasEnded;
@@ -42,18 +45,6 @@ impl Window {
             return Why::Runs;
         }
         self.waiting(drains, n, request)
-    }
-
-    /// Why request `n` isn't kept any more, or not yet.
-    fn gone(&self, n: u64) -> Why
-        requires { at self.now n ≡ None }
-        ensures { (l : LinuxRequests) → Shows self.now l.requests → result ≡ why_of l n }
-    {
-        if n < self.end() {
-            Why::HasEnded
-        } else {
-            Why::NeverAccepted
-        }
     }
 
     /// How request `n` stands, which hasn't ended and doesn't run.

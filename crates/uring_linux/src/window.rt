@@ -1,6 +1,6 @@
 //! The requests that are kept, by their numbers, and searches among them.
 
-ghost use Rattle.std.specs.Prelude.{◌≡◌, ◌≢◌, not, ◌&&◌, ℕ, ◌+◌, ◌-◌, ◌^◌, ◌<◌, ◌≤◌, length, true, false, [], Some, None, option_copied, drop, slice_get, slice_set, ◌∷◌, ◌++◌, OnOk, OnErr, IsOk};
+ghost use Rattle.std.specs.Prelude.{◌≡◌, not, ◌&&◌, ℕ, ◌+◌, ◌-◌, ◌^◌, ◌<◌, ◌≤◌, length, true, false, [], Some, None, option_copied, drop, slice_get, slice_set, ◌∷◌, ◌++◌, OnOk, OnErr, IsOk};
 ghost use Rattle.std.specs.VecDeque.{deque_len, deque_capacity};
 ghost use Rattle.uring_entry.specs.Requests.{Requests, entry_of, is_last, is_outstanding, is_running, with_cut};
 ghost use Rattle.uring_entry.specs.Flags.{skip_success};
@@ -173,7 +173,7 @@ impl Window {
         ensures room { self.new.room ≡ self.old.room }
         ensures limit { end_of self.new < 2 ^ 63 }
     {
-        put(&mut self.items, (n - self.first) as usize, request);
+        self.items[(n - self.first) as usize] = request;
     }
 
     /// Ends a submission call: the last request is the last of its group.
@@ -226,7 +226,9 @@ impl Window {
             if !request.has_ended {
                 return to;
             }
-            to = if_last(request, n + 1, to);
+            if request.is_last {
+                to = n + 1;
+            }
         }
         to
     }
@@ -280,29 +282,11 @@ pub(crate) fn passes(request: &Request, test: Test) -> bool
     }
 }
 
-/// Puts a request in this place.
-fn put(items: &mut VecDeque<Request>, place: usize, request: Request)
-    requires { place < deque_len items.old }
-    ensures items { items.new.items ≡ slice_set items.old.items place request }
-    ensures len { deque_len items.new ≡ deque_len items.old }
-    ensures capacity { deque_capacity items.new ≡ deque_capacity items.old }
-{
-    items[place] = request;
-}
-
 /// The request in this place, if there is one.
 fn item(items: &VecDeque<Request>, place: usize) -> Option<&Request>
     ensures { option_copied result ≡ slice_get items.now.items place }
 {
     items.get(place)
-}
-
-/// The number after a request if it is the last of its group, else that after the last before.
-fn if_last(request: &Request, after: u64, before: u64) -> u64
-    ensures last { request.now.is_last ≡ true → result ≡ after }
-    ensures other { request.now.is_last ≡ false → result ≡ before }
-{
-    if request.is_last { after } else { before }
 }
 
 /// Drops the requests before this number.

@@ -113,7 +113,7 @@ impl Core {
         None
     }
 
-    /// The application's part of a call: it loads the head, puts the entries in and publishes them.
+    /// The application's part of a call: it loads the head, puts the entries in, each into the slot of its place, and publishes them.
     fn publish(&mut self, entries: &[Sqe])
         requires { length entries.now ≤ 4096 }
         ensures setup { self.new.setup ≡ self.old.setup }
@@ -122,24 +122,13 @@ impl Core {
         ensures others { self.new ≡ record self.old { sq = self.new.sq } }
     {
         self.load_head();
-        self.put_all(entries);
-        self.store_tail();
-    }
-
-    /// The application puts entries in, each into the slot of its place.
-    fn put_all(&mut self, entries: &[Sqe])
-        requires { length entries.now ≤ 4096 }
-        ensures setup { self.new.setup ≡ self.old.setup }
-        ensures fits { (h : History) → FitsApart self.old h
-            → FitsApart self.new (after_entries self.old.setup 0 entries.now h) }
-        ensures others { self.new ≡ record self.old { sq = self.new.sq } }
-    {
         let mut slot = 0;
         for entry in entries {
             self.fill(slot, entry);
             self.index(slot);
             slot += 1;
         }
+        self.store_tail();
     }
 
     /// The dispatcher takes so many positions.

@@ -38,7 +38,8 @@ pub fn cut<M: Memory, T: Copy>(
     };
     let mut from = 0;
     for len in lens {
-        let to = end_of_part(values, from, *len);
+        // At the end of the values, if they don't suffice.
+        let to = from + (*len as usize).min(values.len() - from);
         let Ok(part) = copied(memory, alloc, &values[from..to]) else {
             return Err(AllocError);
         };
@@ -46,19 +47,6 @@ pub fn cut<M: Memory, T: Copy>(
         from = to;
     }
     Ok(parts)
-}
-
-/// Where a part of this length ends that begins here: at the end of the values, if they don't suffice.
-fn end_of_part<T: Copy>(values: &[T], from: usize, len: u64) -> usize
-    requires { from ≤ length values.now }
-    ensures { result ≡ from + min len (length values.now - from) }
-{
-    let left = values.len() - from;
-    if len < left as u64 {
-        from + len as usize
-    } else {
-        values.len()
-    }
 }
 
 /// Whether no length is more than this.

@@ -39,19 +39,12 @@ impl SetupWords {
         ensures { MatchOption result (IsRefused self.now) (IsAskedFor self.now) }
     {
         let set_up = Setup::new(self.sq, self.asked_cq(), self.files, self.start).ok()?;
-        Some(self.with_rules(if self.stops {
+        let set_up = if self.stops {
             set_up.stopping()
         } else {
             set_up
-        }))
-    }
-
-    /// The same set-up, by Linux's rules if they are asked for.
-    fn with_rules(&self, set_up: Setup) -> Setup
-        requires { set_up.linux ≡ false }
-        ensures { result ≡ record set_up { linux = self.now.linux } }
-    {
-        if self.linux { set_up.linux() } else { set_up }
+        };
+        Some(if self.linux { set_up.linux() } else { set_up })
     }
 
     /// What is wrong with it, if it is refused.

@@ -29,22 +29,13 @@ pub fn why_words(why: Why) -> WhyWords
         Why::NeverAccepted => words(1, 0, 0, 0),
         Why::HasEnded => words(2, 0, 0, 0),
         Why::Runs => words(3, 0, 0, 0),
-        Why::IsDoomed(doom) => doom_words(doom),
+        Why::IsDoomed(Doom::OwnFault(fault)) => words(4, 1, fault_word(fault), 0),
+        Why::IsDoomed(Doom::FaultOf(number)) => words(4, 2, 0, number),
+        Why::IsDoomed(Doom::FailureOf(number)) => words(4, 3, 0, number),
+        Why::IsDoomed(Doom::Cancel) => words(4, 4, 0, 0),
+        Why::IsDoomed(Doom::RefusedDrain) => words(4, 5, 0, 0),
         Why::Waits { least, since } => words(5, since_word(since), 0, least),
         Why::MayStart => words(6, 0, 0, 0),
-    }
-}
-
-/// The words of what dooms a request.
-fn doom_words(doom: Doom) -> WhyWords
-    ensures { result ≡ spec.words_of_doom doom }
-{
-    match doom {
-        Doom::OwnFault(fault) => words(4, 1, fault_word(fault), 0),
-        Doom::FaultOf(number) => words(4, 2, 0, number),
-        Doom::FailureOf(number) => words(4, 3, 0, number),
-        Doom::Cancel => words(4, 4, 0, 0),
-        Doom::RefusedDrain => words(4, 5, 0, 0),
     }
 }
 

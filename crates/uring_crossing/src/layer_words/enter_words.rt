@@ -103,17 +103,6 @@ impl ReplyWords {
     pub fn reply(&self) -> Option<Reply>
         ensures { result ≡ spec.reply_of self.now }
     {
-        if self.kind < 6 {
-            self.going_reply()
-        } else {
-            self.waiting_reply()
-        }
-    }
-
-    /// What became of hearing, submitting and going on.
-    fn going_reply(&self) -> Option<Reply>
-        ensures { result ≡ spec.going_reply_of self.now }
-    {
         match self.kind {
             0 => Some(Reply::Heard(self.sight())),
             1 => Some(Reply::WrongHead),
@@ -121,15 +110,6 @@ impl ReplyWords {
             3 => Some(Reply::NotTaken(self.number, self.sight())),
             4 => Some(Reply::WentOn(self.sight())),
             5 => Some(Reply::Chosen),
-            _ => None,
-        }
-    }
-
-    /// What became of going on in vain, sleeping and passing time.
-    fn waiting_reply(&self) -> Option<Reply>
-        ensures { result ≡ spec.waiting_reply_of self.now }
-    {
-        match self.kind {
             6 => Some(Reply::Stuck(self.sight())),
             7 => Some(Reply::Woken),
             8 => Some(Reply::TimedOut(self.sight())),
@@ -161,7 +141,12 @@ impl EnterWords {
     {
         let asked = self.asked.asked()?;
         let wanted = self.wanted.command()?;
-        let before = before(self.before)?;
+        let before = match self.before {
+            0 => Before::Nothing,
+            1 => Before::Sleep,
+            2 => Before::Other,
+            _ => return None,
+        };
         Some(Enter {
             asked,
             wanted,
@@ -178,28 +163,27 @@ impl EnterWords {
 pub fn enter_words(enter: Enter) -> EnterWords
     ensures { result ≡ spec.words_of_enter enter }
 {
+    let asked = AskedWords {
+        to_submit: enter.asked.to_submit,
+        min_complete: enter.asked.min_complete,
+        cq: enter.asked.cq,
+        policy: policy_word(enter.asked.policy),
+        gets: enter.asked.gets,
+        may_leave: enter.asked.may_leave,
+        has_thread: false,
+    };
     EnterWords {
-        asked: asked_words(enter.asked),
+        asked,
         wanted: command_words(enter.wanted),
         submitted: enter.submitted,
         expired: enter.expired,
-        before: before_word(enter.before),
+        before: match enter.before {
+            Before::Nothing => 0,
+            Before::Sleep => 1,
+            Before::Other => 2,
+        },
         took_all: enter.took_all,
         is_least_over: enter.is_least_over,
-    }
-}
-
-fn asked_words(asked: Asked) -> AskedWords
-    ensures { result ≡ spec.words_of_asked asked }
-{
-    AskedWords {
-        to_submit: asked.to_submit,
-        min_complete: asked.min_complete,
-        cq: asked.cq,
-        policy: policy_word(asked.policy),
-        gets: asked.gets,
-        may_leave: asked.may_leave,
-        has_thread: false,
     }
 }
 
@@ -248,26 +232,5 @@ pub fn policy_word(policy: Policy) -> u32
         Policy::InOrder => 0,
         Policy::Lazy => 1,
         Policy::ByChoice => 2,
-    }
-}
-
-fn before(word: u32) -> Option<Before>
-    ensures { result ≡ spec.before_of_word word }
-{
-    match word {
-        0 => Some(Before::Nothing),
-        1 => Some(Before::Sleep),
-        2 => Some(Before::Other),
-        _ => None,
-    }
-}
-
-fn before_word(before: Before) -> u32
-    ensures { result ≡ spec.word_of_before before }
-{
-    match before {
-        Before::Nothing => 0,
-        Before::Sleep => 1,
-        Before::Other => 2,
     }
 }

@@ -139,7 +139,10 @@ impl CrashMachinePlace {
             (λ machine. result ≡ option_map (is_safe_of number) (log_at machine.logs fd)) }
     {
         let machine = self.take_full(alloc);
-        let is_safe = has_safe(&machine, fd, number);
+        let is_safe = match machine.log(fd) {
+            Some(log) => Some(log.has_safe(number)),
+            None => None,
+        };
         self.put(machine);
         is_safe
     }
@@ -173,12 +176,4 @@ pub fn crash<M: BoxMemory>(
 {
     let next = machine.crash_in(memory, choices)?;
     memory.boxed(alloc, next)
-}
-
-/// Whether the write of the file of a descriptor that a request is is safe: `None` if there is no such file.
-fn has_safe(machine: &CrashMachine, fd: i32, number: u64) -> Option<bool>
-    ensures { result ≡ option_map (is_safe_of number) (log_at machine.now.logs fd) }
-{
-    let log = machine.log(fd)?;
-    Some(log.has_safe(number))
 }

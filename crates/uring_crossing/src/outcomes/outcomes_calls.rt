@@ -52,7 +52,14 @@ impl OutcomesPlace {
             (λ found. MatchOption (slice_get found.endings.items index) ((result ≡ None) × (completions.new ≡ completions.old)) (λ e. IsSomeAnd result (ArePosted e.posted completions.old completions.new))) }
     {
         let found = self.take_full(alloc);
-        let count = give_posted(&found, index, completions);
+        let count = match found.endings.get(index as usize) {
+            Some(ending) => {
+                let posted = ending.posted();
+                give_completions(posted, posted.len().min(completions.len()), completions);
+                Some(posted.len() as u64)
+            }
+            None => None,
+        };
         self.put(found);
         count
     }
@@ -65,7 +72,10 @@ impl OutcomesPlace {
             (λ found. result ≡ option_and_then (λ e. state_of e.files fd) (slice_get found.endings.items index)) }
     {
         let found = self.take_full(alloc);
-        let state = state_at(&found, index, fd);
+        let state = match found.endings.get(index as usize) {
+            Some(ending) => ending.files().state(fd),
+            None => None,
+        };
         self.put(found);
         state
     }
@@ -78,7 +88,10 @@ impl OutcomesPlace {
             (λ found. result ≡ option_and_then (λ e. byte_of e.files fd at) (slice_get found.endings.items index)) }
     {
         let found = self.take_full(alloc);
-        let byte = byte_at(&found, index, fd, at);
+        let byte = match found.endings.get(index as usize) {
+            Some(ending) => ending.files().byte(fd, at),
+            None => None,
+        };
         self.put(found);
         byte
     }
@@ -102,36 +115,4 @@ pub fn found_in<M: MapMemory>(
         Err(WalkFault::Spent) => unreachable!(),
         Err(WalkFault::Paths) => unreachable!(),
     }
-}
-
-/// Gives the completions of the outcome at this place, as many as there is room for, and returns how many there are: `None` past the last.
-fn give_posted(found: &OutcomeList, index: u64, completions: &mut [CompletionWords]) -> Option<u64>
-    ensures { MatchOption (slice_get found.now.endings.items index) ((result ≡ None) × (completions.new ≡ completions.old)) (λ e. IsSomeAnd result (ArePosted e.posted completions.old completions.new)) }
-{
-    let Some(ending) = found.endings.get(index as usize) else {
-        return None;
-    };
-    let posted = ending.posted();
-    give_completions(posted, posted.len().min(completions.len()), completions);
-    Some(posted.len() as u64)
-}
-
-/// How the file of a descriptor stands that the outcome at this place leaves.
-fn state_at(found: &OutcomeList, index: u64, fd: i32) -> Option<FileState>
-    ensures { result ≡ option_and_then (λ e. state_of e.files fd) (slice_get found.now.endings.items index) }
-{
-    let Some(ending) = found.endings.get(index as usize) else {
-        return None;
-    };
-    ending.files().state(fd)
-}
-
-/// The byte at an offset of the file of a descriptor that the outcome at this place leaves.
-fn byte_at(found: &OutcomeList, index: u64, fd: i32, at: u64) -> Option<u8>
-    ensures { result ≡ option_and_then (λ e. byte_of e.files fd at) (slice_get found.now.endings.items index) }
-{
-    let Some(ending) = found.endings.get(index as usize) else {
-        return None;
-    };
-    ending.files().byte(fd, at)
 }

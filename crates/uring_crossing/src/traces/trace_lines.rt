@@ -119,7 +119,7 @@ fn push_fill<M: TextMemory>(
     push_fields(memory, text, entry)
 }
 
-/// Appends what the form of an entry's operation has after its flags.
+/// Appends what the form of an entry's operation has after its flags: none of the data of a write.
 fn push_fields<M: TextMemory>(memory: &M, text: &mut String, entry: &Sqe) -> Result<(), AllocError>
     ensures granted { ((n : ℕ) → M.grants memory.now n) → IsOk result }
 {
@@ -128,33 +128,19 @@ fn push_fields<M: TextMemory>(memory: &M, text: &mut String, entry: &Sqe) -> Res
     };
     let kinds = name.kinds();
     for i in 0..kinds.len() {
-        if let Err(error) = push_field(memory, text, entry, kinds[i]) {
+        let pushed = match kinds[i] {
+            Kind::File => match push_text(memory, text, " ") {
+                Ok(()) => push_signed(memory, text, entry.fd()),
+                Err(error) => Err(error),
+            },
+            Kind::Offset => push_named(memory, text, " ", entry.off()),
+            Kind::Length => push_named(memory, text, " ", u64::from(entry.len())),
+            Kind::Target => push_named(memory, text, " ", entry.addr()),
+            _ => Ok(()),
+        };
+        if let Err(error) = pushed {
             return Err(error);
         }
     }
     Ok(())
-}
-
-/// Appends the field of an entry that a token of this kind says: none of the data of a write.
-fn push_field<M: TextMemory>(
-    memory: &M,
-    text: &mut String,
-    entry: &Sqe,
-    kind: Kind,
-) -> Result<(), AllocError>
-    ensures granted { ((n : ℕ) → M.grants memory.now n) → IsOk result }
-{
-    let number = match kind {
-        Kind::File => {
-            return match push_text(memory, text, " ") {
-                Ok(()) => push_signed(memory, text, entry.fd()),
-                Err(error) => Err(error),
-            };
-        }
-        Kind::Offset => entry.off(),
-        Kind::Length => u64::from(entry.len()),
-        Kind::Target => entry.addr(),
-        _ => return Ok(()),
-    };
-    push_named(memory, text, " ", number)
 }

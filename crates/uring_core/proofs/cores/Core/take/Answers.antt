@@ -72,16 +72,16 @@ push_reserved-requires c =
     omega arith
 
 pub invariant_of-self : goal.invariant_of-self
-invariant_of-self c = rw (c.push_reserved.ensures.items, c.push_reserved.ensures.capacity) (c.self.invariant.0, core_after _ _ _ refl (take_entry_goes _ c.take-answer.new.self c.stop_after.new.sq c.in-Entry.entry c.has_skipped-self-inside.result c.has_skipped-self-inside.ensures c.in-Entry.ensures.answer c.in-Entry.ensures.shows c.stop_after.ensures) c.self.invariant.1)
+invariant_of-self c = rw (c.push_reserved.ensures.items, c.push_reserved.ensures.capacity) (c.self.invariant.0, core_after _ _ _ refl (take_entry_goes _ c.take-answer.new.self c.stop_if.new.sq c.in-Entry.entry c.has_skipped-self-inside.result c.has_skipped-self-inside.ensures c.in-Entry.ensures.answer c.in-Entry.ensures.shows (rw c.stops_after-stops.ensures at c.stop_if.ensures)) c.self.invariant.1)
 
 pub invariant_of-self-in-Dropped : goal.invariant_of-self-in-Dropped
-invariant_of-self-in-Dropped c = (c.self.invariant.0, core_after _ _ _ refl (take_dropped_goes _ c.take-answer.new.self c.stop_at_word.new.sq c.in-Dropped.ensures.answer c.in-Dropped.ensures.shows c.stop_at_word.ensures) c.self.invariant.1)
+invariant_of-self-in-Dropped c = (c.self.invariant.0, core_after _ _ _ refl (take_dropped_goes _ c.take-answer.new.self c.stop_if-in-Dropped.new.sq c.in-Dropped.ensures.answer c.in-Dropped.ensures.shows (rw c.is_linux.ensures.value at c.stop_if-in-Dropped.ensures)) c.self.invariant.1)
 
 pub returns-clause-fits : goal.returns-clause-fits
 returns-clause-fits c =
     elim c.match-answer.branch [
-      | in-Entry w ↦ rw (c.from.ensures, w.self-is, w.answer-is, ← c.self.view_is) (simp w.push_reserved.ensures.items (take_entry_goes _ c.take-answer.new.self w.stop_after.new.sq w.in-Entry.entry w.has_skipped-self-inside.result w.has_skipped-self-inside.ensures w.in-Entry.ensures.answer w.in-Entry.ensures.shows w.stop_after.ensures))
-      | in-Dropped w ↦ rw (c.from.ensures, w.self-is, w.answer-is, w.in-Dropped.is, ← c.self.view_is) (take_dropped_goes _ c.take-answer.new.self w.stop_at_word.new.sq w.in-Dropped.ensures.answer w.in-Dropped.ensures.shows w.stop_at_word.ensures)
+      | in-Entry w ↦ rw (c.from.ensures, w.self-is, w.answer-is, ← c.self.view_is) (simp w.push_reserved.ensures.items (take_entry_goes _ c.take-answer.new.self w.stop_if.new.sq w.in-Entry.entry w.has_skipped-self-inside.result w.has_skipped-self-inside.ensures w.in-Entry.ensures.answer w.in-Entry.ensures.shows (rw w.stops_after-stops.ensures at w.stop_if.ensures)))
+      | in-Dropped w ↦ rw (c.from.ensures, w.self-is, w.answer-is, w.in-Dropped.is, ← c.self.view_is) (take_dropped_goes _ c.take-answer.new.self w.stop_if-in-Dropped.new.sq w.in-Dropped.ensures.answer w.in-Dropped.ensures.shows (rw w.is_linux.ensures.value at w.stop_if-in-Dropped.ensures))
       | in_default w ↦ rw (c.from.ensures, w.self-is, w.answer-is, ← c.self.view_is) (neither_goes _ c.take-answer.new.self c.take-answer.result w.in_default.not-Entry w.in_default.not-Dropped c.take-answer.ensures.answer c.take-answer.ensures.no_call c.take-answer.ensures.no_more)
     ]
 

@@ -1,4 +1,4 @@
-use Rattle.std.proofs.Common.{◌≤◌, ◌+◌, ℕ, List, length, drop, get_or, map, refl, sym, subst, ap, ◌∙◌, arith}
+use Rattle.std.proofs.Common.{◌≡◌, ◌≤◌, ◌+◌, ◌-◌, min, rules, ℕ, List, length, drop, get_or, map, refl, sym, subst, ap, ◌∙◌, arith}
 use Rattle.std.proofs.lemmas.List.{length_push}
 use Rattle.uring_crossing.proofs.Common.{Global, Vec}
 use Rattle.uring_crossing.specs.CoreWords.Cuts.{cut}
@@ -9,9 +9,10 @@ use Rattle.uring_crossing.proofs.core_words.cuts.cut.Goals as goal
 pub loop-len-preserved : goal.loop-len-preserved
 loop-len-preserved g c =
     let i = c.loop-len.invariant in
+    let to : c.loop-len.from + c.min.result ≡ c.loop-len.from + min (get_or c.args.lens.now c.loop-len.len-index 0) (length c.args.values.now - c.loop-len.from) = search rules in
     record {
-      parts = cut_step (λ p. p.items) c.loop-len.parts.items c.push_reserved.new.self.items c.in-Ok-copied.part c.args.lens.now c.args.values.now c.loop-len.len-index (c.loop-len.len-index + 1) c.loop-len.from c.end_of_part-to.result (get_or c.args.lens.now c.loop-len.len-index 0) (cut c.args.lens.now c.args.values.now) c.loop-len-test.true (next_suc c.loop-len.len-index) refl c.end_of_part-to.ensures c.in-Ok-copied.ensures.values c.push_reserved.ensures.items i.parts;
-      within = end_within _ _ _ _ i.within c.end_of_part-to.ensures;
+      parts = cut_step (λ p. p.items) c.loop-len.parts.items c.push_reserved.new.self.items c.in-Ok-copied.part c.args.lens.now c.args.values.now c.loop-len.len-index (c.loop-len.len-index + 1) c.loop-len.from (c.loop-len.from + c.min.result) (get_or c.args.lens.now c.loop-len.len-index 0) (cut c.args.lens.now c.args.values.now) c.loop-len-test.true (next_suc c.loop-len.len-index) refl to c.in-Ok-copied.ensures.values c.push_reserved.ensures.items i.parts;
+      within = end_within _ _ _ _ i.within to;
       many = ap (λ (ps : List (Vec g.row.T.Denot Global)). length ps) c.push_reserved.ensures.items ∙ length_push _ _ ∙ ap (λ (n : ℕ). n + 1) i.many;
       room = subst (λ (n : ℕ). length c.args.lens.now ≤ n) (sym c.push_reserved.ensures.capacity) i.room;
     }

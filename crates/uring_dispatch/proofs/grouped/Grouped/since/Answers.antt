@@ -1,5 +1,6 @@
 use Rattle.std.proofs.Common.{sym, ◌∙◌, refl, ap, is_some}
 use Rattle.std.proofs.lemmas.Bool.{both_ways}
+use Rattle.uring_dispatch.proofs.Common.{drain_of}
 use Rattle.uring_dispatch.proofs.WhyHeld.{since_is, joined_held, joined_apart, draining_kept}
 use Rattle.uring_dispatch.proofs.grouped.Grouped.since.Goals as goal
 
@@ -12,14 +13,14 @@ returns-then-other-request c = λ r h.
     (joined_held c.args.self.now.sound h c.requires.there (sym c.in-Some.ensures) c.requires.earlier c.if-other-request.true)
     refl
 
-pub returns-then-drains : goal.returns-then-drains
-returns-then-drains c = λ r h.
+pub returns-then-is_some : goal.returns-then-is_some
+returns-then-is_some c = λ r h.
     since_is r c.args.n c.args.m _ _
     (joined_apart c.args.self.now.sound h c.requires.there (sym c.in-Some.ensures) c.requires.earlier c.if-other-request.false)
-    (draining_kept _ c.args.self.now.sound h (sym c.in-Some.ensures) ∙ sym c.drains.ensures ∙ c.if-drains.true)
+    (draining_kept _ c.args.self.now.sound h (sym c.in-Some.ensures) ∙ ap (λ o. is_some (drain_of o)) c.group_of.ensures.group ∙ sym c.is_some.ensures ∙ c.if-is_some.true)
 
-pub returns-else-drains : goal.returns-else-drains
-returns-else-drains c = λ r h.
+pub returns-else-is_some : goal.returns-else-is_some
+returns-else-is_some c = λ r h.
     since_is r c.args.n c.args.m _ _
     (joined_apart c.args.self.now.sound h c.requires.there (sym c.in-Some.ensures) c.requires.earlier c.if-other-request.false)
-    (draining_kept _ c.args.self.now.sound h (sym c.in-Some.ensures) ∙ sym c.drains.ensures ∙ c.if-drains.false)
+    (draining_kept _ c.args.self.now.sound h (sym c.in-Some.ensures) ∙ ap (λ o. is_some (drain_of o)) c.group_of.ensures.group ∙ sym c.is_some.ensures ∙ c.if-is_some.false)

@@ -1,8 +1,13 @@
-use Rattle.std.proofs.Common.{sym, ◌∙◌, ap}
+use Rattle.std.proofs.Common.{◌<◌, length, sym, ◌∙◌, ap, arith}
 use Rattle.uring_entry.specs.declared.why.Why.TheVariants.{IsDoomed}
 use Rattle.uring_entry.proofs.WhyLemmas.{why_doomed, why_waiting}
-use Rattle.uring_dispatch.proofs.WhyHeld.{still_held}
+use Rattle.uring_dispatch.proofs.WhyHeld.{still_held, waits_for, waits_for_none, why_ended}
 use Rattle.uring_dispatch.proofs.grouped.Grouped.why.Goals as goal
+
+pub returns-then-n-end : goal.returns-then-n-end
+returns-then-n-end c = λ r h.
+    let given : c.args.n < length r.accepted = omega (arith, h.count) in
+    why_ended r c.args.n given (h.ended c.args.n (sym c.in_default.ensures) given)
 
 pub returns-then-is_doomed : goal.returns-then-is_doomed
 returns-then-is_doomed c = λ r h.
@@ -11,9 +16,16 @@ returns-then-is_doomed c = λ r h.
     (why_doomed r c.args.n (still_held c.args.self.now.sound h (sym c.in-Some.ensures) c.if-request.false)
     (sym (c.is_doomed.ensures r h) ∙ c.if-is_doomed.true))
 
+pub returns-then-least-n : goal.returns-then-least-n
+returns-then-least-n c = λ r h.
+    waits_for_none r c.args.n c.first_holder-least.result c.if-least-n.true (c.first_holder-least.ensures.holds r h)
+    ∙ sym
+    (why_waiting r c.args.n (still_held c.args.self.now.sound h (sym c.in-Some.ensures) c.if-request.false)
+    (sym (c.is_doomed.ensures r h) ∙ c.if-is_doomed.false))
+
 pub returns : goal.returns
 returns c = λ r h.
-    c.waiting.ensures r h
+    waits_for r c.args.n c.first_holder-least.result c.since-since.result c.if-least-n.false (c.first_holder-least.ensures.holds r h) (c.since-since.ensures r h)
     ∙ sym
     (why_waiting r c.args.n (still_held c.args.self.now.sound h (sym c.in-Some.ensures) c.if-request.false)
     (sym (c.is_doomed.ensures r h) ∙ c.if-is_doomed.false))

@@ -1,4 +1,4 @@
-use Rattle.std.proofs.Common.{true, w32, sym, ap, ◌∙◌}
+use Rattle.std.proofs.Common.{true, w32, refl, sym, ap₂, ◌∙◌}
 use Rattle.std.proofs.Math.Facts.{to_z-of_z}
 use Rattle.uring_files.proofs.Common.{slice_set, with_writes_synced}
 use Rattle.uring_files.proofs.Places.{IsAt, ends_at, files_at}
@@ -8,12 +8,12 @@ pub returns : goal.returns
 returns c =
     let view = c.self.view_is in
     let place = c.in-Some.place in
-    let at : IsAt c.args.self.now c.args.fd place c.index_mut.result.now = record {
+    let at : IsAt c.args.self.now c.args.fd place c.index_mut-file.result.now = record {
       named = sym (to_z-of_z {w = w32} c.ranges.fd) ∙ c.in-Some.ensures.some.0;
       within = c.in-Some.ensures.some.1;
-      there = rw (← view) c.index_mut.ensures.value;
+      there = rw (← view) c.index_mut-file.ensures.value;
     } in
     record {
       outcome = ends_at _ _ _ _ _ at;
-      files = ap (λ fs. slice_set fs place c.sync.new.self) view ∙ files_at true _ _ _ _ _ with_writes_synced at c.sync.ensures;
+      files = ap₂ (λ fs f. slice_set fs place (with_writes_synced f)) view c.file.view_is ∙ files_at true _ _ _ _ _ with_writes_synced at refl;
     }

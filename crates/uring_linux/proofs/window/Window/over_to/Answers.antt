@@ -1,7 +1,8 @@
 use Rattle.std.proofs.Common.{◌≡◌, ℕ, true, Some, sym, ◌∙◌, ap, arith, inl, inr, ◌<◌, ◌+◌}
-use Rattle.uring_linux.proofs.Common.{Request, Window, at, cases_Bool, cases_lt}
+use Rattle.uring_linux.proofs.Common.{Request, Window, at, cases_lt}
 use Rattle.uring_linux.proofs.WindowEvents.{at_within}
 use Rattle.uring_linux.proofs.window.Window.over_to.Goals as goal
+use Rattle.uring_linux.proofs.window.Window.over_to.Goals.{then-request, else-request}
 
 pub loop-n-init : goal.loop-n-init
 loop-n-init c =
@@ -28,21 +29,19 @@ loop-n-preserved c =
       | inr here ↦ ap (λ (x : Request). x.has_ended) (only k q (omega (arith, lt, here)) e) ∙ c.if-not-request.false
     ]
     in
-    elim (cases_Bool c.in-Some.request.now.is_last) [
-      | inl last ↦
-          let to = c.if_last-to.ensures.last last in
-          record {
+    elim c.if-request.branch [
+      | then-request w ↦
+          rw w.to-is (record {
             low = omega arith;
             high = omega arith;
             ended = ended;
-            last = λ k q is e. ap (λ (x : Request). x.is_last) (only k q (omega (arith, is, to)) e) ∙ last;
-          }
-      | inr other ↦
-          let to = c.if_last-to.ensures.other other in
-          record {
-            low = omega arith;
+            last = λ k q is e. ap (λ (x : Request). x.is_last) (only k q (omega arith) e) ∙ w.if-request.true;
+          })
+      | else-request w ↦
+          rw w.to-is (record {
+            low = low;
             high = omega arith;
             ended = ended;
-            last = λ k q is e. i.last k q (omega (arith, is, to)) e;
-          }
+            last = i.last;
+          })
     ]

@@ -1,8 +1,12 @@
-use Rattle.std.proofs.Common.{true, false, sym, ◌∙◌, arith}
+use Rattle.std.proofs.Common.{true, false, refl, sym, ◌∙◌, arith}
 use Rattle.std.proofs.lemmas.Bool.{lt-ltb}
 use Rattle.uring_linux.proofs.WindowEvents.{at_within}
-use Rattle.uring_linux.proofs.Reasons.{told_why}
+use Rattle.uring_linux.proofs.Reasons.{gone_ended, told_why}
 use Rattle.uring_linux.proofs.window.Window.why.Goals as goal
+
+pub returns-then-n-end : goal.returns-then-n-end
+returns-then-n-end c = λ l s e.
+    told_why l c.args.n true true _ (lt-ltb _ _ (omega (arith, s.count))) (gone_ended _ l.requests c.args.n s c.in_default.ensures (omega arith)) refl
 
 pub returns : goal.returns
 returns c = λ l s e.

@@ -1,7 +1,7 @@
 use Rattle.std.proofs.Common.{◌≡◌, ◌≤◌}
 use Rattle.std.specs.VecDeque.{deque_len, deque_capacity}
 use Rattle.uring_linux.specs.Drains.{from_drain}
-use Rattle.uring_linux.proofs.drains.drop_plain.Given as goal
+use Rattle.uring_linux.proofs.drains.go_on.Given as goal
 
 abbrev pub invariant-loop-groups : goal.invariant-loop-groups
 invariant-loop-groups l = record {
