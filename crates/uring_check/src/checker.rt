@@ -211,21 +211,11 @@ impl Checker {
         ensures granted { ((n : ℕ) → M.grants memory.now n) → (h : History)
             → FitsBy self.old.machine h → IsOk result }
     {
-        let standing = Standing::before(
-            memory,
-            self.alloc,
-            &self.machine,
-            self.posters.as_slice(),
-            step,
-        )?;
+        let numbers = self.posters.as_slice();
+        let standing = Standing::before(memory, self.alloc, &self.machine, numbers, step)?;
         let judged = judge(memory, &mut self.told, &mut self.machine, step, text)?;
-        note_poster(
-            memory,
-            &mut self.posters,
-            step,
-            standing.posted(),
-            self.machine.posted(),
-        )?;
+        let after = self.machine.posted();
+        note_poster(memory, &mut self.posters, step, standing.posted(), after)?;
         match judged {
             None => {
                 self.steps = self.steps.saturating_add(1);
@@ -234,14 +224,8 @@ impl Checker {
             Some(wanted) => {
                 self.fault(Verdict::Wrong);
                 self.is_over = !self.is_all;
-                tell_wrong(
-                    memory,
-                    &mut self.report,
-                    self.number,
-                    line,
-                    &wanted,
-                    &standing,
-                )
+                let number = self.number;
+                tell_wrong(memory, &mut self.report, number, line, &wanted, &standing)
             }
         }
     }

@@ -1,6 +1,6 @@
 //! The set-up that the first line of a recorded trace says.
 
-ghost use Rattle.std.specs.Prelude.{◌≡◌, ℕ, List, IfOk, IsOk, false, map};
+ghost use Rattle.std.specs.Prelude.{◌≡◌, ℕ, List, IfOk, IsOk, map};
 ghost use Rattle.uring_text.specs.KeptLine.{kept_of};
 ghost use Rattle.uring_check.specs.SetupLines.{IsSaid, IsSaidBy, IsSaidOf, named_number, sizes_of, sizes_said, words_said, one_asked};
 
@@ -86,25 +86,14 @@ fn setup_of(sizes: Option<Sizes>) -> Said
         return Said::Misses;
     };
     match Setup::new(sizes.sq, Some(sizes.cq), sizes.files, sizes.start) {
-        Ok(setup) => Said::Says(linux_if(stopping_if(setup, sizes.asked.stops), sizes.asked.linux)),
+        Ok(setup) => match (sizes.asked.stops, sizes.asked.linux) {
+            (true, true) => Said::Says(setup.stopping().linux()),
+            (true, false) => Said::Says(setup.stopping()),
+            (false, true) => Said::Says(setup.linux()),
+            (false, false) => Said::Says(setup),
+        },
         Err(_) => Said::Misses,
     }
-}
-
-/// The set-up, whose calls stop if that is asked for.
-fn stopping_if(setup: Setup, stops: bool) -> Setup
-    requires { setup.stops ≡ false }
-    ensures { result ≡ record setup { stops = stops } }
-{
-    if stops { setup.stopping() } else { setup }
-}
-
-/// The set-up, whose rules are Linux's if that is asked for.
-fn linux_if(setup: Setup, linux: bool) -> Setup
-    requires { setup.linux ≡ false }
-    ensures { result ≡ record setup { linux = linux } }
-{
-    if linux { setup.linux() } else { setup }
 }
 
 /// The sizes that the tokens after `# setup` say.

@@ -171,24 +171,18 @@ fn told_of(
             let text = text_of(alloc, setup, seen, events.as_slice());
             drop(events);
             let text = text?;
-            Ok(Told {
-                verdict: Verdict::Found,
-                text,
-            })
+            let verdict = Verdict::Found;
+            Ok(Told { verdict, text })
         }
         Filled::Nothing(reach) => {
             let text = far_text(alloc, setup, seen, reach, b"the end", "none shows: ")?;
-            Ok(Told {
-                verdict: Verdict::Nothing,
-                text,
-            })
+            let verdict = Verdict::Nothing;
+            Ok(Told { verdict, text })
         }
         Filled::GaveUp(reach) => {
             let text = far_text(alloc, setup, seen, reach, b"the end", "gave up before: ")?;
-            Ok(Told {
-                verdict: Verdict::GaveUp,
-                text,
-            })
+            let verdict = Verdict::GaveUp;
+            Ok(Told { verdict, text })
         }
     }
 }

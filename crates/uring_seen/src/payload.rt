@@ -1,6 +1,6 @@
 //! The bytes of a completion, by the token that has them.
 
-ghost use Rattle.std.specs.Prelude.{◌≡◌, ◌≤◌, drop, length, take, MatchOption, None, Some};
+ghost use Rattle.std.specs.Prelude.{◌≡◌, ◌≤◌, drop, take, MatchOption, None, Some};
 ghost use Rattle.std.specs.List.{list_any};
 ghost use Rattle.uring_entry.specs.Requests.{no_bytes};
 ghost use Rattle.uring_text.specs.Reading.{data_of, hex_of, is_capital};
@@ -29,27 +29,19 @@ pub(crate) fn payload_of(token: &[u8]) -> Option<[u8; 64]>
 }
 
 /// So many bytes that a token spells, and zeros after them.
+#[tactic(auto, unfolding(uring_text::specs::Reading::hex_of))]
 fn decoded(token: &[u8], count: usize) -> Option<[u8; 64]>
     requires { count ≤ 64 }
     ensures { MatchOption result (hex_of count token.now ≡ None)
         (λ room. (hex_of count token.now ≡ Some (take count room))
         × (drop count room ≡ drop count no_bytes)) }
 {
-    let mut room = [0; SIZE];
-    decode(token, &mut room[..count])?;
-    Some(room)
-}
-
-/// Puts the bytes that a token spells into `bytes`, which they must fill.
-#[tactic(auto, unfolding(uring_text::specs::Reading::hex_of))]
-fn decode(token: &[u8], bytes: &mut [u8]) -> Option<()>
-    ensures { MatchOption result (hex_of (length bytes.old) token.now ≡ None)
-        (λ _. hex_of (length bytes.old) token.now ≡ Some bytes.new) }
-{
     if has_capitals(token) {
         return None;
     }
-    hex::decode_to_slice(token, bytes).ok()
+    let mut room = [0; SIZE];
+    hex::decode_to_slice(token, &mut room[..count]).ok()?;
+    Some(room)
 }
 
 /// Whether a token has a capital letter.
