@@ -3,6 +3,8 @@ use Rattle.std.proofs.Common.{◌≡◌, ℕ, ◌+◌, ◌<◌, List, [], ◌∷
 use Rattle.std.specs.Prelude.{unwrap_or}
 use Rattle.std.proofs.lemmas.List.{take_more}
 use Rattle.uring_core.specs.Histories.{Event}
+use Rattle.uring_core.specs.declared.answer.Answer.{Answer}
+use Rattle.uring_core.specs.declared.answer.Answer.TheVariants as answer
 use Rattle.uring_play.specs.Totals.{dropped_by, dropped_or, dropped_last}
 
 dropped_append : (before : ℕ) (es : List Event) (e : Event)
@@ -15,13 +17,19 @@ dropped_more : (trace : List Event) (i : ℕ) (e : Event) → i < length trace �
 dropped_more trace i e lt is = ap dropped_last (take_more trace i e lt ∙ ap (λ (x : Event). take i trace ++ x ∷ []) (sym is)) ∙ dropped_append 0 (take i trace) e
 
 -- an event that closes a call
-pub closed_more : (trace : List Event) (i : ℕ) (e : Event) (found : Option ℕ) (count so : ℕ)
-    → i < length trace → e ≡ get_or trace i e → found ≡ dropped_by e.1 → found ≡ Some count
-    → so ≡ count → so ≡ dropped_last (take (i + 1) trace)
-closed_more trace i e found count so lt is a b s = s ∙ ap (λ (o : Option ℕ). unwrap_or o (dropped_last (take i trace))) (sym b ∙ a) ∙ sym (dropped_more trace i e lt is)
+pub closed_more : (trace : List Event) (i : ℕ) (e : Event) (count so : ℕ) → i < length trace
+    → e ≡ get_or trace i e → dropped_by e.1 ≡ Some count → so ≡ count
+    → so ≡ dropped_last (take (i + 1) trace)
+closed_more trace i e count so lt is told s = s ∙ ap (λ (o : Option ℕ). unwrap_or o (dropped_last (take i trace))) (sym told) ∙ sym (dropped_more trace i e lt is)
+
+not_taken : (a : Answer) → ((accepted dropped head : ℕ) → a ≡ answer.Taken accepted dropped head → ⊥)
+    → dropped_by a ≡ None
+not_taken (answer.Taken accepted dropped head) other = absurd (other accepted dropped head refl)
+not_taken _ other = refl
 
 -- another event
-pub other_more : (trace : List Event) (i : ℕ) (e : Event) (found : Option ℕ) (old so : ℕ)
-    → i < length trace → e ≡ get_or trace i e → found ≡ dropped_by e.1 → found ≡ None → so ≡ old
+pub other_more : (trace : List Event) (i : ℕ) (e : Event) (old so : ℕ) → i < length trace
+    → e ≡ get_or trace i e
+    → ((accepted dropped head : ℕ) → e.1 ≡ answer.Taken accepted dropped head → ⊥) → so ≡ old
     → old ≡ dropped_last (take i trace) → so ≡ dropped_last (take (i + 1) trace)
-other_more trace i e found old so lt is a b s h = s ∙ h ∙ ap (λ (o : Option ℕ). unwrap_or o (dropped_last (take i trace))) (sym b ∙ a) ∙ sym (dropped_more trace i e lt is)
+other_more trace i e old so lt is other s h = s ∙ h ∙ ap (λ (o : Option ℕ). unwrap_or o (dropped_last (take i trace))) (sym (not_taken e.1 other)) ∙ sym (dropped_more trace i e lt is)

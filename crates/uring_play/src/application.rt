@@ -95,23 +95,13 @@ impl<P: AppPort> Application<P> {
         }
     }
 
-    /// Reaps completions, or lets other threads run if this end sees none. False, and nothing is done, if the threads are to stop.
+    /// Reaps completions for as long as this end sees some and there is memory for them, so that a call isn't tried anew for each of them, but no more than `MOST_REAPED`; or lets other threads run if this end sees none. False, and nothing is done, if the threads are to stop.
     fn goes_on(&mut self, stop: &AtomicBool) -> bool
         ensures { OnlyReaps self.old.app self.new.app }
     {
         if stop.load(Ordering::SeqCst) {
             return false;
         }
-        if !self.reap_some() {
-            thread::yield_now();
-        }
-        true
-    }
-
-    /// Reaps completions for as long as this end sees some and there is memory for them, so that a call isn't tried anew for each of them, but no more than `MOST_REAPED`. Whether there was one.
-    fn reap_some(&mut self) -> bool
-        ensures { OnlyReaps self.old.app self.new.app }
-    {
         let mut has_reaped = false;
         'reaping: for _ in 0..MOST_REAPED {
             if self.completions.len() >= self.completions.capacity() {
@@ -123,6 +113,9 @@ impl<P: AppPort> Application<P> {
             self.completions.push_reserved(completion);
             has_reaped = true;
         }
-        has_reaped
+        if !has_reaped {
+            thread::yield_now();
+        }
+        true
     }
 }

@@ -1,11 +1,9 @@
 //! The ends of a play, settled after its threads, and what is written of them.
-ghost use Rattle.std.specs.Prelude.{◌≡◌, List, [], true, length, IsTrue};
-ghost use Rattle.uring_entry.specs.Requests.{outstanding_in};
+ghost use Rattle.std.specs.Prelude.{◌≡◌, List, true, length, IsTrue};
 ghost use Rattle.uring_ports.specs.declared.item.Item.{Item};
 ghost use Rattle.uring_play.specs.Threads.{EndsPlay, Submits, WritesWhole};
 ghost use Rattle.uring_threads.specs.Kept.{now};
 ghost use Rattle.uring_threads.specs.Kernel.{IsIdle};
-ghost use Rattle.uring_threads.specs.Report.{left_by};
 
 use crate::ends::{Application, Ends};
 use crate::totals::dropped_last;
@@ -60,14 +58,14 @@ fn write_whole<O: Write>(
     ensures { WritesWhole is_over report.now completions.old.items result (O.contents writer.old)
         (O.contents writer.new) }
 {
-    if !is_over || !is_empty(report) {
+    let counts = report.counts();
+    if !is_over || counts.outstanding != 0 || !report.waiting().is_empty() {
         return Err(PlayFault::Memory);
     }
     completions.extend_from_slice(report.undelivered())?;
     report.is_lawful();
-    let taken = report.counts().accepted;
     let dropped = dropped_last(report.trace());
-    write_out(alloc, writer, completions, taken, dropped)
+    write_out(alloc, writer, completions, counts.accepted, dropped)
 }
 
 /// Whether the application submitted all calls and closed, and nothing is left to the dispatcher.
@@ -76,12 +74,4 @@ fn are_done<K: KernelPort>(ends: &Ends<K>) -> bool
     ensures idle { IsTrue result → IsIdle (now ends.now.kernel.kept) }
 {
     ends.application.done && ends.kernel.idle()
-}
-
-/// Whether nothing is outstanding, and no completion waits.
-fn is_empty(report: &Report<Open>) -> bool
-    ensures outstanding { IsTrue result → outstanding_in (left_by report.now).requests ≡ 0 }
-    ensures waiting { IsTrue result → report.now.waiting ≡ [] }
-{
-    report.counts().outstanding == 0 && report.waiting().is_empty()
 }

@@ -1,7 +1,7 @@
 //! What a trace says of its last call.
 
 ghost use Rattle.std.specs.Prelude.{◌≡◌};
-ghost use Rattle.uring_play.specs.Totals.{dropped_by, dropped_last};
+ghost use Rattle.uring_play.specs.Totals.{dropped_last};
 
 use uring_core::Answer;
 use uring_threads::Events;
@@ -15,19 +15,9 @@ pub fn dropped_last(trace: &Events) -> u32
         let Some((_, answer)) = trace.get(place) else {
             unreachable!()
         };
-        if let Some(count) = dropped_by(&answer) {
+        if let Answer::Taken { dropped: count, .. } = answer {
             dropped = count;
         }
     }
     dropped
-}
-
-/// How many words the ring had dropped, if the answer closes a call.
-fn dropped_by(answer: &Answer) -> Option<u32>
-    ensures { result ≡ dropped_by answer.now }
-{
-    match answer {
-        Answer::Taken { dropped, .. } => Some(*dropped),
-        _ => None,
-    }
 }

@@ -1,5 +1,5 @@
 use Rattle.uring_play.specs.Threads.{OnlyReaps}
-use Rattle.uring_play.proofs.ends.Application.reap_some.Given as goal
+use Rattle.uring_play.proofs.ends.Application.goes_on.Given as goal
 
 abbrev pub invariant-reaping : goal.invariant-reaping
 invariant-reaping g l = OnlyReaps l.fn.self.app l.self.app
