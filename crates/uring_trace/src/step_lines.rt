@@ -4,8 +4,9 @@ ghost use Rattle.std.specs.Prelude.{◌≡◌, ◌≤◌, ◌^◌, ℕ, List, If
 ghost use Rattle.uring_text.specs.KeptLine.{kept_of};
 ghost use Rattle.uring_trace.specs.Spelling as spelling;
 ghost use Rattle.uring_trace.specs.Spelling.{IsStep, IsBad, name_of};
+ghost use Rattle.uring_text.specs.Reading.{form_of, number_of};
 ghost use Rattle.uring_trace.specs.Reading as spec;
-ghost use Rattle.uring_trace.specs.Reading.{ReadsStep};
+ghost use Rattle.uring_trace.specs.Reading.{ReadsStep, ReadsFill};
 
 use std::alloc::{AllocError, Global};
 use uring_core::same_step;
@@ -88,15 +89,23 @@ fn read_words(tokens: &[&[u8]]) -> Option<Step>
         };
     };
     if is_name(name, "fill") {
-        Some(Step::Fill {
-            slot: spelled_number(token)?,
-            entry: spelled_entry(tokens)?,
-        })
+        fill(token, tokens)
     } else if tokens.is_empty() {
         numbered(token, &step_named(name)?)
     } else {
         None
     }
+}
+
+/// A fill of a slot with the entry of these tokens.
+fn fill(slot: &[u8], entry: &[&[u8]]) -> Option<Step>
+    ensures { ReadsFill result (number_of (2 ^ 32) slot.now)
+        (form_of (map (λ token. token.now) entry.now)) }
+{
+    Some(Step::Fill {
+        slot: spelled_number(slot)?,
+        entry: spelled_entry(entry)?,
+    })
 }
 
 /// What a step is called.
