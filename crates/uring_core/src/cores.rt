@@ -4,7 +4,6 @@ ghost use Rattle.std.specs.Prelude.{◌≡◌, ℕ, ◌+◌, ◌<◌, ◌≤◌,
 ghost use Rattle.uring_entry.specs.Setup.{Setup};
 ghost use Rattle.uring_entry.specs.Completions.{Completions};
 ghost use Rattle.uring_rings.specs.Cq.{ShowsCompletions};
-ghost use Rattle.uring_rings.specs.Sq.{ShowsSubmission};
 ghost use Rattle.uring_core.specs.Told.{with_told};
 ghost use Rattle.uring_core.specs.Histories.{History, world};
 ghost use Rattle.uring_core.specs.StepAnswers.{reap_answer_of};

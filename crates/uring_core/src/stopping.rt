@@ -4,7 +4,7 @@ ghost use Rattle.uring_linux.specs.LinuxRequests.{asks_to_skip};
 ghost use Rattle.uring_entry.specs.Setup.{Setup};
 ghost use Rattle.uring_entry.specs.Submission.{Submission, with_stopped};
 ghost use Rattle.uring_rings.specs.Sq.{ShowsSubmission};
-ghost use Rattle.uring_core.specs.Stops.{stops_after, stops_at_word};
+ghost use Rattle.uring_core.specs.Stops.{stops_after};
 
 use uring_entry::{Setup, Sqe, prepare};
 use uring_linux::{asks_to_drain, asks_to_skip};

@@ -3,7 +3,7 @@
 ghost use Rattle.std.specs.Prelude.{◌≡◌, ℕ, ◌≤◌, ◌∷◌, IfOk, IfErr, IsErrOf, IfSome, None, length};
 ghost use Rattle.uring_core.specs.Core.{FitsApart, HasNoLessMemory, IsShortFor, elements_for_call};
 ghost use Rattle.uring_core.specs.Histories.{History, world};
-ghost use Rattle.uring_core.specs.WholeCalls.{after_entries, after_published, after_takes, after_taken, after_refused, not_made, IsMadeAsTold};
+ghost use Rattle.uring_core.specs.WholeCalls.{after_published, after_takes, after_taken, after_refused, not_made, IsMadeAsTold};
 ghost use Rattle.uring_core.specs.declared.step.Step.TheVariants as step;
 ghost use Rattle.uring_core.specs.declared.answer.Answer.TheVariants as answer;
 

@@ -117,15 +117,24 @@ impl AnswerWords {
 pub fn answer_words(answer: &Answer) -> AnswerWords
     ensures { result ≡ spec.words_of answer.now }
 {
+    let entry = match *answer {
+        Answer::Entry(entry) => entry.words(),
+        _ => [0; 16],
+    };
+    let bytes = match *answer {
+        Answer::Ended { bytes, .. } => bytes,
+        Answer::Reaped(completion) => completion.payload(),
+        _ => [0; 64],
+    };
     AnswerWords {
         kind: kind(answer),
         word: word(answer),
         dropped: dropped(answer),
         head: head(answer),
         number: number(answer),
-        entry: entry(answer),
+        entry,
         res: res(answer),
-        bytes: bytes(answer),
+        bytes,
     }
 }
 
@@ -208,16 +217,6 @@ pub fn number(answer: &Answer) -> u64
     }
 }
 
-/// The entry of an answer: zeros if it has none.
-fn entry(answer: &Answer) -> [u64; 16]
-    ensures { result ≡ spec.entry_words answer.now }
-{
-    match *answer {
-        Answer::Entry(entry) => entry.words(),
-        _ => [0; 16],
-    }
-}
-
 /// The result of an answer: 0 if it has none.
 pub fn res(answer: &Answer) -> i32
     ensures { result ≡ spec.res_of answer.now }
@@ -226,16 +225,5 @@ pub fn res(answer: &Answer) -> i32
         Answer::Ended { res, .. } => res,
         Answer::Reaped(completion) => completion.res(),
         _ => 0,
-    }
-}
-
-/// The bytes of an answer: zeros if it has none.
-fn bytes(answer: &Answer) -> [u8; 64]
-    ensures { result ≡ spec.bytes_of answer.now }
-{
-    match *answer {
-        Answer::Ended { bytes, .. } => bytes,
-        Answer::Reaped(completion) => completion.payload(),
-        _ => [0; 64],
     }
 }

@@ -1,5 +1,5 @@
 //! Lists of lists, which C gives in one piece with the length of each.
-ghost use Rattle.std.specs.Prelude.{◌≡◌, ◌↔◌, ℕ, ◌+◌, ◌-◌, ◌≤◌, All, min, map, length, IfOk, IsOk, IsTrue};
+ghost use Rattle.std.specs.Prelude.{◌≡◌, ◌↔◌, ℕ, ◌≤◌, All, map, length, IfOk, IsOk, IsTrue};
 ghost use Rattle.uring_crossing.specs.CoreWords.Cuts as spec;
 
 use std::alloc::{AllocError, Global};

@@ -1,5 +1,5 @@
 //! A set-up as words that C can write.
-ghost use Rattle.std.specs.Prelude.{◌≡◌, ◌↔◌, false, Some, MatchOption};
+ghost use Rattle.std.specs.Prelude.{◌≡◌, ◌↔◌, Some, MatchOption};
 ghost use Rattle.uring_entry.specs.declared.bad_setup.BadSetup.{BadSetup};
 
 use uring_entry::BadSetup;
