@@ -1,12 +1,10 @@
 //! What a history has of operations, as far as the bytes at its finishes are known.
 
-ghost use Rattle.std.specs.Prelude.{◌≡◌, ◌↔◌, ◌++◌, ◌∷◌, [], true, false, map, IfOk, IsTrue, OnOk};
+ghost use Rattle.std.specs.Prelude.{◌≡◌, ◌↔◌, ◌++◌, [], true, false, map, IfOk, IsTrue, OnOk};
 ghost use Rattle.uring_core.specs.Core.{FitsApart};
 ghost use Rattle.uring_core.specs.Histories.{History, history_of, world, IsLawfulApart};
-ghost use Rattle.uring_core.specs.StepAnswers.{CalledForApart};
-ghost use Rattle.uring_early.specs.Moves.{MeetsBytes};
 ghost use Rattle.uring_early.specs.Bare as bare;
-ghost use Rattle.uring_early.specs.Bare.{IssueMeets, IssuesMeet, blank, bytes_reaped, known_by, known_mark, known_marks, posted_in};
+ghost use Rattle.uring_early.specs.Bare.{IssueMeets, IssuesMeet, blank, bytes_reaped, known_mark, known_marks, posted_in};
 
 use crate::mark::{End, Mark};
 use crate::marks::{follow_one, mark_of};

@@ -1,6 +1,6 @@
 //! The search for the moments at which operations took effect.
 
-ghost use Rattle.std.specs.Prelude.{◌≡◌, ◌<◌, ◌≤◌, ◌++◌, ◌∷◌, [], true, false, length, map, IfOk, OnOk, Contains};
+ghost use Rattle.std.specs.Prelude.{◌≡◌, ◌<◌, ◌≤◌, ◌++◌, [], false, length, map, IfOk, OnOk, Contains};
 ghost use Rattle.uring_early.specs.declared.takers.Taker.{Taker};
 ghost use Rattle.uring_early.specs.Search.{seat_of, seats_of, took_at, awaits_at, IsFated, HasFate, IsPlaced, IsSearch, MayTakeAt, Replaces};
 

@@ -1,9 +1,7 @@
 //! How files and operations stand at a mark, and what may happen there.
 
-ghost use Rattle.std.specs.Prelude.{◌≡◌, ◌<◌, ◌≤◌, ◌↔◌, ◌++◌, ◌∷◌, [], true, false, is_some, length, IfOk, IsTrue, OnOk, List};
-ghost use Rattle.uring_early.specs.Moves as moves;
-ghost use Rattle.uring_early.specs.Moves.{Passes, at_first, awaits, passed};
-ghost use Rattle.uring_early.specs.declared.mark.Mark.{Mark};
+ghost use Rattle.std.specs.Prelude.{◌≡◌, ◌<◌, ◌≤◌, true, false, is_some, length, IfOk, OnOk};
+ghost use Rattle.uring_early.specs.Moves.{Passes, at_first, passed};
 ghost use Rattle.uring_early.specs.Search.{seat_of, took_at, passed_at, left_at, awaits_at, PassesAt, MayTakeAt, AreTakers};
 
 use crate::apply::carry_out;

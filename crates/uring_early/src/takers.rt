@@ -1,6 +1,6 @@
 //! The operations that may take effect before an end.
 
-ghost use Rattle.std.specs.Prelude.{◌≡◌, ◌↔◌, true, map, IfOk, IsTrue, OnOk};
+ghost use Rattle.std.specs.Prelude.{◌≡◌, true, map, IfOk, OnOk};
 ghost use Rattle.uring_early.specs.Moves.{FitsEnd, MayTake, awaits, end_in, plain};
 ghost use Rattle.uring_early.specs.Search.{Adds, AreTakers};
 

@@ -2,7 +2,6 @@
 
 ghost use Rattle.std.specs.Prelude.{◌≡◌, ◌↔◌, ◌<◌, ℕ, ℤ, true, false, List, Option, IsTrue, OnOk, Some, Contains, length};
 ghost use Rattle.uring_entry.specs.Success as success;
-ghost use Rattle.uring_entry.specs.Results as results;
 ghost use Rattle.uring_entry.specs.Layout.{Sqe, Cqe};
 ghost use Rattle.uring_entry.specs.Requests.{entry_of, is_running, no_bytes};
 ghost use Rattle.uring_core.specs.Core.{FitsApart};
@@ -86,11 +85,16 @@ fn add_finishes(
         → Contains next.new.items (step.Finish number, answer.Ended res bytes)) }
 {
     add_quiet_finish(core, entry, wanted, number, next)?;
-    add_told_finish(core, entry, wanted, number, next)?;
+    let Some(completion) = wanted else {
+        return Ok(());
+    };
+    let res = completion.res();
+    let bytes = completion.payload();
+    add_finish(core, entry, wanted, number, res, bytes, next)?;
     Ok(())
 }
 
-/// Adds the finish of a request of this entry that posts nothing, if there is one.
+/// Adds the finish of a request of this entry that posts nothing, if there is one: with the greatest result that it may give.
 fn add_quiet_finish(
     core: &Core,
     entry: &Sqe,
@@ -106,48 +110,12 @@ fn add_quiet_finish(
         → FinishFits entry.now wanted.now res bytes
         → Contains next.new.items (step.Finish number, answer.Ended res bytes)) }
 {
-    let Some(res) = quiet_result(entry) else {
+    if !entry.has(SqeFlags::CQE_SKIP_SUCCESS) {
         return Ok(());
-    };
-    add_finish(core, entry, wanted, number, res, NO_BYTES, next)?;
-    Ok(())
-}
-
-/// Adds the finish of a request of this entry with the completion that is to be posted next, if there is one.
-fn add_told_finish(
-    core: &Core,
-    entry: &Sqe,
-    wanted: &Option<Cqe>,
-    number: u64,
-    next: &mut Vec<(Step, Answer)>,
-) -> Result<(), AllocError>
-    requires { (h : History) → FitsApart core.now h
-        → entry.now ≡ entry_of (world core.now.setup h).requests number }
-    ensures adds { OnOk result (Adds core.now wanted.now next.old.items next.new.items) }
-    ensures all { OnOk result
-        ((res : ℤ) (bytes : List ℕ) → success.posts_completion entry.now res ≡ true
-        → FinishFits entry.now wanted.now res bytes
-        → Contains next.new.items (step.Finish number, answer.Ended res bytes)) }
-{
-    let Some(completion) = wanted else {
-        return Ok(());
-    };
-    let res = completion.res();
-    let bytes = completion.payload();
-    add_finish(core, entry, wanted, number, res, bytes, next)?;
-    Ok(())
-}
-
-/// The result of a running request of this entry that ends and posts nothing, if it may: the greatest that it may give.
-fn quiet_result(entry: &Sqe) -> Option<i32>
-    ensures { (res : ℤ) → success.posts_completion entry.now res ≡ false
-        → results.may_end entry.now res ≡ true → result ≡ Some res }
-{
-    if entry.has(SqeFlags::CQE_SKIP_SUCCESS) {
-        Some(greatest_result(entry))
-    } else {
-        None
     }
+    let greatest = greatest_result(entry);
+    add_finish(core, entry, wanted, number, greatest, NO_BYTES, next)?;
+    Ok(())
 }
 
 /// Adds a finish, if it fits.

@@ -15,37 +15,11 @@ ghost use Rattle.uring_fill.specs.Parts.{Adds, AreNext, AreAllNext};
 use crate::ends::add_ends;
 use crate::seen::{is_hidden, is_stale, seen_among};
 use crate::starts::add_starts;
-use std::alloc::{AllocError, Global};
+use std::alloc::AllocError;
 use uring_core::{Answer, Core, Cqe, Step};
 
-/// The events that may come next after these, which are a part that the core shows, with others that can't come: those that are tried first are the last.
-pub(crate) fn next_events(
-    alloc: Global,
-    core: &Core,
-    seen: &[(Step, Answer)],
-    told: &[Cqe],
-    events: &[(Step, Answer)],
-) -> Result<Vec<(Step, Answer)>, AllocError>
-    requires told { told.now ≡ completions_in seen.now }
-    requires fits { FitsApart core.now (history_of events.now) }
-    requires part { IsPart core.now.setup seen.now (history_of events.now) }
-    ensures right { IfOk result
-        (λ next. AreNext core.now.setup seen.now (history_of events.now) next.items) }
-    ensures all { IfOk result
-        (λ next. AreAllNext core.now.setup seen.now (history_of events.now) next.items) }
-{
-    let mut next = Vec::new(alloc);
-    match add_next(core, seen, told, events, &mut next) {
-        Ok(()) => Ok(next),
-        Err(error) => {
-            drop(next);
-            Err(error)
-        }
-    }
-}
-
-/// Adds the events that may come next to none.
-fn add_next(
+/// Adds to none the events that may come next after these, which are a part that the core shows, with others that can't come: those that are tried first are the last.
+pub(crate) fn add_next(
     core: &Core,
     seen: &[(Step, Answer)],
     told: &[Cqe],
@@ -75,11 +49,7 @@ fn next_told(core: &Core, told: &[Cqe]) -> Option<Cqe>
     ensures { (h : History) → FitsApart core.now h
         → result ≡ slice_get told.now (length (world core.now.setup h).completions.posted) }
 {
-    let posted = core.counts().posted as usize;
-    match told.get(posted) {
-        Some(completion) => Some(*completion),
-        None => None,
-    }
+    told.get(core.counts().posted as usize).copied()
 }
 
 /// Adds the flushes that may come next, unless they would change nothing.
@@ -136,9 +106,5 @@ fn add_seen(
 fn seen_next(seen: &[(Step, Answer)], events: &[(Step, Answer)]) -> Option<(Step, Answer)>
     ensures { result ≡ slice_get seen.now (length (seen_in (history_of events.now))) }
 {
-    let place = seen_among(events);
-    match seen.get(place) {
-        Some(event) => Some(*event),
-        None => None,
-    }
+    seen.get(seen_among(events)).copied()
 }

@@ -7,7 +7,7 @@ ghost use Rattle.uring_fill.specs.Filling.{IsFilling, IsPart, completions_in, se
 ghost use Rattle.uring_fill.specs.Found.{IsFound, HasFate, filled_by};
 ghost use Rattle.uring_fill.specs.Parts.{paths_of, IsSearch, IsReach, IsWhole, HasLonger};
 
-use crate::next::next_events;
+use crate::next::add_next;
 use crate::replay::replay;
 use crate::seen::{completions, seen_among};
 use std::alloc::{AllocError, Global};
@@ -275,10 +275,9 @@ fn add_longer(
     ensures { OnOk result
         (HasLonger core.now.setup seen.now path.now (paths_of todo.old.items) (paths_of todo.new.items)) }
 {
-    let next = next_events(alloc, core, seen, told, path)?;
-    let done = push_longer(alloc, path, next.as_slice(), todo);
-    drop(next);
-    done
+    let mut next = Vec::new(alloc);
+    add_next(core, seen, told, path, &mut next)?;
+    push_longer(alloc, path, next.as_slice(), todo)
 }
 
 /// Puts this path with each of these events after it among those to be gone on from.
@@ -292,23 +291,9 @@ fn push_longer(
         (paths_of todo.new.items ≡ paths_of todo.old.items ++ map (λ x. path.now ++ x ∷ []) next.now) }
 {
     for event in next {
-        push_one(alloc, path, *event, todo)?;
+        let mut longer = Vec::from_slice(alloc, path)?;
+        longer.push(*event)?;
+        todo.push(longer)?;
     }
-    Ok(())
-}
-
-/// Puts this path with this event after it among those to be gone on from.
-fn push_one(
-    alloc: Global,
-    path: &[(Step, Answer)],
-    event: (Step, Answer),
-    todo: &mut Vec<Vec<(Step, Answer)>>,
-) -> Result<(), AllocError>
-    ensures { OnOk result
-        (paths_of todo.new.items ≡ paths_of todo.old.items ++ (path.now ++ event ∷ []) ∷ []) }
-{
-    let mut longer = Vec::from_slice(alloc, path)?;
-    longer.push(event)?;
-    todo.push(longer)?;
     Ok(())
 }

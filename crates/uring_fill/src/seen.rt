@@ -66,23 +66,10 @@ pub(crate) fn completions(alloc: Global, seen: &[(Step, Answer)]) -> Result<Vec<
     ensures { IfOk result (λ told. told.items ≡ completions_in seen.now) }
 {
     let mut told = Vec::new(alloc);
-    match add_completions(seen, &mut told) {
-        Ok(()) => Ok(told),
-        Err(error) => {
-            drop(told);
-            Err(error)
-        }
-    }
-}
-
-/// Adds the completions that were reaped, in order.
-fn add_completions(seen: &[(Step, Answer)], told: &mut Vec<Cqe>) -> Result<(), AllocError>
-    ensures { OnOk result (told.new.items ≡ told.old.items ++ completions_in seen.now) }
-{
     for event in seen {
-        add_completion(event, told)?;
+        add_completion(event, &mut told)?;
     }
-    Ok(())
+    Ok(told)
 }
 
 /// Adds the completion, if this event reaps one.

@@ -1,9 +1,9 @@
-use Rattle.std.proofs.Common.{◌≡◌, ℕ, true, List, [], ◌∷◌, ◌++◌, ap, sym, subst, ◌∙◌, rules}
+use Rattle.std.proofs.Common.{ℕ, List, [], ◌∷◌, ◌++◌, ap, sym, subst, ◌∙◌}
 use Rattle.uring_early.specs.declared.state.State.{State}
 use Rattle.uring_early.specs.declared.search.Fate.{Fate}
 use Rattle.uring_early.specs.declared.search.Fate.TheVariants.{Explained, Over, Open}
 use Rattle.uring_early.specs.Search.{HasFate, IsFated, IsSearch, Seat, seat_of, seats_of}
-use Rattle.uring_early.proofs.Common.{Mark, not-false}
+use Rattle.uring_early.proofs.Common.{Mark}
 use Rattle.uring_early.proofs.Searching.{begins}
 use Rattle.uring_early.proofs.search.search_all.Goals as goal
 

@@ -1,4 +1,4 @@
-use Rattle.std.proofs.Common.{◌≡◌, ℕ, ◌+◌, ◌<◌, List, [], ◌∷◌, ◌++◌, length, take, get_or, map, sym, ap, ◌∙◌, append_assoc, arith}
+use Rattle.std.proofs.Common.{◌≡◌, ℕ, ◌+◌, ◌<◌, List, [], ◌∷◌, ◌++◌, length, take, get_or, map, sym, ap, ◌∙◌, append_assoc, arith, rules, Vec, Global}
 use Rattle.uring_fill.proofs.Common.{Event, map-append, paths_of, take_all, take_more}
 use Rattle.uring_fill.proofs.search.push_longer.Goals as goal
 
@@ -14,7 +14,9 @@ one_pushed path next k x old mid new low at so_far is =
 pub loop-event-preserved : goal.loop-event-preserved
 loop-event-preserved c =
     let low = c.loop-event-test.true in
-    one_pushed c.args.path.now c.args.next.now c.loop-event.event-index c.event-item.result (paths_of c.args.todo.now.items) (paths_of c.loop-event.todo.items) _ (omega (arith, low)) c.event-item.is c.loop-event.invariant c.in_ok-push_one.ensures
+    let longer : c.push.new.self.items ≡ c.args.path.now ++ c.event-item.result ∷ [] = search rules in
+    one_pushed c.args.path.now c.args.next.now c.loop-event.event-index c.event-item.result (paths_of c.args.todo.now.items) (paths_of c.loop-event.todo.items) _ (omega (arith, low)) c.event-item.is c.loop-event.invariant
+    (ap paths_of c.in_ok-push-2.ensures.items ∙ map-append (λ (p : Vec Event Global). p.items) c.loop-event.todo.items (c.push.new.self ∷ []) ∙ ap (λ (p : List Event). paths_of c.loop-event.todo.items ++ p ∷ []) longer)
 
 pub returns : goal.returns
 returns c = c.loop-event.invariant ∙ ap (λ xs. paths_of c.args.todo.now.items ++ map (λ x. c.args.path.now ++ x ∷ []) xs) (take_all c.loop-event.event-index c.args.next.now (omega arith))
