@@ -48,23 +48,19 @@ impl Timeline {
         }
     }
 
-    /// Looks at the machine as this line has left it, and notes what has changed since the line before. Here and below: if the memory grants whatever is asked for, there is no error.
-    fn look<M: Memory>(
-        &mut self,
-        memory: &M,
-        machine: &Machine,
-        line: u64,
-    ) -> Result<(), AllocError>
+    /// Looks at the machine as the line has left it, and notes what has changed since the line before. Here and below: if the memory grants whatever is asked for, there is no error.
+    fn look<M: Memory>(&mut self, memory: &M, machine: &Machine) -> Result<(), AllocError>
         ensures granted { ((n : ℕ) → M.grants memory.now n) → IsOk result }
     {
+        let line = self.line;
         let counts = machine.counts();
         if counts == self.counts {
             return Ok(());
         }
-        self.add_rows(memory, counts.accepted, line)?;
+        self.add_rows(memory, counts.accepted)?;
         let has_posted = counts.posted > self.counts.posted;
         for number in 0..self.rows.len() as u64 {
-            self.look_at(memory, number, machine.why(number), line, has_posted)?;
+            self.look_at(memory, number, machine.why(number), has_posted)?;
         }
         for place in self.counts.reaped..counts.reaped {
             if let Some(number) = self.posters.get(place as usize) {
@@ -77,18 +73,13 @@ impl Timeline {
         Ok(())
     }
 
-    /// Adds rows of requests that were accepted by this line, up to so many.
-    fn add_rows<M: Memory>(
-        &mut self,
-        memory: &M,
-        accepted: u64,
-        line: u64,
-    ) -> Result<(), AllocError>
+    /// Adds rows of requests that were accepted by the line, up to so many.
+    fn add_rows<M: Memory>(&mut self, memory: &M, accepted: u64) -> Result<(), AllocError>
         ensures granted { ((n : ℕ) → M.grants memory.now n) → IsOk result }
     {
         for _ in self.rows.len() as u64..accepted {
             let row = Row {
-                accepted: line,
+                accepted: self.line,
                 started: None,
                 ended: None,
                 posted: None,
@@ -99,17 +90,17 @@ impl Timeline {
         Ok(())
     }
 
-    /// Notes how a request stands after this line. One that has ended by it posted a completion, if one was posted.
+    /// Notes how a request stands after the line. One that has ended by it posted a completion, if one was posted.
     fn look_at<M: Memory>(
         &mut self,
         memory: &M,
         number: u64,
         why: Why,
-        line: u64,
         has_posted: bool,
     ) -> Result<(), AllocError>
         ensures granted { ((n : ℕ) → M.grants memory.now n) → IsOk result }
     {
+        let line = self.line;
         let Some(row) = self.rows.get_mut(number as usize) else {
             return Ok(());
         };
@@ -135,11 +126,8 @@ impl Timeline {
     ) -> Result<(), AllocError>
         ensures granted { ((n : ℕ) → M.grants memory.now n) → IsOk result }
     {
-        push_text(
-            memory,
-            text,
-            "  request  accepted   started     ended    posted    reaped\n",
-        )?;
+        let headings = "  request  accepted   started     ended    posted    reaped\n";
+        push_text(memory, text, headings)?;
         let mut number: u64 = 0;
         for row in &self.rows {
             let values = [
@@ -178,7 +166,7 @@ impl Watcher for Timeline {
         machine: &Machine,
         _told: Told<'_>,
     ) -> Result<(), AllocError> {
-        self.look(memory, machine, self.line)?;
+        self.look(memory, machine)?;
         self.line = self.line.saturating_add(1);
         Ok(())
     }

@@ -89,12 +89,8 @@ impl Recorder {
             Value::Number(self.number),
             Value::Seen(self.alloc, line),
         ];
-        push_form(
-            memory,
-            &mut self.text,
-            "@{\"line\":@,\"text\":\"@\"",
-            &values,
-        )
+        let form = "@{\"line\":@,\"text\":\"@\"";
+        push_form(memory, &mut self.text, form, &values)
     }
 
     /// Appends the line of a recorded trace that isn't lawful, with what a check told of it after its first line.
