@@ -1,10 +1,10 @@
 //! The parts of an outcome as text: its completions, and its files.
 
-ghost use Rattle.std.specs.Prelude.{◌≡◌, ◌++◌, ◌∷◌, [], ◌<◌, pos, IfOk, OnOk, MatchOption, Some, length, string_bytes};
+ghost use Rattle.std.specs.Prelude.{◌≡◌, ◌++◌, ◌<◌, pos, IfOk, OnOk, Some, length, string_bytes};
 ghost use Rattle.uring_files.specs.Contents.{FileContents};
 ghost use Rattle.uring_files.specs.Operations.{file_of, state_of};
 ghost use Rattle.uring_text.specs.Tokens.{hex_or_dash};
-ghost use Rattle.uring_litmus.specs.Parts.{texts_of, IsShown, completion_parts, state_text, file_text, files_texts};
+ghost use Rattle.uring_litmus.specs.Parts.{texts_of, IsShown, completion_parts, state_text, files_texts};
 
 use crate::form::Form;
 use crate::lines::push_copy;
@@ -64,35 +64,16 @@ fn add_files(alloc: Global, parts: &mut Vec<String>, files: &Files) -> Result<()
         (texts_of parts.new.items ≡ texts_of parts.old.items ++ files_texts 0 files.now) }
 {
     for fd in 0..PAST_FILES {
-        match state_at(files, fd) {
-            None => return Ok(()),
-            Some(_) => add_file(alloc, parts, files, fd)?,
-        }
+        let Some(state) = state_at(files, fd) else {
+            return Ok(());
+        };
+        let bytes = bytes_of(alloc, files, fd, state.len)?;
+        let text = text_of_file(alloc, fd, &state, bytes.as_slice());
+        drop(bytes);
+        let text = text?;
+        parts.push(text)?;
     }
     Err(AllocError)
-}
-
-/// Adds the text of the file of this descriptor, if there is one.
-fn add_file(
-    alloc: Global,
-    parts: &mut Vec<String>,
-    files: &Files,
-    fd: u32,
-) -> Result<(), AllocError>
-    requires { fd < 65 }
-    ensures { OnOk result
-        (MatchOption (file_of files.now (pos fd)) (texts_of parts.new.items ≡ texts_of parts.old.items)
-        (λ file. texts_of parts.new.items ≡ texts_of parts.old.items ++ file_text fd file ∷ [])) }
-{
-    let Some(state) = state_at(files, fd) else {
-        return Ok(());
-    };
-    let bytes = bytes_of(alloc, files, fd, state.len)?;
-    let text = text_of_file(alloc, fd, &state, bytes.as_slice());
-    drop(bytes);
-    let text = text?;
-    parts.push(text)?;
-    Ok(())
 }
 
 /// How the file of this descriptor stands.
