@@ -1,10 +1,8 @@
 //! A run of calls, with the log of each file.
 
-ghost use Rattle.std.specs.Prelude.{◌≡◌, ◌<◌, ℕ, List, [], ◌∷◌, ◌++◌, IfOk, IfErr};
+ghost use Rattle.std.specs.Prelude.{◌<◌, ℕ, List, [], ◌∷◌, ◌++◌, IfOk, IfErr};
 ghost use Rattle.uring_entry.specs.Setup.{Setup};
 ghost use Rattle.uring_entry.specs.Layout.{Sqe};
-ghost use Rattle.uring_entry.specs.Requests.{no_bytes};
-ghost use Rattle.uring_core.specs.declared.answer.Answer.TheVariants as answer;
 ghost use Rattle.uring_outcomes.specs.declared.move_of_calls.Move.{Move};
 ghost use Rattle.uring_outcomes.specs.declared.move_of_calls.Move.TheVariants as move;
 ghost use Rattle.uring_outcomes.specs.Runs.{entries_of, Stands};
@@ -95,18 +93,11 @@ impl Trial {
         let Some(res) = self.run.finish(&alloc, number)? else {
             return Ok(false);
         };
-        let answer = ended(res);
+        let answer = Answer::Ended {
+            res,
+            bytes: [0; 64],
+        };
         note_finish(&alloc, &mut self.logs, number, op, &answer);
         Ok(true)
-    }
-}
-
-/// An end with this result, and no bytes.
-fn ended(res: i32) -> Answer
-    ensures { result ≡ answer.Ended res no_bytes }
-{
-    Answer::Ended {
-        res,
-        bytes: [0; 64],
     }
 }

@@ -1,6 +1,6 @@
 //! The walk over all lists of moves, with what a power failure may show after each.
 
-ghost use Rattle.std.specs.Prelude.{◌≡◌, ◌<◌, ◌++◌, ◌∷◌, [], ℕ, List, true, false, IfOk, IfErr, OnOk};
+ghost use Rattle.std.specs.Prelude.{◌≡◌, ◌<◌, ◌∷◌, [], true, IfOk, IfErr, OnOk};
 ghost use Rattle.uring_outcomes.specs.declared.move_of_calls.Move.{Move};
 ghost use Rattle.uring_outcomes.specs.Runs.{entries_of};
 ghost use Rattle.uring_outcomes.specs.Walks.{paths_of};
@@ -46,16 +46,13 @@ pub fn crashes_within(
     ensures fault { IfErr result (IsReason unit setup.now (entries_of calls.now) images) }
 {
     let mut walk = Walk::new(alloc)?;
-    match walk.take_turns(alloc, setup, unit, calls, most, images) {
-        Ok(is_all) => Ok(FoundCrashes {
-            crashes: walk.into_found(),
-            is_all,
-        }),
-        Err(fault) => {
-            drop(walk);
-            Err(fault)
-        }
-    }
+    let is_all = walk.take_turns(alloc, setup, unit, calls, most, images)?;
+    let Walk { todo, found } = walk;
+    drop(todo);
+    Ok(FoundCrashes {
+        crashes: found,
+        is_all,
+    })
 }
 
 /// The paths that are still to be taken, and what was found.
@@ -79,15 +76,6 @@ impl Walk {
         })
     }
 
-    /// What was found.
-    fn into_found(self) -> Vec<Crash>
-        ensures { result ≡ self.found }
-    {
-        let Walk { todo, found } = self;
-        drop(todo);
-        found
-    }
-
     /// Takes at most so many paths, and tells whether none is left.
     fn take_turns(
         &mut self,
@@ -106,36 +94,12 @@ impl Walk {
         ensures fault { IfErr result (IsReason unit setup.now (entries_of calls.now) images) }
     {
         'turns: for _ in 0..most {
-            if !self.turn(alloc, setup, unit, calls, images)? {
+            let Some(path) = self.todo.pop() else {
                 return Ok(true);
-            }
+            };
+            self.take(alloc, setup, unit, calls, path.as_slice(), images)?;
         }
         Ok(self.todo.is_empty())
-    }
-
-    /// Takes one of the paths that are still to be taken, and tells whether there was one.
-    fn turn(
-        &mut self,
-        alloc: Global,
-        setup: &Setup,
-        unit: u64,
-        calls: &[Vec<Sqe>],
-        images: u32,
-    ) -> Result<bool, CrashFault>
-        requires some { 0 < unit }
-        requires walk { IsWalk unit setup.now (entries_of calls.now) (paths_of self.old.todo.items) self.old.found.items }
-        ensures walk { OnOk result
-            (IsWalk unit setup.now (entries_of calls.now) (paths_of self.new.todo.items) self.new.found.items) }
-        ensures over { IfOk result (λ taken. taken ≡ false → self.new.todo.items ≡ []) }
-        ensures fault { IfErr result (IsReason unit setup.now (entries_of calls.now) images) }
-    {
-        let Some(path) = self.todo.pop() else {
-            return Ok(false);
-        };
-        let taken = self.take(alloc, setup, unit, calls, path.as_slice(), images);
-        drop(path);
-        taken?;
-        Ok(true)
     }
 
     /// Takes a path: notes what a power failure may show after it, and leaves the paths that are longer by one move to be taken.
@@ -178,25 +142,6 @@ impl Walk {
         if !trial.replay(alloc, calls, path)? {
             return Ok(());
         }
-        self.note(alloc, setup, unit, calls, path, images, trial)
-    }
-
-    /// Notes what a power failure may show after this path, whose moves the trial has made, and leaves the paths that are longer by one move to be taken.
-    fn note(
-        &mut self,
-        alloc: Global,
-        setup: &Setup,
-        unit: u64,
-        calls: &[Vec<Sqe>],
-        path: &[Move],
-        images: u32,
-        trial: &Trial,
-    ) -> Result<(), CrashFault>
-        requires { HasMade unit setup.now (entries_of calls.now) path.now trial.now.run trial.now.logs.items }
-        ensures takes { OnOk result
-            (TakesPath unit setup.now (entries_of calls.now) path.now (paths_of self.old.todo.items) self.old.found.items (paths_of self.new.todo.items) self.new.found.items) }
-        ensures fault { IfErr result (IsReason unit setup.now (entries_of calls.now) images) }
-    {
         let mut shown = crashes_of(
             alloc,
             trial.run.posted.as_slice(),

@@ -1,4 +1,4 @@
-use Rattle.std.proofs.Common.{◌≡◌, ◌+◌, ℕ, false, true, [], ◌∷◌, ◌++◌, length, take, sym, subst, ap, ◌∙◌, arith}
+use Rattle.std.proofs.Common.{◌≡◌, ◌+◌, ℕ, List, false, true, [], ◌∷◌, ◌++◌, length, take, sym, subst, ap, ◌∙◌, arith}
 use Rattle.uring_outcomes.proofs.Common.{Global, NamesAll, Vec, addr_of, among, both_ways, is_cancel, ne_eqb, take_all}
 use Rattle.std.proofs.lemmas.Bool.{false≢true}
 use Rattle.uring_outcomes.proofs.Walking.{among_kept, among_pushed, names_kept, names_more}
@@ -13,7 +13,7 @@ loop-entry-preserved g c =
     let e = c.entry-item.result in
     elim c.if-opcode-eq-ASYNC_CANCEL.branch [
       | then-opcode-eq-ASYNC_CANCEL+in_ok-reserve w ↦
-          let is : new ≡ names ++ w.addr.result ∷ [] = ap (λ (v : Vec ℕ Global). v.items) w.names-is ∙ w.push_reserved.ensures.items ∙ ap (λ us. us ++ w.addr.result ∷ []) w.reserve.ensures.items in
+          let is : new ≡ names ++ w.addr.result ∷ [] = ap (λ (v : Vec ℕ Global). v.items) w.names-is ∙ ◌∙◌ {A = List ℕ} w.push_reserved.ensures.items (ap (λ us. us ++ w.addr.result ∷ []) w.reserve.ensures.items) in
           let kept : (u : ℕ) → among names u ≡ true → among new u ≡ true = λ u there. subst (λ xs. among xs u ≡ true) (sym is) (among_kept names (w.addr.result ∷ []) u there) in
           let here : among new (addr_of e) ≡ true = subst (λ xs. among xs (addr_of e) ≡ true) (sym is) (subst (λ u. among (names ++ w.addr.result ∷ []) u ≡ true) w.addr.ensures (among_pushed names w.addr.result)) in
           record {

@@ -3,7 +3,6 @@ use Rattle.uring_power.proofs.Common.{IfSome, Log, MadeAs, StandsAt, called_in, 
 use Rattle.std.specs.Vec.{with_items}
 use Rattle.std.specs.Int.{w32}
 use Rattle.std.proofs.lemmas.Int.{to_z-of_z}
-use Rattle.uring_core.specs.declared.answer.Answer.{Answer}
 use Rattle.uring_core.specs.declared.answer.Answer.TheVariants as answer
 use Rattle.uring_outcomes.specs.declared.move_of_calls.Move.TheVariants as move
 use Rattle.uring_power.proofs.Trying.{not_tried, tried, finish_logs}
@@ -21,8 +20,7 @@ returns c = record {
   tried = λ unit g calls moves h.
       let op = c.running_op-op.result in
       let f : Log → Log = finished_of c.args.number op c.in-Some.res in
-      let ends : c.ended-answer.result ≡ answer.Ended c.in-Some.res no_bytes = c.ended-answer.ensures ∙ ap (λ r. answer.Ended r no_bytes) (to_z-of_z w32 c.in-Some.res (search rules)) in
-      let noted : c.note_finish.new.logs ≡ map f c.args.self.now.logs.items = c.note_finish.ensures ∙ ap (λ (a : Answer). map (λ log. finished_as c.args.number op a log) c.deref_mut.result.now) ends ∙ ap (map f) c.deref_mut.ensures.value in
+      let noted : c.note_finish.new.logs ≡ map f c.args.self.now.logs.items = c.note_finish.ensures ∙ ap (λ r. map (λ log. finished_as c.args.number op (answer.Ended r no_bytes) log) c.deref_mut.result.now) (to_z-of_z w32 c.in-Some.res (search rules)) ∙ ap (map f) c.deref_mut.ensures.value in
       let many = ap (λ (ls : List Log). length ls) noted ∙ length-map c.args.self.now.logs.items f ∙ sym c.args.self.now.logs.ok.0 in
       tried unit g calls moves (move.Finish c.args.number) f c.args.self.now.run c.finish.new.self c.args.self.now.logs.items (with_items c.args.self.now.logs c.note_finish.new.logs).items true h
       (subst (λ o. MadeAs (is_some o) (moved h.last (move.Finish c.args.number)) (StandsAt calls c.finish.new.self)) c.in-Some.is (c.in_ok-res.ensures.made calls h.last h.at))
