@@ -17,7 +17,15 @@ fn is_under(piece: &Piece, k: u64) -> bool
     piece.off() <= k && k < piece.end()
 }
 
-/// Whether a write lies over write `n` at byte `k`, whatever is left: it is safe, and had not begun when that ended.
+/// Whether this write lies over write `n` at byte `k`, whatever is left: it is safe, and had not begun when that ended.
+fn lies_over(events: &[Event], k: u64, n: u64, piece: &Piece) -> bool
+    ensures { result ≡ spec.lies_over (reverse events.now) k n piece.now }
+{
+    is_under(piece, k)
+        && (piece.number() != n && (is_before(events, n, piece.number()) && is_safe(events, piece)))
+}
+
+/// Whether a write lies over write `n` at byte `k`, whatever is left.
 fn is_hidden(events: &[Event], k: u64, n: u64) -> bool
     ensures { result
         ≡ list_any (spec.lies_over (reverse events.now) k n) (issued (reverse events.now)) }
@@ -25,11 +33,7 @@ fn is_hidden(events: &[Event], k: u64, n: u64) -> bool
     let mut found = false;
     for event in events {
         if let Event::WriteIssued(piece) = event {
-            found = found
-                || (is_under(piece, k)
-                    && piece.number() != n
-                    && is_before(events, n, piece.number())
-                    && is_safe(events, piece));
+            found = found || lies_over(events, k, n, piece);
         }
     }
     found
@@ -72,6 +76,13 @@ fn some_is_safe_over(events: &[Event], k: u64) -> bool
     found
 }
 
+/// Whether a write is safe and reaches up to an offset.
+fn is_safe_up_to(events: &[Event], end: u64, piece: &Piece) -> bool
+    ensures { result ≡ spec.is_safe_up_to (reverse events.now) end piece.now }
+{
+    !piece.bytes().is_empty() && (end <= piece.end() && is_safe(events, piece))
+}
+
 /// Whether some safe write reaches up to an offset.
 fn some_is_safe_up_to(events: &[Event], end: u64) -> bool
     ensures { result
@@ -80,8 +91,7 @@ fn some_is_safe_up_to(events: &[Event], end: u64) -> bool
     let mut found = false;
     for event in events {
         if let Event::WriteIssued(piece) = event {
-            found = found
-                || (!piece.bytes().is_empty() && end <= piece.end() && is_safe(events, piece));
+            found = found || is_safe_up_to(events, end, piece);
         }
     }
     found
