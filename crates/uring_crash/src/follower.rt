@@ -138,11 +138,21 @@ impl Follower {
             return Ok(());
         }
         self.has_bad = true;
-        write!(self.note, "uring: line {}: bad line: ", self.number)?;
-        push_line_flaw(self.alloc, &mut self.note, &self.line, Language::Steps)?;
-        self.note.push_str("\n")?;
+        push_note(self.alloc, &mut self.note, self.number, &self.line)?;
         Ok(())
     }
+}
+
+/// Appends the note on a bad line of this number.
+fn push_note(
+    alloc: Global,
+    note: &mut String,
+    number: u64,
+    line: &KeptLine,
+) -> Result<(), AllocError> {
+    write!(note, "uring: line {number}: bad line: ")?;
+    push_line_flaw(alloc, note, line, Language::Steps)?;
+    note.push_str("\n")
 }
 
 /// The step that a line is, if it is one. A line of more than 300 bytes is none.

@@ -62,6 +62,13 @@ fn some_may_show_other(events: &[Event], k: u64, byte: u8) -> bool
     found
 }
 
+/// Whether a write is safe and writes byte `k`.
+fn is_safe_over(events: &[Event], k: u64, piece: &Piece) -> bool
+    ensures { result ≡ spec.is_safe_over (reverse events.now) k piece.now }
+{
+    is_under(piece, k) && is_safe(events, piece)
+}
+
 /// Whether some safe write writes byte `k`.
 fn some_is_safe_over(events: &[Event], k: u64) -> bool
     ensures { result
@@ -70,7 +77,7 @@ fn some_is_safe_over(events: &[Event], k: u64) -> bool
     let mut found = false;
     for event in events {
         if let Event::WriteIssued(piece) = event {
-            found = found || (is_under(piece, k) && is_safe(events, piece));
+            found = found || is_safe_over(events, k, piece);
         }
     }
     found

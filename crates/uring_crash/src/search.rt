@@ -1,6 +1,6 @@
 //! The search for an image that hasn't some bytes at an offset.
 
-ghost use Rattle.std.specs.Prelude.{◌≡◌, ◌+◌, ◌<◌, ◌^◌, [], ℕ, ℤ, true, false, length, map, IfOk, IfSome};
+ghost use Rattle.std.specs.Prelude.{◌≡◌, ◌+◌, ◌<◌, ◌^◌, [], ℕ, ℤ, true, false, length, slice_index, map, IfOk, IfSome};
 ghost use Rattle.uring_entry.specs.Setup.{Setup};
 ghost use Rattle.uring_volume.specs.Events as volume;
 ghost use Rattle.uring_volume.specs.Listing.{AreTheImages};
@@ -29,14 +29,26 @@ pub(crate) enum Found {
     TooMany,
 }
 
+/// Whether an image has this byte at offset `off + j`.
+fn has_byte(image: &[u8], off: u64, j: u64, byte: u8) -> bool
+    ensures yes { result ≡ true
+        → (off + j < length image.now) × (slice_index image.now (off + j) ≡ byte) }
+    ensures no { result ≡ false → off + j < length image.now
+        → slice_index image.now (off + j) ≡ byte → ⊥ }
+{
+    match off.checked_add(j) {
+        Some(k) if k < image.len() as u64 => image[k as usize] == byte,
+        _ => false,
+    }
+}
+
 /// Whether an image has these bytes at an offset.
 fn holds(image: &[u8], off: u64, bytes: &[u8]) -> bool
     ensures yes { result ≡ true → Holds off bytes.now image.now }
     ensures no { result ≡ false → Holds off bytes.now image.now → ⊥ }
 {
     for j in 0..bytes.len() {
-        let k = off.saturating_add(j as u64);
-        if k >= image.len() as u64 || image[k as usize] != bytes[j] {
+        if !has_byte(image, off, j as u64, bytes[j]) {
             return false;
         }
     }
