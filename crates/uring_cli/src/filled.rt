@@ -27,11 +27,15 @@ fn tell_found(rt: &HostRuntime, told: &Told) -> Result<u8, Fault> {
         Verdict::Found => DONE,
         Verdict::Nothing => NOTHING,
         Verdict::GaveUp => GAVE_UP,
-        Verdict::Bad => {
-            write_error(rt, b"uring: ", BAD_LINE)?;
-            write_error(rt, text, BAD_LINE)?;
-            return write_error(rt, b"\n", BAD_LINE);
-        }
+        Verdict::Bad => return tell_bad(rt, text),
     };
     write_out(rt, text, status)
+}
+
+/// Tells a bad line.
+fn tell_bad(rt: &HostRuntime, text: &[u8]) -> Result<u8, Fault> {
+    for part in [b"uring: ".as_slice(), text] {
+        write_error(rt, part, BAD_LINE)?;
+    }
+    write_error(rt, b"\n", BAD_LINE)
 }

@@ -47,18 +47,18 @@ pub(crate) fn run_outcomes(
     lines: &[&str],
 ) -> Result<u8, Fault> {
     let most = most_of(wanted.most);
-    if let Some(claim) = wanted.claim {
-        return run_claim(rt, setup, claim, wanted.unit, lines, most);
+    match (wanted.claim, wanted.unit, wanted.number) {
+        (Some(claim), unit, _) => run_claim(rt, setup, claim, unit, lines, most),
+        (None, Some(unit), _) => list_failures(rt, setup, unit, most),
+        (None, None, Some(number)) => run_explained(rt, setup, wanted.form, most, number),
+        (None, None, None) => run_list(rt, setup, wanted.form, most),
     }
-    if let Some(unit) = wanted.unit {
-        return list_failures(rt, setup, unit, most);
-    }
-    if let Some(number) = wanted.number {
-        return run_explained(rt, setup, wanted.form, most, number);
-    }
+}
+
+/// The list of outcomes.
+fn run_list(rt: &HostRuntime, setup: &Setup, form: Form, most: u64) -> Result<u8, Fault> {
     let (mut input, mut output) = (rt.stdin(), Outlet::new(rt));
-    let (alloc, form) = (rt.alloc(), wanted.form);
-    let listed = list(alloc, &mut input, &mut output, setup, form, most);
+    let listed = list(rt.alloc(), &mut input, &mut output, setup, form, most);
     let is_all = output.unless_closed(listed)?;
     Ok(if is_all { DONE } else { UNKNOWN })
 }
@@ -72,16 +72,12 @@ fn run_claim(
     lines: &[&str],
     most: u64,
 ) -> Result<u8, Fault> {
-    let mut all = Vec::new(rt.alloc());
-    if let Err(fault) = push_parts(rt.alloc(), &mut all, lines) {
-        drop(all);
-        return Err(fault);
-    }
+    let lines = all_parts(rt.alloc(), lines)?;
     let ended = match unit {
-        Some(unit) => judge_failures(rt, setup, claim, unit, all.as_slice(), most),
-        None => judge_outcomes(rt, setup, claim, all.as_slice(), most),
+        Some(unit) => judge_failures(rt, setup, claim, unit, lines.as_slice(), most),
+        None => judge_outcomes(rt, setup, claim, lines.as_slice(), most),
     };
-    drop(all);
+    drop(lines);
     ended
 }
 
@@ -143,6 +139,18 @@ fn write_shown(
         Ok(status)
     } else {
         Err(Fault::NoHistory)
+    }
+}
+
+/// The parts of each of these lines.
+fn all_parts(alloc: Global, lines: &[&str]) -> Result<Vec<Vec<String>>, Fault> {
+    let mut all = Vec::new(alloc);
+    match push_parts(alloc, &mut all, lines) {
+        Ok(()) => Ok(all),
+        Err(fault) => {
+            drop(all);
+            Err(fault)
+        }
     }
 }
 

@@ -122,7 +122,7 @@ fn run_words<R: Threads + Wait + Copy + Send + 'static>(
             is_all,
             is_apart,
             has_results,
-        } => run_check(rt, &setup, is_all, is_apart, has_results),
+        } => run_check(rt, &setup, is_all, ends_of(is_apart, has_results)),
         Options::CheckEarly { setup, most } => run_early(rt, &setup, most),
         Options::Explain(setup) => show(rt, &setup, Shown::Explained),
         Options::Graph { setup, at } => show(rt, &setup, Shown::Graph(at)),
@@ -194,8 +194,14 @@ pub(crate) fn most_of(most: Option<u32>) -> u64 {
 /// A trace over the standard streams, which its first bad line ends if it is strict.
 fn run_steps(rt: &HostRuntime, setup: &Setup, is_echo: bool, is_strict: bool) -> Result<u8, Fault> {
     if is_strict {
-        return run_strict(rt, setup, is_echo);
+        run_strict(rt, setup, is_echo)
+    } else {
+        run_trace(rt, setup, is_echo)
     }
+}
+
+/// A trace over the standard streams.
+fn run_trace(rt: &HostRuntime, setup: &Setup, is_echo: bool) -> Result<u8, Fault> {
     let (mut input, mut output) = (rt.stdin(), Outlet::new(rt));
     let traced = trace(rt.alloc(), &mut input, &mut output, setup, is_echo);
     output.unless_closed(traced)?;
@@ -217,21 +223,19 @@ fn run_strict(rt: &HostRuntime, setup: &Setup, is_echo: bool) -> Result<u8, Faul
     told
 }
 
-/// A check of the trace that standard input has. With `has_results` the ends of its running requests are apart from files too.
-fn run_check(
-    rt: &HostRuntime,
-    setup: &Setup,
-    is_all: bool,
-    is_apart: bool,
-    has_results: bool,
-) -> Result<u8, Fault> {
-    let ends = if has_results {
+/// What is asked of the ends of running requests: with `--results` they are apart from files too.
+fn ends_of(is_apart: bool, has_results: bool) -> Ends {
+    if has_results {
         Ends::Allowed
     } else if is_apart {
         Ends::Any
     } else {
         Ends::Given
-    };
+    }
+}
+
+/// A check of the trace that standard input has.
+fn run_check(rt: &HostRuntime, setup: &Setup, is_all: bool, ends: Ends) -> Result<u8, Fault> {
     let (mut input, mut output) = (rt.stdin(), Outlet::new(rt));
     let checked = check(rt.alloc(), &mut input, &mut output, setup, is_all, ends);
     Ok(status_of(output.unless_closed(checked)?))

@@ -5,7 +5,7 @@ use crate::lines::line_of;
 use crate::status_of;
 use crate::streams::{Outlet, read_in};
 use std::alloc::{AllocError, Global};
-use uring_check::{Ends, Said, check, said_by};
+use uring_check::{Ends, Said, Verdict, check, said_by};
 use uring_options::Setup;
 use uring_pictures::{Form, recorded_page};
 use uring_trace::TraceFault;
@@ -21,13 +21,8 @@ pub(crate) fn run_recorded_page(rt: &HostRuntime, setup: &Setup, form: Form) -> 
 /// The same of this trace.
 fn draw_recorded(rt: &HostRuntime, trace: &[u8], setup: &Setup, form: Form) -> Result<u8, Fault> {
     let alloc = rt.alloc();
-    let mut report: Vec<u8> = Vec::new(alloc);
-    let mut lines = trace;
-    let checked = check(alloc, &mut lines, &mut report, setup, false, Ends::Given);
-    // A list of bytes takes what is written unless memory is refused.
-    let Ok(verdict) = checked else {
-        return Err(Fault::Trace(TraceFault::Memory));
-    };
+    let mut report = Vec::new(alloc);
+    let verdict = verdict_on(alloc, trace, &mut report, setup)?;
     let setup = judged_by(alloc, trace, setup)?;
     let mut output = Outlet::new(rt);
     let written = recorded_page(alloc, trace, report.as_slice(), &mut output, &setup, form);
@@ -42,5 +37,20 @@ fn judged_by(alloc: Global, trace: &[u8], setup: &Setup) -> Result<Setup, AllocE
     match said_by(alloc, &line)? {
         Said::Says(said) => Ok(said),
         Said::Nothing | Said::Misses => Ok(*setup),
+    }
+}
+
+/// The verdict on a recorded trace, and what is reported of it up to the first line that isn't lawful.
+fn verdict_on(
+    alloc: Global,
+    trace: &[u8],
+    report: &mut Vec<u8>,
+    setup: &Setup,
+) -> Result<Verdict, TraceFault> {
+    let mut lines = trace;
+    match check(alloc, &mut lines, report, setup, false, Ends::Given) {
+        Ok(verdict) => Ok(verdict),
+        // A list of bytes takes what is written unless memory is refused.
+        Err(_) => Err(TraceFault::Memory),
     }
 }
