@@ -1,6 +1,6 @@
 -- When an entry is accepted and when a call ends: the window and the groups still fit one another, and what is held is what the lists say.
-use Rattle.std.proofs.Common.{◌≡◌, ◌≢◌, ◌⊎◌, ℕ, ◌+◌, ◌<◌, ◌≤◌, length, Bool, ◌==◌, Option, Some, None, is_some, refl, sym, ◌∙◌, ap, subst, arith, inl, inr, zero, suc, [], ◌∷◌, length-append, true, false, not, ◌&&◌, ◌||◌}
-use Rattle.uring_dispatch.proofs.Common.{Accepts, AreHeld, Changes, Err, Exchanges, Group, Groups, IfErr, IfOk, IsBeyond, IsGroup, IsKept, IsShownGroup, IsSound, Ok, Op, Request, Requests, Result, Sqe, Window, added_other, and_from, and_left, at, both_ways, cases_eq, cases_lt, count_below, end_of, entry_of, entry_of_accepted_at, entry_of_accepted_other, false≢true, fault_of, first_broken, first_drain, first_fault, found_or, group_at, has_ended, has_started, if◌then◌else◌, is_drain, is_faulty, is_last, is_linked, is_outstanding, is_running, is_some_value, last_group, list_any, lt-ltb, ne_eqb, new_request, not-not, one_if, op_of, operation_of, or-false, outstanding_in, running_in, same_Some, with_accepted, with_cut, with_member}
+use Rattle.std.proofs.Common.{◌≡◌, ◌≢◌, ◌⊎◌, ℕ, ◌+◌, ◌<◌, ◌≤◌, length, Bool, ◌==◌, Option, Some, None, is_some, refl, sym, ◌∙◌, ap, subst, arith, inl, inr, zero, suc, [], ◌∷◌, length-append, true, false, not, ◌||◌}
+use Rattle.uring_dispatch.proofs.Common.{Accepts, AreHeld, Changes, Exchanges, Group, Groups, IfErr, IfOk, IsBeyond, IsGroup, IsKept, IsShownGroup, IsSound, Op, Request, Requests, Result, Sqe, Window, added_other, at, both_ways, cases_eq, cases_lt, end_of, entry_of, entry_of_accepted_at, entry_of_accepted_other, false≢true, fault_of, first_broken, first_drain, first_fault, found_or, group_at, has_ended, has_started, if◌then◌else◌, is_drain, is_faulty, is_last, is_linked, is_some_value, last_group, list_any, ne_eqb, new_request, op_of, operation_of, or-false, outstanding_in, running_in, with_accepted, with_cut, with_member}
 use Rattle.std.proofs.Math.Numerals.{lt_of_le_of_ne}
 use Rattle.uring_entry.proofs.GroupEvents.{group_cut, is_last_cut_last, group_accepted, group_joined, group_new, first_entry_accepted, first_entry_more, first_broken_accepted, first_broken_more, first_member_none}
 use Rattle.uring_dispatch.proofs.GroupsKept.{only_key}
@@ -12,28 +12,20 @@ use Rattle.uring_dispatch.proofs.Counting.{count_below_same}
 
 member_from : (o : Option Group) (n : ℕ) (d f : Bool) (k : ℕ) → (with_member o n d f).from ≤ k
     → k < n → (q : Group) × (o ≡ Some q) × (q.from ≤ k)
-member_from None n d f k a b = absurd (omega arith)
-member_from (Some q) n d f k a b = (q, refl, a)
+member_from o n d f k a b = grind arith
 
 member_end : (o : Option Group) (n : ℕ) (d f : Bool) → (with_member o n d f).end ≡ n + 1
-member_end None n d f = refl
-member_end (Some q) n d f = refl
+member_end o n d f = grind arith
 
 module _ {w v : Window} {g h : Groups} {entry : Sqe} {request : Request} (s : IsSound w g) (a : Accepts w v g h entry request) where
   -- the group that is joined ends where the window does
   joined_end : {q : Group} → last_group g.records g.last ≡ Some q → q.end ≡ end_of w
-  joined_end {q} e =
-      let last = is_some_value g.last (sym a.kept ∙ ap is_some e) in
-      s.last request.group q (last.1 ∙ ap Some (sym (a.key last.0 last.1))) (a.joins ∙ e)
+  joined_end {q} e = grind arith
 
   -- what is kept under a key now
   now : (key : ℕ) (x : Group) → group_at h key ≡ Some x
       → ((key ≡ request.group) × (x ≡ with_member (last_group g.records g.last) (end_of w) (is_drain entry) (is_faulty entry))) ⊎ ((key ≢ request.group) × (group_at g key ≡ Some x))
-  now key x found =
-      elim (cases_eq key request.group) [
-        | inl same ↦ inl (same, same_Some _ _ (sym found ∙ ap (group_at h) same ∙ a.exchange.here))
-        | inr other ↦ inr (other, sym (a.exchange.others key other) ∙ found)
-      ]
+  now key x found = grind arith
 
   -- the group that was joined, or the new one
   joined_kept : (o : Option Group) → last_group g.records g.last ≡ o
@@ -119,31 +111,14 @@ same_from r a (suc k) end g h lt =
 -- the counts
 outstanding_more : (r : Requests) (entry : Sqe) → has_ended r (length r.accepted) ≡ false
     → outstanding_in (with_accepted r entry) ≡ outstanding_in r + 1
-outstanding_more r entry none =
-    let n : ℕ = length r.accepted in
-    let more = longer r entry in
-    let whole : outstanding_in (with_accepted r entry) ≡ count_below (is_outstanding (with_accepted r entry)) n + one_if (is_outstanding (with_accepted r entry) n) =
-    ap (count_below (is_outstanding (with_accepted r entry))) more
-    in
-    let before : count_below (is_outstanding (with_accepted r entry)) n ≡ outstanding_in r =
-    count_below_same (is_outstanding (with_accepted r entry)) (is_outstanding r) n
-    (λ k lt. ap (λ b. b && not (has_ended r k)) (lt-ltb k (length (with_accepted r entry).accepted) (omega arith) ∙ sym (lt-ltb k n lt)))
-    in
-    let last : one_if (is_outstanding (with_accepted r entry) n) ≡ 1 =
-    ap one_if (and_from _ _ (lt-ltb n (length (with_accepted r entry).accepted) (omega arith)) (ap not none))
-    in
-    omega arith
+outstanding_more r entry none = grind (arith, longer, count_below_same)
 
 running_same : (r : Requests) (entry : Sqe) → has_started r (length r.accepted) ≡ false
     → running_in (with_accepted r entry) ≡ running_in r
-running_same r entry none =
-    let whole : running_in (with_accepted r entry) ≡ running_in r + one_if (is_running r (length r.accepted)) = ap (count_below (is_running r)) (longer r entry) in
-    let last : one_if (is_running r (length r.accepted)) ≡ 0 = ap one_if (and_left _ _ none) in
-    omega arith
+running_same r entry none = grind (arith, longer)
 
 not_linked : (b : Bool) (key : ℕ) → not (is_some (if b then Some key else None)) ≡ not b
-not_linked true key = refl
-not_linked false key = refl
+not_linked b key = grind arith
 
 module _ {w v : Window} {g h : Groups} {r : Requests} {entry : Sqe} {request : Request} (s : IsSound w g) (a : AreHeld w g r)
     (c : Accepts w v g h entry request) where
@@ -259,20 +234,13 @@ prepared : (e : Sqe) (p : Result Op Fault)
     → IfOk p (λ op. (fault_of e ≡ None) × (op ≡ operation_of e))
     → IfErr p (λ fault. fault_of e ≡ Some fault)
     → (result_ok p ≡ op_of e) × (is_some (result_ok p) ≡ not (is_faulty e))
-prepared e (Ok op) right wrong =
-    let fine : is_faulty e ≡ false = ap is_some right.0 in
-    (ap Some right.1 ∙ sym (ap (λ b. if b then None else Some (operation_of e)) fine), sym (ap not fine))
-prepared e (Err fault) right wrong =
-    let bad : is_faulty e ≡ true = ap is_some wrong in
-    (sym (ap (λ b. if b then None else Some (operation_of e)) bad), sym (ap not bad))
+prepared e p right wrong = grind arith
 
 pub kept_op : (e : Sqe) (p : Result Op Fault) (o : Option Op) (none : Bool)
     → IfOk p (λ op. (fault_of e ≡ None) × (op ≡ operation_of e))
     → IfErr p (λ fault. fault_of e ≡ Some fault) → o ≡ result_ok p → is_some o ≡ not none
     → (o ≡ op_of e) × (none ≡ is_faulty e)
-kept_op e p o none right wrong is empty =
-    let both = prepared e p right wrong in
-    (is ∙ both.0, sym (not-not none) ∙ ap not (sym empty ∙ ap is_some is ∙ both.1) ∙ not-not (is_faulty e))
+kept_op e p o none right wrong is empty = grind arith
 
 pub accepts_new : (w v : Window) (g h : Groups) (entry : Sqe) (key n : ℕ) (op : Option Op) (faulty : Bool)
     → n ≡ end_of w → (op ≡ op_of entry) × (faulty ≡ is_faulty entry)
@@ -283,27 +251,12 @@ pub accepts_new : (w v : Window) (g h : Groups) (entry : Sqe) (key n : ℕ) (op 
     → Exchanges g h key (Some (with_member (last_group g.records g.last) n (is_drain entry) faulty))
     → IsBeyond h.barriers (n + 1) → h.last ≡ (if is_linked entry then Some key else None)
     → Accepts w v g h entry (new_request entry key)
-accepts_new w v g h entry key n op faulty top same changes end joins only kept exchange beyond last = record {
-  changes = rw (← same.0) changes;
-  end = end;
-  joins = joins;
-  key = only;
-  kept = kept;
-  exchange = rw (← top, ← same.1) exchange;
-  beyond = rw (← top) beyond;
-  last = last;
-}
+accepts_new w v g h entry key n op faulty top same changes end joins only kept exchange beyond last = grind arith
 
 -- A call ends.
 
 pub cut_sound : (w : Window) (g : Groups) → IsSound w g → IsSound w (record g { last = None })
-cut_sound w g s = record {
-  linked = s.linked;
-  members = s.members;
-  kept = s.kept;
-  beyond = s.beyond;
-  last = λ key q e found. let f : None ≡ Some key = e in cc;
-}
+cut_sound w g s = grind arith
 
 pub cut_held : (w : Window) (g : Groups) (r : Requests) → AreHeld w g r
     → AreHeld w (record g { last = None }) (with_cut r)

@@ -1,6 +1,6 @@
 -- Who waits, when an entry is accepted, a call ends and memory is asked for.
-use Rattle.std.proofs.Common.{◌≡◌, ◌≢◌, ◌⊎◌, ℕ, ◌+◌, ◌/◌, ◌<◌, ◌≤◌, length, Bool, true, false, ◌||◌, Option, Some, None, is_some, refl, sym, ◌∙◌, ap, subst, arith, inl, inr}
-use Rattle.uring_dispatch.proofs.Common.{Accepts, CanGrow, Group, Groups, GrowsTo, HasSame, IsListed, IsListedAt, IsSound, NumberSet, Reaches, Request, Sqe, StandsAsBefore, Starts, Waiting, Window, at, both_ways, cases_eq, cases_lt, end_of, found_or, group_at, holds, holds_same, is_before, is_drain, is_faulty, same_Some, start_of, stop_of, waits_at_head, waits_doomed, with_member}
+use Rattle.std.proofs.Common.{◌≡◌, ◌≢◌, ◌⊎◌, ℕ, ◌+◌, ◌/◌, ◌<◌, ◌≤◌, length, Bool, false, ◌||◌, Option, Some, None, is_some, refl, sym, ◌∙◌, ap, subst, arith, inl, inr}
+use Rattle.uring_dispatch.proofs.Common.{Accepts, CanGrow, Group, Groups, GrowsTo, HasSame, IsListed, IsListedAt, IsSound, NumberSet, Reaches, Request, Sqe, StandsAsBefore, Starts, Waiting, Window, at, cases_eq, cases_lt, end_of, found_or, group_at, holds, holds_same, is_before, is_drain, is_faulty, same_Some, start_of, stop_of, with_member}
 use Rattle.uring_dispatch.proofs.HeldLemmas.{some_none, linked, least_before}
 use Rattle.uring_dispatch.proofs.WaitingLemmas.{told_before, stands_apart, stands_in}
 
@@ -9,14 +9,11 @@ use Rattle.uring_dispatch.proofs.WaitingLemmas.{told_before, stands_apart, stand
 -- a fault that is new is that of the new member
 fault_cases : (o : Option ℕ) (faulty : Bool) (n : ℕ)
     → (is_some (found_or o faulty n) ≡ is_some o) ⊎ (found_or o faulty n ≡ Some n)
-fault_cases (Some m) faulty n = inl refl
-fault_cases None true n = inr refl
-fault_cases None false n = inl refl
+fault_cases o faulty n = grind arith
 
 pub low_member : (s : Waiting) (o : Option Group) (n : ℕ) (d f : Bool) → Starts s n
     → ((q : Group) → o ≡ Some q → Starts s q.least) → Starts s (with_member o n d f).least
-low_member s None n d f own old = own
-low_member s (Some q) n d f own old = old q refl
+low_member s o n d f own old = grind arith
 
 -- what is covered begins before each group's least member
 pub starts_least : (w : Window) (g : Groups) (s : Waiting) (key : ℕ) (q : Group) → IsSound w g
@@ -103,27 +100,15 @@ cut_listed w g s l = record { told = λ n. let t = l.told n in assumption; heads
 -- Memory is asked for.
 
 reaches_same : (w : Window) (s t : NumberSet) → Reaches w s → HasSame s t → Reaches w t
-reaches_same w s t r h =
-    let few = r.few in
-    record { start = omega arith; stop = omega arith; few = omega arith; low = λ n there. let low = r.low n there in omega arith }
+reaches_same w s t r h = grind arith
 
 pub same_listed : (w : Window) (g : Groups) (s t : Waiting) → IsListed w g s
     → HasSame s.heads t.heads → HasSame s.doomed t.doomed → IsListed w g t
-same_listed w g s t l x y = record {
-  told = λ n.
-      let t1 = l.told n in
-      record { head = holds_same s.heads t.heads x.same.same n ∙ t1.head; doomed = holds_same s.doomed t.doomed y.same.same n ∙ t1.doomed };
-  heads = reaches_same w s.heads t.heads l.heads x;
-  doomed = reaches_same w s.doomed t.doomed l.doomed y;
-}
+same_listed w g s t l x y = grind (arith, holds_same)
 
 -- Nothing waits at first.
 pub empty_listed : (w : Window) (g : Groups) (s : Waiting) → ((n : ℕ) → at w n ≡ None)
     → end_of w ≡ 0 → ((n : ℕ) → holds s.heads n ≡ false) → ((n : ℕ) → holds s.doomed n ≡ false)
     → start_of s.heads ≡ 0 → stop_of s.heads ≡ 0 → start_of s.doomed ≡ 0 → stop_of s.doomed ≡ 0
     → IsListed w g s
-empty_listed w g s none end heads doomed a b c d = record {
-  told = λ n. record { head = heads n ∙ sym (ap (λ o. waits_at_head g o n) (none n)); doomed = doomed n ∙ sym (ap (λ o. waits_doomed g o n) (none n)) };
-  heads = record { start = omega arith; stop = omega arith; few = omega arith; low = λ n there. absurd (both_ways _ (ap is_some (none n)) there) };
-  doomed = record { start = omega arith; stop = omega arith; few = omega arith; low = λ n there. absurd (both_ways _ (ap is_some (none n)) there) };
-}
+empty_listed w g s none end heads doomed a b c d = grind arith

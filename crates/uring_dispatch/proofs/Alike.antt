@@ -1,9 +1,8 @@
 -- The window and the groups where only how much more there is memory for differs, or nothing of what they say.
-use Rattle.std.proofs.Common.{◌≡◌, ℕ, ◌≤◌, Result, Ok, Err, true, not, is_some, refl, sym, ◌∙◌, ap, arith}
+use Rattle.std.proofs.Common.{◌≡◌, ℕ, ◌≤◌, Result, not, is_some, refl, sym, ◌∙◌, ap, arith}
 use Rattle.uring_dispatch.proofs.Common.{AreHeld, Groups, HasSameRecords, IsListed, IsSound, OnErr, OnOk, Requests, Waiting, Window, at, end_of, group_at, has_member}
 use Rattle.uring_dispatch.specs.declared.grouped.Grouped.{Grouped}
 use Rattle.uring_dispatch.proofs.WindowFront.{at_room}
-use Rattle.uring_dispatch.proofs.WaitingLemmas.{told_before, stands_apart, reaches_fewer}
 use Rattle.uring_dispatch.proofs.HeldLemmas.{kept_on}
 
 -- each number has its request, and each key its group
@@ -66,28 +65,16 @@ held_alike w v g h r a held = record {
 
 pub listed_alike : (w v : Window) (g h : Groups) (s : Waiting) → IsAlike w v g h → IsListed w g s
     → IsListed v h s
-listed_alike w v g h s a l =
-    let fewer : (k : ℕ) → is_some (at v k) ≡ true → is_some (at w k) ≡ true = λ k some. ap is_some (sym (a.rows k)) ∙ some in
-    record {
-      told = λ n. told_before w v g h s n (l.told n) (stands_apart w v g h n (a.rows n) (λ x e. a.groups x.group));
-      heads = reaches_fewer w v s.heads s.heads l.heads a.end fewer (omega arith);
-      doomed = reaches_fewer w v s.doomed s.doomed l.doomed a.end fewer (omega arith);
-    }
+listed_alike w v g h s a l = grind arith
 
 -- what asking for memory leaves, whatever it answers
 
 pub reserved_window : {E : Type 0} (x : Result (Unit {0}) E) (w v : Window) (count : ℕ)
     → OnOk x (v ≡ record w { room = count }) → OnErr x (v ≡ w)
     → (record v { room = 0 } ≡ record w { room = 0 }) × ((k : ℕ) → k ≤ count → k ≤ w.room → k ≤ v.room)
-reserved_window (Ok u) w v count ok err =
-    (ap (λ (z : Window). record z { room = 0 }) ok, λ k a b. let same : v.room ≡ count = ap (λ (z : Window). z.room) ok in omega arith)
-reserved_window (Err u) w v count ok err =
-    (ap (λ (z : Window). record z { room = 0 }) err, λ k a b. let same : v.room ≡ w.room = ap (λ (z : Window). z.room) err in omega arith)
+reserved_window x w v count ok err = grind arith
 
 pub reserved_groups : {E : Type 0} (x : Result (Unit {0}) E) (g h : Groups) (count : ℕ)
     → OnOk x (h ≡ record g { room = count }) → OnErr x (h ≡ g)
     → (record h { room = 0 } ≡ record g { room = 0 }) × ((k : ℕ) → k ≤ count → k ≤ g.room → k ≤ h.room)
-reserved_groups (Ok u) g h count ok err =
-    (ap (λ (z : Groups). record z { room = 0 }) ok, λ k a b. let same : h.room ≡ count = ap (λ (z : Groups). z.room) ok in omega arith)
-reserved_groups (Err u) g h count ok err =
-    (ap (λ (z : Groups). record z { room = 0 }) err, λ k a b. let same : h.room ≡ g.room = ap (λ (z : Groups). z.room) err in omega arith)
+reserved_groups x g h count ok err = grind arith

@@ -1,13 +1,13 @@
 -- Between which numbers the requests with the same user data are: what each event keeps of it, and what a search makes of it.
-use Rattle.std.proofs.Common.{◌≡◌, ◌⊎◌, ℕ, ◌+◌, ◌^◌, ◌<◌, ◌≤◌, Option, Some, None, is_some, false, refl, sym, ◌∙◌, ap, subst, arith, inl, inr}
+use Rattle.std.proofs.Common.{◌≡◌, ◌⊎◌, ℕ, ◌+◌, ◌^◌, ◌<◌, ◌≤◌, Some, None, is_some, false, refl, sym, ◌∙◌, ap, subst, arith, inl, inr}
 use Rattle.uring_dispatch.proofs.Common.{Accepts, AreFound, AreHeld, Changes, GoesOn, Groups, HasPlaces, KeepsFrom, Request, Requests, Spans, Sqe, Window, addr_of, at, cases_eq, cases_lt, end_of, entry_of, is_candidate, nat_eq, same_Some, user_data_of}
 use Rattle.std.specs.HashMap.{get, spare}
 use Rattle.uring_dispatch.specs.declared.by_user_data.ByUserData.{ByUserData}
 use Rattle.uring_dispatch.specs.Noted.{IsBetween, KeepsBetween}
 use Rattle.uring_dispatch.proofs.WindowFront.{within_end}
-use Rattle.uring_dispatch.proofs.HeldLemmas.{some_none, candidate_none, candidate_other_data}
+use Rattle.uring_dispatch.proofs.HeldLemmas.{some_none}
 use Rattle.uring_dispatch.proofs.Alike.{IsAlike}
-use Rattle.uring_dispatch.proofs.Changes.{before_end, before_write}
+use Rattle.uring_dispatch.proofs.Changes.{before_end}
 
 -- What the events keep.
 
@@ -25,41 +25,24 @@ found_on w v x f on places =
     }
 
 pub goes_alike : (w v : Window) (g h : Groups) → IsAlike w v g h → GoesOn w v
-goes_alike w v g h a = record {
-  end = let end = a.end in omega arith;
-  kept = λ n p lt e. (p, sym (a.rows n) ∙ e, refl);
-}
+goes_alike w v g h a = grind arith
 
 -- a request was started, or chosen
 pub goes_changed : {w v : Window} {n : ℕ} {q p : Request} → at w n ≡ Some q → Changes w v n (Some p)
     → end_of v ≡ end_of w → p.entry ≡ q.entry → GoesOn w v
-goes_changed {w} {q = q} there c end entry = record {
-  end = omega arith;
-  kept = λ k x lt e.
-      elim (before_write c e) [
-        | inl at_n ↦ (q, ap (at w) at_n.0 ∙ there, subst (λ (y : Request). y.entry ≡ q.entry) at_n.1 entry)
-        | inr was ↦ (x, was.1, refl)
-      ];
-}
+goes_changed {w} {q = q} there c end entry = grind arith
 
 pub goes_ended : {w v : Window} {n : ℕ} → Changes w v n None → end_of v ≡ end_of w → GoesOn w v
 goes_ended c end = record { end = omega arith; kept = λ k p lt e. (p, (before_end c e).1, refl) }
 
 pub goes_accepted : (w v : Window) (g h : Groups) (entry : Sqe) (request : Request)
     → Accepts w v g h entry request → GoesOn w v
-goes_accepted w v g h entry request a = record {
-  end = let end = a.end in omega arith;
-  kept = λ n p lt e. (p, sym (a.changes.others n (λ same. omega (arith, same))) ∙ e, refl);
-}
+goes_accepted w v g h entry request a = grind arith
 
 -- What the changes of what is noted keep.
 
 pub found_none : (w : Window) (x : ByUserData) → end_of w ≡ 0 → x.stop ≡ 0 → AreFound w x
-found_none w x end stop = record {
-  stop = omega arith;
-  between = λ n q e lt. absurd (omega (arith, lt));
-  places = omega arith;
-}
+found_none w x end stop = grind arith
 
 pub found_dropped : (w : Window) (x y : ByUserData) (n : ℕ) → AreFound w x → n ≤ end_of w
     → ((k : ℕ) → k < n → at w k ≡ None) → x.stop ≤ y.stop
@@ -150,17 +133,4 @@ spans_noted w x named_data from to f full fits noted n q e named =
 pub outside : (w : Window) (g : Groups) (r : Requests) (n k named_data from to : ℕ) → AreHeld w g r
     → named_data ≡ addr_of (entry_of r n) → Spans w named_data from to → (k < from) ⊎ (to ≤ k)
     → is_candidate r n k ≡ false
-outside w g r n k named_data from to h named spans out = go (at w k) refl
-  where
-    go : (o : Option Request) → at w k ≡ o → is_candidate r n k ≡ false
-    go None e = candidate_none h n _ e
-    go (Some q) e =
-        elim (cases_eq (user_data_of q.entry) named_data) [
-          | inr other ↦ candidate_other_data h n _ e named other
-          | inl same ↦
-              let inside = spans k q e same in
-              elim out [
-                | inl low ↦ absurd (omega (arith, inside.0, low))
-                | inr past ↦ absurd (omega (arith, inside.1, past))
-              ]
-        ]
+outside w g r n k named_data from to h named spans out = grind arith

@@ -1,6 +1,6 @@
 -- One request is touched: what is said of each other number by its request stands; and what a start and a choice leave of what is held.
 use Rattle.std.proofs.Common.{◌≡◌, ◌≢◌, ℕ, ◌+◌, ◌≤◌, [], ◌∷◌, length, false, ◌==◌, Some, None, is_some, refl, sym, ◌∙◌, ap, arith, inl, inr, ◌⊎◌, true, Option, Bool}
-use Rattle.uring_dispatch.proofs.Common.{AreHeld, Changes, Groups, IsAsBefore, IsShown, IsSound, Request, Requests, Window, added_other, added_same, at, cases_eq, chosen, end_of, entry_of, eq-eqb, group_at, has_ended, has_started, is_cancelled, is_faulty, is_running, is_running_started_other, is_running_started_same, ne_eqb, one_if, op_of, same_Some, started, with_cancelled, with_started}
+use Rattle.uring_dispatch.proofs.Common.{AreHeld, Changes, Groups, IsAsBefore, IsShown, IsSound, Request, Requests, Window, added_other, added_same, at, chosen, end_of, entry_of, eq-eqb, group_at, has_ended, has_started, is_cancelled, is_faulty, is_running, is_running_started_other, is_running_started_same, ne_eqb, one_if, started, with_cancelled, with_started}
 use Rattle.uring_dispatch.proofs.WindowFront.{at_past}
 use Rattle.uring_dispatch.proofs.Counting.{count_below_changed}
 use Rattle.uring_dispatch.proofs.HeldLemmas.{some_none, shown_within, running_some, vacant, linked, member, kept_on}
@@ -8,30 +8,20 @@ use Rattle.uring_dispatch.proofs.HeldLemmas.{some_none, shown_within, running_so
 -- the request of n is gone
 module _ {w v : Window} {n : ℕ} (c : Changes w v n None) where
   pub before_end : {k : ℕ} {p : Request} → at v k ≡ Some p → (k ≢ n) × (at w k ≡ Some p)
-  before_end {k} e =
-      elim (cases_eq k n) [ inl same ↦ some_none (ap (at v) same ∙ c.here) e | inr other ↦ (other, sym (c.others k other) ∙ e) ]
+  before_end {k} e = grind arith
 
   pub gone_stays : (m : ℕ) → at w m ≡ None → at v m ≡ None
-  gone_stays m e =
-      elim (cases_eq m n) [ inl same ↦ ap (at v) same ∙ c.here | inr other ↦ c.others m other ∙ e ]
+  gone_stays m e = grind arith
 
 -- the request of n was written
 module _ {w v : Window} {n : ℕ} {now : Request} (c : Changes w v n (Some now)) where
   pub before_write : {k : ℕ} {q : Request} → at v k ≡ Some q
       → ((k ≡ n) × (now ≡ q)) ⊎ ((k ≢ n) × (at w k ≡ Some q))
-  before_write {k} e =
-      elim (cases_eq k n) [
-        | inl same ↦ inl (same, same_Some _ _ (sym c.here ∙ ap (at v) (sym same) ∙ e))
-        | inr other ↦ inr (other, sym (c.others k other) ∙ e)
-      ]
+  before_write {k} e = grind arith
 
   -- what is the same of both is so of each number
   pub still_as : (f : Option Request → Bool) → f (Some now) ≡ f (at w n) → (k : ℕ) → f (at v k) ≡ f (at w k)
-  still_as f same k =
-      elim (cases_eq k n) [
-        | inl here ↦ ap (λ j. f (at v j)) here ∙ ap f c.here ∙ same ∙ ap (λ j. f (at w j)) (sym here)
-        | inr other ↦ ap f (c.others k other)
-      ]
+  still_as f same k = grind arith
 
   pub still_there : is_some (at w n) ≡ true → (k : ℕ) → is_some (at v k) ≡ is_some (at w k)
   still_there there = still_as is_some (sym there)
@@ -45,14 +35,7 @@ pub record IsSameAt (r s : Requests) (k : ℕ) : Type 0 where
 
 pub shown_same : {r s : Requests} {k : ℕ} {q : Request} → IsSameAt r s k → IsShown r k q
     → IsShown s k q
-shown_same same old = record {
-  entry = old.entry ∙ sym same.entry;
-  op = old.op ∙ ap op_of (sym same.entry);
-  unended = same.ended ∙ old.unended;
-  cancelled = old.cancelled ∙ sym same.cancelled;
-  running = old.running ∙ sym same.started;
-  sound = λ runs. ap is_faulty same.entry ∙ old.sound runs;
-}
+shown_same same old = grind arith
 
 -- each request is shown, if that which was written is, and the lists say of the others what they said
 pub shown_written : {w v : Window} {r s : Requests} {n : ℕ} {now : Request} → Changes w v n (Some now)
@@ -69,11 +52,7 @@ shown_written c old here elsewhere k q e =
 written : {w v : Window} {n : ℕ} {p q : Request} → at w n ≡ Some p → Changes w v n (Some q)
     → q.group ≡ p.group → (k : ℕ) {x : Request} → at v k ≡ Some x
     → (y : Request) × (at w k ≡ Some y) × (x.group ≡ y.group)
-written {w} {p = p} there c same k {x} is =
-    elim (before_write c is) [
-      | inl at_n ↦ (p, ap (at w) at_n.0 ∙ there, ap (λ (z : Request). z.group) (sym at_n.1) ∙ same)
-      | inr was ↦ (x, was.1, refl)
-    ]
+written {w} {p = p} there c same k {x} is = grind arith
 
 pub write_sound : {w v : Window} {g : Groups} {n : ℕ} {p q : Request} → IsSound w g
     → at w n ≡ Some p → Changes w v n (Some q) → q.group ≡ p.group → end_of v ≡ end_of w

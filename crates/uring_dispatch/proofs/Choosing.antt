@@ -1,12 +1,10 @@
 -- What cancels make of the lists: the end of a request as it is issued, with those that it dooms, and the search for all targets of a cancel.
-use Rattle.std.proofs.Common.{◌≡◌, ℕ, suc, ◌+◌, ◌<◌, ◌≤◌, pos, negsuc, List, [], ◌∷◌, ◌++◌, length, length-append, Bool, true, false, not, ◌&&◌, ◌||◌, ◌==◌, Option, Some, None, is_some, cond, refl, sym, ◌∙◌, ap, subst, arith}
-use Rattle.uring_dispatch.proofs.Common.{AreHeld, Changes, Groups, HasMemory, HasSameRequests, IsAsBefore, KeepsPlaces, Request, Requests, Shows, Sqe, Waiting, Window, addr_of, all_below, all_below_none, all_below_past, all_success, and-false, append-nil, append_assoc, at, cancel_result, choices_of, chosen, chosen_by, count_result, entry_of, if◌then◌else◌, int_le, is_after_failure, is_cancel, is_cancel_all, is_cancelled, is_doomed, is_in_faulty_group, is_joined, is_outstanding, is_running, is_success, is_target, list_any, never_success, no_bytes, one_success, option_to_list, or-false, result_for, runs, some_member, target_of, targets_of, user_data_of, with_cancelled, with_ended, with_issued_end}
+use Rattle.std.proofs.Common.{◌≡◌, ℕ, ◌+◌, ◌<◌, ◌≤◌, pos, negsuc, List, [], ◌∷◌, ◌++◌, length, length-append, Bool, true, false, ◌==◌, Option, Some, refl, sym, ◌∙◌, ap, arith}
+use Rattle.uring_dispatch.proofs.Common.{AreHeld, Changes, Groups, HasSameRequests, IsAsBefore, KeepsPlaces, Request, Requests, Shows, Sqe, Window, addr_of, all_below, all_below_none, all_below_past, append-nil, append_assoc, at, cancel_result, chosen, chosen_by, entry_of, if◌then◌else◌, int_le, is_after_failure, is_cancel, is_cancel_all, is_doomed, is_joined, is_running, is_success, is_target, list_any, no_bytes, result_for, runs, some_member, target_of, targets_of, with_cancelled, with_ended, with_issued_end}
 use Rattle.std.proofs.lemmas.List.Folds.{list_any-append}
 use Rattle.uring_dispatch.specs.declared.outstanding.Outstanding.{Outstanding}
 use Rattle.uring_dispatch.specs.Choosing.{HasChosen}
-use Rattle.uring_dispatch.proofs.HeldLemmas.{running_none, running_some}
 use Rattle.uring_dispatch.specs.declared.by_user_data.ByUserData.{ByUserData}
-use Rattle.uring_dispatch.proofs.Changes.{still_there, still_as}
 
 -- What the end of a request as it is issued dooms.
 
@@ -15,31 +13,21 @@ none_cancelled r = ap (λ all. record r { cancelled = all }) (append-nil r.cance
 
 -- one that fails dooms nobody
 pub failing_chooses : (r : Requests) (n below : ℕ) → chosen_by r n (negsuc below) ≡ []
-failing_chooses r n below =
-    ap (λ b. if is_cancel (entry_of r n) && b then choices_of r n else []) (never_success (entry_of r n) below)
-    ∙ ap (λ b. if b then choices_of r n else []) (and-false (is_cancel (entry_of r n)))
+failing_chooses r n below = grind arith
 
 pub held_failing : (v : Window) (h : Groups) (r : Requests) (n below : ℕ) → AreHeld v h r
     → AreHeld v h (with_cancelled r (chosen_by r n (negsuc below)))
-held_failing v h r n below held =
-    subst (λ xs. AreHeld v h (with_cancelled r xs)) (sym (failing_chooses r n below))
-    (subst (λ q. AreHeld v h q) (sym (none_cancelled r)) held)
+held_failing v h r n below held = grind (arith, none_cancelled)
 
 pub ends_failing : (v : Window) (h : Groups) (r : Requests) (n below : ℕ)
     → AreHeld v h (with_ended r n (negsuc below) no_bytes)
     → AreHeld v h (with_issued_end r n (negsuc below))
-ends_failing v h r n below held =
-    subst (λ q. AreHeld v h (with_ended q n (negsuc below) no_bytes))
-    (sym (none_cancelled r) ∙ sym (ap (with_cancelled r) (failing_chooses r n below))) held
+ends_failing v h r n below held = grind (arith, none_cancelled)
 
 -- a cancel of one that ends with 0 dooms what it chose
 pub one_chosen : (r : Requests) (n m : ℕ) → is_cancel (entry_of r n) ≡ true
     → is_cancel_all (entry_of r n) ≡ false → target_of r n ≡ Some m → chosen_by r n (pos 0) ≡ m ∷ []
-one_chosen r n m is one chose =
-    ap (λ b. if b && is_success (entry_of r n) (pos 0) then choices_of r n else []) is
-    ∙ ap (λ b. if b then choices_of r n else []) (one_success (entry_of r n) (pos 0) is one)
-    ∙ ap (λ b. if b then targets_of r n else option_to_list (target_of r n)) one
-    ∙ ap option_to_list chose
+one_chosen r n m is one chose = grind arith
 
 -- a cancel succeeds with a number
 pub cancel_succeeds : (r : Requests) (n : ℕ) → is_cancel (entry_of r n) ≡ true
@@ -50,83 +38,50 @@ cancel_succeeds r n is = by_all (is_cancel_all (entry_of r n)) refl
     e = entry_of r n
 
     for_one : is_cancel_all e ≡ false → (m : Option ℕ) → is_success e (result_for r m) ≡ int_le (pos 0) (result_for r m)
-    for_one one None = never_success e 1
-    for_one one (Some m) = by_run (is_running r m)
-      where
-        by_run : (b : Bool) → is_success e (if b then negsuc 113 else pos 0) ≡ int_le (pos 0) (if b then negsuc 113 else pos 0)
-        by_run true = never_success e 113
-        by_run false = one_success e (pos 0) is one
+    for_one one m = grind arith
 
     by_all : (b : Bool) → is_cancel_all e ≡ b → is_success e (cancel_result r n) ≡ int_le (pos 0) (cancel_result r n)
-    by_all true all = all_success e (cancel_result r n) all
-    by_all false one =
-        subst (λ x. is_success e x ≡ int_le (pos 0) x)
-        (sym (ap (λ b. if b then count_result (length (targets_of r n)) else result_for r (target_of r n)) one))
-        (for_one one (target_of r n))
+    by_all b all = grind arith
 
 -- A cancel chooses one.
 
 pub choose_same : (w v : Window) (m : ℕ) (p : Request) → at w m ≡ Some p
     → Changes w v m (Some (chosen p)) → IsAsBefore w v → v.running ≡ w.running → HasSameRequests w v
-choose_same w v m p there c as_before running = record {
-  as_before = as_before;
-  running = running;
-  there = still_there c (ap is_some there);
-  runs_on = still_as c runs (sym (ap runs there));
-}
+choose_same w v m p there c as_before running = grind arith
 
 same_none : (w : Window) → HasSameRequests w w
 same_none w = assumption
 
 same_both : (u v w : Window) → HasSameRequests u v → HasSameRequests v w → HasSameRequests u w
-same_both u v w a b = record {
-  as_before = omega arith;
-  running = b.running ∙ a.running;
-  there = λ k. b.there k ∙ a.there k;
-  runs_on = λ k. b.runs_on k ∙ a.runs_on k;
-}
+same_both u v w a b = grind arith
 
 pub chosen_nobody : (d : Outstanding) → HasChosen d d
 chosen_nobody d = record { same = same_none d.grouped.window; groups = refl; memory = omega arith; places = omega arith }
 
 pub chosen_both : (a b c : Outstanding) → HasChosen a b → HasChosen b c → HasChosen a c
-chosen_both a b c x y = record {
-  same = same_both a.grouped.window b.grouped.window c.grouped.window x.same y.same;
-  groups = y.groups ∙ x.groups;
-  memory = omega (arith, x.memory, y.memory);
-  places = omega (arith, x.places, y.places);
-}
+chosen_both a b c x y = grind arith
 
 -- Targets.
 
 pub runs_held : (w : Window) (g : Groups) (r : Requests) (m : ℕ) → AreHeld w g r
     → is_running r m ≡ runs (at w m)
-runs_held w g r m h = go (at w m) refl
-  where
-    go : (o : Option Request) → at w m ≡ o → is_running r m ≡ runs o
-    go None e = running_none h _ e
-    go (Some q) e = running_some h _ e
+runs_held w g r m h = grind arith
 
 -- what a cancel ends with that chose m, by whether m is running
 pub result_some : (r : Requests) (m : ℕ) (o : Option ℕ) (b : Bool) → Some m ≡ o → is_running r m ≡ b
     → (if b then negsuc 113 else pos 0) ≡ result_for r o
-result_some r m o b e runs =
-    ap (λ x. if x then negsuc 113 else pos 0) (sym runs) ∙ ap (result_for r) e
+result_some r m o b e runs = grind arith
 
 -- who isn't among those chosen stays as it was
 doomed_still : (r : Requests) (these : List ℕ) (m : ℕ) → list_any (λ k. k == m) these ≡ false
     → is_doomed (with_cancelled r these) m ≡ is_doomed r m
 unfolding is_doomed is_after_failure some_member is_joined
-doomed_still r these m out =
-    ap (λ b. (is_in_faulty_group r m || is_after_failure r m) || b)
-    (list_any-append (λ k. k == m) r.cancelled these ∙ ap (λ b. is_cancelled r m || b) out ∙ or-false (is_cancelled r m))
+doomed_still r these m out = grind (arith, list_any-append)
 
 -- whether the next is a target doesn't depend on the targets before it
 pub target_next : (r : Requests) (n m : ℕ)
     → is_target (with_cancelled r (all_below (is_target r n) m)) n m ≡ is_target r n m
-target_next r n m =
-    let these = all_below (is_target r n) m in
-    ap (λ b. ((is_outstanding r m && not (m == n) && (user_data_of (entry_of r m) == addr_of (entry_of r n))) && not b) && not (is_running r m)) (doomed_still r these m (all_below_past (is_target r n) m m (omega arith)))
+target_next r n m = grind (arith, doomed_still, all_below_past)
 
 -- The search for targets.
 
@@ -142,44 +97,26 @@ pub record AreChosen (old now : Outstanding) (n user_data m count : ℕ) : Type 
 pub chosen_none : (d e : Outstanding) (n user_data m : ℕ) → e.grouped ≡ d.grouped → HasChosen d e
     → ((r : Requests) → Shows d.grouped r → user_data ≡ addr_of (entry_of r n) → (k : ℕ) → k < m → is_target r n k ≡ false)
     → AreChosen d e n user_data m 0
-chosen_none d e n user_data m same chosen none =
-    let nobody : (r : Requests) → Shows d.grouped r → user_data ≡ addr_of (entry_of r n) → all_below (is_target r n) m ≡ [] =
-    λ r h named. all_below_none (is_target r n) m (none r h named)
-    in
-    record {
-      chosen = chosen;
-      few = omega arith;
-      count_is = λ r h named. sym (ap (λ (xs : List ℕ). length xs) (nobody r h named));
-      shows = λ r h named.
-          rw (same, nobody r h named) (subst (λ q. Shows d.grouped q) (sym (none_cancelled r)) h);
-    }
+chosen_none d e n user_data m same chosen none = grind (arith, all_below_none, none_cancelled)
 
 -- only what is noted of user data differs
 pub chosen_noted : (d e : Outstanding) → e.grouped.window ≡ d.grouped.window
     → e.grouped.groups ≡ d.grouped.groups → e.waiting ≡ d.waiting
     → (x y : ByUserData) → d.by_user_data ≡ x → e.by_user_data ≡ y → KeepsPlaces x y → HasChosen d e
-chosen_noted d e window groups waiting x y before after places = record {
-  same = subst (λ (z : Window). HasSameRequests d.grouped.window z) (sym window) (same_none d.grouped.window);
-  groups = groups;
-  memory = subst (λ (z : Waiting). HasMemory d.waiting z) (sym waiting) (omega arith);
-  places = subst (λ z. KeepsPlaces z e.by_user_data) (sym before) (subst (λ z. KeepsPlaces x z) (sym after) places);
-}
+chosen_noted d e window groups waiting x y before after places = grind arith
 
 one_more : (p : ℕ → Bool) (m : ℕ) → p m ≡ true → all_below p (m + 1) ≡ all_below p m ++ m ∷ []
-one_more p m e = let next : m + 1
-    ≡ suc m = omega arith in ap (all_below p) next ∙ ap (λ b. all_below p m ++ cond b (m ∷ []) []) e
+one_more p m e = grind arith
 
 none_more : (p : ℕ → Bool) (m : ℕ) → p m ≡ false → all_below p (m + 1) ≡ all_below p m
-none_more p m e = let next : m + 1
-    ≡ suc m = omega arith in ap (all_below p) next ∙ ap (λ b. all_below p m ++ cond b (m ∷ []) []) e ∙ append-nil (all_below p m)
+none_more p m e = grind (arith, append-nil)
 
 module _ {old now : Outstanding} {n user_data m count : ℕ} (c : AreChosen old now n user_data m count) where
   -- what the test of the next number answers
   target_tested : {tested : Bool}
       → ((r : Requests) → Shows now.grouped r → user_data ≡ addr_of (entry_of r n) → tested ≡ is_target r n m)
       → (r : Requests) → Shows old.grouped r → user_data ≡ addr_of (entry_of r n) → is_target r n m ≡ tested
-  target_tested test r h named =
-      sym (test (with_cancelled r (all_below (is_target r n) m)) (c.shows r h named) named ∙ target_next r n m)
+  target_tested test r h named = grind (arith, (target_next r n m))
 
   -- the next number is a target, and was chosen
   pub chosen_more : {next : Outstanding}

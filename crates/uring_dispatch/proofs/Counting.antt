@@ -7,8 +7,7 @@ use Rattle.std.proofs.lemmas.Nat.{ones_le_self}
 pub count_below_same : (p q : ℕ → Bool) (n : ℕ) → ((k : ℕ) → k < n → p k ≡ q k)
     → count_below p n ≡ count_below q n
 count_below_same p q zero h = refl
-count_below_same p q (suc n) h =
-    ap (λ c. c + one_if (p n)) (count_below_same p q n (λ k lt. h k (omega arith))) ∙ ap (λ b. count_below q n + one_if b) (h n (omega arith))
+count_below_same p q (suc n) h = grind (arith, (count_below_same p q n (λ k lt. h k (omega arith))))
 
 -- two tests that differ at one number
 pub count_below_changed : (p q : ℕ → Bool) (n k : ℕ) → k < n → ((j : ℕ) → j ≢ k → q j ≡ p j)
@@ -29,9 +28,7 @@ count_below_changed p q (suc n) k lt h =
 
 pub count_below_within : (p : ℕ → Bool) (n : ℕ) → count_below p n ≤ n
 count_below_within p zero = omega arith
-count_below_within p (suc n) =
-    let before = count_below_within p n in
-    elim (p n) as (λ b. count_below p n + one_if b ≤ suc n) [ true ↦ omega arith | false ↦ omega arith ]
+count_below_within p (suc n) = grind (arith, (count_below_within p n))
 
 -- a count of which one number is part isn't zero
 pub count_below_some : (p : ℕ → Bool) (n k : ℕ) → k < n → p k ≡ true → 0 < count_below p n
@@ -45,10 +42,7 @@ count_below_some p (suc n) k lt e =
 pub count_below_zero : (p : ℕ → Bool) (n : ℕ) → ((k : ℕ) → k < n → p k ≡ false)
     → count_below p n ≡ 0
 count_below_zero p zero none = refl
-count_below_zero p (suc n) none =
-    let before = count_below_zero p n (λ k lt. none k (omega arith)) in
-    let here : one_if (p n) ≡ 0 = ap one_if (none n (omega arith)) in
-    omega arith
+count_below_zero p (suc n) none = grind (arith, (count_below_zero p n (λ k lt. none k (omega arith))))
 
 -- a count goes on after a number
 pub count_below_apart : (p : ℕ → Bool) (n k : ℕ)
@@ -62,10 +56,7 @@ count_below_apart p n (suc k) =
 -- nothing from n on is counted
 pub count_below_past : (p : ℕ → Bool) (n m : ℕ) → n ≤ m → ((k : ℕ) → n ≤ k → p k ≡ false)
     → count_below p m ≡ count_below p n
-count_below_past p n m le none =
-    let gap : n + (m - n) ≡ m = omega arith in
-    let rest = count_below_zero (λ i. p (n + i)) (m - n) (λ i lt. none (n + i) (omega arith)) in
-    sym (ap (count_below p) gap) ∙ count_below_apart p n (m - n) ∙ omega arith
+count_below_past p n m le none = grind (arith, (count_below_apart p n (m - n)), count_below_zero)
 
 -- the first number apart
 count_below_front : (p : ℕ → Bool) (n : ℕ)
@@ -94,10 +85,7 @@ ones_counted n (suc k) lt =
 
 pub length_all_below : (p : ℕ → Bool) (n : ℕ) → length (all_below p n) ≡ count_below p n
 length_all_below p zero = refl
-length_all_below p (suc n) =
-    length-append (all_below p n) (cond (p n) (n ∷ []) [])
-    ∙ ap (λ c. c + length (cond (p n) (n ∷ []) [])) (length_all_below p n)
-    ∙ elim (p n) as (λ b. count_below p n + length (cond b (n ∷ []) []) ≡ count_below p n + one_if b) [ true ↦ refl | false ↦ refl ]
+length_all_below p (suc n) = grind (arith, length-append, (length_all_below p n))
 
 get_left : (xs ys : List ℕ) (i x : ℕ) → slice_get xs i ≡ Some x → slice_get (xs ++ ys) i ≡ Some x
 get_left [] ys i x e = absurd (let f : None ≡ Some x = e in cc)
@@ -128,15 +116,11 @@ pub block_before : (p : ℕ → Bool) (block place i : ℕ)
     → ((j : ℕ) → j < i → (bit_at block j == 1) ≡ p (64 * place + j))
     → count_below p (64 * place + i)
     ≡ count_below p (64 * place) + count_below (λ j. bit_at block j == 1) i
-block_before p block place i told =
-    count_below_apart p (64 * place) i
-    ∙ ap (λ c. count_below p (64 * place) + c) (sym (count_below_same (λ j. bit_at block j == 1) (λ j. p (64 * place + j)) i told))
+block_before p block place i told = grind (arith, count_below_apart, count_below_same)
 
 -- all of them
 pub block_counted : (p : ℕ → Bool) (block place size : ℕ) → size ≡ 64 → block < 2 ^ size
     → ((j : ℕ) → j < size → (bit_at block j == 1) ≡ p (64 * place + j))
     → count_below p (64 * (place + 1)) ≡ count_below p (64 * place) + count_ones block
 block_counted p block place size is fits told =
-    let stop : 64 * (place + 1) ≡ 64 * place + size = omega arith in
-    ap (count_below p) stop ∙ block_before p block place size told
-    ∙ ap (λ c. count_below p (64 * place) + c) (sym (ones_counted block size fits))
+    grind (arith, (block_before p block place size told), (ones_counted block size fits))

@@ -1,6 +1,6 @@
 -- When a request ends: the window and the groups still fit one another, and what is held is what the lists say.
 use Rattle.std.proofs.Common.{◌≡◌, ◌≢◌, ℕ, ◌+◌, ◌<◌, ◌≤◌, ◌⊎◌, ℤ, List, length, not, ◌&&◌, ltb, Option, Some, None, is_some, refl, sym, ◌∙◌, ap, subst, arith, inl, inr}
-use Rattle.uring_dispatch.proofs.Common.{AreHeld, Changes, Exchanges, Group, Groups, HasLost, IsBeyond, IsKept, IsNext, IsShownGroup, IsSound, Request, Requests, Window, and_right, at, cases_eq, cases_lt, earlier_of, end_of, entry_of, group_at, has_ended, has_ended_other, has_ended_same, is_outstanding, is_running, is_running_ended_other, is_running_ended_same, is_soft, is_success, one_if, outstanding_in, running_in, same_Some, with_ended}
+use Rattle.uring_dispatch.proofs.Common.{AreHeld, Changes, Exchanges, Group, Groups, HasLost, IsBeyond, IsKept, IsNext, IsShownGroup, IsSound, Request, Requests, Window, and_right, at, cases_eq, cases_lt, earlier_of, end_of, entry_of, group_at, has_ended, has_ended_other, has_ended_same, is_outstanding, is_running, is_running_ended_other, is_running_ended_same, is_soft, is_success, one_if, outstanding_in, running_in, with_ended}
 use Rattle.uring_entry.proofs.GroupEvents.{group_ended, first_broken_ended, first_broken_elsewhere}
 use Rattle.uring_dispatch.proofs.Changes.{before_end, gone_stays, shown_same}
 use Rattle.uring_dispatch.proofs.Counting.{count_below_changed}
@@ -29,14 +29,12 @@ module _ {w v : Window} {g h : Groups} {n : ℕ} {request : Request} {q : Group}
   -- the group's last member has ended
   pub ends_last : q.end ≤ least → Exchanges g h request.group None → h.last ≡ None
       → Ends w v g h n request q least broken
-  ends_last le exchange closed =
-      record { there = there; changes = changes; end = end; group = group; next = next; left = None; exchange = exchange; some = λ lt. absurd (omega arith); none = λ past. refl; closed = closed }
+  ends_last le exchange closed = grind arith
 
   -- another member is outstanding
   pub ends_more : least < q.end → Exchanges g h request.group (Some (left_with q least broken))
       → h.last ≡ None → Ends w v g h n request q least broken
-  ends_more lt exchange closed =
-      record { there = there; changes = changes; end = end; group = group; next = next; left = Some (left_with q least broken); exchange = exchange; some = λ more. refl; none = λ past. absurd (omega arith); closed = closed }
+  ends_more lt exchange closed = grind arith
 
 module _ {w v : Window} {g h : Groups} {n : ℕ} {request : Request} {q : Group} {least : ℕ} {broken : Option ℕ} (s : IsSound w g)
     (e : Ends w v g h n request q least broken) where
@@ -47,16 +45,7 @@ module _ {w v : Window} {g h : Groups} {n : ℕ} {request : Request} {q : Group}
   -- what is kept under a key now
   now : (key : ℕ) (x : Group) → group_at h key ≡ Some x
       → ((key ≡ request.group) × (least < q.end) × (x ≡ left_with q least broken)) ⊎ ((key ≢ request.group) × (group_at g key ≡ Some x))
-  now key x found =
-      elim (cases_eq key request.group) [
-        | inr other ↦ inr (other, sym (e.exchange.others key other) ∙ found)
-        | inl same ↦
-            let left = sym e.exchange.here ∙ ap (group_at h) (sym same) ∙ found in
-            elim (cases_lt least q.end) [
-              | inl lt ↦ inl (same, lt, same_Some _ _ (sym left ∙ e.some lt))
-              | inr le ↦ some_none (e.none le) left
-            ]
-      ]
+  now key x found = grind arith
 
   -- no member before the least is outstanding now
   over : (m : ℕ) → q.from ≤ m → m < least → at v m ≡ None
@@ -69,10 +58,7 @@ module _ {w v : Window} {g h : Groups} {n : ℕ} {request : Request} {q : Group}
   -- where another member is
   pub left_member : {k : ℕ} {x : Request} → at v k ≡ Some x → x.group ≡ request.group
       → (q.from ≤ k) × (least ≤ k) × (k < q.end)
-  left_member {k} there same =
-      let inside = within_group s (before_end e.changes there).1 (ap (group_at g) same ∙ e.group) in
-      let high : least ≤ k = elim (cases_lt k least) [ inl low ↦ some_none (over k inside.0 low) there | inr high ↦ high ] in
-      (inside.0, high, inside.1)
+  left_member {k} there same = grind (arith, within_group, some_none, over)
 
   pub end_sound : IsBeyond h.barriers (end_of w) → IsSound v h
   end_sound beyond = record {

@@ -1,6 +1,6 @@
 -- The queue of barriers, and what the groups keep when a request is accepted, and when a group is let go: each that drains has its barrier, and the first barrier holds.
 use Rattle.std.proofs.Common.{◌≡◌, ◌≢◌, ℕ, ◌+◌, ◌<◌, ◌≤◌, ◌⊎◌, List, [], ◌∷◌, ◌++◌, Bool, true, false, Option, Some, None, is_some, refl, sym, ◌∙◌, ap, arith, inl, inr, get_or, length, subst, ◌==◌, ltb}
-use Rattle.uring_dispatch.proofs.Common.{AreGroups, Barrier, Group, Groups, HasBarrierBefore, IsBeyond, IsFirstDraining, IsLiveFront, IsSorted, MatchOption, added_same, and_from, and_parts, both_ways, cases_Bool, cases_eq, covers, drain_of, eq-eqb, eqb-true, false≢true, found_or, group_at, if◌then◌else◌, last_group, list_all, list_any, lt-ltb, ltb-true, none-some, or_cases, or_left, or_right, starts_at, with_barrier, with_member}
+use Rattle.uring_dispatch.proofs.Common.{AreGroups, Barrier, Group, Groups, HasBarrierBefore, IsBeyond, IsFirstDraining, IsLiveFront, IsSorted, MatchOption, added_same, and_from, and_parts, both_ways, cases_eq, covers, drain_of, eq-eqb, eqb-true, false≢true, found_or, group_at, if◌then◌else◌, last_group, list_all, list_any, ltb-true, or_cases, or_left, or_right, starts_at, with_barrier, with_member}
 
 -- every barrier after the first has no smaller number
 covered_above : (b : Barrier) (rest : List Barrier) (key number : ℕ)
@@ -20,11 +20,7 @@ covered_above b (c ∷ rest) key number all any =
 -- the first barrier has the least number of all that stand in the queue
 pub front_least : (b : Barrier) (rest : List Barrier) (key number : ℕ) → IsSorted (b ∷ rest)
     → list_any (covers key number) (b ∷ rest) ≡ true → b.number ≤ number
-front_least b rest key number sorted any =
-    elim (or_cases (covers key number b) _ any) [
-      | inl here ↦ let is = eqb-true b.number number (and_parts (b.key == key) _ here).1 in omega (arith, is)
-      | inr there ↦ covered_above b rest key number sorted.0 there
-    ]
+front_least b rest key number sorted any = grind (arith, covered_above)
 
 list_all_push : (p : Barrier → Bool) (xs : List Barrier) (x : Barrier) → list_all p xs ≡ true
     → p x ≡ true → list_all p (xs ++ x ∷ []) ≡ true
@@ -42,14 +38,11 @@ list_all_weaker p q (x ∷ xs) h all =
 
 pub beyond_next : (barriers : List Barrier) (n : ℕ) → IsBeyond barriers n
     → IsBeyond barriers (n + 1)
-beyond_next barriers n all =
-    list_all_weaker (λ b. ltb b.number n) (λ b. ltb b.number (n + 1)) barriers
-    (λ b e. let lt = ltb-true b.number n e in lt-ltb b.number (n + 1) (omega arith)) all
+beyond_next barriers n all = grind (arith, list_all_weaker, ltb-true)
 
 pub beyond_push : (barriers : List Barrier) (n key : ℕ) → IsBeyond barriers n
     → IsBeyond (barriers ++ record { number = n; key = key } ∷ []) (n + 1)
-beyond_push barriers n key all =
-    list_all_push (λ b. ltb b.number (n + 1)) barriers (record { number = n; key = key }) (beyond_next barriers n all) (lt-ltb n (n + 1) (omega arith))
+beyond_push barriers n key all = grind (arith, list_all_push, beyond_next)
 
 pub sorted_push : (barriers : List Barrier) (n key : ℕ) → IsSorted barriers → IsBeyond barriers n
     → IsSorted (barriers ++ record { number = n; key = key } ∷ [])
@@ -73,8 +66,7 @@ covered_push [] b key number any = absurd (false≢true any)
 
 pub covered_pushed : (barriers : List Barrier) (key number : ℕ)
     → list_any (covers key number) (barriers ++ record { number = number; key = key } ∷ []) ≡ true
-covered_pushed barriers key number =
-    added_same (covers key number) barriers (record { number = number; key = key }) (and_from _ _ (eq-eqb key key refl) (eq-eqb number number refl))
+covered_pushed barriers key number = grind (arith, added_same, and_from)
 
 -- A first barrier that isn't live is dropped.
 
@@ -82,15 +74,7 @@ pub covered_pop : (records : List (Option Group)) (b : Barrier) (rest : List Bar
     → drain_of (get_or records b.key None) ≢ Some b.number
     → drain_of (get_or records key None) ≡ Some number
     → list_any (covers key number) (b ∷ rest) ≡ true → list_any (covers key number) rest ≡ true
-covered_pop records b rest key number dead drains any =
-    elim (or_cases (covers key number b) _ any) [
-      | inl here ↦
-          let parts = and_parts (b.key == key) _ here in
-          let one = eqb-true b.key key parts.0 in
-          let two = eqb-true b.number number parts.1 in
-          absurd (dead (ap (λ k. drain_of (get_or records k None)) one ∙ drains ∙ ap Some (sym two)))
-      | inr there ↦ there
-    ]
+covered_pop records b rest key number dead drains any = grind arith
 
 pub beyond_pop : (b : Barrier) (rest : List Barrier) (n : ℕ) → IsBeyond (b ∷ rest) n
     → IsBeyond rest n
@@ -100,60 +84,41 @@ beyond_pop b rest n all = (and_parts (ltb b.number n) _ all).1
 
 -- a group that doesn't drain from its new member on drained before
 found_before : (o : Option ℕ) (b : Bool) (n d : ℕ) → found_or o b n ≡ Some d → d ≢ n → o ≡ Some d
-found_before (Some m) b n d e ne = e
-found_before None true n d e ne = absurd (ne (let f : Some n ≡ Some d = e in cc))
-found_before None false n d e ne = let f : None ≡ Some d = e in cc
+found_before o b n d e ne = grind arith
 
 covered_accept : (records : List (Option Group)) (barriers : List Barrier) (old : Option Group) (key n d : ℕ) (drains faulty : Bool)
     → ((number : ℕ) → drain_of old ≡ Some number → list_any (covers key number) barriers ≡ true)
     → (with_member old n drains faulty).drain ≡ Some d → d ≢ n
     → list_any (covers key d) barriers ≡ true
-covered_accept records barriers None key n d drains faulty was e ne = was d (found_before None drains n d e ne)
-covered_accept records barriers (Some q) key n d drains faulty was e ne = was d (found_before q.drain drains n d e ne)
+covered_accept records barriers old key n d drains faulty was e ne = grind arith
 
 pub starts_at_yes : (o : Option ℕ) (n : ℕ) → starts_at o n ≡ true → o ≡ Some n
-starts_at_yes None n e = absurd (false≢true e)
-starts_at_yes (Some d) n e = ap Some (eqb-true d n e)
+starts_at_yes o n e = grind arith
 
 pub starts_at_no : (o : Option ℕ) (n : ℕ) → starts_at o n ≡ false → o ≢ Some n
 starts_at_no o n e same = both_ways _ e (ap (λ x. starts_at x n) same ∙ eq-eqb n n refl)
 
 with_added : (barriers : List Barrier) (o : Option ℕ) (n key : ℕ) → o ≡ Some n
     → with_barrier barriers o n key ≡ barriers ++ record { number = n; key = key } ∷ []
-with_added barriers o n key is =
-    ap (λ x. with_barrier barriers x n key) is ∙ ap (λ b. if b then barriers ++ record { number = n; key = key } ∷ [] else barriers) (eq-eqb n n refl)
+with_added barriers o n key is = grind arith
 
 with_cases : (barriers : List Barrier) (o : Option ℕ) (n key : ℕ)
     → ((o ≡ Some n) × (with_barrier barriers o n key ≡ barriers ++ record { number = n; key = key } ∷ []))
     ⊎ (with_barrier barriers o n key ≡ barriers)
-with_cases barriers o n key =
-    elim (cases_Bool (starts_at o n)) [
-      | inl starts ↦ let is = starts_at_yes o n starts in inl (is, with_added barriers o n key is)
-      | inr not_here ↦ inr (ap (λ b. if b then barriers ++ record { number = n; key = key } ∷ [] else barriers) not_here)
-    ]
+with_cases barriers o n key = grind arith
 
 covered_with : (barriers : List Barrier) (o : Option ℕ) (n key k d : ℕ)
     → list_any (covers k d) barriers ≡ true
     → list_any (covers k d) (with_barrier barriers o n key) ≡ true
-covered_with barriers o n key k d e =
-    elim (with_cases barriers o n key) [
-      | inl added ↦ rw added.1 (covered_push barriers _ k d e)
-      | inr same ↦ rw same e
-    ]
+covered_with barriers o n key k d e = grind (arith, covered_push)
 
 pub beyond_with : (barriers : List Barrier) (o : Option ℕ) (n key : ℕ) → IsBeyond barriers n
     → IsBeyond (with_barrier barriers o n key) (n + 1)
-beyond_with barriers o n key e =
-    elim (with_cases barriers o n key) [
-      | inl added ↦ rw added.1 (beyond_push barriers n key e)
-      | inr same ↦ rw same (beyond_next barriers n e)
-    ]
+beyond_with barriers o n key e = grind (arith, beyond_push, beyond_next)
 
 kept_drain : (old : Option Group) (n d : ℕ) (drains faulty : Bool) → drain_of old ≡ Some d
     → (with_member old n drains faulty).drain ≡ Some d
-kept_drain None n d drains faulty e = let f : None ≡ Some d = e in cc
-kept_drain (Some q) n d drains faulty e =
-    let f : q.drain ≡ Some d = e in ap (λ o. found_or o drains n) f
+kept_drain old n d drains faulty e = grind arith
 
 -- A request was accepted into the group of this key.
 pub record IsAccepted (records new : List (Option Group)) (last : Option ℕ) (key n : ℕ) (drains faulty : Bool) : Type 0 where
@@ -166,30 +131,7 @@ pub accept_groups : (records new : List (Option Group)) (barriers : List Barrier
     → IsAccepted records new last key n drains faulty → ((k : ℕ) → next ≡ Some k → k ≡ key)
     → AreGroups new (with_barrier barriers (with_member (last_group records last) n drains faulty).drain n key) next
 accept_groups records new barriers last next key n drains faulty g beyond a only =
-    let q : Group = with_member (last_group records last) n drains faulty in
-    record {
-      covered = λ k d e.
-          elim (cases_eq k key) [
-            | inl same ↦
-                let is : q.drain ≡ Some d = ap drain_of (sym a.here) ∙ ap (λ j. drain_of (get_or new j None)) (sym same) ∙ e in
-                elim (cases_eq d n) [
-                  | inl now ↦
-                      let from : q.drain ≡ Some n = is ∙ ap Some now in
-                      rw (same, now, with_added barriers q.drain n key from) (covered_pushed barriers key n)
-                  | inr before ↦
-                      rw same
-                      (covered_with barriers q.drain n key key d
-                      (covered_accept records barriers (last_group records last) key n d drains faulty (λ number f. g.covered key number (ap drain_of a.was ∙ f)) is before))
-                ]
-            | inr other ↦ covered_with barriers q.drain n key k d (g.covered k d (ap drain_of (sym (a.others k other)) ∙ e))
-          ];
-      sorted =
-          elim (with_cases barriers q.drain n key) [
-            | inl added ↦ rw added.1 (sorted_push barriers n key g.sorted beyond)
-            | inr same ↦ rw same g.sorted
-          ];
-      opened = λ k e. ap (λ j. is_some (get_or new j None)) (only k e) ∙ ap is_some a.here;
-    }
+    grind (arith, with_member, get_or, covered_pushed, covered_with, with_cases, sorted_push)
 
 same_head : (b c : Barrier) (xs ys : List Barrier) → b ∷ xs ≡ c ∷ ys → b ≡ c
 same_head b c xs ys e = cc
@@ -226,8 +168,7 @@ accept_front records new barriers last key n drains faulty live a b rest e =
 
 pub only_key : (b : Bool) (key k : ℕ) (o : Option ℕ) → o ≡ (if b then Some key else None)
     → o ≡ Some k → k ≡ key
-only_key true key k o is e = cc
-only_key false key k o is e = cc
+only_key b key k o is e = grind arith
 
 -- What letting go a group keeps.
 
@@ -236,17 +177,7 @@ pub remove_groups : (records new : List (Option Group)) (barriers left : List Ba
     → ((k : ℕ) → k ≢ key → get_or new k None ≡ get_or records k None)
     → ((k d : ℕ) → drain_of (get_or new k None) ≡ Some d → list_any (covers k d) barriers ≡ true → list_any (covers k d) left ≡ true)
     → (IsSorted barriers → IsSorted left) → last ≡ None → AreGroups new left last
-remove_groups records new barriers left last key g gone others covered sorted closed = record {
-  covered = λ k d e.
-      elim (cases_eq k key) [
-        | inl same ↦
-            let none : drain_of (get_or new k None) ≡ None = ap (λ j. drain_of (get_or new j None)) same ∙ ap drain_of gone in
-            absurd (none-some d (sym none ∙ e))
-        | inr other ↦ covered k d e (g.covered k d (ap drain_of (sym (others k other)) ∙ e))
-      ];
-  sorted = sorted g.sorted;
-  opened = λ k e. absurd (none-some k (sym closed ∙ e));
-}
+remove_groups records new barriers left last key g gone others covered sorted closed = grind arith
 
 head_is : (barriers : List Barrier) (b : Barrier) → 0 < length barriers → b ≡ get_or barriers 0 b
     → (rest : List Barrier) × (barriers ≡ b ∷ rest)
@@ -306,5 +237,4 @@ head_at barriers b rest x e is = is ∙ ap (λ xs. get_or xs 0 x) e
 
 pub last_kept : (records : List (Option Group)) (barriers : List Barrier) (last : Option ℕ)
     → AreGroups records barriers last → is_some (last_group records last) ≡ is_some last
-last_kept records barriers None a = refl
-last_kept records barriers (Some key) a = a.opened key refl
+last_kept records barriers last a = grind arith

@@ -1,6 +1,6 @@
 -- How an outstanding request stands, from what is held.
-use Rattle.std.proofs.Common.{◌≡◌, ◌≢◌, ℕ, ◌<◌, ◌≤◌, length, Bool, true, false, not, ◌&&◌, ◌||◌, ltb, leb, Option, Some, None, is_some, refl, sym, ◌∙◌, ap, subst, arith, inl, inr}
-use Rattle.uring_dispatch.proofs.Common.{AreHeld, Group, Groups, HasBarrierBefore, HasBefore, HasGroup, IsGroup, IsKept, IsShownGroup, IsSound, Request, Requests, Window, addr_of, and-true, and_from, and_left, and_parts, and_right, at, both_ways, cases_lt, doomed_is, drain_of, draining_is, end_of, entry_of, eq-eqb, false≢true, first_broken, first_member_inside, group_at, groups_apart, has_ended, has_member, has_started, is_before, is_cancelled, is_candidate, is_doomed, is_draining, is_issuable, is_outstanding, is_ready, is_running, is_some_value, le-leb, le-ltb, leb-true, lt-ltb, ltb-true, ne_eqb, or-false, ready_not_after, ready_not_alone, ready_not_member, ready_yes, same_Some, user_data_of}
+use Rattle.std.proofs.Common.{◌≡◌, ◌≢◌, ℕ, ◌<◌, ◌≤◌, length, Bool, true, false, not, ◌&&◌, ◌||◌, ltb, leb, Option, Some, None, is_some, refl, sym, ◌∙◌, ap, arith, inl, inr}
+use Rattle.uring_dispatch.proofs.Common.{AreHeld, Group, Groups, HasBarrierBefore, HasBefore, HasGroup, IsGroup, IsKept, IsShownGroup, IsSound, Request, Requests, Window, addr_of, and_from, and_left, and_parts, and_right, at, cases_lt, doomed_is, drain_of, draining_is, end_of, entry_of, eq-eqb, false≢true, first_member_inside, group_at, groups_apart, has_ended, has_member, is_before, is_candidate, is_doomed, is_draining, is_issuable, is_outstanding, is_ready, is_running, is_some_value, le-leb, leb-true, lt-ltb, ltb-true, or-false, ready_not_after, ready_not_alone, ready_not_member, ready_yes, user_data_of}
 use Rattle.std.proofs.Math.Numerals.{lt_of_le_of_ne}
 
 pub some_none : {X P : Type 0} {x : X} {o : Option X} → o ≡ None → o ≡ Some x → P
@@ -8,11 +8,7 @@ some_none a b = cc
 
 -- a number without a request
 pub vacant : (w : Window) (n : ℕ) → is_some (at w n) ≡ false → at w n ≡ None
-vacant w n e = go (at w n) e
-  where
-    go : (o : Option Request) → is_some o ≡ false → o ≡ None
-    go None f = refl
-    go (Some q) f = absurd (false≢true (sym f))
+vacant w n e = grind arith
 
 pub member : (o : Option Group) (p : Group) (n : ℕ) → o ≡ Some p → p.from ≤ n → n < p.end
     → has_member o n ≡ true
@@ -21,15 +17,7 @@ member o p n e from to = ap (λ x. has_member x n) e ∙ and_from _ _ (le-leb p.
 -- a group is kept where its members up to the least are outstanding as they were
 pub kept_on : {w v : Window} {q : Group} → IsKept w q → end_of w ≤ end_of v
     → ((m : ℕ) → q.from ≤ m → m ≤ q.least → is_some (at v m) ≡ is_some (at w m)) → IsKept v q
-kept_on {q = q} k more same =
-    let to = k.to in
-    record {
-      from = k.from;
-      to = to;
-      end = omega (arith, k.end);
-      over = λ m high low. same m high (omega arith) ∙ k.over m high low;
-      here = same q.least k.from (omega arith) ∙ k.here;
-    }
+kept_on {q = q} k more same = grind arith
 
 -- A request's group.
 
@@ -45,10 +33,7 @@ module _ {w : Window} {g : Groups} {n : ℕ} {request : Request} (s : IsSound w 
           record { group = p; found = f; from = leb-true p.from n parts.0; to = ltb-true n p.end parts.1 }
 
   pub within_group : {q : Group} → group_at g request.group ≡ Some q → (q.from ≤ n) × (n < q.end)
-  within_group {q} is =
-      let link = linked in
-      let P : Group → Type 0 = λ x. (x.from ≤ n) × (n < x.end) in
-      subst P (same_Some _ _ (sym link.found ∙ is)) (link.from, link.to)
+  within_group {q} is = grind (arith, linked)
 
   pub least_before : {q : Group} → group_at g request.group ≡ Some q → q.least ≤ n
   least_before {q} is =
@@ -66,30 +51,16 @@ module _ {w : Window} {g : Groups} {r : Requests} (h : AreHeld w g r) where
   -- a number that is given and hasn't ended has a request
   open_request : {n : ℕ} → n < length r.accepted → has_ended r n ≡ false
       → (q : Request) × (at w n ≡ Some q)
-  open_request {n} lt going = go (at w n) refl
-    where
-      go : (o : Option Request) → at w n ≡ o → (q : Request) × (at w n ≡ Some q)
-      go None e = absurd (both_ways _ going (h.ended n e lt))
-      go (Some q) e = (q, e)
+  open_request {n} lt going = grind arith
 
   pub outstanding_none : (n : ℕ) → at w n ≡ None → is_outstanding r n ≡ false
-  outstanding_none n e =
-      elim (cases_lt n (length r.accepted)) [
-        | inl lt ↦ and_right _ _ (ap not (h.ended n e lt))
-        | inr le ↦ and_left _ _ (le-ltb n (length r.accepted) le)
-      ]
+  outstanding_none n e = grind arith
 
   pub running_none : (n : ℕ) → at w n ≡ None → is_running r n ≡ false
-  running_none n e =
-      elim (cases_lt n (length r.accepted)) [
-        | inl lt ↦ and_right _ _ (ap not (h.ended n e lt))
-        | inr le ↦ and_left _ _ (h.untouched n le).started
-      ]
+  running_none n e = grind arith
 
   pub running_some : (n : ℕ) {q : Request} → at w n ≡ Some q → is_running r n ≡ q.is_running
-  running_some n {q} e =
-      let shown = h.shown n q e in
-      ap (λ b. has_started r n && not b) shown.unended ∙ and-true (has_started r n) ∙ sym shown.running
+  running_some n {q} e = grind arith
 
   -- What a cancel may choose.
 
@@ -98,8 +69,7 @@ module _ {w : Window} {g : Groups} {r : Requests} (h : AreHeld w g r) where
 
   pub candidate_other_data : (n m : ℕ) {named_data : ℕ} {q : Request} → at w m ≡ Some q
       → named_data ≡ addr_of (entry_of r n) → user_data_of q.entry ≢ named_data → is_candidate r n m ≡ false
-  candidate_other_data n m {q = q} e named ne =
-      and_left _ _ (and_right _ _ (ne_eqb _ _ (λ same. ne (ap user_data_of (h.shown m q e).entry ∙ same ∙ sym named))))
+  candidate_other_data n m {q = q} e named ne = grind arith
 
 pub candidate_self : (r : Requests) (n m : ℕ) → m ≡ n → is_candidate r n m ≡ false
 candidate_self r n m e = and_left _ _ (and_left _ _ (and_right _ _ (ap not (eq-eqb m n e))))
@@ -118,16 +88,11 @@ module _ {w : Window} {g : Groups} {r : Requests} (s : IsSound w g) (h : AreHeld
 
   pub issuable_some : (n : ℕ) {q : Request} → at w n ≡ Some q
       → is_issuable r n ≡ (not q.is_running && (is_doomed r n || is_ready r n))
-  issuable_some n e =
-      ap (λ b. (b && not (is_running r n)) && (is_doomed r n || is_ready r n)) (outstanding_some n e)
-      ∙ ap (λ b. not b && (is_doomed r n || is_ready r n)) (running_some h n e)
+  issuable_some n e = grind (arith, outstanding_some)
 
   pub candidate_else : (n m : ℕ) {named_data : ℕ} {q : Request} → at w m ≡ Some q → named_data ≡ addr_of (entry_of r n)
       → m ≢ n → user_data_of q.entry ≡ named_data → is_candidate r n m ≡ not (is_doomed r m)
-  candidate_else n m {q = q} e named other same =
-      let second = ap not (ne_eqb m n other) in
-      let third = eq-eqb _ _ (ap user_data_of (sym (h.shown m q e).entry) ∙ same ∙ named) in
-      ap (λ b. b && not (is_doomed r m)) (and_from _ _ (and_from _ _ (outstanding_some m e) second) third)
+  candidate_else n m {q = q} e named other same = grind (arith, and_from, outstanding_some)
 
   -- a kept group's least member is outstanding
   pub least_open : (key : ℕ) {q : Group} → group_at g key ≡ Some q → has_ended r q.least ≡ false
@@ -156,20 +121,14 @@ module _ {w : Window} {g : Groups} {r : Requests} {n : ℕ} {request : Request} 
 -- a group that drains is kept
 pub drain_group : (o : Option Group) (d : ℕ) → drain_of o ≡ Some d
     → (p : Group) × (o ≡ Some p) × (p.drain ≡ Some d)
-drain_group None d e = let f : None ≡ Some d = e in cc
-drain_group (Some p) d e = (p, refl, e)
+drain_group o d e = grind arith
 
 none_drains : (o : Option ℕ) → ((d : ℕ) → o ≡ Some d → ⊥) → is_some o ≡ false
-none_drains None k = refl
-none_drains (Some d) k = absurd (k d refl)
+none_drains o k = grind arith
 
 module _ {w : Window} {g : Groups} {r : Requests} {n : ℕ} {request : Request} {q : Group} (i : InGroup w g r n request q) where
   pub doomed_held : is_doomed r n ≡ ((is_some q.fault || is_before q.broken n) || request.is_cancelled)
-  doomed_held =
-      doomed_is r q.from q.end n i.shown.group i.from i.to
-      ∙ ap (λ b. (is_some b || is_before (first_broken r q.from q.end) n) || is_cancelled r n) (sym i.shown.fault)
-      ∙ ap (λ b. (is_some q.fault || is_before b n) || is_cancelled r n) (sym i.shown.broken)
-      ∙ ap (λ b. (is_some q.fault || is_before q.broken n) || b) (sym (i.held.shown n request i.there).cancelled)
+  doomed_held = grind (arith, doomed_is)
 
   pub draining_held : is_draining r n ≡ is_some q.drain
   draining_held = draining_is r q.from q.end n i.shown.group i.from i.to ∙ ap is_some (sym i.shown.drain)
@@ -199,8 +158,7 @@ module _ {w : Window} {g : Groups} {r : Requests} {n : ℕ} {request : Request} 
 
   -- A group that drains waits for all that is earlier.
   pub not_alone : is_some q.drain ≡ true → HasBefore w q.from → is_ready r n ≡ false
-  not_alone drains b =
-      ready_not_alone r n b.number (omega (arith, i.from, b.before)) (open_here i.held b.number b.here) (draining_held ∙ drains)
+  not_alone drains b = grind (arith, ready_not_alone, draining_held)
 
 -- no member of a group before this one drains, if no group drains from a number before it on
 pub plain_before : {w : Window} {g : Groups} {r : Requests} {from end m : ℕ} {other : Request}

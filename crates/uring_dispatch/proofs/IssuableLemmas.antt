@@ -1,6 +1,6 @@
 -- Which requests can be issued, from who waits.
 use Rattle.std.proofs.Common.{◌≡◌, ℕ, ◌*◌, ◌/◌, ◌<◌, ◌≤◌, length, slice_get, Bool, true, false, not, ◌&&◌, ◌||◌, ◌==◌, ltb, leb, Option, Some, None, is_some, refl, sym, ◌∙◌, ap, arith, inl, inr}
-use Rattle.uring_dispatch.proofs.Common.{AreHeld, Group, Groups, HasBefore, IsFirstDraining, IsLeastBelow, IsLeastFrom, IsLimit, IsListed, IsSound, MatchOption, NumberSet, Request, Requests, Waiting, Window, and_from, and_left, and_parts, and_right, at, both_ways, can_go, cases_lt, count_below, dooms, drain_of, end_of, eq-eqb, eqb-true, first_member_inside, group_at, groups_apart, holds, is_doomed, is_issuable, is_ready, is_some_value, le-leb, le-ltb, leads, least_below, least_below_none, least_below_some, lesser_of, lt-leb, lt-ltb, ltb-true, or_from, or_left, or_right, same_Some, slice_get_past, waits_at_head, waits_doomed}
+use Rattle.uring_dispatch.proofs.Common.{AreHeld, Group, Groups, HasBefore, IsFirstDraining, IsLeastBelow, IsLeastFrom, IsLimit, IsListed, IsSound, MatchOption, NumberSet, Request, Requests, Waiting, Window, and_left, and_parts, at, both_ways, can_go, cases_lt, count_below, dooms, drain_of, end_of, eq-eqb, eqb-true, first_member_inside, group_at, groups_apart, holds, is_doomed, is_issuable, is_ready, is_some_value, le-ltb, leads, least_below, least_below_none, least_below_some, lesser_of, lt-ltb, same_Some, slice_get_past, waits_at_head, waits_doomed}
 use Rattle.uring_dispatch.specs.Issuable.{issuables_of, issuable_from}
 use Rattle.uring_dispatch.proofs.Counting.{count_below_zero, count_below_past, count_below_same, length_all_below, get_all_below}
 use Rattle.uring_dispatch.proofs.WindowFront.{at_past}
@@ -15,14 +15,7 @@ IsLeastOf p o = MatchOption o ((k : ℕ) → p k ≡ false) (λ m. (p m ≡ true
 -- the lesser of what two searches found is the least that either looks for
 lesser_least : (p q : ℕ → Bool) (a b : Option ℕ) → IsLeastOf p a → IsLeastOf q b
     → IsLeastOf (λ k. p k || q k) (lesser_of a b)
-lesser_least p q None None x y = λ k. or_from _ _ (x k) (y k)
-lesser_least p q None (Some j) x y = (or_right _ _ y.0, λ k lt. or_from _ _ (x k) (y.1 k lt))
-lesser_least p q (Some m) None x y = (or_left _ _ x.0, λ k lt. or_from _ _ (x.1 k lt) (y k))
-lesser_least p q (Some m) (Some j) x y =
-    elim (cases_lt j m) [
-      | inl lower ↦ rw (lt-ltb j m lower) (or_right _ _ y.0, λ k lt. or_from _ _ (x.1 k (omega arith)) (y.1 k lt))
-      | inr higher ↦ rw (le-ltb j m higher) (or_left _ _ x.0, λ k lt. or_from _ _ (x.1 k lt) (y.1 k (omega arith)))
-    ]
+lesser_least p q a b x y = grind arith
 
 least_is : (p q : ℕ → Bool) (n : ℕ) (o : Option ℕ) → IsLeastOf p o → ((k : ℕ) → q k ≡ p k)
     → ((k : ℕ) → q k ≡ true → k < n) → o ≡ least_below q n
@@ -35,8 +28,7 @@ least_is p q n (Some m) least same within =
 module _ {w : Window} {g : Groups} {r : Requests} {n : ℕ} {q : Request} {p : Group} (i : InGroup w g r n q p) where
   -- a request of a kept group has its record
   group_same : (key : ℕ) {b : Group} → group_at g key ≡ Some b → b.from ≤ n → n < b.end → p ≡ b
-  group_same key {b} here from to =
-      same_Some p b (sym i.found ∙ ap (group_at g) (i.sound.members key b n q here from to i.there) ∙ here)
+  group_same key {b} here from to = grind arith
 
   -- a request after a kept group is of a group that begins after it
   group_after : (key : ℕ) {b : Group} → group_at g key ≡ Some b → b.end ≤ n → b.end ≤ p.from
@@ -67,10 +59,7 @@ first_inside {b = b} h f =
 -- no request after the first group that drains may start
 after_first : {w : Window} {g : Groups} {r : Requests} {n : ℕ} {q : Request} {p b : Group}
     → InGroup w g r n q p → IsFirstDraining g b → b.end ≤ n → is_ready r n ≡ false
-after_first i f after =
-    let inside = first_inside i.held f in
-    let apart = group_after i f.key f.here after in
-    after_barrier i (record { key = f.key; number = f.number; drains = ap drain_of f.here ∙ f.drains; before = omega (arith, inside.1) })
+after_first i f after = grind (arith, (first_inside i.held f), (group_after i f.key f.here after), after_barrier)
 
 module _ {w : Window} {g : Groups} {r : Requests} (s : IsSound w g) (h : AreHeld w g r) where
   -- no group drains
@@ -129,52 +118,36 @@ module _ {w : Window} {g : Groups} {r : Requests} (s : IsSound w g) (h : AreHeld
 -- The next from one number on.
 
 issuable_within : (r : Requests) (k : ℕ) → is_issuable r k ≡ true → k < length r.accepted
-issuable_within r k e =
-    ltb-true k (length r.accepted) (and_parts _ _ (and_parts _ _ (and_parts _ _ e).0).0).0
+issuable_within r k e = grind arith
 
 -- what is tested from n on
 from_on : (p : ℕ → Bool) (n k : ℕ) → (n ≤ k → p k ≡ false) → (leb n k && p k) ≡ false
-from_on p n k none =
-    elim (cases_lt k n) [ inl low ↦ and_left _ _ (lt-leb n k low) | inr high ↦ and_right _ _ (none high) ]
+from_on p n k none = grind arith
 
 least_doomed : (s : NumberSet) (n : ℕ) (o : Option ℕ)
     → MatchOption o ((k : ℕ) → n ≤ k → holds s k ≡ false) (IsLeastFrom s n)
     → IsLeastOf (λ k. leb n k && holds s k) o
-least_doomed s n None none = λ k. from_on (holds s) n k (none k)
-least_doomed s n (Some m) f = (
-  and_from _ _ (le-leb n m f.from) f.here,
-  λ k lt. from_on (holds s) n k (λ high. f.before k high lt),
-)
+least_doomed s n o none = grind arith
 
 least_head : (s : NumberSet) (n limit : ℕ) (o : Option ℕ)
     → MatchOption o ((k : ℕ) → n ≤ k → k < limit → holds s k ≡ false) (IsLeastBelow s n limit)
     → IsLeastOf (λ k. leb n k && (holds s k && ltb k limit)) o
-least_head s n limit None none =
-    λ k. from_on (λ j. holds s j && ltb j limit) n k (λ high. elim (cases_lt k limit) [ inl low ↦ and_left _ _ (none k high low) | inr past ↦ and_right _ _ (le-ltb k limit past) ])
-least_head s n limit (Some m) f = (
-  and_from _ _ (le-leb n m f.least.from) (and_from _ _ f.least.here (lt-ltb m limit f.below)),
-  λ k lt. from_on (λ j. holds s j && ltb j limit) n k (λ high. and_left _ _ (f.least.before k high lt)),
-)
+least_head s n limit o none = grind arith
 
 and_over_or : (a b c : Bool) → (a && (b || c)) ≡ ((a && b) || (a && c))
-and_over_or true b c = refl
-and_over_or false b c = refl
+and_over_or a b c = grind arith
 
 -- What the sets tell.
 
 both : (waits doomed first below ready : Bool) → (first ≡ true → ready ≡ below)
     → (first ≡ false → ready ≡ false)
     → ((waits && doomed) || ((waits && first) && below)) ≡ (waits && (doomed || ready))
-both false doomed first below ready x y = refl
-both true true first below ready x y = refl
-both true false true below ready x y = sym (x refl)
-both true false false below ready x y = sym (y refl)
+both waits doomed first below ready x y = grind arith
 
 -- a number without a request isn't told of
 can_go_gone : {w : Window} {g : Groups} {s : Waiting} (limit n : ℕ) → IsListed w g s
     → at w n ≡ None → can_go s limit n ≡ false
-can_go_gone {g = g} limit n l e =
-    or_from _ _ ((l.told n).doomed ∙ ap (λ o. waits_doomed g o n) e) (and_left _ _ ((l.told n).head ∙ ap (λ o. waits_at_head g o n) e))
+can_go_gone {g = g} limit n l e = grind arith
 
 module _ {w : Window} {g : Groups} {r : Requests} {s : Waiting} (limit : ℕ) (sound : IsSound w g) (h : AreHeld w g r) (l : IsListed w g s)
     (limits : IsLimit w g r limit) where
@@ -233,8 +206,7 @@ module _ {w : Window} {g : Groups} {r : Requests} {s : Waiting} (limit : ℕ) (s
 -- none is counted before the first that is outstanding
 pub count_start : {w : Window} {g : Groups} {s : Waiting} (limit first : ℕ) → IsListed w g s
     → ((n : ℕ) → n < first → at w n ≡ None) → count_below (can_go s limit) (64 * (first / 64)) ≡ 0
-count_start {s = s} limit first l none =
-    count_below_zero (can_go s limit) (64 * (first / 64)) (λ k lt. can_go_gone limit k l (none k (omega arith)))
+count_start {s = s} limit first l none = grind (arith, count_below_zero)
 
 -- there is none after all of them
 pub nth_past : (r : Requests) (k : ℕ) → length (issuables_of r) ≤ k

@@ -1,6 +1,6 @@
 -- How many groups, barriers and outstanding requests are kept: no more than requests were accepted.
 use Rattle.std.proofs.Common.{◌≡◌, ◌≢◌, ℕ, suc, zero, ◌+◌, ◌<◌, ◌≤◌, cond, List, [], ◌∷◌, length, if◌then◌else◌, Bool, true, false, eqb, ltb, Option, Some, None, is_some, refl, sym, ◌∙◌, arith, inl, inr, get_or}
-use Rattle.uring_dispatch.proofs.Common.{AllByRecursion, AreHeld, Barrier, Group, Groups, IsBeyond, IsDistinct, IsSorted, IsSound, Requests, Window, and_parts, at, count_below, count_by, end_of, eqb-true, false≢true, is_outstanding, is_some_value, list_all, list_any, ltb-true, ne_eqb, or_cases}
+use Rattle.uring_dispatch.proofs.Common.{AllByRecursion, AreHeld, Barrier, Group, Groups, IsBeyond, IsDistinct, IsSorted, IsSound, Requests, Window, and_parts, at, count_below, count_by, end_of, eqb-true, false≢true, is_some_value, list_all, list_any, ltb-true, ne_eqb, or_cases}
 use Rattle.std.proofs.lemmas.List.Recursion.{is_count_by}
 use Rattle.std.proofs.lemmas.Map.Steps.{length-le_from_distinct_below}
 
@@ -13,8 +13,7 @@ leasts (Some p ∷ rest) = p.least ∷ leasts rest
 leasts_next : (o : Option Group) (rest : List (Option Group))
     → length (leasts (o ∷ rest)) ≡ cond (is_some o) (1 + length (leasts rest)) (length (leasts rest))
 unfolding leasts
-leasts_next None rest = refl
-leasts_next (Some p) rest = omega arith
+leasts_next o rest = grind arith
 
 leasts_length : (records : List (Option Group)) → length (leasts records) ≡ count_by is_some records
 unfolding leasts
@@ -108,6 +107,4 @@ count_below_few p (suc n) = one_more (p n) _ (count_below_few p n)
 
 pub window_few : (w : Window) (g : Groups) (r : Requests) → AreHeld w g r
     → w.outstanding ≤ end_of w
-window_few w g r h =
-    let few = count_below_few (is_outstanding r) (length r.accepted) in
-    omega (arith, h.count, h.outstanding)
+window_few w g r h = grind (arith, count_below_few)

@@ -1,10 +1,10 @@
 -- What is told of who waits: how it is kept when other requests are told of anew.
-use Rattle.std.proofs.Common.{◌≡◌, ◌≢◌, ℕ, ◌<◌, ◌≤◌, Bool, true, false, not, ◌&&◌, ◌||◌, ◌⊎◌, Option, Some, None, is_some, refl, sym, ◌∙◌, ap, subst, arith, inl, inr}
-use Rattle.uring_dispatch.proofs.Common.{CanTell, Changes, Group, Groups, GrowsTo, HasGrown, HasMoved, IsListed, IsListedAt, IsSameReach, IsSound, Keeps, NumberSet, Puts, Reaches, Request, StandsAsBefore, Waiting, Window, at, both_ways, cases_eq, cases_lt, dooms, earlier_of, end_of, false≢true, group_at, holds_same, if◌then◌else◌, is_before, is_some_value, le-ltb, leads, lt-ltb, ltb-true, ne_eqb, same_Some, waits_at_head, waits_doomed}
+use Rattle.std.proofs.Common.{◌≡◌, ◌≢◌, ℕ, ◌<◌, ◌≤◌, Bool, true, false, ◌||◌, ◌⊎◌, Option, Some, None, is_some, refl, sym, ◌∙◌, ap, arith, inl, inr}
+use Rattle.uring_dispatch.proofs.Common.{CanTell, Changes, Group, Groups, GrowsTo, HasGrown, HasMoved, IsListed, IsListedAt, IsSameReach, IsSound, Keeps, NumberSet, Puts, Reaches, Request, StandsAsBefore, Waiting, Window, at, cases_eq, dooms, earlier_of, end_of, group_at, holds_same, is_before, is_some_value, leads, ne_eqb, same_Some, waits_at_head, waits_doomed}
 use Rattle.uring_dispatch.proofs.WindowFront.{within_end}
 use Rattle.uring_dispatch.proofs.HeldLemmas.{some_none}
 use Rattle.uring_dispatch.proofs.EndLemmas.{Ends, left_with, left_member}
-use Rattle.uring_dispatch.proofs.Changes.{before_end, still_there}
+use Rattle.uring_dispatch.proofs.Changes.{before_end}
 
 -- Telling anew.
 
@@ -13,11 +13,7 @@ keeps_none w g s = record { told = λ k e. e; heads = omega arith; doomed = omeg
 
 pub keeps_both : (w : Window) (g : Groups) (s t u : Waiting) → Keeps w g s t → Keeps w g t u
     → Keeps w g s u
-keeps_both w g s t u a b = record {
-  told = λ k e. b.told k (a.told k e);
-  heads = omega (arith, a.heads, b.heads);
-  doomed = omega (arith, a.doomed, b.doomed);
-}
+keeps_both w g s t u a b = grind arith
 
 pub tell_kept : (w : Window) (g : Groups) (s t : Waiting) (n : ℕ) → CanTell s n → Keeps w g s t
     → CanTell t n
@@ -28,58 +24,27 @@ tell_kept w g s t n c k = omega (arith, c, k.heads, k.doomed)
 pub idle_listed : (w : Window) (g : Groups) (s t : Waiting) (n : ℕ) (o : Option Request) → at w n ≡ o
     → waits_at_head g o n ≡ false → waits_doomed g o n ≡ false → Puts s.heads t.heads n false
     → Puts s.doomed t.doomed n false → IsListedAt w g t n
-idle_listed w g s t n o is head doomed a b =
-    record { head = rw is (a.here ∙ sym head); doomed = rw is (b.here ∙ sym doomed) }
+idle_listed w g s t n o is head doomed a b = grind arith
 
 pub forgotten_keeps : (w : Window) (g : Groups) (s t : Waiting) (n : ℕ) → IsListedAt w g t n
     → Puts s.heads t.heads n false → Puts s.doomed t.doomed n false → Keeps w g s t
-forgotten_keeps w g s t n own a b = record {
-  told = λ k e.
-      elim (cases_eq k n) [
-        | inl same ↦ rw same own
-        | inr other ↦ record { head = a.others k other ∙ e.head; doomed = b.others k other ∙ e.doomed }
-      ];
-  heads = omega (arith, a);
-  doomed = omega (arith, b);
-}
+forgotten_keeps w g s t n own a b = grind arith
 
 -- What an event leaves as it was.
 
 -- a request that is the same, in the same group
 pub stands_same : (w v : Window) (g : Groups) (k : ℕ) → at v k ≡ at w k → StandsAsBefore w v g g k
-stands_same w v g k e = record {
-  head = ap (λ o. waits_at_head g o k) e;
-  doomed = ap (λ o. waits_doomed g o k) e;
-}
+stands_same w v g k e = grind arith
 
 -- what is told stays right where the request stands as it did
 pub told_before : (w v : Window) (g h : Groups) (s : Waiting) (k : ℕ) → IsListedAt w g s k
     → StandsAsBefore w v g h k → IsListedAt v h s k
-told_before w v g h s k t b = record {
-  head = t.head ∙ sym b.head;
-  doomed = t.doomed ∙ sym b.doomed;
-}
+told_before w v g h s k t b = grind arith
 
 -- an end that fails changes who is after a failure only among those after it that weren't
 pub before_earlier : (o : Option ℕ) (b : Bool) (n k : ℕ)
     → (b ≡ true → (k < n) ⊎ (is_before o k ≡ true)) → is_before (earlier_of o b n) k ≡ is_before o k
-before_earlier None false n k h = refl
-before_earlier None true n k h =
-    elim (h refl) [
-      | inl low ↦ le-ltb n k (omega arith)
-      | inr was ↦ absurd (false≢true was)
-    ]
-before_earlier (Some m) false n k h = refl
-before_earlier (Some m) true n k h =
-    elim (cases_lt n m) [
-      | inl earlier ↦
-          ap (λ b. is_before (if b then Some n else Some m) k) (lt-ltb n m earlier)
-          ∙ elim (h refl) [
-            | inl low ↦ le-ltb n k (omega arith) ∙ sym (le-ltb m k (omega arith))
-            | inr was ↦ let lt = ltb-true m k was in lt-ltb n k (omega arith) ∙ sym was
-          ]
-      | inr later ↦ ap (λ b. is_before (if b then Some n else Some m) k) (le-ltb n m later)
-    ]
+before_earlier o b n k h = grind arith
 
 -- the request k of another group, or of none
 pub stands_apart : (w v : Window) (g h : Groups) (k : ℕ) → at v k ≡ at w k
@@ -96,10 +61,7 @@ pub stands_in : (w v : Window) (g h : Groups) (k : ℕ) (x : Request) (p q : Gro
     → at w k ≡ Some x → group_at g x.group ≡ Some q → group_at h x.group ≡ Some p
     → leads (Some p) k ≡ leads (Some q) k → dooms (Some p) k ≡ dooms (Some q) k
     → StandsAsBefore w v g h k
-stands_in w v g h k x p q same e was now leads_on dooms_on = record {
-  head = rw (same, e, now, was) (ap (λ b. not x.is_running && b) leads_on);
-  doomed = rw (same, e, now, was) (ap (λ b. not x.is_running && (b || x.is_cancelled)) dooms_on);
-}
+stands_in w v g h k x p q same e was now leads_on dooms_on = grind arith
 
 -- A request ends.
 
@@ -141,15 +103,12 @@ tell_outstanding w g s n l there =
 -- and of one after it
 pub tell_after : (w : Window) (g : Groups) (s : Waiting) (n k : ℕ) → IsListed w g s
     → is_some (at w n) ≡ true → n ≤ k → k < end_of w → CanTell s k
-tell_after w g s n k l there from to =
-    omega (arith, l.heads.stop, l.doomed.stop, l.heads.low n there, l.doomed.low n there)
+tell_after w g s n k l there from to = grind arith
 
 -- fewer requests are outstanding
 pub reaches_fewer : (w v : Window) (s t : NumberSet) → Reaches w s → end_of v ≡ end_of w
     → ((k : ℕ) → is_some (at v k) ≡ true → is_some (at w k) ≡ true) → IsSameReach s t → Reaches v t
-reaches_fewer w v s t r end fewer same =
-    let few = r.few in
-    record { start = omega arith; stop = omega arith; few = omega arith; low = λ k there. let low = r.low k (fewer k there) in omega arith }
+reaches_fewer w v s t r end fewer same = grind arith
 
 -- a set covers a number more, and is then told of numbers that it covers
 pub grows_told : (s t u : NumberSet) (n : ℕ) → HasGrown s t n → IsSameReach t u → GrowsTo s u n
@@ -159,25 +118,11 @@ grows_told s t u n g r =
 -- what was let go at the front isn't needed
 pub reaches_moved : (w : Window) (s t : NumberSet) (first : ℕ) → Reaches w s → HasMoved s t first
     → first ≤ end_of w → ((k : ℕ) → k < first → at w k ≡ None) → Reaches w t
-reaches_moved w s t first r m within before =
-    let stop = r.stop in
-    let same = m.stop in
-    let few = r.few in
-    record {
-      start = m.start (end_of w) r.start within;
-      stop = omega arith;
-      few = omega arith;
-      low = λ k there.
-          m.start k (r.low k there)
-          (elim (cases_lt k first) [ inl low ↦ absurd (both_ways _ (ap is_some (before k low)) there) | inr high ↦ high ]);
-    }
+reaches_moved w s t first r m within before = grind arith
 
 pub told_moved : (w : Window) (g : Groups) (s t : Waiting) (k a b : ℕ) → IsListedAt w g s k
     → HasMoved s.heads t.heads a → HasMoved s.doomed t.doomed b → IsListedAt w g t k
-told_moved w g s t k a b l x y = record {
-  head = holds_same s.heads t.heads x.same.same k ∙ l.head;
-  doomed = holds_same s.doomed t.doomed y.same.same k ∙ l.doomed;
-}
+told_moved w g s t k a b l x y = grind (arith, holds_same)
 
 -- A request ended, and all whose standing may have changed were told of anew.
 pub end_listed : (w v : Window) (g h : Groups) (s t u : Waiting) (n head stop first : ℕ)
@@ -203,37 +148,10 @@ end_listed w v g h s t u n head stop first l c end others keeps own at_head betw
     stays k a b z = keeps.told k (told_before w v g h s k (l.told k) (others k a b z))
 
     one : (k : ℕ) → IsListedAt v h t k
-    one k =
-        elim (cases_eq k n) [
-          | inl same ↦ subst P (sym same) own
-          | inr apart ↦
-              elim (cases_eq k head) [
-                | inl same ↦ subst P (sym same) at_head
-                | inr other ↦
-                    elim (cases_lt k n) [
-                      | inl low ↦ stays k apart other (inl low)
-                      | inr high ↦
-                          elim (cases_lt k stop) [
-                            | inl inside ↦ between k high inside
-                            | inr past ↦ stays k apart other (inr past)
-                          ]
-                    ]
-              ]
-        ]
+    one k = grind arith
 
 -- A request was written, and it was told of anew.
 pub restarted_listed : (w v : Window) (g h : Groups) (s t : Waiting) (n : ℕ) (q : Request)
     → IsListed w g s → is_some (at w n) ≡ true → Changes w v n (Some q) → end_of v ≡ end_of w → h ≡ g
     → Keeps v h s t → IsListedAt v h t n → IsListed v h t
-restarted_listed w v g h s t n q l there c end same_groups keeps own =
-    let told : (k : ℕ) → IsListedAt w h s k = rw same_groups l.told in
-    let as_many : (k : ℕ) → is_some (at v k) ≡ true → is_some (at w k) ≡ true = λ k some. sym (still_there c there k) ∙ some in
-    record {
-      told = λ k.
-          elim (cases_eq k n) [
-            | inl same ↦ rw same own
-            | inr other ↦ keeps.told k (told_before w v h h s k (told k) (stands_same w v h k (c.others k other)))
-          ];
-      heads = reaches_fewer w v s.heads t.heads l.heads end as_many keeps.heads;
-      doomed = reaches_fewer w v s.doomed t.doomed l.doomed end as_many keeps.doomed;
-    }
+restarted_listed w v g h s t n q l there c end same_groups keeps own = grind arith

@@ -1,6 +1,6 @@
 -- Why an outstanding request stands as it does, from what is held.
 use Rattle.std.proofs.Common.{◌≡◌, ◌≢◌, ℕ, ◌<◌, ◌≤◌, length, Bool, true, false, not, Option, Some, None, is_some, refl, sym, ◌∙◌, ap, arith, inl, inr}
-use Rattle.uring_dispatch.proofs.Common.{AreHeld, Group, Groups, IsFirst, IsFirstDraining, IsGroup, IsSound, Request, Requests, Window, and_from, and_left, and_right, at, cases_lt, drain_of, draining_is, entry_of, fault_of, first_member_inside, group_at, has_ended, holds_back, if◌then◌else◌, is_before, is_draining, is_joined, joined_member, le-leb, least_below_none, least_below_some, lt-leb, lt-ltb, or_from, or_left, or_right}
+use Rattle.uring_dispatch.proofs.Common.{AreHeld, Group, Groups, IsFirst, IsFirstDraining, IsGroup, IsSound, Request, Requests, Window, and_from, and_right, at, cases_lt, drain_of, draining_is, entry_of, fault_of, first_member_inside, group_at, has_ended, holds_back, if◌then◌else◌, is_before, is_draining, is_joined, joined_member, le-leb, least_below_none, least_below_some, lt-leb, lt-ltb, or_from, or_left, or_right}
 use Rattle.uring_entry.specs.Why.{first_doom, faulty_member_of, failed_member_of, doom_of, since_of, holder_of, waiting_for, why_of}
 use Rattle.uring_entry.specs.declared.fault.Fault.{Fault}
 use Rattle.uring_entry.specs.declared.why.Doom.TheVariants.{OwnFault, FaultOf, FailureOf, Cancel}
@@ -9,7 +9,7 @@ use Rattle.uring_entry.specs.declared.why.Since.TheVariants.{SameGroup, ItDrains
 use Rattle.uring_entry.specs.declared.why.Why.TheVariants.{HasEnded, Waits, MayStart}
 use Rattle.uring_entry.proofs.WhyLemmas.{StillWaits, faulty_member_is, failed_member_before, failed_member_none}
 use Rattle.uring_dispatch.specs.Waits.{IsFirstHolder}
-use Rattle.uring_dispatch.proofs.HeldLemmas.{InGroup, its_group, shown_within, open_here, draining_held, least_open, running_some, vacant, plain_before, within_group}
+use Rattle.uring_dispatch.proofs.HeldLemmas.{InGroup, its_group, shown_within, draining_held, least_open, vacant, plain_before, within_group}
 
 -- What a request waits for.
 
@@ -37,20 +37,17 @@ module _ {w : Window} {g : Groups} {r : Requests} {n m : ℕ} {request other : R
 module _ {w : Window} {g : Groups} {r : Requests} {n : ℕ} {request : Request} (s : IsSound w g) (h : AreHeld w g r) (e : at w n ≡ Some request) where
   -- a kept request that doesn't run
   pub still_held : request.is_running ≡ false → StillWaits r n
-  still_held still =
-      record { given = shown_within s h e; unended = (h.shown n request e).unended; unstarted = running_some h n e ∙ still }
+  still_held still = grind (arith, shown_within)
 
   -- one that has ended keeps nobody
   gone_free : {k : ℕ} → k < n → at w k ≡ None → holds_back r n k ≡ false
-  gone_free {k} low gone =
-      let within = shown_within s h e in and_left _ _ (ap not (h.ended k gone (omega arith)))
+  gone_free {k} low gone = grind (arith, shown_within)
 
 -- whether a kept request's group drains
 pub draining_kept : {w : Window} {g : Groups} {r : Requests} (n : ℕ) {request : Request} → IsSound w g
     → AreHeld w g r → at w n ≡ Some request
     → is_draining r n ≡ is_some (drain_of (group_at g request.group))
-draining_kept n s h e =
-    let its = its_group s h e in draining_held its.1 ∙ ap (λ o. is_some (drain_of o)) (sym its.1.found)
+draining_kept n s h e = grind (arith, its_group, draining_held)
 
 -- What dooms it.
 
@@ -83,10 +80,7 @@ module _ {w : Window} {g : Groups} {r : Requests} {n : ℕ} {request : Request} 
 module _ {w : Window} {g : Groups} {r : Requests} {n : ℕ} {request : Request} {q : Group} (i : InGroup w g r n request q) where
   -- its own group drains, and this is the least outstanding request
   pub first_of_all : {m : ℕ} → is_some q.drain ≡ true → IsFirst w m → IsFirstHolder r n m
-  first_of_all {m} drains first = record {
-    before = λ k low lt. gone_free i.sound i.held i.there lt (first.before k low);
-    here = λ lt. and_from _ _ (ap not (open_here i.held m first.here)) (or_right _ _ (draining_held i ∙ drains));
-  }
+  first_of_all {m} drains first = grind (arith, or_right, draining_held)
 
   -- one of an earlier group keeps nobody whose group doesn't drain, if no group drains from a number before a later group on
   early_free : is_some q.drain ≡ false → (from end : ℕ) → IsGroup r from end → from ≤ q.from
@@ -147,8 +141,7 @@ waits_for r n m since low f e =
 
 pub waits_for_none : (r : Requests) (n m : ℕ) → n ≤ m → IsFirstHolder r n m
     → MayStart ≡ waiting_for r n (holder_of r n)
-waits_for_none r n m le f =
-    sym (ap (waiting_for r n) (least_below_none (holds_back r n) n (λ k lt. f.before k (omega arith) lt)))
+waits_for_none r n m le f = grind (arith, least_below_none)
 
 -- why it waits for one: the first of the three tests
 pub since_is : (r : Requests) (n m : ℕ) (joined drains : Bool) → is_joined r m n ≡ joined

@@ -1,94 +1,50 @@
 -- The window: what is found by a number, from the keys and the requests, and what the events keep: each key has a request, none stands twice, and the running requests are counted.
 use Rattle.std.proofs.Common.{◌≡◌, ◌≢◌, ℕ, suc, ◌+◌, ◌-◌, ◌<◌, ◌≤◌, List, [], ◌∷◌, ◌++◌, length, get_or, set, Option, Some, None, refl, sym, ◌∙◌, ap, arith, inl, inr, ◌⊎◌, false, is_some, length-append}
-use Rattle.uring_dispatch.proofs.Common.{Changes, IsWindow, Request, Window, at, both_ways, cases_eq, cases_lt, count_below, end_of, found_by, get_or-set_other, get_or-set_same, get_or_past, get_or_push_other, if◌then◌else◌, key_at, le-ltb, length-set, lt-ltb, one_if, runs, same_Some}
+use Rattle.uring_dispatch.proofs.Common.{Changes, IsWindow, Request, Window, at, both_ways, cases_eq, count_below, end_of, found_by, get_or-set_other, get_or-set_same, get_or_past, get_or_push_other, key_at, length-set, one_if, runs}
 use Rattle.std.proofs.Math.Seq.{get_or-append_seam}
-use Rattle.uring_dispatch.proofs.HeldLemmas.{some_none}
 use Rattle.uring_dispatch.proofs.Counting.{count_below_same, count_below_changed}
 
 pub key_at_low : (first : ℕ) (keys : List (Option ℕ)) (n : ℕ) → n < first
     → key_at first keys n ≡ None
 unfolding key_at
-key_at_low first keys n lt =
-    ap (λ b. if b then None else get_or keys (n - first) None) (lt-ltb n first lt)
+key_at_low first keys n lt = grind arith
 
 pub key_at_high : (first : ℕ) (keys : List (Option ℕ)) (n : ℕ) → first ≤ n
     → key_at first keys n ≡ get_or keys (n - first) None
 unfolding key_at
-key_at_high first keys n le =
-    ap (λ b. if b then None else get_or keys (n - first) None) (le-ltb n first le)
+key_at_high first keys n le = grind arith
 
 pub key_at_past : (first : ℕ) (keys : List (Option ℕ)) (n : ℕ) → first + length keys ≤ n
     → key_at first keys n ≡ None
-key_at_past first keys n le =
-    key_at_high first keys n (omega arith) ∙ get_or_past keys (n - first) None (omega arith)
+key_at_past first keys n le = grind (arith, key_at_high, get_or_past)
 
 -- a number with a key lies in the window
 pub key_at_within : (first : ℕ) (keys : List (Option ℕ)) (n key : ℕ)
     → key_at first keys n ≡ Some key → (first ≤ n) × (n < first + length keys)
-key_at_within first keys n key e =
-    elim (cases_lt n first) [
-      | inl low ↦ some_none (key_at_low first keys n low) e
-      | inr high ↦
-          elim (cases_lt n (first + length keys)) [
-            | inl inside ↦ (high, inside)
-            | inr past ↦ some_none (key_at_past first keys n past) e
-          ]
-    ]
+key_at_within first keys n key e = grind (arith, key_at_low, key_at_past)
 
 -- a key that is added
 pub key_at_push_here : (first : ℕ) (keys : List (Option ℕ)) (key : Option ℕ)
     → key_at first (keys ++ key ∷ []) (first + length keys) ≡ key
-key_at_push_here first keys key =
-    let place : (first + length keys) - first ≡ length keys = omega arith in
-    key_at_high first (keys ++ key ∷ []) (first + length keys) (omega arith)
-    ∙ ap (λ i. get_or (keys ++ key ∷ []) i None) place ∙ get_or-append_seam keys key [] None
+key_at_push_here first keys key = grind (arith, (get_or-append_seam keys key), key_at_high)
 
 pub key_at_push_other : (first : ℕ) (keys : List (Option ℕ)) (key : Option ℕ) (n : ℕ)
     → n ≢ first + length keys → key_at first (keys ++ key ∷ []) n ≡ key_at first keys n
-key_at_push_other first keys key n ne =
-    elim (cases_lt n first) [
-      | inl low ↦ key_at_low first _ n low ∙ sym (key_at_low first keys n low)
-      | inr high ↦
-          key_at_high first (keys ++ key ∷ []) n high
-          ∙ get_or_push_other keys key (n - first) None (λ e. ne (omega (arith, e)))
-          ∙ sym (key_at_high first keys n high)
-    ]
+key_at_push_other first keys key n ne = grind (arith, key_at_low, key_at_high, get_or_push_other)
 
 -- a key that is written
 pub key_at_set_here : (first : ℕ) (keys : List (Option ℕ)) (key : Option ℕ) (n : ℕ) → first ≤ n
     → n < first + length keys → key_at first (set keys (n - first) key) n ≡ key
-key_at_set_here first keys key n le lt =
-    key_at_high first _ n le ∙ get_or-set_same keys (n - first) key None (omega arith)
+key_at_set_here first keys key n le lt = grind (arith, key_at_high, get_or-set_same)
 
 pub key_at_set_other : (first : ℕ) (keys : List (Option ℕ)) (key : Option ℕ) (n k : ℕ) → first ≤ n
     → k ≢ n → key_at first (set keys (n - first) key) k ≡ key_at first keys k
-key_at_set_other first keys key n k le ne =
-    elim (cases_lt k first) [
-      | inl low ↦ key_at_low first _ k low ∙ sym (key_at_low first keys k low)
-      | inr high ↦
-          key_at_high first (set keys (n - first) key) k high
-          ∙ get_or-set_other keys (n - first) (k - first) key None (λ e. ne (omega (arith, e)))
-          ∙ sym (key_at_high first keys k high)
-    ]
+key_at_set_other first keys key n k le ne = grind (arith, key_at_low, key_at_high, get_or-set_other)
 
 -- a number that has ended leaves the front
 pub key_at_pop : (first : ℕ) (keys : List (Option ℕ)) (n : ℕ)
     → key_at (first + 1) keys n ≡ key_at first (None ∷ keys) n
-key_at_pop first keys n =
-    elim (cases_lt n first) [
-      | inl low ↦ key_at_low (first + 1) keys n (omega arith) ∙ sym (key_at_low first (None ∷ keys) n low)
-      | inr high ↦
-          elim (cases_eq n first) [
-            | inl same ↦
-                let zeroth : n - first ≡ 0 = omega arith in
-                key_at_low (first + 1) keys n (omega arith)
-                ∙ sym (key_at_high first (None ∷ keys) n high ∙ ap (λ i. get_or (None ∷ keys) i None) zeroth)
-            | inr other ↦
-                let place : n - first ≡ suc (n - (first + 1)) = omega arith in
-                key_at_high (first + 1) keys n (omega arith)
-                ∙ sym (key_at_high first (None ∷ keys) n high ∙ ap (λ i. get_or (None ∷ keys) i None) place)
-          ]
-    ]
+key_at_pop first keys n = grind (arith, key_at_low, key_at_high)
 
 pub at_keyed : (w : Window) (n : ℕ) (key : Option ℕ) → key_at w.first w.keys n ≡ key
     → at w n ≡ found_by w.requests key
@@ -107,8 +63,7 @@ IsSameBut was now key = (k : ℕ) → k ≢ key → get_or now k None ≡ get_or
 
 found_other : (was now : List (Option Request)) (key : ℕ) (o : Option ℕ) → IsSameBut was now key → ((k : ℕ) → o ≡ Some k → k ≢ key)
     → found_by now o ≡ found_by was o
-found_other was now key None h ne = refl
-found_other was now key (Some k) h ne = h k (ne k refl)
+found_other was now key o h ne = grind arith
 
 -- A request of a new key is pushed.
 
@@ -122,21 +77,11 @@ module _ (w : Window) (requests : List (Option Request)) (key outstanding room :
   unused n k e same = both_ways _ (ap is_some (ap (λ j. get_or w.requests j None) same ∙ vacant)) (i.present n k e)
 
   pub push_changes : Changes w pushed (end_of w) (Some q)
-  push_changes = record {
-    here = at_keyed pushed (end_of w) (Some key) (key_at_push_here w.first w.keys (Some key)) ∙ here;
-    others = λ k ne.
-        at_keyed pushed k (key_at w.first w.keys k) (key_at_push_other w.first w.keys (Some key) k ne)
-        ∙ found_other w.requests requests key (key_at w.first w.keys k) others (λ j e. unused k j e) ∙ sym (at_key w k);
-  }
+  push_changes = grind (arith, key_at_push_here, key_at_push_other, unused, at_key)
 
   push_cases : (n k : ℕ) → key_at w.first (w.keys ++ Some key ∷ []) n ≡ Some k
       → ((n ≡ end_of w) × (k ≡ key)) ⊎ (key_at w.first w.keys n ≡ Some k)
-  push_cases n k e =
-      elim (cases_eq n (end_of w)) [
-        | inl same ↦
-            inl (same, same_Some k key (sym e ∙ ap (key_at w.first (w.keys ++ Some key ∷ [])) same ∙ key_at_push_here w.first w.keys (Some key)))
-        | inr other ↦ inr (sym (key_at_push_other w.first w.keys (Some key) n other) ∙ e)
-      ]
+  push_cases n k e = grind (arith, key_at_push_here, key_at_push_other)
 
   pub push_window : q.is_running ≡ false → room + 1 ≡ w.room → IsWindow pushed
   push_window waits less =
@@ -176,11 +121,7 @@ module _ (w : Window) (requests : List (Option Request)) (n key outstanding runn
   rewritten = record w { requests = requests; outstanding = outstanding; running = running }
 
   pub write_changes : Changes w rewritten n (Some q)
-  write_changes = record {
-    here = at_keyed rewritten n (Some key) e ∙ here;
-    others = λ k ne.
-        at_key rewritten k ∙ found_other w.requests requests key (key_at w.first w.keys k) others (other_key w n k key i e ne) ∙ sym (at_key w k);
-  }
+  write_changes = grind (arith, at_keyed, at_key)
 
   pub write_window : running + one_if (runs (at w n)) ≡ w.running + one_if q.is_running
       → IsWindow rewritten
@@ -209,23 +150,11 @@ module _ (w : Window) (requests : List (Option Request)) (n key outstanding runn
   without = record w { keys = set w.keys (n - w.first) None; requests = requests; outstanding = outstanding; running = running }
 
   pub end_changes : Changes w without n None
-  end_changes =
-      let inside = key_at_within w.first w.keys n key e in
-      record {
-        here = at_keyed without n None (key_at_set_here w.first w.keys None n inside.0 inside.1);
-        others = λ k ne.
-            at_keyed without k (key_at w.first w.keys k) (key_at_set_other w.first w.keys None n k inside.0 ne)
-            ∙ found_other w.requests requests key (key_at w.first w.keys k) others (other_key w n k key i e ne) ∙ sym (at_key w k);
-      }
+  end_changes = grind (arith, key_at_within, at_keyed, key_at_set_here, key_at_set_other)
 
   end_cases : (k j : ℕ) → key_at w.first (set w.keys (n - w.first) None) k ≡ Some j
       → (k ≢ n) × (key_at w.first w.keys k ≡ Some j)
-  end_cases k j is =
-      let inside = key_at_within w.first w.keys n key e in
-      elim (cases_eq k n) [
-        | inl same ↦ some_none (ap (key_at w.first (set w.keys (n - w.first) None)) same ∙ key_at_set_here w.first w.keys None n inside.0 inside.1) is
-        | inr other ↦ (other, sym (key_at_set_other w.first w.keys None n k inside.0 other) ∙ is)
-      ]
+  end_cases k j is = grind (arith, key_at_within, key_at_set_here, key_at_set_other)
 
   pub end_window : (q : Request) → get_or w.requests key None ≡ Some q
       → running + one_if q.is_running ≡ w.running → IsWindow without
@@ -252,22 +181,9 @@ module _ (w : Window) (requests : List (Option Request)) (n key outstanding runn
 pub trim_window : (w : Window) (first : ℕ) (keys : List (Option ℕ))
     → ((n : ℕ) → key_at first keys n ≡ key_at w.first w.keys n) → first + length keys ≡ end_of w
     → IsWindow w → IsWindow (record w { first = first; keys = keys })
-trim_window w first keys same end i =
-    let v : Window = record w { first = first; keys = keys } in
-    record {
-      present = λ n k e. i.present n k (sym (same n) ∙ e);
-      distinct = λ m n k a b. i.distinct m n k (sym (same m) ∙ a) (sym (same n) ∙ b);
-      counted =
-          i.counted
-          ∙ count_below_same (λ n. runs (at w n)) (λ n. runs (at v n)) (end_of w) (λ k lt. ap runs (at_key w k ∙ ap (found_by w.requests) (sym (same k)) ∙ sym (at_key v k)))
-          ∙ ap (count_below (λ n. runs (at v n))) (sym end);
-      fits = omega (arith, i.fits);
-    }
+trim_window w first keys same end i = grind (arith, at_key)
 
 pub trim_changes : (u w : Window) (first : ℕ) (keys : List (Option ℕ)) (n : ℕ)
     → ((k : ℕ) → key_at first keys k ≡ key_at w.first w.keys k) → Changes u w n None
     → Changes u (record w { first = first; keys = keys }) n None
-trim_changes u w first keys n same c =
-    let v : Window = record w { first = first; keys = keys } in
-    let kept : (k : ℕ) → at v k ≡ at w k = λ k. at_key v k ∙ ap (found_by w.requests) (same k) ∙ sym (at_key w k) in
-    record { here = kept n ∙ c.here; others = λ k ne. kept k ∙ c.others k ne }
+trim_changes u w first keys n same c = grind (arith, at_key)

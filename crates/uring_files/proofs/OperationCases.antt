@@ -1,11 +1,10 @@
 -- What an operation is on files, in one form: on none, or on one with a task. A new operation is a case of `cases`, `most_of` and `for_files`; what else holds of operations is told of that form, and names none.
 -- Stable: other crates may import all of it.
-use Rattle.std.proofs.Common.{◌≡◌, ℕ, ◌+◌, ◌-◌, ◌^◌, ◌<◌, ◌≤◌, ℤ, pos, negsuc, neg_ℤ, Bool, true, false, not, ◌&&◌, cond, min, Option, Some, None, List, length, take, if◌then◌else◌, refl, sym, ap, subst, ◌∙◌, inl, inr, ◌⊎◌, arith}
-use Rattle.uring_files.proofs.Common.{FailureChangesNothing, FileContents, IsForFiles, IsOutcome, Nothing, Op, Outcome, Put, after, and_cases, bytes_after, change_by, ended_with, eqb-true, file_asked, file_changed, file_of, has_effect, int_eq, is_lengthening, is_past_end, is_too_long, length-set, ltb-false, max_len, nat_lt, not-false, on_file, option_map_or, overwritten, read_outcome, result_of, true≢false, with_changed, with_writes_synced, written, ◌==◌}
+use Rattle.std.proofs.Common.{◌≡◌, ℕ, ◌-◌, ◌^◌, ◌<◌, ◌≤◌, ℤ, pos, negsuc, neg_ℤ, Bool, true, false, not, ◌&&◌, cond, min, Option, Some, None, List, length, take, if◌then◌else◌, refl, sym, ap, inl, inr, ◌⊎◌, arith}
+use Rattle.uring_files.proofs.Common.{FailureChangesNothing, FileContents, IsForFiles, IsOutcome, Nothing, Op, Outcome, after, bytes_after, change_by, ended_with, file_asked, file_changed, file_of, int_eq, is_lengthening, is_past_end, is_too_long, length-set, on_file, option_map_or, overwritten, read_outcome, result_of, true≢false, with_changed, with_writes_synced, written}
 use Rattle.std.proofs.Math.Nat.{min-le_left}
 use Rattle.uring_entry.specs.declared.errno.TheConstants.{EBADF, ECANCELED, EFBIG, ENOMEM}
 use Rattle.uring_entry.specs.declared.operation.Op.TheVariants.{Nop, Read, Write, Fsync, Cancel}
-use Rattle.uring_files.proofs.Effects.{on_its_file, short_one, write_leaves, put_on}
 
 -- an end with a number of bytes, which is no great one
 abbrev pub IsGrowth : Outcome → Type 0
@@ -76,8 +75,7 @@ pub record Does (op : Op) (t : Task) : Type 0 where
 -- ---- a read
 
 never : (file : Option FileContents) → false ≡ option_map_or (λ f. false) file false
-never None = refl
-never (Some f) = refl
+never file = grind arith
 
 abbrev read_task : ℤ → ℕ → ℕ → Task
 read_task fd off len = record {
@@ -94,16 +92,7 @@ read_of off len bytes =
     read_outcome off len (record { bytes = bytes; writes = 0; synced = 0 })
 
 read_does : (fd : ℤ) (off len : ℕ) → Does (Read fd off len) (read_task fd off len)
-read_does fd off len = record {
-  asked = refl;
-  most = refl;
-  ends = λ files. refl;
-  lengthens = λ files. never (file_of files fd);
-  after = λ files res. refl;
-  bytes = λ files outcome was here called. refl;
-  changed = λ size other is. let e : None ≡ Some other = is in absurd cc;
-  stays = λ shorter longer within. inl refl;
-}
+read_does fd off len = grind arith
 
 read_is : (fd : ℤ) (off len : ℕ) → IsTask (read_task fd off len)
 read_is fd off len = record {
@@ -128,17 +117,13 @@ write_task fd off len bytes = record {
 }
 
 few_bytes : (off len : ℕ) → is_too_long off len ≡ false → len < 2 ^ 63
-few_bytes off len e = elim (and_cases (not (len == 0)) (nat_lt max_len (off + len)) e) [
-  | inl none ↦ let zero : len ≡ 0 = eqb-true len 0 (not-false (len == 0) none) in omega arith
-  | inr within ↦ let bound : off + len ≤ 65536 = ltb-false 65536 (off + len) within in omega arith
-]
+few_bytes off len e = grind arith
 
 -- how a write ends by whether it is too long
 
 given_at : (long : Bool) (len : ℕ)
     → IsGiven len (ended_with (if long then neg_ℤ EFBIG else pos len)).res
-given_at true len = inr refl
-given_at false len = inl (len, omega arith, refl)
+given_at long len = grind arith
 
 growth_at : (off len : ℕ) (file : FileContents) (long : Bool) → is_too_long off len ≡ long
     → (not long && is_past_end off len file) ≡ true
@@ -152,18 +137,7 @@ longer_of off len bytes =
 
 write_does : (fd : ℤ) (off len : ℕ) (bytes : List ℕ)
     → Does (Write fd off len bytes) (write_task fd off len bytes)
-write_does fd off len bytes = record {
-  asked = refl;
-  most = refl;
-  ends = λ files. refl;
-  lengthens = λ files. refl;
-  after = λ files res. refl;
-  bytes = λ files outcome was here called.
-      write_leaves (has_effect off len) (int_eq outcome.res (pos len)) fd off len bytes outcome.res was refl
-      (λ none good. short_one off len len was outcome none good (on_its_file files (Write fd off len bytes) fd was (write_task fd off len bytes).ends outcome refl here called));
-  changed = λ size other is. put_on (has_effect off len) (Put fd off len bytes (pos len)) fd other is refl;
-  stays = λ shorter longer within. inr refl;
-}
+write_does fd off len bytes = grind arith
 
 write_is : (fd : ℤ) (off len : ℕ) (bytes : List ℕ) → IsTask (write_task fd off len bytes)
 write_is fd off len bytes = record {
@@ -189,20 +163,10 @@ sync_task fd = record {
 
 synced_bytes : (good : Bool) (was : FileContents)
     → was.bytes ≡ (cond good (with_writes_synced was) was).bytes
-synced_bytes true was = refl
-synced_bytes false was = refl
+synced_bytes good was = grind arith
 
 sync_does : (fd : ℤ) → Does (Fsync fd) (sync_task fd)
-sync_does fd = record {
-  asked = refl;
-  most = refl;
-  ends = λ files. refl;
-  lengthens = λ files. never (file_of files fd);
-  after = λ files res. refl;
-  bytes = λ files outcome was here called. synced_bytes (int_eq outcome.res (pos 0)) was;
-  changed = λ size other is. let e : Some fd ≡ Some other = is in cc;
-  stays = λ shorter longer within. inr refl;
-}
+sync_does fd = grind arith
 
 sync_is : (fd : ℤ) → IsTask (sync_task fd)
 sync_is fd = record {
@@ -218,32 +182,15 @@ sync_is fd = record {
 
 pub cases : (op : Op) → IsIdle op ⊎ ((t : Task) × Does op t × IsTask t)
 cases (Read fd off len) = inr (read_task fd off len, read_does fd off len, read_is fd off len)
-cases (Write fd off len bytes) =
-    inr (write_task fd off len bytes, write_does fd off len bytes, write_is fd off len bytes)
+cases (Write fd off len bytes) = grind (arith, (write_is fd off len bytes))
 cases (Fsync fd) = inr (sync_task fd, sync_does fd, sync_is fd)
-cases Nop = inl (record {
-  asked = refl;
-  ends = λ files. refl;
-  lengthens = λ files. refl;
-  after = λ files res. refl;
-  changed = λ size. refl;
-})
-cases (Cancel target all) = inl (record {
-  asked = refl;
-  ends = λ files. refl;
-  lengthens = λ files. refl;
-  after = λ files res. refl;
-  changed = λ size. refl;
-})
+cases Nop = grind arith
+cases (Cancel target all) = grind arith
 
 -- what can be asked of files: whatever is no cancel, and gives no great result
 pub for_files : (op : Op) → ((target : ℕ) (all : Bool) → op ≡ Cancel target all → ⊥) → most_of op ≤ 64
     → IsForFiles op
-for_files Nop other small = tt
-for_files (Read fd off len) other small = small
-for_files (Write fd off len bytes) other small = small
-for_files (Fsync fd) other small = tt
-for_files (Cancel target all) other small = other target all refl
+for_files op other small = grind arith
 
 -- ==== what follows, whichever operation it is
 
@@ -251,31 +198,20 @@ for_files (Cancel target all) other small = other target all refl
 
 failed_by : (chosen : Bool) (files changed : List FileContents) → chosen ≡ false
     → cond chosen changed files ≡ files
-failed_by true files changed e = absurd (true≢false e)
-failed_by false files changed e = refl
+failed_by chosen files changed e = grind arith
 
 pub failed : FailureChangesNothing
-failed files op below = elim (cases op) [
-  | inl idle ↦ idle.after files (negsuc below)
-  | inr busy ↦
-      busy.1.after files (negsuc below) ∙ failed_by (busy.0.changes (negsuc below)) files (with_changed files busy.0.fd busy.0.change) (busy.2.failed below)
-]
+failed files op below = grind arith
 
 -- as many files after an operation as before
 
 many_changed : (chosen : Bool) (files : List FileContents) (fd : ℤ) (change : FileContents → FileContents)
     → length (cond chosen (with_changed files fd change) files) ≡ length files
-many_changed false files fd change = refl
-many_changed true files (pos fd) change = length-set files fd _
-many_changed true files (negsuc below) change = refl
+many_changed chosen files fd change = grind (arith, length-set)
 
 pub many_after : (files : List FileContents) (op : Op) (res : ℤ)
     → length (after files op res) ≡ length files
-many_after files op res = elim (cases op) [
-  | inl idle ↦ ap length (idle.after files res)
-  | inr busy ↦
-      ap length (busy.1.after files res) ∙ many_changed (busy.0.changes res) files busy.0.fd busy.0.change
-]
+many_after files op res = grind (arith, many_changed)
 
 -- What is called for: a number, no file, or that the file would be too long.
 
@@ -284,21 +220,13 @@ IsCalled most res = IsGiven most res ⊎ (res ≡ neg_ℤ EBADF)
 
 on_file_called : (file : Option FileContents) (most : ℕ) (ends : FileContents → Outcome)
     → ((f : FileContents) → IsGiven most (ends f).res) → IsCalled most (on_file file ends).res
-on_file_called None most ends given = inr refl
-on_file_called (Some file) most ends given = inl (given file)
+on_file_called file most ends given = grind arith
 
 zero_called : (most : ℕ) → IsCalled most (pos 0)
 zero_called most = inl (inl (0, omega arith, refl))
 
 pub result_called : (files : List FileContents) (op : Op) → IsCalled (most_of op) (result_of files op).res
-result_called files op = elim (cases op) [
-  | inl idle ↦
-      subst (λ (o : Outcome). IsCalled (most_of op) o.res) (sym (idle.ends files)) (zero_called (most_of op))
-  | inr busy ↦
-      subst (λ (o : Outcome). IsCalled (most_of op) o.res) (sym (busy.1.ends files))
-      (subst (λ (m : ℕ). IsCalled m (on_file (file_of files busy.0.fd) busy.0.ends).res) (sym busy.1.most)
-      (on_file_called (file_of files busy.0.fd) busy.0.most busy.0.ends busy.2.given))
-]
+result_called files op = grind arith
 
 -- No operation gives ECANCELED.
 
@@ -306,43 +234,26 @@ abbrev pub IsOther : ℤ → Type 0
 IsOther res = int_eq res (neg_ℤ ECANCELED) ≡ false
 
 called_other : (most : ℕ) (res : ℤ) → IsCalled most res → IsOther res
-called_other most res (inl (inl n)) = ap (λ r. int_eq r (neg_ℤ ECANCELED)) n.2
-called_other most res (inl (inr long)) = ap (λ r. int_eq r (neg_ℤ ECANCELED)) long
-called_other most res (inr none) = ap (λ r. int_eq r (neg_ℤ ECANCELED)) none
+called_other most res h = grind arith
 
 pub outcome_other : (files : List FileContents) (op : Op) (outcome : Outcome)
     → IsOutcome files op outcome → IsOther outcome.res
-outcome_other files op outcome (inl called) =
-    ap (λ (o : Outcome). int_eq o.res (neg_ℤ ECANCELED)) called
-    ∙ called_other (most_of op) (result_of files op).res (result_called files op)
-outcome_other files op outcome (inr failed) =
-    ap (λ (o : Outcome). int_eq o.res (neg_ℤ ECANCELED)) failed.1
+outcome_other files op outcome h = grind arith
 
 -- No operation is called for to end with ENOMEM.
 
 called_granted : (most : ℕ) (res : ℤ) → IsCalled most res → res ≡ neg_ℤ ENOMEM → ⊥
-called_granted most res (inl (inl n)) is =
-    absurd (true≢false (ap (λ r. int_eq r (neg_ℤ ENOMEM)) (sym is ∙ n.2)))
-called_granted most res (inl (inr long)) is =
-    absurd (true≢false (ap (λ r. int_eq r (neg_ℤ ENOMEM)) (sym is ∙ long)))
-called_granted most res (inr none) is =
-    absurd (true≢false (ap (λ r. int_eq r (neg_ℤ ENOMEM)) (sym is ∙ none)))
+called_granted most res h is = grind arith
 
 pub result_granted : (files : List FileContents) (op : Op) → (result_of files op).res ≡ neg_ℤ ENOMEM → ⊥
-result_granted files op is =
-    called_granted (most_of op) (result_of files op).res (result_called files op) is
+result_granted files op is = grind arith
 
 -- What makes its file longer ends with a number of bytes.
 
 grown_on : (file : Option FileContents) (t : Task) → IsTask t
     → option_map_or t.lengthens file false ≡ true → IsGrowth (on_file file t.ends)
-grown_on None t is e = absurd (true≢false (sym e))
-grown_on (Some file) t is e = is.grown file e
+grown_on file t is e = grind arith
 
 pub growth : (files : List FileContents) (op : Op) → is_lengthening files op ≡ true
     → IsGrowth (result_of files op)
-growth files op e = elim (cases op) [
-  | inl idle ↦ absurd (true≢false (sym e ∙ idle.lengthens files))
-  | inr busy ↦
-      subst IsGrowth (sym (busy.1.ends files)) (grown_on (file_of files busy.0.fd) busy.0 busy.2 (sym (busy.1.lengthens files) ∙ e))
-]
+growth files op e = grind (arith, (cases op), true≢false)

@@ -1,5 +1,5 @@
 -- Bytes written over others.
-use Rattle.std.proofs.Common.{◌≡◌, ℕ, ◌+◌, ◌-◌, ◌≤◌, ◌∙◌, ap, ap₂, subst, max, List, ◌++◌, length, get_or, take, drop, replicate, inl, inr, sym, arith, rules}
+use Rattle.std.proofs.Common.{◌≡◌, ℕ, ◌+◌, ◌-◌, ◌≤◌, ◌∙◌, ap, ap₂, max, List, ◌++◌, length, get_or, take, drop, replicate, inl, inr, sym, arith, rules}
 use Rattle.std.proofs.Math.Seq.{take-append-add}
 use Rattle.std.proofs.lemmas.Bool.{cases_lt}
 use Rattle.std.proofs.lemmas.List.{append-nil, drop_all, length-append, length-replicate, take-append-le, take-replicate}
@@ -18,21 +18,12 @@ front_filled old off n fits = elim (cases_lt (length old) off) [
       ap (λ k. take k (old ++ replicate (n - length old) 0)) more
       ∙ take-append-add old (replicate (n - length old) 0) (off - length old)
       ∙ ap₂ (λ xs ys. xs ++ ys) (sym (take_all off old (omega arith))) (take-replicate (off - length old) (n - length old) 0 (omega arith))
-  | inr within ↦
-      let none : off - length old ≡ 0 = omega arith in
-      rw none (take-append-le off old _ within ∙ sym (append-nil (take off old)))
+  | inr within ↦ grind (arith, take-append-le, append-nil)
 ]
 
 back_filled : (old : List ℕ) (from : ℕ)
     → drop from (old ++ replicate (from - length old) 0) ≡ drop from old
-back_filled old from =
-    let filled = old ++ replicate (from - length old) 0 in
-    elim (cases_lt (length old) from) [
-      | inl past ↦ drop_all from filled (omega (arith, length-append old (replicate (from - length old) 0), length-replicate {A = ℕ} (from - length old) 0)) ∙ sym (drop_all from old (omega arith))
-      | inr within ↦
-          let none : from - length old ≡ 0 = omega arith in
-          rw none (ap (drop from) (append-nil old))
-    ]
+back_filled old from = grind (arith, drop_all, length-append, length-replicate, append-nil)
 
 -- what is written into bytes that were filled up with zeros
 pub replaced_is : (old new : List ℕ) (off n : ℕ) → 1 ≤ length new
@@ -59,10 +50,7 @@ pub filled_and_replaced : (old grown seen put new : List ℕ) (off n len size : 
     → length put ≡ length seen → size ≡ length grown
     → take size (put ++ drop (length put) grown) ≡ overwritten old off new
 filled_and_replaced old grown seen put new off n len size len_is some n_is grown_is seen_is put_is same size_is =
-    let filled : grown ≡ take n old ++ replicate (n - length old) 0 = subst (λ m. grown ≡ take n old ++ replicate (n - m) 0) len_is grown_is in
-    let whole = whole_part put grown size (same ∙ ap length seen_is) size_is in
-    let over : take off grown ++ new ++ drop (off + length new) grown ≡ overwritten old off new = rw filled (replaced_is old new off n some (rw (← len_is) n_is)) in
-    whole ∙ put_is ∙ ap (λ xs. take off xs ++ new ++ drop (off + length new) xs) seen_is ∙ over
+    grind (arith, whole_part, replaced_is)
 
 -- the parts of written-over bytes: each offset
 parts_at : (old new : List ℕ) (off k : ℕ)
@@ -78,5 +66,4 @@ parts_length old new off = grind (arith, places)
 -- bytes that were written over, offset by offset
 pub is_written_over : (old new : List ℕ) (off : ℕ) → 1 ≤ length new
     → IsWrittenOver old new off (overwritten old off new)
-is_written_over old new off some =
-    rw (some_bytes (length new) _ _ some) (record { len = parts_length old new off; bytes = parts_at old new off })
+is_written_over old new off some = grind (arith, parts_length, parts_at)

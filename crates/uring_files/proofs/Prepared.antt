@@ -1,39 +1,27 @@
 -- What a prepared entry asks of files, whichever operation it is.
 -- Stable: other crates may import what is pub.
-use Rattle.std.proofs.Common.{◌≡◌, ℕ, ℤ, ◌≤◌, ◌∙◌, refl, sym, arith, Bool, true, false, Option, Some, None, if◌then◌else◌}
-use Rattle.uring_files.proofs.Common.{IsForFiles, file_asked, ltb-false, not-false, true≢false}
+use Rattle.std.proofs.Common.{◌≡◌, ℕ, ℤ, ◌≤◌, ◌∙◌, sym, arith, Bool, true, false, Option, Some, None, if◌then◌else◌}
+use Rattle.uring_files.proofs.Common.{IsForFiles, file_asked, true≢false}
 use Rattle.uring_entry.specs.Layout.{Sqe, opcode_of, len_of}
-use Rattle.uring_entry.specs.Preparation.{fault_of, has_fault_of, operation_named, operation_of, is_cancel, is_served, is_transfer, is_on_file}
+use Rattle.uring_entry.specs.Preparation.{fault_of, operation_named, operation_of, is_cancel, is_served, is_transfer, is_on_file}
 use Rattle.uring_entry.proofs.Preparations.{cancel_asked}
 use Rattle.uring_entry.specs.declared.operation.Op.TheVariants.{Cancel}
 use Rattle.uring_entry.specs.declared.fault.Fault.{Fault}
-use Rattle.uring_entry.specs.declared.fault.Fault.TheVariants.{Flags, Opcode, Ioprio, OpFlags, Reserved, Len}
-use Rattle.uring_files.proofs.OperationCases.{most_of, for_files}
+use Rattle.uring_files.proofs.OperationCases.{most_of}
 
 -- what isn't found isn't the first
 not_first : (first : Bool) (fault : Fault) (later : Option Fault)
     → (if first then Some fault else later) ≡ None
     → (first ≡ false) × (later ≡ None)
-not_first true fault later none = cc
-not_first false fault later none = (refl, none)
+not_first first fault later none = grind arith
 
 -- an entry without a fault has an operation that is served
 pub is_served_of : (e : Sqe) → fault_of e ≡ None → is_served (opcode_of e) ≡ true
-is_served_of e none =
-    let flags = not_first (has_fault_of e Flags) Flags _ none in
-    let opcode = not_first (has_fault_of e Opcode) Opcode _ flags.1 in
-    not-false (is_served (opcode_of e)) opcode.0
+is_served_of e none = grind arith
 
 -- and isn't too long
 pub is_short : (e : Sqe) → fault_of e ≡ None → len_of e ≤ 64
-is_short e none =
-    let flags = not_first (has_fault_of e Flags) Flags _ none in
-    let opcode = not_first (has_fault_of e Opcode) Opcode _ flags.1 in
-    let ioprio = not_first (has_fault_of e Ioprio) Ioprio _ opcode.1 in
-    let op_flags = not_first (has_fault_of e OpFlags) OpFlags _ ioprio.1 in
-    let reserved = not_first (has_fault_of e Reserved) Reserved _ op_flags.1 in
-    let len = not_first (has_fault_of e Len) Len _ reserved.1 in
-    ltb-false 64 (len_of e) len.0
+is_short e none = grind (arith, not_first)
 
 -- no operation gives more than its entry's length
 most_named : (code : ℕ) (e : Sqe) → most_of (operation_named code e) ≤ len_of e
@@ -45,10 +33,7 @@ no_cancel e other target all is = true≢false (sym (cancel_asked e target all i
 
 -- an entry without a fault that is no cancel asks for what can be asked of files
 pub prepared : (e : Sqe) → fault_of e ≡ None → is_cancel e ≡ false → IsForFiles (operation_of e)
-prepared e none other =
-    let short : len_of e ≤ 64 = is_short e none in
-    let most : most_of (operation_of e) ≤ len_of e = most_named (opcode_of e) e in
-    for_files (operation_of e) (no_cancel e other) (omega (arith, short, most))
+prepared e none other = grind (arith, is_short, most_named)
 
 -- no served operation gives more than what its entry moves, if it moves any
 pub moved : (e : Sqe) → is_served (opcode_of e) ≡ true

@@ -1,14 +1,12 @@
 -- A call that is accepted before another move is made: the move can be made as well, and leads to the same, if no cancel names an entry of the call.
-use Rattle.std.proofs.Common.{◌≡◌, ℕ, zero, suc, ◌-◌, ◌<◌, ◌≤◌, ℤ, Bool, true, false, not, ◌&&◌, ◌||◌, ◌==◌, nat_lt, List, [], ◌∷◌, ◌++◌, length, Option, Some, if◌then◌else◌, refl, sym, ap, ap₂, ◌∙◌, inl, inr, arith, append-nil}
-use Rattle.uring_outcomes.proofs.Common.{AreUnnamed, ECANCELED, EINVAL, Moment, Requests, Sqe, addr_of, after, and_parts, both_ways, cancel_result, cases_Bool, cases_lt, chosen_by, cond-false, cond-true, count_result, doom_kept, doomed_result, ended_at_once, entry_kept, entry_of, false_from_ne_true, finished, get_or-append_right, has_ended, is_cancel, is_cancel_all, is_candidate, is_doomed, is_faulty, is_finishable, is_issuable, is_outstanding, is_ready, is_running, is_target, issued, least_below_same, length-append, longer, lt-ltb, ltb-true, moved, neg_ℤ, no_bytes, operation_of, option_to_list, posted_with, result_for, result_of, started, target_of, targets_of, user_data_of, with_call, with_ended, zero_entry}
+use Rattle.std.proofs.Common.{◌≡◌, ℕ, zero, suc, ◌<◌, ◌≤◌, ℤ, Bool, true, false, not, ◌&&◌, nat_lt, List, [], ◌∷◌, ◌++◌, length, Option, Some, if◌then◌else◌, refl, sym, ap, ap₂, ◌∙◌, inl, inr, arith, append-nil}
+use Rattle.uring_outcomes.proofs.Common.{AreUnnamed, Moment, Requests, Sqe, addr_of, and_parts, both_ways, cancel_result, cases_lt, chosen_by, cond-false, cond-true, doom_kept, ended_at_once, entry_kept, entry_of, false_from_ne_true, finished, get_or-append_right, is_cancel, is_candidate, is_doomed, is_finishable, is_running, is_target, issued, least_below_same, length-append, longer, lt-ltb, ltb-true, moved, result_for, target_of, targets_of, with_call}
 use Rattle.uring_laws.proofs.Growth.{IsCut}
 use Rattle.uring_entry.specs.Below.{least_below, all_below, found_or}
-use Rattle.uring_entry.specs.Success.{is_success}
 use Rattle.uring_outcomes.specs.declared.move_of_calls.Move.TheVariants as move
 use Rattle.uring_laws.proofs.AlikeRequests.{all_below_same}
 use Rattle.uring_laws.proofs.CalledRequests.{outstanding_kept, ready_kept}
 use Rattle.uring_outcomes.proofs.MovesLead.{can_of, can_then}
-use Rattle.uring_outcomes.proofs.Prompting.{candidate_names}
 
 -- Bounds that go further, over numbers at which a test fails.
 
@@ -46,21 +44,14 @@ result_same r call o = grind arith
 module _ (named : ℕ → Bool) (r : Requests) (call : List Sqe) (cut : IsCut r) (unnamed : AreUnnamed named call) where
   candidate_kept : (n k : ℕ) → n < length r.accepted → k < length r.accepted
       → is_candidate (with_call r call) n k ≡ is_candidate r n k
-  candidate_kept n k low less =
-      ap (λ b. b && not (k == n) && (user_data_of (entry_of (with_call r call) k) == addr_of (entry_of (with_call r call) n)) && not (is_doomed (with_call r call) k)) (outstanding_kept r call cut k less)
-      ∙ ap₂ (λ e f. is_outstanding r k && not (k == n) && (user_data_of e == addr_of f) && not (is_doomed (with_call r call) k)) (entry_kept r call cut k less) (entry_kept r call cut n low)
-      ∙ ap (λ b. is_outstanding r k && not (k == n) && (user_data_of (entry_of r k) == addr_of (entry_of r n)) && not b) (doom_kept r call cut k less)
+  candidate_kept n k low less = grind (arith, outstanding_kept, entry_kept, doom_kept)
 
   -- a cancel chooses none of the call's
   none_there : (n k : ℕ) → named (addr_of (entry_of r n)) ≡ true → n < length r.accepted
       → length r.accepted ≤ k → k < length (with_call r call).accepted
       → is_candidate (with_call r call) n k ≡ false
   none_there n k names low high within =
-      false_from_ne_true (is_candidate (with_call r call) n k) (λ can.
-      (let is = candidate_names (with_call r call) n k can in
-      both_ways (named (user_data_of (entry_of (with_call r call) k)))
-      (ap (λ e. named (user_data_of e)) (get_or-append_right r.accepted call (length r.accepted) k zero_entry refl high) ∙ unnamed (k - length r.accepted) zero_entry (omega (arith, length-append r.accepted call)))
-      (ap named is ∙ ap (λ e. named (addr_of e)) (entry_kept r call cut n low) ∙ names)))
+      grind (arith, false_from_ne_true, both_ways, get_or-append_right, length-append, entry_kept)
 
   target_kept : (n : ℕ) → named (addr_of (entry_of r n)) ≡ true → n < length r.accepted
       → target_of (with_call r call) n ≡ target_of r n
@@ -78,19 +69,11 @@ module _ (named : ℕ → Bool) (r : Requests) (call : List Sqe) (cut : IsCut r)
 
   pub result_kept : (n : ℕ) → named (addr_of (entry_of r n)) ≡ true → n < length r.accepted
       → cancel_result (with_call r call) n ≡ cancel_result r n
-  result_kept n names low =
-      ap (λ e. if is_cancel_all e then count_result (length (targets_of (with_call r call) n)) else result_for (with_call r call) (target_of (with_call r call) n)) (entry_kept r call cut n low)
-      ∙ ap₂ (λ ts res. if is_cancel_all (entry_of r n) then count_result (length ts) else res) (targets_kept n names low)
-      (ap (result_for (with_call r call)) (target_kept n names low) ∙ result_same r call (target_of r n))
+  result_kept n names low = grind (arith, entry_kept, targets_kept, target_kept, result_same)
 
   chosen_kept : (n : ℕ) (res : ℤ) → (is_cancel (entry_of r n) ≡ true → named (addr_of (entry_of r n)) ≡ true)
       → n < length r.accepted → chosen_by (with_call r call) n res ≡ chosen_by r n res
-  chosen_kept n res names low =
-      ap (λ e. if is_cancel e && is_success e res then (if is_cancel_all e then targets_of (with_call r call) n else option_to_list (target_of (with_call r call) n)) else []) (entry_kept r call cut n low)
-      ∙ elim (cases_Bool (is_cancel (entry_of r n))) [
-        | inl is ↦ rw (targets_kept n (names is) low, target_kept n (names is) low)
-        | inr other ↦ rw other
-      ]
+  chosen_kept n res names low = grind (arith, entry_kept, targets_kept, target_kept)
 
 -- A move after the call.
 
@@ -103,22 +86,11 @@ module _ (named : ℕ → Bool) (m : Moment) (call : List Sqe) (later : List (Li
       → n < length m.requests.accepted
       → ended_at_once (called m call later) n res ≡ called (ended_at_once m n res) call later
   ended_after n res names low =
-      ap₂ (λ chosen posted. record (called m call later) {
-        requests = with_ended (record (with_call m.requests call) { cancelled = m.requests.cancelled ++ chosen }) n res no_bytes;
-        posted = posted;
-      })
-      (chosen_kept named m.requests call cut unnamed n res names low)
-      (ap (λ e. posted_with m.posted e res no_bytes) (entry_kept m.requests call cut n low))
+      grind (arith, (chosen_kept named m.requests call cut unnamed n res names low), (entry_kept m.requests call cut n low))
 
   finished_after : (n : ℕ) → n < length m.requests.accepted
       → finished (called m call later) n ≡ called (finished m n) call later
-  finished_after n low =
-      ap (λ e. record (called m call later) {
-        requests = with_ended (with_call m.requests call) n (result_of m.files (operation_of e)).res (result_of m.files (operation_of e)).bytes;
-        posted = posted_with m.posted e (result_of m.files (operation_of e)).res (result_of m.files (operation_of e)).bytes;
-        files = after m.files (operation_of e) (result_of m.files (operation_of e)).res;
-      })
-      (entry_kept m.requests call cut n low)
+  finished_after n low = grind (arith, entry_kept)
 
   issued_after : (n : ℕ) → (is_cancel (entry_of m.requests n) ≡ true → named (addr_of (entry_of m.requests n)) ≡ true)
       → n < length m.requests.accepted
@@ -146,31 +118,16 @@ module _ (named : ℕ → Bool) (m : Moment) (call : List Sqe) (later : List (Li
         ∙ ap (ended_at_once (called m call later) n) (result_kept named r call cut unnamed n (names is) low)
         ∙ ended_after n (cancel_result r n) names low
         ∙ back (ended_at_once m n (cancel_result r n)) (cond-false (is_doomed r n) _ _ spared ∙ cond-true (is_cancel (entry_of r n)) _ _ is)
-    by_cancel false is spared =
-        cond-false (is_doomed q n) _ _ (doom ∙ spared)
-        ∙ cond-false (is_cancel (entry_of q n)) _ _ (ap is_cancel entry ∙ is)
-        ∙ back (started m n) (cond-false (is_doomed r n) _ _ spared ∙ cond-false (is_cancel (entry_of r n)) _ _ is)
+    by_cancel false is spared = grind (arith, doom, entry)
 
     by_doom : (doomed : Bool) → is_doomed r n ≡ doomed → issued (called m call later) n ≡ called (issued m n) call later
-    by_doom true is =
-        cond-true (is_doomed q n) _ _ (doom ∙ is)
-        ∙ ap (λ e. ended_at_once (called m call later) n (if is_faulty e then neg_ℤ EINVAL else neg_ℤ ECANCELED)) entry
-        ∙ ended_after n (doomed_result r n) names low
-        ∙ back (ended_at_once m n (doomed_result r n)) (cond-true (is_doomed r n) _ _ is)
+    by_doom true is = grind (arith, cond-true, doom, entry, ended_after)
     by_doom false is = by_cancel (is_cancel (entry_of r n)) refl is
 
   pub issue_after : (n : ℕ) (next : Moment) → (is_cancel (entry_of m.requests n) ≡ true → named (addr_of (entry_of m.requests n)) ≡ true)
       → moved m (move.Issue n) ≡ Some next
       → moved (called m call later) (move.Issue n) ≡ Some (called next call later)
-  issue_after n next names e =
-      let r : Requests = m.requests in
-      let q : Requests = with_call m.requests call in
-      let c = can_of (is_issuable r n) (issued m n) next e in
-      let p = and_parts (is_outstanding r n && not (is_running r n)) (is_doomed r n || is_ready r n) c.0 in
-      let o = and_parts (is_outstanding r n) (not (is_running r n)) p.0 in
-      let low : n < length r.accepted = ltb-true n (length r.accepted) (and_parts (nat_lt n (length r.accepted)) (not (has_ended r n)) o.0).0 in
-      let same : is_issuable q n ≡ is_issuable r n = ap (λ b. b && not (is_running r n) && (is_doomed q n || is_ready q n)) (outstanding_kept r call cut n low) ∙ ap₂ (λ d s. is_outstanding r n && not (is_running r n) && (d || s)) (doom_kept r call cut n low) (ready_kept r call cut n low) in
-      can_then (is_issuable q n) (issued (called m call later) n) (called next call later) (same ∙ c.0) (issued_after n names low ∙ ap (λ y. called y call later) c.1)
+  issue_after n next names e = grind (arith, can_of, ltb-true, outstanding_kept, doom_kept, ready_kept, can_then, issued_after)
 
   pub finish_after : (n : ℕ) (next : Moment) → moved m (move.Finish n) ≡ Some next
       → moved (called m call later) (move.Finish n) ≡ Some (called next call later)

@@ -25,12 +25,7 @@ record ItemsIn (g : Setup) (w : World) (files : List FileContents) (moves : List
 items_go_in : {moves : List Move} (g : Setup) (items : List Published) (w : World) (files : List FileContents) (words : List ℕ) (slot : ℕ)
     → Reaches g w files moves → Stands w.submission words 0 → slot + length items ≤ g.sq
     → length words + length items ≤ g.sq → ItemsIn g w files moves words slot items
-items_go_in g [] w files words slot there stands low few = record {
-  reaches = there;
-  staged_then = words;
-  many = omega arith;
-  stands = stands;
-}
+items_go_in g [] w files words slot there stands low few = grind arith
 items_go_in g (bad_word word ∷ later) w files words slot there stands low few =
     let one = word_staged g w words word (index_answer g w) stands (omega arith) refl in
     let w' : World = happens g w (step.Index word) answer.Staged in

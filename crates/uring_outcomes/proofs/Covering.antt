@@ -1,5 +1,5 @@
 -- That a walk covers all lists of moves: `path_taken` when a path is taken, `no_path` when it can't be made, and `all_found` when none is left.
-use Rattle.std.proofs.Common.{◌≡◌, ℕ, ◌<◌, List, [], ◌∷◌, ◌++◌, length, get_or, map, Option, Some, None, refl, sym, subst, ap, ap₂, ◌∙◌, arith, ◌⊎◌, inl, inr, append_assoc, append-nil}
+use Rattle.std.proofs.Common.{◌≡◌, ℕ, ◌<◌, List, [], ◌∷◌, ◌++◌, get_or, map, Option, Some, None, refl, sym, subst, ap, ap₂, ◌∙◌, arith, ◌⊎◌, inl, inr, append_assoc, append-nil}
 use Rattle.uring_outcomes.proofs.Common.{AddsOnce, AreAllEndings, AreDirect, AreEndings, AreNamed, AreOnce, BeginsIn, CanEnd, Contains, Contains-append_left, Contains-append_right, Contains-get_or, Contains-push, Contains-push_cases, Ending, HasLonger, HasNoted, IsCovered, IsDirect, IsOver, IsWalk, Moment, Move, Setup, Sqe, TakesPath, after_moves, among, ending_of, get_or-map, length-map, moved, option_and_then, starting}
 use Rattle.std.proofs.lemmas.List.Quantifiers.{all_pairs_push}
 use Rattle.uring_outcomes.proofs.Directing.{direct_moves_lead}
@@ -7,9 +7,7 @@ use Rattle.uring_outcomes.proofs.Directing.{direct_moves_lead}
 -- Lists.
 
 contains_map : {X Y : Type 0} (f : X → Y) (xs : List X) (x : X) → Contains xs x → Contains (map f xs) (f x)
-contains_map f xs x there =
-    let low : there.0 < length xs = there.1 in
-    (there.0, omega (arith, low, length-map xs f), get_or-map f xs there.0 x ∙ ap f there.2)
+contains_map f xs x there = grind (arith, length-map, get_or-map)
 
 none_there : {X : Type 0} (x : X) → Contains [] x → ⊥
 none_there x there = let low : there.0 < 0 = there.1 in omega (arith, low)
@@ -18,13 +16,11 @@ none_there x there = let low : there.0 < 0 = there.1 in omega (arith, low)
 
 then_same : (o : Option Moment) (f h : Moment → Option Moment) → ((y : Moment) → f y ≡ h y)
     → option_and_then f o ≡ option_and_then h o
-then_same None f h e = refl
-then_same (Some y) f h e = e y
+then_same o f h e = grind arith
 
 nested : (o : Option Moment) (f h : Moment → Option Moment)
     → option_and_then (λ y. option_and_then h (f y)) o ≡ option_and_then h (option_and_then f o)
-nested None f h = refl
-nested (Some y) f h = refl
+nested o f h = grind arith
 
 pub moves_after : (path rest : List Move) (m : Moment)
     → after_moves m (path ++ rest) ≡ option_and_then (λ y. after_moves y rest) (after_moves m path)
@@ -40,8 +36,7 @@ same_some m n e = cc
 direct_after : (names : List ℕ) (path : List Move) (x : Move) (later : List Move) (start m : Moment)
     → after_moves start path ≡ Some m → AreDirect (among names) start (path ++ x ∷ later)
     → IsDirect (among names) m x
-direct_after names [] x later start m leads direct =
-    subst (λ y. IsDirect (among names) y x) (same_some start m leads) direct.0
+direct_after names [] x later start m leads direct = grind arith
 direct_after names (first ∷ path) x later start m leads direct =
     by_first (moved start first) refl leads (λ next. direct_after names path x later next m) where
       by_first : (next : Option Moment) → moved start first ≡ next → option_and_then (λ n. after_moves n path) next ≡ Some m → ((n : Moment) → after_moves n path ≡ Some m → AreDirect (among names) n (path ++ x ∷ later) → IsDirect (among names) m x) → IsDirect (among names) m x
@@ -80,8 +75,7 @@ goes_on g calls names path m last todo after found (x ∷ later) leads longer no
 
 stays_todo : (todo after : List (List Move)) (path : List Move) (moves : List (List Move))
     → after ≡ todo ++ moves → Contains todo path → Contains after path
-stays_todo todo after path moves is there =
-    subst (λ ps. Contains ps path) (sym is) (Contains-append_left todo moves path there)
+stays_todo todo after path moves is there = grind (arith, (Contains-append_left todo moves path there))
 
 covered_on : (g : Setup) (calls : List (List Sqe)) (names : List ℕ) (path : List Move) (m : Moment) (todo after : List (List Move)) (found noted : List Ending)
     → after_moves (starting g calls) path ≡ Some m
@@ -124,11 +118,8 @@ pub path_taken : (g : Setup) (calls : List (List Sqe)) (names : List ℕ) (path 
     → after_moves (starting g calls) path ≡ Some m
     → HasLonger names m path todo after → HasNoted m found noted
     → TakesPath g calls names path todo found after noted
-path_taken g calls names path m todo after found noted leads longer n walk = record {
-  covered = covered_on g calls names path m todo after found noted leads longer n walk.covered;
-  right = right_on g calls path m found noted leads n walk.right;
-  once = n.once walk.once;
-}
+path_taken g calls names path m todo after found noted leads longer n walk =
+    grind (arith, (covered_on g calls names path m todo after found noted leads longer n walk.covered), (right_on g calls path m found noted leads n walk.right))
 
 -- nothing begins with a path that can't be made
 pub no_path : (g : Setup) (calls : List (List Sqe)) (names : List ℕ) (path : List Move) (todo : List (List Move)) (found : List Ending)
@@ -139,10 +130,7 @@ no_path g calls names path todo found none walk = record {
     | inl there ↦ inl there
     | inr b ↦ elim (Contains-push_cases todo path b.path b.there) [
       | inl old ↦ inr (record { path = b.path; rest = b.rest; there = old; is = b.is })
-      | inr this ↦
-          let is : moves ≡ path ++ b.rest = b.is ∙ ap (λ p. p ++ b.rest) (sym this) in
-          let fails : ◌≡◌ {A = Option Moment} None (Some last) = sym (ap (option_and_then (λ y. after_moves y b.rest)) none) ∙ (sym (moves_after path b.rest (starting g calls)) ∙ (sym (ap (after_moves (starting g calls)) is) ∙ ends)) in
-          absurd cc
+      | inr this ↦ grind (arith, moves_after)
     ]
   ];
   right = walk.right;
@@ -152,16 +140,7 @@ no_path g calls names path todo found none walk = record {
 -- The beginning, and the end.
 
 pub at_first : (g : Setup) (calls : List (List Sqe)) (names : List ℕ) → IsWalk g calls names ([] ∷ []) []
-at_first g calls names = record {
-  covered = λ moves last wanted ends over. inr (record {
-    path = [];
-    rest = moves;
-    there = (0, omega arith, refl);
-    is = refl;
-  });
-  right = λ e there. absurd (none_there e there);
-  once = λ i j d first low. absurd (omega (arith, first, low));
-}
+at_first g calls names = grind arith
 
 -- what names moves lead to is among those found
 found_by : (g : Setup) (calls : List (List Sqe)) (names : List ℕ) (found : List Ending) (e : Ending) (to : CanEnd g calls e)
@@ -214,9 +193,4 @@ noted_over m old new over adds =
     ]
 
 pub none_noted : (m : Moment) (found : List Ending) → (IsOver m → ⊥) → HasNoted m found found
-none_noted m found goes = record {
-  kept = λ e has. has;
-  right = λ e has. inl has;
-  noted = λ over. absurd (goes over);
-  once = λ o. o;
-}
+none_noted m found goes = grind arith

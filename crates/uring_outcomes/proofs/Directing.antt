@@ -1,8 +1,7 @@
 -- The law `direct_moves_lead`: prompt moves are followed by direct ones, which run ahead of them by calls that no cancel tells of.
 use Rattle.std.proofs.Common.{◌≡◌, ℕ, zero, suc, ◌<◌, Bool, false, not, List, [], ◌∷◌, length, Option, Some, None, if◌then◌else◌, refl, sym, subst, ap, ◌∙◌, ◌⊎◌, inl, inr, arith}
-use Rattle.uring_outcomes.proofs.Common.{All-cons, All-head, All-nil, All-tail, AreDirect, ArePrompt, AreUnnamed, DirectMovesLead, IsDirect, IsNextUnnamed, IsOver, IsPrompt, Moment, Move, Sqe, accepted, after_moves, and_parts, both_ways, cancel_result, cases_Bool, doomed_result, ended_at_once, entry_kept, entry_of, finished, has_ended, has_started, is_cancel, is_doomed, is_finishable, is_issuable, issued, moved, option_and_then, started, starting, user_data_of}
+use Rattle.uring_outcomes.proofs.Common.{All-cons, All-head, All-nil, All-tail, AreDirect, ArePrompt, AreUnnamed, DirectMovesLead, IsDirect, IsNextUnnamed, IsOver, IsPrompt, Moment, Move, Sqe, accepted, after_moves, and_parts, both_ways, cases_Bool, entry_kept, has_ended, has_started, moved, option_and_then, starting, user_data_of}
 use Rattle.uring_outcomes.specs.declared.move_of_calls.Move.TheVariants as move
-use Rattle.uring_outcomes.proofs.MovesLead.{can_of}
 use Rattle.uring_outcomes.proofs.Prompting.{IsCalm, one_calm, first_calm, prompt_moves_lead}
 use Rattle.uring_outcomes.proofs.CallsAhead.{called, issue_after, finish_after}
 
@@ -30,13 +29,7 @@ if_left b x y left e f = grind arith
 
 left_kept : (m next : Moment) (x : Move) → (x ≡ move.Accept → ⊥) → moved m x ≡ Some next
     → next.left ≡ m.left
-left_kept m next move.Accept other e = absurd (other refl)
-left_kept m next (move.Issue n) other e =
-    ap (λ (y : Moment). y.left) (sym (can_of (is_issuable m.requests n) (issued m n) next e).1)
-    ∙ if_left (is_doomed m.requests n) (ended_at_once m n (doomed_result m.requests n)) (if is_cancel (entry_of m.requests n) then ended_at_once m n (cancel_result m.requests n) else started m n) m.left refl
-    (if_left (is_cancel (entry_of m.requests n)) (ended_at_once m n (cancel_result m.requests n)) (started m n) m.left refl refl)
-left_kept m next (move.Finish n) other e =
-    ap (λ (y : Moment). y.left) (sym (can_of (is_finishable m.requests n) (finished m n) next e).1)
+left_kept m next x other e = grind arith
 
 -- such a move can be made one call ahead
 one_after : (named : ℕ → Bool) (m next : Moment) (x : Move) (e : IsNextUnnamed named m)
@@ -56,11 +49,7 @@ record IsMovedAhead (named : ℕ → Bool) (k : ℕ) (next there : Moment) (x : 
 -- and any number of calls ahead
 moved_ahead : (named : ℕ → Bool) (k : ℕ) (m next there : Moment) (x : Move) → (x ≡ move.Accept → ⊥)
     → IsCalm named m → moved m x ≡ Some next → IsAhead named k m there → IsMovedAhead named k next there x
-moved_ahead named zero m next there x other calm made ahead = record {
-  last = next;
-  made = subst (λ y. moved y x ≡ Some next) ahead made;
-  ahead = refl;
-}
+moved_ahead named zero m next there x other calm made ahead = grind arith
 moved_ahead named (suc k) m next there x other calm made (e, ahead) =
     let f = moved_ahead named k (called m e.call e.later) (called next e.call e.later) there x other (calm_called named m e calm) (one_after named m next x e other calm made) ahead in
     record {
@@ -121,13 +110,7 @@ first_call call other later others e = cc
 
 caught_up : (named : ℕ → Bool) (left : List (List Sqe)) (m : Moment) → m.left ≡ left
     → IsCaughtUp named m
-caught_up named [] m none = record {
-  k = 0;
-  there = m;
-  ahead = refl;
-  done = λ e. (let both : ◌≡◌ {A = List (List Sqe)} [] (e.call ∷ e.later) = sym none ∙ e.left in cc);
-  back = λ last to. to;
-}
+caught_up named [] m none = grind arith
 caught_up named (call ∷ later) m is =
     elim (unnamed_or named call) [
       | inl unnamed ↦
@@ -185,8 +168,7 @@ one_on : (named : ℕ → Bool) (k : ℕ) (m next there last : Moment) (x : Move
     → Follows named later last → IsCalm named m → IsAhead named k m there
     → (IsNextUnnamed named there → ⊥) → IsPrompt named m x → moved m x ≡ Some next
     → ArePrompt named next later → after_moves next later ≡ Some last → IsLed named there last
-one_on named k m next there last move.Accept later go_on calm ahead done prompt made are_prompt leads =
-    accept_on named k m next there last later go_on calm ahead done prompt made are_prompt leads
+one_on named k m next there last move.Accept later go_on calm ahead done prompt made are_prompt leads = grind (arith, accept_on)
 one_on named k m next there last (move.Issue n) later go_on calm ahead done prompt made are_prompt leads =
     other_on named k m next there last (move.Issue n) later (λ no. (let e : move.Issue n ≡ move.Accept = no in cc)) go_on calm ahead done prompt made are_prompt leads
 one_on named k m next there last (move.Finish n) later go_on calm ahead done prompt made are_prompt leads =
@@ -194,15 +176,10 @@ one_on named k m next there last (move.Finish n) later go_on calm ahead done pro
 
 -- at an end no call is left that could have been accepted ahead
 over_there : (named : ℕ → Bool) (k : ℕ) (m there : Moment) → IsOver m → IsAhead named k m there → there ≡ m
-over_there named zero m there over ahead = sym ahead
-over_there named (suc k) m there over (e, ahead) =
-    let both : ◌≡◌ {A = List (List Sqe)} [] (e.call ∷ e.later) = sym over.none_left ∙ e.left in absurd cc
+over_there named k m there over ahead = grind arith
 
 all_on : (named : ℕ → Bool) (moves : List Move) (last : Moment) → IsOver last → Follows named moves last
-all_on named [] last over k m there calm ahead done prompt leads =
-    let is : m ≡ last = same_some m last leads in
-    let same : there ≡ m = over_there named k m there (subst IsOver (sym is) over) ahead in
-    record { moves = []; leads = ap (λ y. Some y) (same ∙ is); direct = tt }
+all_on named [] last over k m there calm ahead done prompt leads = grind (arith, over_there)
 all_on named (x ∷ later) last over k m there calm ahead done prompt leads =
     by_first (moved m x) refl leads (all_on named later last over) where
       by_first : (next : Option Moment) → moved m x ≡ next → option_and_then (λ n. after_moves n later) next ≡ Some last → Follows named later last → IsLed named there last

@@ -1,7 +1,6 @@
 -- What ends a walk before its end: an operation that wasn't granted its memory, and calls with more entries than requests have numbers.
-use Rattle.std.proofs.Common.{◌≡◌, ℕ, ◌+◌, ◌≤◌, ◌^◌, Bool, true, false, List, [], ◌∷◌, ◌++◌, length, drop, get_or, Option, Some, None, Result, Ok, Err, if◌then◌else◌, refl, sym, subst, ap, ◌∙◌, arith, ◌<◌}
-use Rattle.uring_outcomes.proofs.Common.{Global, IfErr, IsErrAnd, Moment, Move, Run, Sqe, StandsAt, Vec, accepted, after_moves, cancel_result, doomed_result, ended_at_once, entries_of, entry_of, finished, is_cancel, is_doomed, is_finishable, is_issuable, issued, length-append, moved, option_and_then, started, starting, with_call}
-use Rattle.uring_outcomes.specs.declared.move_of_calls.Move.TheVariants as move
+use Rattle.std.proofs.Common.{◌≡◌, ℕ, ◌+◌, ◌≤◌, ◌^◌, Bool, List, [], ◌∷◌, length, drop, get_or, Option, Some, None, Result, Err, if◌then◌else◌, sym, subst, ap, arith, ◌<◌}
+use Rattle.uring_outcomes.proofs.Common.{Global, IfErr, IsErrAnd, Moment, Move, Run, Sqe, StandsAt, Vec, accepted, after_moves, cancel_result, doomed_result, ended_at_once, entries_of, length-append, moved, option_and_then, started, starting}
 use Rattle.uring_dispatch.specs.declared.errors.ReserveError.{ReserveError}
 use Rattle.uring_dispatch.specs.declared.errors.ReserveError.TheVariants as refused
 use Rattle.uring_outcomes.specs.Faults.{entry_count, IsReason, fault_of}
@@ -16,38 +15,25 @@ all_of m = length m.requests.accepted + entry_count m.left
 
 accept_keeps : (m next : Moment) (left : List (List Sqe)) → m.left ≡ left → accepted m left ≡ Some next
     → all_of next ≡ all_of m
-accept_keeps m next [] is so = absurd cc
-accept_keeps m next (call ∷ later) is so =
-    let left : entry_count m.left ≡ length call + entry_count later = ap entry_count is in
-    let new : next ≡ record m { requests = with_call m.requests call; left = later } = cc in
-    let sum : length (m.requests.accepted ++ call) + entry_count later ≡ length m.requests.accepted + entry_count m.left = omega (arith, left, length-append m.requests.accepted call) in
-    ap all_of new ∙ sum
+accept_keeps m next left is so = grind (arith, length-append)
 
 can_keep : (can : Bool) (m after next : Moment) → all_of after ≡ all_of m
     → (if can then Some after else None) ≡ Some next → all_of next ≡ all_of m
-can_keep true m after next same so = let is : after ≡ next = cc in ap all_of (sym is) ∙ same
-can_keep false m after next same so = absurd cc
+can_keep can m after next same so = grind arith
 
 issue_keeps : (doomed cancel : Bool) (m : Moment) (n : ℕ)
     → all_of (if doomed then ended_at_once m n (doomed_result m.requests n) else
     if cancel then ended_at_once m n (cancel_result m.requests n) else started m n) ≡ all_of m
-issue_keeps true cancel m n = refl
-issue_keeps false true m n = refl
-issue_keeps false false m n = refl
+issue_keeps doomed cancel m n = grind arith
 
 move_keeps : (m next : Moment) (x : Move) → moved m x ≡ Some next → all_of next ≡ all_of m
-move_keeps m next move.Accept so = accept_keeps m next m.left refl so
-move_keeps m next (move.Issue n) so =
-    can_keep (is_issuable m.requests n) m (issued m n) next (issue_keeps (is_doomed m.requests n) (is_cancel (entry_of m.requests n)) m n) so
-move_keeps m next (move.Finish n) so =
-    can_keep (is_finishable m.requests n) m (finished m n) next refl so
+move_keeps m next x so = grind (arith, accept_keeps, can_keep)
 
 first_then : (first : Option Moment) (m last : Moment) (later : List Move)
     → ((y : Moment) → first ≡ Some y → all_of y ≡ all_of m)
     → ((y : Moment) → after_moves y later ≡ Some last → all_of last ≡ all_of y)
     → option_and_then (λ y. after_moves y later) first ≡ Some last → all_of last ≡ all_of m
-first_then None m last later one rest so = absurd cc
-first_then (Some y) m last later one rest so = rest y so ∙ one y refl
+first_then first m last later one rest so = grind arith
 
 moves_keep : (moves : List Move) (m last : Moment) → after_moves m moves ≡ Some last
     → all_of last ≡ all_of m
@@ -70,15 +56,13 @@ next_among calls run m call at low is =
 -- of a fault that is told, whatever is so
 pub told : {T : Type 0} (r : Result T WalkFault) (P : WalkFault → Type 0) (f : WalkFault) → IsErrAnd r (λ x. x ≡ f)
     → P f → IfErr r P
-told (Ok x) P f is p = tt
-told (Err x) P f is p = subst P (sym is) p
+told r P f is p = grind arith
 
 -- a refusal of the dispatcher has its reason
 pub refusal_reason : (grants : ℕ → Type 0) (calls : List (List Sqe)) (e : ReserveError)
     → (e ≡ refused.Spent → 2 ^ 63 ≤ entry_count calls)
     → (e ≡ refused.NoMemory → ((n : ℕ) → grants n) → ⊥) → IsReason grants calls (fault_of e)
-refusal_reason grants calls refused.Spent spent memory = spent refl
-refusal_reason grants calls refused.NoMemory spent memory = memory refl
+refusal_reason grants calls e spent memory = grind arith
 
 -- what it doesn't end by
 
@@ -93,5 +77,4 @@ never_paths grants calls r reason is = subst (λ x. IfErr x (IsReason grants cal
 pub spent_but_paths : {T : Type 0} (grants : ℕ → Type 0) (calls : List (List Sqe)) (r : Result T WalkFault)
     → IfErr r (λ f. (f ≡ fault.Paths → ⊥) → IsReason grants calls f) → r ≡ Err fault.Spent
     → 2 ^ 63 ≤ entry_count calls
-spent_but_paths grants calls r reason is =
-    subst (λ x. IfErr x (λ f. (f ≡ fault.Paths → ⊥) → IsReason grants calls f)) is reason (λ e. cc)
+spent_but_paths grants calls r reason is = grind arith

@@ -1,6 +1,6 @@
 -- Endings and the places that are noted for their marks: what is there is found, and what is added is noted.
-use Rattle.std.proofs.Common.{◌≡◌, ℕ, ◌+◌, Bool, true, false, List, [], ◌∷◌, ◌++◌, length, get_or, Some, None, refl, sym, subst, ap, ◌∙◌, cond, arith, inl, inr}
-use Rattle.uring_outcomes.proofs.Common.{Contains, Contains-append_left, Contains-push, Ending, Global, HasPlace, IsSomeAnd, NotesPlace, Vec, both_ways, cases_lt, eq-eqb, eqb-true, get_or_append_left, length_push, nat_eq, slice_get}
+use Rattle.std.proofs.Common.{◌≡◌, ℕ, Bool, true, false, List, [], ◌∷◌, ◌++◌, length, get_or, Some, None, refl, sym, subst, ap, ◌∙◌, cond, arith, inl, inr}
+use Rattle.uring_outcomes.proofs.Common.{Contains, Contains-append_left, Contains-push, Ending, Global, HasPlace, IsSomeAnd, NotesPlace, Vec, cases_lt, eq-eqb, eqb-true, get_or_append_left, length_push, nat_eq, slice_get}
 use Rattle.std.specs.HashMap.{HashMap, get}
 use Rattle.std.proofs.lemmas.Option.{get_or_from_slice_get, slice_get-get_or, slice_get_within}
 use Rattle.std.proofs.lemmas.List.{get_or_push}
@@ -8,8 +8,7 @@ use Rattle.uring_outcomes.specs.Index.{mark_of}
 
 -- what stands in a list stands at a place of it
 pub place_of : (xs : List Ending) (e : Ending) → Contains xs e → (k : ℕ) × (slice_get xs k ≡ Some e)
-place_of xs e there =
-    (there.0, slice_get-get_or xs there.0 e there.1 ∙ ap (λ x. Some x) there.2)
+place_of xs e there = grind (arith, slice_get-get_or)
 
 -- the places that were known for a mark, and one more, are noted for it
 pub noted_more : {S : Type 0} (old mid new : HashMap ℕ (Vec ℕ Global) S) (known more : Vec ℕ Global) (mark place : ℕ)
@@ -29,9 +28,7 @@ noted_more old mid new known more mark place knows others is updates = record {
   by_mark m k has true same =
       let e : mark ≡ m = eqb-true mark m same in
       subst (λ j. HasPlace new j k) e (at_mark k (subst (λ xs. Contains xs k) (sym is) (Contains-append_left known.items (place ∷ []) k (knows k (subst (λ j. HasPlace old j k) (sym e) has)))))
-  by_mark m k has false other =
-      let e : get nat_eq new m ≡ get nat_eq old m = updates m ∙ (ap (λ b. cond b (Some more) (get nat_eq mid m)) other ∙ others m (λ s. both_ways (nat_eq mark m) other (eq-eqb mark m (sym s)))) in
-      subst (λ o. IsSomeAnd o (λ v. Contains v.items k)) (sym e) has
+  by_mark m k has false other = grind arith
 
 -- one ending more, whose place is noted for its mark
 pub indexed_more : {S : Type 0} (olds news : List Ending) (old new : HashMap ℕ (Vec ℕ Global) S) (e : Ending) (mark place : ℕ)
@@ -51,8 +48,7 @@ indexed_more olds news old new e mark place was is at more noted k x there =
 
 pub known_place : {S : Type 0} (places : HashMap ℕ (Vec ℕ Global) S) (known : Vec ℕ Global) (mark k : ℕ)
     → Some known ≡ get nat_eq places mark → HasPlace places mark k → Contains known.items k
-known_place places known mark k is has =
-    subst (λ o. IsSomeAnd o (λ v. Contains v.items k)) (sym is) has
+known_place places known mark k is has = grind arith
 
 pub no_place : {S : Type 0} (places : HashMap ℕ (Vec ℕ Global) S) (mark k : ℕ)
     → None ≡ get nat_eq places mark → HasPlace places mark k → ⊥

@@ -1,5 +1,5 @@
 -- Lists of items and of places: which entries they have, how many are dropped, and how calls are cut.
-use Rattle.std.proofs.Common.{◌≡◌, ℕ, ◌+◌, ◌≤◌, Bool, List, [], ◌∷◌, ◌++◌, length, take, drop, map, sum, Option, Some, None, cond, refl, sym, ap, ap₂, ◌∙◌, arith, append-nil}
+use Rattle.std.proofs.Common.{◌≡◌, ℕ, ◌+◌, ◌≤◌, Bool, List, [], ◌∷◌, ◌++◌, length, take, drop, map, sum, Option, cond, refl, sym, ap, ap₂, ◌∙◌, arith, append-nil}
 use Rattle.uring_outcomes.proofs.Common.{Place, Published, Sqe, Submission, bad_in, bad_word, drop-append_seam, drop-map, dropped_in, entries_from, entries_in, entry_in, is_bad, is_none, item_of, items_in, places_from, published_items, take-length, take-map, taken, with_entry}
 use Rattle.uring_entry.specs.Submission.{entries_of}
 use Rattle.std.specs.List.{cons_option}
@@ -11,8 +11,7 @@ abbrev pub item : Place → Published
 item place = item_of place.word place.entry
 
 entry_back : (word : ℕ) (entry : Option Sqe) → entry_in (item_of word entry) ≡ entry
-entry_back word None = refl
-entry_back word (Some entry) = refl
+entry_back word entry = grind arith
 
 -- the entries of places are those of their items
 pub entries_back : (places : List Place) → entries_in (map item places) ≡ entries_of places
@@ -20,8 +19,7 @@ entries_back [] = refl
 entries_back (p ∷ places) = ap₂ (λ o es. cons_option o es) (entry_back p.word p.entry) (entries_back places)
 
 bad_back : (word : ℕ) (entry : Option Sqe) → is_bad (item_of word entry) ≡ is_none entry
-bad_back word None = refl
-bad_back word (Some entry) = refl
+bad_back word entry = grind arith
 
 -- as many places drop their word as their items are bad
 pub dropped_back : (places : List Place) → bad_in (map item places) ≡ dropped_in places
@@ -51,5 +49,4 @@ items_more calls call = flat_map-append (λ (c : List Published). c) calls (call
 
 -- all calls have as many items as each has together
 pub length_items : (calls : List (List Published)) → length (items_in calls) ≡ sum (map length calls)
-length_items calls =
-    length-flat_map (λ (c : List Published). c) calls ∙ sym (sum-map length calls)
+length_items calls = grind (arith, length-flat_map, sum-map)

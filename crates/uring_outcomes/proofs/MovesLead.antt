@@ -34,8 +34,7 @@ then_moved : (first : Option Moment) (later : List Move) (m : Move)
     → ((y : Moment) → after_moves y (later ++ m ∷ []) ≡ option_and_then (λ z. moved z m) (after_moves y later))
     → option_and_then (λ y. after_moves y (later ++ m ∷ [])) first
     ≡ option_and_then (λ z. moved z m) (option_and_then (λ y. after_moves y later) first)
-then_moved None later m next = refl
-then_moved (Some y) later m next = next y
+then_moved first later m next = grind arith
 
 pub one_move_more : (moves : List Move) (x : Moment) (m : Move)
     → after_moves x (moves ++ m ∷ []) ≡ option_and_then (λ z. moved z m) (after_moves x moves)
@@ -47,14 +46,7 @@ comes_on : {moves : List Move} {first : List (List Published)} (g : Setup) (w v 
     → v.submission ≡ w.submission
     → ((rest : List (List Sqe)) → moved (moment_of w files rest) m ≡ Some (moment_of v files' rest))
     → IsCome g v files' (moves ++ m ∷ []) c.calls
-comes_on {moves} g w v files files' m c same leads = record {
-  calls = c.calls;
-  more = [];
-  grows = sym (append-nil c.calls);
-  cut = c.cut ∙ ap (λ (l : Submission). l.calls) (sym same);
-  items = c.items ∙ ap (λ (l : Submission). take (taken l) (published_items l)) (sym same);
-  leads = λ rest. one_move_more moves (starting g (map entries_in c.calls ++ rest)) m ∙ (ap (option_and_then (λ z. moved z m)) (c.leads rest) ∙ leads rest);
-}
+comes_on {moves} g w v files files' m c same leads = grind (arith, append-nil, one_move_more)
 
 -- What changes nothing of a moment.
 
@@ -63,14 +55,7 @@ still : {moves : List Move} {first : List (List Published)} (g : Setup) (w v : W
     → take (taken v.submission) (published_items v.submission)
     ≡ take (taken w.submission) (published_items w.submission)
     → (c : IsCome g w files moves first) → IsCome g v files moves c.calls
-still {moves} g w v files requests posted calls items c = record {
-  calls = c.calls;
-  more = [];
-  grows = sym (append-nil c.calls);
-  cut = c.cut ∙ sym calls;
-  items = c.items ∙ sym items;
-  leads = λ rest. c.leads rest ∙ ap₂ (λ r p. Some (record { requests = r; posted = p; files = files; left = rest })) (sym requests) (sym posted);
-}
+still {moves} g w v files requests posted calls items c = grind (arith, append-nil)
 
 -- A call.
 
@@ -122,9 +107,7 @@ issuable_so outstanding running doomed ready e f h = grind arith
 at_once : (g : Setup) (w : World) (n : ℕ) (res : ℤ) (files : List FileContents) (rest : List (List Sqe))
     → ended_at_once (moment_of w files rest) n res
     ≡ moment_of (happens (by_manual g) w (step.Issue n) (answer.Ended res no_bytes)) files rest
-at_once g w n res files rest =
-    let v : World = happens (by_manual g) w (step.Issue n) (answer.Ended res no_bytes) in
-    ap (λ posted. record { requests = v.requests; posted = posted; files = files; left = rest }) (sym (posted_by_end g.cq w.completions (entry_of w.requests n) res no_bytes))
+at_once g w n res files rest = grind arith
 
 -- the world after a finish that refuses no memory
 finish_comes : {moves : List Move} {first : List (List Published)} (g : Setup) (w : World) (n : ℕ) → is_running w.requests n ≡ true → IsSound (by_manual g) w
@@ -145,11 +128,7 @@ finish_comes {moves} g w n running sound c =
 -- an event that tells nothing makes no move
 pub silent_makes_none : (s : Step) (a : Answer) (moves : List Move) → IsSilent (s, a)
     → with_event s a moves ≡ moves
-silent_makes_none step.End (answer.Taken accepted missed head) moves q = absurd cc
-silent_makes_none (step.Issue n) answer.Run moves q = absurd cc
-silent_makes_none (step.Issue n) (answer.Ended res bytes) moves q = absurd cc
-silent_makes_none (step.Finish n) (answer.Ended res bytes) moves q = absurd cc
-silent_makes_none s a moves q = refl
+silent_makes_none s a moves q = grind arith
 
 -- one event more
 comes : {moves : List Move} {first : List (List Published)} (g : Setup) (w : World) (s : Step) (a : Answer) → Change (by_manual g) w s a → IsSound (by_manual g) w
@@ -194,17 +173,7 @@ pub record HasCome (g : Setup) (h : History) : Type 0 where
 
 -- before anything has happened
 pub come_at_first : (g : Setup) → HasCome g []
-come_at_first g = record {
-  first = [];
-  come = record {
-    calls = [];
-    more = [];
-    grows = refl;
-    cut = refl;
-    items = refl;
-    leads = λ rest. refl;
-  };
-}
+come_at_first g = grind arith
 
 -- one event more, in a history
 pub comes_after : (g : Setup) (s : Step) (a : Answer) (before : History) → IsLawful (by_manual g) ((s, a) ∷ before)

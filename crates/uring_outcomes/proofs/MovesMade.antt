@@ -1,6 +1,6 @@
 -- Each list of moves is made by some lawful history of the manual pages' rules: from a world that shows the moment, move by move.
 use Rattle.std.proofs.Common.{◌≡◌, ℕ, ◌+◌, ◌-◌, ◌^◌, ◌≤◌, ℤ, Bool, true, false, not, ◌&&◌, ◌||◌, nat_lt, List, [], ◌∷◌, ◌++◌, length, map, Some, None, if◌then◌else◌, refl, sym, subst, ap, ◌∙◌, arith, append_assoc, append-nil}
-use Rattle.uring_outcomes.proofs.Common.{All, All-head, All-tail, Answer, FileContents, Moment, Move, Outcome, Published, Requests, Setup, Sqe, Submission, World, after, after_moves, and_parts, bad_word, by_manual, cancel_result, doomed_result, ended_at_once, entries_from, entries_in, entry_of, finished, happens, is_cancel, is_doomed, is_finishable, is_issuable, is_outstanding, is_ready, is_running, issue_answer, issued, items_in, le-ltb, length-append, length-map, map-append, no_bytes, operation_of, option_and_then, posted_with, published_items, result_of, started, taken, unwrap_or, with_call, with_entry, with_event}
+use Rattle.uring_outcomes.proofs.Common.{All, All-head, All-tail, Answer, FileContents, Moment, Move, Outcome, Published, Requests, Setup, Sqe, Submission, World, after, after_moves, and_parts, bad_word, by_manual, cancel_result, doomed_result, ended_at_once, entries_from, entries_in, entry_of, finished, happens, is_cancel, is_doomed, is_finishable, is_issuable, is_outstanding, is_ready, is_running, issue_answer, issued, items_in, le-ltb, length-append, length-map, map-append, no_bytes, operation_of, option_and_then, posted_with, published_items, result_of, started, taken, with_call, with_entry, with_event}
 use Rattle.uring_entry.specs.Completions.{Completions, with_end}
 use Rattle.uring_core.specs.declared.step.Step.TheVariants as step
 use Rattle.uring_core.specs.declared.answer.Answer.TheVariants as answer
@@ -77,15 +77,7 @@ record Aside (w v : World) : Type 0 where
 between_still : {moves moves' : List Move} (g : Setup) (w v : World) (files files' : List FileContents) (done : List (List Published))
     → Between g w files done moves → Aside w v → Reaches g v files' moves'
     → Between g v files' done moves'
-between_still g w v files files' done b aside there = record {
-  reaches = there;
-  stands = subst (λ l. Stands l [] 0) (sym aside.submission) b.stands;
-  is_open = aside.closed ∙ b.is_open;
-  published = ap published_items aside.submission ∙ b.published;
-  cut = ap (λ (l : Submission). l.calls) aside.submission ∙ b.cut;
-  none_reaped = aside.reaped ∙ b.none_reaped;
-  none_stored = aside.stored ∙ b.none_stored;
-}
+between_still g w v files files' done b aside there = grind arith
 
 -- an end reaps none, and stores no head
 end_leaves : (size : ℕ) (l : Completions) (entry : Sqe) (res : ℤ) (bytes : List ℕ)
@@ -100,20 +92,7 @@ record IssueMade (g : Setup) (w : World) (n : ℕ) (files : List FileContents) (
 
 ends_at_once : (g : Setup) (w : World) (n : ℕ) (files : List FileContents) (left : List (List Sqe)) (res : ℤ)
     → IssueMade (by_manual g) w n files left (answer.Ended res no_bytes) (ended_at_once (moment_of w files left) n res)
-ends_at_once g w n files left res =
-    let v : World = happens (by_manual g) w (step.Issue n) (answer.Ended res no_bytes) in
-    record {
-      not_again = λ e. cc;
-      moves = λ before. refl;
-      shows = ap (λ posted. record { requests = v.requests; posted = posted; files = files; left = left }) (posted_by_end g.cq w.completions (entry_of w.requests n) res no_bytes);
-      aside = record {
-        submission = refl;
-        closed = refl;
-        accepted = refl;
-        reaped = (end_leaves g.cq w.completions (entry_of w.requests n) res no_bytes).0;
-        stored = (end_leaves g.cq w.completions (entry_of w.requests n) res no_bytes).1;
-      };
-    }
+ends_at_once g w n files left res = grind arith
 
 run_apart : answer.Run ≡ answer.Again → ⊥
 run_apart e = cc
@@ -125,14 +104,8 @@ issue_made : (g : Setup) (w : World) (n : ℕ) (files : List FileContents) (left
     (if doomed then ended_at_once (moment_of w files left) n (doomed_result w.requests n) else (if cancel then ended_at_once (moment_of w files left) n (cancel_result w.requests n) else started (moment_of w files left) n))
 issue_made g w n files left true false true ready cancel can =
     ends_at_once g w n files left (doomed_result w.requests n)
-issue_made g w n files left true false false true true can =
-    ends_at_once g w n files left (cancel_result w.requests n)
-issue_made g w n files left true false false true false can = record {
-  not_again = run_apart;
-  moves = λ before. refl;
-  shows = refl;
-  aside = record { submission = refl; closed = refl; accepted = refl; reaped = refl; stored = refl };
-}
+issue_made g w n files left true false false true true can = grind arith
+issue_made g w n files left true false false true false can = grind arith
 issue_made g w n files left _ _ _ _ _ can = absurd cc
 
 -- All moves.
@@ -207,15 +180,7 @@ finish_step g calls last n later next w files done rest before split b fit room 
 
 pub moves_made : (g : Setup) → g.stops ≡ false → (calls : List (List Published)) (last : Moment) (moves : List Move)
     → AreMade (by_manual g) calls last moves
-moves_made g goes calls last [] = λ w files done rest before split b fit room leads. record {
-  there = w;
-  files = files;
-  done = done;
-  rest = rest;
-  between = subst (Between (by_manual g) w files done) (sym (append-nil before)) b;
-  shows = ap (λ o. unwrap_or o last) leads;
-  split = split;
-}
+moves_made g goes calls last [] = grind (arith, append-nil)
 moves_made g goes calls last (move.Accept ∷ later) = accept_made (by_manual g) goes refl calls last later (moves_made g goes calls last later)
 moves_made g goes calls last (move.Issue n ∷ later) = issue_step g calls last n later (moves_made g goes calls last later)
 moves_made g goes calls last (move.Finish n ∷ later) = finish_step g calls last n later (moves_made g goes calls last later)

@@ -1,13 +1,13 @@
 -- What the dispatcher answers, and the moves that it makes: `issue_moves`, `accept_moves` and `finish_moves`.
 -- What the run stands at after them.
-use Rattle.std.proofs.Common.{◌≡◌, ℕ, suc, ◌+◌, ◌<◌, ◌≤◌, ℤ, neg_ℤ, Bool, true, false, not, ◌&&◌, ◌||◌, nat_lt, nat_le, if◌then◌else◌, List, [], ◌∷◌, ◌++◌, length, drop, get_or, Option, Some, None, refl, sym, subst, ap, ◌∙◌, arith, inl, inr}
-use Rattle.uring_outcomes.proofs.Common.{ENOMEM, FileContents, Global, IsOutcome, IsReached, MadeAs, Moment, Move, Op, Outcome, Requests, Sqe, Vec, accepted, and_parts, cancel_result, doomed_result, drop-cons, drop_all, ended_at_once, entries_of, entry_of, entry_outstanding, false_from_ne_true, finished, get_or-map, has_ended, has_started, is_cancel, is_doomed, is_finishable, is_issuable, is_outstanding, is_ready, is_running, issued, le-leb, least_below_some, leb-true, length-map, lt-ltb, ltb-true, moved, operation_of, operation_running, option_and_then, result_of, started, starting, with_call}
+use Rattle.std.proofs.Common.{◌≡◌, ℕ, suc, ◌+◌, ◌<◌, ◌≤◌, ℤ, neg_ℤ, Bool, true, false, not, ◌&&◌, ◌||◌, nat_le, if◌then◌else◌, List, [], ◌∷◌, length, drop, get_or, Option, Some, None, refl, sym, subst, ap, ◌∙◌, arith}
+use Rattle.uring_outcomes.proofs.Common.{ENOMEM, FileContents, Global, IsOutcome, IsReached, MadeAs, Moment, Move, Op, Outcome, Requests, Sqe, Vec, accepted, and_parts, drop-cons, drop_all, ended_at_once, entries_of, entry_of, entry_outstanding, false_from_ne_true, finished, get_or-map, has_ended, has_started, is_finishable, is_issuable, is_outstanding, is_running, issued, le-leb, least_below_some, leb-true, length-map, moved, operation_of, operation_running, result_of, started, starting, with_call}
 use Rattle.uring_dispatch.specs.Issuable.{issuable_from}
 use Rattle.uring_dispatch.specs.IssueAndFinish as asked
 use Rattle.uring_dispatch.specs.declared.answers.Issued.{Issued}
 use Rattle.uring_dispatch.specs.declared.answers.Issued.TheVariants.{Run, Ended, NotReady, Running, Unknown}
 use Rattle.uring_outcomes.specs.declared.move_of_calls.Move.TheVariants as move
-use Rattle.uring_outcomes.proofs.MovesLead.{one_move_more, can_then}
+use Rattle.uring_outcomes.proofs.MovesLead.{one_move_more}
 use Rattle.uring_outcomes.proofs.SoundMoments.{IsSoundMoment, moment_sound}
 
 -- What was made.
@@ -22,12 +22,7 @@ not_made P o is = subst (λ x. MadeAs false x P) (sym is) refl
 -- one move after a reached moment
 pub reached_on : (calls : List (List Sqe)) (m next : Moment) (x : Move) → IsReached calls m
     → moved m x ≡ Some next → IsReached calls next
-reached_on calls m next x r is = record {
-  setup = r.setup;
-  few_files = r.few_files;
-  moves = r.moves ++ x ∷ [];
-  leads = one_move_more r.moves (starting r.setup calls) x ∙ (ap (option_and_then (λ z. moved z x)) r.leads ∙ is);
-}
+reached_on calls m next x r is = grind (arith, (one_move_more r.moves (starting r.setup calls) x))
 
 pub sound_at : (calls : List (List Sqe)) (m : Moment) → IsReached calls m → IsSoundMoment m.requests
 sound_at calls m r = moment_sound r.setup calls r.moves m r.leads
@@ -61,24 +56,15 @@ IssueMoves m n Unknown o = o ≡ None
 
 moves_by : (m : Moment) (n : ℕ) (outstanding running doomed ready cancel : Bool) (as_doomed as_cancel : ℤ) (op : Op)
     → IssueMoves m n (answer_by outstanding running doomed ready cancel as_doomed as_cancel op) (move_by m n outstanding running doomed ready cancel as_doomed as_cancel)
-moves_by m n false running doomed ready cancel as_doomed as_cancel op = refl
-moves_by m n true true doomed ready cancel as_doomed as_cancel op = refl
-moves_by m n true false true ready cancel as_doomed as_cancel op = refl
-moves_by m n true false false false cancel as_doomed as_cancel op = refl
-moves_by m n true false false true true as_doomed as_cancel op = refl
-moves_by m n true false false true false as_doomed as_cancel op = refl
+moves_by m n outstanding running doomed ready cancel as_doomed as_cancel op = grind arith
 
 pub issue_moves : (m : Moment) (n : ℕ) (a : Issued) → a ≡ asked.issued m.requests n
     → IssueMoves m n a (moved m (move.Issue n))
-issue_moves m n a is =
-    let r : Requests = m.requests in
-    subst (λ x. IssueMoves m n x (moved m (move.Issue n))) (sym is)
-    (moves_by m n (is_outstanding r n) (is_running r n) (is_doomed r n) (is_ready r n) (is_cancel (entry_of r n)) (doomed_result r n) (cancel_result r n) (operation_of (entry_of r n)))
+issue_moves m n a is = grind arith
 
 -- the entry that is told of a request
 entry_by : (outstanding : Bool) (e told : Sqe) → Some told ≡ (if outstanding then Some e else None) → told ≡ e
-entry_by true e told is = cc
-entry_by false e told is = absurd cc
+entry_by outstanding e told is = grind arith
 
 pub entry_told : (r : Requests) (n : ℕ) (told : Sqe) → Some told ≡ entry_outstanding r n
     → told ≡ entry_of r n
@@ -86,8 +72,7 @@ entry_told r n told is = entry_by (is_outstanding r n) (entry_of r n) told is
 
 entry_there : (outstanding : Bool) (e : Sqe) → outstanding ≡ true
     → None ≡ (if outstanding then Some e else None) → ⊥
-entry_there true e is none = cc
-entry_there false e is none = cc
+entry_there outstanding e is none = grind arith
 
 -- an outstanding request has an entry
 pub told_if_outstanding : (r : Requests) (n : ℕ) → is_outstanding r n ≡ true → None ≡ entry_outstanding r n
@@ -116,8 +101,7 @@ accept_moves calls m k call left low is = ap (accepted m) (next_left calls m k c
 -- none is left after the last
 pub none_left : (calls : List (Vec Sqe Global)) (m : Moment) (k : ℕ) → m.left ≡ drop k (entries_of calls)
     → length calls ≤ k → m.left ≡ []
-none_left calls m k left past =
-    left ∙ drop_all k (entries_of calls) (omega (arith, length-map calls (λ (v : Vec Sqe Global). v.items)))
+none_left calls m k left past = grind (arith, drop_all, length-map)
 
 pub none_accepted : (m : Moment) → m.left ≡ [] → moved m move.Accept ≡ None
 none_accepted m none = ap (accepted m) none
@@ -135,8 +119,7 @@ some_left calls m k left low none =
 
 running_by : (running : Bool) (op told : Op) → Some told ≡ (if running then Some op else None)
     → (running ≡ true) × (told ≡ op)
-running_by true op told is = (refl, cc)
-running_by false op told is = absurd cc
+running_by running op told is = grind arith
 
 pub runs_told : (r : Requests) (n : ℕ) (told : Op) → Some told ≡ operation_running r n
     → (is_running r n ≡ true) × (told ≡ operation_of (entry_of r n))
@@ -148,30 +131,22 @@ pub running_accepted : (r : Requests) (n : ℕ) → IsSoundMoment r → is_runni
 running_accepted r n i running = i.sound.started_accepted n (and_parts (has_started r n) (not (has_ended r n)) running).0
 
 both_so : (a b : Bool) → a ≡ true → b ≡ true → (a && b) ≡ true
-both_so true true e f = refl
-both_so true false e f = absurd cc
-both_so false b e f = absurd cc
+both_so a b e f = grind arith
 
 -- and is outstanding
 pub running_outstanding : (r : Requests) (n : ℕ) → IsSoundMoment r → is_running r n ≡ true
     → is_outstanding r n ≡ true
-running_outstanding r n i running =
-    both_so (nat_lt n (length r.accepted)) (not (has_ended r n)) (lt-ltb n (length r.accepted) (running_accepted r n i running)) (and_parts (has_started r n) (not (has_ended r n)) running).1
+running_outstanding r n i running = grind arith
 
 pub finish_moves : (m : Moment) (n : ℕ) → IsSoundMoment m.requests → is_running m.requests n ≡ true
     → moved m (move.Finish n) ≡ Some (finished m n)
-finish_moves m n i running =
-    can_then (is_finishable m.requests n) (finished m n) (finished m n) (both_so (nat_lt n (length m.requests.accepted)) (is_running m.requests n) (lt-ltb n (length m.requests.accepted) (running_accepted m.requests n i running)) running) refl
+finish_moves m n i running = grind arith
 
 -- What can be made next.
 
 -- what can be issued was accepted
 pub issuable_accepted : (r : Requests) (n : ℕ) → is_issuable r n ≡ true → n < length r.accepted
-issuable_accepted r n can =
-    let p = and_parts (is_outstanding r n && not (is_running r n)) (is_doomed r n || is_ready r n) can in
-    let q = and_parts (is_outstanding r n) (not (is_running r n)) p.0 in
-    let s = and_parts (nat_lt n (length r.accepted)) (not (has_ended r n)) q.0 in
-    ltb-true n (length r.accepted) s.0
+issuable_accepted r n can = grind arith
 
 below_not : (n j : ℕ) → j < n → nat_le n j ≡ false
 below_not n j low = false_from_ne_true (nat_le n j) (λ e. let le : n ≤ j = leb-true n j e in omega arith)
@@ -187,8 +162,7 @@ issuable_first r n can =
 
 -- a move that can be made, by cases
 can_of : (can : Bool) (m next : Moment) → (if can then Some m else None) ≡ Some next → can ≡ true
-can_of true m next e = refl
-can_of false m next e = absurd cc
+can_of can m next e = grind arith
 
 pub issue_can : (m next : Moment) (n : ℕ) → moved m (move.Issue n) ≡ Some next
     → is_issuable m.requests n ≡ true
@@ -201,15 +175,9 @@ finish_can m next n e = can_of (is_finishable m.requests n) (finished m n) next 
 -- what can be finished was accepted, and runs
 pub finishable_tells : (r : Requests) (n : ℕ) → is_finishable r n ≡ true
     → (n < length r.accepted) × (is_running r n ≡ true)
-finishable_tells r n e =
-    let p = and_parts (nat_lt n (length r.accepted)) (is_running r n) e in
-    (ltb-true n (length r.accepted) p.0, p.1)
+finishable_tells r n e = grind arith
 
 -- an operation that didn't end for want of memory ended as it is called for
 pub called_for : (files : List FileContents) (op : Op) (o : Outcome) → IsOutcome files op o
     → (o.res ≡ neg_ℤ ENOMEM → ⊥) → o ≡ result_of files op
-called_for files op o allowed granted =
-    elim allowed [
-      | inl called ↦ called
-      | inr refused ↦ absurd (granted (ap (λ (x : Outcome). x.res) refused.1))
-    ]
+called_for files op o allowed granted = grind arith

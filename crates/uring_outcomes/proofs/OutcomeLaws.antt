@@ -1,5 +1,5 @@
 -- The laws of `laws.rt`: from `history_comes`, and from `moves_made` with all completions reaped after it.
-use Rattle.std.proofs.Common.{◌≡◌, false, ℕ, ◌%◌, ◌^◌, ◌≤◌, List, [], ◌∷◌, ◌++◌, length, take, drop, map, sum, refl, sym, ap, ap₂, ◌∙◌, arith, append-nil}
+use Rattle.std.proofs.Common.{◌≡◌, false, ℕ, ◌%◌, ◌^◌, ◌≤◌, List, [], ◌∷◌, ◌++◌, length, take, drop, map, refl, sym, ap, ap₂, ◌∙◌, arith, append-nil}
 use Rattle.uring_outcomes.proofs.Common.{CallsOutcome, ComesTo, FileContents, IsPowerOfTwo, Moment, Move, Published, Setup, Submission, World, after_moves, at_first, bad_in, by_manual, drop-append_seam, dropped, empty_files, entries_in, files_of, items_in, moves_in, outstanding_in, published_items, starting, take-append_seam, take-length, take-map, taken, world}
 use Rattle.std.proofs.lemmas.Nat.{pow_pos}
 use Rattle.uring_core.proofs.ByRules.{of_manual}
@@ -7,7 +7,6 @@ use Rattle.uring_outcomes.specs.MoveLaws.{HistoriesAreMoves, MovesAreHistories, 
 use Rattle.uring_outcomes.proofs.ItemLists.{item, dropped_back, length_items}
 use Rattle.uring_outcomes.proofs.MovesMade.{moment_of, Between, moves_made}
 use Rattle.uring_outcomes.proofs.MovesLead.{history_comes}
-use Rattle.uring_outcomes.proofs.Reaching.{at_the_start}
 use Rattle.uring_outcomes.proofs.Reaping.{AllReaped, all_reaped}
 
 -- Calls are told by their lengths and their items.
@@ -27,8 +26,7 @@ same_cut (x ∷ xs) (y ∷ ys) lengths items =
 -- if closed calls took all positions, what was published is what they took
 pub all_taken : (l : Submission) (calls : List (List Published)) → published_items l ≡ items_in calls
     → l.calls ≡ map length calls → take (taken l) (published_items l) ≡ items_in calls
-all_taken l calls published cut =
-    ap (λ n. take n (published_items l)) (ap sum cut ∙ sym (length_items calls) ∙ ap length (sym published)) ∙ take-length (published_items l) ∙ published
+all_taken l calls published cut = grind (arith, (length_items calls), (take-length (published_items l)))
 
 -- the words that they dropped are the bad ones among the items
 dropped_so : (l : Submission) (calls : List (List Published)) → published_items l ≡ items_in calls
@@ -61,15 +59,7 @@ histories_are_moves = of_manual HistoriesAreMoves histories_by_manual
 -- From moves to histories.
 
 pub first_between : (g : Setup) → Between g at_first (empty_files g.files) [] []
-first_between g = record {
-  reaches = at_the_start g;
-  stands = record { fresh = refl; call = refl; head = refl; waiting = refl };
-  is_open = refl;
-  published = refl;
-  cut = refl;
-  none_reaped = refl;
-  none_stored = refl;
-}
+first_between g = grind arith
 
 pub some_size : (size : ℕ) → IsPowerOfTwo size → 1 ≤ size
 some_size size (k, power) = let some = pow_pos k in omega arith
@@ -90,16 +80,7 @@ comes_to g w files calls o v published cut none_outstanding posted leaves droppe
     record {
       outcome = record {
         history = v.reaches.history;
-        comes = record {
-          lawful = v.reaches.lawful;
-          refuses_none = v.reaches.refuses_none;
-          published = ap published_items l ∙ published;
-          cut = ap (λ (x : Submission). x.calls) l ∙ cut;
-          none_outstanding = ap outstanding_in (ap (λ x. x.requests) makes ∙ v.requests) ∙ none_outstanding;
-          posted = ap (λ x. x.completions.posted) makes ∙ (v.posted ∙ posted);
-          files = v.reaches.leaves ∙ leaves;
-          dropped_words = ap dropped l ∙ (dropped_so w.submission calls published cut ∙ sym dropped_words);
-        };
+        comes = grind (arith, dropped_so);
       };
       reaped = ap (λ x. x.completions.reaped) makes ∙ (v.reaped ∙ posted);
     }

@@ -1,7 +1,7 @@
 -- The law `prompt_moves_lead`: moves are followed by prompt ones, which start each request that no cancel names only where the others finish it.
 -- What runs stays ready and is never doomed, so that it may start as late. Which requests were started is read of a cancel alone, of those that it names.
 use Rattle.std.proofs.Common.{◌≡◌, ℕ, ◌+◌, ◌-◌, ◌<◌, ℤ, pos, Bool, true, false, not, ◌&&◌, ◌||◌, ◌==◌, nat_lt, List, [], ◌∷◌, ◌++◌, length, get_or, Option, Some, None, if◌then◌else◌, refl, sym, subst, ap, ap₂, ◌∙◌, ◌⊎◌, inl, inr, arith}
-use Rattle.uring_outcomes.proofs.Common.{All, All-head, All-tail, AreNamed, ArePrompt, EALREADY, IsOver, IsPrompt, Moment, Move, NamesAll, PromptMovesLead, Requests, Setup, Sqe, accepted, addr_of, after_moves, and_from, and_parts, both_ways, cancel_result, cases_Bool, cases_lt, chosen_by, cond-false, cond-true, count_result, doomed_result, ended_at_once, entry_of, eq-eqb, eqb-true, false_from_ne_true, finished, get_or-append-add, get_or-eq_default, get_or_append_left, has_ended, has_started, is_after_failure, is_cancel, is_cancel_all, is_candidate, is_doomed, is_finishable, is_issuable, is_joined, is_named, is_outstanding, is_ready, is_running, is_target, issued, least_below_same, least_below_tells, list_any_push, moved, neg_ℤ, no_bytes, operation_of, option_and_then, or_right, result_for, result_of, some_member, started, starting, target_of, targets_of, unwrap_or, user_data_of, with_call, with_ended, with_started, zero_entry}
+use Rattle.uring_outcomes.proofs.Common.{All, All-head, All-tail, AreNamed, ArePrompt, EALREADY, IsOver, IsPrompt, Moment, Move, NamesAll, PromptMovesLead, Requests, Setup, Sqe, accepted, addr_of, after_moves, and_from, and_parts, both_ways, cancel_result, cases_Bool, cases_lt, chosen_by, cond-false, cond-true, count_result, doomed_result, ended_at_once, entry_of, eq-eqb, eqb-true, false_from_ne_true, finished, get_or-append-add, get_or-eq_default, get_or_append_left, has_ended, has_started, is_after_failure, is_cancel, is_cancel_all, is_candidate, is_doomed, is_finishable, is_issuable, is_joined, is_named, is_outstanding, is_ready, is_running, is_target, issued, least_below_tells, list_any_push, moved, neg_ℤ, no_bytes, operation_of, option_and_then, or_right, result_for, result_of, some_member, started, starting, target_of, targets_of, unwrap_or, user_data_of, with_call, with_ended, with_started, zero_entry}
 use Rattle.std.specs.List.{list_any}
 use Rattle.uring_core.proofs.ListCounts.{any_new, any_kept}
 use Rattle.uring_laws.proofs.AlikeRequests.{all_below_same}
@@ -10,7 +10,7 @@ use Rattle.uring_laws.proofs.EndedRequests.{ready_end}
 use Rattle.uring_laws.proofs.CalledRequests.{ready_kept}
 use Rattle.uring_outcomes.specs.declared.move_of_calls.Move.TheVariants as move
 use Rattle.uring_outcomes.proofs.MovesLead.{one_move_more, can_then, can_of, issuable_so}
-use Rattle.uring_outcomes.proofs.SoundMoments.{IsSoundMoment, one_sound, first_moment, kept_on}
+use Rattle.uring_outcomes.proofs.SoundMoments.{IsSoundMoment, one_sound, kept_on}
 
 -- Moments that differ in which requests were started.
 
@@ -32,8 +32,7 @@ ready_as_if r s n = refl
 
 candidate_as_if : (r : Requests) (s : List ℕ) (n k : ℕ)
     → is_candidate (with_starts r s) n k ≡ is_candidate r n k
-candidate_as_if r s n k =
-    ap (λ b. is_outstanding r k && not (k == n) && (user_data_of (entry_of r k) == addr_of (entry_of r n)) && not b) (doomed_as_if r s k)
+candidate_as_if r s n k = grind (arith, doomed_as_if)
 
 pub candidate_names : (r : Requests) (n k : ℕ) → is_candidate r n k ≡ true
     → user_data_of (entry_of r k) ≡ addr_of (entry_of r n)
@@ -50,13 +49,11 @@ RunSame named r s = (k : ℕ) → is_named named r k ≡ true
 run_chosen : (named : ℕ → Bool) (r : Requests) (s : List ℕ) (n k : ℕ) → RunSame named r s
     → named (addr_of (entry_of r n)) ≡ true → is_candidate r n k ≡ true
     → is_running (with_starts r s) k ≡ is_running r k
-run_chosen named r s n k same names can =
-    same k (ap named (candidate_names r n k can) ∙ names)
+run_chosen named r s n k same names can = grind arith
 
 target_as_if : (r : Requests) (s : List ℕ) (n : ℕ) → target_of (with_starts r s) n ≡ target_of r n
 unfolding target_of
-target_as_if r s n =
-    least_below_same (is_candidate (with_starts r s) n) (is_candidate r n) (length r.accepted) (λ k low. candidate_as_if r s n k)
+target_as_if r s n = grind (arith, candidate_as_if)
 
 target_can : (r : Requests) (n k : ℕ) → target_of r n ≡ Some k → is_candidate r n k ≡ true
 unfolding target_of
@@ -125,8 +122,7 @@ record IsFollowed (named : ℕ → Bool) (g : Setup) (calls : List (List Sqe)) (
 -- one prompt move more
 prompt_more : (named : ℕ → Bool) (moves : List Move) (m last : Moment) (x : Move) → after_moves m moves ≡ Some last
     → ArePrompt named m moves → IsPrompt named last x → ArePrompt named m (moves ++ x ∷ [])
-prompt_more named [] m last x leads prompt also =
-    (subst (λ l. IsPrompt named l x) (sym (ap (λ o. unwrap_or o last) leads)) also, λ next is. tt)
+prompt_more named [] m last x leads prompt also = grind arith
 prompt_more named (first ∷ later) m last x leads prompt also =
     (prompt.0, λ next is. prompt_more named later next last x (sym (ap (option_and_then (λ n. after_moves n later)) is) ∙ leads) (prompt.1 next is) also)
 
@@ -138,8 +134,7 @@ leads_more g calls moves m next x leads is = one_move_more moves (starting g cal
 -- while nothing runs that isn't named, each move is prompt
 idle_prompt : (named : ℕ → Bool) (m : Moment) (x : Move)
     → ((n : ℕ) → is_named named m.requests n ≡ false → is_running m.requests n ≡ false) → IsPrompt named m x
-idle_prompt named m x idle n running quiet =
-    absurd (both_ways (is_running m.requests n) (idle n quiet) running)
+idle_prompt named m x idle n running quiet = grind arith
 
 -- one move of those that follow, by which it is followed further
 follow_by : (named : ℕ → Bool) (g : Setup) (calls : List (List Sqe)) (m next there : Moment) (x : Move) (f : IsFollowed named g calls m)
@@ -169,8 +164,7 @@ run_same named g calls m f k names = grind (arith, f.fewer k, f.named_too k name
 idle_ended : (r : Requests) (n : ℕ) (res : ℤ) (bytes chosen : List ℕ) (k : ℕ)
     → is_running r k ≡ false
     → is_running (with_ended (record r { cancelled = chosen }) n res bytes) k ≡ false
-idle_ended r n res bytes chosen k idle =
-    grind (arith, list_any_push (λ e. e.number == k) r.ended (record { number = n; res = res; bytes = bytes }))
+idle_ended r n res bytes chosen k idle = grind (arith, list_any_push)
 
 -- once n starts nobody but n runs that didn't before, and nobody at all once it has ended
 only_new : (r : Requests) (n k : ℕ) → is_running r k ≡ false → is_running (with_started r n) k ≡ true → n ≡ k
@@ -178,8 +172,7 @@ only_new r n k idle running = grind (arith, list_any_push (λ j. j == k) r.start
 
 over_new : (r : Requests) (n : ℕ) (res : ℤ) (bytes : List ℕ) (k : ℕ) → is_running r k ≡ false
     → is_running (with_ended (with_started r n) n res bytes) k ≡ false
-over_new r n res bytes k idle =
-    grind (arith, list_any_push (λ j. j == k) r.started n, list_any_push (λ x. x.number == k) r.ended (record { number = n; res = res; bytes = bytes }))
+over_new r n res bytes k idle = grind (arith, list_any_push)
 
 -- Each move is followed.
 
@@ -204,8 +197,7 @@ accept_followed named g calls m next f calm e = by_left f.there.left refl e wher
 -- the request that starts is among those started, and so are the others that were
 more_begun : (xs ys : List ℕ) (n : ℕ) → ((k : ℕ) → IsAmong xs k → IsAmong ys k) → (k : ℕ)
     → IsAmong (xs ++ n ∷ []) k → IsAmong (ys ++ n ∷ []) k
-more_begun xs ys n all k there =
-    grind (arith, all k, list_any_push (λ j. j == k) xs n, list_any_push (λ j. j == k) ys n)
+more_begun xs ys n all k there = grind (arith, list_any_push)
 
 issue_followed : (named : ℕ → Bool) (g : Setup) (calls : List (List Sqe)) (m next : Moment) (n : ℕ) (f : IsFollowed named g calls m)
     → IsCalm named (as_if f.there f.starts) → is_issuable (as_if f.there f.starts).requests n ≡ true
@@ -225,8 +217,7 @@ issue_followed named g calls m next n f calm can is = by_doom (is_doomed rs n) r
 
   -- it can be issued there too
   can_there : is_issuable r n ≡ true
-  can_there =
-      grind (arith, can, f.fewer n, doomed_as_if r f.starts n, ready_as_if r f.starts n)
+  can_there = grind (arith, doomed_as_if, ready_as_if)
 
   -- it ends at once
   ends : (res : ℤ) → issued t n ≡ ended_at_once t n res → next ≡ ended_at_once (as_if t f.starts) n res → IsFollowed named g calls next
@@ -246,20 +237,7 @@ issue_followed named g calls m next n f calm can is = by_doom (is_doomed rs n) r
       (λ k named_k begun. too k named_k (any_new (λ j. j == k) f.starts n begun)) where
         too : (k : ℕ) → is_named named r k ≡ true → IsAmong f.starts k ⊎ ((n == k) ≡ true) → has_started (with_started r n) k ≡ true
         too k named_k some = grind (arith, f.named_too k named_k, list_any_push (λ j. j == k) r.started n)
-  starts spared other here false quiet = record {
-    moves = f.moves;
-    there = f.there;
-    leads = f.leads;
-    prompt = f.prompt;
-    idle = f.idle;
-    starts = f.starts ++ n ∷ [];
-    is = here;
-    fewer = λ k begun. any_kept (λ j. j == k) f.starts _ (f.fewer k begun);
-    named_too = λ k names begun. elim (any_new (λ j. j == k) f.starts n begun) [
-      | inl old ↦ f.named_too k names old
-      | inr new ↦ absurd (both_ways (is_named named r n) quiet (ap (is_named named r) (eqb-true n k new) ∙ names))
-    ];
-  }
+  starts spared other here false quiet = grind (arith, any_kept, any_new)
 
   by_cancel : (cancels : Bool) → is_cancel (entry_of rs n) ≡ cancels → is_doomed rs n ≡ false → IsFollowed named g calls next
   by_cancel true cancels spared =
@@ -271,8 +249,7 @@ issue_followed named g calls m next n f calm can is = by_doom (is_doomed rs n) r
       starts spared other (sym is ∙ cond-false (is_doomed rs n) _ _ spared ∙ cond-false (is_cancel (entry_of rs n)) _ _ other) (is_named named r n) refl
 
   by_doom : (doomed : Bool) → is_doomed rs n ≡ doomed → IsFollowed named g calls next
-  by_doom true doomed =
-      ends (doomed_result r n) (cond-true (is_doomed r n) _ _ (sym (doomed_as_if r f.starts n) ∙ doomed)) (sym is ∙ cond-true (is_doomed rs n) _ _ doomed)
+  by_doom true doomed = grind (arith, ends, doomed_as_if)
   by_doom false spared = by_cancel (is_cancel (entry_of rs n)) refl spared
 
 finish_followed : (named : ℕ → Bool) (g : Setup) (calls : List (List Sqe)) (m next : Moment) (n : ℕ) (f : IsFollowed named g calls m)
@@ -383,10 +360,7 @@ issue_calm named m next n calm can is = subst (IsCalm named) is (by_doom (is_doo
   sound_then = one_sound m (move.Issue n) (issued m n) (can_then (is_issuable m.requests n) (issued m n) (issued m n) can refl) calm.sound
 
   runs : is_ready m.requests n ≡ true → (k : ℕ) → (has_started (with_started m.requests n) k ≡ true) × (not (has_ended m.requests k) ≡ true) → is_ready m.requests k ≡ true
-  runs now k e = elim (any_new (λ j. j == k) m.requests.started n e.0) [
-    | inl old ↦ calm.ready k (and_from (has_started m.requests k) (not (has_ended m.requests k)) old e.1)
-    | inr new ↦ subst (λ j. is_ready m.requests j ≡ true) (eqb-true n k new) now
-  ]
+  runs now k e = grind (arith, any_new, and_from)
 
   ends : (res : ℤ) → issued m n ≡ ended_at_once m n res → IsCalm named (issued m n)
   ends res so =
@@ -398,8 +372,7 @@ issue_calm named m next n calm can is = subst (IsCalm named) is (by_doom (is_doo
       })
 
   by_cancel : (cancels : Bool) → is_cancel (entry_of m.requests n) ≡ cancels → is_doomed m.requests n ≡ false → IsCalm named (issued m n)
-  by_cancel true cancels spared =
-      ends (cancel_result m.requests n) (cond-false (is_doomed m.requests n) _ _ spared ∙ cond-true (is_cancel (entry_of m.requests n)) _ _ cancels)
+  by_cancel true cancels spared = grind (arith, ends, cond-false)
   by_cancel false other spared =
       let r : Requests = m.requests in
       let begins : issued m n ≡ started m n = cond-false (is_doomed r n) _ _ spared ∙ cond-false (is_cancel (entry_of r n)) _ _ other in
@@ -439,12 +412,7 @@ one_calm named m next (move.Finish n) calm e =
 
 pub first_calm : (named : ℕ → Bool) (g : Setup) (calls : List (List Sqe)) → AreNamed named calls
     → IsCalm named (starting g calls)
-first_calm named g calls names = record {
-  sound = first_moment;
-  ready = λ n running. absurd cc;
-  are_named = λ n no. absurd cc;
-  will_be = names;
-}
+first_calm named g calls names = grind arith
 
 record IsFollowedCalmly (named : ℕ → Bool) (g : Setup) (calls : List (List Sqe)) (m : Moment) : Type 0 where
   calm : IsCalm named m

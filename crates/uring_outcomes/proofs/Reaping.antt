@@ -1,6 +1,6 @@
 -- The application reaps all that was posted, one completion after the other: each time the dispatcher flushes, and the application loads the tail, reaps, and stores the head.
-use Rattle.std.proofs.Common.{◌≡◌, ℕ, ◌+◌, ◌-◌, ◌≤◌, List, [], ◌∷◌, ◌++◌, length, Some, None, if◌then◌else◌, refl, sym, ap, ◌∙◌, arith, append_assoc, append-nil, slice_get}
-use Rattle.uring_outcomes.proofs.Common.{Answer, Cqe, FileContents, Move, Setup, World, happens, length-append, ne_eqb, reap_answer_of}
+use Rattle.std.proofs.Common.{◌≡◌, ℕ, ◌-◌, ◌≤◌, List, [], ◌∷◌, ◌++◌, length, Some, refl, sym, ap, ◌∙◌, arith, append_assoc, append-nil, slice_get}
+use Rattle.uring_outcomes.proofs.Common.{Answer, Cqe, FileContents, Move, Setup, World, happens, length-append, reap_answer_of}
 use Rattle.uring_entry.specs.Completions.{Completions, next_to_reap, put_by_flush, with_flushed, with_head_stored, with_reaped, with_tail_loaded}
 use Rattle.uring_entry.specs.IndexWords.{word_of}
 use Rattle.uring_core.specs.declared.step.Step.TheVariants as step
@@ -31,11 +31,7 @@ element_after (first ∷ xs) x ys = element_after xs x ys
 next_is : (size : ℕ) (l : Completions) (c : Cqe) (later : List Cqe) → 1 ≤ size
     → l.head ≡ length l.reaped → l.reaped ++ c ∷ later ≡ l.posted
     → next_to_reap (with_tail_loaded (with_flushed size l)) ≡ Some c
-next_is size l c later some head split =
-    let many : length l.posted ≡ length l.reaped + length (c ∷ later) = ap length (sym split) ∙ length-append l.reaped (c ∷ later) in
-    ap (λ b. if b then None else slice_get l.posted (length l.reaped)) (ne_eqb (length l.reaped) (put_by_flush size l) (λ same. omega (arith, same, many, head)))
-    ∙ ap (λ xs. slice_get xs (length l.reaped)) (sym split)
-    ∙ element_after l.reaped c later
+next_is size l c later some head split = grind (arith, length-append, element_after)
 
 one_reaped : {moves : List Move} (g : Setup) (w : World) (files : List FileContents) (c : Cqe) (later : List Cqe) → 1 ≤ g.cq
     → Reaches g w files moves → w.completions.head ≡ length w.completions.reaped
@@ -55,14 +51,7 @@ one_reaped {moves} g w files c later some there head split =
 pub all_reaped : {moves : List Move} (g : Setup) (left : List Cqe) (w : World) (files : List FileContents) → 1 ≤ g.cq
     → Reaches g w files moves → w.completions.head ≡ length w.completions.reaped
     → w.completions.reaped ++ left ≡ w.completions.posted → AllReaped g w files moves
-all_reaped g [] w files some there head split = record {
-  there = w;
-  reaches = there;
-  submission = refl;
-  requests = refl;
-  posted = refl;
-  reaped = sym (append-nil w.completions.reaped) ∙ split;
-}
+all_reaped g [] w files some there head split = grind (arith, append-nil)
 all_reaped g (c ∷ later) w files some there head split =
     let v : World = with_one_reaped g w c in
     let rest = all_reaped g later v files some (one_reaped g w files c later some there head split) refl (append_assoc w.completions.reaped (c ∷ []) later ∙ split) in

@@ -1,6 +1,6 @@
 -- Moves that are made one after the other, and the moves that can be made next.
-use Rattle.std.proofs.Common.{◌≡◌, ℕ, suc, ◌+◌, ◌<◌, ◌≤◌, Bool, true, false, List, [], ◌∷◌, ◌++◌, length, take, drop, get_or, Option, Some, None, refl, sym, subst, ap, ◌∙◌, arith, inl, inr}
-use Rattle.uring_outcomes.proofs.Common.{Contains, HasBelow, HasNext, IsNextUnnamed, IsQuiet, LedTo, MadeAs, Moment, Move, Run, Sqe, Stands, StandsAt, after_moves, among, cases_lt, drop-cons, get_or_default, is_finishable, is_issuable, moved, option_and_then, take-append-drop, take_more}
+use Rattle.std.proofs.Common.{◌≡◌, ℕ, suc, ◌+◌, ◌<◌, Bool, true, false, List, [], ◌∷◌, ◌++◌, length, take, drop, get_or, Option, Some, None, refl, sym, subst, ap, ◌∙◌, arith}
+use Rattle.uring_outcomes.proofs.Common.{Contains, HasBelow, HasNext, IsNextUnnamed, IsQuiet, LedTo, MadeAs, Moment, Move, Run, Sqe, Stands, StandsAt, after_moves, among, drop-cons, get_or_default, is_finishable, is_issuable, moved, option_and_then, take-append-drop, take_more}
 use Rattle.uring_outcomes.specs.declared.move_of_calls.Move.TheVariants as move
 use Rattle.uring_outcomes.proofs.MovesLead.{one_move_more}
 use Rattle.uring_outcomes.proofs.Covering.{moves_after}
@@ -13,20 +13,16 @@ pub record IsMade (P : Moment → Type 0) (o : Option Moment) : Type 0 where
   pub so : P next
 
 pub made_tells : (P : Moment → Type 0) (o : Option Moment) → MadeAs true o P → IsMade P o
-made_tells P None made = absurd (let f : true ≡ false = made in cc)
-made_tells P (Some next) made = record { next = next; is = refl; so = made.1 }
+made_tells P o made = grind arith
 
 pub not_made_tells : (P : Moment → Type 0) (o : Option Moment) → MadeAs false o P → o ≡ None
-not_made_tells P None made = refl
-not_made_tells P (Some next) made = absurd (let f : false ≡ true = made.0 in cc)
+not_made_tells P o made = grind arith
 
 -- the run stands somewhere once a move was made
 pub stands_on : (calls : List (List Sqe)) (old new : Run) (x : Move) → Stands calls old
     → ((m : Moment) → StandsAt calls old m → MadeAs true (moved m x) (StandsAt calls new))
     → Stands calls new
-stands_on calls old new x s made =
-    let t = made_tells (StandsAt calls new) (moved s.moment x) (made s.moment s.at) in
-    record { moment = t.next; at = t.so }
+stands_on calls old new x s made = grind arith
 
 pub led_first : (calls : List (List Sqe)) (m : Moment) (run : Run) → StandsAt calls run m → LedTo calls m [] run
 led_first calls m run at = record { last = m; leads = refl; at = at }
@@ -35,14 +31,7 @@ pub led_on : (calls : List (List Sqe)) (m : Moment) (path : List Move) (k : ℕ)
     → k < length path → x ≡ get_or path k x → LedTo calls m (take k path) old
     → ((n : Moment) → StandsAt calls old n → MadeAs true (moved n x) (StandsAt calls new))
     → LedTo calls m (take (k + 1) path) new
-led_on calls m path k x old new low is led made =
-    let t = made_tells (StandsAt calls new) (moved led.last x) (made led.last led.at) in
-    let more : take (k + 1) path ≡ take k path ++ x ∷ [] = take_more path k x low ∙ ap (λ y. take k path ++ y ∷ []) (sym is) in
-    record {
-      last = t.next;
-      leads = ap (after_moves m) more ∙ (one_move_more (take k path) m x ∙ (ap (option_and_then (λ z. moved z x)) led.leads ∙ t.is));
-      at = t.so;
-    }
+led_on calls m path k x old new low is led made = grind (arith, (take_more path k x low), (one_move_more (take k path) m x))
 
 pub led_nowhere : (calls : List (List Sqe)) (m : Moment) (path : List Move) (k : ℕ) (x : Move) (old new : Run)
     → k < length path → x ≡ get_or path k x → LedTo calls m (take k path) old
@@ -61,8 +50,7 @@ pub stands_on_at : (calls : List (List Sqe)) (old new : Run) (path : List Move) 
     → Stands calls old → made ≡ true
     → ((m : Moment) → StandsAt calls old m → MadeAs made (moved m (get_or path k d)) (StandsAt calls new))
     → Stands calls new
-stands_on_at calls old new path k d made s is makes =
-    stands_on calls old new (get_or path k d) s (λ m at. subst (λ b. MadeAs b (moved m (get_or path k d)) (StandsAt calls new)) is (makes m at))
+stands_on_at calls old new path k d made s is makes = grind arith
 
 pub led_on_at : (calls : List (List Sqe)) (m : Moment) (path : List Move) (k : ℕ) (d : Move) (old new : Run) (made : Bool)
     → k < length path → LedTo calls m (take k path) old → made ≡ true
@@ -85,20 +73,7 @@ pub more_below : (m : Moment) (k : ℕ) (old new : List Move) → HasBelow m k o
     → (is_issuable m.requests k ≡ true → Contains new (move.Issue k))
     → (is_finishable m.requests k ≡ true → Contains new (move.Finish k))
     → HasBelow m (k + 1) new
-more_below m k old new below kept issue finish = record {
-  issues = λ n low can. elim (cases_lt n k) [
-    | inl before ↦ kept (move.Issue n) (below.issues n before can)
-    | inr here ↦
-        let same : k ≡ n = omega (arith, low, here) in
-        subst (λ j. Contains new (move.Issue j)) same (issue (subst (λ j. is_issuable m.requests j ≡ true) (sym same) can))
-  ];
-  finishes = λ n low can. elim (cases_lt n k) [
-    | inl before ↦ kept (move.Finish n) (below.finishes n before can)
-    | inr here ↦
-        let same : k ≡ n = omega (arith, low, here) in
-        subst (λ j. Contains new (move.Finish j)) same (finish (subst (λ j. is_finishable m.requests j ≡ true) (sym same) can))
-  ];
-}
+more_below m k old new below kept issue finish = grind arith
 
 -- every move that can be made is among these, and so each direct one
 pub next_any : (names : List ℕ) (m : Moment) (xs : List Move)
@@ -113,5 +88,4 @@ next_accept names m unnamed x next made wanted = (0, omega arith, sym (wanted.ac
 -- and else, while a request runs that isn't named, only its finish is
 pub next_finish : (names : List ℕ) (m : Moment) (n : ℕ) → IsQuiet names m n
     → (IsNextUnnamed (among names) m → ⊥) → HasNext names m (move.Finish n ∷ [])
-next_finish names m n quiet named x next made wanted =
-    (0, omega arith, sym (wanted.prompt named n quiet.runs quiet.unnamed))
+next_finish names m n quiet named x next made wanted = grind arith

@@ -1,15 +1,14 @@
 -- What the run stands at after each move: an acceptance, an issue that starts its request or ends it, and a finish.
-use Rattle.std.proofs.Common.{◌≡◌, ℕ, ◌+◌, ◌<◌, ◌≤◌, ℤ, true, List, [], ◌∷◌, ◌++◌, length, drop, get_or, Option, Some, None, if◌then◌else◌, refl, sym, subst, ap, ap₂, ◌∙◌, arith}
+use Rattle.std.proofs.Common.{◌≡◌, ℕ, ◌+◌, ◌<◌, ◌≤◌, ℤ, true, List, [], length, drop, get_or, Option, Some, None, refl, sym, subst, ap, ap₂, ◌∙◌, arith}
 use Rattle.std.specs.Borrow.{Bor}
 use Rattle.std.specs.Slice.{IsItemAt}
 use Rattle.uring_outcomes.proofs.Common.{Dispatch, FinishCounts, Global, IsForFiles, MadeAs, Moment, Move, Op, Outcome, Requests, Run, Setup, ShowsRequests, Sqe, StandsAt, Vec, after, empty_files, ended_at_once, entries_of, entry_of, entry_outstanding, finished, is_running, moved, no_bytes, no_request, operation_of, operation_running, posted_with, result_of, started, starting, with_call, with_ended, with_issued_end, with_started}
 use Rattle.uring_dispatch.specs.IssueAndFinish as asked
 use Rattle.uring_dispatch.specs.declared.answers.Issued.TheVariants as answer
 use Rattle.uring_dispatch.specs.declared.answers.Finished.{Finished}
-use Rattle.uring_dispatch.specs.declared.answers.Finished.TheVariants as finish
 use Rattle.uring_outcomes.specs.declared.move_of_calls.Move.TheVariants as move
 use Rattle.uring_outcomes.proofs.SoundMoments.{asks_files}
-use Rattle.uring_outcomes.proofs.Moving.{made_so, reached_on, sound_at, issue_moves, entry_told, told_if_outstanding, accept_moves, runs_told, running_outstanding, finish_moves}
+use Rattle.uring_outcomes.proofs.Moving.{reached_on, sound_at, issue_moves, entry_told, accept_moves, runs_told, finish_moves}
 
 -- The run stands at the moment after a move.
 pub stands_after : (calls : List (List Sqe)) (old new : Run) (m next : Moment) (x : Move)
@@ -17,15 +16,7 @@ pub stands_after : (calls : List (List Sqe)) (old new : Run) (m next : Moment) (
     → ShowsRequests new.dispatch next.requests → new.dispatch.is_between_calls ≡ true
     → new.posted.items ≡ next.posted → new.files ≡ next.files → next.left ≡ drop new.next_call calls
     → MadeAs true (moved m x) (StandsAt calls new)
-stands_after calls old new m next x at is requests between posted files left =
-    made_so (StandsAt calls new) (moved m x) next is (record {
-      reached = reached_on calls m next x at.reached is;
-      requests = requests;
-      between = between;
-      posted = posted;
-      files = files;
-      left = left;
-    })
+stands_after calls old new m next x at is requests between posted files left = grind (arith, reached_on)
 
 -- a new run stands at the start
 pub starts : (calls : List (List Sqe)) (g : Setup) (run : Run) (count : ℕ) → g.files ≡ count → count ≤ 64
@@ -84,24 +75,19 @@ issue_ends calls old new m n res entry at is told shows between posted files nex
 -- what runs can be asked of files
 pub running_asks : (calls : List (List Sqe)) (run : Run) (n : ℕ) (op : Op) (m : Moment) → StandsAt calls run m
     → Some op ≡ operation_running m.requests n → IsForFiles op
-running_asks calls run n op m at is =
-    let runs = runs_told m.requests n op is in
-    subst IsForFiles (sym runs.1) (asks_files m.requests n (sound_at calls m at.reached) runs.0)
+running_asks calls run n op m at is = grind (arith, (sound_at calls m at.reached), asks_files)
 
 -- and has an entry
 pub running_told : (calls : List (List Sqe)) (run : Run) (n : ℕ) (op : Op) (told : Option Sqe) (m : Moment) → StandsAt calls run m
     → Some op ≡ operation_running m.requests n → told ≡ entry_outstanding m.requests n → None ≡ told → ⊥
 running_told calls run n op told m at is told_so none =
-    let runs = runs_told m.requests n op is in
-    told_if_outstanding m.requests n (running_outstanding m.requests n (sound_at calls m at.reached) runs.0) (none ∙ told_so)
+    grind (arith, (runs_told m.requests n op is), (sound_at calls m at.reached))
 
 -- the requests after a finish with this answer
 shows_ended : (r : Requests) (n : ℕ) (o : Outcome) (a : Finished) (d : Dispatch) → is_running r n ≡ true
     → a ≡ asked.finished r n → ShowsRequests d (asked.after_finish r n o a)
     → ShowsRequests d (with_ended r n o.res o.bytes)
-shows_ended r n o a d running is shows =
-    let ends : a ≡ finish.Ended = is ∙ ap (λ b. if b then finish.Ended else finish.NotRunning) running in
-    subst (λ x. ShowsRequests d (asked.after_finish r n o x)) ends shows
+shows_ended r n o a d running is shows = grind arith
 
 pub finishes : (calls : List (List Sqe)) (old new : Run) (m : Moment) (n : ℕ) (op : Op) (entry : Sqe) (o : Outcome) (a : Finished)
     → StandsAt calls old m → Some op ≡ operation_running m.requests n
@@ -128,13 +114,9 @@ finishes calls old new m n op entry o a at is told called answered shows between
 -- a finish leaves the dispatcher between calls
 pub finish_between : (a : Finished) (old new : Dispatch) → FinishCounts a old new
     → old.is_between_calls ≡ true → new.is_between_calls ≡ true
-finish_between finish.Ended old new counts between = counts.between ∙ between
-finish_between finish.NotRunning old new counts between =
-    ap (λ (d : Dispatch). d.is_between_calls) counts ∙ between
+finish_between a old new counts between = grind arith
 
 -- the call that is got
 pub call_there : (calls : List (Vec Sqe Global)) (k : ℕ) (call : Bor (Vec Sqe Global))
     → IsItemAt calls k (Some call) → (k < length calls) × (call.now ≡ get_or calls k call.now)
-call_there calls k call is =
-    let among = is.3 in
-    (among.0, is.1)
+call_there calls k call is = grind arith

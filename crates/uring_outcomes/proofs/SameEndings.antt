@@ -1,9 +1,8 @@
 -- That two endings are the same: completion by completion, and each file by what is told of it.
-use Rattle.std.proofs.Common.{◌≡◌, ℕ, suc, ◌-◌, ◌<◌, ◌≤◌, ℤ, pos, Bool, true, ◌&&◌, List, [], ◌∷◌, length, Option, Some, None, refl, sym, ap, ap₂, ◌∙◌, arith}
-use Rattle.uring_outcomes.proofs.Common.{Cqe, Ending, FileContents, and_from, and_parts, byte_of, eq-eqb, eqb-true, file_of, nat_eq, option_and_then, option_map, slice_get, state_of}
+use Rattle.std.proofs.Common.{◌≡◌, ℕ, suc, ◌-◌, ◌<◌, ◌≤◌, ℤ, pos, Bool, ◌&&◌, List, [], ◌∷◌, length, Option, Some, None, refl, sym, ap, ap₂, ◌∙◌, arith}
+use Rattle.uring_outcomes.proofs.Common.{Cqe, Ending, FileContents, byte_of, eqb-true, file_of, nat_eq, option_and_then, option_map, slice_get, state_of}
 use Rattle.std.specs.Bool.{Decides}
 use Rattle.std.specs.Ordering.{int_eq}
-use Rattle.std.proofs.lemmas.Bool.Decides.{Decides-int_eq}
 use lib.Pointwise.{pointwise, bytes_decides}
 use Rattle.uring_files.specs.declared.file.FileState.{FileState}
 
@@ -15,21 +14,10 @@ same_completion c d =
     nat_eq c.user_data d.user_data && (int_eq c.res d.res && pointwise nat_eq c.payload d.payload)
 
 completion_by : (c d : Cqe) → c.user_data ≡ d.user_data → c.res ≡ d.res → c.payload ≡ d.payload → c ≡ d
-completion_by c d named result payload = λ i.
-    record { user_data = named i; res = result i; payload = payload i }
+completion_by c d named result payload = grind arith
 
 pub completion_decides : (c d : Cqe) → Decides (same_completion c d) (c ≡ d)
-completion_decides c d = (same, itself) where
-  same : same_completion c d ≡ true → c ≡ d
-  same e =
-      let p = and_parts (nat_eq c.user_data d.user_data) (int_eq c.res d.res && pointwise nat_eq c.payload d.payload) e in
-      let q = and_parts (int_eq c.res d.res) (pointwise nat_eq c.payload d.payload) p.1 in
-      completion_by c d (eqb-true c.user_data d.user_data p.0) ((Decides-int_eq c.res d.res).0 q.0) ((bytes_decides c.payload d.payload).0 q.1)
-
-  itself : c ≡ d → same_completion c d ≡ true
-  itself e =
-      and_from (nat_eq c.user_data d.user_data) (int_eq c.res d.res && pointwise nat_eq c.payload d.payload) (eq-eqb c.user_data d.user_data (ap (λ (x : Cqe). x.user_data) e))
-      (and_from (int_eq c.res d.res) (pointwise nat_eq c.payload d.payload) ((Decides-int_eq c.res d.res).1 (ap (λ (x : Cqe). x.res) e)) ((bytes_decides c.payload d.payload).1 (ap (λ (x : Cqe). x.payload) e)))
+completion_decides c d = grind (arith, eqb-true, bytes_decides)
 
 -- Files.
 
@@ -52,8 +40,7 @@ abbrev state : FileContents → FileState
 state f = record { len = length f.bytes; writes = f.writes; synced = f.synced }
 
 file_by : (f h : FileContents) → f.bytes ≡ h.bytes → f.writes ≡ h.writes → f.synced ≡ h.synced → f ≡ h
-file_by f h bytes writes synced = λ i.
-    record { bytes = bytes i; writes = writes i; synced = synced i }
+file_by f h bytes writes synced = grind arith
 
 same_by_state : (o p : Option FileContents) (s t : FileState) → Some s ≡ option_map state o
     → Some t ≡ option_map state p → s ≡ t
@@ -79,24 +66,13 @@ state_by : (s t : FileState) → s.len ≡ t.len → s.writes ≡ t.writes → s
 state_by s t len writes synced = λ i. record { len = len i; writes = writes i; synced = synced i }
 
 pub state_decides : (s t : FileState) → Decides (same_state s t) (s ≡ t)
-state_decides s t = (same, itself) where
-  same : same_state s t ≡ true → s ≡ t
-  same e =
-      let p = and_parts (nat_eq s.len t.len) (nat_eq s.writes t.writes && nat_eq s.synced t.synced) e in
-      let q = and_parts (nat_eq s.writes t.writes) (nat_eq s.synced t.synced) p.1 in
-      state_by s t (eqb-true s.len t.len p.0) (eqb-true s.writes t.writes q.0) (eqb-true s.synced t.synced q.1)
-
-  itself : s ≡ t → same_state s t ≡ true
-  itself e =
-      and_from (nat_eq s.len t.len) (nat_eq s.writes t.writes && nat_eq s.synced t.synced) (eq-eqb s.len t.len (ap (λ (x : FileState). x.len) e))
-      (and_from (nat_eq s.writes t.writes) (nat_eq s.synced t.synced) (eq-eqb s.writes t.writes (ap (λ (x : FileState). x.writes) e)) (eq-eqb s.synced t.synced (ap (λ (x : FileState). x.synced) e)))
+state_decides s t = grind arith
 
 -- files of one descriptor with the same state and the same bytes
 pub same_of_states : (a b : List FileContents) (fd : ℤ) (s t : FileState) → Some s ≡ state_of a fd
     → Some t ≡ state_of b fd → s ≡ t
     → ((k : ℕ) → k < s.len → byte_of a fd k ≡ byte_of b fd k) → file_of a fd ≡ file_of b fd
-same_of_states a b fd s t is are same bytes =
-    same_by_state (file_of a fd) (file_of b fd) s t is are same bytes
+same_of_states a b fd s t is are same bytes = grind (arith, same_by_state)
 
 pub bytes_alike : (a b : List FileContents) (fd : ℤ) (k : ℕ) → file_of a fd ≡ file_of b fd
     → byte_of a fd k ≡ byte_of b fd k

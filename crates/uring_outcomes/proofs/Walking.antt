@@ -1,23 +1,20 @@
 -- The walk's functions: lists of paths as they are pushed and popped, and what is so once no path is left.
-use Rattle.std.proofs.Common.{◌≡◌, ℕ, ◌+◌, ◌<◌, Bool, true, false, not, ◌&&◌, ◌||◌, List, [], ◌∷◌, ◌++◌, length, take, get_or, Option, Some, None, if◌then◌else◌, refl, sym, subst, ap, ap₂, ◌∙◌, append-nil, arith}
-use Rattle.uring_outcomes.proofs.Common.{All-more, All-push, AreAllEndings, AreNamed, Ending, Global, Goes, HasNoted, IsIndexed, IsOver, IsWalk, LedTo, MadeAs, Moment, Move, NamesAll, Setup, Sqe, StandsAt, Vec, addr_of, after_moves, among, and_parts, both_ways, entries_of, eq-eqb, has_ended, has_started, is_cancel, is_doomed, is_issuable, is_outstanding, is_ready, is_running, list_any_push, lt-ltb, map-append, moved, nat_eq, or_left, or_right, outstanding_in, paths_of, starting, take_more, waiting}
+use Rattle.std.proofs.Common.{◌≡◌, ℕ, ◌+◌, ◌<◌, Bool, true, false, List, [], ◌∷◌, ◌++◌, length, take, get_or, Some, if◌then◌else◌, refl, sym, subst, ap, ap₂, ◌∙◌, append-nil, arith}
+use Rattle.uring_outcomes.proofs.Common.{All-more, All-push, AreAllEndings, AreNamed, Ending, Global, Goes, HasNoted, IsIndexed, IsOver, IsWalk, LedTo, MadeAs, Moment, Move, NamesAll, Setup, Sqe, StandsAt, Vec, addr_of, after_moves, among, both_ways, entries_of, is_cancel, is_outstanding, list_any_push, map-append, moved, or_right, paths_of, starting, take_more, waiting}
 use Rattle.std.proofs.lemmas.List.Folds.{list_any-append}
 use Rattle.uring_dispatch.proofs.Counting.{count_below_some}
-use Rattle.uring_outcomes.specs.declared.move_of_calls.Move.TheVariants as move
 use Rattle.uring_outcomes.specs.declared.walk.Walk.{Walk}
-use Rattle.uring_outcomes.proofs.Moving.{none_accepted, issue_can, finish_can, issuable_accepted, finishable_tells}
-use Rattle.uring_outcomes.proofs.Replaying.{made_tells, not_made_tells, led_first}
-use Rattle.uring_outcomes.proofs.Covering.{at_first, all_found, path_taken, no_path}
+use Rattle.uring_outcomes.proofs.Moving.{issue_can}
+use Rattle.uring_outcomes.proofs.Replaying.{made_tells, not_made_tells}
+use Rattle.uring_outcomes.proofs.Covering.{all_found, path_taken, no_path}
 
 -- The user data that cancels name.
 
 pub among_kept : (names more : List ℕ) (u : ℕ) → among names u ≡ true → among (names ++ more) u ≡ true
-among_kept names more u there =
-    list_any-append (λ name. nat_eq name u) names more ∙ or_left (among names u) (among more u) there
+among_kept names more u there = grind (arith, list_any-append)
 
 pub among_pushed : (names : List ℕ) (u : ℕ) → among (names ++ u ∷ []) u ≡ true
-among_pushed names u =
-    list_any_push (λ name. nat_eq name u) names u ∙ or_right (among names u) (nat_eq u u) (eq-eqb u u refl)
+among_pushed names u = grind (arith, list_any_push, or_right)
 
 pub names_kept : (old new : List ℕ) (entries : List Sqe)
     → ((u : ℕ) → among old u ≡ true → among new u ≡ true)
@@ -51,12 +48,7 @@ named_more names calls k call low is here before =
 pub goes_first : (g : Setup) (calls : List (List Sqe)) (names : List ℕ) (w : Walk) → w.todo.items ≡ []
     → w.path.items ≡ [] → w.is_on_path ≡ true → w.found.list.items ≡ [] → IsIndexed w.found
     → StandsAt calls w.run (starting g calls) → Goes g calls names w
-goes_first g calls names w none empty on nothing indexed at =
-    let paths : waiting w ≡ [] ∷ [] = ap₂ (λ ps qs. ps ++ qs) (ap paths_of none) (ap (λ b. if b then w.path.items ∷ [] else []) on) ∙ ap (λ (p : List Move). p ∷ []) empty in record {
-      walk = subst (λ ps. IsWalk g calls names ps w.found.list.items) (sym paths) (subst (IsWalk g calls names ([] ∷ [])) (sym nothing) (at_first g calls names));
-      indexed = indexed;
-      there = λ so. subst (λ p. LedTo calls (starting g calls) p w.run) (sym empty) (led_first calls (starting g calls) w.run at);
-    }
+goes_first g calls names w none empty on nothing indexed at = grind arith
 
 -- once the moves of a path were made, or could not be
 pub gone : (g : Setup) (calls : List (List Sqe)) (names : List ℕ) (todo : List (List Move)) (path : List Move) (w : Walk)
@@ -85,45 +77,26 @@ gone g calls names todo path w same is walk indexed made = by_made w.is_on_path 
 pub off_path : (g : Setup) (calls : List (List Sqe)) (names : List ℕ) (w : Walk) → w.is_on_path ≡ false
     → IsWalk g calls names (paths_of w.todo.items) w.found.list.items → IsIndexed w.found
     → Goes g calls names w
-off_path g calls names w off walk indexed =
-    let paths : waiting w ≡ paths_of w.todo.items = ap (λ b. paths_of w.todo.items ++ (if b then w.path.items ∷ [] else [])) off ∙ append-nil (paths_of w.todo.items) in record {
-      walk = subst (λ ps. IsWalk g calls names ps w.found.list.items) (sym paths) walk;
-      indexed = indexed;
-      there = λ so. absurd (both_ways w.is_on_path off so);
-    }
+off_path g calls names w off walk indexed = grind (arith, append-nil)
 
 -- one that is on no path has those that are to be taken alone
 pub off_walk : (g : Setup) (calls : List (List Sqe)) (names : List ℕ) (w : Walk) → w.is_on_path ≡ false
     → Goes g calls names w → IsWalk g calls names (paths_of w.todo.items) w.found.list.items
-off_walk g calls names w off goes =
-    subst (λ ps. IsWalk g calls names ps w.found.list.items) (ap (λ b. paths_of w.todo.items ++ (if b then w.path.items ∷ [] else [])) off ∙ append-nil (paths_of w.todo.items)) goes.walk
+off_walk g calls names w off goes = grind (arith, append-nil)
 
 -- one that is on a path has it among those to be taken
 pub on_path : (g : Setup) (calls : List (List Sqe)) (names : List ℕ) (w : Walk) → w.is_on_path ≡ true
     → Goes g calls names w → IsWalk g calls names (paths_of w.todo.items ++ w.path.items ∷ []) w.found.list.items
-on_path g calls names w on goes =
-    subst (λ b. IsWalk g calls names (paths_of w.todo.items ++ (if b then w.path.items ∷ [] else [])) w.found.list.items) on goes.walk
+on_path g calls names w on goes = grind arith
 
 none_outstanding : (m : Moment) (n : ℕ) → n < length m.requests.accepted → IsOver m
     → is_outstanding m.requests n ≡ true → ⊥
 none_outstanding m n low over out =
-    let some : 0 < outstanding_in m.requests = count_below_some (is_outstanding m.requests) (length m.requests.accepted) n low out in
-    let none : outstanding_in m.requests ≡ 0 = over.none_outstanding in
-    omega (arith, some, none)
+    grind (arith, (count_below_some (is_outstanding m.requests) (length m.requests.accepted) n low out))
 
 -- an over moment has no moves
 pub over_stays : (m next : Moment) (x : Move) → IsOver m → moved m x ≡ Some next → ⊥
-over_stays m next move.Accept over is =
-    let none : ◌≡◌ {A = Option Moment} None (Some next) = sym (none_accepted m over.none_left) ∙ is in cc
-over_stays m next (move.Issue n) over is =
-    let can : is_issuable m.requests n ≡ true = issue_can m next n is in
-    let p = and_parts (is_outstanding m.requests n && not (is_running m.requests n)) (is_doomed m.requests n || is_ready m.requests n) can in
-    let q = and_parts (is_outstanding m.requests n) (not (is_running m.requests n)) p.0 in
-    none_outstanding m n (issuable_accepted m.requests n can) over q.0
-over_stays m next (move.Finish n) over is =
-    let f = finishable_tells m.requests n (finish_can m next n is) in
-    let q = and_parts (has_started m.requests n) (not (has_ended m.requests n)) f.1 in
-    none_outstanding m n f.0 over (ap (λ b. b && not (has_ended m.requests n)) (lt-ltb n (length m.requests.accepted) f.0) ∙ q.1)
+over_stays m next x over is = grind (arith, over, issue_can, none_outstanding)
 
 -- an end is noted, and nothing goes on from there
 pub noted_end : (g : Setup) (calls : List (List Sqe)) (names : List ℕ) (path : List Move) (m : Moment) (todo : List (List Move)) (found noted : List Ending)

@@ -1,12 +1,7 @@
 use Rattle.std.proofs.Common.{◌≡◌, ◌<◌, ◌*◌, ◌-◌, ◌%◌, ◌^◌, eqb, ap, sym, ◌∙◌, arith, inl, inr}
-use Rattle.uring_dispatch.proofs.Common.{bit_at, bit_at-zero, bit_at_ones, bit_at_ones_above, cases_lt, eq-eqb, le-ltb, lt-ltb}
+use Rattle.uring_dispatch.proofs.Common.{bit_at, bit_at_ones, bit_at_ones_above, cases_lt, eq-eqb, le-ltb, lt-ltb}
 use Rattle.std.proofs.Math.Pow.{pow-lt}
 use Rattle.uring_dispatch.proofs.issuable.below.Goals as goal
-
-pub returns-then-limit-place : goal.returns-then-limit-place
-returns-then-limit-place c = λ i lt.
-    let past = c.if-limit-place.true in
-    ap (λ b. eqb b 1) (bit_at-zero i) ∙ sym (le-ltb _ c.args.limit (omega arith))
 
 pub returns-then-place-limit : goal.returns-then-place-limit
 returns-then-place-limit c = λ i lt.

@@ -3,20 +3,6 @@ use Rattle.uring_dispatch.proofs.Common.{bit_at, bit_at-lt, cases_eq, count_belo
 use Rattle.uring_dispatch.proofs.Counting.{ones_counted}
 use Rattle.uring_dispatch.proofs.issuable.nth_bit.Goals as goal
 
-pub returns-then-left-bit-clause-here : goal.returns-then-left-bit-clause-here
-returns-then-left-bit-clause-here c =
-    let bit = shr_and_one c.args.block c.loop-i.i in
-    let few = bit_at-lt c.args.block c.loop-i.i in
-    omega (arith, c.if-left-bit.true)
-
-pub returns-then-left-bit-clause-before : goal.returns-then-left-bit-clause-before
-returns-then-left-bit-clause-before c =
-    let bit = shr_and_one c.args.block c.loop-i.i in
-    let few = bit_at-lt c.args.block c.loop-i.i in
-    let some = c.if-left-bit.true in
-    let so_far : c.loop-i.left + count_below (λ i. eqb (bit_at c.args.block i) 1) c.loop-i.i ≡ c.args.k = c.loop-i.invariant in
-    omega arith
-
 -- one bit is counted if it is set
 one : (b : ℕ) → b < 2 → one_if (eqb b 1) ≡ b
 one b lt =

@@ -3,11 +3,6 @@ use Rattle.uring_dispatch.proofs.Common.{Dispatch, false≢true}
 use Rattle.uring_dispatch.proofs.Views.{held_from, shows_held, room_fewer}
 use Rattle.uring_dispatch.proofs.dispatch.Dispatch.accept.Goals as goal
 
-pub accept-requires : goal.accept-requires
-accept-requires c =
-    let room = ap (λ (d : Dispatch). d.room) c.self.view_is in
-    room_fewer _ _ 1 (omega arith) c.self.invariant.memory
-
 pub invariant_of-self : goal.invariant_of-self
 invariant_of-self c =
     let room = ap (λ (d : Dispatch). d.room) c.self.view_is in

@@ -1,5 +1,5 @@
-use Rattle.std.proofs.Common.{ap, is_some, sym, ◌∙◌}
-use Rattle.uring_dispatch.proofs.Common.{Request, both_ways, group_at, same_Some}
+use Rattle.std.proofs.Common.{ap, is_some, sym}
+use Rattle.uring_dispatch.proofs.Common.{both_ways}
 use Rattle.uring_dispatch.proofs.HeldLemmas.{linked}
 use Rattle.uring_dispatch.proofs.grouped.Grouped.group_of.Goals as goal
 
@@ -7,7 +7,3 @@ pub unreachable-requires : goal.unreachable-requires
 unreachable-requires c =
     let link = linked c.args.self.now.sound c.requires in
     both_ways _ (ap is_some (sym c.in_default.ensures)) (ap is_some link.found)
-
-pub returns-clause-own : goal.returns-clause-own
-returns-clause-own c = λ q e.
-    ap (λ (z : Request). group_at c.args.self.now.groups z.group) (same_Some _ _ (sym e ∙ c.requires)) ∙ sym c.in-Some.ensures

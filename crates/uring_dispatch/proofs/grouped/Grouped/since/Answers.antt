@@ -1,11 +1,7 @@
 use Rattle.std.proofs.Common.{sym, ◌∙◌, refl, ap, is_some}
-use Rattle.std.proofs.lemmas.Bool.{both_ways}
 use Rattle.uring_dispatch.proofs.Common.{drain_of}
 use Rattle.uring_dispatch.proofs.WhyHeld.{since_is, joined_held, joined_apart, draining_kept}
 use Rattle.uring_dispatch.proofs.grouped.Grouped.since.Goals as goal
-
-pub unreachable-requires : goal.unreachable-requires
-unreachable-requires c = both_ways _ (ap is_some (sym c.in_default.ensures)) c.requires.outstanding
 
 pub returns-then-other-request : goal.returns-then-other-request
 returns-then-other-request c = λ r h.

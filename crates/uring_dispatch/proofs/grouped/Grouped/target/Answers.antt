@@ -1,26 +1,14 @@
-use Rattle.std.proofs.Common.{sym, ◌∙◌, arith, below_more, inl, inr}
+use Rattle.std.proofs.Common.{sym, ◌∙◌, arith, inl, inr}
 use Rattle.uring_dispatch.proofs.Common.{cases_lt, target_of_none, target_of_some}
-use Rattle.uring_dispatch.proofs.HeldLemmas.{candidate_none}
 use Rattle.uring_dispatch.proofs.ByData.{outside}
 use Rattle.uring_dispatch.proofs.WindowFront.{within_end}
 use Rattle.uring_dispatch.proofs.grouped.Grouped.target.Goals as goal
-
-pub loop-m-init : goal.loop-m-init
-loop-m-init c = λ r h e k lt.
-    elim (cases_lt k c.first.result) [
-      | inl low ↦ candidate_none h c.args.n _ (c.first.ensures.before k low)
-      | inr high ↦ outside _ _ r c.args.n k c.args.user_data c.args.span.from c.args.span.to h e c.requires (inl (omega (arith, lt, high)))
-    ]
 
 pub returns-then-is_candidate-clause-target : goal.returns-then-is_candidate-clause-target
 returns-then-is_candidate-clause-target c = λ r h e.
     sym
     (target_of_some r _ c.loop-m.m (omega (arith, h.count, within_end _ c.loop-m.m (c.is_candidate.ensures.there c.if-is_candidate.true))) (sym (c.is_candidate.ensures.candidate r h e) ∙ c.if-is_candidate.true)
     (c.loop-m.invariant r h e))
-
-pub loop-m-preserved : goal.loop-m-preserved
-loop-m-preserved c = λ r h e.
-    below_more _ _ (c.loop-m.invariant r h e) (sym (c.is_candidate.ensures.candidate r h e) ∙ c.if-is_candidate.false)
 
 pub returns-clause-target : goal.returns-clause-target
 returns-clause-target c = λ r h e.

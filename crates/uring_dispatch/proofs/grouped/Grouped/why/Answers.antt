@@ -1,13 +1,8 @@
-use Rattle.std.proofs.Common.{◌<◌, length, sym, ◌∙◌, ap, arith}
+use Rattle.std.proofs.Common.{sym, ◌∙◌, ap}
 use Rattle.uring_entry.specs.declared.why.Why.TheVariants.{IsDoomed}
 use Rattle.uring_entry.proofs.WhyLemmas.{why_doomed, why_waiting}
-use Rattle.uring_dispatch.proofs.WhyHeld.{still_held, waits_for, waits_for_none, why_ended}
+use Rattle.uring_dispatch.proofs.WhyHeld.{still_held, waits_for, waits_for_none}
 use Rattle.uring_dispatch.proofs.grouped.Grouped.why.Goals as goal
-
-pub returns-then-n-end : goal.returns-then-n-end
-returns-then-n-end c = λ r h.
-    let given : c.args.n < length r.accepted = omega (arith, h.count) in
-    why_ended r c.args.n given (h.ended c.args.n (sym c.in_default.ensures) given)
 
 pub returns-then-is_doomed : goal.returns-then-is_doomed
 returns-then-is_doomed c = λ r h.

@@ -1,10 +1,7 @@
 use Rattle.std.proofs.Common.{Some, None, true, false, sym, ◌∙◌, ap}
 use Rattle.uring_dispatch.proofs.Common.{Cancel, addr_of}
-use Rattle.uring_dispatch.proofs.Views.{finds_gone, finds_by, finds_other}
+use Rattle.uring_dispatch.proofs.Views.{finds_by, finds_other}
 use Rattle.uring_dispatch.proofs.grouped.Grouped.would_find.Goals as goal
-
-pub returns-in_default : goal.returns-in_default
-returns-in_default c = λ r h. finds_gone _ _ r c.args.n h (sym c.in_default.ensures)
 
 pub returns-in_default-op : goal.returns-in_default-op
 returns-in_default-op c = λ r h. finds_by _ _ r c.args.n c.in-Some.request.now None c.args.self.now.sound h (sym c.in-Some.ensures) c.in_default-op.is

@@ -1,6 +1,6 @@
 use Rattle.std.proofs.Common.{arith, ap, sym, ◌∙◌}
 use Rattle.uring_dispatch.proofs.Common.{Group, Groups, same_Some, with_barrier}
-use Rattle.uring_dispatch.proofs.GroupsKept.{IsAccepted, accept_groups, accept_front, beyond_with, only_key, last_kept}
+use Rattle.uring_dispatch.proofs.GroupsKept.{IsAccepted, accept_groups, accept_front, beyond_with, only_key}
 use Rattle.uring_dispatch.proofs.groups.Groups.accept.Goals as goal
 
 pub invariant_of-self : goal.invariant_of-self
@@ -22,6 +22,3 @@ pub returns-clause-beyond : goal.returns-clause-beyond
 returns-clause-beyond c =
     let beyond = rw (← c.self.view_is) at c.requires.beyond in
     rw c.note_barrier.ensures.items (beyond_with c.self.inside.barriers.items c.index.result.now.drain c.args.n c.put-key.result beyond)
-
-pub returns-clause-kept : goal.returns-clause-kept
-returns-clause-kept c = rw (← c.self.view_is) (last_kept _ _ _ c.self.invariant.0)

@@ -2,7 +2,6 @@ use Rattle.std.proofs.Common.{arith, refl}
 use Rattle.uring_dispatch.proofs.Common.{at, chosen, is_some_value}
 use Rattle.uring_dispatch.proofs.Changes.{write_sound, choose_held}
 use Rattle.uring_dispatch.proofs.WaitingLemmas.{tell_outstanding, restarted_listed}
-use Rattle.uring_dispatch.proofs.Choosing.{choose_same}
 use Rattle.uring_dispatch.proofs.ByData.{found_on, goes_changed}
 use Rattle.uring_dispatch.proofs.outstanding.Outstanding.choose.Goals as goal
 
@@ -20,16 +19,6 @@ invariant_of-self-2 c =
     record {
       listed = restarted_listed _ _ _ _ _ _ c.args.m (chosen found.0) c.args.self.now.listed c.requires (c.choose.ensures.changes found.0 found.1) c.choose.ensures.same.end refl c.relist.ensures.keeps c.relist.ensures.here;
       found = let end = c.choose.ensures.same.end in found_on _ _ _ c.args.self.now.found (goes_changed found.1 (c.choose.ensures.changes found.0 found.1) end refl) (omega (arith, end, c.args.self.now.found.places));
-    }
-
-pub returns-clause-chosen : goal.returns-clause-chosen
-returns-clause-chosen c =
-    let found = is_some_value (at c.args.self.now.grouped.window c.args.m) c.requires in
-    record {
-      same = choose_same _ _ c.args.m found.0 found.1 (c.choose.ensures.changes found.0 found.1) c.choose.ensures.same c.choose.ensures.running;
-      groups = refl;
-      memory = omega (arith, c.relist.ensures.keeps.heads.limit, c.relist.ensures.keeps.doomed.limit);
-      places = omega arith;
     }
 
 pub returns-clause-shows : goal.returns-clause-shows

@@ -1,5 +1,3 @@
-use Rattle.std.proofs.Common.{arith, ap}
-use Rattle.uring_dispatch.specs.Groups.{Groups}
 use Rattle.uring_dispatch.proofs.Accepts.{cut_held, cut_sound}
 use Rattle.uring_dispatch.proofs.AcceptsListed.{cut_listed}
 use Rattle.uring_dispatch.proofs.outstanding.Outstanding.close.Goals as goal
@@ -11,8 +9,3 @@ invariant_of-self c =
 pub returns-clause-shows : goal.returns-clause-shows
 returns-clause-shows c = λ r h.
     rw c.close.ensures (cut_held _ _ r h)
-
-pub returns-clause-room : goal.returns-clause-room
-returns-clause-room c = λ k r.
-    let groups = ap (λ (g : Groups). g.room) c.close.ensures in
-    omega (arith, r, groups)

@@ -1,5 +1,5 @@
 use Rattle.std.proofs.Common.{arith, None, refl}
-use Rattle.uring_dispatch.proofs.WaitingLemmas.{tell_outstanding, tell_after, tell_kept, keeps_both, idle_listed, forgotten_keeps, end_listed}
+use Rattle.uring_dispatch.proofs.WaitingLemmas.{tell_outstanding, tell_kept, keeps_both, idle_listed, forgotten_keeps, end_listed}
 use Rattle.uring_dispatch.proofs.ByData.{found_on, found_dropped, goes_ended}
 use Rattle.uring_dispatch.proofs.outstanding.Outstanding.end_by_key.Goals as goal
 
@@ -11,13 +11,6 @@ relist-requires c =
     let own = idle_listed _ c.take_out-others.new.self.groups _ _ c.args.n None c.take_out-others.ensures.gone.here refl refl c.forget.ensures.heads c.forget.ensures.doomed in
     tell_kept _ _ _ _ _ (tell_outstanding _ _ _ c.take_out-others.result.head c.args.self.now.listed c.take_out-others.ensures.head)
     (forgotten_keeps _ _ _ _ c.args.n own c.forget.ensures.heads c.forget.ensures.doomed)
-
-pub relist_range-requires : goal.relist_range-requires
-relist_range-requires c = λ k from to.
-    let doomed = c.take_out-others.ensures.doomed in
-    let own = idle_listed _ c.take_out-others.new.self.groups _ _ c.args.n None c.take_out-others.ensures.gone.here refl refl c.forget.ensures.heads c.forget.ensures.doomed in
-    let keeps = forgotten_keeps _ _ _ _ c.args.n own c.forget.ensures.heads c.forget.ensures.doomed in
-    tell_kept _ _ _ _ _ (tell_kept _ _ _ _ _ (tell_after _ _ _ c.args.n k c.args.self.now.listed c.take_out-others.ensures.there from (omega arith)) keeps) c.relist.ensures.keeps
 
 pub invariant_of-self-2 : goal.invariant_of-self-2
 invariant_of-self-2 c =

@@ -1,10 +1,10 @@
-use Rattle.std.proofs.Common.{◌≡◌, Some, sym, ◌∙◌, ap, refl, is_some, rules, arith}
-use Rattle.uring_dispatch.proofs.Common.{addr_of, at, entry_of, never_success, no_bytes, one_if, runs, started, to_z-of_z, w32}
+use Rattle.std.proofs.Common.{Some, sym, ◌∙◌, ap, refl, is_some, rules, arith}
+use Rattle.uring_dispatch.proofs.Common.{addr_of, entry_of, never_success, no_bytes, started, to_z-of_z, w32}
 use Rattle.uring_dispatch.proofs.Changes.{write_sound, start_held}
 use Rattle.uring_dispatch.proofs.HeldLemmas.{shown_within}
 use Rattle.uring_dispatch.proofs.WaitingLemmas.{tell_outstanding, idle_listed, forgotten_keeps, restarted_listed}
 use Rattle.uring_dispatch.proofs.Choosing.{ends_failing}
-use Rattle.uring_dispatch.proofs.Issues.{op_none, op_some, issued_faulty, issued_doomed, issued_not_ready, issued_cancel, issued_run}
+use Rattle.uring_dispatch.proofs.Issues.{op_none, op_some, issued_faulty, issued_doomed, issued_cancel, issued_run}
 use Rattle.uring_entry.proofs.Preparations.{cancel_asked}
 use Rattle.uring_dispatch.proofs.ByData.{found_on, goes_changed}
 use Rattle.uring_dispatch.proofs.outstanding.Outstanding.issue_waiting.Goals as goal
@@ -18,12 +18,6 @@ pub returns-in_default-clause-shows : goal.returns-in_default-clause-shows
 returns-in_default-clause-shows c = λ r h.
     ends_failing _ _ r c.args.n 21 (c.end_by_key.ensures.shows r _ no_bytes h (sym (never_success (entry_of r c.args.n) 21)))
 
-pub returns-in_default-clause-counts : goal.returns-in_default-clause-counts
-returns-in_default-clause-counts c = λ room between.
-    let none : one_if (runs (at c.args.self.now.grouped.window c.args.n)) ≡ 0 = ap one_if (ap runs c.requires.there ∙ c.requires.waits) in
-    let lost = c.end_by_key.ensures.counts in
-    record { accepted = lost.end; outstanding = lost.outstanding; running = omega (arith, lost.runs); room = omega arith; between = refl }
-
 pub returns-then-is_doomed_in-clause-answer : goal.returns-then-is_doomed_in-clause-answer
 returns-then-is_doomed_in-clause-answer c = λ r h.
     let shown = h.shown c.args.n c.args.request c.requires.there in
@@ -33,16 +27,6 @@ returns-then-is_doomed_in-clause-answer c = λ r h.
 pub returns-then-is_doomed_in-clause-shows : goal.returns-then-is_doomed_in-clause-shows
 returns-then-is_doomed_in-clause-shows c = λ r h.
     ends_failing _ _ r c.args.n 124 (c.end_by_key-then-is_doomed_in.ensures.shows r _ no_bytes h (sym (never_success (entry_of r c.args.n) 124)))
-
-pub returns-then-is_doomed_in-clause-counts : goal.returns-then-is_doomed_in-clause-counts
-returns-then-is_doomed_in-clause-counts c = λ room between.
-    let none : one_if (runs (at c.args.self.now.grouped.window c.args.n)) ≡ 0 = ap one_if (ap runs c.requires.there ∙ c.requires.waits) in
-    let lost = c.end_by_key-then-is_doomed_in.ensures.counts in
-    record { accepted = lost.end; outstanding = lost.outstanding; running = omega (arith, lost.runs); room = omega arith; between = refl }
-
-pub returns-then-not-is_ready-clause-answer : goal.returns-then-not-is_ready-clause-answer
-returns-then-not-is_ready-clause-answer c = λ r h.
-    issued_not_ready r c.args.n (sym (c.is_doomed_in.ensures r h) ∙ c.if-is_doomed_in.false) (sym (c.is_ready.ensures r h) ∙ c.if-not-is_ready.true)
 
 pub returns-in-Cancel-clause-answer : goal.returns-in-Cancel-clause-answer
 returns-in-Cancel-clause-answer c = λ r h.

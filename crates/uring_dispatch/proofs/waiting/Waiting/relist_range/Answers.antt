@@ -1,13 +1,7 @@
 use Rattle.std.proofs.Common.{arith, inl, inr, ◌≡◌}
 use Rattle.std.proofs.lemmas.Bool.{cases_lt}
-use Rattle.uring_dispatch.proofs.WaitingLemmas.{keeps_none, keeps_both, tell_kept}
+use Rattle.uring_dispatch.proofs.WaitingLemmas.{keeps_both}
 use Rattle.uring_dispatch.proofs.waiting.Waiting.relist_range.Goals as goal
-
-pub loop-n-init : goal.loop-n-init
-loop-n-init c = record { here = λ k from to. absurd (omega arith); keeps = keeps_none _ _ _ }
-
-pub relist-requires : goal.relist-requires
-relist-requires c = tell_kept _ _ _ _ c.loop-n.n (c.requires c.loop-n.n (omega arith) (omega arith)) c.loop-n.invariant.keeps
 
 pub loop-n-preserved : goal.loop-n-preserved
 loop-n-preserved c = record {
