@@ -1,10 +1,9 @@
 -- Worlds that are alike answer alike, and stay alike by each event, by either's rules: `alike_go_on`.
 -- Each definition on requests and drains reads their lists only by what is found in them, so that the order of what started and ended is read by none.
 -- Stable: other crates may import what is pub.
-use Rattle.std.proofs.Common.{◌≡◌, ℕ, ℤ, true, if◌then◌else◌, List, [], ◌∷◌, ◌++◌, Some, refl, sym, subst, ap, ap₂, ◌∙◌, rules}
-use Rattle.uring_laws.proofs.Common.{AlikeAnswerAlike, AlikeGoOnAlike, Answer, AreAlike, CalledFor, Change, ChangeAnywhere, Drains, Ending, EndsOn, History, IsLawful, IsLawfulApart, LinuxRequests, Setup, StandAlike, Step, World, after, cancels, change_of, completion_for, dooms, empty_files, ending_of, entries_from, entry_of, files_ended, files_kept, files_of, finishes, happens, is_running, issue_answer, next_answer_of, no_bytes, operation_of, refuses, requests_of, runs, taking_entry_of, taking_of, with_end_of, with_posted, world}
+use Rattle.std.proofs.Common.{◌≡◌, ℕ, ℤ, true, if◌then◌else◌, List, [], ◌∷◌, sym, subst, ap, ◌∙◌, rules}
+use Rattle.uring_laws.proofs.Common.{AlikeAnswerAlike, AlikeGoOnAlike, Answer, AreAlike, CalledFor, Change, ChangeAnywhere, Drains, Ending, EndsOn, History, IsLawful, IsLawfulApart, LinuxRequests, Setup, StandAlike, Step, World, cancels, change_of, completion_for, dooms, ending_of, entries_from, entry_of, files_ended, files_kept, files_of, finishes, happens, is_running, issue_answer, next_answer_of, no_bytes, refuses, requests_of, runs, with_end_of, with_posted, world}
 use Rattle.uring_core.proofs.Changes.{takes, drops, closes}
-use Rattle.uring_rules.specs.Rules.{doomed_result, cancel_result}
 use Rattle.uring_core.specs.declared.step.Step.TheVariants as step
 use Rattle.uring_core.specs.declared.answer.Answer.TheVariants as answer
 use Rattle.uring_laws.proofs.AlikeRequests.{AreSame, ReadSame, read_same, listed, outstanding_same, running_same}
@@ -36,18 +35,11 @@ module _ (g : Setup) (w : World) (s c : List ℕ) (e : List Ending) (d : Drains)
 -- a world that is alike is the same but for the lists of requests
 same_but : (g : Setup) (v w : World) → AreAlike g v w
     → with_lists v w.requests.started w.requests.cancelled w.requests.ended w.drains ≡ w
-same_but g v w al = λ i. record {
-  submission = al.submission i;
-  requests = record { accepted = al.requests.accepted i; cuts = al.requests.cuts i; started = w.requests.started; cancelled = w.requests.cancelled; ended = w.requests.ended };
-  drains = w.drains;
-  completions = al.completions i;
-  is_closed = al.is_closed i;
-}
+same_but g v w al = search rules
 
 lists_of : (g : Setup) (v w : World) → AreAlike g v w
     → AreSame v.requests w.requests.started w.requests.cancelled w.requests.ended
-lists_of g v w al =
-    record { started = al.requests.started; cancelled = al.requests.cancelled; ended = al.requests.ended }
+lists_of g v w al = search rules
 
 pub alike_answer : (g : Setup) → AlikeAnswerAlike g
 alike_answer g v w s a al called =
@@ -85,45 +77,27 @@ module _ (g : Setup) (v : World) (s c : List ℕ) (e : List Ending) (d : Drains)
 
   rings_then : (x : Step) (b : Answer) → Change g v x b
       → HaveSameRings g (happens g v x b) (happens g (with_lists v s c e d) x b)
-  rings_then x b (refuses _ _ still silent) =
-      subst (λ u. HaveSameRings g u (happens g (with_lists v s c e d) x b)) (sym (still v))
-      (subst (HaveSameRings g v) (sym (still (with_lists v s c e d))) (by_rings g v s c e d a same))
-  rings_then x b (takes entry call place opened left at valid) =
-      subst (λ o. HaveSameRings g (taking_entry_of g v entry o) (taking_entry_of g (with_lists v s c e d) entry o)) (sym opened) (by_rings g (taking_entry_of g v entry (Some call)) s c e d a same)
-  rings_then x b (drops call place opened left at invalid) =
-      subst (λ o. HaveSameRings g (taking_of g v o) (taking_of g (with_lists v s c e d) o)) (sym opened) (by_rings g (taking_of g v (Some call)) s c e d a same)
+  rings_then x b (refuses _ _ still silent) = search rules
+  rings_then x b (takes entry call place opened left at valid) = search rules
+  rings_then x b (drops call place opened left at invalid) = search rules
   rings_then x b (closes accepted missed head call opened all told) =
       let drains = drains_called_same (requests_of v) s c e (read_same v.requests s c e a) g.linux d same (entries_from v.submission call.count) in
       subst (λ o. HaveSameRings g (ending_of g v o) (ending_of g (with_lists v s c e d) o)) (sym opened) (search (rules, drains, a.started, a.cancelled, a.ended))
-  rings_then x b (runs n outstanding idle spared ready no_cancel) = record {
-    submission = refl;
-    requests = record { accepted = refl; cuts = refl; started = λ p. pushed p v.requests.started s (n ∷ []) (a.started p); cancelled = a.cancelled; ended = a.ended };
-    completions = refl;
-    is_closed = refl;
-    drains = same;
-  }
-  rings_then x b (dooms n outstanding idle doomed) =
-      issued_rings n (doomed_result g.linux v.requests n) no_bytes
-  rings_then x b (cancels n outstanding idle spared ready cancel) =
-      issued_rings n (cancel_result g.linux v.requests n) no_bytes
+  rings_then x b (runs n outstanding idle spared ready no_cancel) = search (rules, pushed)
+  rings_then x b (dooms n outstanding idle doomed) = search (rules, issued_rings)
+  rings_then x b (cancels n outstanding idle spared ready cancel) = search (rules, issued_rings)
   rings_then x b (finishes n res bytes running) =
       search (rules, end_same (requests_of v) s c e a n res bytes, posted_same n res bytes, drains_ended_same (requests_of v) s c e a g.linux d same n res)
   rings_then x b _ = by_rings g (happens g v x b) s c e d a same
 
 finished_files : (g : Setup) (v w : World) (n : ℕ) (a : Answer) → AreAlike g v w
     → files_of g (happens g v (step.Finish n) a) ≡ files_of g (happens g w (step.Finish n) a)
-finished_files g v w n (answer.Ended res bytes) al =
-    files_ended v.requests n res bytes (empty_files g.files)
-    ∙ ap₂ (λ fs xs. after fs (operation_of (entry_of (record v.requests { accepted = xs }) n)) res) al.files al.requests.accepted
-    ∙ sym (files_ended w.requests n res bytes (empty_files g.files))
-finished_files g v w n _ al = al.files
+finished_files g v w n a al = search (rules, files_ended)
 
 files_then : (g : Setup) (h k : History) (s : Step) (a : Answer) → IsLawfulApart g ((s, a) ∷ h)
     → IsLawfulApart g ((s, a) ∷ k) → AreAlike g (world g h) (world g k)
     → files_of g (world g ((s, a) ∷ h)) ≡ files_of g (world g ((s, a) ∷ k))
-files_then g h k (step.Finish n) a lawful other al = finished_files g (world g h) (world g k) n a al
-files_then g h k s a lawful other al =
-    files_kept g s a h lawful tt ∙ al.files ∙ sym (files_kept g s a k other tt)
+files_then g h k s a lawful other al = search (rules, finished_files, files_kept)
 
 pub alike_then : (g : Setup) (h k : History) (s : Step) (a : Answer) → IsLawful g ((s, a) ∷ h)
     → IsLawful g ((s, a) ∷ k) → AreAlike g (world g h) (world g k)
@@ -138,13 +112,7 @@ alike_then g h k s a lawful other al =
 pub alike_go_on : (g : Setup) → AlikeGoOnAlike g
 alike_go_on g [] h k lawful al next = record { lawful = lawful; alike = al }
 alike_go_on g ((s, a) ∷ rest) h k lawful al next =
-    let before = alike_go_on g rest h k lawful al next.1 in
-    let called = alike_answer g (world g (rest ++ h)) (world g (rest ++ k)) s a before.alike next.0 in
-    record {
-      lawful = (called, before.lawful);
-      alike = alike_then g (rest ++ h) (rest ++ k) s a next (called, before.lawful) before.alike;
-    }
+    search (rules, (alike_go_on g rest h k lawful al next.1), alike_answer, alike_then)
 
 pub change_anywhere : (g : Setup) → ChangeAnywhere g
-change_anywhere g rest h x y c lawful =
-    alike_go_on g rest (y ∷ x ∷ h) (x ∷ y ∷ h) c.lawful c.alike lawful
+change_anywhere g rest h x y c lawful = search (rules, alike_go_on)

@@ -1,6 +1,6 @@
 -- Requests with other lists, of which the definitions read the same, stand alike by the manual pages' rules: each reads who started, was doomed by a cancel, ended and failed, and nothing else of them.
-use Rattle.std.proofs.Common.{◌≡◌, ℕ, zero, suc, ◌==◌, ℤ, pos, neg_ℤ, Bool, not, ◌&&◌, ◌||◌, nat_lt, if◌then◌else◌, List, [], ◌∷◌, ◌++◌, length, Option, Some, None, refl, sym, ap, ap₂, ◌∙◌, ◌<◌, arith}
-use Rattle.uring_laws.proofs.Common.{EALREADY, Ending, HaveSame, Requests, addr_of, all_below, cancel_result, chosen_by, count_result, entry_of, has_ended, has_failed, has_started, holds_back, is_after_failure, is_cancel, is_cancel_all, is_cancelled, is_candidate, is_doomed, is_in_faulty_group, is_issuable, is_joined, is_outstanding, is_ready, is_running, is_soft, is_success, is_target, least_below_same, list_any, next_of, option_to_list, result_for, some_below_same, some_member, target_of, targets_of, user_data_of, waits_for}
+use Rattle.std.proofs.Common.{◌≡◌, ℕ, zero, suc, ◌==◌, ℤ, Bool, not, ◌&&◌, ◌||◌, nat_lt, List, length, Option, refl, ap, ap₂, ◌<◌, arith}
+use Rattle.uring_laws.proofs.Common.{Ending, HaveSame, Requests, all_below, cancel_result, chosen_by, has_ended, has_failed, has_started, is_after_failure, is_cancelled, is_candidate, is_doomed, is_in_faulty_group, is_issuable, is_joined, is_outstanding, is_ready, is_running, is_target, least_below_same, list_any, next_of, result_for, some_member, target_of, targets_of}
 
 -- Requests with other lists of who started, was doomed and ended.
 
@@ -25,17 +25,11 @@ pub record ReadSame (r : Requests) (s c : List ℕ) (e : List Ending) : Type 0 w
   pub failed : (n : ℕ) → has_failed (listed r s c e) n ≡ has_failed r n
 
 pub read_same : (r : Requests) (s c : List ℕ) (e : List Ending) → AreSame r s c e → ReadSame r s c e
-read_same r s c e a = record {
-  started = λ n. sym (a.started (λ m. m == n));
-  cancelled = λ n. sym (a.cancelled (λ m. m == n));
-  ended = λ n. sym (a.ended (λ x. x.number == n));
-  failed = λ n. sym (a.ended (λ x. (x.number == n) && not (is_success (entry_of r n) x.res)));
-}
+read_same r s c e a = grind arith
 
 pub all_below_same : (p q : ℕ → Bool) (n : ℕ) → ((k : ℕ) → k < n → p k ≡ q k) → all_below p n ≡ all_below q n
 all_below_same p q zero h = refl
-all_below_same p q (suc n) h =
-    ap₂ (λ xs b. xs ++ (if b then n ∷ [] else [])) (all_below_same p q n (λ k lt. h k (omega (arith, lt)))) (h n (omega arith))
+all_below_same p q (suc n) h = grind (arith, (all_below_same p q n (λ k lt. h k (omega (arith, lt)))))
 
 module _ (r : Requests) (s c : List ℕ) (e : List Ending) (a : ReadSame r s c e) where
   abbrev q : Requests
@@ -49,9 +43,7 @@ module _ (r : Requests) (s c : List ℕ) (e : List Ending) (a : ReadSame r s c e
 
   pub after_same : (n : ℕ) → is_after_failure q n ≡ is_after_failure r n
   unfolding is_after_failure is_joined
-  after_same n =
-      some_below_same (λ m. is_joined q m n && is_soft (entry_of r m) && has_failed q m) (λ m. is_joined r m n && is_soft (entry_of r m) && has_failed r m) n
-      (λ k lt. ap (λ b. is_joined r k n && is_soft (entry_of r k) && b) (a.failed k))
+  after_same n = grind arith
 
   pub doomed_same : (n : ℕ) → is_doomed q n ≡ is_doomed r n
   unfolding is_doomed some_member is_joined
@@ -59,12 +51,10 @@ module _ (r : Requests) (s c : List ℕ) (e : List Ending) (a : ReadSame r s c e
 
   pub ready_same : (n : ℕ) → is_ready q n ≡ is_ready r n
   unfolding is_ready some_member is_joined
-  ready_same n =
-      ap not (some_below_same (holds_back q n) (holds_back r n) n (λ k lt. ap (λ b. not b && waits_for r n k) (a.ended k)))
+  ready_same n = grind arith
 
   candidate_same : (n m : ℕ) → is_candidate q n m ≡ is_candidate r n m
-  candidate_same n m =
-      ap₂ (λ x y. x && not (m == n) && (user_data_of (entry_of r m) == addr_of (entry_of r n)) && not y) (outstanding_same m) (doomed_same m)
+  candidate_same n m = grind (arith, doomed_same)
 
   target_same : (n m : ℕ) → is_target q n m ≡ is_target r n m
   target_same n m = ap₂ (λ x y. x && not y) (candidate_same n m) (running_same m)
@@ -78,22 +68,16 @@ module _ (r : Requests) (s c : List ℕ) (e : List Ending) (a : ReadSame r s c e
   all_same n = all_below_same (is_target q n) (is_target r n) (length r.accepted) (λ k lt. target_same n k)
 
   found_same : (o : Option ℕ) → result_for q o ≡ result_for r o
-  found_same None = refl
-  found_same (Some m) = ap (λ b. if b then neg_ℤ EALREADY else pos 0) (running_same m)
+  found_same o = grind arith
 
   pub cancel_same : (n : ℕ) → cancel_result q n ≡ cancel_result r n
-  cancel_same n =
-      ap₂ (λ xs z. if is_cancel_all (entry_of r n) then count_result (length xs) else z) (all_same n)
-      (ap (result_for q) (one_same n) ∙ found_same (target_of r n))
+  cancel_same n = grind (arith, all_same, one_same)
 
   pub chosen_same : (n : ℕ) (res : ℤ) → chosen_by q n res ≡ chosen_by r n res
-  chosen_same n res =
-      ap₂ (λ xs o. if is_cancel (entry_of r n) && is_success (entry_of r n) res then (if is_cancel_all (entry_of r n) then xs else option_to_list o) else []) (all_same n) (one_same n)
+  chosen_same n res = grind (arith, all_same, one_same)
 
   issuable_same : (n : ℕ) → is_issuable q n ≡ is_issuable r n
-  issuable_same n =
-      ap₂ (λ x y. x && not y && (is_doomed q n || is_ready q n)) (outstanding_same n) (running_same n)
-      ∙ ap₂ (λ x y. is_outstanding r n && not (is_running r n) && (x || y)) (doomed_same n) (ready_same n)
+  issuable_same n = grind (arith, doomed_same, ready_same)
 
   pub next_same : next_of q ≡ next_of r
   next_same = least_below_same (is_issuable q) (is_issuable r) (length r.accepted) (λ k lt. issuable_same k)

@@ -1,6 +1,6 @@
 -- Who can start before a call accepts entries can start after it, and the other way round, by either's rules. By Linux's no group that was deferred goes on by a call: something else is outstanding then.
-use Rattle.std.proofs.Common.{◌≡◌, ℕ, ◌<◌, ◌≤◌, Bool, true, false, not, ◌&&◌, ◌||◌, nat_lt, if◌then◌else◌, List, [], ◌∷◌, length, refl, sym, ap, ap₂, ◌∙◌, arith, inl, inr, ◌+◌}
-use Rattle.uring_laws.proofs.Common.{Deferred, Drains, HasGoneOn, IsBetween, LinuxRequests, Requests, Sqe, after_going_on, and_parts, both_ways, cases_Bool, cond_both, deferred_with, doom_kept, ends_doomed, entry_kept, false_from_ne_true, has_ended, holds_back, in_pushed, is_alone, is_deferred, is_drain, is_draining, is_faulty_from, is_in_some, is_in_turn, is_joined, is_linked, is_outstanding, is_ready, join_kept, keeps_back, length_push, longer, lt-ltb, may_start, member_kept, not-false, not-true, not_alone, pushed_old, some_below, some_below_in, some_below_same, still_fewer, waits_for, with_accepted, with_call, with_cut, with_deferred, with_entries, with_group, with_last_entry, with_ring}
+use Rattle.std.proofs.Common.{◌≡◌, ℕ, ◌<◌, ◌≤◌, Bool, true, false, not, ◌&&◌, ◌||◌, nat_lt, if◌then◌else◌, List, [], ◌∷◌, length, refl, sym, ap, ◌∙◌, arith, inl, inr, ◌+◌}
+use Rattle.uring_laws.proofs.Common.{Deferred, Drains, HasGoneOn, IsBetween, LinuxRequests, Requests, Sqe, after_going_on, and_parts, both_ways, cases_Bool, cond_both, deferred_with, doom_kept, ends_doomed, entry_kept, false_from_ne_true, has_ended, holds_back, in_pushed, is_alone, is_deferred, is_faulty_from, is_in_some, is_in_turn, is_linked, is_outstanding, is_ready, join_kept, keeps_back, length_push, longer, lt-ltb, may_start, member_kept, not-false, not-true, not_alone, pushed_old, some_below, some_below_in, some_below_same, still_fewer, waits_for, with_accepted, with_call, with_cut, with_deferred, with_entries, with_group, with_last_entry, with_ring}
 use Rattle.uring_laws.proofs.Growth.{IsCut}
 use Rattle.uring_entry.specs.Requests as manual
 use Rattle.uring_rules.specs.RulesCalls.{called_by}
@@ -26,23 +26,13 @@ module _ (r : Requests) (d : Drains) where
   by_group P plain held = cond_both (not d.ring || is_faulty_from r d.from) _ _ P (λ _. plain) (λ _. held)
 
   group_fewer : (n : ℕ) → n < d.from → is_in_some (with_group r d).deferred n ≡ true → is_in_some d.deferred n ≡ true
-  group_fewer n lt = by_group (λ e. is_in_some e.deferred n ≡ true → is_in_some d.deferred n ≡ true) (λ e. e) (λ e.
-      elim (in_pushed d.deferred next_group n (still_fewer _ (deferred_with d (length r.accepted)) n e)) [
-        | inl old ↦ old
-        | inr new ↦ (let from : d.from ≤ n = new.0 in absurd (omega (arith, from, lt)))
-      ])
+  group_fewer n lt = grind (arith, in_pushed, still_fewer)
 
   -- as long as something else is outstanding, nobody goes on
   group_keeps : (k n : ℕ) → k < d.from → k < length r.accepted → has_ended r k ≡ false → is_in_some d.deferred k ≡ false
       → is_in_some d.deferred n ≡ true → is_in_some (with_group r d).deferred n ≡ true
   group_keeps k n lt accepted still out held =
-      let all : List Deferred = deferred_with d (length r.accepted) in
-      let with_next : is_in_some all k ≡ false = false_from_ne_true _ (λ e. elim (in_pushed d.deferred next_group k e) [
-        | inl old ↦ both_ways _ out old
-        | inr new ↦ (let from : d.from ≤ k = new.0 in omega (arith, from, lt))
-      ]) in
-      by_group (λ e. is_in_some e.deferred n ≡ true) held
-      (ap (λ groups. is_in_some groups n) (unmoved (is_alone r all) all (not_alone r all k accepted still with_next)) ∙ pushed_old d.deferred next_group n held)
+      grind (arith, false_from_ne_true, in_pushed, both_ways, by_group, unmoved, not_alone, pushed_old)
 
   group_from : (with_group r d).from ≡ length r.accepted
   group_from = by_group (λ e. e.from ≡ length r.accepted) refl refl
@@ -73,9 +63,7 @@ module _ (l : LinuxRequests) (e : Sqe) where
   more = length_push l.requests.accepted e
 
   accepted_taken : (n : ℕ) → IsTaken l n → IsTaken (with_accepted l e) n
-  accepted_taken n t =
-      by_link (λ d. IsTaken (record { requests = longer_by; drains = d }) n) (record { before = t.before; within = omega (arith, more, t.within) })
-      (let from = group_from longer_by with_last in record { before = omega (arith, more, t.before, t.within, from); within = omega (arith, from) })
+  accepted_taken n t = grind (arith, by_link, more)
 
   accepted_fewer : (n : ℕ) → IsTaken l n → is_deferred (with_accepted l e) n ≡ true → is_deferred l n ≡ true
   accepted_fewer n t = by_link (λ d. is_in_some d.deferred n ≡ true → is_deferred l n ≡ true) (λ f. f) (group_fewer longer_by with_last n t.before)
@@ -86,11 +74,7 @@ module _ (l : LinuxRequests) (e : Sqe) where
       by_link (λ d. is_in_some d.deferred n ≡ true) held (group_keeps longer_by with_last k n b.taken.before low b.still b.free held)
 
   accepted_back : (k : ℕ) → KeepsBack l k → KeepsBack (with_accepted l e) k
-  accepted_back k b = record {
-    taken = accepted_taken k b.taken;
-    still = b.still;
-    free = false_from_ne_true _ (λ f. both_ways _ b.free (accepted_fewer k b.taken f));
-  }
+  accepted_back k b = grind (arith, (accepted_taken k b.taken), both_ways, accepted_fewer)
 
 entries_taken : (xs : List Sqe) (l : LinuxRequests) (n : ℕ) → IsTaken l n → IsTaken (with_entries l xs) n
 entries_taken [] l n t = t
@@ -152,9 +136,7 @@ deferred_called l entries n within b = elim (cases_Bool (is_deferred l n)) [
 
 module _ (r : Requests) (entries : List Sqe) (cut : IsCut r) (n : ℕ) (within : n < length r.accepted) where
   pub waits_kept : (k : ℕ) → k < n → waits_for (with_call r entries) n k ≡ waits_for r n k
-  waits_kept k low =
-      ap₂ (λ x y. (is_joined (with_call r entries) k n || x) || y) (member_kept r entries cut is_drain k (omega (arith, within, low))) (member_kept r entries cut is_drain n within)
-      ∙ ap (λ x. (x || is_draining r k) || is_draining r n) (join_kept r entries cut k n within)
+  waits_kept k low = grind (arith, member_kept, join_kept)
 
   pub ready_kept : is_ready (with_call r entries) n ≡ is_ready r n
   unfolding is_ready
@@ -174,17 +156,13 @@ module _ (l : LinuxRequests) (entries : List Sqe) (cut : IsCut l.requests) (n : 
   r = l.requests
 
   ends_doomed_kept : (linux : Bool) → ends_doomed linux (with_call r entries) n ≡ ends_doomed linux r n
-  ends_doomed_kept true = ap₂ (λ x y. x && y) (turn_kept r entries cut n within) (doom_called r entries cut n within)
-  ends_doomed_kept false = doom_kept r entries cut n within
+  ends_doomed_kept linux = grind (arith, turn_kept, doom_called, doom_kept)
 
   may_start_kept : (linux : Bool) → (linux ≡ true → IsBetween l) → may_start linux (called_by linux l entries) n ≡ may_start linux l n
-  may_start_kept true so = ap₂ (λ x y. x && not y) (turn_kept r entries cut n within) (deferred_called l entries n within (so refl))
-  may_start_kept false so = ready_kept r entries cut n within
+  may_start_kept linux so = grind (arith, turn_kept, deferred_called, ready_kept)
 
   pub start_kept : (linux : Bool) → (linux ≡ true → IsBetween l) → CanStart linux l n → CanStart linux (called_by linux l entries) n
-  start_kept linux so c =
-      grind (arith, outstanding_kept r entries cut n within, ends_doomed_kept linux, may_start_kept linux so, entry_kept r entries cut n within)
+  start_kept linux so c = grind (arith, outstanding_kept, ends_doomed_kept, may_start_kept, entry_kept)
 
   pub start_was : (linux : Bool) → (linux ≡ true → IsBetween l) → CanStart linux (called_by linux l entries) n → CanStart linux l n
-  start_was linux so c =
-      grind (arith, outstanding_kept r entries cut n within, ends_doomed_kept linux, may_start_kept linux so, entry_kept r entries cut n within)
+  start_was linux so c = grind (arith, outstanding_kept, ends_doomed_kept, may_start_kept, entry_kept)

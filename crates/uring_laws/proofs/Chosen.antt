@@ -1,6 +1,6 @@
 -- Whom cancels chose, read off a history, by the manual pages' rules.
-use Rattle.std.proofs.Common.{◌≡◌, ℕ, ◌==◌, ℤ, pos, true, false, ◌&&◌, List, [], ◌∷◌, ◌++◌, cond, refl, sym, subst, ap, ◌∙◌, ◌⊎◌, inl, inr, arith}
-use Rattle.uring_laws.proofs.Common.{Answer, Chose, Decides-int_eq, Event, History, IsChosenIn, IsLawfulApart, Move, Requests, Setup, Step, World, all_success, and_parts, any_both, both_ways, by_manual, cancel_result, choices_of, chose, chosen_by, doomed_fails, doomed_result, ends_cancel, entry_of, eq-eqb, int_le, is_cancel, is_cancelled, is_success, le-leb, list_any, move_of, no_bytes, one_success, option_to_list, or_left, or_right, outstanding_tells, requests_of, target_of, target_there, targets_of, with_issued_end, world}
+use Rattle.std.proofs.Common.{◌≡◌, ℕ, ◌==◌, ℤ, true, false, List, [], ◌∷◌, ◌++◌, cond, refl, ap, ◌∙◌, ◌⊎◌, inl, inr, arith}
+use Rattle.uring_laws.proofs.Common.{Answer, Chose, Event, History, IsChosenIn, IsLawfulApart, Move, Requests, Setup, Step, World, all_success, any_both, by_manual, cancel_result, choices_of, chose, chosen_by, doomed_fails, ends_cancel, entry_of, is_cancel, is_cancelled, is_success, list_any, move_of, no_bytes, or_left, or_right, outstanding_tells, requests_of, target_there, with_issued_end, world}
 use Rattle.uring_core.proofs.Moves.{ends_doomed}
 use Rattle.std.proofs.lemmas.List.Folds.{list_any-append}
 use Rattle.uring_core.specs.declared.step.Step.TheVariants as step
@@ -18,11 +18,7 @@ record IsChoosing (w : World) (s : Step) (a : Answer) (m : ℕ) : Type 0 where
 new_cancel : (w : World) (s : Step) (a : Answer) (later : Requests) → Move false (requests_of w) s a later
     → (m : ℕ) → is_cancelled later m ≡ true
     → (is_cancelled w.requests m ≡ true) ⊎ IsChoosing w s a m
-new_cancel w s a later (ends_doomed n outstanding) m gone =
-    elim (any_both (λ k. k == m) w.requests.cancelled (chosen_by w.requests n (doomed_result w.requests n)) gone) [
-      | inl old ↦ inl old
-      | inr new ↦ absurd (both_ways _ (doomed_fails w.requests n) (chose w.requests n (doomed_result w.requests n) m new).0)
-    ]
+new_cancel w s a later (ends_doomed n outstanding) m gone = grind (arith, any_both, doomed_fails)
 new_cancel w s a later (ends_cancel n outstanding spared ready cancel) m gone =
     elim (any_both (λ k. k == m) w.requests.cancelled (chosen_by w.requests n (cancel_result w.requests n)) gone) [
       | inl old ↦ inl old
@@ -64,38 +60,21 @@ chosen_in g ((s, a) ∷ before) lawful m gone =
 dooms_with : (r : Requests) (n : ℕ) (res : ℤ) (m : ℕ) → is_cancel (entry_of r n) ≡ true
     → is_success (entry_of r n) res ≡ true → list_any (λ k. k == m) (choices_of r n) ≡ true
     → is_cancelled (with_issued_end r n res) m ≡ true
-dooms_with r n res m cancel success there =
-    list_any-append (λ k. k == m) r.cancelled (chosen_by r n res)
-    ∙ or_right _ _
-    (ap (λ b. list_any (λ k. k == m) (cond (b && is_success (entry_of r n) res) (choices_of r n) [])) cancel
-    ∙ ap (λ b. list_any (λ k. k == m) (cond b (choices_of r n) [])) success
-    ∙ there)
+dooms_with r n res m cancel success there = grind (arith, list_any-append, or_right)
 
 dooms_now : (r : Requests) (n : ℕ) (res : ℤ) (m : ℕ) → Chose r n res m
     → is_cancelled (with_issued_end r n res) m ≡ true
-dooms_now r n res m (inl c) =
-    dooms_with r n res m c.cancel (one_success (entry_of r n) res c.cancel c.one ∙ (Decides-int_eq res (pos 0)).1 c.result)
-    (ap (λ b. list_any (λ k. k == m) (cond b (targets_of r n) (option_to_list (target_of r n)))) c.one
-    ∙ ap (λ o. list_any (λ k. k == m) (option_to_list o)) c.target
-    ∙ or_left (m == m) false (eq-eqb m m refl))
-dooms_now r n res m (inr c) =
-    let within = (outstanding_tells r m (and_parts _ _ (and_parts _ _ (and_parts _ _ (and_parts _ _ c.target).0).0).0).0).0 in
-    dooms_with r n res m (and_parts _ _ c.all).0
-    (all_success (entry_of r n) res c.all ∙ ap (int_le (pos 0)) c.result ∙ le-leb 0 c.count (omega arith))
-    (ap (λ b. list_any (λ k. k == m) (cond b (targets_of r n) (option_to_list (target_of r n)))) c.all ∙ target_there r n m within c.target)
+dooms_now r n res m h = grind (arith, dooms_with, cond, or_left, outstanding_tells, all_success, target_there)
 
 stays_chosen : (g : Setup) (after before : History) (n : ℕ) (res : ℤ) (m : ℕ) (bytes : List ℕ)
     → IsLawfulApart (by_manual g) (after ++ (step.Issue n, answer.Ended res bytes) ∷ before)
     → Chose (world (by_manual g) before).requests n res m
     → is_cancelled (world (by_manual g) (after ++ (step.Issue n, answer.Ended res bytes) ∷ before)).requests m
     ≡ true
-stays_chosen g [] before n res m bytes lawful chose =
-    dooms_now (world (by_manual g) before).requests n res m chose
+stays_chosen g [] before n res m bytes lawful chose = grind (arith, dooms_now)
 stays_chosen g ((s, a) ∷ after) before n res m bytes lawful chose =
     (event_grows (by_manual g) s a (after ++ (step.Issue n, answer.Ended res bytes) ∷ before) lawful).stays_cancelled m (stays_chosen (by_manual g) after before n res m bytes lawful.1 chose)
 
 pub chosen_stays : (g : Setup) (h : History) → IsLawfulApart (by_manual g) h → (m : ℕ) → IsChosenIn (by_manual g) h m
     → is_cancelled (world (by_manual g) h).requests m ≡ true
-chosen_stays g h lawful m c =
-    subst (λ x. is_cancelled (world (by_manual g) x).requests m ≡ true) (sym c.split)
-    (stays_chosen (by_manual g) c.after c.before c.number c.res m c.bytes (subst (IsLawfulApart (by_manual g)) c.split lawful) c.chose)
+chosen_stays g h lawful m c = grind (arith, stays_chosen)

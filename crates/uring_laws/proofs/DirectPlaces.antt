@@ -21,9 +21,7 @@ entry_same size e h k none other = rw (none, other)
 words_count : (g : Setup) (h : History) (w : World) → DirectSubmission g h w
     → (length (published_words h) ≡ length w.submission.published)
     × (length (staged_words h) ≡ length w.submission.published + length w.submission.fresh)
-words_count g h w d =
-    let p : length (published_words h) ≡ length w.submission.published = ap length (sym d.published) ∙ length-map w.submission.published (λ p. p.word) in
-    (p, ap length (sym d.staged) ∙ length-append (published_words h) w.submission.fresh ∙ ap (λ n. n + length w.submission.fresh) p)
+words_count g h w d = grind (arith, length-map, length-append)
 
 entry_staged : (g : Setup) (size word : ℕ) (h : History) (w : World) → DirectSubmission g h w
     → (k : ℕ) → k < length w.submission.published

@@ -1,5 +1,5 @@
 -- How many completions were put into the ring, read off a history.
-use Rattle.std.proofs.Common.{◌≡◌, ℕ, ◌+◌, ◌-◌, ◌==◌, min, nat_lt, Bool, true, false, ◌&&◌, [], ◌∷◌, length, Some, None, is_some, if◌then◌else◌, cond, refl, ap, ap₂, arith}
+use Rattle.std.proofs.Common.{◌≡◌, ℕ, ◌+◌, ◌-◌, ◌==◌, min, nat_lt, Bool, ◌&&◌, [], ◌∷◌, length, Some, None, is_some, if◌then◌else◌, cond, refl, ap₂, arith}
 use Rattle.uring_laws.proofs.Common.{Answer, Completions, Cqe, Event, History, IsLawfulApart, Setup, Step, World, before_last, completion_for, cond_both, entry_of, flushed_head, posted_count, posts, posts_told, put_count, stored_head, with_posted, with_told, world}
 use Rattle.uring_core.proofs.CompletionMoves.{CompletionMove, stays, ends, flushes, completion_move}
 use Rattle.uring_laws.proofs.DirectCompletions.{direct_completions}
@@ -15,8 +15,7 @@ end_put : (size : ℕ) (l : Completions) (told_so : Bool) (c : Cqe) (there poste
     → l.put ≡ there → length l.posted ≡ posted → l.seen_head ≡ loaded
     → (cond told_so (with_posted size l c) l).put
     ≡ (if is_some (cond told_so (Some c) None) && (there == posted) && nat_lt (there - loaded) size then there + 1 else there)
-end_put size l true c there posted loaded put_is posted_is loaded_is = cc
-end_put size l false c there posted loaded put_is posted_is loaded_is = put_is
+end_put size l told_so c there posted loaded put_is posted_is loaded_is = grind arith
 
 put_direct : (g : Setup) (h : History) (s : Step) (a : Answer) (v : World)
     → CompletionMove g (world g h) s a v → PutFacts g h
@@ -40,11 +39,8 @@ posted_or_not size l told_so c = grind arith
 posts_direct : (g : Setup) (h : History) (s : Step) (a : Answer) (v : World)
     → CompletionMove g (world g h) s a v → (world g h).completions.posted ≡ posts_told g h
     → v.completions.posted ≡ posts_told g ((s, a) ∷ h)
-posts_direct g h s a v (stays _ _ l r is_closed off no_end left) i =
-    rw no_end i
-posts_direct g h s a v (ends _ _ n res bytes r off told same_accepted one_more) i =
-    let w : World = world g h in
-    rw (told, ← i) (posted_or_not g.cq w.completions (posts g.linux w.requests n res) (completion_for (entry_of w.requests n) res bytes))
+posts_direct g h s a v (stays _ _ l r is_closed off no_end left) i = grind arith
+posts_direct g h s a v (ends _ _ n res bytes r off told same_accepted one_more) i = grind arith
 posts_direct g h s a v _ i = i
 
 pub posted_told : (g : Setup) (h : History) → IsLawfulApart g h
@@ -53,9 +49,7 @@ posted_told g [] lawful = refl
 posted_told g ((s, a) ∷ before) lawful = posts_direct g before s a _ (completion_move g s a before lawful) (posted_told g before lawful.1)
 
 put_facts : (g : Setup) (h : History) → IsLawfulApart g h → PutFacts g h
-put_facts g h lawful =
-    let d = direct_completions g h lawful in
-    record { posted = ap length (posted_told g h lawful); loaded = d.flushed; stored = d.stored }
+put_facts g h lawful = grind (arith, direct_completions, posted_told)
 
 pub direct_put : (g : Setup) (h : History) → IsLawfulApart g h
     → (world g h).completions.put ≡ put_count g h

@@ -1,8 +1,7 @@
 -- The accepted entries, the cuts and the completions posted, read off a history.
-use Rattle.std.proofs.Common.{◌≡◌, ℕ, ◌+◌, ◌<◌, ◌==◌, true, ◌||◌, List, [], ◌∷◌, ◌++◌, length, take, map, sum, Some, None, get_or, cond, refl, sym, ap, ap₂, ◌∙◌, arith, append-nil, take-add}
-use Rattle.uring_laws.proofs.Common.{Answer, Completions, Ending, History, IsLawfulApart, IsSound, Setup, Sqe, Step, Submission, SubmissionMove, World, accepted, accepted_by, by_manual, closes, closes_ring, completion_of, cons_option, cut_counts, entries_of, eq-eqb, filter_map, filter_map-append, get_or_append_left, length-append, list_any, or_left, or_right, place_of, places_from, posts_completion, sound_of, stays, stores, submission_move, sum_by-cons, sum_by_push, sums_from, take-append-le, taken, told, user_data_of, with_end, world, zero_entry}
+use Rattle.std.proofs.Common.{◌≡◌, ℕ, ◌+◌, ◌<◌, ◌==◌, true, List, [], ◌∷◌, ◌++◌, length, take, sum, Some, None, get_or, cond, refl, sym, ap, ap₂, ◌∙◌, arith, append-nil, take-add}
+use Rattle.uring_laws.proofs.Common.{Answer, Completions, Ending, History, IsLawfulApart, IsSound, Setup, Sqe, Step, Submission, SubmissionMove, World, accepted, accepted_by, by_manual, closes, closes_ring, completion_of, cons_option, cut_counts, entries_of, eq-eqb, filter_map, filter_map-append, get_or_append_left, length-append, list_any, or_left, or_right, places_from, posts_completion, sound_of, stays, stores, submission_move, sum_by-cons, sum_by_push, sums_from, take-append-le, taken, told, user_data_of, with_end, world, zero_entry}
 use Rattle.uring_core.proofs.CompletionMoves.{CompletionMove, stays as stays_off, ends, completion_move}
-use Rattle.uring_laws.proofs.Telling.{told_same}
 
 pub record DirectRequests (h : History) (w : World) : Type 0 where
   pub taken_in : w.requests.accepted ≡ accepted w.submission
@@ -14,10 +13,7 @@ pub record DirectRequests (h : History) (w : World) : Type 0 where
 taken_more : (l : Submission) (count : ℕ)
     → entries_of (take (sum (l.calls ++ count ∷ [])) l.published)
     ≡ entries_of (take (taken l) l.published) ++ entries_of (places_from l count)
-taken_more l count =
-    ap (λ n. entries_of (take n l.published)) (sum_by_push (λ x. x) l.calls count)
-    ∙ ap entries_of (take-add (taken l) count l.published)
-    ∙ filter_map-append (λ p. p.entry) (take (taken l) l.published) (places_from l count)
+taken_more l count = grind (arith, sum_by_push, take-add, filter_map-append)
 
 -- a sum more
 sums_push : (before : ℕ) (xs : List ℕ) (x : ℕ)
@@ -43,8 +39,7 @@ end_posted : (size : ℕ) (l : Completions) (accepted : List Sqe) (es : List End
     → l.posted ≡ filter_map (completion_of accepted) es
     → (with_end size l (get_or accepted e.number zero_entry) e.res e.bytes).posted
     ≡ filter_map (completion_of accepted) (es ++ e ∷ [])
-end_posted size l accepted es e posted =
-    grind (arith, append-nil l.posted, filter_map-append (completion_of accepted) es (e ∷ []), posted)
+end_posted size l accepted es e posted = grind (arith, append-nil, filter_map-append)
 
 -- By the manual pages' rules the entries alone tell what was posted.
 
@@ -52,9 +47,7 @@ posted_direct : (g : Setup) (w : World) (s : Step) (a : Answer) (v : World)
     → CompletionMove (by_manual g) w s a v → IsSound (by_manual g) w
     → w.completions.posted ≡ filter_map (completion_of w.requests.accepted) w.requests.ended
     → v.completions.posted ≡ filter_map (completion_of v.requests.accepted) v.requests.ended
-posted_direct g w s a v (stays_off _ _ l r is_closed off no_end left) sound i =
-    i ∙ sym (same_posts w.requests.accepted left.more w.requests.ended sound.requests.ended_accepted)
-    ∙ ap₂ (λ accepted ended. filter_map (completion_of accepted) ended) (sym left.accepted) (sym left.ended)
+posted_direct g w s a v (stays_off _ _ l r is_closed off no_end left) sound i = grind (arith, same_posts)
 posted_direct g w s a v (ends _ _ n res bytes r off told same_accepted one_more) sound i =
     end_posted g.cq w.completions w.requests.accepted w.requests.ended (record { number = n; res = res; bytes = bytes }) i
     ∙ ap₂ (λ accepted ended. filter_map (completion_of accepted) ended) (sym same_accepted) (sym one_more)
@@ -70,26 +63,10 @@ direct_posted g ((s, a) ∷ before) lawful = posted_direct g (world (by_manual g
 
 accepted_direct : (g : Setup) (h : History) (w : World) (s : Step) (a : Answer) (v : World)
     → SubmissionMove g w s a v → IsSound g w → DirectRequests h w → DirectRequests ((s, a) ∷ h) v
-accepted_direct g h w s a v (stays _ _ r c is_closed off left) sound i =
-    record {
-      taken_in = left.accepted ∙ i.taken_in;
-      counted = ap sum (told_same accepted_by (s, a) h off.accepts) ∙ i.counted ∙ ap length (sym left.accepted);
-      cuts = left.cuts ∙ i.cuts ∙ ap (sums_from 0) (sym (told_same accepted_by (s, a) h off.accepts));
-      shut = left.shut ∙ ap (λ b. closes_ring (s, a) || b) i.shut;
-    }
-accepted_direct g h w s a v (stores tail) sound i =
-    let published = map (place_of g.sq w.submission.content) w.submission.fresh in
-    let taken_in = i.taken_in ∙ ap entries_of (sym (take-append-le (taken w.submission) w.submission.published published (omega (arith, sound.submission.call_published)))) in
-    assumption (taken_in, i)
+accepted_direct g h w s a v (stays _ _ r c is_closed off left) sound i = grind arith
+accepted_direct g h w s a v (stores tail) sound i = grind (arith, take-append-le)
 accepted_direct g h w s a v (closes accepted missed head call opened all counted) sound i =
-    let entries = entries_of (places_from w.submission call.count) in
-    let longer = length-append w.requests.accepted (entries_of (places_from w.submission call.count)) in
-    record {
-      taken_in = ap (λ xs. xs ++ entries) i.taken_in ∙ sym (taken_more w.submission call.count);
-      counted = sum_by_push (λ x. x) (told accepted_by h) accepted ∙ omega (arith, i.counted, counted, longer);
-      cuts = ap₂ (λ xs n. xs ++ n ∷ []) i.cuts (omega (arith, i.counted, counted, longer)) ∙ sym (sums_push 0 (told accepted_by h) accepted);
-      shut = i.shut;
-    }
+    grind (arith, length-append, taken_more, sum_by_push, sums_push)
 accepted_direct g h w s a v _ sound i = assumption i
 
 pub direct_requests : (g : Setup) (h : History) → IsLawfulApart g h → DirectRequests h (world g h)

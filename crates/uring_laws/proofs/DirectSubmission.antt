@@ -1,11 +1,9 @@
 -- The submission ring's lists, read off a history.
-use Rattle.std.proofs.Common.{◌≡◌, ℕ, ◌+◌, ◌≤◌, ◌==◌, Bool, true, false, ◌||◌, eqb, List, [], ◌∷◌, ◌++◌, length, map, sum, count_by, Option, Some, None, unwrap_or, if◌then◌else◌, cond, refl, sym, subst, ap, ap₂, ◌∙◌, arith, append-nil, append_assoc, rules}
-use Rattle.uring_laws.proofs.Common.{Answer, Call, Event, History, IsLawfulApart, Setup, Sqe, Step, SubmissionMove, World, asks_to_skip, begins, call_counts, call_length, closes, closes_call, drops, entries_taken, eq-eqb, filled_by, fills, has_stopped, is_load_head, is_store_tail, last_told, length_push, loaded_head, loads, ltb-false, map-append, ne_eqb, open_call, open_count, open_taken, opened_by, opens_call, option_or, place_of, published_words, since_last, slot_content, some_skips, sound_of, staged_by, staged_words, stages, stays, stops_after, stores, submission_move, taken_count, taken_entries, taken_since, takes, takes_last, takes_position, world, zero_entry}
-use Rattle.uring_core.specs.declared.step.Step.TheVariants as step
-use Rattle.uring_core.specs.declared.answer.Answer.TheVariants as answer
+use Rattle.std.proofs.Common.{◌≡◌, ℕ, ◌+◌, ◌≤◌, Bool, true, false, ◌||◌, eqb, List, [], ◌∷◌, ◌++◌, length, map, count_by, Option, Some, None, unwrap_or, if◌then◌else◌, refl, subst, ap, ap₂, ◌∙◌, arith, append-nil, append_assoc, rules}
+use Rattle.uring_laws.proofs.Common.{Answer, Call, Event, History, IsLawfulApart, Setup, Sqe, Step, SubmissionMove, World, begins, call_counts, closes, closes_call, drops, entries_taken, fills, length_push, loaded_head, loads, ltb-false, map-append, open_call, open_count, open_taken, opened_by, opens_call, option_or, place_of, published_words, since_last, slot_content, sound_of, staged_words, stages, stays, stores, submission_move, taken_entries, taken_since, takes, takes_last, takes_position, world, zero_entry}
 use Rattle.uring_core.proofs.SoundRings.{IsSoundSubmission, open_count as positions_open}
 use Rattle.uring_laws.proofs.TakenPlaces.{takes_places}
-use Rattle.uring_laws.proofs.Telling.{count_more, count_same, told_same, before_same}
+use Rattle.uring_laws.proofs.Telling.{count_more, count_same}
 
 -- an open call is the one that was opened last
 abbrev pub IsOpened : Setup → History → Option Call → Type 0
@@ -30,9 +28,7 @@ pub record DirectSubmission (g : Setup) (h : History) (w : World) : Type 0 where
 -- an event after which a call stops takes a position
 takes_last_takes : (g : Setup) (before : List Sqe) (e : Event) → takes_position e ≡ false
     → takes_last g before e ≡ false
-takes_last_takes g before (step.Take, answer.Entry entry) idle = absurd cc
-takes_last_takes g before (step.Take, answer.Dropped) idle = absurd cc
-takes_last_takes g before _ idle = refl
+takes_last_takes g before e idle = grind arith
 
 -- what an event leaves of the call that was opened last, if it opens none and takes no position
 record SameOpened (g : Setup) (h : History) (e : Event) : Type 0 where
@@ -48,8 +44,7 @@ same_opened g h e other none idle =
 
 still_opened : (g : Setup) (h : History) (e : Event) (call : Option Call) → SameOpened g h e
     → IsOpened g h call → IsOpened g (e ∷ h) call
-still_opened g h e None same i = tt
-still_opened g h e (Some call) same i = (i.0 ∙ same.taken, i.1 ∙ same.count)
+still_opened g h e call same i = grind arith
 
 -- how many positions the open call takes once it took one more, after which it may stop
 count_further : (stops had : Bool) (count before after last : ℕ)
@@ -66,8 +61,7 @@ fill_tells here entry last = grind arith
 words_of_places : (size : ℕ) (content : ℕ → Sqe) (words : List ℕ)
     → map (λ p. p.word) (map (place_of size content) words) ≡ words
 words_of_places size content [] = refl
-words_of_places size content (word ∷ words) =
-    ap (λ xs. word ∷ xs) (words_of_places size content words)
+words_of_places size content (word ∷ words) = grind (arith, (words_of_places size content words))
 
 -- what an event leaves that neither opens nor closes a call and takes no position
 record NoneCalled (g : Setup) (h : History) (w : World) (e : Event) : Type 0 where
@@ -79,13 +73,7 @@ record NoneCalled (g : Setup) (h : History) (w : World) (e : Event) : Type 0 whe
 none_called : (g : Setup) (h : History) (w : World) (e : Event) → opens_call e ≡ false
     → opened_by e ≡ None → closes_call e ≡ false → takes_position e ≡ false → DirectSubmission g h w
     → NoneCalled g h w e
-none_called g h w e none_opened none none_closed idle i =
-    record {
-      calls = rw none_closed i.calls;
-      closed = count_same closes_call e h none_closed ∙ i.closed;
-      openings = count_same opens_call e h none_opened ∙ i.openings;
-      opened = still_opened g h e w.submission.call (same_opened g h e none_opened none idle) i.opened;
-    }
+none_called g h w e none_opened none none_closed idle i = grind arith
 
 -- what an event leaves by which the open call takes a position
 record PositionTaken (g : Setup) (h : History) (w : World) (e : Event) (call : Call) : Type 0 where
@@ -105,34 +93,16 @@ position_taken g h w e call is left none_opened none none_closed taken i =
       calls = rw none_closed i.calls;
       closed = count_same closes_call e h none_closed ∙ i.closed;
       openings = count_same opens_call e h none_opened ∙ i.openings ∙ ap (λ o. length w.submission.calls + open_calls o) is;
-      opened = (
-        more,
-        rw (none_opened, none)
-            (count_further (takes_last g (entries_taken h) e) (has_stopped g h) call.count call.taken _ (unwrap_or (last_told opened_by h) 0)
-            (so_far.1 ∙ ap (λ n. cond (has_stopped g h) n (unwrap_or (last_told opened_by h) 0)) (sym so_far.0)) left (rw none_opened at more)),
-      );
+      opened = grind arith;
     }
 
 submission_direct : (g : Setup) (h : History) (w : World) (s : Step) (a : Answer) (v : World)
     → SubmissionMove g w s a v → IsSoundSubmission g.sq w.submission
     → entries_taken h ≡ taken_entries w.submission → DirectSubmission g h w
     → DirectSubmission g ((s, a) ∷ h) v
-submission_direct g h w s a v (stays _ _ r c is_closed off left) sound entries i =
-    let f = none_called g h w (s, a) off.opens_none off.opens off.closes off.takes i in
-    let content : (slot : ℕ) → w.submission.content slot ≡ slot_content ((s, a) ∷ h) slot = λ slot. i.content slot ∙ sym (ap (λ o. unwrap_or (option_or o (last_told (filled_by slot) h)) zero_entry) (off.fills slot)) in
-    let published = i.published ∙ ap staged_words (sym (before_same is_store_tail (s, a) h off.stores_tail)) in
-    let staged = ap (λ b. staged_words b ++ w.submission.fresh) (before_same is_store_tail (s, a) h off.stores_tail) ∙ i.staged ∙ sym (told_same staged_by (s, a) h off.stages) in
-    let seen = i.seen ∙ ap taken_count (sym (before_same is_load_head (s, a) h off.loads_head)) in
-    assumption (content, published, staged, seen, f)
-submission_direct g h w s a v (fills slot entry) sound entries i =
-    let f = none_called g h w (s, a) refl refl refl refl i in
-    let content : (asked : ℕ) → (if asked == slot then entry else w.submission.content asked) ≡ slot_content ((step.Fill slot entry, answer.Filled) ∷ h) asked =
-    λ asked. ap (λ o. if asked == slot then entry else o) (i.content asked) ∙ sym (fill_tells (asked == slot) entry (last_told (filled_by asked) h)) in
-    assumption (content, f, i)
-submission_direct g h w s a v (stages word room) sound entries i =
-    let f = none_called g h w (s, a) refl refl refl refl i in
-    let staged = sym (append_assoc (published_words h) w.submission.fresh (word ∷ [])) ∙ ap (λ xs. xs ++ word ∷ []) i.staged in
-    assumption (staged, f, i)
+submission_direct g h w s a v (stays _ _ r c is_closed off left) sound entries i = grind arith
+submission_direct g h w s a v (fills slot entry) sound entries i = grind arith
+submission_direct g h w s a v (stages word room) sound entries i = grind (arith, append_assoc)
 submission_direct g h w s a v (stores tail) sound entries i =
     let f = none_called g h w (s, a) refl refl refl refl i in
     let published =
@@ -140,22 +110,13 @@ submission_direct g h w s a v (stores tail) sound entries i =
     ∙ ap₂ (λ xs ys. xs ++ ys) i.published (words_of_places g.sq w.submission.content w.submission.fresh) ∙ i.staged in
     let staged = append-nil (staged_words h) in
     assumption (published, staged, f, i)
-submission_direct g h w s a v (loads head) sound entries i =
-    let f = none_called g h w (s, a) refl refl refl refl i in
-    let seen = ap sum i.calls in
-    assumption (seen, f, i)
+submission_direct g h w s a v (loads head) sound entries i = grind arith
 submission_direct g h w s a v (begins count is_open no_call unspent) sound entries i =
-    let closed = count_same closes_call (s, a) h refl ∙ i.closed in
-    let openings : count_by opens_call ((s, a) ∷ h) ≡ length w.submission.calls + 1 = omega (arith, count_more opens_call (s, a) h refl, i.openings, ap open_calls no_call) in
-    let opened : IsOpened g ((s, a) ∷ h) (Some (record { count = call_length w.submission count; taken = 0 })) = (refl, refl) in
-    assumption (closed, openings, opened, i)
+    grind (arith, (count_more opens_call (s, a) h refl))
 submission_direct g h w s a v (takes entry call place opened left at valid) sound entries i =
-    let f = position_taken g h w (s, a) call opened left refl refl refl refl i in
-    let count = subst (λ xs. (if stops_after g (some_skips xs || asks_to_skip entry) entry then call.taken + 1 else call.count) ≡ open_count g ((s, a) ∷ h)) entries f.opened.1 in
-    assumption (f.opened.0, count, f, i)
+    grind (arith, (position_taken g h w (s, a) call opened left refl refl refl refl i))
 submission_direct g h w s a v (drops call place opened left at invalid) sound entries i =
-    let f = position_taken g h w (s, a) call opened left refl refl refl refl i in
-    assumption (f, i)
+    grind (arith, (position_taken g h w (s, a) call opened left refl refl refl refl i))
 submission_direct g h w s a v (closes accepted missed head call opened all counted) sound entries i =
     let longer = length_push w.submission.calls call.count in
     let so_far : (call.taken ≡ taken_since h) × (call.count ≡ open_count g h) = subst (IsOpened g h) opened i.opened in
@@ -176,10 +137,4 @@ direct_submission g ((s, a) ∷ before) lawful =
 -- the call that is open
 pub call_direct : (g : Setup) (h : History) (w : World) → DirectSubmission g h w
     → w.submission.call ≡ open_call g h
-call_direct g h w i = by_call w.submission.call i.openings i.opened where
-  by_call : (call : Option Call) → count_by opens_call h ≡ length w.submission.calls + open_calls call → IsOpened g h call → call ≡ open_call g h
-  by_call None openings opened =
-      ap (λ b. if b then None else Some (record { count = open_count g h; taken = taken_since h })) (sym (eq-eqb (count_by opens_call h) (count_by closes_call h) (omega (arith, i.closed))))
-  by_call (Some call) openings opened =
-      ap₂ (λ count taken. Some (record { count = count; taken = taken })) opened.1 opened.0
-      ∙ ap (λ b. if b then None else Some (record { count = open_count g h; taken = taken_since h })) (sym (ne_eqb (count_by opens_call h) (count_by closes_call h) (λ same. omega (arith, i.closed, openings, same))))
+call_direct g h w i = grind arith

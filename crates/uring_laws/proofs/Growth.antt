@@ -21,18 +21,10 @@ same_grows : (r : Requests) → Grows r r
 same_grows r = search (rules, arith)
 
 pub then_grows : (r later last : Requests) → Grows r later → Grows later last → Grows r last
-then_grows r later last a b =
-    grind arith
+then_grows r later last a b = grind arith
 
 start_grows : (r : Requests) (n : ℕ) → Grows r (with_started r n)
-start_grows r n = record {
-  longer_then = omega arith;
-  same_entry = λ m lt. refl;
-  same_group = λ k m lt. is_joined_started r n k m;
-  same_drain = λ m lt. is_draining_started r n m;
-  stays_cancelled = λ m e. e;
-  stays_doomed = λ m lt e. is_doomed_started r n m ∙ e;
-}
+start_grows r n = grind (arith, is_joined_started, is_draining_started, is_doomed_started)
 
 end_drain : (r : Requests) (n : ℕ) (res : ℤ) (bytes cancelled : List ℕ) (m : ℕ)
     → is_draining (ended_as r n res bytes cancelled) m ≡ is_draining r m
@@ -41,15 +33,7 @@ end_drain r n res bytes cancelled m = refl
 
 end_grows : (r : Requests) (n : ℕ) (res : ℤ) (bytes cancelled : List ℕ) → IsChoice r n cancelled
     → Grows r (ended_as r n res bytes cancelled)
-end_grows r n res bytes cancelled choice =
-    record {
-      longer_then = omega arith;
-      same_entry = λ m lt. refl;
-      same_group = λ k m lt. end_join r n res bytes cancelled choice k m;
-      same_drain = λ m lt. end_drain r n res bytes cancelled m;
-      stays_cancelled = choice.kept;
-      stays_doomed = λ m lt e. end_doom r n res bytes cancelled choice m e;
-    }
+end_grows r n res bytes cancelled choice = grind (arith, end_join, end_drain, end_doom)
 
 -- a call ended with the last entry
 abbrev pub IsCut : Requests → Type 0
@@ -79,15 +63,11 @@ cancel_grows false r n = end_grows r n _ _ _ (choice_of r n (cancel_result false
 move_grows : (linux : Bool) (l : LinuxRequests) (s : Step) (a : Answer) (later : Requests)
     → Move linux l s a later → IsCut l.requests → Grows l.requests later
 move_grows linux l s a later (stays _ _ no_start no_end) cut = same_grows l.requests
-move_grows linux l s a later (accepts accepted missed head entries) cut =
-    call_grows l.requests entries cut
-move_grows linux l s a later (starts n outstanding idle spared ready no_cancel) cut =
-    start_grows l.requests n
+move_grows linux l s a later (accepts accepted missed head entries) cut = grind (arith, call_grows)
+move_grows linux l s a later (starts n outstanding idle spared ready no_cancel) cut = search (rules, start_grows)
 move_grows linux l s a later (ends_doomed n outstanding) cut = doomed_grows linux l.requests n
-move_grows linux l s a later (ends_cancel n outstanding spared ready cancel) cut =
-    cancel_grows linux l.requests n
-move_grows linux l s a later (ends_run n res bytes running) cut =
-    end_grows l.requests n res bytes l.requests.cancelled (no_choice l.requests n)
+move_grows linux l s a later (ends_cancel n outstanding spared ready cancel) cut = search (rules, cancel_grows)
+move_grows linux l s a later (ends_run n res bytes running) cut = search (rules, end_grows, no_choice)
 
 pub event_grows : (g : Setup) (s : Step) (a : Answer) (before : History)
     → IsLawfulApart g ((s, a) ∷ before)
@@ -97,8 +77,7 @@ event_grows g s a before lawful = move_grows g.linux (requests_of (world g befor
 pub grows : (g : Setup) (after before : History) → IsLawfulApart g (after ++ before)
     → Grows (world g before).requests (world g (after ++ before)).requests
 grows g [] before lawful = same_grows (world g before).requests
-grows g ((s, a) ∷ after) before lawful =
-    then_grows (world g before).requests (world g (after ++ before)).requests (world g ((s, a) ∷ after ++ before)).requests (grows g after before lawful.1) (event_grows g s a (after ++ before) lawful)
+grows g ((s, a) ∷ after) before lawful = search (rules, then_grows, (grows g after before lawful.1), event_grows)
 
 -- what a history is made of is lawful
 pub lawful_before : (g : Setup) (after before : History) → IsLawfulApart g (after ++ before)

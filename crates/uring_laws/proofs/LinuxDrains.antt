@@ -1,6 +1,6 @@
 -- By Linux's rules what isn't deferred waits for no drain: whoever may start has nobody before it that a drain puts there. By what has happened, one submission call, start or end after the other.
 use Rattle.std.proofs.Common.{◌≡◌, ℕ, suc, ◌+◌, ◌-◌, ◌<◌, ◌≤◌, ℤ, min, max, length, Bool, true, false, not, ◌&&◌, ◌||◌, ◌==◌, List, [], ◌∷◌, refl, sym, ◌∙◌, ap, subst, arith, inl, inr, length-append, rules}
-use Rattle.uring_laws.proofs.Common.{Deferred, Drains, End, Happening, IsSettled, LinuxRequests, MayHaveHappened, Requests, Sqe, Start, accepted_settled, after_going_on, all_between, and_from, and_left, and_parts, and_right, both_ways, cases_Bool, cases_lt, deferred_with, drains, entry_of, entry_of_accepted_at, eq-eqb, false_from_ne_true, group_faulty, has_ended, has_fault, healthy_from, if◌then◌else◌, is_alone, is_deferred, is_drain, is_faulty_from, is_first, is_granted_drain, is_in_group, is_in_some, is_joined, is_joined_no, is_joined_yes, is_last, is_let_in, is_linked, is_owed_by, lt-ltb, ltb-false, ltb-true, made_by, may_take, nat_lt, ne_eqb, not-false, not-true, not_alone, or_cases, or_from, or_left, or_parts, or_right, order_higher, order_push, order_still, owes_drain, pushed_new, pushed_old, ring_off, some_below_in, some_below_none, some_below_out, some_below_some, still_deferred, takes_drain, true_from_ne_false, with_accepted, with_cut, with_deferred, with_entries, with_group, with_last_entry, with_ring}
+use Rattle.uring_laws.proofs.Common.{Deferred, Drains, End, Happening, IsSettled, LinuxRequests, MayHaveHappened, Requests, Sqe, Start, accepted_settled, after_going_on, all_between, and_from, and_left, and_parts, and_right, both_ways, cases_Bool, cases_lt, deferred_with, drains, entry_of, entry_of_accepted_at, eq-eqb, false_from_ne_true, group_faulty, has_ended, has_fault, healthy_from, if◌then◌else◌, is_alone, is_deferred, is_drain, is_faulty_from, is_first, is_granted_drain, is_in_group, is_in_some, is_joined, is_joined_no, is_joined_yes, is_last, is_let_in, is_linked, is_owed_by, lt-ltb, ltb-true, made_by, may_take, nat_lt, ne_eqb, not-false, not-true, not_alone, or_from, or_left, or_parts, or_right, order_higher, order_push, order_still, owes_drain, pushed_new, pushed_old, ring_off, some_below_in, some_below_none, some_below_out, some_below_some, still_deferred, takes_drain, true_from_ne_false, with_accepted, with_cut, with_deferred, with_entries, with_group, with_last_entry, with_ring}
 use Rattle.uring_linux.specs.Happenings.{Call}
 use Rattle.uring_linux.specs.LinuxRequests.{is_in_faulty_group, with_ended}
 use Rattle.uring_entry.specs.Requests as manual
@@ -13,8 +13,7 @@ use Rattle.uring_laws.proofs.LinuxKept.{HasDrain, Waits, KeepsGroups, accepted_k
 -- Whoever goes on waits for nobody that hasn't ended.
 
 still_off : (xs : List Deferred) → still_deferred false xs ≡ xs
-still_off [] = refl
-still_off (g ∷ rest) = refl
+still_off xs = grind arith
 
 -- what hasn't ended is among these groups, if all that is outstanding is
 alone_in : (r : Requests) (xs : List Deferred) (m : ℕ) → is_alone r xs ≡ true → m < length r.accepted
@@ -25,8 +24,7 @@ gone_ended : (r : Requests) (xs : List Deferred) (high n m : ℕ) (alone : Bool)
     → AreTold r 0 xs high → m < length r.accepted → m < n → is_joined r m n ≡ false
     → is_in_some xs n ≡ true → is_in_some (still_deferred alone xs) n ≡ false → Waits r n m
     → has_ended r m ≡ true
-gone_ended r xs high n m false is told low lt apart here gone w =
-    absurd (both_ways (is_in_some xs n) (sym (ap (λ ys. is_in_some ys n) (still_off xs)) ∙ gone) here)
+gone_ended r xs high n m false is told low lt apart here gone w = grind arith
 gone_ended r xs high n m true is told low lt apart here gone w = true_from_ne_false _ (λ going.
     let c = gone_calm r 0 xs high n m told here gone (alone_in r xs m is low going) lt apart in
     elim w [ inl drains ↦ both_ways _ c.0 drains | inr other ↦ both_ways _ c.1 other.drains ])
@@ -75,42 +73,20 @@ module _ (r : Requests) (d : Drains) (i : IsAmid r d) where
   told_all right = order_push (IsTold r) 0 d.deferred d.from g (omega arith) i.some (told_new right) i.holds.told
 
   some_waits : (b : Bool) → (not d.ring || is_faulty_from r d.from) ≡ true → WaitForNone r (length r.accepted) d.deferred
-  some_waits b e n m lt under apart out right w = elim (cases_lt n d.from) [
-    | inl before ↦ i.holds.waits n m before under apart out right w
-    | inr past ↦ elim (or_cases (not d.ring) (is_faulty_from r d.from) e) [
-      | inl off ↦ elim w [
-        | inl drains ↦ absurd (both_ways _ (calm_new n (i.holds.on (not-true _ off)) past lt right) drains)
-        | inr other ↦ elim (cases_lt m d.from) [
-          | inl low ↦ i.holds.ring (not-true _ off) m low other
-          | inr high ↦ absurd (both_ways _ apart (joined_new m n high lt))
-        ]
-      ]
-      | inr faulty ↦ absurd (both_ways _ right (group_faulty r d.from n i.one past lt faulty))
-    ]
-  ]
+  some_waits b e n m lt under apart out right w = grind (arith, both_ways, calm_new, group_faulty)
 
   held_waits : is_faulty_from r d.from ≡ false → WaitForNone r (length r.accepted) (after_going_on r all)
-  held_waits fine n m lt under apart out right w = elim (cases_Bool (is_in_some all n)) [
-    | inl here ↦ gone_ended r all (length r.accepted) n m (is_alone r all) refl (told_all fine) (omega (arith, lt, under)) under apart here out w
-    | inr never ↦ elim (cases_lt n d.from) [
-      | inl before ↦ i.holds.waits n m before under apart (false_from_ne_true (is_in_some d.deferred n) (λ old. both_ways (is_in_some all n) never (pushed_old d.deferred g n old))) right w
-      | inr past ↦ absurd (both_ways (is_in_some all n) never (pushed_new d.deferred g n past lt))
-    ]
-  ]
+  held_waits fine n m lt under apart out right w =
+      grind (arith, gone_ended, told_all, false_from_ne_true, both_ways, pushed_old, pushed_new)
 
   -- if none stays deferred after a group that doesn't drain, what drains has ended
   none_left : (alone : Bool) → is_alone r all ≡ alone → is_faulty_from r d.from ≡ false → d.group ≡ false → still_deferred alone all ≡ []
       → (m : ℕ) → m < length r.accepted → HasDrain r m → has_ended r m ≡ true
-  none_left false is fine still none m lt other =
-      absurd (let f : false ≡ true = sym (ap (λ ys. is_in_some ys d.from) (sym (still_off all) ∙ none)) ∙ pushed_new d.deferred g d.from (omega arith) i.some in cc)
-  none_left true is fine still none m lt other =
-      true_from_ne_false _ (λ going. both_ways _ (left_calm r 0 d.deferred g (length r.accepted) m (told_all fine) still none (alone_in r all m is lt going)) other.drains)
+  none_left alone is fine still none m lt other =
+      grind (arith, still_off, pushed_new, true_from_ne_false, both_ways, left_calm, told_all, alone_in)
 
   some_ring : RingDrains r (with_deferred d (length r.accepted) d.deferred)
-  some_ring off m lt other = elim (cases_lt m d.from) [
-    | inl before ↦ i.holds.ring off m before other
-    | inr past ↦ absurd (both_ways _ (calm_new m (i.holds.on off) past lt other.right) other.drains)
-  ]
+  some_ring off m lt other = grind (arith, calm_new)
 
   group_drained : IsDrained r (with_group r d)
   group_drained = go (not d.ring || is_faulty_from r d.from) refl where
@@ -205,9 +181,7 @@ accepted_drained l e s i = go (is_linked e) refl where
       (λ f past lt. sym (keeps.take f lt) ∙ and_right_no (nat_lt k f) (may_take r f) (lt-ltb k f past) (some_below_out (λ j. nat_lt k j && may_take r j) last (not-true _ parts.1) f lt))
 
   takes_none : (l.drains.owed && ((l.drains.from == last) && is_let_in r last)) ≡ false → takes_drain r last ≡ false
-  takes_none none = false_from_ne_true (takes_drain r last) (λ takes.
-      let may = and_parts (is_first r last) (is_let_in r last) (and_parts (may_take r last) _ takes).0 in
-      both_ways (l.drains.owed && ((l.drains.from == last) && is_let_in r last)) none (and_from _ _ (was_owed takes) (and_from _ _ (first_is ∙ may.0) may.1)))
+  takes_none none = grind (arith, was_owed, first_is)
 
   group : d.group ≡ false → (k : ℕ) → d.from ≤ k → k < length r.accepted → has_fault r k ≡ false → marks r k ≡ false
   group still k le lt fine =
@@ -244,15 +218,7 @@ accepted_drained l e s i = go (is_linked e) refl where
   on off = let p = or_parts l.drains.ring _ off in or_from _ _ (i.holds.on p.0) p.1
 
   holds : Holds r d
-  holds = record {
-    begins = more_begins l.requests r l.drains keeps i.low i.holds;
-    told = more_told l.requests r l.drains keeps i.low i.holds;
-    waits = more_waits l.requests r l.drains keeps i.low i.holds;
-    ring = ring;
-    group = group;
-    on = on;
-    owed = owed;
-  }
+  holds = search (rules, more_begins, keeps, more_told, more_waits, ring, group, on, owed)
 
   new_open : is_linked e ≡ true → is_last r last ≡ false
   new_open linked = or_from _ _ (ap (λ x. not (is_linked x)) (entry_of_accepted_at l.requests e) ∙ ap not linked) (s.later last (omega arith)).cut
@@ -260,10 +226,7 @@ accepted_drained l e s i = go (is_linked e) refl where
   go : (b : Bool) → is_linked e ≡ b → IsDrained r (if b then d else with_group r d)
   go true linked = record {
     low = let low = i.low in omega (arith, low, more);
-    amid = λ k le lt. elim (cases_lt k last) [
-      | inl before ↦ last_accepted l.requests e k before ∙ i.amid k le before
-      | inr past ↦ (let same : last ≡ k = omega (arith, past, lt, more) in subst (λ j. is_last r j ≡ false) same (new_open linked))
-    ];
+    amid = grind (arith, last_accepted, more, new_open);
     holds = holds;
   }
   go false free = group_drained r d (record {
@@ -297,9 +260,7 @@ cut_drained l i = go (nat_lt l.drains.from (length l.requests.accepted)) refl wh
     last = λ k is. is_last_cut_last l.requests k is;
     holds = holds;
   })
-  go false e =
-      let past : length l.requests.accepted ≤ l.drains.from = ltb-false _ _ e in
-      record { low = i.low; amid = λ k le lt. absurd (omega (arith, le, lt, past)); holds = holds }
+  go false e = grind (arith, holds)
 
 -- A request starts or ends, between calls.
 
@@ -335,9 +296,7 @@ nothing_drained = search (rules, arith)
 all_drained : (happened : List Happening) → MayHaveHappened happened
     → IsDrained (made_by happened).requests (made_by happened).drains
 all_drained [] may = nothing_drained
-all_drained (Call entries ∷ earlier) may =
-    let s = (all_between earlier may.1).settled in
-    cut_drained (with_entries (made_by earlier) entries) (entries_drained (made_by earlier) entries s (all_drained earlier may.1))
+all_drained (Call entries ∷ earlier) may = grind (arith, all_between, cut_drained, entries_drained, (all_drained earlier may.1))
 all_drained (Start n ∷ earlier) may = start_drained (made_by earlier) n (all_drained earlier may.1)
 all_drained (End n res bytes ∷ earlier) may = end_drained (made_by earlier) n res bytes (all_drained earlier may.1)
 
@@ -347,6 +306,4 @@ pub waits_for_none : (happened : List Happening) → MayHaveHappened happened �
     → is_joined (made_by happened).requests m n ≡ false → is_deferred (made_by happened) n ≡ false
     → is_in_faulty_group (made_by happened).requests n ≡ false → Waits (made_by happened).requests n m
     → has_ended (made_by happened).requests m ≡ true
-waits_for_none happened may n m lt under apart free right w =
-    let closed = (all_between happened may).closed in
-    (all_drained happened may).holds.waits n m (omega (arith, lt, closed)) under apart free right w
+waits_for_none happened may n m lt under apart free right w = grind (arith, all_between, all_drained)

@@ -1,6 +1,6 @@
 -- Groups that a drain holds back: where they stand, whether their members ask to drain, and who goes on first.
-use Rattle.std.proofs.Common.{◌≡◌, ℕ, suc, ◌-◌, ◌<◌, ◌≤◌, min, max, length, Bool, true, false, ◌&&◌, ◌||◌, List, [], ◌∷◌, ◌++◌, refl, ap, arith, inl, inr}
-use Rattle.uring_laws.proofs.Common.{Deferred, InOrder, Requests, among_tells, and_left, and_right, both_ways, cases_lt, drain_before, drains, entry_of, false_from_ne_true, from_drain, if◌then◌else◌, is_among, is_drain, is_in_group, is_in_some, is_joined, is_joined_no, is_joined_yes, is_last, or_cases, order_above, some_below_none, still_deferred, takes_drain}
+use Rattle.std.proofs.Common.{◌≡◌, ℕ, suc, ◌-◌, ◌<◌, ◌≤◌, min, max, length, Bool, true, false, ◌&&◌, ◌||◌, List, [], ◌∷◌, ◌++◌, refl, arith, inl, inr}
+use Rattle.uring_laws.proofs.Common.{Deferred, InOrder, Requests, among_tells, and_left, and_right, both_ways, cases_lt, drain_before, drains, entry_of, from_drain, if◌then◌else◌, is_among, is_drain, is_in_group, is_in_some, is_joined, is_joined_no, is_joined_yes, is_last, or_cases, order_above, some_below_none, still_deferred, takes_drain}
 
 -- whether n makes its group drain: it asks to, or takes a drain that is owed
 abbrev pub marks : Requests → ℕ → Bool
@@ -53,8 +53,7 @@ drain_calm r low (g ∷ rest) high n t here gone = go g.drains refl gone (drain_
 drain_gone : (r : Requests) (low : ℕ) (xs : List Deferred) (high n m : ℕ) → AreTold r low xs high
     → is_in_some xs n ≡ true → is_in_some (from_drain xs) n ≡ false → m < n
     → is_in_some (from_drain xs) m ≡ false
-drain_gone r low xs high n m t here gone lt =
-    false_from_ne_true (is_in_some (from_drain xs) m) (λ stays. let before : n < m = drain_before (IsTold r) low xs high n m t here gone stays in omega (arith, before, lt))
+drain_gone r low xs high n m t here gone lt = grind (arith, drain_before)
 
 -- Whoever goes on, if all that is outstanding is deferred, doesn't drain if someone before it is deferred that isn't of its group, and that one doesn't drain either.
 pub gone_calm : (r : Requests) (low : ℕ) (xs : List Deferred) (high n m : ℕ) → AreTold r low xs high
@@ -90,8 +89,7 @@ gone_calm r low (g ∷ rest) high n m t here gone there lt apart = go g.drains r
 -- If the last group isn't told to drain, and none stays deferred, none of them drains.
 none_drain : (r : Requests) (low : ℕ) (xs : List Deferred) (high k : ℕ) → AreTold r low xs high
     → from_drain xs ≡ [] → is_in_some xs k ≡ true → drains r k ≡ false
-none_drain r low xs high k t none here =
-    drain_calm r low xs high k t here (ap (λ ys. is_in_some ys k) none)
+none_drain r low xs high k t none here = grind (arith, drain_calm)
 
 pub left_calm : (r : Requests) (low : ℕ) (xs : List Deferred) (g : Deferred) (high k : ℕ)
     → AreTold r low (xs ++ g ∷ []) high → g.drains ≡ false → still_deferred true (xs ++ g ∷ []) ≡ []
@@ -107,7 +105,4 @@ left_calm r low (x ∷ rest) g high k t is none here = go x.drains refl none whe
 
   go : (b : Bool) → x.drains ≡ b → (if b then rest ++ g ∷ [] else from_drain (rest ++ g ∷ [])) ≡ [] → drains r k ≡ false
   go true told e = absurd (some rest e)
-  go false told e = elim (or_cases (is_among k x) (is_in_some (rest ++ g ∷ []) k) here) [
-    | inl among ↦ (let p = among_tells k x among in calm r x k t.2 told p.0 p.1)
-    | inr later ↦ none_drain r x.end (rest ++ g ∷ []) high k t.3 e later
-  ]
+  go false told e = grind (arith, calm, none_drain)

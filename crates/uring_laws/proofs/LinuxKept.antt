@@ -1,6 +1,6 @@
 -- Of groups that drain by Linux's rules: what is so of the requests whatever happened, and stays as more is accepted after them.
-use Rattle.std.proofs.Common.{◌≡◌, ℕ, suc, ◌-◌, ◌<◌, ◌≤◌, ℤ, min, max, length, true, false, not, ◌&&◌, ◌||◌, ◌==◌, List, refl, sym, ◌∙◌, ap, ap₂, arith, ◌⊎◌, inl, inr, rules}
-use Rattle.uring_laws.proofs.Common.{Deferred, Drains, FaultsKept, Requests, Sqe, accepted_faults, and_from, and_parts, any_kept, both_ways, cases_lt, cut_faults, drains, entry_of, has_ended, has_fault, is_drain, is_first, is_in_group, is_in_some, is_joined, is_joined_no, is_last, is_let_in, is_owed_by, is_past, joined_kept, may_take, nat_le, nat_lt, order_kept, owes_drain, right_kept, some_below_in, some_below_same, some_below_some}
+use Rattle.std.proofs.Common.{◌≡◌, ℕ, suc, ◌-◌, ◌<◌, ◌≤◌, ℤ, min, max, length, true, false, not, ◌&&◌, List, refl, sym, ◌∙◌, ap, ap₂, arith, ◌⊎◌, inl, inr, rules}
+use Rattle.uring_laws.proofs.Common.{Deferred, Drains, FaultsKept, Requests, Sqe, accepted_faults, and_from, and_parts, any_kept, both_ways, cases_lt, cut_faults, drains, entry_of, has_ended, has_fault, is_drain, is_first, is_in_group, is_in_some, is_joined, is_joined_no, is_last, is_let_in, is_owed_by, is_past, joined_kept, may_take, nat_lt, order_kept, owes_drain, right_kept, some_below_in, some_below_same, some_below_some}
 use Rattle.uring_linux.specs.LinuxRequests.{is_in_faulty_group}
 use Rattle.uring_entry.specs.Requests as manual
 use Rattle.uring_entry.proofs.GroupEvents.{entry_same, is_last_cut}
@@ -43,12 +43,7 @@ module _ (r q : Requests) (same : KeepsGroups r q) where
       ]
 
   told_more : (g : Deferred) → g.from < g.end → g.end ≤ length r.accepted → IsTold r g → IsTold q g
-  told_more g some within is = record {
-    begins = λ k e. same.cut k (omega (arith, e, some, within)) (is.begins k e);
-    ends = λ k e. same.cut k (omega (arith, e, within)) (is.ends k e);
-    one = λ k le lt. same.faults.last k (omega (arith, lt, within)) ∙ is.one k le lt;
-    told = λ still k le lt. same.drain k (omega (arith, lt, within)) ∙ is.told still k le lt;
-  }
+  told_more g some within is = grind arith
 
 -- the same starts of groups, and the same drains and fresh entries up to n: then n takes, owes and makes its group drain as it did
 module _ (r q : Requests) (n : ℕ) (last : (k : ℕ) → k < n → is_last q k ≡ is_last r k)
@@ -56,8 +51,7 @@ module _ (r q : Requests) (n : ℕ) (last : (k : ℕ) → k < n → is_last q k 
     (drain : (k : ℕ) → k ≤ n → is_drain (entry_of q k) ≡ is_drain (entry_of r k)) where
   joined_same : (m k : ℕ) → k ≤ n → is_joined q m k ≡ is_joined r m k
   unfolding is_joined
-  joined_same m k le =
-      ap not (some_below_same (λ j. nat_le m j && is_last q j) (λ j. nat_le m j && is_last r j) k (λ j low. ap (λ b. nat_le m j && b) (last j (omega (arith, low, le)))))
+  joined_same m k le = grind (arith, some_below_same)
 
   first_same : (k : ℕ) → k ≤ n → is_first q k ≡ is_first r k
   first_same k le = ap not (some_below_same (λ j. is_joined q j k) (λ j. is_joined r j k) k (λ j low. joined_same j k le))
@@ -74,14 +68,11 @@ module _ (r q : Requests) (n : ℕ) (last : (k : ℕ) → k < n → is_last q k 
       (some_below_same (λ f. nat_lt k f && may_take q f) (λ f. nat_lt k f && may_take r f) n (λ f low. ap (λ b. nat_lt k f && b) (take_same f (omega (arith, low)))))
 
   marks_same : marks q n ≡ marks r n
-  marks_same =
-      ap₂ (λ x y. x || y) (drain n (omega arith))
-      (ap₂ (λ x y. x && y) (take_same n (omega arith)) (some_below_same (is_owed_by q n) (is_owed_by r n) n owed_same))
+  marks_same = grind (arith, (some_below_same (is_owed_by q n) (is_owed_by r n) n owed_same), take_same)
 
 let_in_accepted : (r : Requests) (e : Sqe) (k : ℕ) → k < length r.accepted
     → is_let_in (manual.with_accepted r e) k ≡ is_let_in r k
-let_in_accepted r e k lt =
-    ap₂ (λ x y. x && not y) (entry_same r e is_past k lt) (refused_accepted r e k lt)
+let_in_accepted r e k lt = grind (arith, (entry_same r e is_past k lt), (refused_accepted r e k lt))
 
 pub accepted_keeps : (r : Requests) (e : Sqe) → KeepsGroups r (manual.with_accepted r e)
 accepted_keeps r e = record {
@@ -122,9 +113,7 @@ started_keeps r n = search (rules, arith)
 
 pub ended_keeps : (r : Requests) (n : ℕ) (res : ℤ) (bytes : List ℕ) → KeepsGroups r (manual.with_ended r n res bytes)
 unfolding is_joined
-ended_keeps r n res bytes =
-    let ended : (k : ℕ) → has_ended r k ≡ true → has_ended (manual.with_ended r n res bytes) k ≡ true = λ k is. any_kept (λ e. e.number == k) r.ended _ is in
-    search (rules, arith, ended)
+ended_keeps r n res bytes = grind (arith, any_kept)
 
 -- What is so whatever happened.
 
@@ -169,8 +158,7 @@ module _ (r q : Requests) (d : Drains) (same : KeepsGroups r q) (low : d.from �
       same.ended m (i.waits n m lt under (sym (joined_kept r q same.faults m n (omega (arith, lt, low))) ∙ apart) out (right_kept r q same.faults n (omega (arith, lt, low)) right) (waits_before n m lt under w))
 
   pub more_ring : RingDrains q d
-  more_ring off m lt other =
-      same.ended m (i.ring off m lt (record { drains = draining_kept r q same m d.from low lt i.begins other.drains; right = right_kept r q same.faults m (omega (arith, lt, low)) other.right }))
+  more_ring off m lt other = grind (arith, (draining_kept r q same m d.from low lt i.begins other.drains), right_kept)
 
   pub more_told : AreTold q 0 d.deferred d.from
   more_told = order_kept (IsTold r) (IsTold q) 0 d.deferred d.from i.told (λ g there some within is. told_more r q same g some (omega (arith, within, low)) is)
@@ -180,12 +168,4 @@ module _ (r q : Requests) (d : Drains) (same : KeepsGroups r q) (low : d.from �
 
   -- and all of it, if no more was accepted
   pub still_holds : length q.accepted ≡ length r.accepted → Holds q d
-  still_holds many = record {
-    begins = more_begins;
-    told = more_told;
-    waits = more_waits;
-    ring = more_ring;
-    group = λ still k le lt fine. let before : k < length r.accepted = omega (arith, lt, many) in same.drain k before ∙ i.group still k le before (sym (same.faults.fault k before) ∙ fine);
-    on = i.on;
-    owed = λ k lt owes none. let before : k < length r.accepted = omega (arith, lt, many) in i.owed k before (sym (same.owe k before) ∙ owes) (λ f past under. sym (same.take f under) ∙ none f past (omega (arith, under, many)));
-  }
+  still_holds many = grind (arith, more_begins, more_told, more_waits, more_ring)

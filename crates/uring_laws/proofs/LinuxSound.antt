@@ -1,7 +1,7 @@
 -- What holds of the requests of every lawful history by Linux's rules: whoever started or ended did so in its turn, so that it stays as doomed or spared as it was then.
 -- By `Change`, event by event, and over a history by induction (`linux_sound`).
-use Rattle.std.proofs.Common.{◌≡◌, ℕ, ◌+◌, ◌-◌, ◌==◌, ◌<◌, ◌≤◌, ℤ, min, max, List, [], ◌∷◌, length, Bool, true, false, not, ◌&&◌, ◌||◌, if◌then◌else◌, neg_ℤ, refl, sym, subst, ◌∙◌, ap, ap₂, arith, inl, inr}
-use Rattle.uring_laws.proofs.Common.{Answer, Change, Decides-int_eq, ECANCELED, EINVAL, EOPNOTSUPP, Ending, History, IsLawfulApart, IsSoundRequests, LinuxRequests, Requests, Setup, Sqe, Step, World, and_left, and_parts, and_right, any_kept, any_looser, any_new, asks_to_drain, asks_to_skip, both_ways, by_linux, cancels, cases_eq, change_of, dooms, ending_of, entries_of, entry_kept, entry_of, eqb-true, false_from_ne_true, faulty_ended, finishes, happens, has_ended, has_failed, has_failed_other, has_fault, has_skipped, has_started, int_eq, is_after_failure, is_after_failure_from, is_after_failure_tells, is_deferred, is_failure_before, is_faulty, is_in_group, is_in_turn, is_joined, is_joined_ended, is_joined_no, is_joined_started, is_last, is_refused_drain, is_soft, is_success, join_kept, keeps_back, list_any, list_any_push, longer, no_request, not-false, not-true, not_from_true, or_from, or_right, outstanding_tells, places_from, refuses, requests_of, runs, some_below_between, some_below_out, some_below_same, sound_of, taking_entry_of, taking_of, with_call, with_ended, with_started, world}
+use Rattle.std.proofs.Common.{◌≡◌, ℕ, ◌+◌, ◌-◌, ◌==◌, ◌<◌, ◌≤◌, ℤ, min, max, List, [], ◌∷◌, length, Bool, true, false, not, ◌&&◌, ◌||◌, refl, sym, subst, ◌∙◌, ap, ap₂, arith}
+use Rattle.uring_laws.proofs.Common.{Answer, Change, Decides-int_eq, Ending, History, IsLawfulApart, IsSoundRequests, LinuxRequests, Requests, Setup, Sqe, Step, World, and_left, and_right, any_kept, any_looser, any_new, asks_to_drain, both_ways, by_linux, cancels, change_of, dooms, entry_kept, entry_of, eqb-true, false_from_ne_true, faulty_ended, finishes, happens, has_ended, has_failed_other, has_fault, has_skipped, has_started, int_eq, is_after_failure, is_after_failure_from, is_after_failure_tells, is_deferred, is_failure_before, is_faulty, is_in_group, is_in_turn, is_joined, is_joined_ended, is_joined_no, is_joined_started, is_last, is_refused_drain, is_success, join_kept, keeps_back, list_any, list_any_push, longer, no_request, not-true, not_from_true, or_from, outstanding_tells, refuses, requests_of, runs, some_below_between, some_below_out, some_below_same, sound_of, with_call, with_ended, with_started, world}
 use Rattle.uring_core.proofs.Changes.{takes, drops, closes}
 use Rattle.uring_linux.specs.LinuxRequests.{is_in_faulty_group, is_doomed, doomed_result}
 use Rattle.uring_laws.proofs.Growth.{IsCut}
@@ -31,9 +31,7 @@ pub record IsSoundLinux (r : Requests) : Type 0 where
 -- whoever is in its turn is after no member of its group that hasn't ended
 pub turn_first : (r : Requests) (n : ℕ) → is_in_turn r n ≡ true → IsFirst r n
 unfolding is_in_turn
-turn_first r n turn k lt joined =
-    let free : (is_joined r k n && not (has_ended r k)) ≡ false = some_below_out (keeps_back r n) n (not-true _ turn) k lt in
-    not-false _ (sym (ap (λ b. b && not (has_ended r k)) joined) ∙ free)
+turn_first r n turn k lt joined = grind (arith, (some_below_out (keeps_back r n) n (not-true _ turn) k lt), (not-true _ turn))
 
 -- A request starts: neither groups nor who is doomed change.
 
@@ -43,13 +41,7 @@ doom_started r n m = refl
 
 pub start_linux : (r : Requests) (n : ℕ) → is_doomed r n ≡ false → IsFirst r n → IsSoundLinux r
     → IsSoundLinux (with_started r n)
-start_linux r n spared first s =
-    record {
-      started_spared = λ m e. doom_started r n m ∙ elim (any_new (λ k. k == m) r.started n e) [ inl old ↦ s.started_spared m old | inr new ↦ subst (λ k. is_doomed r k ≡ false) (eqb-true _ _ new) spared ];
-      started_first = λ m e k lt joined. elim (any_new (λ j. j == m) r.started n e) [ inl old ↦ s.started_first m old k lt (sym (is_joined_started r n k m) ∙ joined) | inr new ↦ subst (IsFirst r) (eqb-true _ _ new) first k lt (sym (is_joined_started r n k m) ∙ joined) ];
-      ended_first = λ m e k lt joined. s.ended_first m e k lt (sym (is_joined_started r n k m) ∙ joined);
-      ended_how = λ m e doomed. s.ended_how m e (sym (doom_started r n m) ∙ doomed);
-    }
+start_linux r n spared first s = grind (arith, doom_started, any_new, is_joined_started)
 
 -- A request ends.
 
@@ -58,19 +50,13 @@ pub failure_end : (r : Requests) (m : ℕ) (res : ℤ) (bytes : List ℕ) (n : �
     → (m < n → is_joined r m n ≡ false) → (k : ℕ) → k < n
     → is_failure_before (with_ended r m res bytes) n k ≡ is_failure_before r n k
 unfolding is_joined
-failure_end r m res bytes n apart k low = elim (cases_eq k m) [
-  | inl same ↦
-      let none : is_joined r k n ≡ false = subst (λ j. j < n → is_joined r j n ≡ false) (sym same) apart low in
-      and_left _ _ (and_left _ _ none) ∙ sym (and_left _ _ (and_left _ _ none))
-  | inr differ ↦ ap (λ b. is_joined r k n && is_soft (entry_of r k) && b) (has_failed_other r m res bytes k differ)
-]
+failure_end r m res bytes n apart k low = grind (arith, has_failed_other)
 
 pub after_end : (r : Requests) (m : ℕ) (res : ℤ) (bytes : List ℕ) (n : ℕ)
     → (m < n → is_joined r m n ≡ false)
     → is_after_failure (with_ended r m res bytes) n ≡ is_after_failure r n
 unfolding is_after_failure
-after_end r m res bytes n apart =
-    some_below_same (is_failure_before (with_ended r m res bytes) n) (is_failure_before r n) n (failure_end r m res bytes n apart)
+after_end r m res bytes n apart = grind (arith, some_below_same, failure_end)
 
 module _ (r : Requests) (n : ℕ) (res : ℤ) (bytes : List ℕ) where
   pub first_ended : (m : ℕ) → IsFirst r m → IsFirst (with_ended r n res bytes) m
@@ -79,15 +65,12 @@ module _ (r : Requests) (n : ℕ) (res : ℤ) (bytes : List ℕ) where
   -- who was in its turn while n hadn't ended stays as doomed as it was
   pub doom_ended : (m : ℕ) → has_ended r n ≡ false → IsFirst r m
       → is_doomed (with_ended r n res bytes) m ≡ is_doomed r m
-  doom_ended m still first =
-      ap₂ (λ x y. x || y) (faulty_ended r n res bytes m) (after_end r n res bytes m (λ lt. false_from_ne_true _ (λ joined. both_ways _ still (first n lt joined))))
+  doom_ended m still first = grind (arith, faulty_ended, after_end)
 
   -- the ends of another stay its ends
   ends_kept : (m : ℕ) → (n == m) ≡ false → list_any (is_otherwise r m) r.ended ≡ false
       → list_any (is_otherwise (with_ended r n res bytes) m) (with_ended r n res bytes).ended ≡ false
-  ends_kept m differ d =
-      list_any_push (is_otherwise r m) r.ended (record { number = n; res = res; bytes = bytes })
-      ∙ or_from _ _ d (and_left (n == m) _ differ)
+  ends_kept m differ d = grind (arith, list_any_push, or_from)
 
   -- the first end of a doomed request
   ends_first : has_ended r n ≡ false → res ≡ doomed_result r n
@@ -104,19 +87,8 @@ module _ (r : Requests) (n : ℕ) (res : ℤ) (bytes : List ℕ) where
       record {
         started_spared = λ m e. doom_ended m still (s.started_first m e) ∙ s.started_spared m e;
         started_first = λ m e. first_ended m (s.started_first m e);
-        ended_first = λ m e. elim (any_new (λ x. x.number == m) r.ended (record { number = n; res = res; bytes = bytes }) e) [
-          | inl old ↦ first_ended m (s.ended_first m old)
-          | inr new ↦ first_ended m (subst (IsFirst r) (eqb-true n m new) first)
-        ];
-        ended_how = λ m e doomed. elim (any_new (λ x. x.number == m) r.ended (record { number = n; res = res; bytes = bytes }) e) [
-          | inl old ↦
-              ends_kept m (false_from_ne_true _ (λ same. both_ways _ still (subst (λ k. has_ended r k ≡ true) (sym (eqb-true n m same)) old)))
-              (s.ended_how m old (sym (doom_ended m still (s.ended_first m old)) ∙ doomed))
-          | inr new ↦
-              let same : n ≡ m = eqb-true n m new in
-              subst (λ k. list_any (is_otherwise (with_ended r n res bytes) k) (with_ended r n res bytes).ended ≡ false) same
-              (ends_first still (how (sym (doom_ended n still first) ∙ subst (λ k. is_doomed (with_ended r n res bytes) k ≡ true) (sym same) doomed)))
-        ];
+        ended_first = grind (arith, any_new, first_ended);
+        ended_how = grind (arith, any_new, ends_kept, false_from_ne_true, both_ways, eqb-true, doom_ended, ends_first);
       }
 
   -- who is after a failure, or doomed, stays so, whoever ends
@@ -133,11 +105,7 @@ module _ (r : Requests) (n : ℕ) (res : ℤ) (bytes : List ℕ) where
 
 module _ (r : Requests) (entries : List Sqe) (cut : IsCut r) where
   last_before : (k : ℕ) → k + 1 ≡ length r.accepted → is_last (with_call r entries) k ≡ true
-  last_before k end =
-      elim cut [
-        | inl none ↦ absurd (omega (arith, none, end))
-        | inr there ↦ or_right _ _ (any_kept (λ c. c == k + 1) r.cuts (length (with_call r entries).accepted ∷ []) (subst (λ n. list_any (λ c. c == n) r.cuts ≡ true) (sym end) there))
-      ]
+  last_before k end = grind (arith, any_kept)
 
   -- what is accepted now is of no group before
   group_apart : (m n : ℕ) → length r.accepted ≤ m → n < length r.accepted → is_in_group (with_call r entries) m n ≡ false
@@ -145,9 +113,7 @@ module _ (r : Requests) (entries : List Sqe) (cut : IsCut r) where
       is_joined_no (with_call r entries) (min m n) (max m n) (length r.accepted - 1) (omega (arith, le, below)) (omega (arith, le, below)) (last_before (length r.accepted - 1) (omega (arith, below)))
 
   skipped_kept : (n : ℕ) → n < length r.accepted → has_skipped (with_call r entries) n ≡ has_skipped r n
-  skipped_kept n below =
-      some_below_same (λ m. asks_to_skip (entry_of (with_call r entries) m)) (λ m. asks_to_skip (entry_of r m)) (n + 1)
-      (λ k lt. ap asks_to_skip (entry_kept r entries cut k (omega (arith, lt, below))))
+  skipped_kept n below = grind (arith, some_below_same, entry_kept)
 
   refused_kept : (n : ℕ) → n < length r.accepted → is_refused_drain (with_call r entries) n ≡ is_refused_drain r n
   refused_kept n below = ap₂ (λ e b. asks_to_drain e && b) (entry_kept r entries cut n below) (skipped_kept n below)
@@ -165,34 +131,20 @@ module _ (r : Requests) (entries : List Sqe) (cut : IsCut r) where
 
   after_kept : (n : ℕ) → n < length r.accepted → is_after_failure (with_call r entries) n ≡ is_after_failure r n
   unfolding is_after_failure
-  after_kept n below =
-      some_below_same (λ m. is_joined (with_call r entries) m n && is_soft (entry_of (with_call r entries) m) && has_failed (with_call r entries) m) (λ m. is_joined r m n && is_soft (entry_of r m) && has_failed r m) n
-      (λ k lt.
-      ap (λ b. b && is_soft (entry_of (with_call r entries) k) && has_failed (with_call r entries) k) (join_kept r entries cut k n below)
-      ∙ ap (λ e. is_joined r k n && is_soft e && list_any (λ x. (x.number == k) && not (is_success e x.res)) r.ended) (entry_kept r entries cut k (omega (arith, lt, below))))
+  after_kept n below = grind (arith, some_below_same, join_kept, entry_kept)
 
   pub doom_called : (n : ℕ) → n < length r.accepted
       → is_doomed (with_call r entries) n ≡ is_doomed r n
   doom_called n below = ap₂ (λ x y. x || y) (faulty_kept n below) (after_kept n below)
 
   result_kept : (n : ℕ) → n < length r.accepted → doomed_result (with_call r entries) n ≡ doomed_result r n
-  result_kept n below =
-      ap₂ (λ e refused. if refused then neg_ℤ EOPNOTSUPP else if is_faulty e then neg_ℤ EINVAL else neg_ℤ ECANCELED) (entry_kept r entries cut n below) (refused_kept n below)
+  result_kept n below = grind (arith, entry_kept, refused_kept)
 
   first_called : (n : ℕ) → n < length r.accepted → IsFirst r n → IsFirst (with_call r entries) n
   first_called n below first k lt joined = first k lt (sym (join_kept r entries cut k n below) ∙ joined)
 
   pub call_linux : IsSoundRequests r → IsSoundLinux r → IsSoundLinux (with_call r entries)
-  call_linux i s =
-      record {
-        started_spared = λ n e. doom_called n (i.started_accepted n e) ∙ s.started_spared n e;
-        started_first = λ n e. first_called n (i.started_accepted n e) (s.started_first n e);
-        ended_first = λ n e. first_called n (i.ended_accepted n e) (s.ended_first n e);
-        ended_how = λ n e doomed.
-            let below = i.ended_accepted n e in
-            ap (λ res. list_any (λ x. (x.number == n) && not (int_eq x.res res)) r.ended) (result_kept n below)
-            ∙ s.ended_how n e (sym (doom_called n below) ∙ doomed);
-      }
+  call_linux i s = grind (arith, doom_called, first_called, result_kept)
 
 -- What an answer tells.
 
@@ -212,26 +164,15 @@ starts_so l n spared free = grind arith
 linux_kept : (g : Setup) (w : World) (s : Step) (a : Answer) → Change (by_linux g) w s a
     → IsSoundRequests w.requests → IsSoundLinux w.requests
     → IsSoundLinux (happens (by_linux g) w s a).requests
-linux_kept g w s a (refuses _ _ same silent) i sound =
-    subst (λ (v : World). IsSoundLinux v.requests) (sym (same w)) sound
-linux_kept g w s a (takes entry call place opened left at valid) i sound =
-    subst (λ o. IsSoundLinux (taking_entry_of (by_linux g) w entry o).requests) (sym opened) sound
-linux_kept g w s a (drops call place opened left at invalid) i sound =
-    subst (λ o. IsSoundLinux (taking_of (by_linux g) w o).requests) (sym opened) sound
-linux_kept g w s a (closes accepted missed head call opened all told) i sound =
-    subst (λ o. IsSoundLinux (ending_of (by_linux g) w o).requests) (sym opened) (call_linux w.requests (entries_of (places_from w.submission call.count)) i.cut_at_end i sound)
-linux_kept g w s a (runs n outstanding idle spared ready no_cancel) i sound =
-    let k = starts_so (requests_of w) n spared ready in
-    start_linux w.requests n k.spared (turn_first w.requests n k.turn) sound
-linux_kept g w s a (dooms n outstanding idle doomed) i sound =
-    let p = and_parts _ _ doomed in
-    end_linux w.requests n _ _ (outstanding_tells w.requests n outstanding).1 (turn_first w.requests n p.0) (λ is. refl) sound
+linux_kept g w s a (refuses _ _ same silent) i sound = grind arith
+linux_kept g w s a (takes entry call place opened left at valid) i sound = grind arith
+linux_kept g w s a (drops call place opened left at invalid) i sound = grind arith
+linux_kept g w s a (closes accepted missed head call opened all told) i sound = grind (arith, call_linux)
+linux_kept g w s a (runs n outstanding idle spared ready no_cancel) i sound = grind (arith, start_linux, turn_first)
+linux_kept g w s a (dooms n outstanding idle doomed) i sound = grind (arith, end_linux, turn_first)
 linux_kept g w s a (cancels n outstanding idle spared ready cancel) i sound =
-    let k = starts_so (requests_of w) n spared ready in
-    end_linux w.requests n _ _ (outstanding_tells w.requests n outstanding).1 (turn_first w.requests n k.turn) (λ is. absurd (both_ways _ k.spared is)) sound
-linux_kept g w s a (finishes n res bytes running) i sound =
-    let p = and_parts _ _ running in
-    end_linux w.requests n res bytes (not-true _ p.1) (sound.started_first n p.0) (λ is. absurd (both_ways _ (sound.started_spared n p.0) is)) sound
+    grind (arith, starts_so, requests_of, end_linux, outstanding_tells, turn_first, both_ways)
+linux_kept g w s a (finishes n res bytes running) i sound = grind (arith, end_linux, not-true)
 linux_kept g w s a _ i sound = sound
 
 no_sound : IsSoundLinux no_request
@@ -240,6 +181,4 @@ no_sound = grind arith
 pub linux_sound : (g : Setup) (h : History) → IsLawfulApart (by_linux g) h
     → IsSoundLinux (world (by_linux g) h).requests
 linux_sound g [] lawful = no_sound
-linux_sound g ((s, a) ∷ before) lawful =
-    linux_kept g (world (by_linux g) before) s a (change_of (by_linux g) (world (by_linux g) before) s a lawful.0)
-    (sound_of (by_linux g) before lawful.1).requests (linux_sound g before lawful.1)
+linux_sound g ((s, a) ∷ before) lawful = grind (arith, linux_kept, change_of, sound_of, (linux_sound g before lawful.1))

@@ -1,6 +1,6 @@
 -- The laws of doomed requests, links and drains, by the manual pages' rules; and what these and those of Linux share.
-use Rattle.std.proofs.Common.{◌≡◌, ℕ, ◌<◌, ◌==◌, ℤ, neg_ℤ, Bool, true, false, not, ◌&&◌, ◌||◌, List, ◌∷◌, ◌++◌, Option, Some, None, length, slice_get, count_by, refl, sym, subst, ap, ◌∙◌, ◌⊎◌, inl, inr, arith}
-use Rattle.uring_laws.proofs.Common.{Answer, Change, Decides-int_eq, ECANCELED, Ending, History, IsEnded, IsLawfulApart, IsSilent, IsSoundManual, LinuxRequests, Requests, Setup, World, and_from, both_ways, by_manual, cancel_result, cancels, change_of, cond_both, count_none, count_result, count_some, doomed_result, dooms, entry_of, eq-eqb, false_from_ne_true, has_ended, has_started, int_eq, is_cancel_all, is_doomed, is_draining, is_joined, list_any, outstanding_tells, refuses, requests_of, result_for, runs, sound_of, started_by, target_of, targets_of, times_ended, true_from_ne_false, waited, waits_for, world}
+use Rattle.std.proofs.Common.{◌≡◌, ℕ, ◌<◌, ◌==◌, ℤ, neg_ℤ, Bool, true, false, not, ◌&&◌, List, ◌∷◌, ◌++◌, Option, Some, length, slice_get, count_by, refl, sym, subst, ◌∙◌, ◌⊎◌, inl, inr, arith}
+use Rattle.uring_laws.proofs.Common.{Answer, Change, ECANCELED, Ending, History, IsEnded, IsLawfulApart, IsSilent, IsSoundManual, LinuxRequests, Requests, Setup, World, both_ways, by_manual, cancel_result, cancels, change_of, cond_both, count_none, count_result, count_some, doomed_result, dooms, entry_of, eq-eqb, has_ended, has_started, int_eq, is_cancel_all, is_doomed, list_any, refuses, requests_of, result_for, runs, sound_of, target_of, targets_of, times_ended, waited, waits_for, world}
 use Rattle.uring_laws.specs.Laws.{DoomedNeverRun, IsStart}
 use Rattle.std.proofs.lemmas.Map.Keys.{any_passes_from_place}
 use Rattle.uring_rules.specs.Rules as by_rules
@@ -14,9 +14,7 @@ use Rattle.uring_laws.proofs.Growth.{Grows, grows, event_grows, then_grows, lawf
 -- an end has this result, if none of its request has another
 pub result_told : (ended : List Ending) (k : ℕ) (e : Ending) (res : ℤ) → slice_get ended k ≡ Some e
     → list_any (λ x. (x.number == e.number) && not (int_eq x.res res)) ended ≡ false → e.res ≡ res
-result_told ended k e res at none =
-    (Decides-int_eq e.res res).0
-    (true_from_ne_false _ (λ differ. both_ways _ none (any_passes_from_place (λ x. (x.number == e.number) && not (int_eq x.res res)) ended k e at (and_from (e.number == e.number) _ (eq-eqb e.number _ refl) (ap not differ)))))
+result_told ended k e res at none = grind (arith, both_ways, any_passes_from_place)
 
 pub end_there : (r : Requests) (k : ℕ) (e : Ending) → slice_get r.ended k ≡ Some e → has_ended r e.number ≡ true
 end_there r k e at = any_passes_from_place (λ x. x.number == e.number) r.ended k e at (eq-eqb _ _ refl)
@@ -30,25 +28,20 @@ ended_once g before m lawful ended =
 
 -- an Issue that is refused neither starts nor ends its request
 pub refused_no_end : (n : ℕ) (a : Answer) → IsSilent (step.Issue n, a) → IsEnded a → ⊥
-refused_no_end n (answer.Ended res bytes) silent ended = let e = silent.ends in absurd cc
-refused_no_end n _ silent ended = ended
+refused_no_end n a silent ended = grind arith
 
 pub refused_no_run : (n : ℕ) (a : Answer) → IsSilent (step.Issue n, a) → a ≡ answer.Run → ⊥
-refused_no_run n a silent run = let e : started_by (step.Issue n, answer.Run)
-    ≡ None = subst (λ b. started_by (step.Issue n, b) ≡ None) run silent.starts in absurd cc
+refused_no_run n a silent run = grind arith
 
 -- what ends with ECANCELED as it is issued is doomed, since no cancel ends so
 pub cancelled_doomed : (g : Setup) (w : World) (n : ℕ) (a : Answer) (bytes : List ℕ)
     → int_eq (by_rules.cancel_result g.linux w.requests n) (neg_ℤ ECANCELED) ≡ false
     → Change g w (step.Issue n) a → a ≡ answer.Ended (neg_ℤ ECANCELED) bytes
     → by_rules.ends_doomed g.linux w.requests n ≡ true
-cancelled_doomed g w n a bytes unlike (refuses _ _ same silent) is =
-    absurd (refused_no_end n a silent (subst IsEnded (sym is) tt))
+cancelled_doomed g w n a bytes unlike (refuses _ _ same silent) is = grind arith
 cancelled_doomed g w n a bytes unlike (runs _ outstanding idle spared ready no_cancel) is = absurd cc
 cancelled_doomed g w n a bytes unlike (dooms _ outstanding idle doomed) is = doomed
-cancelled_doomed g w n a bytes unlike (cancels _ outstanding idle spared ready cancel) is =
-    let e : by_rules.cancel_result g.linux w.requests n ≡ neg_ℤ ECANCELED = cc in
-    absurd (both_ways _ unlike ((Decides-int_eq (by_rules.cancel_result g.linux w.requests n) (neg_ℤ ECANCELED)).1 e))
+cancelled_doomed g w n a bytes unlike (cancels _ outstanding idle spared ready cancel) is = grind arith
 
 -- what is known where an Issue starts its request
 pub record Started (linux : Bool) (l : LinuxRequests) (n : ℕ) : Type 0 where
@@ -61,19 +54,16 @@ pub started_so : (g : Setup) (w : World) (n : ℕ) (a : Answer) → Change g w (
     → Started g.linux (requests_of w) n
 started_so g w n a (refuses _ _ same silent) (inl run) = absurd (refused_no_run n a silent run)
 started_so g w n a (refuses _ _ same silent) (inr ended) = absurd (refused_no_end n a silent ended.0)
-started_so g w n a (runs _ outstanding idle spared ready no_cancel) start =
-    record { accepted = (outstanding_tells w.requests n outstanding).0; spared = spared; ready = ready }
+started_so g w n a (runs _ outstanding idle spared ready no_cancel) start = grind arith
 started_so g w n a (dooms _ outstanding idle doomed) (inl run) = absurd cc
 started_so g w n a (dooms _ outstanding idle doomed) (inr ended) = absurd (both_ways _ ended.1 doomed)
-started_so g w n a (cancels _ outstanding idle spared ready cancel) start =
-    record { accepted = (outstanding_tells w.requests n outstanding).0; spared = spared; ready = ready }
+started_so g w n a (cancels _ outstanding idle spared ready cancel) start = grind arith
 
 -- By the manual pages'.
 
 unstarted : (r : Requests) (n : ℕ) → IsSoundManual r → is_doomed r n ≡ true
     → has_started r n ≡ false
-unstarted r n s doomed =
-    false_from_ne_true _ (λ started. both_ways _ (s.started_free n started).spared doomed)
+unstarted r n s doomed = grind arith
 
 doomed_end : (r : Requests) (k : ℕ) (e : Ending) → IsSoundManual r → slice_get r.ended k ≡ Some e
     → is_doomed r e.number ≡ true → e.res ≡ doomed_result r e.number
@@ -102,9 +92,7 @@ cancel_unlike r n = cond_both (is_cancel_all (entry_of r n)) (count_result (leng
 pub were_doomed : (g : Setup) (after before : History) (n : ℕ) (bytes : List ℕ)
     → IsLawfulApart (by_manual g) (after ++ (step.Issue n, answer.Ended (neg_ℤ ECANCELED) bytes) ∷ before)
     → is_doomed (world (by_manual g) before).requests n ≡ true
-were_doomed g after before n bytes lawful =
-    let l = lawful_before (by_manual g) after ((step.Issue n, answer.Ended (neg_ℤ ECANCELED) bytes) ∷ before) lawful in
-    cancelled_doomed (by_manual g) (world (by_manual g) before) n _ bytes (cancel_unlike (world (by_manual g) before).requests n) (change_of (by_manual g) (world (by_manual g) before) (step.Issue n) _ l.0) refl
+were_doomed g after before n bytes lawful = grind (arith, lawful_before, cancelled_doomed)
 
 pub stay_doomed : (g : Setup) (after before : History) (n : ℕ) → IsLawfulApart (by_manual g) (after ++ before)
     → n < length (world (by_manual g) before).requests.accepted → is_doomed (world (by_manual g) before).requests n ≡ true
@@ -116,10 +104,7 @@ stay_doomed g after before n lawful within doomed =
 
 same_wait : (r later : Requests) (n m : ℕ) → Grows r later → m < n → n < length r.accepted
     → waits_for later n m ≡ waits_for r n m
-same_wait r later n m g lt within =
-    ap (λ b. b || is_draining later m || is_draining later n) (g.same_group m n within)
-    ∙ ap (λ b. is_joined r m n || b || is_draining later n) (g.same_drain m (omega arith))
-    ∙ ap (λ b. is_joined r m n || is_draining r m || b) (g.same_drain n within)
+same_wait r later n m g lt within = grind arith
 
 pub waits : (g : Setup) (after before : History) (m n : ℕ) (a : Answer)
     → IsLawfulApart (by_manual g) (after ++ (step.Issue n, a) ∷ before) → IsStart (world (by_manual g) before).requests n a

@@ -1,15 +1,14 @@
 -- The law `published_is_told`: the items published are those that the events tell, and so is the count of dropped words.
 -- The items: from `own_submission`, position by position. The count: what all calls took less the entries among it,
 -- which `takes_places` has; kept from the last close on by induction over the history.
-use Rattle.std.proofs.Common.{◌≡◌, ℕ, suc, ◌+◌, ◌%◌, ◌^◌, ◌<◌, ◌≤◌, false, nat_lt, List, [], ◌∷◌, length, map, take, count_by, get_or, Option, Some, None, slice_get, if◌then◌else◌, refl, sym, subst, ap, ap₂, ◌∙◌, arith}
-use Rattle.uring_laws.proofs.Common.{All, All-cons, All-nil, Answer, Call, Event, History, IsItem, IsLawfulApart, OwnSubmission, Place, Setup, Sqe, Step, Submission, SubmissionMove, World, before_published, closes, closes_call, dropped_in, ending_of, entries_taken, entry_taken_by, enumerate_from, get_or-map, get_or_append_left, get_or_from_slice_get, item_of, length-map, length-take-le, length_push, ltb-false, open_taken, place_of, positions_taken, published_entry, published_items, published_words, reached, slice_get_within, slot_content, sound_of, staged_words, stays, stores, submission_move, sum_by_push, take-append-le, taken, takes_position, with_told, world}
+use Rattle.std.proofs.Common.{◌≡◌, ℕ, suc, ◌+◌, ◌<◌, ◌≤◌, false, nat_lt, List, [], ◌∷◌, length, map, take, count_by, get_or, Option, Some, None, slice_get, if◌then◌else◌, refl, sym, subst, ap, ap₂, ◌∙◌, arith}
+use Rattle.uring_laws.proofs.Common.{All, All-cons, All-nil, Answer, Call, Event, History, IsItem, IsLawfulApart, OwnSubmission, Place, Setup, Sqe, Step, SubmissionMove, World, before_published, closes, dropped_in, ending_of, entries_taken, entry_taken_by, enumerate_from, get_or-map, get_or_append_left, get_or_from_slice_get, item_of, length-map, length-take-le, length_push, positions_taken, published_entry, published_items, published_words, reached, slice_get_within, slot_content, sound_of, staged_words, stays, stores, submission_move, sum_by_push, take-append-le, taken, takes_position, with_told, world}
 use Rattle.uring_laws.specs.Published.{items_told, drops_position, positions_dropped, OwnPublished}
 use Rattle.uring_core.specs.declared.step.Step.TheVariants as step
 use Rattle.uring_core.specs.declared.answer.Answer.TheVariants as answer
 use Rattle.uring_laws.proofs.ReadOff.{own_submission}
-use Rattle.uring_core.proofs.SoundRings.{open_count}
 use Rattle.uring_laws.proofs.TakenPlaces.{takes_places}
-use Rattle.uring_laws.proofs.Telling.{count_more, count_same, before_same}
+use Rattle.uring_laws.proofs.Telling.{count_more, count_same}
 use Rattle.uring_rings.proofs.Places.{entries_and_dropped}
 
 -- The items.
@@ -85,10 +84,7 @@ dropped_by_all : (g : Setup) (h : History) → IsLawfulApart g h
     → count_by drops_position h
     ≡ dropped_in (take (reached (world g h).submission) (world g h).submission.published)
 dropped_by_all g h lawful =
-    let l : Submission = (world g h).submission in
-    let t = takes_places g h lawful in
-    let s = (sound_of g h lawful).submission in
-    omega (arith, taken_or_dropped h, t.count, ap length t.entries, entries_and_dropped (take (reached l) l.published), length-take-le (reached l) l.published (omega (arith, s.call_published, s.within_call)))
+    grind (arith, (takes_places g h lawful), (sound_of g h lawful), (taken_or_dropped h), entries_and_dropped, length-take-le)
 
 -- as many were dropped before the last close as the positions of closed calls have no entry
 abbrev Drops : History → World → Type 0
@@ -98,23 +94,12 @@ closed_drops : (g : Setup) (h : History) → IsLawfulApart g h
     → (accepted missed head : ℕ) (call : Call) → (world g h).submission.call ≡ Some call
     → nat_lt call.taken call.count ≡ false
     → Drops ((step.End, answer.Taken accepted missed head) ∷ h) (ending_of g (world g h) (Some call))
-closed_drops g h lawful accepted missed head call opened all =
-    let l : Submission = (world g h).submission in
-    let s = (sound_of g h lawful).submission in
-    let t : open_taken l.call ≡ call.taken = ap open_taken opened in
-    let c : open_count l.call ≡ call.count = ap open_count opened in
-    let n = sum_by_push (λ x. x) l.calls call.count in
-    let f = ltb-false _ _ all in
-    let same : reached l ≡ taken (ending_of g (world g h) (Some call)).submission = omega (arith, s.within_call) in
-    dropped_by_all g h lawful ∙ ap (λ k. dropped_in (take k l.published)) same
+closed_drops g h lawful accepted missed head call opened all = grind (arith, sound_of, sum_by_push, dropped_by_all)
 
 drops_kept : (g : Setup) (h : History) (s : Step) (a : Answer) (v : World) → IsLawfulApart g h
     → SubmissionMove g (world g h) s a v → Drops h (world g h) → Drops ((s, a) ∷ h) v
-drops_kept g h s a v lawful (stays _ _ r c is_closed off left) i =
-    ap (count_by drops_position) (before_same closes_call (s, a) h off.closes) ∙ i
-drops_kept g h s a v lawful (stores tail) i =
-    let l : Submission = (world g h).submission in
-    i ∙ ap dropped_in (sym (take-append-le (taken l) l.published (map (place_of g.sq l.content) l.fresh) (omega (arith, (sound_of g h lawful).submission.call_published))))
+drops_kept g h s a v lawful (stays _ _ r c is_closed off left) i = grind arith
+drops_kept g h s a v lawful (stores tail) i = grind (arith, take-append-le, sound_of)
 drops_kept g h s a v lawful (closes accepted missed head call opened all counted) i =
     closed_drops g h lawful accepted missed head call opened all
 drops_kept g h s a v lawful _ i = i
@@ -124,11 +109,4 @@ drops_told g [] lawful = refl
 drops_told g ((s, a) ∷ before) lawful = drops_kept g before s a _ lawful.1 (submission_move g s a before lawful) (drops_told g before lawful.1)
 
 pub own_published : (g : Setup) (h : History) → IsLawfulApart g h → OwnPublished g h
-own_published g h lawful =
-    let own = own_submission g h lawful in
-    record {
-      items = items_tell g h own;
-      are_items = items_sound g h own;
-      calls = own.calls;
-      dropped_words = ap (λ n. n % 2 ^ 32) (sym (drops_told g h lawful));
-    }
+own_published g h lawful = grind (arith, own_submission, items_tell, items_sound, drops_told)

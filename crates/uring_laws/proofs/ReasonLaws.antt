@@ -1,12 +1,12 @@
 -- What why says, from what each case of it says: proofs of the laws on reasons.
-use Rattle.std.proofs.Common.{◌≡◌, ℕ, ◌<◌, ◌≤◌, length, Bool, true, false, not, ◌&&◌, ◌||◌, nat_lt, Option, Some, None, is_some, unwrap_or, refl, sym, ◌∙◌, ap, ap₂, subst, arith, inl, inr}
-use Rattle.uring_laws.proofs.Common.{Answer, IsLeast, LinuxRequests, Requests, Setup, World, and_from, and_parts, both_ways, cancel_result, cases_lt, doom_of, doomed_result, entry_of, failed_member_of, fault_of, faulty_member_of, first_doom, has_ended, holder_of, holds_back, if◌then◌else◌, is_after_failure, is_cancel, is_cancelled, is_deferred, is_doomed, is_draining, is_failure_before, is_faulty_member, is_in_faulty_group, is_in_turn, is_issuable, is_joined, is_joined_inside, is_joined_yes, is_outstanding, is_ready, is_ready_inside, is_running, is_some_least_below, issue_answer, keeps_back, le-ltb, least_below, least_below_none, least_below_tells, lt-ltb, ltb-true, no_bytes, not-true, requests_of, since_of, some_member, waiting_for, waits_for, why_of, ◌↔◌, ◌⊎◌}
+use Rattle.std.proofs.Common.{◌≡◌, ℕ, ◌<◌, ◌≤◌, length, Bool, true, false, not, ◌&&◌, ◌||◌, Option, Some, None, is_some, unwrap_or, refl, sym, ◌∙◌, ap, arith, inl, inr}
+use Rattle.uring_laws.proofs.Common.{Answer, IsLeast, LinuxRequests, Requests, Setup, World, and_parts, both_ways, cancel_result, cases_lt, doom_of, doomed_result, entry_of, failed_member_of, fault_of, faulty_member_of, first_doom, has_ended, holder_of, holds_back, if◌then◌else◌, is_after_failure, is_cancel, is_cancelled, is_deferred, is_doomed, is_draining, is_failure_before, is_faulty_member, is_in_faulty_group, is_in_turn, is_issuable, is_joined, is_joined_inside, is_joined_yes, is_outstanding, is_ready, is_ready_inside, is_running, is_some_least_below, issue_answer, keeps_back, least_below, least_below_none, least_below_tells, no_bytes, not-true, requests_of, since_of, some_member, waiting_for, waits_for, why_of, ◌↔◌, ◌⊎◌}
 use Rattle.uring_entry.specs.declared.fault.Fault.{Fault}
 use Rattle.uring_entry.specs.declared.why.Why.{Why}
 use Rattle.uring_entry.specs.declared.why.Why.TheVariants.{NeverAccepted, HasEnded, Runs, IsDoomed, Waits, MayStart}
 use Rattle.uring_entry.specs.declared.why.Doom.{Doom}
 use Rattle.uring_entry.specs.declared.why.Since.{Since}
-use Rattle.uring_entry.specs.declared.why.Since.TheVariants.{SameGroup, ItDrains, OwnDrains, Deferred}
+use Rattle.uring_entry.specs.declared.why.Since.TheVariants.{Deferred}
 use Rattle.uring_entry.proofs.WhyLemmas.{StillWaits, IsTold, told, told_as, why_waiting}
 use Rattle.uring_linux.specs.LinuxRequests as kernel
 use Rattle.uring_linux.specs.LinuxWhy as kernel_why
@@ -18,15 +18,10 @@ use Rattle.uring_laws.specs.Reasons.{answer_told, AnswerAgrees, can_be_issued, I
 -- Standing.
 
 unstarted_told : (r : Requests) (n : ℕ) → StillWaits r n → IsUnstarted r n
-unstarted_told r n s = record {
-  outstanding = and_from _ _ (lt-ltb n (length r.accepted) s.given) (ap not s.unended);
-  still = s.unstarted;
-}
+unstarted_told r n s = grind arith
 
 told_unstarted : (r : Requests) (n : ℕ) → IsUnstarted r n → StillWaits r n
-told_unstarted r n u =
-    let parts = and_parts _ _ u.outstanding in
-    record { given = ltb-true n (length r.accepted) parts.0; unended = not-true _ parts.1; unstarted = u.still }
+told_unstarted r n u = grind arith
 
 -- whom nothing holds back is ready, and the other way round
 ready_is : (r : Requests) (n : ℕ) → is_ready r n ≡ not (is_some (holder_of r n))
@@ -37,8 +32,7 @@ ready_none : (r : Requests) (n : ℕ) → holder_of r n ≡ None → is_ready r 
 ready_none r n e = ready_is r n ∙ ap (λ o. not (is_some o)) e
 
 none_ready : (r : Requests) (n : ℕ) → is_ready r n ≡ true → holder_of r n ≡ None
-none_ready r n ready =
-    least_below_none (holds_back r n) n (λ m low. is_ready_inside r n m ready low)
+none_ready r n ready = grind (arith, least_below_none, is_ready_inside)
 
 -- what is told of n, by the tests that ask for it
 abbrev told_by : Requests → ℕ → (given ended running doomed : Bool) → Option ℕ → Why
@@ -53,44 +47,28 @@ told_by r n given ended running doomed holder =
 
 pub unaccepted_said : (r : Requests) (n : ℕ)
     → (why_of r n ≡ NeverAccepted) ↔ (length r.accepted ≤ n)
-unaccepted_said r n = (
-  (λ e. told_as r n NeverAccepted e),
-  (λ le. ap (λ given. told_by r n given (has_ended r n) (is_running r n) (is_doomed r n) (holder_of r n)) (le-ltb n (length r.accepted) le)),
-)
+unaccepted_said r n = grind arith
 
 pub ended_said : (r : Requests) (n : ℕ)
     → (why_of r n ≡ HasEnded) ↔ ((n < length r.accepted) × (has_ended r n ≡ true))
-ended_said r n = (
-  (λ e. told_as r n HasEnded e),
-  (λ h. ap₂ (λ given ended. told_by r n given ended (is_running r n) (is_doomed r n) (holder_of r n)) (lt-ltb n (length r.accepted) h.0) h.1),
-)
+ended_said r n = grind arith
 
 pub runs_said : (r : Requests) (n : ℕ)
     → (why_of r n ≡ Runs) ↔ ((is_outstanding r n ≡ true) × (is_running r n ≡ true))
-runs_said r n = (
-  (λ e. let t = told_as r n Runs e in (and_from _ _ (lt-ltb n (length r.accepted) t.0) (ap not t.1), t.2)),
-  (λ h. let parts = and_parts _ _ h.0 in
-      ap₂ (λ given ended. told_by r n given ended (is_running r n) (is_doomed r n) (holder_of r n)) parts.0 (not-true _ parts.1)
-      ∙ ap (λ running. told_by r n true false running (is_doomed r n) (holder_of r n)) h.1),
-)
+runs_said r n = grind arith
 
 -- What can be issued.
 
 issuable_by : (r : Requests) (n : ℕ) (given ended running doomed : Bool) (holder : Option ℕ)
     → (given && not ended && not running && (doomed || not (is_some holder)))
     ≡ can_be_issued (told_by r n given ended running doomed holder)
-issuable_by r n true false false false None = refl
-issuable_by r n _ _ _ _ _ = refl
+issuable_by r n given ended running doomed holder = grind arith
 
 pub issuable_said : (r : Requests) (n : ℕ) → is_issuable r n ≡ can_be_issued (why_of r n)
-issuable_said r n =
-    ap (λ ready. is_outstanding r n && not (is_running r n) && (is_doomed r n || ready)) (ready_is r n)
-    ∙ issuable_by r n (nat_lt n (length r.accepted)) (has_ended r n) (is_running r n) (is_doomed r n) (holder_of r n)
+issuable_said r n = grind (arith, ready_is)
 
 pub may_start_said : (r : Requests) (n : ℕ) → why_of r n ≡ MayStart → CanStart r n
-may_start_said r n e =
-    let t = told_as r n MayStart e in
-    record { unstarted = unstarted_told r n t.0; free = t.1; ready = ready_none r n t.2 }
+may_start_said r n e = grind (arith, ready_none)
 
 pub said_may_start : (r : Requests) (n : ℕ) → CanStart r n → why_of r n ≡ MayStart
 said_may_start r n c = why_waiting r n (told_unstarted r n c.unstarted) c.free ∙ ap (waiting_for r n) (none_ready r n c.ready)
@@ -98,24 +76,11 @@ said_may_start r n c = why_waiting r n (told_unstarted r n c.unstarted) c.free �
 -- What it waits for.
 
 since_said : (r : Requests) (n m : ℕ) → waits_for r n m ≡ true → IsSince r n m (since_of r n m)
-since_said r n m waits =
-    go (is_joined r m n) (is_draining r m) (is_draining r n) refl refl refl waits
-  where
-    go : (a b d : Bool) → is_joined r m n ≡ a → is_draining r m ≡ b → is_draining r n ≡ d → ((a || b) || d) ≡ true → IsSince r n m (if a then SameGroup else if b then ItDrains else OwnDrains)
-    go true b d x y z w = x
-    go false true d x y z w = (x, y)
-    go false false true x y z w = (x, y, z)
-    go false false false x y z w = cc
+since_said r n m waits = grind arith
 
 pub waits_said : (r : Requests) (n m : ℕ) (since : Since) → why_of r n ≡ Waits m since
     → IsWaiting r n m since
-waits_said r n m since e =
-    let t = told_as r n (Waits m since) e in
-    let least = least_below_tells (holds_back r n) n m t.2 in
-    let parts = and_parts (not (has_ended r m)) (waits_for r n m) least.holds in
-    let unstarted = unstarted_told r n t.0 in
-    let reason = subst (IsSince r n m) (sym t.3) (since_said r n m parts.1) in
-    assumption (unstarted, reason, t, least)
+waits_said r n m since e = grind (arith, (told_as r n (Waits m since) e), least_below_tells, since_said)
 
 -- What dooms it.
 
@@ -148,9 +113,7 @@ doom_is r n doomed =
 
 pub doom_said : (r : Requests) (n : ℕ) (doom : Doom) → why_of r n ≡ IsDoomed doom
     → IsUnstarted r n × (is_doomed r n ≡ true) × IsDoomOf r n doom
-doom_said r n doom e =
-    let t = told_as r n (IsDoomed doom) e in
-    (unstarted_told r n t.0, t.1, subst (IsDoomOf r n) (sym t.2) (doom_is r n t.1))
+doom_said r n doom e = grind (arith, doom_is)
 
 -- Two steps.
 
@@ -201,12 +164,7 @@ two_steps r n m since e =
     let low = a.below in
     elim (stands r m (omega arith) (holder_going r n m a.holds)) [
       | goes_on g ↦ inl g
-      | waits_on k other is b ↦
-          let under = b.below in
-          elim (stands r k (omega arith) (holder_going r m k b.holds)) [
-            | goes_on g ↦ inr (k, other, is, g)
-            | waits_on j more was d ↦ absurd (three_none r n m k j a b d)
-          ]
+      | waits_on k other is b ↦ grind (arith, stands, holder_going, three_none)
     ]
 
 -- The answer to an Issue, by the manual pages' rules.
@@ -223,16 +181,12 @@ asked_by w n outstanding running doomed ready =
 agrees : (w : World) (n : ℕ) (given ended running doomed : Bool) (holder : Option ℕ)
     → asked_by w n (given && not ended) running doomed (not (is_some holder))
     ≡ answer_told false w.requests n (told_by w.requests n given ended running doomed holder)
-agrees w n true false false false None = refl
-agrees w n _ _ _ _ _ = refl
+agrees w n given ended running doomed holder = grind arith
 
 manual_agrees : (w : World) (n : ℕ)
     → asked_by w n (is_outstanding w.requests n) (is_running w.requests n) (is_doomed w.requests n) (is_ready w.requests n)
     ≡ answer_told false w.requests n (why_of w.requests n)
-manual_agrees w n =
-    let r : Requests = w.requests in
-    ap (asked_by w n (is_outstanding r n) (is_running r n) (is_doomed r n)) (ready_is r n)
-    ∙ agrees w n (nat_lt n (length r.accepted)) (has_ended r n) (is_running r n) (is_doomed r n) (holder_of r n)
+manual_agrees w n = grind (arith, ready_is)
 
 -- By Linux's rules.
 
@@ -260,16 +214,12 @@ kernel_told l n given ended running holder =
 turn_agrees : (l : LinuxRequests) (n : ℕ) (doomed deferred : Bool)
     → in_turn l.requests n doomed (not deferred)
     ≡ answer_told true l.requests n (if doomed then IsDoomed (kernel_why.doom_of l.requests n) else if deferred then Waits (unwrap_or (least_free_of l) n) Deferred else MayStart)
-turn_agrees l n true deferred = refl
-turn_agrees l n false true = refl
-turn_agrees l n false false = refl
+turn_agrees l n doomed deferred = grind arith
 
 kernel_agrees : (l : LinuxRequests) (n : ℕ) (given ended running : Bool) (holder : Option ℕ)
     → kernel_asked l n (given && not ended) running (not (is_some holder))
     ≡ answer_told true l.requests n (kernel_told l n given ended running holder)
-kernel_agrees l n true false false None =
-    turn_agrees l n (kernel.is_doomed l.requests n) (is_deferred l n)
-kernel_agrees l n _ _ _ _ = refl
+kernel_agrees l n given ended running holder = grind arith
 
 -- whom no earlier member of its group keeps back is in its turn
 turn_is : (r : Requests) (n : ℕ)
@@ -280,10 +230,7 @@ turn_is r n = ap not (sym (is_some_least_below (keeps_back r n) n))
 linux_agrees : (l : LinuxRequests) (n : ℕ)
     → kernel_asked l n (is_outstanding l.requests n) (is_running l.requests n) (is_in_turn l.requests n)
     ≡ answer_told true l.requests n (kernel_why.why_of l n)
-linux_agrees l n =
-    let r : Requests = l.requests in
-    ap (kernel_asked l n (is_outstanding r n) (is_running r n)) (turn_is r n)
-    ∙ kernel_agrees l n (nat_lt n (length r.accepted)) (has_ended r n) (is_running r n) (least_below (keeps_back r n) n)
+linux_agrees l n = grind (arith, turn_is)
 
 -- By either's.
 

@@ -1,6 +1,6 @@
 -- Laws of answers that were recorded elsewhere: whether one is called for is decided, and a wrong one makes a list unlawful.
-use Rattle.std.proofs.Common.{◌≡◌, ℕ, ◌+◌, ◌<◌, ◌≤◌, Bool, true, false, List, [], ◌∷◌, ◌++◌, take, drop, get_or, neg_ℤ, Some, sym, ap, subst, ◌∙◌, ◌⊎◌, inl, inr, arith}
-use Rattle.uring_laws.proofs.Common.{Answer, ENOMEM, EndsOn, Event, FileContents, FinishesApart, History, IsLawful, IsLawfulApart, IsOutcome, Op, OrAgain, Outcome, Requests, Setup, begin_answer, both_ways, cases_Bool, cases_lt, ended_with, entry_of, files_of, get_or_from_slice_get, history_of, is_lengthening, is_running, operation_of, result_of, reverse-append, slice_get, slice_get_within, take-append-drop, take_more}
+use Rattle.std.proofs.Common.{◌≡◌, ℕ, ◌+◌, Bool, true, false, List, [], ◌∷◌, ◌++◌, take, drop, get_or, neg_ℤ, Some, sym, ap, subst, ◌∙◌, ◌⊎◌, inl, inr, arith}
+use Rattle.uring_laws.proofs.Common.{Answer, ENOMEM, EndsOn, Event, FileContents, FinishesApart, History, IsLawful, IsLawfulApart, IsOutcome, Op, OrAgain, Outcome, Requests, Setup, begin_answer, both_ways, cases_Bool, ended_with, entry_of, get_or_from_slice_get, history_of, is_lengthening, is_running, operation_of, result_of, reverse-append, slice_get, slice_get_within, take-append-drop, take_more}
 use Rattle.uring_laws.specs.Recorded.{CalledIsDecided, CalledIsDecidedApart, WrongIsUnlawful, WrongIsUnlawfulApart}
 use Rattle.uring_core.specs.declared.step.Step.TheVariants as step
 use Rattle.uring_core.specs.declared.answer.Answer.TheVariants as answer
@@ -16,21 +16,11 @@ abbrev Decided : Type 0 → Type 0
 Decided P = P ⊎ (P → ⊥)
 
 decided_begin : (x a : Answer) → Decided (OrAgain x a)
-decided_begin (answer.Call n) a =
-    elim (decided a (answer.Call n)) [
-      | inl is ↦ inl (inl is)
-      | inr no_call ↦ or_again (decided a answer.Again) (cases_lt 0 n) no_call
-    ] where
-      or_again : Decided (a ≡ answer.Again) → (0 < n) ⊎ (n ≤ 0) → (a ≡ answer.Call n → ⊥) → Decided (OrAgain (answer.Call n) a)
-      or_again (inl again) (inl some) no_call = inl (inr (again, some))
-      or_again (inl again) (inr none) no_call = inr (λ k. elim k [ inl e ↦ no_call e | inr e ↦ omega (arith, e.1) ])
-      or_again (inr other) some no_call = inr (λ k. elim k [ inl e ↦ no_call e | inr e ↦ other e.0 ])
+decided_begin (answer.Call n) a = grind arith
 decided_begin x a = decided a x
 
 decided_finish : (running : Bool) (a : Answer) → Decided (FinishesApart running a)
-decided_finish true (answer.Ended res bytes) = inl tt
-decided_finish true _ = inr (λ k. k)
-decided_finish false a = decided a answer.NotRunning
+decided_finish running a = grind arith
 
 pub decided_apart : CalledIsDecidedApart
 decided_apart g w (step.Begin count) a = decided_begin (begin_answer w count) a
@@ -63,8 +53,7 @@ decided_on files r n true _ = inr (λ k. k)
 decided_on files r n false a = decided a answer.NotRunning
 
 pub decided_called : CalledIsDecided
-decided_called g w (step.Finish n) a =
-    decided_on (files_of g w) w.requests n (is_running w.requests n) a
+decided_called g w (step.Finish n) a = grind (arith, decided_on)
 decided_called g w (step.Begin count) a = decided_begin (begin_answer w count) a
 decided_called g w _ a = decided a _
 

@@ -1,6 +1,6 @@
 -- The laws `reaped_begin_posted` and `nothing_after_close`, from what is sound.
 use Rattle.std.proofs.Common.{◌≡◌, ℕ, ◌≤◌, true, false, [], ◌∷◌, ◌++◌, length, take, drop, None, is_some, refl, sym, ap, ◌∙◌, cond, arith, append_assoc}
-use Rattle.uring_laws.proofs.Common.{Answer, Completions, History, IsLawfulApart, IsSoundCompletions, ReapedBeginPosted, Setup, Step, SubmissionMove, World, begins, closes, drops, in_overflow, in_ring, length-drop, length-take, list_any, or_from, or_right, stays, submission_move, take-append-drop, take-take, takes, takes_in, world}
+use Rattle.uring_laws.proofs.Common.{Answer, Completions, History, IsLawfulApart, IsSoundCompletions, ReapedBeginPosted, Setup, Step, SubmissionMove, World, in_overflow, in_ring, length-drop, length-take, list_any, or_from, submission_move, take-append-drop, take-take, takes_in, world}
 use Rattle.uring_core.specs.declared.step.Step.TheVariants as step
 use Rattle.uring_core.specs.declared.answer.Answer.TheVariants as answer
 
@@ -29,13 +29,7 @@ record StaysShut (w : World) (after : History) : Type 0 where
 
 shut_stays : (g : Setup) (w : World) (s : Step) (a : Answer) (v : World) → SubmissionMove g w s a v
     → IsShut w → IsShut v × (takes_in (s, a) ≡ false)
-shut_stays g w s a v (stays _ _ r c is_closed off left) i =
-    (record { closed = left.shut ∙ or_right _ _ i.closed; no_call = i.no_call }, off.takes_into)
-shut_stays g w s a v (begins count is_open no_call unspent) i = absurd cc
-shut_stays g w s a v (takes entry call place opened left at valid) i = absurd cc
-shut_stays g w s a v (drops call place opened left at invalid) i = absurd cc
-shut_stays g w s a v (closes accepted missed head call opened all counted) i = absurd cc
-shut_stays g w s a v _ i = (assumption i, refl)
+shut_stays g w s a v h i = grind arith
 
 open_none : (w : World) → answer.Shut ≡ (cond (is_some w.submission.call) answer.InCall answer.Shut)
     → w.submission.call ≡ None

@@ -1,21 +1,18 @@
 -- The laws of `calls.rt`: a ring that stands between calls refuses nothing that belongs to a whole call.
 -- Each from the answer that is called for, with `Stands` for what the definitions test; no history is needed.
 -- Stable: other crates may import what is pub.
-use Rattle.std.proofs.Common.{◌≡◌, ℕ, ◌+◌, ◌-◌, ◌<◌, ◌≤◌, Bool, true, false, List, [], ◌∷◌, ◌++◌, length, map, drop, get_or, Option, Some, None, is_some, slice_get, if◌then◌else◌, refl, sym, subst, ap, ap₂, ◌∙◌, ◌⊎◌, inl, inr, arith, append_assoc, append-nil}
-use Rattle.uring_laws.proofs.Common.{All, All-head, All-tail, Answer, CallCloses, CallOpens, CalledForApart, FreeSlotIsFilled, IsItem, ItemsArePublished, OrAgain, Place, PositionIsTaken, Published, Setup, Sqe, Stands, Submission, TailPublishes, WordIsStaged, World, bad_word, call_length, ending, ending_of, ends_after, entry_answer, eq-eqb, happens, in_call, is_busy, is_full, is_spent, item_of, le-ltb, length-append, length-map, list_any, lt-ltb, map-append, nat_le, ne_eqb, not, place_answer, place_of, slice_get-get_or, staged, stops_at_word, sum_by_push, taken, taking, with_closed, with_entry, with_item, with_items, ◌&&◌, ◌==◌}
+use Rattle.std.proofs.Common.{◌≡◌, ℕ, ◌+◌, ◌-◌, ◌<◌, ◌≤◌, Bool, false, List, [], ◌∷◌, ◌++◌, length, map, get_or, Option, Some, None, slice_get, if◌then◌else◌, refl, sym, ap, ap₂, ◌∙◌, arith, append_assoc, append-nil}
+use Rattle.uring_laws.proofs.Common.{All, All-head, All-tail, Answer, CallCloses, CallOpens, CalledForApart, FreeSlotIsFilled, IsItem, ItemsArePublished, Place, PositionIsTaken, Published, Setup, Sqe, Stands, Submission, TailPublishes, WordIsStaged, World, bad_word, call_length, ending, ending_of, ends_after, entry_answer, eq-eqb, happens, in_call, is_busy, is_full, item_of, le-ltb, length-append, length-map, lt-ltb, map-append, nat_le, ne_eqb, place_answer, place_of, slice_get-get_or, staged, sum_by_push, taken, taking, with_closed, with_entry, with_item, with_items}
 use Rattle.std.proofs.Math.ListN.{drop_of_length-le}
 use Rattle.uring_core.specs.declared.step.Step.TheVariants as step
 use Rattle.uring_core.specs.declared.answer.Answer.TheVariants as answer
-use Rattle.uring_core.proofs.NoStops.{goes_on}
 
 -- Filling and staging.
 
 -- no slot is busy
 pub slots_free : (l : Submission) (words : List ℕ) (slot : ℕ) → Stands l words 0
     → is_busy l slot ≡ false
-slots_free l words slot s =
-    let none : drop l.seen_head l.published ≡ [] = drop_of_length-le l.published (let h = s.head in let q = s.waiting in omega arith) in
-    ap (list_any (λ place. place.word == slot)) none
+slots_free l words slot s = grind (arith, drop_of_length-le)
 
 -- the ring has room for further words
 pub room_left : (size : ℕ) (l : Submission) (words : List ℕ) → Stands l words 0
@@ -36,13 +33,7 @@ word_staged g w words word a s few called =
     (called ∙ ap (λ full. if full then answer.Full else answer.Staged) (room_left g.sq w.submission words s few), record { fresh = ap (λ xs. xs ++ word ∷ []) s.fresh; call = s.call; head = s.head; waiting = s.waiting })
 
 pub tail_publishes : (g : Setup) → TailPublishes g
-tail_publishes g l words s =
-    record {
-      fresh = refl;
-      call = s.call;
-      head = s.head;
-      waiting = omega (arith, s.waiting, ap length s.fresh, length-append l.published (map (place_of g.sq l.content) l.fresh), length-map l.fresh (place_of g.sq l.content));
-    }
+tail_publishes g l words s = grind (arith, length-append, length-map)
 
 -- The items, once they are published.
 
@@ -115,26 +106,14 @@ open_answer : (with_closed in_call : Bool) (rest : Answer) → with_closed ≡ f
 open_answer with_closed in_call rest e f = rw (e, f) refl
 
 pub call_opens : (g : Setup) → CallOpens g
-call_opens g w count asked a s is_open few called =
-    let l : Submission = w.submission in
-    let length_is : call_length l asked ≡ asked = length_asked l count asked s few in
-    let told : OrAgain (if is_spent w asked then answer.Spent else answer.Call asked) a =
-    subst (λ x. OrAgain x a)
-    (open_answer w.is_closed (is_some l.call) _ is_open (ap is_some s.call) ∙ ap (λ n. if is_spent w n then answer.Spent else answer.Call n) length_is)
-    called in
-    (by_spent (is_spent w asked) refl told, ap (λ n. record w { submission = record l { call = Some (record { count = n; taken = 0 }) } }) length_is) where
-      by_spent : (spent : Bool) → is_spent w asked ≡ spent → OrAgain (if spent then answer.Spent else answer.Call asked) a → OrAgain (answer.Call asked) a ⊎ ((a ≡ answer.Spent) × (is_spent w asked ≡ true))
-      by_spent true e told = inr (told, e)
-      by_spent false e told = inl told
+call_opens g w count asked a s is_open few called = grind arith
 
 -- a position was taken, whatever its word
 took_entry : (g : Setup) (w : World) (count done : ℕ) (word : ℕ) (entry : Option Sqe) (a : Answer)
     → g.stops ≡ false → a ≡ entry_answer entry
     → taking g (in_call w count done) a
     ≡ in_call w (if ends_after g (Some (record { word = word; entry = entry })) then done + 1 else count) (done + 1)
-took_entry g w count done word None a goes is = ap (taking g (in_call w count done)) is
-took_entry g w count done word (Some entry) a goes is =
-    ap (taking g (in_call w count done)) is ∙ ap (λ b. in_call w (if b then done + 1 else count) (done + 1)) (goes_on g _ entry goes)
+took_entry g w count done word entry a goes is = grind arith
 
 pub position_taken : (g : Setup) → PositionIsTaken g
 position_taken g goes w count asked done a s few low called =
@@ -148,12 +127,7 @@ position_taken g goes w count asked done a s few low called =
 
 -- by the manual pages' rules no position ends a call there
 ends_none : (g : Setup) (place : Option Place) → g.linux ≡ false → ends_after g place ≡ false
-ends_none g None manual = refl
-ends_none g (Some place) manual = by place.entry
-  where
-    by : (entry : Option Sqe) → (not (is_some entry) && stops_at_word g) ≡ false
-    by None = manual
-    by (Some entry) = refl
+ends_none g place manual = grind arith
 
 -- so each is one of as many as before
 pub next_taken : (g : Setup) → g.stops ≡ false → g.linux ≡ false → (w : World) (count asked done : ℕ) (a : Answer)
@@ -173,7 +147,4 @@ closes : (g : Setup) (w : World) (count : ℕ) (few : Bool) (accepted missed hea
 closes g w count few accepted missed head a all called = ap (ending g (in_call w count count)) (called ∙ ap (λ b. if b then answer.NotAll else answer.Taken accepted missed head) all)
 
 pub call_closes : (g : Setup) → CallCloses g
-call_closes g w count asked left ended loads s all called =
-    let l : Submission = w.submission in
-    let done : ending g (in_call w asked asked) ended ≡ ending_of g (in_call w asked asked) (Some (record { count = asked; taken = asked })) = closes g w asked _ _ _ _ ended (le-ltb asked asked (omega arith)) called in
-    (ap (λ v. happens g v step.LoadHead loads) done, record { fresh = s.fresh; call = refl; head = refl; waiting = omega (arith, s.waiting, all, sum_by_push (λ x. x) l.calls asked) })
+call_closes g w count asked left ended loads s all called = grind (arith, sum_by_push)

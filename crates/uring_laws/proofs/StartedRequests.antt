@@ -1,11 +1,10 @@
 -- What a start leaves as it was, by either's rules: who is doomed, who may start, who posts and how the drains stand. Only who runs changes.
-use Rattle.std.proofs.Common.{◌≡◌, ◌≢◌, ℕ, ℤ, Bool, true, false, not, ◌&&◌, List, [], ◌∷◌, ◌++◌, Option, refl, ap, ap₂, ◌∙◌, arith}
-use Rattle.uring_laws.proofs.Common.{LinuxRequests, Requests, Setup, Sqe, World, breaker_of, drains_called, drains_ended, ends_doomed, entry_of, first_of, is_cancel, is_deferred, is_doomed_started, is_in_turn, is_joined, is_outstanding, is_ready, is_running, is_running_started_other, issue_answer, may_start, no_bytes, posts, posts_after, requests_of, some_member}
+use Rattle.std.proofs.Common.{◌≡◌, ◌≢◌, ℕ, ℤ, Bool, true, false, List, [], ◌∷◌, ◌++◌, refl, ap, arith}
+use Rattle.uring_laws.proofs.Common.{LinuxRequests, Requests, Setup, Sqe, World, breaker_of, drains_called, drains_ended, ends_doomed, entry_of, first_of, is_cancel, is_doomed_started, is_in_turn, is_joined, is_outstanding, is_ready, is_running, is_running_started_other, issue_answer, may_start, no_bytes, posts, requests_of, some_member}
 use Rattle.uring_linux.specs.LinuxRequests.{is_in_faulty_group, with_started}
 use Rattle.uring_entry.specs.Requests as manual
 use Rattle.uring_core.specs.declared.answer.Answer.TheVariants as answer
 use Rattle.uring_laws.proofs.AlikeDrains.{called_same, going_same}
-use Rattle.uring_laws.proofs.AlikeLinux.{after_one}
 use Rattle.uring_laws.proofs.LinuxSound.{doom_started}
 
 turn_started : (r : Requests) (m n : ℕ) → is_in_turn (manual.with_started r m) n ≡ is_in_turn r n
@@ -14,9 +13,7 @@ turn_started r m n = refl
 
 pub ends_doomed_started : (linux : Bool) (r : Requests) (m n : ℕ)
     → ends_doomed linux (manual.with_started r m) n ≡ ends_doomed linux r n
-ends_doomed_started true r m n =
-    ap₂ (λ x y. x && y) (turn_started r m n) (doom_started r m n)
-ends_doomed_started false r m n = is_doomed_started r m n
+ends_doomed_started linux r m n = grind (arith, turn_started, doom_started, is_doomed_started)
 
 pub ready_started : (r : Requests) (m n : ℕ) → is_ready (manual.with_started r m) n ≡ is_ready r n
 unfolding is_ready some_member is_joined
@@ -24,8 +21,7 @@ ready_started r m n = refl
 
 pub may_start_started : (linux : Bool) (l : LinuxRequests) (m n : ℕ)
     → may_start linux (with_started l m) n ≡ may_start linux l n
-may_start_started true l m n = ap (λ b. b && not (is_deferred l n)) (turn_started l.requests m n)
-may_start_started false l m n = ready_started l.requests m n
+may_start_started linux l m n = grind (arith, turn_started, ready_started)
 
 breaker_started : (r : Requests) (m n : ℕ) → breaker_of (manual.with_started r m) n ≡ breaker_of r n
 unfolding is_in_faulty_group first_of is_joined
@@ -33,9 +29,7 @@ breaker_started r m n = refl
 
 pub posts_started : (linux : Bool) (r : Requests) (m n : ℕ) (res : ℤ)
     → posts linux (manual.with_started r m) n res ≡ posts linux r n res
-posts_started true r m n res =
-    after_one r (r.started ++ m ∷ []) r.cancelled r.ended (breaker_of (manual.with_started r m) n) n res ∙ ap (λ (o : Option ℕ). posts_after r o n res) (breaker_started r m n)
-posts_started false r m n res = refl
+posts_started linux r m n res = grind (arith, breaker_started)
 
 pub drains_ended_started : (linux : Bool) (l : LinuxRequests) (m n : ℕ) (res : ℤ)
     → drains_ended linux (with_started l m) n res ≡ drains_ended linux l n res
@@ -46,9 +40,7 @@ drains_ended_started false l m n res = refl
 
 pub drains_called_started : (linux : Bool) (l : LinuxRequests) (m : ℕ) (entries : List Sqe)
     → drains_called linux (with_started l m) entries ≡ drains_called linux l entries
-drains_called_started true l m entries =
-    called_same l (l.requests.started ++ m ∷ []) l.requests.cancelled l.requests.ended (λ k. refl) entries
-drains_called_started false l m entries = refl
+drains_called_started linux l m entries = grind (arith, called_same)
 
 -- Who can start.
 
@@ -71,10 +63,8 @@ start_called g w n c = rw (c.outstanding, c.idle, c.spared, c.ready, c.no_cancel
 -- a request that can start could start before another one did, and can after it
 pub start_before : (linux : Bool) (l : LinuxRequests) (m n : ℕ) → n ≢ m
     → CanStart linux (with_started l m) n → CanStart linux l n
-start_before linux l m n differ c =
-    grind (arith, is_running_started_other l.requests m n differ, ends_doomed_started linux l.requests m n, may_start_started linux l m n)
+start_before linux l m n differ c = grind (arith, is_running_started_other, ends_doomed_started, may_start_started)
 
 pub start_after : (linux : Bool) (l : LinuxRequests) (m n : ℕ) → n ≢ m → CanStart linux l n
     → CanStart linux (with_started l m) n
-start_after linux l m n differ c =
-    grind (arith, is_running_started_other l.requests m n differ, ends_doomed_started linux l.requests m n, may_start_started linux l m n)
+start_after linux l m n differ c = grind (arith, is_running_started_other, ends_doomed_started, may_start_started)

@@ -1,11 +1,11 @@
 -- The laws of where submission calls end: from the open call as it is read off the history, and by induction over it.
-use Rattle.std.proofs.Common.{◌≡◌, ◌↔◌, ℕ, ◌+◌, ◌≤◌, ◌<◌, Bool, true, false, cond, eqb, nat_lt, List, [], ◌∷◌, ◌++◌, length, take, count_by, Option, Some, None, is_some, unwrap_or, slice_get, if◌then◌else◌, ◌⊎◌, inl, inr, refl, sym, subst, ap, ap₂, ◌∙◌, arith, append-nil}
-use Rattle.uring_laws.proofs.Common.{Answer, Call, History, IsLawfulApart, Place, Setup, Sqe, Step, SubmissionMove, World, begins, call_length, cases_Bool, closes, drops, end_answer, end_answer_in, entry_answer, eqb-false, eqb-true, has_stopped, open_count, open_taken, opened_by, place_answer, slice_get-get_or, sound_of, stays, stops_at_word, submission_move, sum_by-cons, take_answer, take_answer_in, take_at, taken, taken_since, takes, told, world}
+use Rattle.std.proofs.Common.{◌≡◌, ◌↔◌, ℕ, ◌+◌, ◌≤◌, ◌<◌, Bool, true, false, cond, eqb, nat_lt, List, [], ◌∷◌, ◌++◌, length, count_by, Option, Some, None, is_some, unwrap_or, slice_get, if◌then◌else◌, ◌⊎◌, inl, inr, refl, sym, subst, ap, ◌∙◌, arith, append-nil}
+use Rattle.uring_laws.proofs.Common.{Answer, Call, History, IsLawfulApart, Place, Setup, Sqe, Step, SubmissionMove, World, begins, cases_Bool, closes, drops, end_answer, end_answer_in, entry_answer, eqb-false, eqb-true, has_stopped, open_count, open_taken, opened_by, place_answer, slice_get-get_or, sound_of, stays, stops_at_word, submission_move, sum_by-cons, take_answer, take_answer_in, take_at, taken, taken_since, takes, told, world}
 use Rattle.uring_laws.specs.Stopping.{EndsThere, OpenCallEndsThere, CallsTakeAll, drops_word}
 use Rattle.uring_core.specs.declared.step.Step.TheVariants as step
 use Rattle.uring_core.specs.declared.answer.Answer.TheVariants as answer
 use Rattle.uring_core.proofs.SoundRings.{open_count as positions_open}
-use Rattle.uring_core.proofs.NoStops.{goes_on, word_goes_on}
+use Rattle.uring_core.proofs.NoStops.{word_goes_on}
 use Rattle.uring_laws.proofs.DirectSubmission.{IsOpened, direct_submission}
 use Rattle.uring_laws.proofs.Telling.{told_same}
 
@@ -19,8 +19,7 @@ given_no_more entry e = grind arith
 no_more_at : (all : Bool) (taken count : ℕ) (place : Option Place) (p : Place)
     → eqb taken count ≡ all → place ≡ Some p
     → (cond all answer.NoMore (place_answer place) ≡ answer.NoMore) ↔ (taken ≡ count)
-no_more_at true taken count place p e is = (λ _. eqb-true taken count e, λ _. refl)
-no_more_at false taken count place p e is = (λ f. absurd (given_no_more p.entry (sym (ap place_answer is) ∙ f)), λ same. absurd (eqb-false taken count e same))
+no_more_at all taken count place p e is = grind arith
 
 -- a call may be closed exactly if all its positions are taken
 closes_at : (few : Bool) (taken count : ℕ) (accepted missed head : ℕ) → taken ≤ count
@@ -99,18 +98,10 @@ all_kept : (g : Setup) (h : History) (s : Step) (a : Answer) (v : World) → g.s
     → (g.linux ≡ true → count_by drops_word ((s, a) ∷ h) ≡ 0)
     → SubmissionMove g (world g h) s a v → TakesAll h (world g h) → TakesAll ((s, a) ∷ h) v
 all_kept g h s a v goes none (stays _ _ r c is_closed off left) i = told_same opened_by (s, a) h off.opens ∙ i
-all_kept g h s a v goes none (begins count is_open no_call unspent) i =
-    let l = (world g h).submission in
-    ap (λ xs. xs ++ call_length l count ∷ []) (i ∙ ap (λ o. l.calls ++ open_counts o) no_call ∙ append-nil l.calls)
-all_kept g h s a v goes none (takes entry call place opened left at valid) i =
-    let l = (world g h).submission in
-    i ∙ ap (λ o. l.calls ++ open_counts o) opened ∙ ap (λ b. l.calls ++ (if b then call.taken + 1 else call.count) ∷ []) (sym (goes_on g _ entry goes))
-all_kept g h s a v goes none (drops call place opened left at invalid) i =
-    let l = (world g h).submission in
-    i ∙ ap (λ o. l.calls ++ open_counts o) opened ∙ ap (λ b. l.calls ++ (if b then call.taken + 1 else call.count) ∷ []) (sym (word_passed g h none))
-all_kept g h s a v goes none (closes accepted missed head call opened all counted) i =
-    let l = (world g h).submission in
-    i ∙ ap (λ o. l.calls ++ open_counts o) opened ∙ sym (append-nil (l.calls ++ call.count ∷ []))
+all_kept g h s a v goes none (begins count is_open no_call unspent) i = grind (arith, append-nil)
+all_kept g h s a v goes none (takes entry call place opened left at valid) i = grind arith
+all_kept g h s a v goes none (drops call place opened left at invalid) i = grind (arith, (word_passed g h none))
+all_kept g h s a v goes none (closes accepted missed head call opened all counted) i = grind (arith, append-nil)
 all_kept g h s a v goes none _ i = i
 
 all_taken : (g : Setup) (h : History) → g.stops ≡ false → (g.linux ≡ true → count_by drops_word h ≡ 0)
@@ -121,7 +112,4 @@ all_taken g ((s, a) ∷ before) goes none lawful =
     all_kept g before s a _ goes none (submission_move g s a before lawful) (all_taken g before goes none_before lawful.1)
 
 pub calls_take_all : (g : Setup) → CallsTakeAll g
-calls_take_all g h goes none lawful =
-    let d = direct_submission g h lawful in
-    let l = (world g h).submission in
-    sym d.calls ∙ sym (ap₂ (λ n xs. take n xs) d.closed (all_taken g h goes none lawful) ∙ take_at l.calls (open_counts l.call) (length l.calls) refl)
+calls_take_all g h goes none lawful = grind (arith, direct_submission, all_taken, take_at)

@@ -1,13 +1,13 @@
 -- Starts that change places with starts and ends, by either's rules: `starts_change`, `start_then_end` and `end_then_start`.
 -- A start changes nothing that a definition reads but who runs; an end changes who has ended and failed, which counts for those alone that wait for it.
-use Rattle.std.proofs.Common.{◌≡◌, ◌≢◌, ℕ, ℤ, Bool, true, false, ◌&&◌, if◌then◌else◌, List, [], ◌∷◌, ◌++◌, refl, sym, subst, ap, ap₂, ◌∙◌, append-nil, arith, rules}
-use Rattle.uring_laws.proofs.Common.{AreAlike, CalledFor, ChangePlaces, Drains, EndThenStart, Ends, EndsOn, Event, FileContents, History, IsLawful, IsOutcome, Outcome, Requests, Setup, StartThenEnd, StartsChange, Step, World, and_right, both_ways, choices_of, completion_for, doomed_fails, ends_doomed, entry_of, files_kept, files_of, happens, has_ended, is_cancel, is_outstanding, is_running, is_running_started_other, is_running_started_same, is_success, issue_answer, list_any, list_any_push, may_start, no_bytes, operation_of, requests_of, start_of, with_ended, with_posted, with_started, world}
+use Rattle.std.proofs.Common.{◌≡◌, ◌≢◌, ℕ, ℤ, Bool, true, false, ◌&&◌, if◌then◌else◌, List, [], ◌∷◌, ◌++◌, sym, subst, ap, ap₂, ◌∙◌, append-nil, arith, rules}
+use Rattle.uring_laws.proofs.Common.{AreAlike, CalledFor, ChangePlaces, Drains, EndThenStart, Ends, EndsOn, Event, FileContents, History, IsLawful, IsOutcome, Outcome, Requests, Setup, StartThenEnd, StartsChange, Step, World, both_ways, choices_of, completion_for, doomed_fails, ends_doomed, entry_of, files_kept, files_of, happens, has_ended, is_cancel, is_outstanding, is_running, is_running_started_other, is_running_started_same, is_success, issue_answer, list_any, list_any_push, may_start, no_bytes, operation_of, requests_of, start_of, with_ended, with_posted, with_started, world}
 use Rattle.uring_rules.specs.Rules.{doomed_result, with_issued_end}
 use Rattle.uring_entry.specs.Requests as manual
 use Rattle.uring_core.specs.declared.step.Step.TheVariants as step
 use Rattle.uring_core.specs.declared.answer.Answer.TheVariants as answer
 use Rattle.uring_laws.proofs.StartedRequests.{CanStart, can_start, start_called, start_before, start_after, ends_doomed_started, posts_started, drains_ended_started}
-use Rattle.uring_laws.proofs.EndedRequests.{start_past, start_ahead, not_ended, not_over, other_than, either_order}
+use Rattle.uring_laws.proofs.EndedRequests.{start_past, start_ahead, not_ended, other_than, either_order}
 use Rattle.uring_laws.proofs.WholeLaws.{lawful_apart}
 
 -- What an answer tells, and what calls for it.
@@ -25,15 +25,13 @@ doom_called g w n c = rw (c.outstanding, c.idle, c.doomed)
 pub tells_end : (files : List FileContents) (r : Requests) (m : ℕ) (runs : Bool) (res : ℤ) (bytes : List ℕ)
     → EndsOn files r m runs (answer.Ended res bytes)
     → (runs ≡ true) × IsOutcome files (operation_of (entry_of r m)) (record { res = res; bytes = bytes })
-tells_end files r m true res bytes e = (refl, e)
-tells_end files r m false res bytes e = absurd cc
+tells_end files r m runs res bytes e = grind arith
 
 ends_so : (files : List FileContents) (r : Requests) (m : ℕ) (runs : Bool) (res : ℤ) (bytes : List ℕ)
     → runs ≡ true
     → IsOutcome files (operation_of (entry_of r m)) (record { res = res; bytes = bytes })
     → EndsOn files r m runs (answer.Ended res bytes)
-ends_so files r m true res bytes is e = e
-ends_so files r m false res bytes is e = absurd cc
+ends_so files r m runs res bytes is e = grind arith
 
 -- Worlds.
 
@@ -61,18 +59,7 @@ starts_change g h m n lawful =
     let both : IsLawful g (start_of m ∷ start_of n ∷ h) = (start_called g (begun w n) m (start_after g.linux (requests_of w) n m (λ e. differ (sym e)) one), two_first) in
     record {
       lawful = both;
-      alike = record {
-        submission = refl;
-        requests = record { accepted = refl; cuts = refl; started = λ p. two_pushed p r.started m n; cancelled = λ p. refl; ended = λ p. refl };
-        completions = refl;
-        is_closed = refl;
-        drains = λ is. refl;
-        files =
-            files_kept g (step.Issue n) answer.Run (start_of m ∷ h) (lawful_apart g (start_of n ∷ start_of m ∷ h) lawful) tt
-            ∙ files_kept g (step.Issue m) answer.Run h (lawful_apart g (start_of m ∷ h) lawful.1) tt
-            ∙ sym (files_kept g (step.Issue n) answer.Run h (lawful_apart g (start_of n ∷ h) two_first) tt)
-            ∙ sym (files_kept g (step.Issue m) answer.Run (start_of n ∷ h) (lawful_apart g (start_of m ∷ start_of n ∷ h) both) tt);
-      };
+      alike = grind (arith, two_pushed, files_kept);
     }
 
 -- A start and an end.
@@ -101,9 +88,7 @@ MayEnd g w false n x = IsToEnd g.linux w.requests n × (x ≡ doom g.linux w.req
 pub may_end : (g : Setup) (w : World) (runs : Bool) (n : ℕ) (x : Outcome)
     → (runs ≡ false → ends_doomed g.linux w.requests n ≡ true)
     → CalledFor g w (end_step runs n) (answer.Ended x.res x.bytes) → MayEnd g w runs n x
-may_end g w true n x doomed called =
-    tells_end (files_of g w) w.requests n (is_running w.requests n) x.res x.bytes called
-may_end g w false n x doomed called = let is = doomed refl in grind arith
+may_end g w runs n x doomed called = grind arith
 
 -- the step ends n so
 pub record IsEnd (g : Setup) (w : World) (n : ℕ) (x : Outcome) (s : Step) : Type 0 where
@@ -113,47 +98,28 @@ pub record IsEnd (g : Setup) (w : World) (n : ℕ) (x : Outcome) (s : Step) : Ty
 
 none_chosen : (r : Requests) (m : ℕ)
     → (if is_cancel (entry_of r m) && is_success (entry_of r m) (manual.doomed_result r m) then choices_of r m else []) ≡ []
-none_chosen r m =
-    ap (λ b. if b then choices_of r m else []) (and_right (is_cancel (entry_of r m)) (is_success (entry_of r m) (manual.doomed_result r m)) (doomed_fails r m))
+none_chosen r m = grind (arith, doomed_fails)
 
 doomed_leaves : (linux : Bool) (r : Requests) (m : ℕ)
     → with_issued_end linux r m (doomed_result linux r m) ≡ with_ended r m (doomed_result linux r m) no_bytes
-doomed_leaves true r m = refl
-doomed_leaves false r m =
-    ap (λ xs. record (with_ended r m (manual.doomed_result r m) no_bytes) { cancelled = xs }) (ap (λ xs. r.cancelled ++ xs) (none_chosen r m) ∙ append-nil r.cancelled)
+doomed_leaves linux r m = grind (arith, none_chosen, append-nil)
 
 doomed_makes : (g : Setup) (w : World) (m : ℕ)
     → happens g w (step.Issue m) (answer.Ended (doomed_result g.linux w.requests m) no_bytes)
     ≡ ended g w m (doom g.linux w.requests m)
-doomed_makes g w m =
-    ap (λ (q : Requests). record (ended g w m (doom g.linux w.requests m)) { requests = q }) (doomed_leaves g.linux w.requests m)
+doomed_makes g w m = grind (arith, doomed_leaves)
 
 pub is_end : (g : Setup) (w : World) (runs : Bool) (n : ℕ) (x : Outcome) → MayEnd g w runs n x
     → IsEnd g w n x (end_step runs n)
-is_end g w true n x may = record {
-  called = ends_so (files_of g w) w.requests n (is_running w.requests n) x.res x.bytes may.0 may.1;
-  makes = refl;
-  still = not_over w.requests n may.0;
-}
-is_end g w false n x may = subst (λ z. IsEnd g w n z (step.Issue n)) (sym may.1) (record {
-  called = doom_called g w n may.0;
-  makes = doomed_makes g w n;
-  still = not_ended w.requests n may.0.outstanding;
-})
+is_end g w runs n x may = grind (arith, doomed_makes)
 
 -- m may end after the start of n exactly if it could before it
 module _ (g : Setup) (w : World) (n m : ℕ) (x : Outcome) (differ : m ≢ n) (files : files_of g (begun w n) ≡ files_of g w) where
   may_after : (runs : Bool) → MayEnd g w runs m x → MayEnd g (begun w n) runs m x
-  may_after true may =
-      (is_running_started_other w.requests n m differ ∙ may.0, subst (λ fs. IsOutcome fs (operation_of (entry_of w.requests m)) x) (sym files) may.1)
-  may_after false may =
-      (record { outstanding = may.0.outstanding; idle = is_running_started_other w.requests n m differ ∙ may.0.idle; doomed = ends_doomed_started g.linux w.requests n m ∙ may.0.doomed }, may.1)
+  may_after runs may = grind (arith, is_running_started_other, ends_doomed_started)
 
   may_before : (runs : Bool) → MayEnd g (begun w n) runs m x → MayEnd g w runs m x
-  may_before true may =
-      (sym (is_running_started_other w.requests n m differ) ∙ may.0, subst (λ fs. IsOutcome fs (operation_of (entry_of w.requests m)) x) files may.1)
-  may_before false may =
-      (record { outstanding = may.0.outstanding; idle = sym (is_running_started_other w.requests n m differ) ∙ may.0.idle; doomed = sym (ends_doomed_started g.linux w.requests n m) ∙ may.0.doomed }, may.1)
+  may_before runs may = grind (arith, is_running_started_other, ends_doomed_started)
 
 ended_either : (g : Setup) (w : World) (n m : ℕ) (x : Outcome) → ended g (begun w n) m x ≡ begun (ended g w m x) n
 ended_either g w n m x =
@@ -201,8 +167,7 @@ start_then g h m n e (ends_by runs x doomed) differ lawful =
     (both_orders g h runs m n x differ (may_before g w n m x differ files runs may) (can_start g w n lawful.1.0) lawful.1.1).later
 
 pub start_then_end : (g : Setup) → StartThenEnd g
-start_then_end g h m n e is differ lawful =
-    start_then g h m n e (view g.linux (world g h).requests m e is) differ lawful
+start_then_end g h m n e is differ lawful = search (rules, start_then, view)
 
 then_start : (g : Setup) (h : History) (m n : ℕ) (e : Event) → EndView g.linux (world g h).requests m e
     → may_start g.linux (requests_of (world g h)) n ≡ true → IsLawful g (start_of n ∷ e ∷ h) → ChangePlaces g h e (start_of n)

@@ -1,9 +1,8 @@
 -- Which positions were taken.
-use Rattle.std.proofs.Common.{◌≡◌, ◌+◌, false, [], ◌∷◌, ◌++◌, take, map, Some, None, refl, sym, ap, ap₂, ◌∙◌, arith, append-nil}
-use Rattle.uring_laws.proofs.Common.{Answer, Event, History, IsLawfulApart, IsSoundSubmission, IsWithinLimits, Setup, Step, SubmissionMove, TakenOnceInOrder, World, begins, closes, drops, entries_of, entries_taken, entry_taken_by, ltb-false, open_taken, place_of, positions_taken, reached, sound_of, stays, stores, submission_move, sum_by_push, take-append-le, taken, takes, takes_position, world}
-use Rattle.uring_core.proofs.SoundRings.{open_count}
+use Rattle.std.proofs.Common.{◌≡◌, ◌+◌, false, [], ◌∷◌, ◌++◌, take, Some, None, refl, sym, ap, ◌∙◌, arith, append-nil}
+use Rattle.uring_laws.proofs.Common.{Answer, Event, History, IsLawfulApart, IsSoundSubmission, IsWithinLimits, Setup, Step, SubmissionMove, TakenOnceInOrder, World, begins, closes, drops, entries_of, entries_taken, entry_taken_by, ltb-false, open_taken, positions_taken, reached, sound_of, stays, stores, submission_move, sum_by_push, take-append-le, taken, takes, takes_position, world}
 use Rattle.uring_core.proofs.TakenEntries.{one_further}
-use Rattle.uring_laws.proofs.Telling.{count_more, count_same, told_same}
+use Rattle.uring_laws.proofs.Telling.{count_more, count_same}
 
 -- as many positions were taken as the lists say, and the entries are those that they have
 pub record TakesPlaces (h : History) (w : World) : Type 0 where
@@ -14,23 +13,14 @@ pub record TakesPlaces (h : History) (w : World) : Type 0 where
 still_places : (h : History) (e : Event) (w v : World) → takes_position e ≡ false → entry_taken_by e ≡ None
     → reached w.submission ≡ reached v.submission → w.submission.published ≡ v.submission.published
     → TakesPlaces h w → TakesPlaces (e ∷ h) v
-still_places h e w v idle none same places i = record {
-  count = count_same takes_position e h idle ∙ i.count ∙ same;
-  entries = told_same entry_taken_by e h none ∙ i.entries ∙ ap₂ (λ k xs. entries_of (take k xs)) same places;
-}
+still_places h e w v idle none same places i = grind arith
 
 places_kept : (g : Setup) (h : History) (w : World) (s : Step) (a : Answer) (v : World)
     → SubmissionMove g w s a v → IsSoundSubmission g.sq w.submission → TakesPlaces h w
     → TakesPlaces ((s, a) ∷ h) v
-places_kept g h w s a v (stays _ _ r c is_closed off left) sound i =
-    still_places h (s, a) w _ off.takes off.takes_entry refl refl i
-places_kept g h w s a v (stores tail) sound i = record {
-  count = count_same takes_position (s, a) h refl ∙ i.count;
-  entries = i.entries ∙ ap entries_of (sym (take-append-le (reached w.submission) w.submission.published (map (place_of g.sq w.submission.content) w.submission.fresh) (omega arith)));
-}
-places_kept g h w s a v (begins count is_open no_call unspent) sound i =
-    let t : open_taken w.submission.call ≡ 0 = ap open_taken no_call in
-    still_places h (s, a) w _ refl refl (omega arith) refl i
+places_kept g h w s a v (stays _ _ r c is_closed off left) sound i = grind arith
+places_kept g h w s a v (stores tail) sound i = grind (arith, count_same, take-append-le)
+places_kept g h w s a v (begins count is_open no_call unspent) sound i = grind arith
 places_kept g h w s a v (takes entry call place opened left at valid) sound i =
     let t : open_taken w.submission.call ≡ call.taken = ap open_taken opened in
     let next : reached w.submission + 1 ≡ taken w.submission + (call.taken + 1) = omega arith in
@@ -46,12 +36,7 @@ places_kept g h w s a v (drops call place opened left at invalid) sound i =
       count = count_more takes_position (s, a) h refl ∙ omega (arith, i.count);
       entries = i.entries ∙ ap (λ k. entries_of (take k w.submission.published)) here ∙ sym (append-nil _) ∙ sym (one_further w.submission.published (taken w.submission + call.taken) place None at invalid) ∙ ap (λ k. entries_of (take k w.submission.published)) (omega arith);
     }
-places_kept g h w s a v (closes accepted missed head call opened all counted) sound i =
-    let t : open_taken w.submission.call ≡ call.taken = ap open_taken opened in
-    let c : open_count w.submission.call ≡ call.count = ap open_count opened in
-    let n = sum_by_push (λ x. x) w.submission.calls call.count in
-    let f = ltb-false _ _ all in
-    still_places h (s, a) w _ refl refl (omega arith) refl i
+places_kept g h w s a v (closes accepted missed head call opened all counted) sound i = grind (arith, sum_by_push, ltb-false)
 places_kept g h w s a v _ sound i = still_places h (s, a) w _ refl refl refl refl i
 
 pub takes_places : (g : Setup) (h : History) → IsLawfulApart g h → TakesPlaces h (world g h)
@@ -61,10 +46,4 @@ takes_places g ((s, a) ∷ before) lawful =
 
 pub once_in_order : (g : Setup) (h : History) → IsWithinLimits g → IsLawfulApart g h
     → TakenOnceInOrder g h
-once_in_order g h setup lawful =
-    let s = (sound_of g h lawful).submission in
-    let t = takes_places g h lawful in
-    record {
-      beginning = omega (arith, t.count, s.call_published, s.within_call);
-      in_order = t.entries ∙ ap (λ k. entries_of (take k (world g h).submission.published)) (sym t.count);
-    }
+once_in_order g h setup lawful = grind (arith, sound_of, takes_places)

@@ -1,5 +1,5 @@
 -- The starts and the ends are those that a history tells.
-use Rattle.std.proofs.Common.{◌≡◌, ℕ, ℤ, Bool, true, false, [], ◌∷◌, refl, arith}
+use Rattle.std.proofs.Common.{◌≡◌, ℕ, ℤ, Bool, [], ◌∷◌, refl, arith}
 use Rattle.uring_laws.proofs.Common.{Answer, History, IsLawfulApart, LinuxRequests, Move, Requests, Setup, Step, ends_cancel, move_of, no_bytes, requests_of, world}
 use Rattle.uring_core.proofs.Moves.{stays, ends_doomed}
 use Rattle.uring_rules.specs.Rules.{with_issued_end}
@@ -14,15 +14,13 @@ pub record TellsRequests (h : History) (r : Requests) : Type 0 where
 -- an end by either's rules, as its request is issued
 issued_told : (linux : Bool) (h : History) (r : Requests) (n : ℕ) (res : ℤ) → TellsRequests h r
     → TellsRequests ((step.Issue n, answer.Ended res no_bytes) ∷ h) (with_issued_end linux r n res)
-issued_told true h r n res i = grind arith
-issued_told false h r n res i = grind arith
+issued_told linux h r n res i = grind arith
 
 told_kept : (linux : Bool) (h : History) (l : LinuxRequests) (s : Step) (a : Answer) (later : Requests)
     → Move linux l s a later → TellsRequests h l.requests → TellsRequests ((s, a) ∷ h) later
 told_kept linux h l s a later (stays _ _ no_start no_end) i = grind arith
 told_kept linux h l s a later (ends_doomed n outstanding) i = issued_told linux h l.requests n _ i
-told_kept linux h l s a later (ends_cancel n outstanding spared ready cancel) i =
-    issued_told linux h l.requests n _ i
+told_kept linux h l s a later (ends_cancel n outstanding spared ready cancel) i = grind arith
 told_kept linux h l s a later _ i = grind arith
 
 pub tells_requests : (g : Setup) (h : History) → IsLawfulApart g h

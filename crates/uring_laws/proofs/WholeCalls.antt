@@ -1,6 +1,6 @@
 -- The law `empty_ring_takes_a_whole_call`: from the laws of single steps, by induction over the items.
 -- `items_go_in` goes on from any history that ends with the ring as it stands, with some words staged.
-use Rattle.std.proofs.Common.{◌≡◌, ℕ, ◌+◌, ◌≤◌, List, [], ◌∷◌, ◌++◌, length, refl, sym, subst, ap, ap₂, ◌∙◌, inl, inr, arith}
+use Rattle.std.proofs.Common.{◌≡◌, ℕ, ◌+◌, ◌≤◌, List, [], ◌∷◌, ◌++◌, length, sym, subst, ap, ap₂, ◌∙◌, inl, inr, arith}
 use Rattle.uring_laws.proofs.Common.{Answer, Event, History, IsLawfulApart, Published, Setup, Sqe, Stands, Submission, TakesWholeCall, World, after_items, bad_word, history_of, is_spent, item_answers, item_steps, length_push, published_items, staged, with_entry, with_items, with_published, world, zip}
 use Rattle.uring_entry.specs.IndexWords.{word_of}
 use Rattle.uring_core.specs.declared.step.Step.TheVariants as step
@@ -21,22 +21,13 @@ record NoneRefused (g : Setup) (before : History) (words : List ℕ) (slot : ℕ
 one_after : (e : Event) (events : List Event) (before : History) (g : Setup)
     → IsLawfulApart g (history_of (e ∷ events) ++ before)
     → IsLawfulApart g (history_of events ++ e ∷ before)
-one_after e events before g lawful =
-    subst (IsLawfulApart g) (history_of_cons e events before) lawful
+one_after e events before g lawful = grind (arith, history_of_cons)
 
 word_goes_in : (g : Setup) (before : History) (words : List ℕ) (slot word : ℕ) (later : List Published) (a : Answer) (answers : List Answer)
     → a ≡ answer.Staged
     → NoneRefused g ((step.Index word, answer.Staged) ∷ before) (words ++ word ∷ []) (slot + 1) later answers
     → NoneRefused g before words slot (bad_word word ∷ later) (a ∷ answers)
-word_goes_in g before words slot word later a answers is rest =
-    let events : List Event = zip (item_steps (slot + 1) later) answers in
-    record {
-      none_refused = ap₂ (λ x xs. x ∷ xs) is rest.none_refused;
-      now = ap (λ x. world g (history_of ((step.Index word, x) ∷ events) ++ before)) is ∙ ap (world g) (history_of_cons (step.Index word, answer.Staged) events before) ∙ rest.now;
-      staged = rest.staged;
-      many = omega (arith, rest.many, length_push words word);
-      stands = rest.stands;
-    }
+word_goes_in g before words slot word later a answers is rest = grind (arith, history_of_cons, length_push)
 
 entry_goes_in : (g : Setup) (before : History) (words : List ℕ) (slot : ℕ) (entry : Sqe) (later : List Published) (a b : Answer) (answers : List Answer)
     → a ≡ answer.Filled → b ≡ answer.Staged
@@ -62,8 +53,7 @@ items_go_in : (g : Setup) (items : List Published) (before : History) (words : L
     → length answers ≡ length (item_steps slot items)
     → IsLawfulApart g (history_of (zip (item_steps slot items) answers) ++ before)
     → NoneRefused g before words slot items answers
-items_go_in g [] before words slot [] stands low few many lawful =
-    record { none_refused = refl; now = refl; staged = words; many = omega arith; stands = stands }
+items_go_in g [] before words slot [] stands low few many lawful = grind arith
 items_go_in g (bad_word word ∷ later) before words slot (a ∷ answers) stands low few many lawful =
     let events : List Event = zip (item_steps (slot + 1) later) answers in
     let after : IsLawfulApart g (history_of events ++ (step.Index word, a) ∷ before) = one_after (step.Index word, a) events before g lawful in

@@ -1,7 +1,7 @@
 -- Groups that are deferred: nothing has happened to their members, and once some went on, not all that is outstanding is deferred.
-use Rattle.std.proofs.Common.{◌≡◌, ℕ, suc, ◌-◌, ◌<◌, ◌≤◌, min, max, length, Bool, true, false, not, ◌&&◌, ◌⊎◌, List, [], ◌∷◌, refl, ◌∙◌, ap, arith, inl, inr}
-use Rattle.uring_linux.proofs.Common.{Deferred, Requests, after_going_on, and_from, and_left, and_right, both_ways, cases_lt, entry_of, false_from_ne_true, from_drain, has_ended, has_failed, has_failed_unended, has_fault, has_started, if◌then◌else◌, is_after_failure, is_alone, is_among, is_doomed, is_in_faulty_group, is_in_group, is_in_some, is_joined, is_joined_no, is_last, is_soft, le-leb, lt-ltb, or_cases, or_from, or_left, or_right, some_below_none, some_below_some, still_deferred}
-use Rattle.uring_linux.proofs.InOrder.{InOrder, among_tells, order_spans, order_above, order_after}
+use Rattle.std.proofs.Common.{◌≡◌, ℕ, suc, ◌-◌, ◌<◌, ◌≤◌, length, Bool, true, false, not, ◌&&◌, ◌⊎◌, List, [], ◌∷◌, refl, ◌∙◌, ap, arith, inl, inr}
+use Rattle.uring_linux.proofs.Common.{Deferred, Requests, after_going_on, and_from, and_left, and_right, both_ways, cases_lt, entry_of, false_from_ne_true, from_drain, has_ended, has_failed, has_failed_unended, has_fault, has_started, if◌then◌else◌, is_after_failure, is_alone, is_among, is_doomed, is_in_faulty_group, is_in_group, is_in_some, is_joined, is_joined_no, is_last, is_soft, or_cases, or_from, or_right, some_below_none, some_below_some, still_deferred}
+use Rattle.uring_linux.proofs.InOrder.{InOrder, order_spans, order_above, order_after}
 
 -- nothing has happened to n
 pub record IsIdle (r : Requests) (n : ℕ) : Type 0 where
@@ -33,15 +33,7 @@ pub held_by : (r : Requests) (low : ℕ) (xs : List Deferred) (high n : ℕ) →
 held_by r low [] high n h e = absurd (both_ways false refl e)
 held_by r low (g ∷ rest) high n h e =
     elim (or_cases (is_among n g) (is_in_some rest n) e) [
-      | inl here ↦
-          let stands = among_tells n g here in
-          record {
-            group = g;
-            waiting = h.2;
-            low = stands.0;
-            high = stands.1;
-            members = λ m a b. or_left _ _ (and_from _ _ (le-leb g.from m a) (lt-ltb m g.end b));
-          }
+      | inl here ↦ grind arith
       | inr later ↦
           let found = held_by r g.end rest high n h.3 later in
           record {
@@ -82,8 +74,7 @@ gone_on r low (g ∷ rest) high within h = go (is_alone r (g ∷ rest)) refl
 -- No member is doomed.
 
 first_of_three : (a b c : Bool) → a ≡ false → (a && b && c) ≡ false
-first_of_three false b c e = refl
-first_of_three true b c e = absurd (both_ways true e refl)
+first_of_three a b c e = grind arith
 
 outside_joined : (r : Requests) (g : Deferred) (m n : ℕ) → IsWaiting r g → m < g.from → g.from ≤ n
     → is_joined r m n ≡ false
@@ -94,16 +85,10 @@ pub after_joined : (r : Requests) (g : Deferred) (n m : ℕ) → IsWaiting r g �
 after_joined r g n m w lt le = is_joined_no r n m (g.end - 1) (omega arith) (omega arith) (w.ends (g.end - 1) (omega arith))
 
 in_group_up : (r : Requests) (m n : ℕ) → m ≤ n → is_in_group r m n ≡ is_joined r m n
-in_group_up r m n le =
-    let low : min m n ≡ m = omega arith in
-    let high : max m n ≡ n = omega arith in
-    ap (λ k. is_joined r k (max m n)) low ∙ ap (is_joined r m) high
+in_group_up r m n le = grind arith
 
 in_group_down : (r : Requests) (m n : ℕ) → n ≤ m → is_in_group r m n ≡ is_joined r n m
-in_group_down r m n le =
-    let low : min m n ≡ n = omega arith in
-    let high : max m n ≡ m = omega arith in
-    ap (λ k. is_joined r k (max m n)) low ∙ ap (is_joined r n) high
+in_group_down r m n le = grind arith
 
 pub not_doomed : (r : Requests) (g : Deferred) (n : ℕ) → IsWaiting r g → g.from ≤ n → n < g.end
     → is_doomed r n ≡ false

@@ -1,6 +1,6 @@
 -- What the dispatcher shows after each event.
-use Rattle.std.proofs.Common.{◌≡◌, ℕ, ◌+◌, length, Bool, true, false, not, ◌&&◌, ◌||◌, ◌==◌, [], ◌∷◌, ◌++◌, refl, sym, ◌∙◌, ap, subst, arith, length-append}
-use Rattle.uring_linux.proofs.Common.{Drains, KeptDrains, LinuxRequests, Request, Requests, Shows, ShowsRequests, Sqe, Tells, Window, accepted_drains, asks_to_skip, cut_drains, dispatch_of, end_of, entry_of, is_drain, is_let_in, is_linked, is_past, new_request, no_drains, some_below, with_entry, with_last_entry, with_request}
+use Rattle.std.proofs.Common.{◌≡◌, ℕ, ◌+◌, length, Bool, true, false, ◌||◌, ◌==◌, [], ◌∷◌, ◌++◌, refl, sym, ◌∙◌, ap, subst, arith, length-append}
+use Rattle.uring_linux.proofs.Common.{Drains, KeptDrains, LinuxRequests, Request, Requests, Shows, ShowsRequests, Sqe, Tells, Window, accepted_drains, asks_to_skip, cut_drains, dispatch_of, end_of, entry_of, is_linked, new_request, no_drains, some_below, with_last_entry, with_request}
 use Rattle.uring_linux.specs.LinuxRequests.{no_request, with_accepted, with_cut}
 use Rattle.uring_entry.specs.Requests as manual
 use Rattle.uring_linux.proofs.WindowCounts.{dispatch_shows}
@@ -14,11 +14,7 @@ dispatch_new s d es ed = rw (es, ed) (dispatch_shows (record { first = 0; items 
 -- an entry is taken, as the definitions say
 taken : (q : Request) (d e : Drains) (first second : Bool) (r : Requests) (n : ℕ) → Tells q r n → d ≡ e
     → first ≡ second → second ≡ (e.from == n) → with_request d first q ≡ with_last_entry r n e
-taken q d e first second r n t same is at =
-    let admits : (is_past q.entry && not q.is_refused) ≡ is_let_in r n = ap (λ x. is_past x && not q.is_refused) t.entry ∙ ap (λ x. is_past (entry_of r n) && not x) t.refused in
-    ap (λ (x : Drains). with_request x first q) same ∙ ap (λ x. with_request e x q) (is ∙ at)
-    ∙ ap (λ x. with_entry e (e.from == n) x (is_drain q.entry && x)) admits
-    ∙ ap (λ x. with_entry e (e.from == n) (is_let_in r n) (is_drain x && is_let_in r n)) t.entry
+taken q d e first second r n t same is at = grind arith
 
 pub dispatch_accepted : (s t : Window) (d k : KeptDrains) (b c : Bool) (room left : ℕ) (between amid : Bool) (e : Sqe) (q : Request) (l : LinuxRequests) (first : Bool) (n : ℕ)
     → ShowsRequests (dispatch_of s d b room between) l → c ≡ (b || asks_to_skip e) → q ≡ new_request e c n

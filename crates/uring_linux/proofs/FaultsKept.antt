@@ -1,6 +1,6 @@
 -- Groups with a fault: which they are stays, as more is accepted after them, starts and ends.
-use Rattle.std.proofs.Common.{◌≡◌, ℕ, suc, ◌<◌, ◌≤◌, ℤ, min, max, length, true, false, not, ◌&&◌, ◌||◌, List, [], ◌∷◌, refl, ◌∙◌, ap, arith, inl, inr, length-append}
-use Rattle.uring_linux.proofs.Common.{Requests, Sqe, and_from, and_parts, both_ways, cases_Bool, entry_of, entry_same, false_from_ne_true, has_fault, is_faulty, is_faulty_from, is_in_faulty_group, is_in_group, is_joined, is_joined_yes, is_last, is_last_cut, is_refused_drain, le-leb, leb-true, nat_le, some_below_in, some_below_out, some_below_same, some_below_some}
+use Rattle.std.proofs.Common.{◌≡◌, ℕ, suc, ◌<◌, ◌≤◌, ℤ, min, max, length, true, false, not, ◌&&◌, ◌||◌, List, [], ◌∷◌, refl, ◌∙◌, ap, arith, length-append}
+use Rattle.uring_linux.proofs.Common.{Requests, Sqe, and_from, and_parts, both_ways, entry_of, entry_same, false_from_ne_true, has_fault, is_faulty, is_faulty_from, is_in_faulty_group, is_in_group, is_joined, is_joined_yes, is_last, is_last_cut, is_refused_drain, le-leb, leb-true, nat_le, some_below_in, some_below_out, some_below_same, some_below_some}
 use Rattle.uring_entry.specs.Requests as manual
 use Rattle.uring_linux.proofs.WindowEvents.{refused_accepted, last_accepted}
 
@@ -39,11 +39,7 @@ accepted_faults r e = record {
 }
 
 pub cut_faults : (r : Requests) → FaultsKept r (manual.with_cut r)
-cut_faults r = record {
-  count = omega arith;
-  last = λ k lt. is_last_cut r k (λ e. absurd (omega (arith, e, lt)));
-  fault = λ k lt. refl;
-}
+cut_faults r = grind (arith, is_last_cut)
 
 pub faulty_started : (r : Requests) (n m : ℕ) → is_in_faulty_group (manual.with_started r n) m ≡ is_in_faulty_group r m
 unfolding is_in_faulty_group is_joined
@@ -72,8 +68,4 @@ group_faulty r from n one low high e =
 pub healthy_from : (r : Requests) (from : ℕ) → is_faulty_from r from ≡ false → (k : ℕ) → from ≤ k → k < length r.accepted
     → has_fault r k ≡ false
 unfolding is_faulty_from
-healthy_from r from e k le lt =
-    elim (cases_Bool (has_fault r k)) [
-      | inl fault ↦ absurd (both_ways _ (some_below_out _ (length r.accepted) e k lt) (and_from _ _ (le-leb from k le) fault))
-      | inr healthy ↦ healthy
-    ]
+healthy_from r from e k le lt = grind (arith, (some_below_out _ (length r.accepted) e k lt), (le-leb from k le))

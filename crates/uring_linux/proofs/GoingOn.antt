@@ -1,6 +1,6 @@
 -- With something outstanding, the least outstanding request that isn't deferred runs or can be issued.
 use Rattle.std.proofs.Common.{◌≡◌, ℕ, ◌<◌, ◌≤◌, length, Bool, true, false, not, ◌&&◌, ◌⊎◌, List, Some, is_some, ◌∙◌, ap, arith, inl, inr}
-use Rattle.uring_linux.proofs.Common.{Deferred, IsLeast, LinuxRequests, Requests, and_cases, and_from, and_left, and_parts, and_right, both_ways, cases_Bool, cases_lt, count_below_some, has_ended, is_alone, is_deferred, is_doomed, is_in_some, is_in_turn, is_issuable, is_outstanding, is_running, is_some_least_below, is_some_value, keeps_back, least_below_tells, least_free_of, least_of, lt-ltb, next_of, not-false, not-true, or_right, running_in, some_below, some_below_in, some_below_none, some_below_some}
+use Rattle.uring_linux.proofs.Common.{Deferred, IsLeast, LinuxRequests, Requests, and_cases, and_from, and_left, and_parts, and_right, both_ways, cases_Bool, cases_lt, count_below_some, has_ended, is_alone, is_deferred, is_in_some, is_in_turn, is_issuable, is_outstanding, is_running, is_some_least_below, is_some_value, keeps_back, least_below_tells, least_free_of, least_of, lt-ltb, next_of, not-false, not-true, running_in, some_below, some_below_in, some_below_none, some_below_some}
 use Rattle.uring_linux.specs.Happenings.{Happening, made_by, MayHaveHappened}
 use Rattle.uring_linux.specs.Laws.{GoesOn}
 use Rattle.uring_linux.proofs.Deferring.{HasGoneOn, held_by, after_joined}
@@ -55,16 +55,7 @@ free_turn l m s least =
 
 free_goes : (l : LinuxRequests) (m : ℕ) → IsSettled l → IsLeast (is_free l) (length l.requests.accepted) m
     → (is_running l.requests m ≡ true) ⊎ (is_issuable l m ≡ true)
-free_goes l m s least =
-    let parts = and_parts (is_outstanding l.requests m) (not (is_deferred l m)) least.holds in
-    elim (cases_Bool (is_running l.requests m)) [
-      | inl runs ↦ inl runs
-      | inr idle ↦
-          inr
-          (and_from _ _ parts.0
-          (and_from _ _ (ap not idle)
-          (and_from _ _ (free_turn l m s least) (or_right (is_doomed l.requests m) (not (is_deferred l m)) parts.1))))
-    ]
+free_goes l m s least = grind (arith, and_from, free_turn)
 
 pub goes_on_from : (happened : List Happening) (n : ℕ) → MayHaveHappened happened
     → least_of (made_by happened).requests ≡ Some n → GoesOn (made_by happened)

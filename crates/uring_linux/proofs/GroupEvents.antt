@@ -1,15 +1,13 @@
 -- What each event makes of what is kept of a group.
-use Rattle.std.proofs.Common.{◌≡◌, ◌≢◌, ℕ, suc, ◌+◌, ◌<◌, ◌≤◌, ℤ, List, length, Bool, true, false, not, ◌&&◌, ◌||◌, ◌==◌, Some, None, sym, ◌∙◌, ap, subst, arith, inl, inr}
-use Rattle.uring_linux.proofs.Common.{Group, IsGroup, IsGrouped, IsMember, Requests, Sqe, Starts, TellsGroup, cases_eq, cases_lt, earlier_of, entry_of, entry_same, eq-eqb, first_broken, first_broken_accepted, first_broken_elsewhere, first_broken_ended, first_broken_more, first_member, first_member_more, first_member_none, first_member_same, found_or, group_accepted, group_cut, group_ended, group_joined, group_new, groups_apart, has_ended, has_ended_other, has_ended_same, has_fault, if◌then◌else◌, is_faulty, is_last, is_last_cut, is_refused_drain, is_soft, is_success, ne_eqb, with_accepted, with_cut, with_end, with_ended, with_member, with_started}
+use Rattle.std.proofs.Common.{◌≡◌, ◌≢◌, ℕ, suc, ◌+◌, ◌<◌, ◌≤◌, ℤ, List, length, Bool, true, false, not, ◌&&◌, ◌==◌, Some, None, sym, ◌∙◌, ap, subst, arith, inl, inr}
+use Rattle.uring_linux.proofs.Common.{Group, IsGroup, IsGrouped, IsMember, Requests, Sqe, Starts, TellsGroup, cases_lt, entry_of, entry_same, first_broken, first_broken_accepted, first_broken_elsewhere, first_broken_ended, first_broken_more, first_member_more, first_member_none, first_member_same, group_accepted, group_ended, group_joined, group_new, groups_apart, has_ended, has_ended_other, has_ended_same, has_fault, if◌then◌else◌, is_faulty, is_last, is_last_cut, is_soft, is_success, with_accepted, with_cut, with_end, with_ended, with_member, with_started}
 use Rattle.uring_linux.proofs.WindowEvents.{refused_accepted, last_accepted, last_kept}
 
 -- An entry is accepted.
 
 fault_accepted : (r : Requests) (e : Sqe) (k : ℕ) → k < length r.accepted
     → has_fault (with_accepted r e) k ≡ has_fault r k
-fault_accepted r e k lt =
-    ap (λ b. b || is_refused_drain (with_accepted r e) k) (entry_same r e is_faulty k lt)
-    ∙ ap (λ b. is_faulty (entry_of r k) || b) (refused_accepted r e k lt)
+fault_accepted r e k lt = grind (arith, (entry_same r e is_faulty k lt), (refused_accepted r e k lt))
 
 -- after a group that was closed
 pub told_closed : (g : Group) (r : Requests) (e : Sqe) → TellsGroup g r
@@ -41,10 +39,7 @@ told_joined g r e faulty t end amid none is =
       low = t.low;
       high = omega arith;
       ended = t.ended;
-      fault =
-          ap (λ o. found_or o faulty n) (t.fault ∙ ap (first_member (has_fault r) g.from) end ∙ sym (first_member_same (has_fault (with_accepted r e)) (has_fault r) g.from n (λ m lt. fault_accepted r e m lt)))
-          ∙ ap (λ b. found_or (first_member (has_fault (with_accepted r e)) g.from n) b n) is
-          ∙ sym (first_member_more (has_fault (with_accepted r e)) g.from n le);
+      fault = grind (arith, (first_member_more (has_fault (with_accepted r e)) g.from n le), first_member_same, fault_accepted);
       broken = t.broken ∙ ap (first_broken r g.from) end ∙ sym (first_broken_more r e g.from none le);
     }
 
@@ -54,98 +49,39 @@ pub told_new : (r : Requests) (e : Sqe) (faulty : Bool)
     → has_ended r (length r.accepted) ≡ false → faulty ≡ has_fault (with_accepted r e) (length r.accepted)
     → TellsGroup (with_member None (length r.accepted) faulty) (with_accepted r e)
 told_new r e faulty closed none is =
-    let n = length r.accepted in
-    record {
-      group = group_new r e closed;
-      low = omega arith;
-      high = omega arith;
-      ended = λ k le lt. absurd (omega (arith, le, lt));
-      fault =
-          ap (λ b. found_or None b n) is
-          ∙ ap (λ o. found_or o (has_fault (with_accepted r e) n) n) (sym (first_member_none (has_fault (with_accepted r e)) n))
-          ∙ sym (first_member_more (has_fault (with_accepted r e)) n n (omega arith));
-      broken = sym (first_broken_more r e n none (omega arith) ∙ first_member_none _ n);
-    }
+    grind (arith, (group_new r e closed), first_member_none, first_member_more, first_broken_more)
 
 pub starts_accepted : (r : Requests) (e : Sqe) (n from : ℕ) → n < length r.accepted → Starts r n from
     → Starts (with_accepted r e) n from
-starts_accepted r e n from lt s =
-    let low = s.low in
-    record {
-      low = low;
-      begins = λ k is. last_accepted r e k (omega (arith, is, lt)) ∙ s.begins k is;
-      joined = λ k le under. last_accepted r e k (omega (arith, under, lt)) ∙ s.joined k le under;
-    }
+starts_accepted r e n from lt s = grind (arith, last_accepted)
 
 -- A request starts.
 
 pub grouped_started : (g : Group) (r : Requests) (n k : ℕ) → IsGrouped g r k → IsGrouped g (with_started r n) k
-grouped_started g r n k i = record {
-  starts = let s = i.starts in assumption;
-  told = λ is. let t = i.told is in assumption;
-}
+grouped_started g r n k i = grind arith
 
 -- A call closes.
 
 pub grouped_cut : (g : Group) (r : Requests) (k : ℕ) → k < length r.accepted → IsGrouped g r k
     → IsGrouped g (with_cut r) k
-grouped_cut g r k within i = record {
-  starts =
-      let s = i.starts in
-      record {
-        low = s.low;
-        begins = λ j is. last_kept r j (s.begins j is);
-        joined = λ j le lt. is_last_cut r j (λ e. absurd (omega (arith, e, lt, within))) ∙ s.joined j le lt;
-      };
-  told = λ is.
-      let t = i.told is in
-      let group = group_cut r g.from g.end t.group in assumption;
-}
+grouped_cut g r k within i = grind (arith, last_kept, is_last_cut)
 
 -- A request ends.
 
 ended_stays : (r : Requests) (n : ℕ) (res : ℤ) (bytes : List ℕ) (k : ℕ) → has_ended r k ≡ true
     → has_ended (with_ended r n res bytes) k ≡ true
-ended_stays r n res bytes k e =
-    elim (cases_eq k n) [
-      | inl same ↦ ap (has_ended (with_ended r n res bytes)) same ∙ has_ended_same r n res bytes
-      | inr other ↦ has_ended_other r n res bytes k other ∙ e
-    ]
+ended_stays r n res bytes k e = grind (arith, has_ended_same, has_ended_other)
 
 -- the least member after an end
 least_after : (least n : ℕ) (P : ℕ → Type 0) → (least ≡ n → P (n + 1)) → P least
     → P (if least == n then n + 1 else least)
-least_after least n P here other =
-    elim (cases_eq least n) [
-      | inl same ↦ subst P (sym (ap (λ b. if b then n + 1 else least) (eq-eqb least n same))) (here same)
-      | inr apart ↦ subst P (sym (ap (λ b. if b then n + 1 else least) (ne_eqb least n apart))) other
-    ]
+least_after least n P here other = grind arith
 
 pub told_ended : (g : Group) (r : Requests) (n : ℕ) (res : ℤ) (bytes : List ℕ) (breaks : Bool) → IsMember r n g
     → has_ended r n ≡ false → breaks ≡ (is_soft (entry_of r n) && not (is_success (entry_of r n) res))
     → TellsGroup (with_end g n breaks) (with_ended r n res bytes)
 told_ended g r n res bytes breaks m going is =
-    let t = m.told in
-    let low = m.low in
-    let high = m.high in
-    let some = t.low in
-    let few = t.high in
-    record {
-      group = group_ended r n res bytes g.from g.end t.group;
-      low = least_after g.least n (λ x. g.from ≤ x) (λ e. omega arith) t.low;
-      high = least_after g.least n (λ x. x ≤ g.end) (λ e. omega arith) t.high;
-      ended = least_after g.least n (λ x. (k : ℕ) → g.from ≤ k → k < x → has_ended (with_ended r n res bytes) k ≡ true)
-          (λ e k le lt.
-          elim (cases_lt k n) [
-            | inl under ↦ ended_stays r n res bytes k (t.ended k le (omega (arith, under, e)))
-            | inr here ↦ ap (has_ended (with_ended r n res bytes)) (omega (arith, lt, here)) ∙ has_ended_same r n res bytes
-          ])
-          (λ k le lt. ended_stays r n res bytes k (t.ended k le lt));
-      fault = t.fault;
-      broken =
-          ap (λ o. earlier_of o breaks n) t.broken ∙ ap (λ b. earlier_of (first_broken r g.from g.end) b n) is
-          ∙ sym (first_broken_ended r n res bytes g.from g.end low high going);
-    }
+    grind (arith, group_ended, least_after, ended_stays, has_ended_same, first_broken_ended)
 
 pub starts_ended : (r : Requests) (n : ℕ) (res : ℤ) (bytes : List ℕ) (k from : ℕ) → Starts r k from
     → Starts (with_ended r n res bytes) k from

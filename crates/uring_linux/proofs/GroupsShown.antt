@@ -18,12 +18,7 @@ kept_from s r n from h t le =
 
 -- two members of one group have the same first
 pub same_from : (r : Requests) (n from first : ℕ) → Starts r n from → Starts r from first → first ≡ from
-same_from r n from first t u =
-    let low = u.low in
-    elim (cases_lt first from) [
-      | inl under ↦ absurd (both_ways _ (u.joined (from - 1) (omega arith) (omega arith)) (t.begins (from - 1) (omega arith)))
-      | inr same ↦ omega arith
-    ]
+same_from r n from first t u = grind arith
 
 -- the first member of a kept request's group
 pub first_kept : (s : Window) (r : Requests) (n : ℕ) (q : Request) → Shows s r → at s n ≡ Some q
@@ -97,9 +92,7 @@ regrouped u t g r w inside h here others = record {
   later = h.later;
   grouped = λ k x is.
       elim (cases_eq k g.from) [
-        | inl same ↦
-            let q = regrouped_here u t g x w inside (ap (at t) (sym same) ∙ is) in
-            subst (λ (y : Request). IsGrouped y.group r k) (sym q.2) (subst (IsGrouped g r) (sym same) here)
+        | inl same ↦ grind (arith, (regrouped_here u t g x w inside (ap (at t) (sym same) ∙ is)))
         | inr other ↦ others k x other (sym (w.others k other) ∙ is)
       ];
 }
@@ -110,11 +103,7 @@ regrouped u t g r w inside h here others = record {
 closed_group : (s : Window) (r : Requests) (x : Group) (joins : Option Group) (faulty : Bool) → IsAmid s r joins
     → TellsGroup x r → x.from ≢ (with_member joins (length r.accepted) faulty).from → (k : ℕ) → suc k ≡ x.end
     → is_last r k ≡ true
-closed_group s r x None faulty amid t apart k is =
-    elim (cases_lt x.end (length r.accepted)) [
-      | inl low ↦ t.group.ends k is low
-      | inr high ↦ let within = t.group.accepted in amid k (omega arith)
-    ]
+closed_group s r x None faulty amid t apart k is = grind arith
 closed_group s r x (Some g) faulty amid t apart k is =
     elim (cases_lt x.end (length r.accepted)) [
       | inl low ↦ t.group.ends k is low
@@ -141,34 +130,17 @@ joined_within : (s : Window) (r : Requests) (joins : Option Group) (faulty : Boo
     → end_of s ≡ length r.accepted
     → (s.first ≤ (with_member joins (length r.accepted) faulty).from)
     × ((with_member joins (length r.accepted) faulty).from ≤ length r.accepted)
-joined_within s r None faulty amid count = (omega arith, omega arith)
-joined_within s r (Some g) faulty amid count =
-    let some = amid.told.group.some in
-    let end = amid.end in
-    (amid.kept, omega arith)
+joined_within s r joins faulty amid count = grind arith
 
 grouped_first : (g : Group) (r : Requests) → TellsGroup g r → IsGrouped g r g.from
-grouped_first g r t = record {
-  starts = record { low = omega arith; begins = t.group.begins; joined = λ k le lt. absurd (omega (arith, le, lt)) };
-  told = λ e. t;
-}
+grouped_first g r t = grind arith
 
 grouped_last : (g : Group) (r : Requests) (n : ℕ) → TellsGroup g r → g.end ≡ n + 1 → g.from ≢ n
     → IsGrouped g r n
-grouped_last g r n t end apart =
-    let some = t.group.some in
-    record {
-      starts = record {
-        low = omega arith;
-        begins = t.group.begins;
-        joined = λ k le lt. t.group.joined k le (omega (arith, lt, end));
-      };
-      told = λ e. absurd (apart e);
-    }
+grouped_last g r n t end apart = grind arith
 
 joined_end : (joins : Option Group) (n : ℕ) (faulty : Bool) → (with_member joins n faulty).end ≡ n + 1
-joined_end None n faulty = refl
-joined_end (Some g) n faulty = refl
+joined_end joins n faulty = grind arith
 
 pub pushed_shows : (s u t : Window) (q : Request) (r : Requests) (e : Sqe) (joins : Option Group) (faulty : Bool)
     → Shows s r → IsAmid s r joins → faulty ≡ has_fault (with_accepted r e) (length r.accepted)
@@ -243,9 +215,7 @@ cut_shows s q r n h here is =
     (written_grouped s q (record q { is_last = true }) r (with_cut r) n h here refl (λ g k within i. grouped_cut g r k within i))
 
 pub cut_shows_none : (s : Window) (r : Requests) → Shows s r → end_of s ≤ s.first → Shows s (with_cut r)
-cut_shows_none s r h none =
-    shows s (with_cut r) (cut_keeps_none s r (keeps s r h) none)
-    (λ n q is. let w = at_within s n q is in absurd (omega (arith, w.low, w.high, none)))
+cut_shows_none s r h none = grind (arith, cut_keeps_none, at_within)
 
 -- A request ends.
 
@@ -277,12 +247,7 @@ finished_shows s u t q r n res bytes failed breaks g h here going is break m sam
     (λ k y apart there.
     elim (cases_eq k n) [
       | inl place ↦
-          let one : y ≡ x = let f : Some y ≡ Some x = sym there ∙ ap (at v) place ∙ at_set_here s x n inside in cc in
-          subst (λ (z : Request). IsGrouped z.group after k) (sym one)
-          (record {
-            starts = starts_ended r n res bytes k q.group.from (h.grouped k q (ap (at s) place ∙ here)).starts;
-            told = λ first. absurd (apart (sym first ∙ sym same));
-          })
+          grind (arith, (at_set_here s x n inside), (starts_ended r n res bytes k q.group.from (h.grouped k q (ap (at s) place ∙ here)).starts))
       | inr other ↦
           let was : at s k ≡ Some y = sym (at_set_other s x n k inside.low other) ∙ there in
           let i = h.grouped k y was in

@@ -1,6 +1,6 @@
 -- Groups that a drain holds back, one after the other: where their members stand, and who goes on before whom.
 use Rattle.std.proofs.Common.{◌≡◌, ℕ, ◌<◌, ◌≤◌, Bool, true, false, not, ◌&&◌, ◌||◌, List, [], ◌∷◌, ◌++◌, refl, arith, ◌⊎◌, inl, inr}
-use Rattle.uring_linux.proofs.Common.{Deferred, and_from, and_parts, and_right, both_ways, from_drain, if◌then◌else◌, is_among, is_in_some, is_none, le-leb, le-ltb, leb-true, lt-ltb, ltb-true, not-false, or_cases, or_from, or_left, or_parts, or_right, still_deferred}
+use Rattle.uring_linux.proofs.Common.{Deferred, and_from, and_parts, both_ways, from_drain, if◌then◌else◌, is_among, is_in_some, is_none, le-leb, le-ltb, leb-true, lt-ltb, ltb-true, or_cases, or_from, or_left, or_right, still_deferred}
 
 -- groups of which this holds, from one number on and before another, one after the other
 abbrev pub InOrder : (Deferred → Type 0) → ℕ → List Deferred → ℕ → Type 0
@@ -14,11 +14,7 @@ among_tells n g e = let p = and_parts _ _ e in (leb-true g.from n p.0, ltb-true 
 
 pub in_pushed : (xs : List Deferred) (g : Deferred) (k : ℕ) → is_in_some (xs ++ g ∷ []) k ≡ true
     → (is_in_some xs k ≡ true) ⊎ ((g.from ≤ k) × (k < g.end))
-in_pushed [] g k e =
-    elim (or_cases (is_among k g) false e) [
-      | inl new ↦ inr (among_tells k g new)
-      | inr none ↦ absurd (let f : false ≡ true = none in cc)
-    ]
+in_pushed [] g k e = grind arith
 in_pushed (x ∷ rest) g k e =
     elim (or_cases (is_among k x) (is_in_some (rest ++ g ∷ []) k) e) [
       | inl here ↦ inl (or_left (is_among k x) (is_in_some rest k) here)
@@ -31,8 +27,7 @@ in_pushed (x ∷ rest) g k e =
 pub pushed_new : (xs : List Deferred) (g : Deferred) (k : ℕ) → g.from ≤ k → k < g.end
     → is_in_some (xs ++ g ∷ []) k ≡ true
 pushed_new [] g k le lt = or_left (is_among k g) false (and_from _ _ (le-leb g.from k le) (lt-ltb k g.end lt))
-pushed_new (x ∷ rest) g k le lt =
-    or_right (is_among k x) (is_in_some (rest ++ g ∷ []) k) (pushed_new rest g k le lt)
+pushed_new (x ∷ rest) g k le lt = grind (arith, (pushed_new rest g k le lt))
 
 pub pushed_old : (xs : List Deferred) (g : Deferred) (k : ℕ) → is_in_some xs k ≡ true
     → is_in_some (xs ++ g ∷ []) k ≡ true
@@ -61,25 +56,19 @@ still_fewer true (g ∷ rest) k e = go g.drains e where
   go false f = or_right (is_among k g) (is_in_some rest k) (drain_fewer rest k f)
 
 empty_is : (xs : List Deferred) → is_none xs ≡ true → xs ≡ []
-empty_is [] e = refl
-empty_is (x ∷ rest) e = absurd (let f : false ≡ true = e in cc)
+empty_is xs e = grind arith
 
 -- a ring that drained, and doesn't any more
 pub ring_off : (ring drains : Bool) (xs : List Deferred) → ring ≡ true
     → (ring && (drains || not (is_none xs))) ≡ false → (drains ≡ false) × (xs ≡ [])
-ring_off true drains xs is e = let p = or_parts drains (not (is_none xs)) e in (p.0, empty_is xs (not-false _ p.1))
-ring_off false drains xs is e = absurd (let f : false ≡ true = is in cc)
+ring_off ring drains xs is e = grind arith
 
 -- Groups in order.
 
 module _ (P : Deferred → Type 0) where
   pub order_spans : (low : ℕ) (xs : List Deferred) (high : ℕ) → InOrder P low xs high → low ≤ high
   order_spans low [] high o = o
-  order_spans low (g ∷ rest) high o =
-      let later = order_spans g.end rest high o.3 in
-      let under : low ≤ g.from = o.0 in
-      let some : g.from < g.end = o.1 in
-      omega (arith, later, under, some)
+  order_spans low (g ∷ rest) high o = grind (arith, (order_spans g.end rest high o.3))
 
   pub order_lower : (a low : ℕ) (xs : List Deferred) (high : ℕ) → a ≤ low → InOrder P low xs high → InOrder P a xs high
   order_lower a low [] high le o = let e : low ≤ high = o in omega (arith, le, e)
@@ -107,9 +96,7 @@ module _ (P : Deferred → Type 0) where
 
   pub order_past : (low : ℕ) (xs : List Deferred) (high n : ℕ) → InOrder P low xs high → high ≤ n → is_in_some xs n ≡ false
   order_past low [] high n o le = refl
-  order_past low (g ∷ rest) high n o le =
-      let spans = order_spans g.end rest high o.3 in
-      or_from _ _ (and_right _ _ (le-ltb n g.end (omega (arith, le, spans)))) (order_past g.end rest high n o.3 le)
+  order_past low (g ∷ rest) high n o le = grind (arith, order_spans, or_from, le-ltb, (order_past g.end rest high n o.3 le))
 
   -- Groups go on: those that stay are in order, and whoever goes on comes before whoever stays.
 
@@ -123,15 +110,11 @@ module _ (P : Deferred → Type 0) where
   -- those after the first that go on
   pub order_after : (low : ℕ) (drains : Bool) (rest : List Deferred) (high : ℕ) → InOrder P low rest high
       → InOrder P low (if drains then rest else from_drain rest) high
-  order_after low true rest high o = o
-  order_after low false rest high o = order_drain low rest high o
+  order_after low drains rest high o = grind (arith, order_drain)
 
   pub order_still : (alone : Bool) (low : ℕ) (xs : List Deferred) (high : ℕ) → InOrder P low xs high
       → InOrder P low (still_deferred alone xs) high
-  order_still alone low [] high o = o
-  order_still false low (g ∷ rest) high o = o
-  order_still true low (g ∷ rest) high o =
-      order_lower low g.end (if g.drains then rest else from_drain rest) high (let a : low ≤ g.from = o.0 in let b : g.from < g.end = o.1 in omega (arith, a, b)) (order_after g.end g.drains rest high o.3)
+  order_still alone low xs high o = grind (arith, order_lower, order_after)
 
   pub drain_before : (low : ℕ) (xs : List Deferred) (high n k : ℕ) → InOrder P low xs high → is_in_some xs n ≡ true
       → is_in_some (from_drain xs) n ≡ false → is_in_some (from_drain xs) k ≡ true → n < k
@@ -141,10 +124,7 @@ module _ (P : Deferred → Type 0) where
         → (is_in_some rest n ≡ true → is_in_some (from_drain rest) n ≡ false → is_in_some (from_drain rest) k ≡ true → n < k) → n < k
     go true out still before = absurd (both_ways (is_in_some (g ∷ rest) n) out here)
     go false out still before = elim (or_cases (is_among n g) (is_in_some rest n) here) [
-      | inl first ↦
-          let past : g.end ≤ k = order_above g.end rest high k o.3 (drain_fewer rest k still) in
-          let end : n < g.end = (among_tells n g first).1 in
-          omega (arith, past, end)
+      | inl first ↦ grind (arith, (drain_fewer rest k still), (among_tells n g first), order_above)
       | inr later ↦ before later out still
     ]
 
@@ -175,9 +155,5 @@ pub order_kept : (P Q : Deferred → Type 0) (low : ℕ) (xs : List Deferred) (h
     → ((g : Deferred) → ((k : ℕ) → is_among k g ≡ true → is_in_some xs k ≡ true) → g.from < g.end → g.end ≤ high → P g → Q g)
     → InOrder Q low xs high
 order_kept P Q low [] high o keeps = o
-order_kept P Q low (g ∷ rest) high o keeps = (
-  o.0,
-  o.1,
-  keeps g (λ k e. or_left (is_among k g) (is_in_some rest k) e) o.1 (order_spans P g.end rest high o.3) o.2,
-  order_kept P Q g.end rest high o.3 (λ h there. keeps h (λ k e. or_right (is_among k g) (is_in_some rest k) (there k e))),
-)
+order_kept P Q low (g ∷ rest) high o keeps =
+    grind (arith, order_spans, (order_kept P Q g.end rest high o.3 (λ h there. keeps h (λ k e. or_right (is_among k g) (is_in_some rest k) (there k e)))))

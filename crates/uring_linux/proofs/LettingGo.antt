@@ -19,25 +19,13 @@ pub record IsLeft (s t : Window) : Type 0 where
 
 pub left_from : (s t : Window) (to : ℕ) → t.first ≡ to → t.items ≡ drop (to - s.first) s.items → IsOver s to
     → IsLeft s t
-left_from s t to first items over =
-    let low = over.low in
-    let high = over.high in
-    record {
-      low = omega arith;
-      high = omega arith;
-      items = items ∙ ap (λ n. drop (n - s.first) s.items) (sym first);
-    }
+left_from s t to first items over = grind arith
 
 left_end : (s t : Window) → IsLeft s t → end_of t ≡ end_of s
-left_end s t l =
-    let long = ap length l.items ∙ length-drop (t.first - s.first) s.items in
-    omega (arith, l.low, l.high)
+left_end s t l = grind (arith, length-drop)
 
 left_at : (s t : Window) (n : ℕ) → IsLeft s t → t.first ≤ n → at t n ≡ at s n
-left_at s t n l le =
-    let low = l.low in
-    at_high t n le ∙ ap (λ xs. slice_get xs (n - t.first)) l.items
-    ∙ get_drop s.items (t.first - s.first) (n - t.first) (n - s.first) (omega arith) ∙ sym (at_high s n (omega arith))
+left_at s t n l le = grind (arith, at_high, get_drop)
 
 pub left_shows : (s t : Window) (r : Requests) → IsLeft s t → IsOver s t.first → Shows s r → Shows t r
 left_shows s t r l over h =

@@ -1,6 +1,6 @@
 -- What the definitions say of a member, from its group.
-use Rattle.std.proofs.Common.{◌≡◌, ℕ, ◌-◌, ◌<◌, ◌≤◌, length, Bool, false, not, ◌&&◌, leb, Option, Some, None, is_some, refl, sym, ◌∙◌, ap, subst, arith, inl, inr}
-use Rattle.uring_linux.proofs.Common.{IsGroup, Requests, and-true, and_from, and_left, and_right, cases_lt, faulty_member_of, first_broken, first_member, first_of, has_ended, has_fault, if_before, if◌then◌else◌, in_group_member, is_before, is_in_faulty_group, is_in_group, is_in_turn, is_joined, is_joined_yes, is_last, is_some_least_below, joined_member, keeps_back, le-leb, le-ltb, least_below, least_below_none, least_below_out, least_below_same, least_below_some, least_below_tells, lt-leb, lt-ltb, some_below_some}
+use Rattle.std.proofs.Common.{◌≡◌, ℕ, ◌-◌, ◌<◌, ◌≤◌, length, Bool, false, not, ◌&&◌, leb, Option, Some, None, is_some, refl, sym, ◌∙◌, ap, arith, inl, inr}
+use Rattle.uring_linux.proofs.Common.{IsGroup, Requests, and-true, and_left, and_right, cases_lt, faulty_member_of, first_broken, first_member, first_of, has_ended, has_fault, if_before, if◌then◌else◌, in_group_member, is_before, is_in_faulty_group, is_in_group, is_in_turn, is_joined, is_joined_yes, is_last, is_some_least_below, joined_member, keeps_back, le-leb, le-ltb, least_below, least_below_none, least_below_out, least_below_same, least_below_some, least_below_tells, lt-leb, lt-ltb}
 use Rattle.uring_entry.specs.Why.{failed_member_of}
 use Rattle.uring_entry.proofs.WhyLemmas.{failed_member_before, failed_member_none}
 
@@ -14,28 +14,13 @@ pub first_member_later : (p : ℕ → Bool) (from later n : ℕ) → from ≤ la
     → ((k : ℕ) → from ≤ k → k < later → p k ≡ false)
     → first_member p later n ≡ first_member p from n
 unfolding first_member
-first_member_later p from later n le fails =
-    least_below_same (λ m. leb later m && p m) (λ m. leb from m && p m) n
-    (λ m low.
-    elim (cases_lt m later) [
-      | inl before ↦
-          and_left _ _ (lt-leb later m before)
-          ∙ sym
-          (elim (cases_lt m from) [
-            | inl under ↦ and_left _ _ (lt-leb from m under)
-            | inr over ↦ and_right _ _ (fails m over before)
-          ])
-      | inr past ↦ ap (λ b. b && p m) (le-leb later m past ∙ sym (le-leb from m (omega arith)))
-    ])
+first_member_later p from later n le fails = grind arith
 
 -- whoever stands right after a member that hasn't ended isn't in turn
 pub not_in_turn : (r : Requests) (n : ℕ) → 0 < n → is_last r (n - 1) ≡ false → has_ended r (n - 1) ≡ false
     → is_in_turn r n ≡ false
 unfolding is_in_turn
-not_in_turn r n some amid going =
-    ap not
-    (some_below_some (keeps_back r n) n (n - 1) (omega (arith, some))
-    (and_from _ _ (is_joined_yes r (n - 1) n (λ k le lt. subst (λ j. is_last r j ≡ false) (omega (arith, le, lt, some)) amid)) (ap not going)))
+not_in_turn r n some amid going = grind (arith, is_joined_yes)
 
 -- a bound that goes further, over numbers at which the test fails
 least_below_between : (p : ℕ → Bool) (n m : ℕ) → n ≤ m → ((k : ℕ) → n ≤ k → k < m → p k ≡ false)

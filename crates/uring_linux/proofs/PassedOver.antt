@@ -1,6 +1,6 @@
 -- What a search may pass over: requests that have ended, and members of a group after one that hasn't.
-use Rattle.std.proofs.Common.{◌≡◌, ℕ, ◌+◌, ◌-◌, ◌<◌, ◌≤◌, Bool, true, false, not, ◌&&◌, Some, refl, ◌∙◌, ap, arith, inl, inr, suc}
-use Rattle.uring_linux.proofs.Common.{Group, IsMember, LinuxRequests, Request, Requests, Shows, TellsGroup, Window, and_from, and_left, and_right, at, cases_lt, count_below, count_below_apart, count_below_zero, end_of, has_ended, is_in_turn, is_issuable, is_outstanding, joined_member, keeps_back, le-leb, one_if, some_below_some}
+use Rattle.std.proofs.Common.{◌≡◌, ℕ, ◌+◌, ◌-◌, ◌<◌, ◌≤◌, Bool, true, false, not, ◌&&◌, Some, ◌∙◌, ap, arith}
+use Rattle.uring_linux.proofs.Common.{Group, IsMember, LinuxRequests, Request, Requests, Shows, TellsGroup, Window, and_from, and_right, at, count_below, count_below_apart, count_below_zero, end_of, has_ended, is_in_turn, is_issuable, is_outstanding, joined_member, keeps_back, le-leb, one_if, some_below_some}
 use Rattle.uring_linux.proofs.GroupsShown.{kept_from}
 
 -- Before the least that is kept of the first group, all have ended.
@@ -16,26 +16,17 @@ first_told s r q h here =
 
 pub least_ended : (s : Window) (r : Requests) (q : Request) (k : ℕ) → Shows s r → at s s.first ≡ Some q
     → k < q.group.least → has_ended r k ≡ true
-least_ended s r q k h here lt =
-    elim (cases_lt k s.first) [
-      | inl before ↦ h.gone k before
-      | inr past ↦ let f = first_told s r q h here in let same = f.0 in f.1.ended k (omega arith) lt
-    ]
+least_ended s r q k h here lt = grind (arith, (first_told s r q h here))
 
 pub least_within : (s : Window) (r : Requests) (q : Request) → Shows s r → at s s.first ≡ Some q
     → q.group.least ≤ end_of s
-least_within s r q h here =
-    let f = first_told s r q h here in
-    let t = f.1 in
-    omega (arith, t.high, t.group.accepted, h.count)
+least_within s r q h here = grind (arith, (first_told s r q h here))
 
 -- After a member that hasn't ended, no member is in turn.
 
 pub ended_passed : (r : Requests) (n k : ℕ) (g : Group) → IsMember r n g → n < k → k < g.least
     → (is_outstanding r k && is_in_turn r k) ≡ false
-ended_passed r n k g m after lt =
-    let low = m.low in
-    and_left _ _ (and_right _ _ (ap not (m.told.ended k (omega arith) lt)))
+ended_passed r n k g m after lt = grind arith
 
 pub after_passed : (r : Requests) (n k : ℕ) (g : Group) → IsMember r n g → has_ended r n ≡ false → n < k
     → k < g.end → (is_outstanding r k && is_in_turn r k) ≡ false
@@ -52,22 +43,9 @@ after_passed r n k g m going after lt =
 -- who isn't in turn, or has ended, can't be issued
 pub passed_issuable : (l : LinuxRequests) (k : ℕ)
     → (is_outstanding l.requests k && is_in_turn l.requests k) ≡ false → is_issuable l k ≡ false
-passed_issuable l k e = go (is_outstanding l.requests k) _ (is_in_turn l.requests k) _ e
-  where
-    go : (out idle turn goes : Bool) → (out && turn) ≡ false → (out && (idle && (turn && goes))) ≡ false
-    go false idle turn goes e = refl
-    go true false turn goes e = refl
-    go true true false goes e = refl
-    go true true true goes e = absurd (let f : true ≡ false = e in cc)
+passed_issuable l k e = grind arith
 
 -- none in between is counted
 pub count_passed : (p : ℕ → Bool) (n m : ℕ) → n < m → ((k : ℕ) → n < k → k < m → p k ≡ false)
     → count_below p m ≡ count_below p n + one_if (p n)
-count_passed p n m lt none =
-    let next : n + 1 ≡ suc n = omega arith in
-    let one = ap (count_below p) next in
-    let gap : (n + 1) + (m - (n + 1)) ≡ m = omega arith in
-    let apart = count_below_apart p (n + 1) (m - (n + 1)) in
-    let zero_ = count_below_zero (λ i. p ((n + 1) + i)) (m - (n + 1)) (λ i low. none ((n + 1) + i) (omega arith) (omega arith)) in
-    let all = ap (count_below p) gap in
-    omega arith
+count_passed p n m lt none = grind (arith, (count_below_apart p (n + 1) (m - (n + 1))), count_below_zero)

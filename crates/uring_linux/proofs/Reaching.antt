@@ -1,6 +1,6 @@
 -- What is so of the requests of a ring whatever happened: to the members of deferred groups nothing has happened, and not all that is outstanding is deferred.
-use Rattle.std.proofs.Common.{◌≡◌, ◌≢◌, ℕ, suc, ◌<◌, ◌≤◌, ℤ, length, Bool, true, false, not, ◌||◌, ◌==◌, List, [], ◌∷◌, refl, sym, ◌∙◌, ap, arith, inl, inr, length-append}
-use Rattle.uring_linux.proofs.Common.{Deferred, Drains, IsNew, LinuxRequests, Requests, Sqe, added_other, after_going_on, and_from, and_parts, both_ways, cases_lt, deferred_with, entry_of, entry_of_accepted_at, false_from_ne_true, has_ended_other, if◌then◌else◌, is_alone, is_among, is_deferred, is_doomed, is_faulty_from, is_in_some, is_in_turn, is_issuable, is_last, is_last_cut_last, is_linked, is_outstanding, is_running, le-leb, lt-ltb, ltb-false, ltb-true, nat_lt, ne_eqb, or_cases, or_left, or_parts, with_deferred, with_group, with_last_entry, with_ring}
+use Rattle.std.proofs.Common.{◌≡◌, ◌≢◌, ℕ, suc, ◌<◌, ◌≤◌, ℤ, length, Bool, true, false, not, ◌||◌, List, [], ◌∷◌, refl, ◌∙◌, arith, inl, inr, length-append}
+use Rattle.uring_linux.proofs.Common.{Deferred, Drains, IsNew, LinuxRequests, Requests, Sqe, added_other, after_going_on, and_parts, both_ways, cases_lt, deferred_with, entry_of_accepted_at, false_from_ne_true, has_ended_other, if◌then◌else◌, is_alone, is_among, is_deferred, is_doomed, is_faulty_from, is_in_some, is_in_turn, is_issuable, is_last, is_last_cut_last, is_linked, is_outstanding, is_running, ltb-false, ltb-true, nat_lt, or_cases, or_parts, with_deferred, with_group, with_last_entry, with_ring}
 use Rattle.uring_linux.specs.LinuxRequests.{no_request, with_accepted, with_cut, with_started, with_ended}
 use Rattle.uring_entry.specs.Requests as manual
 use Rattle.uring_linux.specs.Happenings.{Happening, Call, Start, End, with_entries, after, made_by, MayHappen, MayHaveHappened}
@@ -19,14 +19,7 @@ pub record IsSettled (l : LinuxRequests) : Type 0 where
   pub gone : HasGoneOn l.requests l.drains.deferred
 
 pub nothing_settled : IsSettled no_request
-nothing_settled = record {
-  low = omega arith;
-  begins = λ k e. absurd (omega (arith, e));
-  amid = λ k le lt. absurd (omega (arith, lt));
-  later = λ k le. record { started = refl; ended = refl; cut = refl };
-  waiting = omega arith;
-  gone = inl refl;
-}
+nothing_settled = grind arith
 
 -- A group is accepted.
 
@@ -39,19 +32,11 @@ record IsAmid (r : Requests) (from : ℕ) (deferred : List Deferred) : Type 0 wh
   pub waiting : AreWaiting r 0 deferred from
 
 amid_alone : (r : Requests) (from : ℕ) (xs : List Deferred) → IsAmid r from xs → is_alone r xs ≡ false
-amid_alone r from xs a =
-    not_alone r xs from a.low (a.idle from (omega arith) a.low).ended (order_past (IsWaiting r) 0 xs from from a.waiting (omega arith))
+amid_alone r from xs a = grind (arith, not_alone, order_past)
 
 amid_settled : (r : Requests) (d : Drains) → IsAmid r d.from d.deferred
     → IsSettled (record { requests = r; drains = d })
-amid_settled r d a = record {
-  low = let lt = a.low in omega (arith, lt);
-  begins = a.begins;
-  amid = a.idle;
-  later = a.later;
-  waiting = a.waiting;
-  gone = inr (amid_alone r d.from d.deferred a);
-}
+amid_settled r d a = grind (arith, amid_alone)
 
 group_settled : (r : Requests) (d : Drains) → IsAmid r d.from d.deferred
     → ((k : ℕ) → suc k ≡ length r.accepted → is_last r k ≡ true)
@@ -70,13 +55,7 @@ group_settled r d a last = go (not d.ring || is_faulty_from r d.from) refl
     }
     go false e =
         let g : Deferred = record { from = d.from; end = length r.accepted; drains = d.group } in
-        let w : IsWaiting r g = record {
-          some = a.low;
-          begins = a.begins;
-          ends = last;
-          idle = a.idle;
-          healthy = healthy_from r d.from (or_parts (not d.ring) (is_faulty_from r d.from) e).1;
-        } in
+        let w : IsWaiting r g = grind (arith, (healthy_from r d.from (or_parts (not d.ring) (is_faulty_from r d.from) e).1)) in
         let all = order_push (IsWaiting r) 0 d.deferred d.from g (omega arith) a.low w a.waiting in
         record {
           low = omega arith;
@@ -91,15 +70,7 @@ group_settled r d a last = go (not d.ring || is_faulty_from r d.from) refl
 
 waiting_accepted : (r : Requests) (e : Sqe) (g : Deferred) → g.end ≤ length r.accepted → IsWaiting r g
     → IsWaiting (manual.with_accepted r e) g
-waiting_accepted r e g within w =
-    let some = w.some in
-    record {
-      some = w.some;
-      begins = λ k is. last_accepted r e k (omega (arith, is)) ∙ w.begins k is;
-      ends = λ k is. last_accepted r e k (omega (arith, is)) ∙ w.ends k is;
-      idle = λ k le lt. let idle = w.idle k le lt in assumption;
-      healthy = λ k le lt. (accepted_faults r e).fault k (omega (arith, lt, within)) ∙ w.healthy k le lt;
-    }
+waiting_accepted r e g within w = grind (arith, (accepted_faults r e), last_accepted)
 
 accepted_amid : (l : LinuxRequests) (e : Sqe) → IsSettled l
     → IsAmid (manual.with_accepted l.requests e) l.drains.from l.drains.deferred
@@ -122,10 +93,7 @@ accepted_amid l e s =
 
 accepted_last : (r : Requests) (e : Sqe) → is_linked e ≡ false → (k : ℕ) → suc k ≡ length (manual.with_accepted r e).accepted
     → is_last (manual.with_accepted r e) k ≡ true
-accepted_last r e free k is =
-    let more = length-append r.accepted (e ∷ []) in
-    let same : k ≡ length r.accepted = omega arith in
-    or_left _ _ (ap (λ n. not (is_linked (entry_of (manual.with_accepted r e) n))) same ∙ ap (λ x. not (is_linked x)) (entry_of_accepted_at r e) ∙ ap not free)
+accepted_last r e free k is = grind (arith, (length-append r.accepted (e ∷ [])), (entry_of_accepted_at r e))
 
 pub accepted_settled : (l : LinuxRequests) (e : Sqe) → IsSettled l → IsSettled (with_accepted l e)
 accepted_settled l e s = go (is_linked e) refl
@@ -138,13 +106,7 @@ accepted_settled l e s = go (is_linked e) refl
 -- A call closes.
 
 waiting_cut : (r : Requests) (g : Deferred) → IsWaiting r g → IsWaiting (manual.with_cut r) g
-waiting_cut r g w = record {
-  some = w.some;
-  begins = λ k is. last_kept r k (w.begins k is);
-  ends = λ k is. last_kept r k (w.ends k is);
-  idle = λ k le lt. let idle = w.idle k le lt in assumption;
-  healthy = w.healthy;
-}
+waiting_cut r g w = grind (arith, last_kept)
 
 waiting_all_cut : (l : LinuxRequests) → IsSettled l → AreWaiting (manual.with_cut l.requests) 0 l.drains.deferred l.drains.from
 waiting_all_cut l s =
@@ -156,8 +118,7 @@ unfolding is_alone
 alone_cut r xs = refl
 
 gone_same : (r t : Requests) (xs : List Deferred) → is_alone t xs ≡ is_alone r xs → HasGoneOn r xs → HasGoneOn t xs
-gone_same r t xs e (inl none) = inl none
-gone_same r t xs e (inr out) = inr (e ∙ out)
+gone_same r t xs e h = grind arith
 
 -- settled, and no group is amid
 pub record IsBetween (l : LinuxRequests) : Type 0 where
@@ -165,11 +126,7 @@ pub record IsBetween (l : LinuxRequests) : Type 0 where
   pub closed : length l.requests.accepted ≤ l.drains.from
 
 group_closed : (r : Requests) (d : Drains) → length r.accepted ≤ (with_group r d).from
-group_closed r d = go (not d.ring || is_faulty_from r d.from)
-  where
-    go : (b : Bool) → length r.accepted ≤ (if b then with_deferred d (length r.accepted) d.deferred else with_ring (with_deferred d (length r.accepted) (after_going_on r (deferred_with d (length r.accepted)))) d.group).from
-    go true = omega arith
-    go false = omega arith
+group_closed r d = grind arith
 
 pub cut_between : (l : LinuxRequests) → IsSettled l → IsBetween (with_cut l)
 cut_between l s = go (nat_lt l.drains.from (length l.requests.accepted)) refl
@@ -213,9 +170,7 @@ record IsFree (l : LinuxRequests) (n : ℕ) : Type 0 where
   pub out : is_in_some l.drains.deferred n ≡ false
 
 goes_not : (doomed held : Bool) → doomed ≡ false → held ≡ true → (doomed || not held) ≡ true → ⊥
-goes_not false true a b e = both_ways false refl e
-goes_not true held a b e = both_ways true a refl
-goes_not false false a b e = both_ways false refl b
+goes_not doomed held a b e = grind arith
 
 issuable_free : (l : LinuxRequests) (n : ℕ) → IsSettled l → is_issuable l n ≡ true → IsFree l n
 issuable_free l n s e =
@@ -248,39 +203,14 @@ running_free l n s e =
 -- who isn't deferred is no member of a group that is
 among_apart : (xs : List Deferred) (n k : ℕ) (g : Deferred) → ((j : ℕ) → is_among j g ≡ true → is_in_some xs j ≡ true)
     → is_in_some xs n ≡ false → g.from ≤ k → k < g.end → k ≢ n
-among_apart xs n k g there out low high e =
-    both_ways _ out (there n (and_from _ _ (le-leb g.from n (omega (arith, e, low))) (lt-ltb n g.end (omega (arith, e, high)))))
+among_apart xs n k g there out low high e = grind arith
 
 alone_started : (r : Requests) (n : ℕ) (xs : List Deferred) → is_alone (manual.with_started r n) xs ≡ is_alone r xs
 unfolding is_alone
 alone_started r n xs = refl
 
 started_settled : (l : LinuxRequests) (n : ℕ) → IsBetween l → IsFree l n → IsBetween (with_started l n)
-started_settled l n b f =
-    let s = b.settled in
-    let r = l.requests in
-    record {
-      settled = record {
-        low = s.low;
-        begins = s.begins;
-        amid = λ k le lt. let c = b.closed in absurd (omega (arith, le, lt, c));
-        later = λ k le.
-            let new = s.later k le in
-            let started = added_other (λ m. m == k) r.started n (ne_eqb n k (λ e. let low = f.low in omega (arith, e, le, low))) ∙ new.started in
-            assumption;
-        waiting = order_kept (IsWaiting r) (IsWaiting (manual.with_started r n)) 0 l.drains.deferred l.drains.from s.waiting
-            (λ g there some within w.
-            let idle : (k : ℕ) → g.from ≤ k → k < g.end → IsIdle (manual.with_started r n) k =
-            λ k le lt.
-            let old = w.idle k le lt in
-            let started = added_other (λ m. m == k) r.started n (ne_eqb n k (λ e. among_apart l.drains.deferred n k g there f.out le lt (sym e))) ∙ old.started in
-            assumption
-            in
-            assumption);
-        gone = gone_same r (manual.with_started r n) l.drains.deferred (alone_started r n l.drains.deferred) s.gone;
-      };
-      closed = b.closed;
-    }
+started_settled l n b f = grind (arith, added_other, order_kept, alone_started)
 
 ended_settled : (l : LinuxRequests) (n : ℕ) (res : ℤ) (bytes : List ℕ) → IsBetween l → IsFree l n
     → IsBetween (with_ended l n res bytes)
@@ -303,10 +233,7 @@ ended_settled l n res bytes b f =
         low = s.low;
         begins = s.begins;
         amid = λ k le lt. let c = b.closed in absurd (omega (arith, le, lt, c));
-        later = λ k le.
-            let new = s.later k le in
-            let ended = has_ended_other r n res bytes k (λ e. let low = f.low in absurd (omega (arith, e, le, low))) ∙ new.ended in
-            assumption;
+        later = grind (arith, has_ended_other);
         waiting = order_still (IsWaiting t) (is_alone t l.drains.deferred) 0 l.drains.deferred l.drains.from all;
         gone = gone_on t 0 l.drains.deferred l.drains.from s.low all;
       };

@@ -1,6 +1,6 @@
 -- What is told of a request, and what a cancel finds, from what is kept.
-use Rattle.std.proofs.Common.{◌≡◌, ℕ, ◌<◌, ◌≤◌, length, Bool, true, false, not, ◌&&◌, leb, ltb, Option, Some, None, is_some, refl, sym, ◌∙◌, ap, arith, inl, inr}
-use Rattle.uring_linux.proofs.Common.{IsGroup, LinuxRequests, Request, Requests, Shows, Tells, Window, and_from, and_right, at, doom_of, end_of, entry_of, fault_of, first_member, has_ended, if◌then◌else◌, is_deferred, is_doomed, is_faulty, is_outstanding, is_running, joined_member, keeps_back, kept_back_by, least_below, least_below_same, least_free_of, operation_of, unwrap_or, why_of}
+use Rattle.std.proofs.Common.{◌≡◌, ℕ, ◌<◌, ◌≤◌, length, Bool, true, false, not, ◌&&◌, leb, ltb, Option, Some, None, sym, ap, arith, inl, inr}
+use Rattle.uring_linux.proofs.Common.{IsGroup, LinuxRequests, Request, Requests, Shows, Tells, Window, at, doom_of, end_of, entry_of, fault_of, first_member, has_ended, if◌then◌else◌, is_deferred, is_doomed, is_faulty, is_outstanding, is_running, joined_member, keeps_back, kept_back_by, least_below, least_below_same, least_free_of, operation_of, unwrap_or, why_of}
 use Rattle.uring_entry.specs.declared.fault.Fault.{Fault}
 use Rattle.uring_entry.specs.declared.operation.Op.{Op}
 use Rattle.uring_entry.specs.declared.operation.Op.TheVariants.{Cancel}
@@ -64,22 +64,14 @@ told_gone r n e = told_by r n None (ap (λ b. if b && not (is_faulty (entry_of r
 -- who has a fault finds nothing
 pub told_faulty : (q : Request) (r : Requests) (n : ℕ) (fault : Fault) → Tells q r n → fault_of q.entry ≡ Some fault
     → None ≡ told_of r n
-told_faulty q r n fault t e =
-    told_by r n None
-    (ap (λ b. if b then Some (operation_of (entry_of r n)) else None)
-    (and_right _ _ (ap not (ap is_faulty (sym t.entry) ∙ ap is_some e))))
+told_faulty q r n fault t e = grind arith
 
 -- what the others find, by what they are to do
 pub told_healthy : (q : Request) (r : Requests) (n : ℕ) (op : Op) → Tells q r n → is_outstanding r n ≡ true
     → fault_of q.entry ≡ None → op ≡ operation_of q.entry → told_for r n (Some op) ≡ told_of r n
-told_healthy q r n op t going e is =
-    told_by r n (Some op)
-    (ap (λ b. if b then Some (operation_of (entry_of r n)) else None)
-    (and_from _ _ going (ap not (ap is_faulty (sym t.entry) ∙ ap is_some e)))
-    ∙ ap Some (ap operation_of (sym t.entry) ∙ sym is))
+told_healthy q r n op t going e is = grind arith
 
 -- what is no cancel finds nothing
 pub told_other : (r : Requests) (n : ℕ) (op : Op) → ((t : ℕ) (all : Bool) → op ≡ Cancel t all → ⊥)
     → None ≡ told_for r n (Some op)
-told_other r n (Cancel t all) other = absurd (other t all refl)
-told_other r n _ other = refl
+told_other r n op other = grind arith

@@ -1,6 +1,6 @@
 -- How a request stands, from what is kept of it, and what its issue is answered.
-use Rattle.std.proofs.Common.{◌≡◌, ℕ, ◌<◌, ℤ, length, Bool, true, false, not, ◌&&◌, leb, Option, Some, None, is_some, refl, sym, ◌∙◌, ap, subst, arith, inl, inr, List, set, ◌-◌, ◌≤◌, ◌⊎◌}
-use Rattle.uring_linux.proofs.Common.{Drains, KeptDrains, LinuxDispatch, LinuxRequests, Request, Requests, Shows, ShowsRequests, Tells, Window, after_going_on, and_from, and_left, and_parts, and_right, at, both_ways, cancel_result, cases_Bool, cases_lt, comes_past, dispatch_of, doomed_result, end_of, ended_with, entry_of, fault_of, first_member, found_by, has_ended, has_fault, if◌then◌else◌, is_cancel_all, is_deferred, is_doomed, is_faulty, is_in_faulty_group, is_in_group, is_in_own_group, is_in_turn, is_issuable, is_let_in, is_outstanding, is_running, issued, issued_ready, le-leb, le-ltb, least_below, least_below_same, least_of, lt-leb, lt-ltb, neg_ℤ, not-true, one_if, or_left, or_parts, some_below_some}
+use Rattle.std.proofs.Common.{◌≡◌, ℕ, ◌<◌, ℤ, length, Bool, true, false, not, ◌&&◌, Option, Some, None, is_some, refl, sym, ◌∙◌, ap, subst, arith, inl, inr, List, set, ◌-◌, ◌≤◌, ◌⊎◌}
+use Rattle.uring_linux.proofs.Common.{Drains, KeptDrains, LinuxDispatch, LinuxRequests, Request, Requests, Shows, ShowsRequests, Tells, Window, after_going_on, and_from, and_parts, and_right, at, both_ways, cancel_result, cases_Bool, comes_past, dispatch_of, doomed_result, end_of, ended_with, entry_of, fault_of, first_member, found_by, has_ended, has_fault, if◌then◌else◌, is_cancel_all, is_deferred, is_doomed, is_faulty, is_in_faulty_group, is_in_group, is_in_own_group, is_in_turn, is_issuable, is_let_in, is_outstanding, is_running, issued, issued_ready, least_below_same, least_of, lt-leb, neg_ℤ, not-true, one_if, or_left, or_parts, some_below_some}
 use Rattle.uring_linux.specs.LinuxRequests.{with_started, with_ended}
 use Rattle.uring_entry.specs.declared.fault.Fault.{Fault}
 use Rattle.uring_entry.specs.Success as success
@@ -28,25 +28,15 @@ shown_as s d b room between x l e g =
 -- what isn't kept has ended, or wasn't given
 pub outside : (s : Window) (r : Requests) (n : ℕ) → Shows s r → None ≡ at s n
     → (has_ended r n ≡ true) ⊎ (length r.accepted ≤ n)
-outside s r n h none =
-    elim (cases_lt n s.first) [
-      | inl low ↦ inl (h.gone n low)
-      | inr high ↦
-          elim (cases_lt n (end_of s)) [
-            | inl inside ↦ absurd (not_none s n (record { low = high; high = inside }) none)
-            | inr past ↦ inr (omega (arith, past, h.count))
-          ]
-    ]
+outside s r n h none = grind (arith, not_none)
 
 pub outside_ended : (s : Window) (r : Requests) (n : ℕ) → Shows s r → None ≡ at s n
     → is_outstanding r n ≡ false
-outside_ended s r n h none =
-    elim (outside s r n h none) [ inl gone ↦ and_right _ _ (ap not gone) | inr past ↦ and_left _ _ (le-ltb n (length r.accepted) past) ]
+outside_ended s r n h none = grind (arith, outside, and_right)
 
 pub outside_idle : (s : Window) (r : Requests) (n : ℕ) → Shows s r → None ≡ at s n
     → is_running r n ≡ false
-outside_idle s r n h none =
-    elim (outside s r n h none) [ inl gone ↦ and_right _ _ (ap not gone) | inr past ↦ and_left _ _ (h.later n past).started ]
+outside_idle s r n h none = grind (arith, outside, and_right)
 
 pub outstanding_ended : (q : Request) (r : Requests) (n : ℕ) → Tells q r n → q.has_ended ≡ true
     → is_outstanding r n ≡ false
@@ -54,18 +44,11 @@ outstanding_ended q r n t e = and_right _ _ (ap not (sym t.ended ∙ e))
 
 pub outstanding_going : (s : Window) (q : Request) (r : Requests) (n : ℕ) → Shows s r → at s n ≡ Some q
     → q.has_ended ≡ false → is_outstanding r n ≡ true
-outstanding_going s q r n h here e =
-    let w = at_within s n q here in
-    and_from _ _ (lt-ltb n (length r.accepted) (omega (arith, w.high, h.count))) (ap not (sym (h.told n q here).ended ∙ e))
+outstanding_going s q r n h here e = grind (arith, at_within, and_from)
 
 pub running_outstanding : (s : Window) (r : Requests) (n : ℕ) → Shows s r → is_running r n ≡ true
     → is_outstanding r n ≡ true
-running_outstanding s r n h e =
-    let parts = and_parts _ _ e in
-    elim (cases_lt n (length r.accepted)) [
-      | inl low ↦ and_from _ _ (lt-ltb n (length r.accepted) low) parts.1
-      | inr past ↦ absurd (both_ways _ (h.later n past).started parts.0)
-    ]
+running_outstanding s r n h e = grind arith
 
 -- what has no fault is let in
 pub fine_let_in : (r : Requests) (n : ℕ) → has_fault r n ≡ false → is_let_in r n ≡ true
@@ -105,11 +88,7 @@ asked l n o run turn doomed deferred a b c d e = rw (a, b, c, d, e)
 
 pub ended_outstanding : (l : LinuxRequests) (n : ℕ) (res : ℤ) (p : Posts) → issued l n ≡ Ended res p
     → is_outstanding l.requests n ≡ true
-ended_outstanding l n res p e = go (is_outstanding l.requests n) _ e
-  where
-    go : (o : Bool) (x : Issued) → (if not o then Unknown else x) ≡ Ended res p → o ≡ true
-    go true x e = refl
-    go false x e = absurd (cc)
+ended_outstanding l n res p e = grind arith
 
 -- Cancels.
 
@@ -149,42 +128,26 @@ dispatch_ended s t d k b room left between amid l n q res bytes failed h here go
 -- What can be issued.
 
 pub some_running : (b : Bool) (p q : Posts) → Some q ≡ (if b then Some p else None) → b ≡ true
-some_running true p q e = refl
-some_running false p q e = absurd (cc)
+some_running b p q e = grind arith
 
 pub least_is : (s : Window) (r : Requests) → Shows s r
     → first_member (λ m. not (has_ended r m)) s.first (end_of s) ≡ least_of r
 unfolding first_member
-least_is s r h =
-    least_below_same (λ m. leb s.first m && not (has_ended r m)) (is_outstanding r) (end_of s)
-    (λ m low.
-    elim (cases_lt m s.first) [
-      | inl before ↦ and_left _ _ (lt-leb s.first m before) ∙ sym (and_right _ _ (ap not (h.gone m before)))
-      | inr past ↦
-          ap (λ b. b && not (has_ended r m)) (le-leb s.first m past)
-          ∙ ap (λ b. b && not (has_ended r m)) (sym (lt-ltb m (length r.accepted) (omega (arith, low, h.count))))
-    ])
-    ∙ ap (least_below (is_outstanding r)) h.count
+least_is s r h = grind (arith, least_below_same, lt-leb)
 
 -- who is not kept any more can't be issued
 pub gone_issuable : (s : Window) (d : KeptDrains) (b : Bool) (room : ℕ) (between : Bool) (x : LinuxDispatch) (l : LinuxRequests) (n : ℕ)
     → dispatch_of s d b room between ≡ x → ShowsRequests x l → n < s.first → is_issuable l n ≡ false
-gone_issuable s d b room between x l n e g lt =
-    let h = shown s d b room between l (subst (λ (y : LinuxDispatch). ShowsRequests y l) (sym e) g) in
-    and_left _ _ (and_right _ _ (ap not (h.gone n lt)))
+gone_issuable s d b room between x l n e g lt = grind arith
 
 -- who isn't outstanding, or runs, can't be issued
 pub busy_waits : (a b c : Bool) → (b && c) ≡ false → ((a && b) && c) ≡ false
-busy_waits true b c e = e
-busy_waits false b c e = refl
+busy_waits a b c e = grind arith
 
 pub busy_issuable : (a b c : Bool) → (a && b) ≡ false → false ≡ (a && (b && c))
-busy_issuable true true c e = absurd (let f : true ≡ false = e in cc)
-busy_issuable true false c e = refl
-busy_issuable false b c e = refl
+busy_issuable a b c e = grind arith
 
 -- Counts.
 
 pub one_more : (b : Bool) (k : ℕ) → k ≡ one_if b → 0 < k → b ≡ true
-one_more true k e lt = refl
-one_more false k e lt = absurd (omega arith)
+one_more b k e lt = grind arith

@@ -1,33 +1,18 @@
 -- What each event changes in the numbers, and that they stay right.
-use Rattle.std.proofs.Common.{◌≡◌, ℕ, ◌+◌, ◌-◌, ◌<◌, ◌≤◌, length, Bool, true, false, not, ◌&&◌, [], set, Some, None, refl, sym, ◌∙◌, ap, arith, inl, inr, length-set}
-use Rattle.uring_linux.proofs.Common.{HasAccepted, HasEnded, HasFinished, HasStarted, IsDispatch, IsOpen, KeptDrains, Lessens, Request, Sqe, Window, and-true, at, both_ways, cases_Bool, dispatch_of, end_of, is_linked, is_unended, new_request, no_drains, not-true, one_if, running_among, runs, unended_among}
+use Rattle.std.proofs.Common.{◌≡◌, ℕ, ◌+◌, ◌-◌, ◌<◌, ◌≤◌, length, Bool, true, false, not, ◌&&◌, [], set, Some, None, refl, sym, ◌∙◌, ap, arith, length-set}
+use Rattle.uring_linux.proofs.Common.{HasAccepted, HasEnded, HasFinished, HasStarted, IsDispatch, IsOpen, KeptDrains, Lessens, Request, Sqe, Window, and-true, at, both_ways, dispatch_of, end_of, is_linked, is_unended, new_request, no_drains, not-true, one_if, running_among, runs, unended_among}
 use Rattle.uring_linux.proofs.WindowCounts.{unended_none, running_none, at_roomed, count_written, unended_counts, running_counts}
 
 pub open_from : (s : Window) (n : ℕ) (q : Request) (b : Bool) → IsOpen (record s { room = 0 }) n b
     → at s n ≡ Some q → (q.has_ended ≡ false) × (q.is_running ≡ b)
-open_from s n q b o e =
-    let here = at_roomed s 0 n ∙ e in
-    let open_ = not-true _ (ap is_unended (sym here) ∙ o.unended) in
-    (open_, sym (and-true q.is_running) ∙ sym (ap (λ x. q.is_running && not x) open_) ∙ ap runs (sym here) ∙ o.running)
+open_from s n q b o e = grind (arith, at_roomed, not-true)
 
 pub never_open : (s : Window) (n : ℕ) → is_unended (at (record s { room = 0 }) n) ≡ true → None ≡ at s n → ⊥
 never_open s n open_ none = both_ways _ (ap is_unended (at_roomed s 0 n ∙ sym none)) open_
 
 pub new_dispatch : (s : Window) (d : KeptDrains) → s ≡ record { first = 0; items = []; room = 0 }
     → d ≡ record { drains = no_drains; room = 0 } → IsDispatch s d 0 0 0 true
-new_dispatch s d es ed =
-    rw (es, ed)
-    (record {
-      outstanding = sym unended_none;
-      running = sym running_none;
-      window = omega arith;
-      groups = omega arith;
-      amid = λ lt. absurd (omega (arith, lt));
-      low = omega arith;
-      high = omega arith;
-      few = omega arith;
-      closed = λ e. omega arith;
-    })
+new_dispatch s d es ed = grind (arith, unended_none, running_none)
 
 -- A request is accepted.
 
@@ -37,17 +22,7 @@ pub accepted_counts : (s t : Window) (d k : KeptDrains) (b c : Bool) (room left 
     → running_among t.items ≡ running_among s.items + one_if (runs (Some q)) → q ≡ new_request e c n
     → left + 1 ≡ room
     → HasAccepted (dispatch_of s d b room between) (dispatch_of t k c left amid)
-accepted_counts s t d k b c room left between amid e q n end outstanding running new is =
-    record {
-      accepted = end;
-      outstanding =
-          outstanding
-          ∙ ap (λ (x : Request). unended_among s.items + one_if (not x.has_ended)) new;
-      running =
-          let none : one_if (runs (Some q)) ≡ 0 = ap (λ (x : Request). one_if (x.is_running && not x.has_ended)) new in
-          omega arith;
-      room = is;
-    }
+accepted_counts s t d k b c room left between amid e q n end outstanding running new is = grind arith
 
 pub accepted_dispatch : (s t : Window) (d k : KeptDrains) (o r room left : ℕ) (between c : Bool) (e : Sqe) (q : Request)
     (n : ℕ) → IsDispatch s d o r room between → t.first ≡ s.first → end_of t ≡ end_of s + 1
@@ -60,21 +35,7 @@ pub accepted_dispatch : (s t : Window) (d k : KeptDrains) (o r room left : ℕ) 
     → (d.drains.from < end_of t → length d.drains.deferred ≤ d.drains.from → length k.drains.deferred ≤ k.drains.from)
     → IsDispatch t k (o + 1) r left false
 accepted_dispatch s t d k o r room left between c e q n i first long outstanding running new less is same from_same closed less_groups few =
-    let counted = accepted_counts s t d k false c room left between false e q n long outstanding running new is in
-    record {
-      outstanding = ap (λ x. x + 1) i.outstanding ∙ sym counted.outstanding;
-      running = i.running ∙ sym counted.running;
-      window = omega arith;
-      groups = omega arith;
-      amid = λ lt. by_link (λ linked. let a = same linked in omega arith) (λ last. let a = closed last in absurd (omega arith));
-      low = by_link (λ linked. let a = from_same linked in omega arith) (λ last. let a = closed last in omega arith);
-      high = by_link (λ linked. let a = from_same linked in omega arith) (λ last. let a = closed last in omega arith);
-      few = few (omega arith) i.few;
-      closed = λ never. absurd (cc);
-    }
-  where
-    by_link : {P : Type 0} → (is_linked q.entry ≡ true → P) → (is_linked q.entry ≡ false → P) → P
-    by_link in_link at_end = elim (cases_Bool (is_linked q.entry)) [ inl linked ↦ in_link linked | inr last ↦ at_end last ]
+    grind arith
 
 -- A request starts.
 
@@ -102,21 +63,7 @@ pub started_dispatch : (s t : Window) (d : KeptDrains) (o r room : ℕ) (between
     → IsDispatch s d o r room between → at s n ≡ Some q → q.has_ended ≡ false → q.is_running ≡ false
     → Starts s t n q → IsDispatch t d o (r + 1) room between
 started_dispatch s t d o r room between n q i here open_ idle et =
-    let counted = started_counts s t d false room between n q here open_ idle et in
-    let end : end_of t ≡ end_of s = counted.accepted in
-    let first = ap (λ (x : Window). x.first) et in
-    let spare = ap (λ (x : Window). x.room) et in
-    record {
-      outstanding = i.outstanding ∙ sym counted.outstanding;
-      running = ap (λ x. x + 1) i.running ∙ sym counted.running;
-      window = omega arith;
-      groups = i.groups;
-      amid = λ lt. i.amid (omega (arith, lt));
-      low = omega arith;
-      high = omega arith;
-      few = i.few;
-      closed = λ e. let c = i.closed e in omega arith;
-    }
+    grind (arith, (started_counts s t d false room between n q here open_ idle et))
 
 -- A request ends.
 
@@ -147,45 +94,16 @@ lessens s t n q failed here open_ et =
 pub ended_counts : (s t : Window) (d k : KeptDrains) (b : Bool) (room : ℕ) (between : Bool) (q : Request)
     → q.is_running ≡ false → Lessens s t q
     → HasEnded (dispatch_of s d b room between) (dispatch_of t k b room between)
-ended_counts s t d k b room between q idle less =
-    let none : one_if q.is_running ≡ 0 = ap one_if idle in
-    let runs_same = less.running in
-    record {
-      accepted = less.end;
-      outstanding = less.outstanding;
-      running = omega arith;
-      room = omega arith;
-      between = refl;
-    }
+ended_counts s t d k b room between q idle less = grind arith
 
 pub finished_counts : (s t : Window) (d k : KeptDrains) (b : Bool) (room : ℕ) (between : Bool) (q : Request)
     → q.is_running ≡ true → Lessens s t q
     → HasFinished (dispatch_of s d b room between) (dispatch_of t k b room between)
-finished_counts s t d k b room between q busy less =
-    let one : one_if q.is_running ≡ 1 = ap one_if busy in
-    let runs_less = less.running in
-    record {
-      accepted = less.end;
-      outstanding = less.outstanding;
-      running = omega arith;
-      room = omega arith;
-      between = refl;
-    }
+finished_counts s t d k b room between q busy less = grind arith
 
 pub ended_dispatch : (s t : Window) (d k : KeptDrains) (o p r u room : ℕ) (between : Bool) (q : Request)
     → IsDispatch s d o r room between → Lessens s t q
     → k.room ≡ d.room → k.drains.from ≡ d.drains.from
     → length k.drains.deferred ≤ length d.drains.deferred → p + 1 ≡ o → u + one_if q.is_running ≡ r
     → IsDispatch t k p u room between
-ended_dispatch s t d k o p r u room between q i l spare from fewer less less_running =
-    record {
-      outstanding = omega arith;
-      running = omega arith;
-      window = omega arith;
-      groups = omega arith;
-      amid = λ lt. let a = i.amid (omega (arith, lt)) in omega arith;
-      low = omega arith;
-      high = omega arith;
-      few = omega arith;
-      closed = λ e. let c = i.closed e in omega arith;
-    }
+ended_dispatch s t d k o p r u room between q i l spare from fewer less less_running = grind arith

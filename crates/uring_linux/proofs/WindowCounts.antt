@@ -1,6 +1,6 @@
 -- How many of the requests that are kept haven't ended, and how many run: what each event changes in that.
-use Rattle.std.proofs.Common.{◌≡◌, ℕ, suc, ◌+◌, ◌-◌, ◌<◌, ◌≤◌, length, Bool, true, false, not, ◌&&◌, List, [], ◌∷◌, ◌++◌, set, slice_get, Option, Some, refl, sym, ◌∙◌, ap, arith, inl, inr, length-append, length-set}
-use Rattle.uring_linux.proofs.Common.{IsOpen, KeptDrains, LinuxRequests, Request, Requests, Shows, ShowsRequests, Window, and-true, and_right, asks_to_skip, at, cases_Bool, count_below, count_below_apart, count_below_changed, count_below_same, count_below_some, count_below_within, count_below_zero, dispatch_of, entry_of, has_ended, has_started, is_outstanding, is_running, is_unended, lt-ltb, one_if, outstanding_in, running_among, running_in, runs, slice_get_cases, slice_get_within, some_below, unended_among}
+use Rattle.std.proofs.Common.{◌≡◌, ℕ, ◌+◌, ◌-◌, ◌<◌, ◌≤◌, length, Bool, true, false, not, ◌&&◌, List, [], ◌∷◌, ◌++◌, set, slice_get, Option, Some, refl, sym, ◌∙◌, ap, arith, inl, inr, length-append, length-set}
+use Rattle.uring_linux.proofs.Common.{IsOpen, KeptDrains, LinuxRequests, Request, Requests, Shows, ShowsRequests, Window, and_right, asks_to_skip, at, cases_Bool, count_below, count_below_apart, count_below_changed, count_below_same, count_below_some, count_below_within, count_below_zero, dispatch_of, entry_of, has_ended, has_started, is_outstanding, is_running, is_unended, lt-ltb, one_if, outstanding_in, running_among, running_in, runs, slice_get_cases, slice_get_within, some_below, unended_among}
 use Rattle.uring_linux.proofs.WindowLemmas.{at_high}
 use Rattle.uring_linux.proofs.WindowEvents.{push_here, push_other, is_set_here, set_other, at_within, roomed}
 
@@ -10,11 +10,7 @@ among p xs = count_below (λ k. p (slice_get xs k)) (length xs)
 
 among_pushed : (p : Option Request → Bool) (xs : List Request) (q : Request)
     → among p (xs ++ q ∷ []) ≡ among p xs + one_if (p (Some q))
-among_pushed p xs q =
-    let long : length (xs ++ q ∷ []) ≡ suc (length xs) = omega (arith, length-append xs (q ∷ [])) in
-    let before = count_below_same (λ k. p (slice_get (xs ++ q ∷ []) k)) (λ k. p (slice_get xs k)) (length xs) (λ k lt. ap p (push_other xs q k (λ e. omega (arith, e, lt)))) in
-    let last : one_if (p (slice_get (xs ++ q ∷ []) (length xs))) ≡ one_if (p (Some q)) = ap (λ o. one_if (p o)) (push_here xs q) in
-    ap (count_below (λ k. p (slice_get (xs ++ q ∷ []) k))) long ∙ omega arith
+among_pushed p xs q = grind (arith, (length-append xs (q ∷ [])), (push_here xs q), count_below_same, push_other)
 
 among_set : (p : Option Request → Bool) (xs : List Request) (i : ℕ) (q : Request) → i < length xs
     → among p (set xs i q) + one_if (p (slice_get xs i)) ≡ among p xs + one_if (p (Some q))
@@ -35,11 +31,7 @@ running_none = refl
 -- What is kept shows how many are outstanding and running.
 
 pub there : (xs : List Request) (i : ℕ) → i < length xs → (q : Request) × (slice_get xs i ≡ Some q)
-there xs i lt =
-    elim (slice_get_cases xs i).1 [
-      | inl inside ↦ (inside.0, inside.2)
-      | inr past ↦ absurd (omega (arith, past.0))
-    ]
+there xs i lt = grind (arith, (slice_get_cases xs i))
 
 among_shown : (p : Option Request → Bool) (P : ℕ → Bool) (xs : List Request) (first : ℕ)
     → ((k : ℕ) (q : Request) → slice_get xs k ≡ Some q → p (Some q) ≡ P (first + k))
@@ -52,14 +44,10 @@ among_shown p P xs first told none =
     omega arith
 
 pub at_place : (s : Window) (k : ℕ) (q : Request) → slice_get s.items k ≡ Some q → at s (s.first + k) ≡ Some q
-at_place s k q e =
-    let place : (s.first + k) - s.first ≡ k = omega arith in
-    at_high s (s.first + k) (omega arith) ∙ ap (slice_get s.items) place ∙ e
+at_place s k q e = grind (arith, at_high)
 
 twice : (a b : Bool) → ((a && not b) && not b) ≡ (a && not b)
-twice true true = refl
-twice true false = refl
-twice false b = refl
+twice a b = grind arith
 
 pub unended_shown : (s : Window) (r : Requests) → Shows s r → unended_among s.items ≡ outstanding_in r
 unfolding unended_among
@@ -133,10 +121,7 @@ module _ {p : Option Request → Bool} {f : List Request → ℕ} (c : Counts p 
 
   pub count_same : (s : Window) (n : ℕ) (q t : Request) → at s n ≡ Some q → p (Some t) ≡ p (Some q)
       → f (set s.items (n - s.first) t) ≡ f s.items
-  count_same s n q t e same =
-      let all = count_written s n q t e in
-      let one : one_if (p (Some t)) ≡ one_if (p (Some q)) = ap one_if same in
-      omega arith
+  count_same s n q t e same = grind (arith, (count_written s n q t e))
 
   -- one that passes is counted
   pub count_some : (s : Window) (n : ℕ) (q : Request) → at s n ≡ Some q → one_if (p (Some q)) ≤ f s.items
@@ -165,9 +150,4 @@ at_roomed s room n = refl
 -- what is open, from what is kept
 pub open_at : (s : Window) (n : ℕ) (q : Request) (running : Bool) → at s n ≡ Some q → q.has_ended ≡ false
     → q.is_running ≡ running → IsOpen (record s { room = 0 }) n running
-open_at s n q running e open_ run =
-    let here = at_roomed s 0 n ∙ e in
-    record {
-      unended = ap is_unended here ∙ ap not open_;
-      running = ap runs here ∙ ap (λ b. q.is_running && not b) open_ ∙ and-true q.is_running ∙ run;
-    }
+open_at s n q running e open_ run = grind (arith, at_roomed)

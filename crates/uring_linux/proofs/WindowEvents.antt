@@ -1,7 +1,7 @@
 -- What each event changes in what is kept.
 use Rattle.std.proofs.Common.{◌≡◌, ◌≢◌, ℕ, suc, ◌+◌, ◌-◌, ◌<◌, ◌≤◌, ℤ, length, Bool, true, false, not, ◌&&◌, ◌||◌, ◌==◌, List, [], ◌∷◌, ◌++◌, set, slice_get, Some, None, refl, sym, ◌∙◌, ap, arith, inl, inr, length-append, length-set, zero}
 use Rattle.std.specs.List.{list_any}
-use Rattle.uring_linux.proofs.Common.{IsGrouped, IsNew, IsWithin, Request, Requests, Shows, Sqe, Tells, Window, added_other, and_left, asks_to_drain, asks_to_skip, at, cases_eq, cases_lt, end_of, entry_of, entry_of_accepted_at, entry_of_accepted_other, entry_same, has_ended, has_ended_other, has_ended_same, has_failed_accepted, has_failed_other, has_failed_same, has_failed_unended, has_skipped, is_faulty, is_last, is_last_cut, is_last_cut_last, is_linked, is_refused_drain, is_running_ended_other, is_running_ended_same, is_running_started_other, is_running_started_same, is_success, ne_eqb, new_request, no_request, or-false, same_Some, slice_get-get_or, slice_get_past, slice_get_within, some_below, some_below_same, with_accepted, with_cut, with_ended, with_started}
+use Rattle.uring_linux.proofs.Common.{IsGrouped, IsNew, IsWithin, Request, Requests, Shows, Sqe, Tells, Window, added_other, and_left, asks_to_drain, asks_to_skip, at, cases_eq, cases_lt, end_of, entry_of, entry_of_accepted_at, entry_of_accepted_other, entry_same, has_ended, has_ended_other, has_ended_same, has_failed_accepted, has_failed_other, has_failed_same, has_failed_unended, has_skipped, is_faulty, is_last, is_last_cut, is_last_cut_last, is_linked, is_refused_drain, is_running_ended_same, is_running_started_other, is_running_started_same, is_success, ne_eqb, new_request, no_request, or-false, same_Some, slice_get-get_or, slice_get_past, slice_get_within, some_below, some_below_same, with_accepted, with_cut, with_ended, with_started}
 use Rattle.std.proofs.lemmas.List.{get_or-set_same, get_or-set_other}
 use Rattle.std.proofs.Math.Seq.{get_or-append_seam}
 use Rattle.uring_linux.proofs.WindowLemmas.{at_low, at_high}
@@ -20,19 +20,11 @@ push_other (y ∷ xs) x zero ne = refl
 push_other (y ∷ xs) x (suc k) ne = push_other xs x k (λ e. ne (ap suc e))
 
 pub is_set_here : (xs : List Request) (x : Request) (i : ℕ) → i < length xs → slice_get (set xs i x) i ≡ Some x
-is_set_here xs x i lt =
-    slice_get-get_or (set xs i x) i x (omega (arith, length-set xs i x)) ∙ ap Some (get_or-set_same xs i x x lt)
+is_set_here xs x i lt = grind (arith, (length-set xs i x), (get_or-set_same xs i x x lt), slice_get-get_or)
 
 pub set_other : (xs : List Request) (x : Request) (i k : ℕ) → k ≢ i
     → slice_get (set xs i x) k ≡ slice_get xs k
-set_other xs x i k ne =
-    let long = length-set xs i x in
-    elim (cases_lt k (length xs)) [
-      | inl low ↦
-          slice_get-get_or (set xs i x) k x (omega (arith, long)) ∙ ap Some (get_or-set_other xs i k x x ne)
-          ∙ sym (slice_get-get_or xs k x low)
-      | inr high ↦ slice_get_past (set xs i x) k (omega (arith, long)) ∙ sym (slice_get_past xs k high)
-    ]
+set_other xs x i k ne = grind (arith, (length-set xs i x), (get_or-set_other xs i k x x ne), slice_get-get_or, slice_get_past)
 
 -- What is kept.
 
@@ -47,32 +39,19 @@ at_within s n q e =
 
 pub at_push_here : (s : Window) (q : Request) (room : ℕ)
     → at (record { first = s.first; items = s.items ++ q ∷ []; room = room }) (end_of s) ≡ Some q
-at_push_here s q room =
-    let place : (s.first + length s.items) - s.first ≡ length s.items = omega arith in
-    at_high _ (end_of s) (omega arith) ∙ ap (slice_get (s.items ++ q ∷ [])) place ∙ push_here s.items q
+at_push_here s q room = grind (arith, (push_here s.items q), at_high)
 
 pub at_push_other : (s : Window) (q : Request) (room n : ℕ) → n ≢ end_of s
     → at (record { first = s.first; items = s.items ++ q ∷ []; room = room }) n ≡ at s n
-at_push_other s q room n ne =
-    elim (cases_lt n s.first) [
-      | inl low ↦ at_low _ n low ∙ sym (at_low s n low)
-      | inr high ↦ at_high _ n high ∙ push_other s.items q (n - s.first) (λ e. ne (omega (arith, e))) ∙ sym (at_high s n high)
-    ]
+at_push_other s q room n ne = grind (arith, at_low, at_high, push_other)
 
 pub at_set_here : (s : Window) (q : Request) (n : ℕ) → IsWithin s n
     → at (record s { items = set s.items (n - s.first) q }) n ≡ Some q
-at_set_here s q n w =
-    let low = w.low in
-    let high = w.high in
-    at_high _ n w.low ∙ is_set_here s.items q (n - s.first) (omega arith)
+at_set_here s q n w = grind (arith, at_high, is_set_here)
 
 pub at_set_other : (s : Window) (q : Request) (n k : ℕ) → s.first ≤ n → k ≢ n
     → at (record s { items = set s.items (n - s.first) q }) k ≡ at s k
-at_set_other s q n k le ne =
-    elim (cases_lt k s.first) [
-      | inl low ↦ at_low _ k low ∙ sym (at_low s k low)
-      | inr high ↦ at_high _ k high ∙ set_other s.items q (n - s.first) (k - s.first) (λ e. ne (omega (arith, e))) ∙ sym (at_high s k high)
-    ]
+at_set_other s q n k le ne = grind (arith, at_low, at_high, set_other)
 
 -- What is kept shows these requests, whatever it says of groups.
 pub record Keeps (s : Window) (r : Requests) : Type 0 where
@@ -106,15 +85,8 @@ last_accepted r e k lt =
 
 tells_accepted : (q : Request) (r : Requests) (e : Sqe) (k : ℕ) → Tells q r k → k < length r.accepted
     → IsNew r (length r.accepted) → Tells q (with_accepted r e) k
-tells_accepted q r e k t lt new = record {
-  entry = t.entry ∙ sym (entry_of_accepted_other r e k (λ is. absurd (omega (arith, is))));
-  faulty = t.faulty ∙ sym (entry_same r e is_faulty k lt);
-  refused = t.refused ∙ sym (refused_accepted r e k lt);
-  last = t.last ∙ sym (last_accepted r e k lt);
-  running = t.running;
-  ended = t.ended;
-  failed = t.failed ∙ sym (has_failed_accepted r e k new.ended);
-}
+tells_accepted q r e k t lt new =
+    grind (arith, entry_of_accepted_other, entry_same, refused_accepted, last_accepted, has_failed_accepted)
 
 pub accepted_keeps : (s : Window) (q : Request) (room : ℕ) (r : Requests) (e : Sqe) → Keeps s r
     → Tells q (with_accepted r e) (length r.accepted)
@@ -127,8 +99,7 @@ accepted_keeps s q room r e h t =
       count = omega (arith, long, more, count);
       told = λ n x is.
           elim (cases_eq n (end_of s)) [
-            | inl same ↦
-                rw (same_Some x q (sym is ∙ ap (at _) same ∙ at_push_here s q room), same ∙ count) t
+            | inl same ↦ grind (arith, at_push_here)
             | inr other ↦
                 let was : at s n ≡ Some x = sym (at_push_other s q room n other) ∙ is in
                 let w = at_within s n x was in
@@ -192,15 +163,7 @@ started_keeps s q r n h here going =
 
 tells_ended : (q : Request) (r : Requests) (n : ℕ) (res : ℤ) (bytes : List ℕ) (k : ℕ) → k ≢ n → Tells q r k
     → Tells q (with_ended r n res bytes) k
-tells_ended q r n res bytes k ne t = record {
-  entry = t.entry;
-  faulty = t.faulty;
-  refused = t.refused;
-  last = t.last;
-  running = t.running ∙ sym (is_running_ended_other r n res bytes k ne);
-  ended = t.ended ∙ sym (has_ended_other r n res bytes k ne);
-  failed = t.failed ∙ sym (has_failed_other r n res bytes k ne);
-}
+tells_ended q r n res bytes k ne t = grind (arith, has_ended_other, has_failed_other)
 
 pub ended_keeps : (s : Window) (q : Request) (r : Requests) (n : ℕ) (res : ℤ) (bytes : List ℕ) (failed : Bool) → Keeps s r
     → at s n ≡ Some q → has_ended r n ≡ false → failed ≡ not (is_success q.entry res)
@@ -212,11 +175,7 @@ ended_keeps s q r n res bytes failed h here going is =
     (record {
       count = refl;
       others = λ x k ne was. tells_ended x r n res bytes k ne was;
-      gone = λ k e.
-          elim (cases_eq k n) [
-            | inl same ↦ ap (has_ended (with_ended r n res bytes)) same ∙ has_ended_same r n res bytes
-            | inr other ↦ has_ended_other r n res bytes k other ∙ e
-          ];
+      gone = grind (arith, has_ended_other);
       begins = λ k e. e;
       later = λ k le new.
           let ended = has_ended_other r n res bytes k (λ e. absurd (omega (arith, e, le, w.high, h.count))) ∙ new.ended in assumption;
@@ -234,15 +193,10 @@ ended_keeps s q r n res bytes failed h here going is =
 -- A call closes.
 
 pub last_kept : (r : Requests) (k : ℕ) → is_last r k ≡ true → is_last (with_cut r) k ≡ true
-last_kept r k was =
-    elim (cases_eq (suc k) (length r.accepted)) [
-      | inl last ↦ is_last_cut_last r k last
-      | inr other ↦ is_last_cut r k other ∙ was
-    ]
+last_kept r k was = grind (arith, is_last_cut_last, is_last_cut)
 
 pub new_cut : (r : Requests) (k : ℕ) → length r.accepted ≤ k → IsNew r k → IsNew (with_cut r) k
-new_cut r k le new =
-    let cut = added_other (λ cut. cut == k + 1) r.cuts (length r.accepted) (ne_eqb _ _ (λ e. absurd (omega (arith, e, le)))) ∙ new.cut in assumption
+new_cut r k le new = grind (arith, added_other)
 
 tells_cut : (q : Request) (r : Requests) (k : ℕ) → suc k ≢ length r.accepted → Tells q r k
     → Tells q (with_cut r) k
@@ -313,11 +267,4 @@ tells_new r e b n new is =
     }
 
 pub none_shows : Shows (record { first = 0; items = []; room = 0 }) no_request
-none_shows = record {
-  count = refl;
-  told = λ n q is. let w = at_within (record { first = 0; items = []; room = 0 }) n q is in absurd (omega (arith, w.low, w.high));
-  gone = λ n lt. absurd (omega arith);
-  begins = λ k is. absurd (omega arith);
-  later = λ n le. record { started = refl; ended = refl; cut = refl };
-  grouped = λ n q is. let w = at_within (record { first = 0; items = []; room = 0 }) n q is in absurd (omega (arith, w.low, w.high));
-}
+none_shows = grind (arith, at_within)

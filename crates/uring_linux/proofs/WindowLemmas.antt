@@ -1,6 +1,6 @@
 -- What is kept, by numbers, and what it tells.
-use Rattle.std.proofs.Common.{◌≡◌, ℕ, ◌-◌, ◌<◌, ◌≤◌, length, not, ◌&&◌, ◌||◌, ◌==◌, List, slice_get, Some, None, ◌∙◌, ap, arith, inl, inr}
-use Rattle.uring_linux.proofs.Common.{Faulty, IsWithin, Request, Requests, Runs, Tells, Unended, Window, at, entry_of, if◌then◌else◌, is_faulty, is_running, le-ltb, lt-ltb, passes, said, slice_get_cases, user_data_of}
+use Rattle.std.proofs.Common.{◌≡◌, ℕ, ◌-◌, ◌<◌, ◌≤◌, length, List, slice_get, Some, None, ◌∙◌, ap, arith}
+use Rattle.uring_linux.proofs.Common.{IsWithin, Request, Requests, Tells, Window, at, if◌then◌else◌, le-ltb, lt-ltb, passes, said, slice_get_cases}
 use Rattle.uring_linux.specs.declared.request.Test.{Test}
 
 pub at_low : (s : Window) (n : ℕ) → n < s.first → at s n ≡ None
@@ -12,11 +12,7 @@ unfolding at
 at_high s n le = ap (λ b. if b then None else slice_get s.items (n - s.first)) (le-ltb n s.first le)
 
 there : (xs : List Request) (i : ℕ) → i < length xs → (q : Request) × (slice_get xs i ≡ Some q)
-there xs i lt =
-    elim (slice_get_cases xs i).1 [
-      | inl inside ↦ (inside.0, inside.2)
-      | inr past ↦ absurd (omega (arith, past.0))
-    ]
+there xs i lt = grind (arith, (slice_get_cases xs i))
 
 -- what is kept of n
 pub kept : (s : Window) (n : ℕ) → IsWithin s n → (q : Request) × (at s n ≡ Some q)
@@ -31,7 +27,4 @@ not_none s n w e = let q = kept s n w in let f : None ≡ Some q.0 = e ∙ q.1 i
 
 -- what passes a test is what the test says
 pub agrees : (t : Test) (q : Request) (r : Requests) (n : ℕ) → Tells q r n → passes t q ≡ said t r n
-agrees Unended q r n t = ap not t.ended
-agrees Faulty q r n t = ap (λ b. b || q.is_refused) t.faulty ∙ ap (λ b. is_faulty (entry_of r n) || b) t.refused
-agrees (Runs u) q r n t =
-    ap (λ b. b && (user_data_of q.entry == u)) t.running ∙ ap (λ e. is_running r n && (user_data_of e == u)) t.entry
+agrees t q r n h = grind arith

@@ -1,5 +1,5 @@
 -- How the steps of a submission call are answered, and what they make: from the laws of the call of the positions that wait.
-use Rattle.std.proofs.Common.{◌≡◌, ℕ, zero, suc, ◌+◌, ◌-◌, ◌<◌, ◌≤◌, false, true, Bool, List, [], ◌∷◌, length, drop, get_or, Some, None, if◌then◌else◌, refl, sym, subst, ap, ◌∙◌, inl, inr, arith}
+use Rattle.std.proofs.Common.{◌≡◌, ℕ, ◌+◌, ◌-◌, ◌<◌, ◌≤◌, false, true, Bool, List, [], ◌∷◌, length, drop, get_or, Some, None, if◌then◌else◌, refl, sym, subst, ap, ◌∙◌, arith}
 use Rattle.uring_threads.proofs.Common.{Answer, Appends, CalledForApart, Grows, IsFirst, Kept, Place, Setup, Stands, Submission, World, after_call, beginning, call_closes, call_opens, calls_after, calls_counted, calls_left, drop_more, drop_of_length-le, ends_after, ends_of, happens, in_call, is_spent, none_counted, now, place_answer, position_taken, sum_by_push, taken}
 use Rattle.std.proofs.lemmas.Option.{slice_get-get_or}
 use Rattle.uring_core.specs.declared.step.Step.TheVariants as step
@@ -11,21 +11,11 @@ use Rattle.uring_threads.proofs.TraceSteps.{grown, appends_one, appends_then}
 module _ (a : Kept) (count : ℕ) (x : Answer) (s : Stands (now a).submission [] count) (not_closed : (now a).is_closed ≡ false) (called : CalledForApart a.setup (now a) (step.Begin count) x) where
   -- it is answered in one of three ways
   pub begun_cases : ((n : ℕ) → x ≡ answer.Call n → ⊥) → (x ≡ answer.Again → ⊥) → (x ≡ answer.Spent → ⊥) → ⊥
-  begun_cases not_call not_again not_spent =
-      elim (call_opens a.setup (now a) count count x s not_closed (omega arith) called).0 [
-        | inl (inl same) ↦ not_call count same
-        | inl (inr again) ↦ not_again again.0
-        | inr spent ↦ not_spent spent.0
-      ]
+  begun_cases not_call not_again not_spent = grind arith
 
   -- and with Spent only if the numbers are spent
   pub begun_spent : x ≡ answer.Spent → is_spent (now a) count ≡ true
-  begun_spent is =
-      elim (call_opens a.setup (now a) count count x s not_closed (omega arith) called).0 [
-        | inl (inl same) ↦ absurd (let clash : answer.Call count ≡ answer.Spent = sym same ∙ is in cc)
-        | inl (inr again) ↦ absurd (let clash : answer.Again ≡ answer.Spent = sym again.0 ∙ is in cc)
-        | inr spent ↦ spent.1
-      ]
+  begun_spent is = grind arith
 
   -- the call opened
   pub opened_now : (b : Kept) (n : ℕ) → x ≡ answer.Call n → Grows a b (step.Begin count, x) → now b ≡ in_call (now a) count 0
@@ -39,8 +29,7 @@ between_calls w = record w { submission = record w.submission { call = None } }
 -- it stands, so many positions waiting
 pub between_stands : (v w : World) (count done : ℕ) → v ≡ in_call w count done → Stands w.submission [] count
     → Stands (between_calls v).submission [] count
-between_stands v w count done at s =
-    subst (λ (u : World). Stands (between_calls u).submission [] count) (sym at) (record { fresh = s.fresh; call = refl; head = s.head; waiting = s.waiting })
+between_stands v w count done at s = grind arith
 
 -- A position that an open call took, of this set-up: what it was, and what is left after it.
 pub record TookNext (b : Kept) (g : Setup) (w : World) (count done : ℕ) (x : Answer) : Type 0 where
@@ -74,8 +63,7 @@ took_of a k b w count done x goes same waits opened low at g called =
 pub ends_as : (b : Kept) (g s : Setup) (w : World) (count done : ℕ) (x : Answer) (ended is : Bool) → s ≡ g
     → ((place : Place) → x ≡ place_answer (Some place) → ended ≡ ends_after s (Some place))
     → ended ≡ is → (t : TookNext b g w count done x) → ends_after g (Some t.place) ≡ is
-ends_as b g s w count done x ended is same tests e t =
-    ap (λ u. ends_after u (Some t.place)) (sym same) ∙ sym (tests t.place t.answer) ∙ e
+ends_as b g s w count done x ended is same tests e t = grind arith
 
 -- What is left of a list of places, seen from one place of it.
 module _ (g : Setup) (before after : List Place) (place : Place) (done : ℕ) (calls : List ℕ) (is : before ≡ place ∷ after) (at : calls_after (ends_of g before) done ≡ calls) where
@@ -96,9 +84,7 @@ module _ (g : Setup) (before after : List Place) (place : Place) (done : ℕ) (c
 pub all_taken : (g : Setup) (left : List Place) (count : ℕ) (calls : List ℕ) → 0 < count → left ≡ []
     → calls_after (ends_of g left) count ≡ calls → calls ≡ count ∷ calls_after (ends_of g left) 0
 unfolding calls_after
-all_taken g left zero calls some none at = absurd (omega (arith, some))
-all_taken g left (suc count) calls some none at =
-    sym at ∙ ap (λ xs. calls_after (ends_of g xs) (suc count)) none ∙ ap (λ xs. suc count ∷ calls_after (ends_of g xs) 0) (sym none)
+all_taken g left count calls some none at = grind arith
 
 -- none is left after as many as waited
 pub none_after : (w : World) (count : ℕ) → Stands (between_calls w).submission [] count
@@ -122,12 +108,7 @@ pub opened_first : (g : Setup) (w o v : World) (count n : ℕ) → o ≡ in_call
     → calls_left g o.submission
     ≡ n ∷ calls_after (ends_of g (drop (taken o.submission + n) o.submission.published)) 0
     → v ≡ after_call g w n → IsFirst g w.submission v.submission count (made.Taken n)
-opened_first g w o v count n at s some few first is =
-    let l : Submission = w.submission in
-    let more : taken (after_call g w n).submission ≡ taken l + n = sum_by_push (λ x. x) l.calls n in
-    let left = subst (λ (u : World). calls_left g u.submission ≡ n ∷ calls_after (ends_of g (drop (taken u.submission + n) u.submission.published)) 0) at first in
-    subst (λ (u : World). IsFirst g w.submission u.submission count (made.Taken n)) (sym is)
-    (some, few, left ∙ ap (λ k. n ∷ calls_after (ends_of g (drop k l.published)) 0) (sym more), record { fresh = s.fresh; call = refl; head = refl; waiting = omega (arith, s.waiting, more) })
+opened_first g w o v count n at s some few first is = grind (arith, sum_by_push)
 
 -- what a call that opened appends
 pub call_counts : (a o t e b : Kept) (count : ℕ) (x y z : Answer) → Grows a o (step.Begin count, x)

@@ -1,15 +1,15 @@
 -- What calls that are made one after the other leave: which are left, how the ring stands, what they append, and which rows of steps they are.
-use Rattle.std.proofs.Common.{◌≡◌, ℕ, zero, suc, ◌+◌, ◌-◌, ◌≤◌, Bool, true, false, not, ◌&&◌, List, [], ◌∷◌, ◌++◌, length, map, drop, sum, Some, None, is_some, if◌then◌else◌, nat_lt, nat_le, refl, sym, subst, ap, ap₂, ◌∙◌, inl, inr, arith, append_assoc, append-nil, length-drop, ◌<◌}
-use Rattle.uring_threads.proofs.Common.{Appends, AreBegun, AreTaken, HasBegun, HaveMade, Intake, IsFirst, IsUnmoved, Item, Kept, Published, Records, Setup, Sqe, Stands, Step, Submission, World, after_call, after_calls, all_published_as, bad_word, call_row, calls_after, calls_counted, calls_left, calls_of, calls_row, cases_Bool, drop_of_length-le, ends_after, ends_after_item, ends_of, is_spent, items_fresh, items_keep, items_row, le-leb, length-map, lt-leb, lt-ltb, ltb-false, ltb-true, now, refused_row, steps_of, sum_by-cons, taken, with_entry, with_item, with_items, with_items_published, with_published, words_of}
+use Rattle.std.proofs.Common.{◌≡◌, ℕ, zero, suc, ◌+◌, ◌-◌, ◌≤◌, Bool, true, false, not, ◌&&◌, List, [], ◌∷◌, ◌++◌, length, map, drop, sum, Some, None, is_some, if◌then◌else◌, nat_lt, nat_le, refl, sym, subst, ap, ap₂, ◌∙◌, arith, append_assoc, append-nil, length-drop, ◌<◌}
+use Rattle.uring_threads.proofs.Common.{Appends, AreBegun, AreTaken, HasBegun, HaveMade, Intake, IsFirst, IsUnmoved, Item, Kept, Published, Records, Setup, Sqe, Stands, Step, Submission, World, after_call, after_calls, all_published_as, bad_word, call_row, calls_after, calls_counted, calls_left, calls_of, calls_row, drop_of_length-le, ends_after_item, ends_of, is_spent, items_fresh, items_keep, items_row, length-map, lt-ltb, now, refused_row, sum_by-cons, taken, with_entry, with_item, with_items, with_items_published, with_published, words_of}
 use Rattle.uring_entry.specs.Submission.{place_of}
 use Rattle.std.proofs.Math.Seq.{drop-append_seam}
 use Rattle.uring_core.specs.Stops.{stops_at_word}
 use Rattle.uring_ports.specs.declared.item.Item.TheVariants as item
 use Rattle.uring_threads.specs.declared.calls.CallMade.TheVariants as made
-use Rattle.uring_threads.proofs.TraceSteps.{appends_none, appends_then, still, unmoved_now}
+use Rattle.uring_threads.proofs.TraceSteps.{appends_none, appends_then, still}
 use Rattle.uring_core.specs.declared.step.Step.TheVariants as step
 use Rattle.uring_threads.specs.declared.intake.Intake.TheVariants as intake
-use Rattle.uring_threads.proofs.Recording.{call_more, call_refused, records_none, records_then}
+use Rattle.uring_threads.proofs.Recording.{call_more, call_refused, records_none}
 
 -- Lengths of calls.
 
@@ -23,9 +23,7 @@ sum_calls (false ∷ later) before = sum_calls later (suc before) ∙ omega arit
 
 pub sum_left : (g : Setup) (l : Submission) (count : ℕ) → Stands l [] count
     → sum (calls_left g l) ≡ count
-sum_left g l count s =
-    sum_calls (ends_of g (drop (taken l) l.published)) 0
-    ∙ omega (arith, s.waiting, length-map (drop (taken l) l.published) (λ place. ends_after g (Some place)), length-drop (taken l) l.published)
+sum_left g l count s = grind (arith, sum_calls, length-map, length-drop)
 
 -- none is left where no position waits
 pub none_left : (g : Setup) (l : Submission) → Stands l [] 0 → calls_left g l ≡ []
@@ -35,13 +33,7 @@ none_left g l s = ap (λ places. calls_after (ends_of g places) 0) (drop_of_leng
 -- a word that names no slot
 word_ends : (size word : ℕ) (linux : Bool) (entry : Sqe)
     → (not (is_some (if nat_lt word size then Some entry else None)) && linux) ≡ (nat_le size word && linux)
-word_ends size word linux entry =
-    elim (cases_Bool (nat_lt word size)) [
-      | inl low ↦
-          ap (λ b. not (is_some (if b then Some entry else None)) && linux) low ∙ ap (λ b. b && linux) (sym (lt-leb size word (ltb-true word size low)))
-      | inr high ↦
-          ap (λ b. not (is_some (if b then Some entry else None)) && linux) high ∙ ap (λ b. b && linux) (sym (le-leb size word (ltb-false word size high)))
-    ]
+word_ends size word linux entry = grind arith
 
 -- a call ends after the positions of its items as it does after these
 ends_published : (g : Setup) (content : ℕ → Sqe) (slot : ℕ) (items : List Item) → slot + length items ≤ g.sq
@@ -93,21 +85,13 @@ pub kept_after : {A : Type 0} (g : Setup) (f : World → A)
     → f (after_calls g w done) ≡ f w
 unfolding after_calls
 kept_after g f stays w [] = refl
-kept_after g f stays w (first ∷ later) =
-    kept_after g f stays (after_call g w first) later ∙ stays w first
+kept_after g f stays w (first ∷ later) = grind (arith, (kept_after g f stays (after_call g w first) later))
 
 -- Calls one after the other.
 
 pub none_made : (k : Kept) (count : ℕ) → Stands (now k).submission [] count → HaveMade k k [] count
 unfolding after_calls
-none_made k count s = record {
-  world = refl;
-  calls = refl;
-  stands = s;
-  begun = 0;
-  appends = appends_none k k (still k);
-  idle = λ none. refl;
-}
+none_made k count s = grind (arith, appends_none)
 
 -- One call more.
 module _ (a b c : Kept) (done : List ℕ) (rest : ℕ) (h : HaveMade a b done rest) where
@@ -164,57 +148,27 @@ module _ (a b c : Kept) (done : List ℕ) (rest : ℕ) (h : HaveMade a b done re
         (call_refused a b c done (calls_left a.setup (now b).submission) rest some (sum_left a.setup (now b).submission rest h.stands) p q)
 
     pub begun_again : HasBegun a c (intake.Waiting rest)
-    begun_again = record {
-      made = done;
-      have = one_refused a b c done rest h e t;
-      row = refused_recorded;
-      spent = λ count same. absurd cc;
-      not_shut = refl;
-    }
+    begun_again = grind (arith, one_refused, refused_recorded)
 
     pub begun_spent : is_spent (now b) rest ≡ true → HasBegun a c (intake.Spent rest)
-    begun_spent spent = record {
-      made = done;
-      have = one_refused a b c done rest h e t;
-      row = refused_recorded;
-      spent = λ count same. let is : rest ≡ count = cc in ap₂ (λ (w : World) n. is_spent w n) e (sym is) ∙ spent;
-      not_shut = refl;
-    }
+    begun_spent spent = grind (arith, one_refused, refused_recorded)
 
 -- or none is left
 pub begun_all : (a b : Kept) (done : List ℕ) (rest : ℕ) → rest ≡ 0 → HaveMade a b done rest
     → Records a b (calls_row done (calls_left a.setup (now b).submission)) → HasBegun a b intake.Ready
 unfolding refused_row
-begun_all a b done rest none h p =
-    let have : HaveMade a b done 0 = subst (HaveMade a b done) none h in
-    let left : List ℕ = calls_left a.setup (now b).submission in
-    record {
-      made = done;
-      have = have;
-      row = p ∙ ap (λ zs. steps_of a ++ zs) (sym (append-nil (calls_row done left)) ∙ ap (λ ns. calls_row done left ++ refused_row ns) (sym (none_left a.setup (now b).submission have.stands)));
-      spent = λ count same. absurd cc;
-      not_shut = refl;
-    }
+begun_all a b done rest none h p = grind (arith, append-nil, none_left)
 
 -- the calls that were left as these were begun
 begun_of : (a b : Kept) (x : Intake) (calls : List ℕ) (h : HasBegun a b x)
     → calls_left a.setup (now a).submission ≡ calls
     → AreBegun calls (calls_row h.made (calls_left a.setup (now b).submission) ++ refused_row (calls_left a.setup (now b).submission))
-begun_of a b x calls h are = record {
-  made = h.made;
-  left = calls_left a.setup (now b).submission;
-  all = h.have.calls ∙ are;
-  row = refl;
-}
+begun_of a b x calls h are = grind arith
 
 -- what waited was begun again
 pub row_begun : (a r b : Kept) (x : Intake) → IsUnmoved a r → HasBegun r b x
     → (steps : List Step) × AreBegun (calls_left a.setup (now a).submission) steps × Records a b steps
-row_begun a r b x u h = (
-  calls_row h.made (calls_left r.setup (now b).submission) ++ refused_row (calls_left r.setup (now b).submission),
-  begun_of r b x (calls_left a.setup (now a).submission) h (ap₂ (λ (g : Setup) (w : World). calls_left g w.submission) u.setup (unmoved_now a r u)),
-  records_then a r b [] _ (records_none a r u) h.row,
-)
+row_begun a r b x u h = grind arith
 
 -- items were published, and calls begun that take them
 pub row_taken : (a p b : Kept) (items : List Item) (x : Intake) → Stands (now a).submission [] 0
@@ -222,13 +176,4 @@ pub row_taken : (a p b : Kept) (items : List Item) (x : Intake) → Stands (now 
     → now p ≡ with_items_published a.setup.sq (now a) (all_published_as items)
     → Records a p (items_row 0 items ++ step.StoreTail ∷ []) → HasBegun p b x
     → (steps : List Step) × AreTaken a.setup items steps × Records a b steps
-row_taken a p b items x s few same at published h =
-    let begun : List Step = calls_row h.made (calls_left p.setup (now b).submission) ++ refused_row (calls_left p.setup (now b).submission) in (
-      items_row 0 items ++ step.StoreTail ∷ begun,
-      record {
-        begun = begun;
-        are_begun = begun_of p b x _ h (ap₂ (λ (g : Setup) (w : World). calls_left g w.submission) same at ∙ published_left a.setup (now a).submission items s.fresh s few);
-        row = refl;
-      },
-      records_then a p b (items_row 0 items ++ step.StoreTail ∷ []) begun published h.row ∙ ap (λ zs. steps_of a ++ zs) (append_assoc (items_row 0 items) (step.StoreTail ∷ []) begun),
-    )
+row_taken a p b items x s few same at published h = grind (arith, begun_of, published_left, append_assoc)

@@ -1,9 +1,8 @@
 -- What the lanes of the workers have carried, as the trace goes on; a lane for jobs that shows no room has carried as many as it holds, so as many requests were started.
 use Rattle.std.proofs.Common.{◌≡◌, ◌≢◌, ℕ, ◌<◌, ◌==◌, cond, List, [], ◌∷◌, ◌++◌, length, get_or, count_by, Option, Some, None, ℤ, refl, sym, subst, ap, ap₂, ◌∙◌, inl, inr, arith, ◌+◌, ◌≤◌}
-use Rattle.uring_threads.proofs.Common.{Answer, Appends, AreTakenIn, Bool, Collects, Err, Event, Grows, HasCarried, HaveCarried, History, HoldJobs, IfOk, IsEnded, IsSent, Job, Kept, None, Ok, OnlyPosts, Op, OthersStay, Result, Setup, SomeIsFull, Tally, WorkLanes, World, cases_eq, count_by-le-length, done_by, done_by_worker, done_in, entry_of, filter, history, history_of, history_of_cons, issues_request, issuing, job_by, job_in, jobs_at, jobs_in, jobs_sent, jobs_to, length-append, length-filter, length-set, next_in, no_bytes, now, operation_of, place_of, results_of, results_received, set, starts_request, sum_by-append, takes_result, with_told, world, ◌⊎◌}
+use Rattle.uring_threads.proofs.Common.{Answer, Appends, AreTakenIn, Bool, Collects, Event, Grows, HasCarried, HaveCarried, History, HoldJobs, IfOk, IsEnded, IsSent, Job, Kept, None, OnlyPosts, Op, OthersStay, Result, Setup, SomeIsFull, Tally, WorkLanes, World, cases_eq, count_by-le-length, done_by, done_by_worker, done_in, entry_of, history, history_of, history_of_cons, issues_request, issuing, job_by, job_in, jobs_at, jobs_in, jobs_sent, jobs_to, length-append, length-filter, length-set, next_in, now, operation_of, place_of, results_of, results_received, set, starts_request, sum_by-append, takes_result, with_told, world, ◌⊎◌}
 use Rattle.uring_core.specs.declared.step.Step.TheVariants as step
 use Rattle.uring_core.specs.declared.answer.Answer.TheVariants as answer
-use Rattle.uring_threads.proofs.Posting.{end_posts, accepted_issued}
 use Rattle.uring_threads.proofs.TraceSteps.{grown, grown_history, longer_history}
 use Rattle.uring_threads.proofs.Sent.{one_more_at, none_more_at}
 use Rattle.uring_threads.proofs.SameLanes.{set_cases}
@@ -13,12 +12,10 @@ use Rattle.uring_threads.proofs.Times.{times, times_append, times_counts}
 -- Nothing is sent by events that issue no request, and nothing taken in by those that finish none.
 
 no_job : (w : World) (e : Event) → count_by issues_request (e ∷ []) ≡ 0 → job_by w e ≡ None
-no_job w (step.Issue n, answer.Run) none = absurd (omega (arith, none))
-no_job w (s, a) none = refl
+no_job w e none = grind arith
 
 no_result : (w : World) (e : Event) → count_by takes_result (e ∷ []) ≡ 0 → done_by w e ≡ None
-no_result w (step.Finish n, a) none = absurd (omega (arith, none))
-no_result w (s, a) none = refl
+no_result w e none = grind arith
 
 no_jobs : (g : Setup) (events : List Event) (h : History) → count_by issues_request events ≡ 0
     → jobs_in g (history_of events ++ h) ≡ jobs_in g h
@@ -36,9 +33,7 @@ no_results g (e ∷ later) h none =
 
 pub done_stays : (a b : Kept) (t : Tally) → Appends a b t → t.finishes ≡ 0 → (workers k : ℕ)
     → done_by_worker b.setup workers k (history b) ≡ done_by_worker a.setup workers k (history a)
-done_stays a b t p none workers k =
-    ap₂ (λ (s : Setup) h. done_by_worker s workers k h) p.setup (longer_history a b p.events p.trace)
-    ∙ ap (filter (λ d. place_of workers a.setup.files d.op == k)) (no_results a.setup p.events (history a) (ap (λ (u : Tally). u.finishes) p.tally ∙ none))
+done_stays a b t p none workers k = grind (arith, (longer_history a b p.events p.trace), no_results)
 
 -- the jobs sent and the operations done stay
 pub record WorkStays (old new : Kept) : Type 0 where
@@ -50,19 +45,11 @@ pub record WorkStays (old new : Kept) : Type 0 where
 
 pub quiet_stays : (a b : Kept) (t : Tally) → Appends a b t → t.issues ≡ 0 → t.finishes ≡ 0
     → WorkStays a b
-quiet_stays a b t p none idle =
-    record {
-      jobs = λ workers k.
-          ap₂ (λ (s : Setup) h. jobs_to s workers k h) p.setup (longer_history a b p.events p.trace)
-          ∙ ap (jobs_at (place_of workers a.setup.files) k) (no_jobs a.setup p.events (history a) (ap (λ (u : Tally). u.issues) p.tally ∙ none));
-      done = done_stays a b t p idle;
-    }
+quiet_stays a b t p none idle = grind (arith, (longer_history a b p.events p.trace), (done_stays a b t p idle), no_jobs)
 
 pub carried_stays : (a b : Kept) (lanes : List WorkLanes) → WorkStays a b → HaveCarried a lanes
     → HaveCarried b lanes
-carried_stays a b lanes stays carried = λ k d low.
-    let c = carried k d low in
-    record { jobs = c.jobs ∙ sym (stays.jobs (length lanes) k); results = c.results ∙ ap results_of (sym (stays.done (length lanes) k)) }
+carried_stays a b lanes stays carried = grind arith
 
 -- A request was issued.
 
@@ -74,20 +61,11 @@ IssuedAs old new n None = (a : Answer) × Grows old new (step.Issue n, a) × IsE
 
 only_posts : (a : Kept) (n : ℕ) (res : ℤ) (bytes : List ℕ)
     → OnlyPosts (now a) (issuing a.setup (now a) n (answer.Ended res bytes))
-only_posts a n res bytes =
-    let p = end_posts a.setup (now a) n res no_bytes in
-    record { submission = refl; accepted = accepted_issued a.setup.linux (now a).requests n res; is_closed = refl; reaped = p.0; head = p.1 }
+only_posts a n res bytes = grind arith
 
 -- it ended at once: nothing was sent
 pub ended_stays : (a b : Kept) (n : ℕ) → IssuedAs a b n None → WorkStays a b
-ended_stays a b n issued = by_answer issued.0 issued.1 issued.2 where
-  by_answer : (x : Answer) → Grows a b (step.Issue n, x) → IsEnded x → WorkStays a b
-  by_answer (answer.Ended res bytes) g ended =
-      record {
-        jobs = λ workers k. ap₂ (λ (s : Setup) h. jobs_to s workers k h) g.setup (grown_history a b (step.Issue n, answer.Ended res bytes) g);
-        done = λ workers k. ap₂ (λ (s : Setup) h. done_by_worker s workers k h) g.setup (grown_history a b (step.Issue n, answer.Ended res bytes) g);
-      }
-  by_answer _ g ended = absurd ended
+ended_stays a b n issued = grind (arith, grown_history)
 
 -- of the rings only more is posted by it
 pub issued_posts : (a b : Kept) (n : ℕ) (told : Option Op) → IssuedAs a b n told
@@ -137,10 +115,7 @@ carried_run a b n place op old new issued carried at low many was_sent others = 
 pub others_carried : (a b : Kept) (workers place k : ℕ) (lanes : WorkLanes)
     → OthersStay a b workers place → k ≢ place → HasCarried a workers k lanes
     → HasCarried b workers k lanes
-others_carried a b workers place k lanes stay other has = record {
-  jobs = has.jobs ∙ sym (stay.jobs k);
-  results = has.results ∙ ap results_of (sym (stay.results k other));
-}
+others_carried a b workers place k lanes stay other has = grind arith
 
 -- with these lanes in their place
 pub carried_set : (a b : Kept) (n place : ℕ) (old : List WorkLanes) (y d : WorkLanes)
@@ -192,5 +167,4 @@ pub next_is_none : {X E : Type 0} (r : Result X E) (k : Kept) (lanes : List Work
     → IfOk r (λ turn. (next_in k ≡ None) ⊎ SomeIsFull lanes) → HaveCarried k lanes
     → HoldJobs lanes
     → IfOk r (λ turn. count_by starts_request k.trace < 64 → next_in k ≡ None)
-next_is_none (Ok x) k lanes left carried hold = λ few. elim left [ inl none ↦ none | inr full ↦ absurd (omega (arith, few, some_full k lanes carried hold full)) ]
-next_is_none (Err e) k lanes left carried hold = tt
+next_is_none r k lanes left carried hold = grind (arith, some_full)

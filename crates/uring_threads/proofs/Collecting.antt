@@ -1,6 +1,6 @@
 -- What is sent and taken in, as a result is taken in: the operation is the last of its worker's, and all else stays; and how many results of each worker a turn takes in.
-use Rattle.std.proofs.Common.{◌≡◌, ℕ, ◌+◌, ◌<◌, arith, Bool, true, false, List, [], ◌∷◌, ◌++◌, length, if◌then◌else◌, refl, sym, subst, ap, ap₂, ◌∙◌, inl, inr, ◌*◌, ◌≤◌, get_or}
-use Rattle.uring_threads.proofs.Common.{Answer, Appends, AreSameLanes, AreTakenIn, CanBeTaken, Collects, CollectsNext, CollectsSeen, Done, Err, Grows, HaveCarried, IsLawfulApart, IsTakenIn, IsUnmoved, IsWork, JobResult, Kept, NextStays, NoneComes, Ok, OnErr, OnlyPosts, OnlyReceives, OthersStay, Repeats, Result, Setup, TakesFewResults, TakesSeen, Tally, Wait, WorkLanes, World, both_ways, cases_eq, cases_lt, done_by_worker, done_in, entry_of, finish_of, finishes_counted, history, is_running, jobs_to, length_push, map-append, most_results, now, operation_of, place_of, result_of, results_of, results_received, results_seen, results_taken_in, set, slice_index_or, with_ended}
+use Rattle.std.proofs.Common.{◌≡◌, ℕ, ◌+◌, ◌<◌, arith, Bool, true, false, List, [], ◌∷◌, ◌++◌, length, refl, sym, subst, ap, ap₂, ◌∙◌, inl, inr, ◌*◌, ◌≤◌, get_or}
+use Rattle.uring_threads.proofs.Common.{Answer, Appends, AreSameLanes, AreTakenIn, CanBeTaken, Collects, CollectsNext, CollectsSeen, Done, Grows, HaveCarried, IsLawfulApart, IsTakenIn, IsUnmoved, JobResult, Kept, NextStays, NoneComes, OnErr, OnlyPosts, OnlyReceives, Repeats, Result, Setup, TakesFewResults, TakesSeen, Tally, Wait, WorkLanes, World, cases_lt, done_by_worker, done_in, entry_of, finish_of, finishes_counted, history, is_running, jobs_to, length_push, map-append, most_results, now, operation_of, place_of, result_of, results_of, results_received, results_seen, results_taken_in, set, with_ended}
 use mathlib.Core.List.{IsPrefix}
 use Rattle.uring_entry.proofs.RequestLemmas.{is_running_ended_same, is_running_ended_other}
 use Rattle.uring_core.specs.Core.{IsFinished}
@@ -11,28 +11,25 @@ use Rattle.uring_threads.proofs.Posting.{end_posts}
 use Rattle.uring_threads.proofs.Recording.{records_one}
 use Rattle.uring_threads.proofs.Repeating.{repeats_none, repeats_then}
 use Rattle.uring_threads.proofs.Settling.{results_run}
-use Rattle.uring_threads.proofs.TraceSteps.{grown, grown_history, appends_one, unmoved_is, still}
+use Rattle.uring_threads.proofs.TraceSteps.{grown, grown_history, appends_one, unmoved_is}
 use Rattle.uring_threads.proofs.Carrying.{carried_set, done_stays}
-use Rattle.uring_threads.proofs.SameLanes.{lanes_none, lanes_then, lanes_set, set_cases}
+use Rattle.uring_threads.proofs.SameLanes.{lanes_then, lanes_set, set_cases}
 
 -- a result of a request that runs is taken in by the Finish that the trace has then
 pub takes_in : (a b : Kept) (r : JobResult) (x : Answer) → is_running (now a).requests r.number ≡ true
     → IsFinished (now a) r.number r.outcome x → Grows a b (step.Finish r.number, x)
     → Grows a b (finish_of r)
-takes_in a b r x runs finished grows =
-    subst (λ y. Grows a b (step.Finish r.number, y)) (finished ∙ ap (λ b. if b then answer.Ended r.outcome.res r.outcome.bytes else answer.NotRunning) runs) grows
+takes_in a b r x runs finished grows = grind arith
 
 -- what was seen first is what is popped
 pub first_known : {known later : List JobResult} {seen popped : JobResult}
     → IsPrefix (seen ∷ []) known → known ≡ popped ∷ later → seen ≡ popped
-first_known {known} {later} {seen} {popped} first all =
-    ap (λ rs. slice_index_or rs 0 seen) (first.1 ∙ all)
+first_known {known} {later} {seen} {popped} first all = grind arith
 
 -- no result is seen
 pub none_stays : (kept : Kept) (workers place : ℕ) (seen : List JobResult) → length seen ≡ 0
     → NextStays kept workers place seen
-none_stays kept workers place [] none = tt
-none_stays kept workers place (r ∷ later) none = absurd (omega (arith, none))
+none_stays kept workers place seen none = grind arith
 
 -- Several results.
 
@@ -52,23 +49,13 @@ end_comes a b workers r grows = λ k number can.
     let ended = grown a b (step.Finish n) (answer.Ended res bytes) grows in
     let runs : is_running (with_ended (now a).requests n res bytes) number ≡ true = subst (λ (w : World). is_running w.requests number ≡ true) ended can.runs in
     record {
-      runs = elim (cases_eq number n) [
-        | inl same ↦ absurd (both_ways _ (ap (is_running (with_ended (now a).requests n res bytes)) same ∙ is_running_ended_same (now a).requests n res bytes) runs)
-        | inr other ↦ sym (is_running_ended_other (now a).requests n res bytes number other) ∙ runs
-      ];
+      runs = grind (arith, is_running_ended_same, is_running_ended_other);
       own = sym (ap₂ (λ (g : Setup) (w : World). place_of workers g.files (operation_of (entry_of w.requests number))) grows.setup ended) ∙ can.own;
     }
 
 -- none, and one more
 pub collects_none : (workers place : ℕ) {a b : Kept} → IsUnmoved a b → Collects a b workers place 0
-collects_none workers place {a} {b} u =
-    let is = sym (unmoved_is a b u) in
-    record {
-      repeats = repeats_none step.Finish u;
-      own = subst (λ (k : Kept). results_taken_in workers place k ≡ results_taken_in workers place a + 0) is (omega arith);
-      others = subst (λ (k : Kept). OthersStay a k workers place) is (record { jobs = λ k. refl; results = λ k other. refl });
-      none_comes = subst (λ (k : Kept). NoneComes a k workers) is (λ k number can. record { runs = can.runs; own = can.own });
-    }
+collects_none workers place {a} {b} u = grind (arith, repeats_none)
 
 pub collects_first : {a b : Kept} {workers place : ℕ} (r : JobResult) → CanBeTaken a workers place r.number
     → Grows a b (finish_of r) → Collects a b workers place 1
@@ -126,17 +113,12 @@ collects_more seen false e p q = absurd (let f : false ≡ true = e in cc)
 pub collects_no_more : {a b c : Kept} {workers place n : ℕ} (seen : List JobResult) (more : Bool)
     → more ≡ false → n < 64 → Collects a b workers place n
     → CollectsNext b c workers place seen more → CollectsSeen a c workers place n seen
-collects_no_more {a} {b} {c} {workers} {place} {n} seen false e few p q = record {
-  collected = subst (Collects a c workers place) (omega arith) (collects_then p q.0);
-  most = omega (arith, few);
-  rest = λ fewer. q.1;
-}
+collects_no_more {a} {b} {c} {workers} {place} {n} seen false e few p q = grind (arith, (collects_then p q.0))
 collects_no_more seen true e few p q = absurd (let f : true ≡ false = e in cc)
 
 -- what holds anyway holds of an error
 pub on_err : {X E P : Type 0} (result : Result X E) → P → OnErr result P
-on_err (Ok x) p = tt
-on_err (Err e) p = p
+on_err result p = grind arith
 
 -- All that wait.
 
@@ -150,14 +132,7 @@ first_waits a r later lawful (workers, k, done, untaken, work) =
 pub next_waits : (a b : Kept) (r : JobResult) (later : List JobResult)
     → IsLawfulApart a.setup (history a) → Wait a (r ∷ later) → Grows a b (finish_of r)
     → Wait b later
-next_waits a b r later lawful w grows = (
-  w.0,
-  w.1,
-  w.2,
-  w.3,
-  subst (λ h. IsWork b.setup w.0 h w.1 (record { done = w.2; untaken = w.3; waiting = later })) (sym (grown_history a b (finish_of r) grows))
-      (subst (λ g. IsWork g w.0 (finish_of r ∷ history a) w.1 (record { done = w.2; untaken = w.3; waiting = later })) (sym grows.setup) (first_waits a r later lawful w).later),
-)
+next_waits a b r later lawful w grows = grind (arith, (grown_history a b (finish_of r) grows), (first_waits a r later lawful w))
 
 -- by events none of which takes a result in
 none_taken_in : (a b : Kept) (t : Tally) → Appends a b t → t.finishes ≡ 0 → (workers k : ℕ)
@@ -177,14 +152,7 @@ pub record CollectsBefore (first : List WorkLanes) (a : Kept) (place count : ℕ
 
 pub collects_nothing : (first : List WorkLanes) (a : Kept) → HaveCarried a first
     → CollectsBefore first a 0 0 a first
-collects_nothing first a carried = record {
-  most = omega arith;
-  repeats = repeats_none step.Finish (still a);
-  carried = carried;
-  same = lanes_none first;
-  before = λ k low. absurd (omega (arith, low));
-  others = λ k high. refl;
-}
+collects_nothing first a carried = grind (arith, repeats_none)
 
 -- and so many of the worker at it
 pub collects_at : {first : List WorkLanes} {a : Kept} {place count n : ℕ} {b c : Kept} {lanes : List WorkLanes} (y d : WorkLanes)
@@ -198,17 +166,7 @@ collects_at {first} {a} {place} {count} {n} {b} {c} {lanes} y d p low q most rec
       repeats = repeats_then p.repeats q.repeats;
       carried = carried_set b c n place lanes y d p.carried low (subst (λ m. Collects b c m place n) (sym p.same.many) q) receives.jobs (subst (λ m. AreTakenIn c m place (results_received y)) (sym p.same.many) taken);
       same = lanes_then first lanes (set lanes place y) p.same (lanes_set lanes place y d low receives);
-      before = λ k below.
-          elim (cases_eq k place) [
-            | inl here ↦
-                let own : results_taken_in (length first) k c ≡ results_taken_in (length first) k b + n = rw here q.own in
-                let none : results_taken_in (length first) k b ≡ results_taken_in (length first) k a = p.others k (omega (arith, here)) in
-                omega (arith, own, none, most)
-            | inr other ↦
-                let few = p.before k (omega (arith, below, other)) in
-                let none = ap length (q.others.results k other) in
-                omega (arith, few, none)
-          ];
+      before = grind arith;
       others = λ k high. ap length (q.others.results k (λ here. absurd (omega (arith, here, high)))) ∙ p.others k (omega (arith, high));
     }
 
@@ -251,8 +209,7 @@ seen_at {first} {a} {place} {count} {n} {b} {c} {lanes} y p within q seen = λ k
 -- of all
 pub seen_in_all : {first lanes : List WorkLanes} {place : ℕ} (a b : Kept) → AreSameLanes first lanes
     → place ≡ length first → SeenBefore (length first) place a b lanes → TakesSeen a b lanes
-seen_in_all {first} {lanes} a b same end seen =
-    subst (λ n. SeenBefore n n a b lanes) (sym same.many) (subst (λ n. SeenBefore (length first) n a b lanes) end seen)
+seen_in_all {first} {lanes} a b same end seen = grind arith
 
 -- and by a turn, no other part of which takes any in
 pub few_between : (workers : ℕ) (a b c d : Kept) (t u : Tally) → Appends a b t → t.finishes ≡ 0

@@ -1,17 +1,14 @@
 -- The laws of `workers_join`: work is dealt out by files, and joined by the laws of uring_laws on places.
-use Rattle.std.proofs.Common.{◌≡◌, ℕ, ◌<◌, ◌%◌, ℤ, pos, negsuc, Bool, true, false, cond, nat_lt, Option, Some, None, sym, ◌∙◌, ap, arith}
-use Rattle.uring_threads.proofs.Common.{DealtByFile, FilesByWorker, IsDealtByFile, Op, Setup, WorkersJoin, file_asked, option_map_or, place_of, place_of_file, true≢false}
+use Rattle.std.proofs.Common.{◌≡◌, ℕ, ◌<◌, ℤ, true, false, Option, sym, ◌∙◌, arith}
+use Rattle.uring_threads.proofs.Common.{DealtByFile, FilesByWorker, IsDealtByFile, Op, Setup, WorkersJoin, file_asked, option_map_or, place_of, place_of_file}
 use Rattle.std.specs.Ordering.{int_eq}
-use Rattle.std.proofs.lemmas.Bool.Decides.{Decides-int_eq}
 use Rattle.uring_files.specs.Laws.{is_on}
 use Rattle.uring_laws.proofs.FileLaws.{places_join, files_by_place}
 
 -- what is on a file is its worker's
 on_asked : (workers files : ℕ) (fd : ℤ) (asked : Option ℤ) → option_map_or (int_eq fd) asked false ≡ true
     → option_map_or (place_of_file workers files) asked 0 ≡ place_of_file workers files fd
-on_asked workers files fd None on = absurd (true≢false (sym on))
-on_asked workers files fd (Some own) on =
-    ap (place_of_file workers files) (sym ((Decides-int_eq fd own).0 on))
+on_asked workers files fd asked on = grind arith
 
 on_place : (workers files : ℕ) (fd : ℤ) (op : Op) → is_on fd op ≡ true
     → place_of workers files op ≡ place_of_file workers files fd
@@ -20,16 +17,11 @@ on_place workers files fd op on = on_asked workers files fd (file_asked op) on
 -- one of the workers
 pub file_within : (workers files : ℕ) (fd : ℤ) → 0 < workers
     → place_of_file workers files fd < workers
-file_within workers files (pos fd) some = either (nat_lt fd files) where
-  either : (there : Bool) → cond there (fd % workers) 0 < workers
-  either true = omega arith
-  either false = some
-file_within workers files (negsuc below) some = some
+file_within workers files fd some = grind arith
 
 within_asked : (workers files : ℕ) (asked : Option ℤ) → 0 < workers
     → option_map_or (place_of_file workers files) asked 0 < workers
-within_asked workers files None some = some
-within_asked workers files (Some fd) some = file_within workers files fd some
+within_asked workers files asked some = grind arith
 
 pub dealt_by_file : DealtByFile
 dealt_by_file workers files some =

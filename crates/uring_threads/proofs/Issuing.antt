@@ -1,6 +1,6 @@
 -- How the Issue of the next request is answered, and the loop of issues: lanes are looked at, and then a request is issued.
 use Rattle.std.proofs.Common.{◌≡◌, ℕ, Bool, true, List, [], ◌∷◌, Option, Some, None, count_by, length, ℤ, refl, sym, subst, ap, ◌∙◌, cond, ◌+◌, ◌<◌, ◌≤◌, get_or, arith}
-use Rattle.uring_threads.proofs.Common.{Answer, AreSameLanes, CalledForApart, Grows, HasCarried, HaveCarried, IsEnded, IsIssued, IsLookedAt, IsUnmoved, Kept, OnlyPosts, Repeats, Tally, WorkLanes, count_by-le-length, entry_of, is_issuable, is_refused, is_running, issues_counted, issues_request, length-append, next_in, next_of, none_counted, now, operation_of, operation_running, requests_of, results_received, tally_of, Op, World}
+use Rattle.uring_threads.proofs.Common.{Answer, AreSameLanes, CalledForApart, Grows, HasCarried, HaveCarried, IsEnded, IsIssued, IsLookedAt, IsUnmoved, Kept, OnlyPosts, Repeats, WorkLanes, count_by-le-length, entry_of, is_issuable, is_refused, is_running, issues_counted, length-append, next_in, next_of, none_counted, now, operation_of, operation_running, requests_of, results_received, tally_of, Op, World}
 use Rattle.std.proofs.lemmas.Option.{cond_some}
 use Rattle.uring_linux.specs.LinuxRequests.{LinuxRequests}
 use Rattle.uring_entry.proofs.RequestLemmas.{is_running_started_same}
@@ -18,8 +18,7 @@ use Rattle.uring_threads.proofs.SameLanes.{lanes_then}
 -- the next can be issued
 next_issuable : (linux : Bool) (l : LinuxRequests) (n : ℕ) → next_of linux l ≡ Some n
     → is_issuable linux l n ≡ true
-next_issuable linux l n next =
-    (least_below_tells (is_issuable linux l) (length l.requests.accepted) n next).holds
+next_issuable linux l n next = grind (arith, least_below_tells)
 
 -- its Issue is answered in one of two ways
 pub issue_cases : (a : Kept) (n : ℕ) (x : Answer) → next_in a ≡ Some n
@@ -84,6 +83,4 @@ looked_on k r first old new u many looked carried same = (
 -- one request more was issued
 pub issued_length : {r b : Kept} → Repeats r b step.Issue (issues_counted 1)
     → length r.trace + 1 ≤ length b.trace
-issued_length {r} p =
-    let q = p.tally in
-    omega (arith, ap length q.trace, length-append r.trace q.events, count_by-le-length issues_request q.events, ap (λ (t : Tally). t.issues) q.tally)
+issued_length {r} p = grind (arith, length-append, count_by-le-length)

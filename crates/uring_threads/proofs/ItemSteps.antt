@@ -28,10 +28,7 @@ pub put_stands : (w : World) (items : List Item) (i : ℕ) → Stands w.submissi
     → i ≤ length items
     → Stands (with_items_put w (all_published_as (take i items))).submission (with_items_put w (all_published_as (take i items))).submission.fresh 0
     × (length (with_items_put w (all_published_as (take i items))).submission.fresh ≡ i)
-put_stands w items i s within =
-    let l : Submission = w.submission in
-    let next = items_stand l 0 (all_published_as (take i items)) (record { fresh = refl; call = s.call; head = s.head; waiting = s.waiting }) in
-    (next.0, omega (arith, next.1, ap length s.fresh, length-map (take i items) published_as, length-take-le i items within))
+put_stands w items i s within = grind (arith, items_stand, length-map, length-take-le)
 
 -- the next one is put
 pub items_more : (w : World) (items : List Item) (i slot : ℕ) (item : Item) → slot ≡ i

@@ -1,35 +1,25 @@
 -- What ends of requests and a delivery leave of the rings: ends leave them as they were, but for what is posted.
-use Rattle.std.proofs.Common.{◌≡◌, ℕ, ℤ, ◌+◌, ◌-◌, ◌≤◌, Bool, true, false, List, length, if◌then◌else◌, inl, inr, refl, ◌∙◌, sym, subst, ap, arith}
+use Rattle.std.proofs.Common.{◌≡◌, ℕ, ℤ, ◌+◌, ◌-◌, ◌≤◌, Bool, List, length, refl, ◌∙◌, sym, subst, ap, arith}
 use Rattle.std.specs.Prelude.{min}
-use Rattle.uring_threads.proofs.Common.{Answer, Appends, Cqe, DeliversMost, Grows, IsDelivered, IsUnmoved, KeepsAllBut, Kept, OnlyPosts, Requests, Setup, World, cases_eq, completion_for, entry_of, none_counted, now, on_completions, posts, reaps_counted, with_end_of, with_flushed, with_head_stored, with_issued_end, with_posted, with_reaped_all, with_tail_loaded}
+use Rattle.uring_threads.proofs.Common.{Answer, Appends, Cqe, DeliversMost, Grows, IsDelivered, IsUnmoved, KeepsAllBut, Kept, OnlyPosts, Requests, Setup, World, none_counted, now, on_completions, reaps_counted, with_end_of, with_flushed, with_head_stored, with_issued_end, with_reaped_all, with_tail_loaded}
 use Rattle.uring_core.specs.declared.step.Step.TheVariants as step
 use Rattle.uring_threads.proofs.TraceSteps.{grown, unmoved_now, appends_one, appends_then, appends_after, both_none, none_both}
 
 pub end_posts : (g : Setup) (w : World) (n : ℕ) (res : ℤ) (bytes : List ℕ)
     → ((with_end_of g w n res bytes).reaped ≡ w.completions.reaped)
     × ((with_end_of g w n res bytes).head ≡ w.completions.head)
-end_posts g w n res bytes = by_posts (posts g.linux w.requests n res) where
-  by_posts : (told : Bool) → ((if told then with_posted g.cq w.completions (completion_for (entry_of w.requests n) res bytes) else w.completions).reaped ≡ w.completions.reaped) × ((if told then with_posted g.cq w.completions (completion_for (entry_of w.requests n) res bytes) else w.completions).head ≡ w.completions.head)
-  by_posts true = (refl, refl)
-  by_posts false = (refl, refl)
+end_posts g w n res bytes = grind arith
 
 -- the requests that were accepted stay, by either's rules
 pub accepted_issued : (linux : Bool) (r : Requests) (n : ℕ) (res : ℤ)
     → (with_issued_end linux r n res).accepted ≡ r.accepted
-accepted_issued true r n res = refl
-accepted_issued false r n res = refl
+accepted_issued linux r n res = grind arith
 
 pub posts_none : (w : World) → OnlyPosts w w
 posts_none w = record { submission = refl; accepted = refl; is_closed = refl; reaped = refl; head = refl }
 
 pub posts_then : (w v u : World) → OnlyPosts w v → OnlyPosts v u → OnlyPosts w u
-posts_then w v u p q = record {
-  submission = q.submission ∙ p.submission;
-  accepted = q.accepted ∙ p.accepted;
-  is_closed = q.is_closed ∙ p.is_closed;
-  reaped = q.reaped ∙ p.reaped;
-  head = q.head ∙ p.head;
-}
+posts_then w v u p q = grind arith
 
 -- A row of a delivery: flush, load the tail, reap so many, store the head.
 module _ (a room flushed loaded reaped b : Kept) (x y z : Answer) (all : List Cqe) (u : IsUnmoved a room) (flush : Grows room flushed (step.Flush, x)) (load : Grows flushed loaded (step.LoadCqTail, y))
@@ -57,10 +47,4 @@ module _ (a room flushed loaded reaped b : Kept) (x y z : Answer) (all : List Cq
       → n ≡ min (min (posted - reaped) space) size
       → free + n ≡ space → length all ≡ reaped + n → length (now a).completions.posted ≡ posted
       → DeliversMost (now b).completions free size n
-  row_most posted reaped space free size n order least left grown many = subst (λ (w : World). DeliversMost w.completions free size n) (sym row) (record {
-    few = omega (arith, least);
-    most = elim (cases_eq n size) [
-      | inl same ↦ inr (inr same)
-      | inr other ↦ elim (cases_eq free 0) [ inl none ↦ inr (inl none) | inr some ↦ inl (omega (arith, order, least, left, grown, many, other, some)) ]
-    ];
-  })
+  row_most posted reaped space free size n order least left grown many = grind (arith, row)

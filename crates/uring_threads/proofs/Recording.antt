@@ -1,11 +1,10 @@
 -- What each event adds to the steps of the trace, and how rows of steps add up.
-use Rattle.std.proofs.Common.{◌≡◌, ℕ, ◌+◌, ◌<◌, List, [], ◌∷◌, ◌++◌, map, take, length, inl, get_or, replicate, sum, zero, suc, refl, sym, subst, ap, ap₂, ◌∙◌, arith, append_assoc, append-nil}
+use Rattle.std.proofs.Common.{◌≡◌, ℕ, ◌+◌, ◌<◌, List, [], ◌∷◌, ◌++◌, map, take, length, get_or, replicate, sum, zero, suc, refl, sym, subst, ap, ap₂, ◌∙◌, arith, append_assoc, append-nil}
 use Rattle.uring_threads.proofs.Common.{Answer, AreOfTurn, Grows, IfOk, Intake, IsAgain, IsPulled, IsTaken, IsUnmoved, Item, Kept, Pulls, Put, Records, RecordsIntake, RecordsTurn, Repeats, Result, Setup, Step, Submission, Tally, Turn, call_row, calls_row, delivery_row, item_row, items_row, length-take-le, map-append, now, refused_row, replicate_more, step_of, steps_of, sum_by-cons, sum_by_push, take_more}
 use Rattle.uring_core.specs.declared.step.Step.TheVariants as step
 use Rattle.uring_ports.specs.declared.pulled.Pulled.{Pulled}
 use Rattle.uring_ports.specs.declared.pulled.Pulled.TheVariants as pulled
 use Rattle.uring_threads.specs.declared.calls.CallMade.TheVariants as made
-use Rattle.uring_threads.specs.declared.intake.Intake.TheVariants as intake
 
 -- one event
 pub records_one : (a b : Kept) (s : Step) (x : Answer) → Grows a b (s, x) → Records a b (s ∷ [])
@@ -29,10 +28,7 @@ items_row_snoc : (slot : ℕ) (items : List Item) (item : Item)
     → items_row slot (items ++ item ∷ [])
     ≡ items_row slot items ++ item_row (slot + length items) item
 items_row_snoc slot [] item = append-nil (item_row slot item) ∙ ap (λ s. item_row s item) (omega arith)
-items_row_snoc slot (first ∷ later) item =
-    ap (λ zs. item_row slot first ++ zs) (items_row_snoc (slot + 1) later item)
-    ∙ sym (append_assoc (item_row slot first) (items_row (slot + 1) later) (item_row (slot + 1 + length later) item))
-    ∙ ap (λ s. (item_row slot first ++ items_row (slot + 1) later) ++ item_row s item) (omega arith)
+items_row_snoc slot (first ∷ later) item = grind (arith, (items_row_snoc (slot + 1) later item))
 
 -- the next item of a call
 pub items_recorded : (a b c : Kept) (items : List Item) (i slot : ℕ) (item : Item) → slot ≡ i
@@ -98,8 +94,7 @@ delivery_recorded a b c d e f (suc n) x y z some u g h p k =
 
 -- nothing was begun again, and nothing was pulled
 pub none_again : (g : Setup) (l : Submission) (i : Intake) → IsAgain g l i []
-none_again g l (intake.Waiting count) = inl refl
-none_again g l _ = refl
+none_again g l i = grind arith
 
 pub none_pulled : (g : Setup) (put : Put) → IsPulled g put put []
 none_pulled g put = (pulled.Nothing, [], (refl, refl), refl)
@@ -108,23 +103,20 @@ none_pulled g put = (pulled.Nothing, [], (refl, refl), refl)
 pub pulled_as : (from : ℕ) (g : Setup) (before after : Put) (what : Pulled) (items taken : List Item) (steps : List Step)
     → from ≡ g.sq → taken ≡ items → Pulls from before what items after → IsTaken g what taken steps
     → IsPulled g before after steps
-pulled_as from g before after what items taken steps sizes same p t =
-    (what, items, subst (λ n. Pulls n before what items after) sizes p, subst (λ xs. IsTaken g what xs steps) same t)
+pulled_as from g before after what items taken steps sizes same p t = grind arith
 
 -- what waited, and what was pulled after it
 pub intake_recorded : (a b c : Kept) (i : Intake) (before after : Put) (xs ys : List Step)
     → IsAgain a.setup (now a).submission i xs → IsPulled a.setup before after ys → Records a b xs
     → Records b c ys
     → RecordsIntake a c i before after
-intake_recorded a b c i before after xs ys again pulled p q =
-    record { again = xs; pulled = ys; is_again = again; is_pulled = pulled; row = records_then a b c xs ys p q }
+intake_recorded a b c i before after xs ys again pulled p q = grind (arith, records_then)
 
 -- what waited, and nothing after it
 pub again_recorded : (a b : Kept) (i : Intake) (put : Put)
     → (steps : List Step) × IsAgain a.setup (now a).submission i steps × Records a b steps
     → RecordsIntake a b i put put
-again_recorded a b i put r =
-    record { again = r.0; pulled = []; is_again = r.1; is_pulled = none_pulled a.setup put; row = r.2 ∙ ap (λ zs. steps_of a ++ zs) (sym (append-nil r.0)) }
+again_recorded a b i put r = grind (arith, append-nil)
 
 -- a whole turn
 pub turn_recorded : {E : Type 0} (a b c d e : Kept) (i : Intake) (before after : Put) (n : ℕ) (answer : Result Turn E) (t u : Tally)
@@ -140,8 +132,6 @@ turn_recorded a b c d e i before after n answer t u r f s q told =
       delivered = n;
       is_again = r.is_again;
       is_pulled = r.is_pulled;
-      row = records_then a d e (r.again ++ r.pulled ++ map step.Finish f.numbers ++ map step.Issue s.numbers) (delivery_row n)
-          (records_then a c d (r.again ++ r.pulled ++ map step.Finish f.numbers) (map step.Issue s.numbers)
-          (records_then a b c (r.again ++ r.pulled) (map step.Finish f.numbers) r.row f.row) s.row) q;
+      row = grind (arith, records_then);
       told = told;
     }

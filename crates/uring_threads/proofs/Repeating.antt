@@ -1,19 +1,14 @@
 -- One kind of step, so many times: results that are taken in, and requests that are issued.
-use Rattle.std.proofs.Common.{◌≡◌, ℕ, ◌+◌, Bool, true, false, not, cond, List, [], ◌∷◌, ◌++◌, map, length, count_by, suc, refl, sym, subst, ap, ◌∙◌, arith, append-nil}
-use Rattle.uring_threads.proofs.Common.{Event, IsUnmoved, Kept, OnlyPosts, Repeats, Step, Tally, append_cancel_left, both, finishes_counted, is_refused, issues_counted, issues_request, length-map, map-append, nil_from_length, none_counted, now, step_of, steps_of, sum_by-append, takes_result}
+use Rattle.std.proofs.Common.{◌≡◌, ℕ, ◌+◌, Bool, true, not, cond, List, [], ◌∷◌, ◌++◌, map, length, count_by, suc, refl, sym, subst, ap, ◌∙◌, arith, append-nil}
+use Rattle.uring_threads.proofs.Common.{Event, IsUnmoved, Kept, Repeats, Step, Tally, append_cancel_left, both, finishes_counted, is_refused, issues_counted, issues_request, length-map, map-append, nil_from_length, none_counted, now, step_of, steps_of, sum_by-append, takes_result}
 use Rattle.uring_core.specs.declared.step.Step.TheVariants as step
-use Rattle.uring_threads.proofs.Posting.{posts_none, posts_then}
+use Rattle.uring_threads.proofs.Posting.{posts_then}
 use Rattle.uring_threads.proofs.Recording.{records_none, records_then}
-use Rattle.uring_threads.proofs.TraceSteps.{appends_none, appends_then, both_none, unmoved_now}
+use Rattle.uring_threads.proofs.TraceSteps.{appends_none, appends_then, both_none}
 
 -- not once
 pub repeats_none : (kind : ℕ → Step) {a b : Kept} → IsUnmoved a b → Repeats a b kind none_counted
-repeats_none kind {a} {b} u = record {
-  numbers = [];
-  row = records_none a b u;
-  tally = appends_none a b u;
-  posts = subst (OnlyPosts (now a)) (sym (unmoved_now a b u)) (posts_none (now a));
-}
+repeats_none kind {a} {b} u = grind (arith, (records_none a b u), (appends_none a b u))
 
 -- and then some more
 pub repeats_then : {a b c : Kept} {kind : ℕ → Step} {t u : Tally} → Repeats a b kind t
@@ -59,8 +54,7 @@ finish_steps _ _ e = absurd (cc)
 
 -- an Issue that wasn't refused
 issued_or : (b : Bool) → ◌≡◌ {A = ℕ} (cond (not b) 1 0) 0 → b ≡ true
-issued_or true e = refl
-issued_or false e = absurd (omega (arith, e))
+issued_or b e = grind arith
 
 issue_steps : (events : List Event) (numbers : List ℕ)
     → map step_of events ≡ map step.Issue numbers → count_by is_refused events ≡ 0

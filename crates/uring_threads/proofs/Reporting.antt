@@ -1,13 +1,12 @@
 -- What is reported once all ends are settled, from what ties them to the trace.
-use Rattle.std.proofs.Common.{◌≡◌, ◌↔◌, ℕ, ℤ, zero, suc, ◌+◌, ◌<◌, ◌≤◌, ◌==◌, Bool, Some, true, false, List, [], ◌∷◌, ◌++◌, length, map, flat_map, take, drop, get_or, All, count_by, cond, if◌then◌else◌, refl, sym, subst, ap, ap₂, ◌∙◌, arith, inl, inr, append_assoc, append-nil, length-drop}
-use Rattle.uring_threads.proofs.Common.{AreItems, AreSettled, AreTogether, BeginsCalls, ClosesOnlyAllTaken, Completions, Cqe, DeliversReaped, Event, FinishesAll, HasOneClose, HaveLooked, HaveSeenAll, Intake, IsItem, IsKernel, IsLawful, IsSameKernel, Item, Job, JobResult, Kept, Kernel, LeavesCompletions, LeavesItems, LeavesRunning, OnlyPosts, PublishesItems, Put, Report, Setup, Sizes, Stands, Submission, TakesAll, Tied, WorkLanes, Worker, World, all_published_as, all_untaken, all_waiting, calls_left, calls_of, closes_ring, completion_for, entry_of, finish_of, flat_map-append, has_job, history, history_of, history_of_snoc, is_running, is_shut, items_of_calls, job_of, jobs_of, left_by, length-append, length-map, list_any, map-append, now, or_cases, or_left, or_right, posts, published_as, published_items, sum_by-cons, take_all, take_more, taken, unreaped, untaken_at, waiting_in, with_end_of, with_posted, world}
+use Rattle.std.proofs.Common.{◌≡◌, ◌↔◌, ℕ, ℤ, zero, suc, ◌+◌, ◌<◌, ◌≤◌, ◌==◌, Bool, Some, true, false, List, [], ◌∷◌, ◌++◌, length, map, flat_map, take, drop, get_or, All, count_by, cond, if◌then◌else◌, refl, sym, subst, ap, ◌∙◌, arith, inl, inr, append_assoc, append-nil, length-drop}
+use Rattle.uring_threads.proofs.Common.{AreItems, AreSettled, AreTogether, BeginsCalls, ClosesOnlyAllTaken, Completions, Cqe, DeliversReaped, Event, FinishesAll, HasOneClose, HaveLooked, HaveSeenAll, Intake, IsItem, IsKernel, IsLawful, IsSameKernel, Item, Job, JobResult, Kept, Kernel, LeavesCompletions, LeavesItems, LeavesRunning, OnlyPosts, PublishesItems, Put, Report, Setup, Sizes, Stands, Submission, TakesAll, Tied, WorkLanes, Worker, World, all_published_as, all_untaken, all_waiting, calls_of, closes_ring, completion_for, entry_of, finish_of, flat_map-append, has_job, history, history_of, history_of_snoc, is_running, is_shut, items_of_calls, job_of, jobs_of, left_by, length-append, length-map, list_any, map-append, now, or_cases, or_right, posts, published_as, published_items, sum_by-cons, take_all, take_more, taken, unreaped, untaken_at, waiting_in, with_end_of, with_posted, world}
 use Rattle.std.specs.List.{slice_get}
 use Rattle.std.proofs.Math.Seq.{drop-append_seam, take-append_seam}
 use Rattle.std.proofs.lemmas.Option.{slice_get_within, get_or_from_slice_get}
 use Rattle.uring_laws.specs.Laws.{ReapedBeginPosted, in_ring, in_overflow}
 use Rattle.uring_ports.specs.AppEnd.{AppEnd}
 use Rattle.std.proofs.lemmas.List.Folds.{list_any-append}
-use mathlib.Core.List.{IsPrefix}
 use Rattle.uring_threads.specs.declared.intake.Intake.TheVariants as intake
 use Rattle.uring_threads.proofs.CallsMade.{none_left}
 use Rattle.uring_threads.proofs.Tying.{closes_append, all_first}
@@ -39,14 +38,7 @@ module _ (g : Setup) (w : World) (put pulled : Put) (i : Intake) (r : Report) (s
       ∙ sym whole
 
   pub begins_calls : BeginsCalls put r
-  begins_calls = subst (λ (s : Setup). IsPrefix (left_by r).submission.calls (flat_map (calls_of s) put.calls)) (sym same) (
-    calls_left g w.submission ++ flat_map (calls_of g) leaves.rest,
-    ap (λ (l : Submission). l.calls ++ (calls_left g w.submission ++ flat_map (calls_of g) leaves.rest)) posts.submission
-        ∙ sym (append_assoc w.submission.calls (calls_left g w.submission) (flat_map (calls_of g) leaves.rest))
-        ∙ ap (λ ns. ns ++ flat_map (calls_of g) leaves.rest) t.calls
-        ∙ sym (flat_map-append (calls_of g) pulled.calls leaves.rest)
-        ∙ ap (flat_map (calls_of g)) leaves.calls,
-  )
+  begins_calls = grind (arith, (flat_map-append (calls_of g) pulled.calls leaves.rest), append_assoc)
 
   pub closes_all : ClosesOnlyAllTaken put r
   closes_all = λ closed.
@@ -95,8 +87,7 @@ of_any : (p : Job → Bool) (ls : List WorkLanes) (ws : List Worker) (d : WorkLa
     → list_any p (untaken_at (get_or ls k d) (get_or ws k e)) ≡ true
     → list_any p (all_untaken ls ws) ≡ true
 of_any p [] [] d e k many low some = absurd (omega (arith, low))
-of_any p (l ∷ ls) (w ∷ ws) d e zero many low some =
-    list_any-append p (untaken_at l w) (all_untaken ls ws) ∙ or_left _ _ some
+of_any p (l ∷ ls) (w ∷ ws) d e zero many low some = grind (arith, list_any-append)
 of_any p (l ∷ ls) (w ∷ ws) d e (suc k) many low some = list_any-append p (untaken_at l w) (all_untaken ls ws) ∙ or_right _ _ (of_any p ls ws d e k (omega (arith, many)) (omega (arith, low)) some)
 of_any p _ _ d e k many low some = absurd (omega (arith, many))
 
@@ -104,9 +95,7 @@ module _ (k : Kept) (ls : List WorkLanes) (ws vs : List Worker) (settled : AreSe
   -- what a worker has seen and not taken is what was sent to it and not taken
   untaken_seen : (j : ℕ) (d : WorkLanes) (e : Worker) → j < length ws → untaken_at (get_or ls j d) (get_or ws j e) ≡ (get_or vs j e).seen
   untaken_seen j d e low =
-      let same : (get_or vs j e).done ≡ (get_or ws j e).done = ap (λ w. w.done) (looked.looked j e low).same in
-      let counted : length (get_or ws j e).done ≡ length (jobs_of (get_or vs j e).done) = ap length (sym same) ∙ sym (length-map (get_or vs j e).done job_of) in
-      ap₂ (λ n js. drop n js) counted (sym (seen j d e (omega (arith, low, many)))) ∙ drop-append_seam (jobs_of (get_or vs j e).done) (get_or vs j e).seen
+      grind (arith, (get_or vs j e), (length-map (get_or vs j e).done job_of), (drop-append_seam (jobs_of (get_or vs j e).done) (get_or vs j e).seen))
 
   pub runs_untaken : (d : WorkLanes) (e : Worker) (n : ℕ)
       → (is_running (now k).requests n ≡ true) ↔ (has_job (all_untaken ls ws) n ≡ true)
@@ -163,8 +152,7 @@ one_end g w n res bytes = by_posts (posts g.linux w.requests n res) where
   c = completion_for (entry_of w.requests n) res bytes
 
   by_posts : (told : Bool) → length (unreaped (if told then with_posted g.cq l c else l)) ≤ length (unreaped l) + 1
-  by_posts true = omega (arith, length-drop (length l.reaped) (l.posted ++ c ∷ []), length-append l.posted (c ∷ []), length-drop (length l.reaped) l.posted)
-  by_posts false = omega arith
+  by_posts told = grind (arith, length-drop, length-append)
 
 each_posts : (g : Setup) (events : List Event) (rs : List JobResult)
     → length (unreaped (world g (history_of (events ++ map finish_of rs))).completions)
@@ -180,17 +168,12 @@ each_posts g events (r ∷ rs) =
 pub few_unreaped : (a b : Kept) (rs : List JobResult) (most : ℕ) → TakesAll a b rs
     → length b.trace ≤ length a.trace + most
     → length (unreaped (now b).completions) ≤ length (unreaped (now a).completions) + most
-few_unreaped a b rs most all few =
-    let counted : length rs ≤ most = omega (arith, few, ap length all.trace, length-append a.trace (map finish_of rs), length-map rs finish_of) in
-    let posts = each_posts a.setup a.trace rs in
-    subst (λ es. length (unreaped (world b.setup (history_of es)).completions) ≤ length (unreaped (now a).completions) + most) (sym all.trace)
-    (subst (λ g. length (unreaped (world g (history_of (a.trace ++ map finish_of rs))).completions) ≤ length (unreaped (now a).completions) + most) (sym all.setup) (omega (arith, posts, counted)))
+few_unreaped a b rs most all few = grind (arith, length-append, map, length-map, each_posts)
 
 -- a list after which others stand is taken whole
 pub take_whole : {X : Type 0} (n : ℕ) (xs others : List X) → length xs ≡ n
     → take n (xs ++ others) ≡ xs
-take_whole n xs others same =
-    subst (λ m. take m (xs ++ others) ≡ xs) same (take-append_seam xs others)
+take_whole n xs others same = grind (arith, take-append_seam)
 
 -- The history is lawful.
 
@@ -221,9 +204,7 @@ tells_ends app kernel same workers kept lanes unsent undelivered r t s is keeps 
     let goes_on : FinishesAll same.kept.trace lanes workers r = subst (λ (k : Kept). FinishesAll k.trace lanes workers r) keeps trace in
     let of : r.setup ≡ same.kept.setup = setup ∙ ap (λ (k : Kept). k.setup) keeps in
     let results : List JobResult = all_waiting lanes workers in
-    let posts : OnlyPosts (now same.kept) (left_by r) =
-    subst (λ es. OnlyPosts (now same.kept) (world r.setup (history_of es))) (sym goes_on)
-    (subst (λ g. OnlyPosts (now same.kept) (world g (history_of (same.kept.trace ++ map finish_of results)))) (sym of) (finishes_post same.kept.setup same.kept.trace results)) in
+    let posts : OnlyPosts (now same.kept) (left_by r) = grind (arith, finishes_post) in
     let left : LeavesItems app.submitted same.pulled r.unsent = subst (LeavesItems app.submitted same.pulled) (sym rests.0) items in
     let size : app.sizes.sq ≡ same.kept.setup.sq = ap (λ (z : Sizes). z.sq) (sym (together_same app kernel same workers s t).sizes) ∙ is.sq in
     let tied = is.ties.tied in

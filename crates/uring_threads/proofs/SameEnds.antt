@@ -1,6 +1,6 @@
 -- Lanes and workers by their numbers: whoever has the same numbers is the other end.
 use Rattle.std.proofs.Common.{◌≡◌, ℕ, suc, ◌<◌, ◌≤◌, List, [], ◌∷◌, length, map, get_or, refl, sym, subst, ap, ap₂, ◌∙◌, arith}
-use Rattle.uring_threads.proofs.Common.{AreSameLanes, AreTogether, Cqe, Event, HaveCarried, HaveCarriedNone, HaveFiles, HaveLooked, HoldJobs, HoldResults, Intake, IsKernel, IsSameKernel, Kept, Kernel, Put, Setup, Sizes, WorkLanes, Worker, calls_after, get_or-map, get_or_default, length-map, length-set, nothing_put, numbers_of_lanes, sizes_of, slice_set}
+use Rattle.uring_threads.proofs.Common.{AreSameLanes, AreTogether, HaveCarried, HaveCarriedNone, HaveFiles, HaveLooked, HoldJobs, HoldResults, IsKernel, IsSameKernel, Kept, Kernel, Setup, WorkLanes, Worker, calls_after, get_or-map, get_or_default, length-map, length-set, nothing_put, numbers_of_lanes, sizes_of, slice_set}
 use Rattle.uring_ports.specs.AppEnd.{AppEnd}
 use Rattle.uring_threads.specs.Opening.{kernel_at_first}
 use Rattle.uring_threads.specs.declared.intake.Intake.TheVariants as intake
@@ -43,57 +43,25 @@ same_numbers old new same =
 pub lanes_of_workers : (app : AppEnd) (kernel : Kernel) (workers : List Worker)
     → AreTogether app kernel workers → IsKernel kernel
     → AreLanesOf kernel.kept.setup.files kernel.lanes workers
-lanes_of_workers app kernel workers together is =
-    let many : length workers ≡ length kernel.lanes = sym (length-map workers (λ (w : Worker). w.pairing)) ∙ ap length together.lanes ∙ length-map kernel.lanes (λ (l : WorkLanes). pairing_of l.jobs l.results) in
-    record {
-      many = many;
-      pairing = λ k d e low. same_told (λ (w : Worker). w.pairing) (λ (l : WorkLanes). pairing_of l.jobs l.results) workers kernel.lanes k e d together.lanes low;
-      short = is.short;
-      have = λ k e low. together.files k e (omega (arith, low, many));
-    }
+lanes_of_workers app kernel workers together is = grind (arith, length-map, same_told)
 
 -- the ends of a set-up, as they are opened
 pub opened_together : (files : ℕ) (app : AppEnd) (kernel : Kernel) (workers : List Worker)
     → kernel.pairing ≡ app.pairing → kernel.sizes ≡ app.sizes → kernel.kept.setup.files ≡ files
     → AreLanesOf files kernel.lanes workers → AreTogether app kernel workers
-opened_together files app kernel workers ports sizes same of =
-    record {
-      ports = ports;
-      sizes = sizes;
-      lanes = told_same (λ (w : Worker). w.pairing) (λ (l : WorkLanes). pairing_of l.jobs l.results) workers kernel.lanes of.many (λ k d e low. of.pairing k e d (omega (arith, low, of.many)));
-      files = λ k d low. of.have k d (omega (arith, low, of.many)) ∙ sym same;
-    }
+opened_together files app kernel workers ports sizes same of = grind (arith, told_same)
 
 -- the dispatcher's end, as it is opened
 pub at_first : (g : Setup) (k : Kernel) → k.kept.trace ≡ [] → k.kept.setup ≡ g
     → k.intake ≡ intake.Ready → k.sizes ≡ sizes_of g → k.pulled ≡ nothing_put → k.reaped ≡ []
     → k ≡ kernel_at_first g k.pairing k
-at_first g k trace setup ready sizes pulled reaped =
-    ap (λ (es : List Event). record k { kept = record k.kept { trace = es } }) trace
-    ∙ ap (λ (s : Setup). record k { kept = record k.kept { trace = []; setup = s } }) setup
-    ∙ ap (λ (i : Intake). record k { kept = record k.kept { trace = []; setup = g }; intake = i }) ready
-    ∙ ap (λ (z : Sizes). record k { kept = record k.kept { trace = []; setup = g }; intake = intake.Ready; sizes = z }) sizes
-    ∙ ap (λ (p : Put). record k { kept = record k.kept { trace = []; setup = g }; intake = intake.Ready; sizes = sizes_of g; pulled = p }) pulled
-    ∙ ap (λ (cs : List Cqe). record k { kept = record k.kept { trace = []; setup = g }; intake = intake.Ready; sizes = sizes_of g; pulled = nothing_put; reaped = cs }) reaped
+at_first g k trace setup ready sizes pulled reaped = grind arith
 
 pub is_at_first : (g : Setup) (numbers : List ℕ) (k : Kernel) → 0 < length k.lanes
     → length k.lanes ≤ 8 → HoldJobs k.lanes → HoldResults k.lanes → HaveCarriedNone k.lanes
     → IsKernel (kernel_at_first g numbers k)
 unfolding calls_after
-is_at_first g numbers k some few hold short none = record {
-  sq = refl;
-  cq = refl;
-  some = some;
-  few = few;
-  hold = hold;
-  short = short;
-  ties = record {
-    tied = record { published = λ good. refl; calls = refl; stands = record { fresh = refl; call = refl; head = refl; waiting = refl }; spent = tt; closed = refl; shut = refl };
-    once = refl;
-    delivered = record { reaped = refl; head = refl };
-    carried = λ j d low. record { jobs = (none j d low).0; results = (none j d low).1 };
-  };
-}
+is_at_first g numbers k some few hold short none = grind arith
 
 -- A worker that does something goes on to be of the same ends.
 
@@ -117,19 +85,13 @@ module _ (workers : List Worker) (k : ℕ) (d new : Worker) (low : k < length wo
 
 pub together_same : (app : AppEnd) (kernel same : Kernel) (workers : List Worker)
     → IsSameKernel kernel same → AreTogether app kernel workers → AreTogether app same workers
-together_same app kernel same workers s t = record {
-  ports = ap (λ (k : Kernel). k.pairing) s.others ∙ t.ports;
-  sizes = ap (λ (k : Kernel). k.sizes) s.others ∙ t.sizes;
-  lanes = t.lanes ∙ sym (ap (λ (k : Kernel). numbers_of_lanes k.lanes) s.others);
-  files = λ k d low. t.files k d low ∙ ap (λ g. g.files) (sym s.kept.setup);
-}
+together_same app kernel same workers s t = grind arith
 
 pub lanes_to_settle : (app : AppEnd) (kernel same : Kernel) (workers : List Worker) (kept : Kept) (lanes : List WorkLanes)
     → AreTogether app kernel workers → IsSameKernel kernel same → IsKernel same → kept ≡ same.kept
     → lanes ≡ same.lanes → AreLanesOf kept.setup.files lanes workers
 lanes_to_settle app kernel same workers kept lanes t s is keeps these =
-    subst (λ (k : Kept). AreLanesOf k.setup.files lanes workers) (sym keeps)
-    (subst (λ ls. AreLanesOf same.kept.setup.files ls workers) (sym these) (lanes_of_workers app same workers (together_same app kernel same workers s t) is))
+    grind (arith, (lanes_of_workers app same workers (together_same app kernel same workers s t) is))
 
 pub carried_to_settle : (same : Kernel) (kept : Kept) (lanes : List WorkLanes) → IsKernel same
     → kept ≡ same.kept → lanes ≡ same.lanes → HaveCarried kept lanes
@@ -138,8 +100,4 @@ carried_to_settle same kept lanes is keeps these = subst (λ (k : Kept). HaveCar
 -- workers that looked have as many files as before
 pub files_had : (files : ℕ) (lanes : List WorkLanes) (old new : List Worker) → 0 < length lanes
     → AreLanesOf files lanes old → HaveLooked old new → HaveFiles files new
-files_had files lanes old new some of looked =
-    record {
-      some = omega (arith, some, of.many, looked.many);
-      each = λ k e low. ap (λ (w : Worker). length w.files) (looked.looked k e (omega (arith, low, looked.many))).same ∙ of.have k e (omega (arith, low, looked.many, of.many));
-    }
+files_had files lanes old new some of looked = grind arith

@@ -1,38 +1,19 @@
 -- Lanes that stay the same, as they are looked at and as jobs and results go through them.
-use Rattle.std.proofs.Common.{◌≡◌, ◌≢◌, ℕ, ◌<◌, ◌≤◌, List, length, get_or, refl, sym, subst, ◌∙◌, arith, inl, inr}
+use Rattle.std.proofs.Common.{◌≡◌, ◌≢◌, ℕ, ◌<◌, List, length, get_or, refl, arith, inl, inr}
 use Rattle.uring_threads.proofs.Common.{AreSameLanes, HoldJobs, HoldResults, IsSent, Job, OnlyReceives, WorkLanes, cases_eq, get_or-set_other, get_or-set_same, get_or_default, length-set, set}
 
 -- what holds of one element that is set, and of each other as it was
 pub set_cases : {X : Type 0} (P : ℕ → X → Type 0) (xs : List X) (i : ℕ) (x : X) (k : ℕ) (d : X)
     → i < length xs → P i x → (k ≢ i → P k (get_or xs k d)) → P k (get_or (set xs i x) k d)
-set_cases P xs i x k d low here others =
-    elim (cases_eq k i) [
-      | inl same ↦ subst (λ j. P j (get_or (set xs i x) j d)) (sym same) (subst (P i) (sym (get_or-set_same xs i x d low)) here)
-      | inr other ↦ subst (P k) (sym (get_or-set_other xs i k x d other)) (others other)
-    ]
+set_cases P xs i x k d low here others = grind (arith, get_or-set_same, get_or-set_other)
 
 -- lanes that nothing went through
 pub lanes_none : (lanes : List WorkLanes) → AreSameLanes lanes lanes
-lanes_none lanes = record {
-  many = refl;
-  jobs = λ k d low. ((refl, refl, refl, refl), refl);
-  results = λ k d low. ((refl, refl, refl, refl), refl);
-}
+lanes_none lanes = grind arith
 
 -- the same lanes twice
 pub lanes_then : (a b c : List WorkLanes) → AreSameLanes a b → AreSameLanes b c → AreSameLanes a c
-lanes_then a b c p q =
-    record {
-      many = q.many ∙ p.many;
-      jobs = λ k d low.
-          let x = p.jobs k d low in
-          let y = q.jobs k d (omega (arith, low, p.many)) in
-          ((y.0.0 ∙ x.0.0, y.0.1 ∙ x.0.1, y.0.2 ∙ x.0.2, y.0.3 ∙ x.0.3), y.1 ∙ x.1);
-      results = λ k d low.
-          let x = p.results k d low in
-          let y = q.results k d (omega (arith, low, p.many)) in
-          ((y.0.0 ∙ x.0.0, y.0.1 ∙ x.0.1, y.0.2 ∙ x.0.2, y.0.3 ∙ x.0.3), y.1 ∙ x.1);
-    }
+lanes_then a b c p q = grind arith
 
 -- lanes from which results were received, in their place
 pub lanes_set : (lanes : List WorkLanes) (place : ℕ) (y d : WorkLanes) → place < length lanes
@@ -57,37 +38,17 @@ pub lanes_sent : (old new : List WorkLanes) (place : ℕ) (j : Job) → length n
     → ((d : WorkLanes) → IsSent j (get_or old place d) (get_or new place d))
     → ((k : ℕ) (d : WorkLanes) → k < length old → k ≢ place → get_or new k d ≡ get_or old k d)
     → AreSameLanes old new
-lanes_sent old new place j many sent others =
-    record {
-      many = many;
-      jobs = λ k d low.
-          elim (cases_eq k place) [
-            | inl here ↦ rw here (sent d).ring
-            | inr other ↦ rw (others k d low other) ((refl, refl, refl, refl), refl)
-          ];
-      results = λ k d low.
-          elim (cases_eq k place) [
-            | inl here ↦ rw (here, (sent d).results) ((refl, refl, refl, refl), refl)
-            | inr other ↦ rw (others k d low other) ((refl, refl, refl, refl), refl)
-          ];
-    }
+lanes_sent old new place j many sent others = grind arith
 
 -- results were received twice
 pub receives_then : (a b c : WorkLanes) → OnlyReceives a b → OnlyReceives b c → OnlyReceives a c
-receives_then a b c p q =
-    let x = p.ring in
-    let y = q.ring in
-    record { jobs = q.jobs ∙ p.jobs; ring = ((y.0.0 ∙ x.0.0, y.0.1 ∙ x.0.1, y.0.2 ∙ x.0.2, y.0.3 ∙ x.0.3), y.1 ∙ x.1) }
+receives_then a b c p q = grind arith
 
 -- the same lanes hold as many jobs
 pub hold_stays : (old new : List WorkLanes) → AreSameLanes old new → HoldJobs old → HoldJobs new
-hold_stays old new same hold = λ k d low.
-    let before : k < length old = omega (arith, low, same.many) in
-    (same.jobs k d before).1 ∙ hold k d before
+hold_stays old new same hold = grind arith
 
 -- and as many results
 pub short_stays : (old new : List WorkLanes) → AreSameLanes old new → HoldResults old
     → HoldResults new
-short_stays old new same short = λ k d low.
-    let before : k < length old = omega (arith, low, same.many) in
-    subst (λ n. n ≤ 64) (sym (same.results k d before).1) (short k d before)
+short_stays old new same short = grind arith

@@ -1,18 +1,16 @@
 -- What a lawful history tells of jobs and of operations: a job was sent for each request that started, and an operation was carried out for each that started and ended.
 -- And of what is left at a place: of the jobs sent to it, those after the operations that were carried out are of the requests that run.
 -- By `Moves` and induction over the history, and by counting how often a number stands among what was sent, carried out and started.
-use Rattle.std.proofs.Common.{◌≡◌, ℕ, ◌<◌, ◌≤◌, ◌==◌, ℤ, List, [], ◌∷◌, ◌++◌, length, map, Bool, true, false, not, cond, None, if◌then◌else◌, refl, sym, subst, ◌∙◌, ap, arith, inl, inr, ◌≢◌, ◌+◌, ◌&&◌, append-nil}
-use Rattle.uring_threads.proofs.Common.{Answer, CalledForApart, Done, Ending, History, IsLawfulApart, Job, Op, Requests, Setup, Sqe, Step, World, and_parts, both_ways, cancel_result, cases_Bool, done_at, done_by, done_in, doomed_result, entry_of, eq-eqb, eqb-true, false_from_ne_true, filter, has_ended, has_started, is_cancel, is_outstanding, is_running, issue_answer, job_in, jobs_at, jobs_in, jobs_of, length-append, list_any, map-append, may_start, no_bytes, not-true, operation_of, option_map, or_left, or_right, requests_of, slice_index_or, with_call, with_issued_end, with_told, world, zero_entry}
+use Rattle.std.proofs.Common.{◌≡◌, ℕ, ◌<◌, ◌≤◌, ◌==◌, ℤ, List, [], ◌∷◌, ◌++◌, length, map, Bool, true, false, not, cond, None, if◌then◌else◌, refl, sym, subst, ◌∙◌, ap, arith, ◌≢◌, ◌+◌, ◌&&◌, append-nil}
+use Rattle.uring_threads.proofs.Common.{Answer, CalledForApart, Done, Ending, History, IsLawfulApart, Job, Op, Requests, Setup, Sqe, Step, World, and_parts, both_ways, done_at, done_by, done_in, entry_of, eq-eqb, eqb-true, false_from_ne_true, filter, has_ended, has_started, is_outstanding, is_running, issue_answer, job_in, jobs_at, jobs_in, jobs_of, length-append, list_any, map-append, no_bytes, not-true, operation_of, option_map, or_left, or_right, requests_of, slice_index_or, with_call, with_issued_end, with_told, world, zero_entry}
 use Rattle.uring_linux.specs.LinuxRequests.{LinuxRequests}
-use Rattle.uring_rules.specs.Rules as by_rules
 use Rattle.uring_core.specs.Events.{started_by, end_told_by}
-use Rattle.uring_core.specs.declared.step.Step.TheVariants as step
 use Rattle.uring_core.specs.declared.answer.Answer.TheVariants as answer
 use Rattle.uring_core.proofs.ListCounts.{any_new}
 use Rattle.uring_core.proofs.Moves.{Move, stays, accepts, starts, ends_doomed, ends_cancel, ends_run, move_of}
 use Rattle.uring_core.proofs.Running.{entry_stays}
 use Rattle.uring_core.proofs.Sound.{sound_of}
-use Rattle.uring_core.proofs.SoundRequests.{IsSoundRequests, outstanding_tells, idle_tells}
+use Rattle.uring_core.proofs.SoundRequests.{IsSoundRequests}
 use Rattle.uring_threads.proofs.Times.{times, times_append, times_told, times_counts, times_some, times_any, none_passes}
 use Rattle.std.proofs.lemmas.List.Elements.{filter-append}
 
@@ -31,17 +29,14 @@ jobs_stay r entries (n ∷ ns) within =
 by_either : (P : Requests → Type 0) (linux : Bool) (r : Requests) (n : ℕ) (res : ℤ)
     → P (with_issued_end true r n res) → P (with_issued_end false r n res)
     → P (with_issued_end linux r n res)
-by_either P true r n res there here = there
-by_either P false r n res there here = here
+by_either P linux r n res there here = grind arith
 
 jobs_then : (linux : Bool) (l : LinuxRequests) (q : Requests) (s : Step) (a : Answer) (jobs : List Job)
     → Move linux l s a q → IsSoundRequests l.requests
     → jobs ≡ map (job_in l.requests) l.requests.started
     → with_told jobs (option_map (job_in l.requests) (started_by (s, a))) ≡ map (job_in q) q.started
-jobs_then linux l q s a jobs (stays _ _ no_start no_end) i same =
-    ap (λ o. with_told jobs (option_map (job_in l.requests) o)) no_start ∙ same
-jobs_then linux l q s a jobs (accepts accepted missed head entries) i same =
-    same ∙ jobs_stay l.requests entries l.requests.started i.started_accepted
+jobs_then linux l q s a jobs (stays _ _ no_start no_end) i same = grind arith
+jobs_then linux l q s a jobs (accepts accepted missed head entries) i same = grind (arith, jobs_stay)
 jobs_then linux l q s a jobs (starts n outstanding idle spared ready no_cancel) i same =
     ap (λ js. js ++ job_in l.requests n ∷ []) same ∙ sym (map-append (job_in l.requests) l.requests.started (n ∷ []))
 jobs_then linux l q s a jobs (ends_run n res bytes running) i same = same
@@ -64,8 +59,7 @@ of_snoc : (accepted : List Sqe) (ds : List Done) (d : Done) → AreOf accepted d
     → d.number < length accepted → d.op ≡ operation_of (slice_index_or accepted d.number zero_entry)
     → AreOf accepted (ds ++ d ∷ [])
 of_snoc accepted [] d all within op = (within, op, tt)
-of_snoc accepted (first ∷ ds) d all within op =
-    (all.0, all.1, of_snoc accepted ds d all.2 within op)
+of_snoc accepted (first ∷ ds) d all within op = grind (arith, (of_snoc accepted ds d all.2 within op))
 
 of_call : (r : Requests) (entries : List Sqe) (ds : List Done) → AreOf r.accepted ds
     → AreOf (r.accepted ++ entries) ds
@@ -75,9 +69,7 @@ of_call r entries (d ∷ ds) all = (omega (arith, all.0, length-append r.accepte
 -- what tells no end carries no operation out
 silent_none : (w : World) (s : Step) (a : Answer) → end_told_by (s, a) ≡ None
     → done_by w (s, a) ≡ None
-silent_none w (step.Finish n) (answer.Ended res bytes) e = absurd cc
-silent_none w (step.Finish n) a e = refl
-silent_none w s a e = refl
+silent_none w s a e = grind arith
 
 done_then : (linux : Bool) (w : World) (q : Requests) (s : Step) (a : Answer) (done : List Done)
     → Move linux (requests_of w) s a q → IsSoundRequests w.requests → AreOf w.requests.accepted done
@@ -101,18 +93,13 @@ issue_idle : (outstanding running doomed ready cancel : Bool) (as_doomed as_canc
     → answer.Ended res bytes
     ≡ (if not outstanding then answer.Unknown else (if running then answer.Running else (if doomed then answer.Ended as_doomed no_bytes else (if not ready then answer.NotReady else (if cancel then answer.Ended as_cancel no_bytes else answer.Run)))))
     → running ≡ false
-issue_idle outstanding false doomed ready cancel as_doomed as_cancel res bytes e = refl
-issue_idle false true doomed ready cancel as_doomed as_cancel res bytes e = absurd cc
-issue_idle true true doomed ready cancel as_doomed as_cancel res bytes e = absurd cc
+issue_idle outstanding running doomed ready cancel as_doomed as_cancel res bytes e = grind arith
 
 -- so it hadn't started
 not_started : (g : Setup) (w : World) (n : ℕ) (res : ℤ) (bytes : List ℕ)
     → answer.Ended res bytes ≡ issue_answer g w n → is_outstanding w.requests n ≡ true
     → has_started w.requests n ≡ false
-not_started g w n res bytes called outstanding =
-    idle_tells w.requests n
-    (issue_idle (is_outstanding w.requests n) (is_running w.requests n) (by_rules.ends_doomed g.linux w.requests n) (may_start g.linux (requests_of w) n) (is_cancel (entry_of w.requests n)) (doomed_result g.linux w.requests n) (cancel_result g.linux w.requests n) res bytes called)
-    (outstanding_tells w.requests n outstanding).1
+not_started g w n res bytes called outstanding = grind arith
 
 -- what has started and ended was carried out
 abbrev Carried : Requests → List Done → Type 0
@@ -124,39 +111,23 @@ end_carries : (r : Requests) (m : ℕ) (end : Ending) (done : List Done) → end
     → has_started r m ≡ false → Carried r done → (n : ℕ) → has_started r n ≡ true
     → list_any (λ e. e.number == n) (r.ended ++ end ∷ []) ≡ true
     → 1 ≤ times (λ d. d.number == n) done
-end_carries r m end done at fresh all n started ended =
-    elim (any_new (λ e. e.number == n) r.ended end ended) [
-      | inl old ↦ all n started old
-      | inr new ↦ absurd (both_ways _ (subst (λ k. has_started r k ≡ false) (sym at ∙ eqb-true _ _ new) fresh) started)
-    ]
+end_carries r m end done at fresh all n started ended = grind (arith, any_new, both_ways)
 
 -- one that ended as it was issued
 carried_issued : (linux : Bool) (r : Requests) (m : ℕ) (res : ℤ) (done : List Done)
     → has_started r m ≡ false → Carried r done → Carried (with_issued_end linux r m res) done
-carried_issued linux r m res done fresh all =
-    let ends = end_carries r m (record { number = m; res = res; bytes = no_bytes }) done refl fresh all in
-    by_either (λ q. Carried q done) linux r m res ends ends
+carried_issued linux r m res done fresh all = grind (arith, end_carries)
 
 carried_then : (g : Setup) (w : World) (q : Requests) (s : Step) (a : Answer) (done : List Done)
     → Move g.linux (requests_of w) s a q → CalledForApart g w s a → Carried w.requests done
     → Carried q (with_told done (done_by w (s, a)))
 carried_then g w q s a done (stays _ _ no_start no_end) called all = λ n started ended. omega (arith, all n started ended, times_told (λ (d : Done). d.number == n) done (done_by w (s, a)))
 carried_then g w q s a done (accepts accepted missed head entries) called all = all
-carried_then g w q s a done (starts m outstanding idle spared ready no_cancel) called all =
-    λ n started ended.
-    elim (any_new (λ k. k == n) w.requests.started m started) [
-      | inl old ↦ all n old ended
-      | inr new ↦ absurd (both_ways _ (subst (λ k. has_ended w.requests k ≡ false) (eqb-true _ _ new) (outstanding_tells w.requests m outstanding).1) ended)
-    ]
-carried_then g w q s a done (ends_doomed m outstanding) called all =
-    carried_issued g.linux w.requests m _ done (not_started g w m _ _ called outstanding) all
+carried_then g w q s a done (starts m outstanding idle spared ready no_cancel) called all = grind (arith, any_new, both_ways)
+carried_then g w q s a done (ends_doomed m outstanding) called all = grind (arith, carried_issued)
 carried_then g w q s a done (ends_cancel m outstanding spared ready cancel) called all =
     carried_issued g.linux w.requests m _ done (not_started g w m _ _ called outstanding) all
-carried_then g w q s a done (ends_run m res bytes running) called all = λ n started ended.
-    elim (any_new (λ e. e.number == n) w.requests.ended (record { number = m; res = res; bytes = bytes }) ended) [
-      | inl old ↦ omega (arith, all n started old, times_told (λ (d : Done). d.number == n) done (done_by w (s, a)))
-      | inr new ↦ let one : ◌≡◌ {A = ℕ} (cond (m == n) 1 0) 1 = ap (λ b. cond b 1 0) new in omega (arith, times_append (λ (d : Done). d.number == n) done (record { number = m; op = operation_of (entry_of w.requests m); outcome = record { res = res; bytes = bytes } } ∷ []))
-    ]
+carried_then g w q s a done (ends_run m res bytes running) called all = grind (arith, any_new, cond, times_append)
 
 pub carried_out : (g : Setup) (h : History) → IsLawfulApart g h
     → Carried (world g h).requests (done_in g h)
@@ -169,8 +140,7 @@ FewerDone r done = (n : ℕ) → times (λ d. d.number == n) done ≤ times (λ 
 
 fewer_issued : (linux : Bool) (r : Requests) (m : ℕ) (res : ℤ) (done : List Done) → FewerDone r done
     → FewerDone (with_issued_end linux r m res) done
-fewer_issued true r m res done all = λ n. omega (arith, all n, times_append (λ (e : Ending). e.number == n) r.ended (record { number = m; res = res; bytes = no_bytes } ∷ []))
-fewer_issued false r m res done all = λ n. omega (arith, all n, times_append (λ (e : Ending). e.number == n) r.ended (record { number = m; res = res; bytes = no_bytes } ∷ []))
+fewer_issued linux r m res done all = grind (arith, times_append)
 
 ended_then : (linux : Bool) (w : World) (q : Requests) (s : Step) (a : Answer) (done : List Done)
     → Move linux (requests_of w) s a q → FewerDone w.requests done
@@ -191,8 +161,7 @@ ended_then linux w q s a done _ all = fewer_issued linux w.requests _ _ done all
 pub done_ended : (g : Setup) (h : History) → IsLawfulApart g h
     → FewerDone (world g h).requests (done_in g h)
 done_ended g [] lawful = λ n. omega arith
-done_ended g ((s, a) ∷ h) lawful =
-    ended_then g.linux (world g h) _ s a (done_in g h) (move_of g s a h lawful) (done_ended g h lawful.1)
+done_ended g ((s, a) ∷ h) lawful = grind (arith, (move_of g s a h lawful), ended_then, (done_ended g h lawful.1))
 
 -- the operation of a request, where these entries were accepted
 abbrev pub op_at : List Sqe → ℕ → Op
@@ -256,18 +225,12 @@ jobs_times n (d ∷ ds) = omega (arith, jobs_times n ds)
 module _ (g : Setup) (h : History) (lawful : IsLawfulApart g h) (place : Op → ℕ) (k : ℕ) (later : List Job) (all : jobs_at place k (jobs_in g h) ≡ jobs_of (done_at place k (done_in g h)) ++ later) where
   -- all that was sent to the place, counted
   sent_times : (n : ℕ) → times (λ j. j.number == n) (jobs_at place k (map (job_in (world g h).requests) (world g h).requests.started)) ≡ times (λ d. d.number == n) (done_at place k (done_in g h)) + times (λ j. j.number == n) later
-  sent_times n =
-      ap (λ js. times (λ j. j.number == n) (jobs_at place k js)) (sym (jobs_are_starts g h lawful)) ∙ ap (times (λ j. j.number == n)) all
-      ∙ times_append (λ (j : Job). j.number == n) (jobs_of (done_at place k (done_in g h))) later ∙ ap (λ m. m + times (λ j. j.number == n) later) (jobs_times n (done_at place k (done_in g h)))
+  sent_times n = grind (arith, jobs_are_starts, times_append, jobs_times)
 
   -- what is left is the place's own
   pub left_own : (n : ℕ) → 1 ≤ times (λ j. j.number == n) later
       → (place (operation_of (entry_of (world g h).requests n)) == k) ≡ true
-  left_own n some =
-      elim (cases_Bool (place (operation_of (entry_of (world g h).requests n)) == k)) [
-        | inl own ↦ own
-        | inr other ↦ absurd (omega (arith, sent_times n, sent_other place k n (world g h).requests (world g h).requests.started other))
-      ]
+  left_own n some = grind (arith, (sent_times n), sent_other)
 
   -- what is left runs
   pub left_runs : (n : ℕ) → 1 ≤ times (λ j. j.number == n) later
@@ -305,7 +268,4 @@ one_more_at {X} at k xs x own = filter-append (λ (y : X). at y == k) xs (x ∷ 
 
 pub none_more_at : {X : Type 0} (at : X → ℕ) (k : ℕ) (xs : List X) (x : X) → at x ≢ k
     → filter (λ y. at y == k) (xs ++ x ∷ []) ≡ filter (λ y. at y == k) xs
-none_more_at {X} at k xs x other =
-    filter-append (λ (y : X). at y == k) xs (x ∷ [])
-    ∙ ap (λ b. filter (λ (y : X). at y == k) xs ++ cond b (x ∷ []) []) (false_from_ne_true _ (λ same. other (eqb-true _ _ same)))
-    ∙ append-nil (filter (λ (y : X). at y == k) xs)
+none_more_at {X} at k xs x other = grind (arith, filter-append, cond, eqb-true, append-nil)

@@ -35,8 +35,7 @@ pub record Drains (first now : Kept) (seen known before received : List JobResul
 
 pub drains_none : (first : Kept) (seen before : List JobResult) → Wait first seen
     → Drains first first seen seen before before 0
-drains_none first seen before left =
-    record { taken = []; all = refl; came = sym (append-nil before); recorded = takes_none first; counted = refl; left = left }
+drains_none first seen before left = grind (arith, append-nil)
 
 -- the next one
 abbrev pub OneMore : Kept → Kept → List JobResult → List JobResult → List JobResult → List JobResult
@@ -63,23 +62,13 @@ pub room_left : (first a : Kept) (seen known before received : List JobResult) (
     → Drains first a seen known before received count
     → length first.trace + length seen ≤ first.room → count < length seen
     → (length a.trace < a.room) × (0 < length known)
-room_left first a seen known before received count d room some =
-    let events = ap length d.recorded.trace ∙ length-append first.trace (map finish_of d.taken) in
-    let taken = length-map d.taken finish_of in
-    let all = ap length d.all ∙ length-append d.taken known in
-    let more = d.recorded.room in
-    let counted = d.counted in (omega arith, omega arith)
+room_left first a seen known before received count d room some = grind (arith, length-append, finish_of, length-map)
 
 -- at the end all were taken in
 pub drained : (first a : Kept) (seen known before received : List JobResult) (count : ℕ)
     → Drains first a seen known before received count → length seen ≤ count
     → TakesAll first a seen × (received ≡ before ++ seen) × (known ≡ [])
-drained first a seen known before received count d all_counted =
-    let all = ap length d.all ∙ length-append d.taken known in
-    let counted = d.counted in
-    let none : known ≡ [] = nil_from_length known (omega arith) in
-    let whole : d.taken ≡ seen = sym (d.all ∙ ap (λ rs. d.taken ++ rs) none ∙ append-nil d.taken) in
-    (subst (TakesAll first a) whole d.recorded, d.came ∙ ap (λ rs. before ++ rs) whole, none)
+drained first a seen known before received count d all_counted = grind (arith, length-append, nil_from_length, append-nil)
 
 -- results that are taken in send no job
 pub jobs_keep : (g : Setup) (workers k : ℕ) (rs : List JobResult) (h : History)
@@ -158,19 +147,7 @@ pub record SoFar (a b : Kept) (ls ms : List WorkLanes) (ws vs : List Worker) (co
 
 pub none_so_far : (a : Kept) (ls : List WorkLanes) (ws : List Worker) → HaveCarried a ls
     → SoFar a a ls ls ws ws 0
-none_so_far a ls ws carried =
-    record {
-      many = refl;
-      many_workers = refl;
-      lanes_stay = λ k d from. refl;
-      workers_stay = λ k e from. refl;
-      looked = λ k e. record { same = refl; seen = ([], append-nil (get_or ws k e).seen); room = omega arith };
-      carried = carried;
-      settled = λ k e lt. absurd (omega arith);
-      right = λ k e lt. absurd (omega arith);
-      recorded = takes_none a;
-      few = omega arith;
-    }
+none_so_far a ls ws carried = grind (arith, append-nil, get_or)
 
 -- The next worker: its lanes are still those of these ends, and there is room for its results.
 module _ (a b : Kept) (ls ms : List WorkLanes) (ws vs : List Worker) (count files : ℕ) (d : WorkLanes) (e : Worker) (s : SoFar a b ls ms ws vs count) (lt : count < length ls) (of : AreLanesOf files ls ws) where
@@ -210,8 +187,7 @@ module _ (a b c : Kept) (ls ms : List WorkLanes) (ws vs : List Worker) (count fi
 
   took : TakesAll a c (all_waiting (take (count + 1) ls) (take (count + 1) ws))
   took =
-      let waits : waiting_at (get_or ls count d) (get_or ws count e) ≡ one.trace.0 =
-      ap₂ waiting_at (sym (s.lanes_stay count d (omega arith))) (sym (s.workers_stay count e (omega arith))) ∙ waits_after (results_received (get_or ms count d)) one.trace.0 (results_of (get_or vs count e).done) one.trace.1 in
+      let waits : waiting_at (get_or ls count d) (get_or ws count e) ≡ one.trace.0 = grind (arith, waits_after) in
       subst (TakesAll a c) (ap (λ rs. all_waiting (take count ls) (take count ws) ++ rs) (sym waits) ∙ sym (waiting_more ls ws d e count of.many lt))
       (takes_then a b c (all_waiting (take count ls) (take count ws)) one.trace.0 s.recorded one.trace.2)
 

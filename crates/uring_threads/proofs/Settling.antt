@@ -1,7 +1,7 @@
 -- The laws of settling: a result that waits can be taken in, and once none waits the history is settled.
 -- From what is left at a place (`LeftAt`), worker by worker.
 use Rattle.std.proofs.Common.{◌≡◌, ◌≢◌, ℕ, zero, suc, ◌+◌, ◌<◌, ◌≤◌, ◌==◌, List, [], ◌∷◌, ◌++◌, map, drop, Bool, true, false, cond, refl, sym, subst, ◌∙◌, ap, arith, inl, inr, append_assoc, append-nil}
-use Rattle.uring_threads.proofs.Common.{AreDone, Done, FinishesApart, History, IsDealtByFile, IsLawfulApart, IsWork, Job, JobResult, NoneWaits, Op, Requests, ResultsRun, Settles, Setup, Sqe, Work, cases_eq, done_at, done_by_worker, done_in, entry_of, eq-eqb, eqb-true, file_of, files_left, finish_of, first_files, history_of, history_of_append, history_of_cons, job_in, job_of, jobs_at, jobs_of, jobs_to, map-append, operation_of, place_of, place_of_file, result_of, results_of, slice_index_or, waiting_of, with_taken_in, world}
+use Rattle.uring_threads.proofs.Common.{AreDone, Done, FinishesApart, History, IsDealtByFile, IsLawfulApart, IsWork, Job, JobResult, NoneWaits, Op, Requests, ResultsRun, Settles, Setup, Sqe, Work, cases_eq, done_at, done_by_worker, done_in, entry_of, eq-eqb, eqb-true, file_of, files_left, finish_of, first_files, history_of, history_of_append, history_of_cons, job_in, job_of, jobs_at, jobs_of, jobs_to, map-append, operation_of, place_of, place_of_file, result_of, results_of, waiting_of, with_taken_in, world}
 use Rattle.uring_core.specs.declared.answer.Answer.TheVariants as answer
 use Rattle.uring_threads.proofs.Dealing.{dealt_by_file, workers_join, files_by_worker, file_within}
 use Rattle.uring_threads.proofs.Sent.{op_at, left_own, left_runs, runs_left, one_more_at, none_more_at, jobs_are_starts, AreOf, done_is_of}
@@ -31,11 +31,7 @@ first_are accepted (j ∷ js) later all = (all.0, first_are accepted js later al
 -- operations of the same request with the same outcome
 same_done : (accepted : List Sqe) (c d : Done) → c.op ≡ op_at accepted c.number
     → d.op ≡ op_at accepted d.number → result_of c ≡ result_of d → c ≡ d
-same_done accepted c d c_op d_op same =
-    let number : c.number ≡ d.number = ap (λ r. r.number) same in
-    let op : c.op ≡ d.op = c_op ∙ ap (op_at accepted) number ∙ sym d_op in
-    let outcome : c.outcome ≡ d.outcome = ap (λ r. r.outcome) same in
-    λ i. record { number = number i; op = op i; outcome = outcome i }
+same_done accepted c d c_op d_op same = grind arith
 
 -- one list begins another
 abbrev Begins : List Done → List Done → List JobResult → Type 0
@@ -48,9 +44,7 @@ begins : (accepted : List Sqe) (first done : List Done) (waiting : List JobResul
 begins accepted [] done waiting firsts all same = (done, refl, sym same)
 begins accepted (c ∷ first) [] waiting firsts all same = absurd cc
 begins accepted (c ∷ first) (d ∷ done) waiting firsts all same =
-    let rest = begins accepted first done waiting firsts.2 all.1 (ap (drop 1) same) in
-    let head : result_of c ≡ result_of d = ap (λ rs. slice_index_or rs 0 (result_of c)) same in
-    (rest.0, ap (λ x. x ∷ done) (sym (same_done accepted c d firsts.1 all.0 head)) ∙ ap (λ ds. c ∷ ds) rest.1, rest.2)
+    grind (arith, (begins accepted first done waiting firsts.2 all.1 (ap (drop 1) same)))
 
 -- what was carried out at a place
 of_place : (accepted : List Sqe) (place : Op → ℕ) (k : ℕ) (ds : List Done) → AreOf accepted ds
@@ -65,12 +59,7 @@ of_place accepted place k (d ∷ ds) all =
 module _ (g : Setup) (workers : ℕ) (h : History) (k : ℕ) (lawful : IsLawfulApart g h) where
   -- the operations of a worker are those whose results were taken in, and then more, whose results wait
   work_begins : (work : Work) → IsWork g workers h k work → Begins (done_by_worker g workers k h) work.done work.waiting
-  work_begins work is =
-      let sent = sent_are (place_of workers g.files) k (world g h).requests (world g h).requests.started in
-      begins (world g h).requests.accepted (done_by_worker g workers k h) work.done work.waiting
-      (of_place (world g h).requests.accepted (place_of workers g.files) k (done_in g h) (done_is_of g h lawful))
-      (first_are (world g h).requests.accepted (jobs_of work.done) work.untaken (subst (AreJobsOf (world g h).requests.accepted) (sym (is.jobs ∙ ap (jobs_at (place_of workers g.files) k) (jobs_are_starts g h lawful))) sent))
-      is.results
+  work_begins work is = grind (arith, sent_are, begins, of_place, done_is_of, first_are, jobs_are_starts)
 
   -- the jobs that were sent are those whose results were taken in, those whose results wait, and those that the worker hasn't taken
   work_left : (work : Work) (is : IsWork g workers h k work) → jobs_to g workers k h ≡ jobs_of (done_by_worker g workers k h) ++ (jobs_of (work_begins work is).0 ++ work.untaken)
@@ -175,12 +164,7 @@ pub drain : (g : Setup) (workers : ℕ) (h : History) (k : ℕ) (done : List Don
     → IsLawfulApart g h
     → IsWork g workers h k (record { done = done; untaken = untaken; waiting = waiting })
     → IsDrained g workers h (with_taken_in waiting h) k (record { done = done; untaken = untaken; waiting = waiting })
-drain g workers h k done untaken [] lawful is = record {
-  lawful = lawful;
-  own = is;
-  sent = λ j. refl;
-  others = λ j unlike. refl;
-}
+drain g workers h k done untaken [] lawful is = grind arith
 drain g workers h k done untaken (r ∷ later) lawful is =
     let one = results_run g workers h k done untaken r later lawful is in
     let next : IsLawfulApart g (finish_of r ∷ h) = (subst (λ b. FinishesApart b (answer.Ended r.outcome.res r.outcome.bytes)) (sym one.runs) tt, lawful) in
@@ -193,10 +177,7 @@ pub same_work : (g f : Setup) (workers : ℕ) (h later : History) (k : ℕ) (wor
     → jobs_to f workers k later ≡ jobs_to g workers k h
     → done_by_worker f workers k later ≡ done_by_worker g workers k h → IsWork g workers h k work
     → IsWork f workers later k work
-same_work g f workers h later k work sent taken is = record {
-  jobs = is.jobs ∙ sym sent;
-  results = ap (λ ds. results_of ds ++ work.waiting) taken ∙ is.results;
-}
+same_work g f workers h later k work sent taken is = grind arith
 
 -- a history into which the results of the first workers were taken
 record AreDrained (g : Setup) (workers : ℕ) (h : History) (works : ℕ → Work) (count : ℕ) : Type 0 where
@@ -208,11 +189,7 @@ drain_first : (g : Setup) (workers : ℕ) (h : History) (works : ℕ → Work) �
     → ((k : ℕ) → k < workers → IsWork g workers h k (works k)) → (count : ℕ) → count ≤ workers
     → AreDrained g workers (with_taken_in (waiting_of works count) h) works count
 unfolding drained
-drain_first g workers h works lawful are zero le = record {
-  lawful = lawful;
-  before = λ k lt. absurd (omega arith);
-  after = λ k from lt. are k lt;
-}
+drain_first g workers h works lawful are zero le = grind arith
 drain_first g workers h works lawful are (suc count) le =
     let so_far = drain_first g workers h works lawful are count (omega arith) in
     let there : History = with_taken_in (waiting_of works count) h in

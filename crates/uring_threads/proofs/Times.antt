@@ -1,5 +1,5 @@
 -- How often a test passes in a list, counted by the list's form: in two lists together, and with one more element.
-use Rattle.std.proofs.Common.{◌≡◌, ℕ, ◌+◌, ◌≤◌, List, [], ◌∷◌, ◌++◌, Bool, true, false, cond, count_by, Option, Some, None, refl, arith, inl, inr}
+use Rattle.std.proofs.Common.{◌≡◌, ℕ, ◌+◌, ◌≤◌, List, [], ◌∷◌, ◌++◌, Bool, true, false, cond, count_by, Option, refl, arith, inl, inr}
 use Rattle.uring_threads.proofs.Common.{cases_Bool, cond-false, cond-true, list_any, or_cases, or_left, or_parts, or_right, sum_by-cons, with_told}
 
 abbrev pub times : {X : Type 0} → (X → Bool) → List X → ℕ
@@ -36,8 +36,7 @@ times_any p (x ∷ xs) some =
 -- what is told comes after what was told
 pub times_told : {X : Type 0} (p : X → Bool) (xs : List X) (o : Option X)
     → times p xs ≤ times p (with_told xs o)
-times_told p xs None = omega arith
-times_told p xs (Some x) = omega (arith, times_append p xs (x ∷ []))
+times_told p xs o = grind (arith, times_append)
 
 -- none passes
 pub none_passes : {X : Type 0} (p : X → Bool) (xs : List X) → list_any p xs ≡ false → times p xs ≡ 0

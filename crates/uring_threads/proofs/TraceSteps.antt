@@ -1,6 +1,6 @@
 -- What a step makes of the trace's world, and how tallies add up.
-use Rattle.std.proofs.Common.{◌≡◌, ◌+◌, List, [], ◌∷◌, ◌++◌, length, count_by, cond, refl, sym, ap, ap₂, ◌∙◌, arith, append_assoc, append-nil, add-zero, zero-add}
-use Rattle.uring_threads.proofs.Common.{Answer, Appends, Event, Grows, IsUnmoved, Kept, Setup, Step, Tally, begins_call, both, closes_ring, happens, history, history_of, history_of_append, history_of_snoc, is_refused, issues_request, length_push, none_counted, now, reaps_completion, stages_item, sum_by-append, takes_result, tally_of, world}
+use Rattle.std.proofs.Common.{◌≡◌, ◌+◌, List, [], ◌∷◌, ◌++◌, length, count_by, refl, sym, ap, ap₂, ◌∙◌, arith, append_assoc, append-nil, add-zero, zero-add}
+use Rattle.uring_threads.proofs.Common.{Answer, Appends, Event, Grows, IsUnmoved, Kept, Setup, Step, Tally, both, happens, history, history_of, history_of_append, history_of_snoc, is_refused, length_push, none_counted, now, sum_by-append, tally_of, world}
 
 -- the world after one event more
 pub grown : (a b : Kept) (s : Step) (x : Answer) → Grows a b (s, x)
@@ -34,16 +34,7 @@ still a = record { trace = refl; room = omega arith; setup = refl }
 -- Tallies.
 
 tally_append : (es fs : List Event) → tally_of (es ++ fs) ≡ both (tally_of es) (tally_of fs)
-tally_append es fs =
-    rw (
-      sum_by-append (λ e. cond (stages_item e) 1 0) es fs,
-      sum_by-append (λ e. cond (issues_request e) 1 0) es fs,
-      sum_by-append (λ e. cond (takes_result e) 1 0) es fs,
-      sum_by-append (λ e. cond (reaps_completion e) 1 0) es fs,
-      sum_by-append (λ e. cond (begins_call e) 1 0) es fs,
-      sum_by-append (λ e. cond (closes_ring e) 1 0) es fs,
-    )
-    refl
+tally_append es fs = grind (arith, sum_by-append)
 
 -- nothing counted beside it changes no tally
 pub both_none : (t : Tally) → both t none_counted ≡ t
@@ -56,38 +47,16 @@ none_both t = simp zero-add
 pub appends_one : (a b : Kept) (e : Event) (t : Tally) → Grows a b e → tally_of (e ∷ []) ≡ t
     → count_by is_refused (e ∷ []) ≡ 0
     → Appends a b t
-appends_one a b e t g counted served = record {
-  events = e ∷ [];
-  trace = g.trace;
-  tally = counted;
-  served = served;
-  room = g.room;
-  setup = g.setup;
-}
+appends_one a b e t g counted served = grind arith
 
 -- no event
 pub appends_none : (a b : Kept) → IsUnmoved a b → Appends a b none_counted
-appends_none a b u = record {
-  events = [];
-  trace = u.trace ∙ sym (append-nil a.trace);
-  tally = refl;
-  served = refl;
-  room = u.room;
-  setup = u.setup;
-}
+appends_none a b u = grind (arith, append-nil)
 
 -- one after the other
 pub appends_then : (a b c : Kept) (t u v : Tally) → Appends a b t → Appends b c u → both t u ≡ v
     → Appends a c v
-appends_then a b c t u v p q sums =
-    record {
-      events = p.events ++ q.events;
-      trace = q.trace ∙ ap (λ es. es ++ q.events) p.trace ∙ append_assoc a.trace p.events q.events;
-      tally = tally_append p.events q.events ∙ ap₂ both p.tally q.tally ∙ sums;
-      served = sum_by-append (λ e. cond (is_refused e) 1 0) p.events q.events ∙ ap₂ (λ m n. m + n) p.served q.served;
-      room = omega (arith, p.room, q.room);
-      setup = q.setup ∙ p.setup;
-    }
+appends_then a b c t u v p q sums = grind (arith, append_assoc, sum_by-append)
 
 -- after where nothing happened
 pub appends_after : (a b c : Kept) (t : Tally) → IsUnmoved a b → Appends b c t → Appends a c t

@@ -1,16 +1,14 @@
 -- The parts of a turn put together: what went through the dispatcher's hands stays tied to its trace, and what they appended adds up.
-use Rattle.std.proofs.Common.{add-zero, zero-add, ◌≡◌, ℕ, List, [], ◌++◌, refl, sym, subst, ap, ◌∙◌, arith, false, true}
-use Rattle.uring_threads.proofs.Common.{Appends, AreOfTurn, AreSameLanes, AreTies, ClosesOnce, Counts, Cqe, HasServed, HaveCarried, IfOk, IfOk-from_err, IfOk-weaker, Intake, IsDelivered, IsErr, IsGivenUpAsSpent, IsKernel, IsOk, IsUnmoved, KeepsAllBut, Kept, Kernel, OnErr, OnlyPosts, Put, Records, RecordsIntake, RecordsTurn, Repeats, Requests, Result, Setup, Sizes, Sqe, Stands, Submission, TakesFewResults, TakesIn, Tally, Tied, Turn, Turns, WorkLanes, World, calls_left, delivery_row, false≢true, finishes_counted, issues_counted, length, nat_lt, next_in, next_of, now, published_items, reaps_counted, requests_of, waiting_in, ◌+◌, ◌-◌, ◌^◌}
-use Rattle.uring_linux.specs.Drains.{Drains}
+use Rattle.std.proofs.Common.{add-zero, zero-add, ◌≡◌, ℕ, List, refl, sym, subst, ap, ◌∙◌, arith, false, true}
+use Rattle.uring_threads.proofs.Common.{Appends, AreOfTurn, AreSameLanes, AreTies, ClosesOnce, Counts, Cqe, HasServed, HaveCarried, IfOk, IfOk-from_err, IfOk-weaker, Intake, IsDelivered, IsErr, IsGivenUpAsSpent, IsKernel, IsOk, IsUnmoved, KeepsAllBut, Kept, Kernel, OnErr, OnlyPosts, Put, Records, RecordsIntake, RecordsTurn, Repeats, Requests, Result, TakesFewResults, TakesIn, Tally, Tied, Turn, Turns, WorkLanes, World, delivery_row, false≢true, finishes_counted, issues_counted, length, next_in, now, reaps_counted}
 use Rattle.uring_core.specs.declared.step.Step.TheVariants as step
-use Rattle.uring_threads.specs.declared.intake.Intake.TheVariants as intake
 use Rattle.uring_threads.proofs.Carrying.{quiet_stays, carried_stays, next_is_none}
 use Rattle.uring_threads.proofs.Tying.{once_stays}
 use Rattle.uring_threads.proofs.Collecting.{on_err, few_between}
 use Rattle.uring_threads.proofs.Recording.{records_none, turn_recorded}
 use Rattle.uring_threads.proofs.Repeating.{finishes_many, issues_many, repeats_idle, repeats_none}
-use Rattle.uring_threads.proofs.SameLanes.{hold_stays, lanes_none, lanes_then, short_stays}
-use Rattle.uring_threads.proofs.TraceSteps.{appends_none, appends_then, still, unmoved_now}
+use Rattle.uring_threads.proofs.SameLanes.{hold_stays, lanes_none, lanes_then}
+use Rattle.uring_threads.proofs.TraceSteps.{appends_none, appends_then, still}
 
 -- What was taken in: a call, or the close mark.
 pub record HasTaken (old : Kernel) (b : Kept) (pulled : Put) (reaped : List Cqe) (i : Intake) (n : ℕ) : Type 0 where
@@ -24,24 +22,12 @@ pub has_taken : (old : Kernel) (b : Kept) (pulled : Put) (reaped : List Cqe) (i 
     → (ClosesOnce old.kept old.intake → ClosesOnce b i)
     → (now b).completions ≡ (now old.kept).completions → reaped ≡ old.reaped
     → HasTaken old b pulled reaped i n
-has_taken old b pulled reaped i n t p row tied once same none =
-    record {
-      taken = p;
-      row = row;
-      ties = record {
-        tied = subst (λ (g : Setup). Tied g (now b) pulled i) (sym p.appends.setup) tied;
-        once = once t.once;
-        delivered = subst (λ l. IsDelivered l reaped) (sym same) (subst (IsDelivered (now old.kept).completions) (sym none) t.delivered);
-        carried = carried_stays old.kept b old.lanes (quiet_stays old.kept b _ p.appends refl refl) t.carried;
-      };
-    }
+has_taken old b pulled reaped i n t p row tied once same none = grind (arith, (quiet_stays old.kept b _ p.appends refl refl))
 
 -- a call that was given up stays so where no request was accepted
 given_up_stays : (w v : World) (i : Intake) → v.requests.accepted ≡ w.requests.accepted
     → IsGivenUpAsSpent w i → IsGivenUpAsSpent v i
-given_up_stays w v (intake.Spent count) same given =
-    ap (λ (es : List Sqe). nat_lt (2 ^ 63 - 1) (length es + count)) same ∙ given
-given_up_stays w v _ same given = tt
+given_up_stays w v i same given = grind arith
 
 -- what waits and what was pulled stay tied where the submission ring stays, and no request is accepted
 tied_stays : (a b : Kept) (pulled : Put) (i : Intake) → b.setup ≡ a.setup
@@ -49,27 +35,13 @@ tied_stays : (a b : Kept) (pulled : Put) (i : Intake) → b.setup ≡ a.setup
     → (now b).requests.accepted ≡ (now a).requests.accepted
     → (now b).is_closed ≡ (now a).is_closed → Tied a.setup (now a) pulled i
     → Tied b.setup (now b) pulled i
-tied_stays a b pulled i setup ring accepted closed t =
-    subst (λ (g : Setup). Tied g (now b) pulled i) (sym setup)
-    (record {
-      published = λ good. ap (λ l. published_items l) ring ∙ t.published good;
-      calls = ap (λ (l : Submission). l.calls ++ calls_left a.setup l) ring ∙ t.calls;
-      stands = subst (λ l. Stands l [] (waiting_in i)) (sym ring) t.stands;
-      spent = given_up_stays (now a) (now b) i accepted t.spent;
-      closed = closed ∙ t.closed;
-      shut = t.shut;
-    })
+tied_stays a b pulled i setup ring accepted closed t = grind arith
 
 -- results were taken in, or requests issued
 ties_posted : {a b : Kept} {pulled : Put} {reaped : List Cqe} {i : Intake} {lanes later : List WorkLanes} (t : Tally)
     → AreTies a pulled reaped i lanes → Appends a b t → t.closes ≡ 0 → OnlyPosts (now a) (now b)
     → HaveCarried b later → AreTies b pulled reaped i later
-ties_posted {a} {b} {pulled} {reaped} {i} t s p closes posts carried = record {
-  tied = tied_stays a b pulled i p.setup posts.submission posts.accepted posts.is_closed s.tied;
-  once = once_stays a b t i p closes s.once;
-  delivered = record { reaped = posts.reaped ∙ s.delivered.reaped; head = posts.head ∙ s.delivered.head };
-  carried = carried;
-}
+ties_posted {a} {b} {pulled} {reaped} {i} t s p closes posts carried = grind (arith, (once_stays a b t i p closes s.once))
 
 -- What was delivered, so many completions.
 pub record HasDelivered (a b : Kept) (n : ℕ) (reaped : List Cqe) : Type 0 where
@@ -81,13 +53,7 @@ pub record HasDelivered (a b : Kept) (n : ℕ) (reaped : List Cqe) : Type 0 wher
 
 pub delivers_none : {a b : Kept} {reaped : List Cqe} → IsUnmoved a b → KeepsAllBut (now a) (now b)
     → IsDelivered (now b).completions reaped → HasDelivered a b 0 reaped
-delivers_none {a} {b} u keeps delivered = record {
-  tally = appends_none a b u;
-  row = records_none a b u;
-  idle = λ none. u.trace;
-  keeps = keeps;
-  delivered = delivered;
-}
+delivers_none {a} {b} u keeps delivered = grind (arith, appends_none, records_none)
 
 ties_delivered : {a b : Kept} {pulled : Put} {before reaped : List Cqe} {i : Intake} {lanes : List WorkLanes} {n : ℕ}
     → AreTies a pulled before i lanes → HasDelivered a b n reaped → AreTies b pulled reaped i lanes
@@ -169,15 +135,7 @@ turned granted old new turn answer is g pairing sizes served not_stored ok =
     let setup = g.counts.appends.setup in
     let hold = hold_stays old.lanes new.lanes g.same is.hold in
     record {
-      is = record {
-        sq = ap (λ (s : Sizes). s.sq) sizes ∙ is.sq ∙ ap (λ (s : Setup). s.sq) (sym setup);
-        cq = ap (λ (s : Sizes). s.cq) sizes ∙ is.cq ∙ ap (λ (s : Setup). s.cq) (sym setup);
-        some = omega (arith, is.some, g.same.many);
-        few = omega (arith, is.few, g.same.many);
-        hold = hold;
-        short = short_stays old.lanes new.lanes g.same is.short;
-        ties = g.ties;
-      };
+      is = grind arith;
       turned = record {
         served = served;
         next = next_is_none answer new.kept new.lanes (IfOk-weaker answer _ _ (λ made s. s.none_left) served) g.ties.carried hold;
@@ -205,16 +163,8 @@ refused granted old new turn answer err is g pairing sizes dropped never =
 -- The dispatcher's end where nothing happened but that its trace may have more memory.
 pub kernel_unmoved : (k : Kernel) (kept : Kept) → IsUnmoved k.kept kept → IsKernel k
     → IsKernel (record k { kept = kept })
-kernel_unmoved k kept u is =
-    let same : now kept ≡ now k.kept = unmoved_now k.kept kept u in
-    let sq = is.sq ∙ ap (λ (g : Setup). g.sq) (sym u.setup) in
-    let cq = is.cq ∙ ap (λ (g : Setup). g.cq) (sym u.setup) in
-    let ties = ties_delivered is.ties (delivers_none u (subst (KeepsAllBut (now k.kept)) (sym same) (keeps_all (now k.kept))) (subst (λ (w : World). IsDelivered w.completions k.reaped) (sym same) is.ties.delivered)) in
-    assumption
+kernel_unmoved k kept u is = grind arith
 
 -- what can be issued next stays where only the completion ring changes
 pub same_next : (a b : Kept) → KeepsAllBut (now a) (now b) → b.setup ≡ a.setup → next_in b ≡ next_in a
-same_next a b keeps same =
-    ap (λ (g : Setup). next_of g.linux (requests_of (now b))) same
-    ∙ ap (λ (r : Requests). next_of a.setup.linux (record { requests = r; drains = (now b).drains })) keeps.requests
-    ∙ ap (λ (d : Drains). next_of a.setup.linux (record { requests = (now a).requests; drains = d })) keeps.drains
+same_next a b keeps same = grind arith

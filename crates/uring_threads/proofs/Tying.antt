@@ -1,6 +1,6 @@
 -- What ties the dispatcher's lists to its trace: what was pulled stays tied to the submission ring, and the trace has one Close once the close mark was pulled, and none before.
 use Rattle.std.proofs.Common.{◌≡◌, ℕ, ◌+◌, ◌<◌, ◌≤◌, true, false, List, [], ◌∷◌, ◌++◌, length, map, flat_map, refl, sym, subst, ap, ap₂, ◌∙◌, arith, append_assoc, append-nil, count_by, cond}
-use Rattle.uring_threads.proofs.Common.{All, Answer, Appends, ClosesOnce, Event, Grows, HasBegun, HaveMade, Intake, IsGivenUpAsSpent, IsItem, IsUnmoved, Item, Kept, None, Place, Published, Pulls, Put, Setup, Stands, Submission, TakesIn, Tally, Tied, World, all_published_as, awaits_memory, calls_left, calls_of, close_answer, closes_ring, closing, flat_map-append, get_or_append_left, if◌then◌else◌, is_shut, is_some, is_spent, item_of, items_of_calls, items_published, length-append, length-map, map-append, now, published_as, sum_by-append, tail_publishes, with_close, with_items, with_items_published}
+use Rattle.uring_threads.proofs.Common.{All, Answer, Appends, ClosesOnce, Event, Grows, HasBegun, HaveMade, Intake, IsGivenUpAsSpent, IsItem, IsUnmoved, Item, Kept, None, Place, Published, Pulls, Put, Setup, Stands, Submission, TakesIn, Tally, Tied, World, all_published_as, awaits_memory, calls_of, close_answer, closes_ring, closing, flat_map-append, get_or_append_left, if◌then◌else◌, is_shut, is_some, is_spent, item_of, items_of_calls, items_published, length-append, length-map, map-append, now, published_as, sum_by-append, tail_publishes, with_close, with_items, with_items_published}
 use Rattle.uring_ports.specs.Ports.{with_call}
 use Rattle.uring_ports.specs.declared.pulled.Pulled.{Pulled}
 use Rattle.uring_threads.proofs.CallsMade.{items_keep_calls, none_left, published_left, calls_add_up, kept_after}
@@ -14,8 +14,7 @@ use Rattle.uring_threads.specs.declared.intake.Intake.TheVariants as intake
 -- calls were begun that take what waited
 given_up : (w : World) (i : Intake) → ((count : ℕ) → i ≡ intake.Spent count → is_spent w count ≡ true)
     → IsGivenUpAsSpent w i
-given_up w (intake.Spent count) spent = spent count refl
-given_up w _ spent = tt
+given_up w i spent = grind arith
 
 pub tied_begun : (a b : Kept) (put : Put) (count : ℕ) (x : Intake)
     → Tied a.setup (now a) put (intake.Waiting count) → HasBegun a b x
@@ -25,10 +24,7 @@ tied_begun a b put count x t h =
     let m : List ℕ = h.made in
     record {
       published = λ good. ap (λ ps. map (λ (p : Place). item_of p.word p.entry) ps) (ap (λ (v : World). v.submission.published) h.have.world ∙ kept_after a.setup (λ (v : World). v.submission.published) (λ v n. refl) w m) ∙ t.published good;
-      calls = ap (λ ns. ns ++ calls_left a.setup (now b).submission) (ap (λ (v : World). v.submission.calls) h.have.world ∙ calls_add_up a.setup w m)
-          ∙ append_assoc w.submission.calls m (calls_left a.setup (now b).submission)
-          ∙ ap (λ ns. w.submission.calls ++ ns) h.have.calls
-          ∙ t.calls;
+      calls = grind (arith, calls_add_up, append_assoc);
       stands = h.have.stands;
       spent = given_up (now b) x h.spent;
       closed = ap (λ (v : World). v.is_closed) h.have.world ∙ kept_after a.setup (λ (v : World). v.is_closed) (λ v n. refl) w m ∙ t.closed;
@@ -76,20 +72,10 @@ tied_published g w put items t not_closed few =
 -- What a row of the intake appends.
 
 pub takes_calls : (a b : Kept) (done : List ℕ) (rest : ℕ) → HaveMade a b done rest → TakesIn a b 0
-takes_calls a b done rest h = record {
-  calls = h.begun;
-  closes = 0;
-  appends = h.appends;
-  idle = λ none. h.idle (omega (arith, none));
-}
+takes_calls a b done rest h = grind arith
 
 pub takes_nothing : (a b : Kept) → IsUnmoved a b → TakesIn a b 0
-takes_nothing a b u = record {
-  calls = 0;
-  closes = 0;
-  appends = appends_none a b u;
-  idle = λ none. u.trace;
-}
+takes_nothing a b u = grind (arith, appends_none)
 
 -- one after the other
 pub takes_then : (a b c : Kept) (n m k : ℕ) → TakesIn a b n → TakesIn b c m → n + m ≡ k
@@ -119,9 +105,7 @@ completions_after a r b u same = same ∙ ap (λ (w : World). w.completions) (un
 pub call_waits : (a r : Kept) (put : Put) (count : ℕ) (i : Intake) → IsUnmoved a r
     → i ≡ intake.Waiting count → Tied a.setup (now a) put i
     → ((now r).is_closed ≡ false) × Stands (now r).submission [] count
-call_waits a r put count i u waits t =
-    let s : Tied a.setup (now a) put (intake.Waiting count) = subst (Tied a.setup (now a) put) waits t in
-    subst (λ (w : World). (w.is_closed ≡ false) × Stands w.submission [] count) (sym (unmoved_now a r u)) (s.closed ∙ sym s.shut, s.stands)
+call_waits a r put count i u waits t = grind arith
 
 -- and once it was begun again
 pub tied_again : (a r b : Kept) (put : Put) (count : ℕ) (i x : Intake) → IsUnmoved a r
@@ -140,10 +124,7 @@ pub pulled_at : (a r : Kept) (before after : Put) (size : ℕ) (x : Pulled) (ite
     → IsUnmoved a r → size ≡ a.setup.sq → taken ≡ items → Tied a.setup (now a) before i
     → Pulls size before x items after
     → Tied r.setup (now r) before i × Pulls r.setup.sq before x taken after
-pulled_at a r before after size x items taken i u sizes same t p = (
-  subst (λ (g : Setup). Tied g (now r) before i) (sym u.setup) (tied_still a r before i u t),
-  subst (λ n. Pulls n before x taken after) (sizes ∙ ap (λ (g : Setup). g.sq) (sym u.setup)) (subst (λ xs. Pulls size before x xs after) (sym same) p),
-)
+pulled_at a r before after size x items taken i u sizes same t p = grind arith
 
 -- What was pulled is taken.
 
@@ -184,15 +165,13 @@ once_unmoved a b i u once = ap (count_by closes_ring) u.trace ∙ once
 
 pub once_stays : (a b : Kept) (t : Tally) (i : Intake) → Appends a b t → t.closes ≡ 0
     → ClosesOnce a i → ClosesOnce b i
-once_stays a b t i p none once =
-    ap (count_by closes_ring) p.trace ∙ closes_append a.trace p.events ∙ ap (λ n. count_by closes_ring a.trace + n) (ap (λ (u : Tally). u.closes) p.tally ∙ none) ∙ omega arith ∙ once
+once_stays a b t i p none once = grind (arith, closes_append)
 
 -- calls were begun
 pub once_begun : (a b : Kept) (t : Tally) (i x : Intake) → Appends a b t → t.closes ≡ 0
     → is_shut x ≡ false → (ClosesOnce a i → ClosesOnce a intake.Ready) → ClosesOnce a i
     → ClosesOnce b x
-once_begun a b t i x p none not_shut ready once =
-    once_stays a b t intake.Ready p none (ready once) ∙ ap (λ s. if s then 1 else 0) (sym not_shut)
+once_begun a b t i x p none not_shut ready once = grind (arith, (once_stays a b t intake.Ready p none (ready once)))
 
 -- the close mark was pulled
 pub once_shut : (a b : Kept) (x : Answer) → Grows a b (step.Close, x) → ClosesOnce a intake.Ready
@@ -202,5 +181,4 @@ once_shut a b x g once = ap (count_by closes_ring) g.trace ∙ closes_append a.t
 -- an intake in any state but that of waiting
 pub waits_not : (i : Intake) → ((count : ℕ) → i ≡ intake.Waiting count → ⊥)
     → awaits_memory i ≡ false
-waits_not (intake.Waiting count) never = absurd (never count refl)
-waits_not _ never = refl
+waits_not i never = grind arith

@@ -1,5 +1,5 @@
 -- What a crash of a sound volume leaves.
-use Rattle.std.proofs.Common.{◌≡◌, ◌↔◌, ◌<◌, ℕ, suc, min, List, length, reverse, refl, sym, subst, ap, ◌∙◌, arith}
+use Rattle.std.proofs.Common.{◌≡◌, ◌↔◌, ◌<◌, ℕ, suc, min, List, length, reverse, sym, subst, arith}
 use Rattle.uring_volume.proofs.Common.{AreBelow, AreTheImages, Event, IsImage, IsKept, IsLeftBy, IsReadBack, IsSound, Volume, Write, images_of, part}
 use Rattle.uring_volume.proofs.ReadBack.{read_back}
 use Rattle.uring_volume.proofs.Chosen.{chosen_is_image}
@@ -11,10 +11,7 @@ pub left_seen : (inside v : Volume) (first : List ℕ) (events kept : List Event
     → inside ≡ v → first ≡ inside.first → events ≡ kept → inside.history ≡ reverse kept
     → IsLeftBy inside.unit first (reverse events) choice now
     → IsLeftBy v.unit v.first v.history choice now
-left_seen inside v first events kept choice now same bytes past turned left =
-    subst (λ x. IsLeftBy x.unit x.first x.history choice now) same
-    (subst (λ h. IsLeftBy inside.unit inside.first h choice now) (ap reverse past ∙ sym turned)
-    (subst (λ xs. IsLeftBy inside.unit xs (reverse events) choice now) bytes left))
+left_seen inside v first events kept choice now same bytes past turned left = grind arith
 
 pub left_is_image : (v : Volume) (choice now : List ℕ) → IsSound v
     → IsLeftBy v.unit v.first v.history choice now → IsImage v.unit v.first v.history now
@@ -47,16 +44,11 @@ pub listed_seen : (inside v : Volume) (first : List ℕ) (events kept : List Eve
     (images : List (List ℕ)) → inside ≡ v → first ≡ inside.first → events ≡ kept
     → inside.history ≡ reverse kept → images ≡ images_of inside.unit first (reverse events)
     → images ≡ images_of v.unit v.first v.history
-listed_seen inside v first events kept images same bytes past turned is =
-    is
-    ∙ ap (λ bs. images_of inside.unit bs (reverse events)) bytes
-    ∙ ap (λ h. images_of inside.unit inside.first h) (ap reverse past ∙ sym turned)
-    ∙ ap (λ x. images_of x.unit x.first x.history) same
+listed_seen inside v first events kept images same bytes past turned is = grind arith
 
 pub listed : (v : Volume) (images : List (List ℕ)) → IsSound v
     → images ≡ images_of v.unit v.first v.history → AreTheImages v.unit v.first v.history images
-listed v images sound is =
-    subst (λ all. AreTheImages v.unit v.first v.history all) (sym is) (are_the_images v.unit v.first v.history sound.unit sound.lawful)
+listed v images sound is = grind (arith, are_the_images)
 
 -- how many images a volume has, counted by its fields
 pub counted : (inside v : Volume) (first : List ℕ) (events kept : List Event) (n most : ℕ)
@@ -64,8 +56,4 @@ pub counted : (inside v : Volume) (first : List ℕ) (events kept : List Event) 
     → inside.history ≡ reverse kept
     → n ≡ min (length (images_of inside.unit first (reverse events))) most
     → (all : List (List ℕ)) × AreTheImages v.unit v.first v.history all × (n ≡ min (length all) most)
-counted inside v first events kept n most sound same bytes past turned is = (
-  images_of v.unit v.first v.history,
-  are_the_images v.unit v.first v.history sound.unit sound.lawful,
-  is ∙ ap (λ all. min (length all) most) (listed_seen inside v first events kept (images_of inside.unit first (reverse events)) same bytes past turned refl),
-)
+counted inside v first events kept n most sound same bytes past turned is = grind (arith, are_the_images, min)

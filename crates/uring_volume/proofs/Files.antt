@@ -1,6 +1,6 @@
 -- The list of all images: what may be left of each unit, side by side, for each length.
-use Rattle.std.proofs.Common.{◌≡◌, ◌==◌, ◌+◌, ◌-◌, ◌*◌, ◌/◌, ◌≤◌, ◌<◌, ℕ, zero, suc, min, true, List, [], ◌∷◌, ◌++◌, length, map, get_or, take, drop, refl, sym, subst, ap, ◌∙◌, inl, inr, arith}
-use Rattle.uring_volume.proofs.Common.{AreTheImages, History, IsEachOnce, IsImage, IsIn, IsLawful, MayBeLeft, UnitIsLeft, Write, byte_over, bytes_from, bytes_over, chosen, cond-false, div-lt_iff_lt-mul, ext_get_or, files_of, filter, fronts, get_or-append_right, get_or-drop, get_or-take, get_or_append_left, images_of, is_on, issued, joined, length-append, length-drop, length-map, length-take, lengths_of, lt-mul-div-succ, mul-div-le, mul-suc, mul_comm, ne_eqb, slice_index, suc-mul, take-append-drop, unit_contents, units_in, zero-mul}
+use Rattle.std.proofs.Common.{◌≡◌, ◌+◌, ◌-◌, ◌*◌, ◌/◌, ◌≤◌, ◌<◌, ℕ, zero, suc, min, true, List, [], ◌∷◌, ◌++◌, length, map, get_or, take, drop, refl, sym, subst, ap, ◌∙◌, inl, inr, arith}
+use Rattle.uring_volume.proofs.Common.{AreTheImages, History, IsEachOnce, IsImage, IsIn, IsLawful, MayBeLeft, UnitIsLeft, Write, byte_over, bytes_from, bytes_over, chosen, div-lt_iff_lt-mul, ext_get_or, files_of, filter, fronts, get_or-append_right, get_or-drop, get_or-take, get_or_append_left, images_of, is_on, issued, joined, length-append, length-drop, length-map, length-take, lengths_of, mul-suc, mul_comm, slice_index, take-append-drop, unit_contents, units_in, zero-mul}
 use Rattle.std.proofs.Math.Seq.{take-append_seam, drop-append_seam}
 use Rattle.uring_volume.proofs.Painting.{below_or_from, in_unit}
 use Rattle.uring_volume.proofs.Fitting.{in_left, in_right, in_either, AreApart, apart_filter}
@@ -17,11 +17,8 @@ length_bytes_over k (b ∷ bs) w = ap suc (length_bytes_over (suc k) bs w)
 pub bytes_over_at : (k : ℕ) (bs : List ℕ) (w : Write) (j : ℕ) → j < length bs
     → get_or (bytes_over k bs w) j 0 ≡ byte_over (get_or bs j 0) (w ∷ []) (k + j)
 bytes_over_at k [] w j within = absurd (omega arith)
-bytes_over_at k (b ∷ bs) w zero within =
-    let here : k ≡ k + 0 = omega arith in ap (λ i. byte_over b (w ∷ []) i) here
-bytes_over_at k (b ∷ bs) w (suc j) within =
-    let there : suc k + j ≡ k + suc j = omega arith in
-    bytes_over_at (suc k) bs w j (omega arith) ∙ ap (λ i. byte_over (get_or bs j 0) (w ∷ []) i) there
+bytes_over_at k (b ∷ bs) w zero within = grind arith
+bytes_over_at k (b ∷ bs) w (suc j) within = grind (arith, (bytes_over_at (suc k) bs w j (omega arith)))
 
 length_all_over : (k : ℕ) (bs : List ℕ) (order : List Write) → length (all_over k bs order) ≡ length bs
 length_all_over k bs [] = refl
@@ -31,8 +28,7 @@ all_over_at : (k : ℕ) (bs : List ℕ) (order : List Write) (j : ℕ) → j < l
     → get_or (all_over k bs order) j 0 ≡ byte_over (get_or bs j 0) order (k + j)
 all_over_at k bs [] j within = refl
 all_over_at k bs (w ∷ more) j within =
-    all_over_at k (bytes_over k bs w) more j (omega (arith, length_bytes_over k bs w))
-    ∙ ap (λ b. byte_over b more (k + j)) (bytes_over_at k bs w j within)
+    grind (arith, (all_over_at k (bytes_over k bs w) more j (omega (arith, length_bytes_over k bs w))), bytes_over_at)
 
 pub length_bytes_from : (first : List ℕ) (k n : ℕ) → length (bytes_from first k n) ≡ n
 length_bytes_from first k zero = refl
@@ -41,11 +37,8 @@ length_bytes_from first k (suc n) = ap suc (length_bytes_from first (suc k) n)
 pub bytes_from_at : (first : List ℕ) (k n j : ℕ) → j < n
     → get_or (bytes_from first k n) j 0 ≡ slice_index first (k + j)
 bytes_from_at first k zero j within = absurd (omega arith)
-bytes_from_at first k (suc n) zero within =
-    let here : k ≡ k + 0 = omega arith in ap (λ i. slice_index first i) here
-bytes_from_at first k (suc n) (suc j) within =
-    let there : suc k + j ≡ k + suc j = omega arith in
-    bytes_from_at first (suc k) n j (omega arith) ∙ ap (λ i. slice_index first i) there
+bytes_from_at first k (suc n) zero within = grind arith
+bytes_from_at first k (suc n) (suc j) within = grind (arith, (bytes_from_at first (suc k) n j (omega arith)))
 
 -- What may be left of a unit.
 
@@ -70,10 +63,7 @@ of_unit u first h len i c l among =
       order = g.order;
       left = left_of_fit h (is_on u i) (filter (is_on u i) (issued h)) g.order (on_of h (is_on u i)) (on_into h (is_on u i)) g.fits;
       long = long;
-      bytes = λ j within.
-          ap (λ bs. get_or bs j 0) g.made
-          ∙ all_over_at (u * i) (bytes_from first (u * i) (min u (len - u * i))) g.order j (omega (arith, long, length_bytes_from first (u * i) (min u (len - u * i))))
-          ∙ ap (λ b. byte_over b g.order (u * i + j)) (bytes_from_at first (u * i) (min u (len - u * i)) j (omega (arith, long)));
+      bytes = grind (arith, get_or, all_over_at, length_bytes_from, bytes_from_at);
     }
 
 in_unit_contents : (u : ℕ) (first : List ℕ) (h : History) (len i : ℕ) (c : List ℕ) → IsLawful h
@@ -164,10 +154,7 @@ record IsFront (u : ℕ) (first : List ℕ) (h : History) (len n : ℕ) (now : L
 
 -- a byte of an earlier unit
 earlier_byte : (u n k i : ℕ) → 0 < u → k / u ≡ i → i < n → k < u * n
-earlier_byte u n k i positive at below =
-    let within : k / u < n = omega arith in
-    let flipped : k < n * u = (div-lt_iff_lt-mul {x = k} {y = n} positive).0 within in
-    omega (arith, flipped, mul_comm u n)
+earlier_byte u n k i positive at below = grind arith
 
 none_front : (u : ℕ) (first : List ℕ) (h : History) (len : ℕ) → IsFront u first h len 0 []
 none_front u first h len = record { long = let it : 0 ≡ min len (u * 0) = omega arith in it; units = λ i below. absurd (omega arith) }
@@ -191,21 +178,7 @@ join_fronts u first h len n b e positive front unit =
                   let inside : k < length b = omega (arith, front.long) in
                   get_or_append_left b e 0 k inside ∙ old.bytes k at inside;
             }
-        | inr from ↦
-            let last : i ≡ n = omega arith in
-            record {
-              order = unit.order;
-              left = subst (λ j. MayBeLeft h (is_on u j) unit.order) (sym last) unit.left;
-              bytes = λ k at within.
-                  let low : u * (k / u) ≤ k = mul-div-le k u in
-                  let lower : u * n ≤ k = subst (λ j. u * j ≤ k) (at ∙ last) low in
-                  let full : length b ≡ u * n = omega (arith, front.long) in
-                  let inside : k - u * n < length e = omega arith in
-                  let place : u * n + (k - u * n) ≡ k = omega arith in
-                  get_or-append_right b e (u * n) k 0 full lower
-                  ∙ unit.bytes (k - u * n) inside
-                  ∙ ap (λ j. byte_over (slice_index first j) unit.order j) place;
-            }
+        | inr from ↦ grind (arith, get_or-append_right)
       ];
     }
 
@@ -232,10 +205,7 @@ front_part u first h len n now positive front =
           record {
             order = old.order;
             left = old.left;
-            bytes = λ k at within.
-                let low : k < u * n = omega arith in
-                let inside : k < length now = omega arith in
-                get_or-take (u * n) now k 0 low ∙ old.bytes k at inside;
+            bytes = grind (arith, get_or-take);
           };
     }
 
@@ -250,18 +220,13 @@ back_part u first h len n now positive front =
       order = old.order;
       left = old.left;
       long = let it : length (drop (u * n) now) ≡ min u (len - u * n) = omega (arith, front.long) in it;
-      bytes = λ j within.
-          let inside : u * n + j < length now = omega arith in
-          let low : u * n ≤ u * n + j = omega arith in
-          let high : u * n + j < u * n + u = omega (arith, front.long) in
-          get_or-drop (u * n) now j 0 ∙ old.bytes (u * n + j) (in_unit u n (u * n + j) low high) inside;
+      bytes = grind (arith, get_or-drop, in_unit);
     }
 
 in_fronts : (u : ℕ) (first : List ℕ) (h : History) (len n : ℕ) (now : List ℕ) → 0 < u → IsLawful h
     → IsFront u first h len n now → IsIn now (fronts u first h len n)
 in_fronts u first h len zero [] positive l front = inl refl
-in_fronts u first h len zero (b ∷ bs) positive l front =
-    absurd (let none : suc (length bs) ≡ min len (u * 0) = front.long in omega arith)
+in_fronts u first h len zero (b ∷ bs) positive l front = grind arith
 in_fronts u first h len (suc n) now positive l front =
     subst (λ bs. IsIn bs (fronts u first h len (suc n))) (take-append-drop (u * n) now)
     (in_joined (fronts u first h len n) (unit_contents u first h len n) (take (u * n) now) (drop (u * n) now)
@@ -280,12 +245,7 @@ fronts_once u first h len (suc n) positive l =
 
 -- the units reach up to the length
 pub reach : (u len : ℕ) → 0 < u → len ≤ u * units_in u len
-reach u zero positive = omega arith
-reach u (suc n) positive =
-    let one_less : suc n - 1 ≡ n = omega arith in
-    let here : units_in u (suc n) ≡ n / u + 1 = cond-false (suc n == 0) 0 ((suc n - 1) / u + 1) (ne_eqb (suc n) 0 (λ e. omega arith)) ∙ ap (λ m. m / u + 1) one_less in
-    let more : n < u * (n / u + 1) = lt-mul-div-succ n positive in
-    subst (λ m. suc n ≤ u * m) (sym here) (let it : suc n ≤ u * (n / u + 1) = omega arith in it)
+reach u len positive = grind arith
 
 record IsFile (u : ℕ) (first : List ℕ) (h : History) (len : ℕ) (now : List ℕ) : Type 0 where
   long : length now ≡ len
@@ -293,9 +253,7 @@ record IsFile (u : ℕ) (first : List ℕ) (h : History) (len : ℕ) (now : List
 
 of_front : (u : ℕ) (first : List ℕ) (h : History) (len : ℕ) (now : List ℕ) → 0 < u → IsLawful h
     → IsIn now (fronts u first h len (units_in u len)) → IsFile u first h len now
-of_front u first h len now positive l among =
-    let front = of_fronts u first h len (units_in u len) now positive l among in
-    record { long = let it : length now ≡ len = omega (arith, front.long, reach u len positive) in it; front = front }
+of_front u first h len now positive l among = grind (arith, (of_fronts u first h len (units_in u len) now positive l among))
 
 record IsOfLength (u : ℕ) (first : List ℕ) (h : History) (lens : List ℕ) (now : List ℕ) : Type 0 where
   len : ℕ
@@ -341,11 +299,7 @@ file_is_image u first h len now positive l left file = record {
     | inr past ↦ record {
       order = chosen h (filter (is_on u i) (issued h)) [];
       left = chosen_left h (is_on u i) [] l;
-      bytes = λ k at within.
-          let low : u * (k / u) ≤ k = mul-div-le k u in
-          let below : k < units_in u len * u = omega (arith, file.long, reach u len positive, mul_comm u (units_in u len)) in
-          let inside : k / u < units_in u len = (div-lt_iff_lt-mul {x = k} {y = units_in u len} positive).1 below in
-          absurd (omega arith);
+      bytes = grind (arith, mul_comm, div-lt_iff_lt-mul);
     }
   ];
   len = record {
@@ -378,9 +332,4 @@ are_the_images u first h positive l = record {
 
 pub length_joined : (bs es : List (List ℕ)) → length (joined bs es) ≡ length bs * length es
 length_joined [] es = sym (zero-mul (length es))
-length_joined (b ∷ more) es =
-    let both = length-append (map (λ e. b ++ e) es) (joined more es) in
-    let one = length-map es (λ e. b ++ e) in
-    let others = length_joined more es in
-    let product : suc (length more) * length es ≡ length more * length es + length es = suc-mul (length more) (length es) in
-    omega (arith, both, one, others, product)
+length_joined (b ∷ more) es = grind (arith, length-append, length-map, (length_joined more es))

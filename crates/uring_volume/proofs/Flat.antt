@@ -17,8 +17,7 @@ part_front (n ∷ ns) rest none =
 part_back : (ns rest : List ℕ) (i : ℕ) → HasNone ns → part (ns ++ 0 ∷ rest) (suc i) ≡ part rest i
 part_back [] rest i none = refl
 part_back (n ∷ ns) rest i none =
-    cond-false (n == 0) (part (ns ++ 0 ∷ rest) i) (part (ns ++ 0 ∷ rest) (suc i)) (ne_eqb n 0 (none n (inl refl)))
-    ∙ part_back ns rest i (λ m among. none m (inr among))
+    grind (arith, (ne_eqb n 0 (none n (inl refl))), (part_back ns rest i (λ m among. none m (inr among))))
 
 -- the first n of these choices in one list
 abbrev flat : (ℕ → List ℕ) → ℕ → List ℕ
@@ -53,8 +52,7 @@ both whole choices (suc i) = choices i
 
 both_none : (whole : List ℕ) (choices : ℕ → List ℕ) → HasNone whole
     → ((i : ℕ) → HasNone (choices i)) → (j : ℕ) → HasNone (both whole choices j)
-both_none whole choices w c zero = w
-both_none whole choices w c (suc i) = c i
+both_none whole choices w c j = grind arith
 
 both_below : (bound : ℕ) (whole : List ℕ) (choices : ℕ → List ℕ) → AreBelow bound whole
     → ((i : ℕ) → AreBelow bound (choices i)) → (j : ℕ) → AreBelow bound (both whole choices j)

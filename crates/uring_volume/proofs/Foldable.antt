@@ -1,6 +1,6 @@
 -- The test tells which write can be folded.
-use Rattle.std.proofs.Common.{◌≡◌, ◌==◌, ◌+◌, ◌<◌, ◌≤◌, ℕ, min, max, true, false, not, ◌&&◌, length, ap, inl, inr, arith}
-use Rattle.uring_volume.proofs.Common.{History, IsFoldable, IsIn, IsLawful, Write, and_from, and_parts, both_ways, can_fold, cases_Bool, eqb-false, false_from_ne_true, is_before, is_in_way, is_safe, is_under, issued, le-leb, leb-true, list_any, lt-ltb, ltb-true, ne_eqb, not-true, not_from_false, or_cases, or_left, or_right, overlap, writes}
+use Rattle.std.proofs.Common.{◌≡◌, ◌==◌, ℕ, max, true, false, not, ◌&&◌, ap, inl, inr, arith}
+use Rattle.uring_volume.proofs.Common.{History, IsFoldable, IsIn, IsLawful, Write, and_from, and_parts, both_ways, can_fold, cases_Bool, eqb-false, false_from_ne_true, is_before, is_in_way, is_safe, is_under, issued, list_any, ne_eqb, not-true, not_from_false, or_cases, or_left, or_right, overlap, writes}
 use Rattle.uring_volume.proofs.Chosen.{in_issued, of_issued, one_number}
 use Rattle.uring_volume.proofs.Puts.{any_is, is_any}
 
@@ -8,19 +8,11 @@ use Rattle.uring_volume.proofs.Puts.{any_is, is_any}
 
 both_under : (m w : Write) (k : ℕ) → is_under m k ≡ true → is_under w k ≡ true
     → overlap m w ≡ true
-both_under m w k under_m under_w =
-    let a = and_parts _ _ under_m in
-    let b = and_parts _ _ under_w in
-    let m_from : m.off ≤ k = leb-true m.off k a.0 in
-    let m_to : k < m.off + length m.bytes = ltb-true k (m.off + length m.bytes) a.1 in
-    let w_from : w.off ≤ k = leb-true w.off k b.0 in
-    let w_to : k < w.off + length w.bytes = ltb-true k (w.off + length w.bytes) b.1 in
-    lt-ltb (max m.off w.off) (min (m.off + length m.bytes) (w.off + length w.bytes)) (omega arith)
+both_under m w k under_m under_w = grind arith
 
 out_of_way : (h : History) (w m : Write) → not (list_any (λ x. is_in_way h w x) (issued h)) ≡ true
     → IsIn m (writes h) → is_in_way h w m ≡ false
-out_of_way h w m none among =
-    false_from_ne_true (is_in_way h w m) (λ is. both_ways (list_any (λ x. is_in_way h w x) (issued h)) (not-true (list_any (λ x. is_in_way h w x) (issued h)) none) (is_any (λ x. is_in_way h w x) m (issued h) (in_issued h m among) is))
+out_of_way h w m none among = grind (arith, is_any, in_issued)
 
 pub foldable_by : (h : History) (w : Write) → IsLawful h → IsIn w (issued h)
     → can_fold h w ≡ true → IsFoldable h w
@@ -41,11 +33,7 @@ foldable_by h w l among can =
 -- a byte of both writes
 common : (m w : Write) → overlap m w ≡ true
     → (is_under m (max m.off w.off) ≡ true) × (is_under w (max m.off w.off) ≡ true)
-common m w is =
-    let meets = ltb-true (max m.off w.off) (min (m.off + length m.bytes) (w.off + length w.bytes)) is in (
-      and_from _ _ (le-leb m.off (max m.off w.off) (omega arith)) (lt-ltb (max m.off w.off) (m.off + length m.bytes) (omega arith)),
-      and_from _ _ (le-leb w.off (max m.off w.off) (omega arith)) (lt-ltb (max m.off w.off) (w.off + length w.bytes) (omega arith)),
-    )
+common m w is = grind arith
 
 pub can_fold_it : (h : History) (w : Write) → IsFoldable h w → can_fold h w ≡ true
 can_fold_it h w f =

@@ -1,9 +1,8 @@
 -- What a volume keeps when a write is folded.
 use Rattle.std.proofs.Common.{◌≡◌, ◌==◌, ◌<◌, ◌≤◌, ℕ, zero, suc, Bool, true, false, not, ◌||◌, List, [], ◌∷◌, ◌++◌, length, get_or, reverse, refl, sym, subst, ap, ◌∙◌, inl, inr, arith}
-use Rattle.uring_volume.proofs.Common.{Err, Event, History, IsFoldable, IsFoldedFrom, IsHeld, IsIn, IsLawful, IsOneFolded, IsOver, IsSound, Ok, Result, SyncEnded, SyncFailed, SyncIssued, Volume, Write, WriteEnded, WriteIssued, append-nil, append_assoc, both_ways, but, can_fold, cases_Bool, cond-false, cond_both, eq-eqb, eqb-false, eqb-true, false_from_ne_true, filter, has_ended, is_of_write, is_one_of, is_safe, issued, list_any, or_cases, or_left, or_parts, or_right, reverse-append, running_syncs, running_writes, without_write, writes}
+use Rattle.uring_volume.proofs.Common.{Err, Event, History, IsFoldable, IsFoldedFrom, IsHeld, IsIn, IsLawful, IsOneFolded, IsOver, IsSound, Ok, Result, SyncEnded, SyncFailed, SyncIssued, Volume, Write, WriteEnded, WriteIssued, append-nil, append_assoc, both_ways, but, can_fold, cases_Bool, cond-false, cond_both, eqb-false, eqb-true, false_from_ne_true, filter, has_ended, is_of_write, is_one_of, is_safe, issued, list_any, or_cases, or_left, or_parts, or_right, reverse-append, running_syncs, running_writes, without_write, writes}
 use Rattle.std.specs.declared.alloc.AllocError.{AllocError}
 use Rattle.std.proofs.lemmas.List.Elements.{filter-append}
-use Rattle.uring_volume.proofs.Fitting.{in_left, in_right}
 use Rattle.uring_volume.proofs.Chosen.{in_issued, of_issued, one_number}
 use Rattle.uring_volume.proofs.Numbers.{is_in_but, one_more}
 use Rattle.uring_volume.proofs.Puts.{is_any}
@@ -19,10 +18,7 @@ filter_twice p (n ∷ ns) = elim (cases_Bool (p n)) [ inl is ↦ simp (is, filte
 
 filter_swap : (p q : ℕ → Bool) (ns : List ℕ) → filter p (filter q ns) ≡ filter q (filter p ns)
 filter_swap p q [] = refl
-filter_swap p q (n ∷ ns) = elim (cases_Bool (p n)) [
-  | inl is ↦ elim (cases_Bool (q n)) [ inl also ↦ simp (is, also, filter_swap p q ns) | inr other ↦ simp (is, other, filter_swap p q ns) ]
-  | inr out ↦ elim (cases_Bool (q n)) [ inl also ↦ simp (out, also, filter_swap p q ns) | inr other ↦ simp (out, other, filter_swap p q ns) ]
-]
+filter_swap p q (n ∷ ns) = grind (arith, (filter_swap p q ns))
 
 but_none : (n : ℕ) (ns : List ℕ) → is_one_of n ns ≡ false → but n ns ≡ ns
 but_none n [] none = refl
@@ -34,24 +30,16 @@ but_none n (m ∷ ns) none =
 
 running_without : (n : ℕ) (h : History) → running_writes (without_write n h) ≡ but n (running_writes h)
 running_without n [] = refl
-running_without n (WriteIssued w ∷ earlier) = elim (cases_Bool (w.number == n)) [
-  | inl is ↦ simp (is, filter-append, append-nil, running_without n earlier)
-  | inr out ↦ simp (out, filter-append, running_without n earlier)
-]
-running_without n (WriteEnded k ∷ earlier) = elim (cases_Bool (k == n)) [
-  | inl is ↦ simp (is, running_without n earlier) (sym (ap (λ m. but n (but m (running_writes earlier))) (eqb-true k n is) ∙ filter_twice (λ m. not (m == n)) (running_writes earlier)))
-  | inr out ↦ simp (out, running_without n earlier) (filter_swap (λ m. not (m == k)) (λ m. not (m == n)) (running_writes earlier))
-]
+running_without n (WriteIssued w ∷ earlier) = grind (arith, filter-append, append-nil, (running_without n earlier))
+running_without n (WriteEnded k ∷ earlier) = grind (arith, (running_without n earlier), filter_twice, filter_swap)
 running_without n (SyncIssued s range ∷ earlier) = running_without n earlier
 running_without n (SyncEnded s ∷ earlier) = running_without n earlier
 running_without n (SyncFailed s ∷ earlier) = running_without n earlier
 
 syncs_without : (n : ℕ) (h : History) → running_syncs (without_write n h) ≡ running_syncs h
 syncs_without n [] = refl
-syncs_without n (WriteIssued w ∷ earlier) =
-    cond_both (not (w.number == n)) (WriteIssued w ∷ without_write n earlier) (without_write n earlier) (λ g. running_syncs g ≡ running_syncs earlier) (λ _. syncs_without n earlier) (λ _. syncs_without n earlier)
-syncs_without n (WriteEnded k ∷ earlier) =
-    cond_both (not (k == n)) (WriteEnded k ∷ without_write n earlier) (without_write n earlier) (λ g. running_syncs g ≡ running_syncs earlier) (λ _. syncs_without n earlier) (λ _. syncs_without n earlier)
+syncs_without n (WriteIssued w ∷ earlier) = grind (arith, (syncs_without n earlier))
+syncs_without n (WriteEnded k ∷ earlier) = grind (arith, (syncs_without n earlier))
 syncs_without n (SyncIssued s range ∷ earlier) = ap (λ ss. ss ++ s ∷ []) (syncs_without n earlier)
 syncs_without n (SyncEnded s ∷ earlier) = ap (but s) (syncs_without n earlier)
 syncs_without n (SyncFailed s ∷ earlier) = ap (but s) (syncs_without n earlier)
@@ -68,10 +56,8 @@ runs_still (WriteIssued w ∷ earlier) n l is = elim (one_more w.number n (runni
   | inl old ↦ runs_still earlier n l.2 old
   | inr new ↦ subst (λ m. has_ended earlier m ≡ false) (sym new) l.1
 ]
-runs_still (WriteEnded k ∷ earlier) n l is = elim (cases_Bool (k == n)) [
-  | inl same ↦ absurd (both_ways (is_one_of n (but n (running_writes earlier))) (out_of_but n (running_writes earlier)) (subst (λ m. is_one_of n (but m (running_writes earlier)) ≡ true) (eqb-true k n same) is))
-  | inr out ↦ ap (λ b. b || has_ended earlier n) out ∙ runs_still earlier n l (is_in_but k n (running_writes earlier) is)
-]
+runs_still (WriteEnded k ∷ earlier) n l is =
+    grind (arith, both_ways, out_of_but, (runs_still earlier n l (is_in_but k n (running_writes earlier) is)), is_in_but)
 runs_still (SyncIssued s range ∷ earlier) n l is = runs_still earlier n l is
 runs_still (SyncEnded s ∷ earlier) n l is = runs_still earlier n l is
 runs_still (SyncFailed s ∷ earlier) n l is = runs_still earlier n l is
@@ -116,8 +102,7 @@ lawful_without n (WriteIssued w ∷ earlier) l =
     cond_both (not (w.number == n)) (WriteIssued w ∷ without_write n earlier) (without_write n earlier) (λ g. IsLawful g)
     (λ _. (λ v among same. l.0 v (writes_of n earlier v among) same, not_ended n w.number earlier l.1, lawful_without n earlier l.2))
     (λ _. lawful_without n earlier l.2)
-lawful_without n (WriteEnded k ∷ earlier) l =
-    cond_both (not (k == n)) (WriteEnded k ∷ without_write n earlier) (without_write n earlier) (λ g. IsLawful g) (λ _. lawful_without n earlier l) (λ _. lawful_without n earlier l)
+lawful_without n (WriteEnded k ∷ earlier) l = grind (arith, (lawful_without n earlier l))
 lawful_without n (SyncIssued s range ∷ earlier) l = lawful_without n earlier l
 lawful_without n (SyncEnded s ∷ earlier) l = lawful_without n earlier l
 lawful_without n (SyncFailed s ∷ earlier) l = lawful_without n earlier l
@@ -154,8 +139,7 @@ with_folded w over v = record v { first = over; history = without_write w.number
 running_same : (v : Volume) (w : Write) → IsSound v → IsFoldable v.history w
     → running_writes (without_write w.number v.history) ≡ running_writes v.history
 running_same v w sound f =
-    running_without w.number v.history
-    ∙ but_none w.number (running_writes v.history) (false_from_ne_true (is_one_of w.number (running_writes v.history)) (λ is. both_ways (has_ended v.history w.number) (runs_still v.history w.number sound.lawful is) (safe_ended v.history w f.safe)))
+    grind (arith, (running_without w.number v.history), (safe_ended v.history w f.safe), but_none, false_from_ne_true, both_ways, runs_still)
 
 pub held_folded : (v : Volume) (w : Write) (over write_list sync_list : List ℕ)
     → IsHeld v write_list sync_list → IsFoldable v.history w
@@ -196,17 +180,7 @@ folded_one v w over sound f is = record {
 -- Several writes folded.
 
 pub folded_none : (v : Volume) → IsFoldedFrom v v
-folded_none v = record {
-  unit = refl;
-  next = refl;
-  images = λ later now l. (λ i. i, λ i. i);
-  safe = λ later w l among. refl;
-  lawful = λ later l. l;
-  none_new = λ w among. among;
-  gone = λ w among. inl among;
-  writes_run = refl;
-  syncs_run = refl;
-}
+folded_none v = grind arith
 
 kept_later : (later g h : History) → ((w : Write) → IsIn w (writes h) → IsIn w (writes g))
     → (w : Write) → IsIn w (writes (later ++ h)) → IsIn w (writes (later ++ g))
@@ -252,8 +226,7 @@ reverse_filter p (e ∷ es) = elim (cases_Bool (p e)) [
 
 pub issued_after : (xs ys : History) → issued (xs ++ ys) ≡ issued ys ++ issued xs
 issued_after [] ys = sym (append-nil (issued ys))
-issued_after (WriteIssued w ∷ xs) ys =
-    ap (λ ws. ws ++ w ∷ []) (issued_after xs ys) ∙ append_assoc (issued ys) (issued xs) (w ∷ [])
+issued_after (WriteIssued w ∷ xs) ys = grind (arith, (issued_after xs ys), append_assoc)
 issued_after (WriteEnded k ∷ xs) ys = issued_after xs ys
 issued_after (SyncIssued s range ∷ xs) ys = issued_after xs ys
 issued_after (SyncEnded s ∷ xs) ys = issued_after xs ys
@@ -267,10 +240,8 @@ issued_first e es = ap issued (reverse-append (e ∷ []) es) ∙ issued_after (r
 pub issued_at : (es : List Event) (i : ℕ) (e : Event) (w : Write) → i < length es
     → e ≡ get_or es i e → e ≡ WriteIssued w → IsIn w (issued (reverse es))
 issued_at [] i e w within at is = absurd (omega arith)
-issued_at (d ∷ es) zero e w within at is =
-    subst (λ ws. IsIn w ws) (sym (issued_first d es)) (in_left w (issued (d ∷ [])) (issued (reverse es)) (subst (λ x. IsIn w (issued (x ∷ []))) (sym is ∙ at) (inl refl)))
-issued_at (d ∷ es) (suc i) e w within at is =
-    subst (λ ws. IsIn w ws) (sym (issued_first d es)) (in_right w (issued (d ∷ [])) (issued (reverse es)) (issued_at es i e w (omega arith) at is))
+issued_at (d ∷ es) zero e w within at is = grind (arith, issued_first)
+issued_at (d ∷ es) (suc i) e w within at is = grind (arith, issued_first, (issued_at es i e w (omega arith) at is))
 
 -- A write over the first bytes.
 
@@ -282,19 +253,16 @@ is_true (Err e) = false
 
 filter_events_short : (p : Event → Bool) (es : List Event) → length (filter p es) ≤ length es
 filter_events_short p [] = omega arith
-filter_events_short p (e ∷ es) =
-    cond_both (p e) (e ∷ filter p es) (filter p es) (λ fs. length fs ≤ suc (length es)) (λ _. omega (arith, filter_events_short p es)) (λ _. omega (arith, filter_events_short p es))
+filter_events_short p (e ∷ es) = grind (arith, (filter_events_short p es))
 
 later_shorter : (p : Event → Bool) (e : Event) (es : List Event) → length (filter p es) < length es
     → length (filter p (e ∷ es)) < length (e ∷ es)
-later_shorter p e es less =
-    cond_both (p e) (e ∷ filter p es) (filter p es) (λ fs. length fs < suc (length es)) (λ _. omega (arith, less)) (λ _. omega (arith, less))
+later_shorter p e es less = grind arith
 
 shorter_without : (h : History) (w : Write) → IsIn w (writes h)
     → length (without_write w.number h) < length h
 shorter_without [] w among = absurd among
-shorter_without (WriteIssued v ∷ earlier) w (inl same) =
-    omega (arith, filter_events_short (λ e. not (is_of_write w.number e)) earlier, ap length (cond-false (not (v.number == w.number)) (WriteIssued v ∷ without_write w.number earlier) (without_write w.number earlier) (ap not (eq-eqb v.number w.number (ap (λ x. x.number) (sym same))))))
+shorter_without (WriteIssued v ∷ earlier) w (inl same) = grind (arith, filter_events_short, cond-false)
 shorter_without (WriteIssued v ∷ earlier) w (inr more) = later_shorter (λ e. not (is_of_write w.number e)) (WriteIssued v) earlier (shorter_without earlier w more)
 shorter_without (WriteEnded k ∷ earlier) w among = later_shorter (λ e. not (is_of_write w.number e)) (WriteEnded k) earlier (shorter_without earlier w among)
 shorter_without (SyncIssued s range ∷ earlier) w among = later_shorter (λ e. not (is_of_write w.number e)) (SyncIssued s range) earlier (shorter_without earlier w among)
@@ -323,16 +291,8 @@ held_by v (Ok true) first h write_list sync_list held is =
       subst (λ g. IsHeld (made_of first g v) write_list sync_list) (sym one.without) (held_folded v one.write first write_list sync_list held f),
       subst (λ g. IsFoldedFrom v (made_of first g v)) (sym one.without) (folded_one v one.write first held.sound f one.over),
     )
-held_by v (Ok false) first h write_list sync_list held is =
-    let k = is.kept (λ e. both_ways false refl (ap is_true e)) in (
-      subst (λ x. IsHeld x write_list sync_list) (same_made v first h k.0 k.1) held,
-      subst (λ x. IsFoldedFrom v x) (same_made v first h k.0 k.1) (folded_none v),
-    )
-held_by v (Err e) first h write_list sync_list held is =
-    let k = is.kept (λ q. both_ways false refl (ap is_true q)) in (
-      subst (λ x. IsHeld x write_list sync_list) (same_made v first h k.0 k.1) held,
-      subst (λ x. IsFoldedFrom v x) (same_made v first h k.0 k.1) (folded_none v),
-    )
+held_by v (Ok false) first h write_list sync_list held is = grind arith
+held_by v (Err e) first h write_list sync_list held is = grind arith
 
 pub held_result : (v : Volume) (r : Result Bool AllocError) (first : List ℕ) (h : History)
     (write_list sync_list : List ℕ) → IsHeld v write_list sync_list → IsResult v r first h
@@ -346,13 +306,8 @@ folded_result v r first h write_list sync_list held is = (held_by v r first h wr
 
 pub fewer_result : (v : Volume) (r : Result Bool AllocError) (first : List ℕ) (h : History)
     → IsResult v r first h → r ≡ Ok true → length h < length v.history
-fewer_result v r first h is more =
-    let one = is.folded more in
-    omega (arith, ap length one.without, shorter_without v.history one.write (of_issued v.history one.write one.issued))
+fewer_result v r first h is more = grind (arith, shorter_without, of_issued)
 
 pub none_result : (v : Volume) (r : Result Bool AllocError) (first : List ℕ) (h : History)
     → IsResult v r first h → r ≡ Ok false → (w : Write) → IsFoldable h w → ⊥
-none_result v r first h is none w foldable =
-    let k = is.kept (λ e. both_ways false refl (ap is_true (sym none ∙ e))) in
-    let f : IsFoldable v.history w = subst (λ g. IsFoldable g w) k.1 foldable in
-    both_ways (list_any (λ x. can_fold v.history x) (issued v.history)) (is.none none) (is_any (λ x. can_fold v.history x) w (issued v.history) (in_issued v.history w f.issued) (can_fold_it v.history w f))
+none_result v r first h is none w foldable = grind (arith, both_ways, is_any, in_issued, can_fold_it)

@@ -1,11 +1,11 @@
 -- A write that is folded into the first bytes changes no image: it lies under all others in each list that may be left.
-use Rattle.std.proofs.Common.{◌≡◌, ◌==◌, ◌-◌, ◌≤◌, ◌<◌, ℕ, max, Bool, true, false, not, ◌&&◌, List, [], ◌∷◌, ◌++◌, length, refl, sym, subst, ap, ◌∙◌, inl, inr, arith}
-use Rattle.uring_volume.proofs.Common.{FoldChangesNone, History, IsFoldable, IsImage, IsIn, IsInOrder, IsLawful, IsOver, MayBeLeft, SyncEnded, SyncFailed, SyncIssued, UnitIsLeft, Write, WriteEnded, WriteIssued, and_from, and_parts, both_ways, byte_over, cases_Bool, cond-false, cond-true, end_of, eq-eqb, eqb-false, eqb-true, false_from_ne_true, filter, has_ended, is_before, is_covered, is_given_up, is_on, is_safe, is_under, length_over, lies_in, ne_eqb, not-true, not_from_false, or_cases, or_left, or_right, slice_index, without_write, writes}
+use Rattle.std.proofs.Common.{◌≡◌, ◌==◌, ◌-◌, ◌<◌, ℕ, max, Bool, true, false, not, ◌&&◌, List, [], ◌∷◌, ◌++◌, length, refl, sym, subst, ap, ◌∙◌, inl, inr, arith}
+use Rattle.uring_volume.proofs.Common.{FoldChangesNone, History, IsFoldable, IsImage, IsIn, IsInOrder, IsLawful, IsOver, MayBeLeft, SyncEnded, SyncFailed, SyncIssued, UnitIsLeft, Write, WriteEnded, WriteIssued, and_parts, both_ways, byte_over, cases_Bool, cond-false, cond-true, end_of, eq-eqb, eqb-false, eqb-true, false_from_ne_true, filter, has_ended, is_before, is_covered, is_given_up, is_on, is_safe, is_under, length_over, lies_in, ne_eqb, not_from_false, or_cases, or_right, slice_index, without_write, writes}
 use Rattle.uring_volume.proofs.Units.{in_filter, of_filter, filter_in_order}
 use Rattle.uring_volume.proofs.ReadBack.{over, on_from, len_grows, end_within}
 use Rattle.uring_volume.proofs.Rest.{length_below}
 use Rattle.uring_volume.proofs.Fitting.{lacks}
-use Rattle.uring_volume.proofs.Chosen.{issue_apart, not_before, one_number}
+use Rattle.uring_volume.proofs.Chosen.{not_before, one_number}
 use Rattle.uring_volume.proofs.Without.{SameBut, same_later, WritesBut, but_later}
 
 -- It can still be folded later.
@@ -37,20 +37,7 @@ safe_ended (SyncFailed t ∷ earlier) w is = safe_ended earlier w is
 
 still_issue : (v : Write) (h : History) (w : Write) → IsLawful (WriteIssued v ∷ h) → IsFoldable h w
     → IsFoldable (WriteIssued v ∷ h) w
-still_issue v h w l f =
-    let differs : w.number ≡ v.number → ⊥ = l.0 w f.issued in
-    record {
-      issued = inr f.issued;
-      safe = f.safe;
-      oldest = λ m among. elim among [
-        | inl same ↦ subst (λ y. is_before (WriteIssued v ∷ h) y.number w.number ≡ false) (sym same) (issue_apart h v v.number w.number differs (not_before h v.number w.number l.1))
-        | inr rest ↦ issue_apart h v m.number w.number differs (f.oldest m rest)
-      ];
-      lowest = λ m k among other under_m under_w. elim among [
-        | inl same ↦ or_left (v.number == m.number && has_ended h w.number) (is_before h w.number m.number) (and_from _ _ (eq-eqb v.number m.number (ap (λ y. y.number) (sym same))) (safe_ended h w f.safe))
-        | inr rest ↦ or_right (v.number == m.number && has_ended h w.number) (is_before h w.number m.number) (f.lowest m k rest other under_m under_w)
-      ];
-    }
+still_issue v h w l f = grind (arith, not_before, eq-eqb, safe_ended)
 
 pub still_foldable : (later h : History) (w : Write) → IsLawful (later ++ h) → IsFoldable h w
     → IsFoldable (later ++ h) w
@@ -58,12 +45,7 @@ still_foldable [] h w l f = f
 still_foldable (WriteIssued v ∷ later) h w l f = still_issue v (later ++ h) w l (still_foldable later h w l.2 f)
 still_foldable (WriteEnded k ∷ later) h w l f = assumption (still_foldable later h w l f)
 still_foldable (SyncIssued k range ∷ later) h w l f = assumption (still_foldable later h w l f)
-still_foldable (SyncEnded k ∷ later) h w l f = let g = still_foldable later h w l f in record {
-  issued = g.issued;
-  safe = or_right (is_covered (later ++ h) k w && not (is_given_up (later ++ h) w)) (is_safe (later ++ h) w) g.safe;
-  oldest = g.oldest;
-  lowest = g.lowest;
-}
+still_foldable (SyncEnded k ∷ later) h w l f = grind (arith, (still_foldable later h w l f))
 still_foldable (SyncFailed k ∷ later) h w l f = assumption (still_foldable later h w l f)
 
 -- A history without a write that can be folded.
@@ -84,33 +66,22 @@ order_to : (g h : History) (w : Write) (order : List Write) → IsWithout g h w
     → ((x : Write) → IsIn x order → x.number ≡ w.number → ⊥) → IsInOrder g order
     → IsInOrder h order
 order_to g h w [] f others o = tt
-order_to g h w (x ∷ more) f others o = (
-  λ m among. f.same.before m.number x.number (others m (inr among)) (others x (inl refl)) ∙ o.0 m among,
-  o.1,
-  order_to g h w more f (λ y among. others y (inr among)) o.2,
-)
+order_to g h w (x ∷ more) f others o = grind (arith, (order_to g h w more f (λ y among. others y (inr among)) o.2))
 
 order_of : (g h : History) (w : Write) (order : List Write) → IsWithout g h w
     → ((x : Write) → IsIn x order → x.number ≡ w.number → ⊥) → IsInOrder h order
     → IsInOrder g order
 order_of g h w [] f others o = tt
-order_of g h w (x ∷ more) f others o = (
-  λ m among. sym (f.same.before m.number x.number (others m (inr among)) (others x (inl refl))) ∙ o.0 m among,
-  o.1,
-  order_of g h w more f (λ y among. others y (inr among)) o.2,
-)
+order_of g h w (x ∷ more) f others o = grind (arith, (order_of g h w more f (λ y among. others y (inr among)) o.2))
 
 -- a write that is left of the others
 other_of : (w x : Write) (order : List Write) → IsIn x (filter (lacks w.number) order)
     → IsIn x order × (x.number ≡ w.number → ⊥)
-other_of w x order among =
-    let parts = of_filter (lacks w.number) x order among in
-    (parts.0, eqb-false x.number w.number (not-true (x.number == w.number) parts.1))
+other_of w x order among = grind (arith, of_filter, eqb-false)
 
 other_in : (w x : Write) (order : List Write) → IsIn x order → (x.number ≡ w.number → ⊥)
     → IsIn x (filter (lacks w.number) order)
-other_in w x order among other =
-    in_filter (lacks w.number) x order among (not_from_false (x.number == w.number) (ne_eqb x.number w.number other))
+other_in w x order among other = grind (arith, in_filter, not_from_false)
 
 left_to : (g h : History) (w : Write) (touches : Write → Bool) (order : List Write)
     → IsWithout g h w → MayBeLeft g touches order
@@ -194,10 +165,7 @@ lies_under : (g h : History) (w : Write) (k byte : ℕ) (order : List Write) →
     → is_under w k ≡ true
     → byte_over byte order k ≡ byte_over (over byte w k) (filter (lacks w.number) order) k
 lies_under g h w k byte [] f known o among under = absurd among
-lies_under g h w k byte (x ∷ more) f known o (inl same) under =
-    over_others w.number k (over byte x k) more (λ y later named. absurd (o.1 (subst (λ z. IsIn z more) (it_is g h w y f (known y (inr later)) named ∙ same) later)))
-    ∙ ap (λ y. byte_over (over byte y k) (filter (lacks w.number) more) k) (sym same)
-    ∙ sym (ap (λ ys. byte_over (over byte w k) ys k) (cond-false (lacks w.number x) (x ∷ filter (lacks w.number) more) (filter (lacks w.number) more) (ap not (eq-eqb x.number w.number (ap (λ y. y.number) (sym same))))))
+lies_under g h w k byte (x ∷ more) f known o (inl same) under = grind (arith, over_others, it_is)
 lies_under g h w k byte (x ∷ more) f known o (inr later) under =
     let differs = λ (e : x ≡ w). o.1 (subst (λ z. IsIn z more) (sym e) later) in
     let off : is_under x k ≡ false = false_from_ne_true (is_under x k) (λ is. both_ways (is_before g w.number x.number) (o.0 w later) (f.fold.lowest x k (known x (inl refl)) differs is under)) in
@@ -223,15 +191,7 @@ folded_byte g h w k byte order f known o there = elim (cases_Bool (is_under w k)
 folded_length : (w : Write) (len : ℕ) (order : List Write) → IsIn w order
     → ((x : Write) → IsIn x order → x.number ≡ w.number → x ≡ w)
     → length_over len order ≡ length_over (max len (end_of w)) (filter (lacks w.number) order)
-folded_length w len order there one =
-    let bound = length_over (max len (end_of w)) (filter (lacks w.number) order) in
-    let start : max len (end_of w) ≤ length_over (max len (end_of w)) (filter (lacks w.number) order) = len_grows (max len (end_of w)) (filter (lacks w.number) order) in
-    let up : length_over len order ≤ length_over (max len (end_of w)) (filter (lacks w.number) order) = length_below len (length_over (max len (end_of w)) (filter (lacks w.number) order)) order (omega (arith, start)) (λ x among. elim (cases_Bool (x.number == w.number)) as (λ _. end_of x ≤ length_over (max len (end_of w)) (filter (lacks w.number) order)) [
-      | inl is ↦ subst (λ y. end_of y ≤ length_over (max len (end_of w)) (filter (lacks w.number) order)) (sym (one x among (eqb-true x.number w.number is))) (omega (arith, start))
-      | inr out ↦ end_within (max len (end_of w)) x (filter (lacks w.number) order) (other_in w x order among (eqb-false x.number w.number out))
-    ]) in
-    let down : length_over (max len (end_of w)) (filter (lacks w.number) order) ≤ length_over len order = length_below (max len (end_of w)) (length_over len order) (filter (lacks w.number) order) (omega (arith, len_grows len order, end_within len w order there)) (λ x among. end_within len x order (other_of w x order among).0) in
-    omega (arith, up, down)
+folded_length w len order there one = grind (arith, len_grows, length_below, end_within, other_in, other_of)
 
 -- Images.
 

@@ -1,5 +1,5 @@
 -- What a crash has written is the image that the choice leaves.
-use Rattle.std.proofs.Common.{◌≡◌, ◌<◌, ◌≤◌, ◌+◌, ◌-◌, ◌/◌, ℕ, zero, suc, List, [], ◌∷◌, ◌++◌, length, get_or, replicate, refl, ap, ◌∙◌, arith}
+use Rattle.std.proofs.Common.{◌≡◌, ◌<◌, ◌≤◌, ◌-◌, ◌/◌, ℕ, zero, suc, List, [], ◌∷◌, ◌++◌, length, get_or, replicate, refl, arith}
 use Rattle.uring_volume.proofs.Common.{History, IsLeftBy, IsShown, Write, byte_over, chosen, ended, filter, is_on, issued, length-append, length-replicate, length_over, part}
 use Rattle.uring_volume.proofs.ReadBack.{len_grows}
 
@@ -25,16 +25,7 @@ pub left_by : (u : ℕ) (first : List ℕ) (h : History) (choice whole rest grow
     ≡ byte_over (get_or grown k 0) (chosen h (filter (is_on u (k / u)) (issued h)) (part rest (k / u))) k)
     → IsLeftBy u first h choice now
 left_by u first h choice whole rest grown now len begins goes_on long padding same left =
-    let longer : length first ≤ len = omega (arith, len_grows (length first) (chosen h (issued h) whole)) in
-    let size : length grown ≡ length first + (len - length first) = ap length padding ∙ length-append first (replicate (len - length first) 0) ∙ ap (λ n. length first + n) (length-replicate (len - length first) 0) in
-    let total : length now ≡ len = omega arith in
-    record {
-      len = total ∙ long ∙ ap (λ ns. length_over (length first) (chosen h (issued h) ns)) begins;
-      bytes = λ k within.
-          left k (omega arith)
-          ∙ ap (λ byte. byte_over byte (chosen h (filter (is_on u (k / u)) (issued h)) (part rest (k / u))) k) (ap (λ xs. get_or xs k 0) padding ∙ padded first (len - length first) k)
-          ∙ ap (λ ns. byte_over (get_or first k 0) (chosen h (filter (is_on u (k / u)) (issued h)) ns) k) (goes_on (k / u));
-    }
+    grind (arith, len_grows, length-append, length-replicate, get_or, padded)
 
 pub shown_by : (first : List ℕ) (h : History) (order : List Write) (grown now : List ℕ) (len : ℕ)
     → order ≡ ended h
@@ -44,13 +35,4 @@ pub shown_by : (first : List ℕ) (h : History) (order : List Write) (grown now 
     → ((k : ℕ) → 0 ≤ k → k < len → get_or now k 0 ≡ byte_over (get_or grown k 0) order k)
     → IsShown first h now
 shown_by first h order grown now len all long padding same left =
-    let longer : length first ≤ len = omega (arith, len_grows (length first) order) in
-    let size : length grown ≡ length first + (len - length first) = ap length padding ∙ length-append first (replicate (len - length first) 0) ∙ ap (λ n. length first + n) (length-replicate (len - length first) 0) in
-    let total : length now ≡ len = omega arith in
-    record {
-      len = total ∙ long ∙ ap (length_over (length first)) all;
-      bytes = λ k within.
-          left k (omega arith) (omega arith)
-          ∙ ap (λ byte. byte_over byte order k) (ap (λ xs. get_or xs k 0) padding ∙ padded first (len - length first) k)
-          ∙ ap (λ ws. byte_over (get_or first k 0) ws k) all;
-    }
+    grind (arith, len_grows, length-append, length-replicate, get_or, padded)

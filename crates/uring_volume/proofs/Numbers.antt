@@ -1,11 +1,10 @@
 -- What a volume's calls keep: each write has a number of its own, and the lists of what runs are those of the history.
-use Rattle.std.proofs.Common.{◌≡◌, ◌==◌, ◌<◌, ◌≤◌, ◌+◌, ℕ, Bool, true, false, not, ◌||◌, List, [], ◌∷◌, ◌++◌, ◌⊎◌, length, reverse, refl, sym, subst, ap, ◌∙◌, inl, inr, arith}
-use Rattle.uring_volume.proofs.Common.{Event, History, IsHeld, SyncEnded, SyncFailed, Volume, WriteEnded, both_ways, but, cases_Bool, cond-false, cond-true, elements_to_begin, eqb-true, false_from_ne_true, has_ended, is_one_of, length-reverse, list_any-append, or_left, or_right, running_syncs, running_writes, with_event, with_sync, with_write}
+use Rattle.std.proofs.Common.{◌≡◌, ◌==◌, ◌<◌, ◌≤◌, ◌+◌, ℕ, Bool, true, not, ◌||◌, List, [], ◌∷◌, ◌++◌, ◌⊎◌, length, reverse, subst, ap, inl, inr, arith}
+use Rattle.uring_volume.proofs.Common.{Event, History, IsHeld, SyncEnded, SyncFailed, Volume, WriteEnded, both_ways, but, cases_Bool, cond-false, cond-true, elements_to_begin, false_from_ne_true, has_ended, is_one_of, length-reverse, list_any-append, or_left, or_right, with_event, with_sync, with_write}
 use Rattle.uring_volume.specs.declared.event.SyncRange.{SyncRange}
 
 pub or_either : (x y : Bool) → (x || y) ≡ true → (x ≡ true) ⊎ (y ≡ true)
-or_either true y is = inl refl
-or_either false y is = inr is
+or_either x y is = grind arith
 
 -- Lists of numbers.
 
@@ -23,10 +22,7 @@ is_in_but n m (k ∷ ns) is = elim (cases_Bool (not (k == n))) [
 
 but_is_short : (n : ℕ) (ns : List ℕ) → length (but n ns) ≤ length ns
 but_is_short n [] = omega arith
-but_is_short n (k ∷ ns) = elim (cases_Bool (not (k == n))) [
-  | inl stays ↦ omega (arith, but_is_short n ns, ap length (cond-true (not (k == n)) (k ∷ but n ns) (but n ns) stays))
-  | inr goes ↦ omega (arith, but_is_short n ns, ap length (cond-false (not (k == n)) (k ∷ but n ns) (but n ns) goes))
-]
+but_is_short n (k ∷ ns) = grind (arith, (but_is_short n ns), cond-true)
 
 -- a list without one of its numbers is shorter
 pub but_is_shorter : (n : ℕ) (ns : List ℕ) → is_one_of n ns ≡ true → length (but n ns) < length ns
@@ -40,25 +36,14 @@ but_is_shorter n (k ∷ ns) is = elim (cases_Bool (k == n)) [
 
 pub one_more : (n m : ℕ) (ns : List ℕ) → is_one_of m (ns ++ n ∷ []) ≡ true
     → (is_one_of m ns ≡ true) ⊎ (m ≡ n)
-one_more n m ns is =
-    elim (or_either (is_one_of m ns) (is_one_of m (n ∷ [])) (sym (list_any-append (λ k. k == m) ns (n ∷ [])) ∙ is)) [
-      | inl old ↦ inl old
-      | inr new ↦ elim (or_either (n == m) false new) [
-        | inl same ↦ inr (sym (eqb-true n m same))
-        | inr none ↦ absurd (both_ways false refl none)
-      ]
-    ]
+one_more n m ns is = grind (arith, or_either, list_any-append)
 
 -- the same volume, as other terms say it
 pub carried : (v : Volume) (write_list sync_list writes_now syncs_now : List ℕ) (h : History) (n : ℕ)
     → IsHeld v write_list sync_list → h ≡ v.history → n ≡ v.next
     → writes_now ≡ write_list → syncs_now ≡ sync_list
     → IsHeld (record { unit = v.unit; first = v.first; history = h; next = n }) writes_now syncs_now
-carried v write_list sync_list writes_now syncs_now h n held past number ws ss =
-    subst (λ us. IsHeld (record { unit = v.unit; first = v.first; history = h; next = n }) us syncs_now) (sym ws)
-    (subst (λ us. IsHeld (record { unit = v.unit; first = v.first; history = h; next = n }) write_list us) (sym ss)
-    (subst (λ g. IsHeld (record { unit = v.unit; first = v.first; history = g; next = n }) write_list sync_list) (sym past)
-    (subst (λ m. IsHeld (record { unit = v.unit; first = v.first; history = v.history; next = m }) write_list sync_list) (sym number) held)))
+carried v write_list sync_list writes_now syncs_now h n held past number ws ss = grind arith
 
 -- Each event.
 
@@ -86,10 +71,7 @@ held_write v off bytes write_list sync_list held =
             | inr old ↦ omega (arith, numbered.issued w old)
           ];
           ended = λ n is. omega (arith, numbered.ended n is);
-          running = λ n is. elim (one_more v.next n (running_writes v.history) is) [
-            | inl old ↦ omega (arith, numbered.running n old)
-            | inr same ↦ omega arith
-          ];
+          running = grind (arith, one_more);
         };
       };
       writes = ap (λ ns. ns ++ v.next ∷ []) held.writes;
@@ -119,51 +101,20 @@ held_sync v range write_list sync_list held =
 pub held_write_end : (v : Volume) (n : ℕ) (write_list sync_list : List ℕ)
     → IsHeld v write_list sync_list → is_one_of n write_list ≡ true
     → IsHeld (with_event (WriteEnded n) v) (but n write_list) sync_list
-held_write_end v n write_list sync_list held runs =
-    let numbered = held.sound.numbered in
-    let known : is_one_of n (running_writes v.history) ≡ true = subst (λ ns. is_one_of n ns ≡ true) held.writes runs in
-    record {
-      sound = record {
-        unit = held.sound.unit;
-        lawful = held.sound.lawful;
-        numbered = record {
-          some = numbered.some;
-          positive = numbered.positive;
-          issued = numbered.issued;
-          ended = λ m is. elim (or_either (n == m) (has_ended v.history m) is) [
-            | inl same ↦ subst (λ k. k < v.next) (eqb-true n m same) (numbered.running n known)
-            | inr old ↦ numbered.ended m old
-          ];
-          running = λ m is. numbered.running m (is_in_but n m (running_writes v.history) is);
-        };
-      };
-      writes = ap (but n) held.writes;
-      syncs = held.syncs;
-    }
+held_write_end v n write_list sync_list held runs = grind (arith, is_in_but)
 
 pub held_sync_end : (v : Volume) (s : ℕ) (write_list sync_list : List ℕ)
     → IsHeld v write_list sync_list
     → IsHeld (with_event (SyncEnded s) v) write_list (but s sync_list)
-held_sync_end v s write_list sync_list held = record {
-  sound = record { unit = held.sound.unit; lawful = held.sound.lawful; numbered = record { some = held.sound.numbered.some; positive = held.sound.numbered.positive; issued = held.sound.numbered.issued; ended = held.sound.numbered.ended; running = held.sound.numbered.running } };
-  writes = held.writes;
-  syncs = ap (but s) held.syncs;
-}
+held_sync_end v s write_list sync_list held = grind arith
 
 pub held_sync_failure : (v : Volume) (s : ℕ) (write_list sync_list : List ℕ)
     → IsHeld v write_list sync_list
     → IsHeld (with_event (SyncFailed s) v) write_list (but s sync_list)
-held_sync_failure v s write_list sync_list held = record {
-  sound = record { unit = held.sound.unit; lawful = held.sound.lawful; numbered = record { some = held.sound.numbered.some; positive = held.sound.numbered.positive; issued = held.sound.numbered.issued; ended = held.sound.numbered.ended; running = held.sound.numbered.running } };
-  writes = held.writes;
-  syncs = ap (but s) held.syncs;
-}
+held_sync_failure v s write_list sync_list held = grind arith
 
 -- the elements that are asked for as a write or a sync begins, by a volume's lists
 pub room_for : (held now : Volume) (events : List Event) (write_list sync_list : List ℕ) (n : ℕ)
     → held ≡ now → held.history ≡ reverse events → IsHeld held write_list sync_list
     → elements_to_begin now ≤ n → length events + length write_list + length sync_list + 2 ≤ n
-room_for held now events write_list sync_list n same is h most =
-    let fits : length held.history + length (running_writes held.history) + length (running_syncs held.history) + 2 ≤ n = subst (λ (v : Volume). elements_to_begin v ≤ n) (sym same) most in
-    let many : length held.history ≡ length events = ap length is ∙ length-reverse events in
-    omega (arith, fits, many, ap length h.writes, ap length h.syncs)
+room_for held now events write_list sync_list n same is h most = grind (arith, length-reverse)

@@ -1,6 +1,6 @@
 -- A safe write that none has overlapped since is read back.
-use Rattle.std.proofs.Common.{◌≡◌, ◌==◌, ◌<◌, ◌≤◌, ◌+◌, ◌-◌, ◌*◌, ◌/◌, ℕ, min, max, true, false, cond, List, [], ◌∷◌, length, refl, sym, subst, ap, ◌∙◌, inl, inr, arith}
-use Rattle.uring_volume.proofs.Common.{History, IsIn, IsInOrder, SafeIsReadBack, UnitIsLeft, Write, and_from, and_parts, both_ways, byte_over, cond-false, cond-true, end_of, false_from_ne_true, is_before, is_on, is_under, le-leb, leb-true, length_over, lt-div-mul-add, lt-ltb, ltb-true, mul-div-le, ne_eqb, slice_index}
+use Rattle.std.proofs.Common.{◌≡◌, ◌==◌, ◌<◌, ◌≤◌, ◌+◌, ◌-◌, ◌/◌, ℕ, max, true, false, cond, List, [], ◌∷◌, length, refl, ap, ◌∙◌, inl, inr, arith}
+use Rattle.uring_volume.proofs.Common.{History, IsIn, IsInOrder, SafeIsReadBack, UnitIsLeft, Write, and_from, byte_over, cond-false, end_of, false_from_ne_true, is_before, is_on, is_under, le-leb, length_over, lt-ltb, ne_eqb, slice_index}
 
 -- a byte, with one write over it
 abbrev pub over : ℕ → Write → ℕ → ℕ
@@ -9,32 +9,21 @@ over byte w k = cond (is_under w k) (slice_index w.bytes (k - w.off)) byte
 pub none_over : (byte k : ℕ) (later : List Write)
     → ((m : Write) → IsIn m later → is_under m k ≡ false) → byte_over byte later k ≡ byte
 none_over byte k [] none = refl
-none_over byte k (m ∷ later) none =
-    none_over (over byte m k) k later (λ x among. none x (inr among))
-    ∙ cond-false (is_under m k) (slice_index m.bytes (k - m.off)) byte (none m (inl refl))
+none_over byte k (m ∷ later) none = grind (arith, (none_over (over byte m k) k later (λ x among. none x (inr among))))
 
 pub last_over : (h : History) (w : Write) (k byte : ℕ) (order : List Write) → IsIn w order
     → IsInOrder h order → is_under w k ≡ true
     → ((m : Write) → IsIn m order → (m ≡ w → ⊥) → is_under m k ≡ true → is_before h m.number w.number ≡ true)
     → byte_over byte order k ≡ slice_index w.bytes (k - w.off)
 last_over h w k byte [] among o under last = absurd among
-last_over h w k byte (x ∷ later) (inl same) o under last =
-    none_over (over byte x k) k later
-    (λ m among. false_from_ne_true (is_under m k) (λ is. both_ways (is_before h m.number w.number) (subst (λ y. is_before h m.number y.number ≡ false) (sym same) (o.0 m among)) (last m (inr among) (λ e. o.1 (subst (λ y. IsIn y later) (e ∙ same) among)) is)))
-    ∙ subst (λ y. over byte y k ≡ slice_index w.bytes (k - w.off)) same (cond-true (is_under w k) (slice_index w.bytes (k - w.off)) byte under)
+last_over h w k byte (x ∷ later) (inl same) o under last = grind (arith, none_over, false_from_ne_true)
 last_over h w k byte (x ∷ later) (inr more) o under last =
     last_over h w k (over byte x k) later more o.2 under (λ m among. last m (inr among))
 
 -- A unit and the writes of its bytes.
 
 pub on_from : (u : ℕ) (w : Write) (k : ℕ) → 0 < u → is_under w k ≡ true → is_on u (k / u) w ≡ true
-on_from u w k positive under =
-    let parts = and_parts _ _ under in
-    let from : w.off ≤ k = leb-true w.off k parts.0 in
-    let to : k < w.off + length w.bytes = ltb-true k (w.off + length w.bytes) parts.1 in
-    let low : u * (k / u) ≤ k = mul-div-le k u in
-    let high : k < k / u * u + u = lt-div-mul-add positive in
-    lt-ltb (max (u * (k / u)) w.off) (min (u * (k / u) + u) (w.off + length w.bytes)) (omega arith)
+on_from u w k positive under = grind arith
 
 pub under_from : (w : Write) (k : ℕ) → k < length w.bytes → is_under w (w.off + k) ≡ true
 under_from w k within = and_from _ _ (le-leb w.off (w.off + k) (omega arith)) (lt-ltb (w.off + k) (w.off + length w.bytes) (omega arith))
@@ -48,8 +37,7 @@ len_grows len (w ∷ later) = omega (arith, len_grows (max len (end_of w)) later
 pub end_within : (len : ℕ) (w : Write) (order : List Write) → IsIn w order
     → end_of w ≤ length_over len order
 end_within len w [] among = absurd among
-end_within len w (x ∷ later) (inl same) =
-    subst (λ y. end_of y ≤ length_over (max len (end_of x)) later) (sym same) (omega (arith, len_grows (max len (end_of x)) later))
+end_within len w (x ∷ later) (inl same) = grind (arith, len_grows)
 end_within len w (x ∷ later) (inr more) = end_within (max len (end_of x)) w later more
 
 end_at : (w : Write) (k : ℕ) → k < length w.bytes → end_of w ≡ w.off + length w.bytes
@@ -64,8 +52,7 @@ read_back u first h now w k positive kept image within =
     let whole : IsIn w image.len.order = image.len.left.safe w kept.issued refl kept.safe in
     let long : w.off + k < length now = omega (arith, image.len.len, end_at w k within, end_within (length first) w image.len.order whole) in
     let last : byte_over (slice_index first (w.off + k)) here.order (w.off + k) ≡ slice_index w.bytes (w.off + k - w.off) =
-    last_over h w (w.off + k) (slice_index first (w.off + k)) here.order among here.left.in_order under
-    (λ m is_in differs over_it. kept.last m (w.off + k) (here.left.issued m is_in).0 differs under over_it) in
+        grind (arith, last_over) in
     let place : w.off + k - w.off ≡ k = omega arith in
     record {
       within = long;

@@ -17,27 +17,14 @@ HasLast h k order =
 
 last_with : (h : History) (k : ℕ) (x : Write) (later : List Write) → IsInOrder h (x ∷ later)
     → HasLast h k later → HasLast h k (x ∷ later)
-last_with h k x later o (inr more) = inr (
-  more.0,
-  record {
-    among = inr more.1.among;
-    under = more.1.under;
-    last = λ m among is. elim among [
-      | inl same ↦ inr (subst (λ y. is_before h more.0.number y.number ≡ false) (sym same) (o.0 more.0 more.1.among))
-      | inr further ↦ more.1.last m further is
-    ];
-  },
-)
+last_with h k x later o (inr more) = grind arith
 last_with h k x later o (inl none) = elim (cases_Bool (is_under x k)) [
   | inl is ↦ inr (
     x,
     record {
       among = inl refl;
       under = is;
-      last = λ m among under. elim among [
-        | inl same ↦ inl same
-        | inr further ↦ absurd (both_ways (is_under m k) (none m further) under)
-      ];
+      last = grind arith;
     },
   )
   | inr out ↦ inl (λ m among. elim among [
@@ -55,15 +42,12 @@ find_last h k (x ∷ later) o = last_with h k x later o (find_last h k later o.2
 -- what is in one is in the other
 moves : (h : History) (touches : Write → Bool) (a b : List Write) → IsAtRest h
     → MayBeLeft h touches a → MayBeLeft h touches b → (w : Write) → IsIn w a → IsIn w b
-moves h touches a b rest la lb w among =
-    let i = la.issued w among in
-    lb.safe w i.0 i.1 (rest.safe w i.0)
+moves h touches a b rest la lb w among = grind arith
 
 same_byte : (h : History) (touches : Write → Bool) (a b : List Write) (byte k : ℕ) → IsAtRest h
     → MayBeLeft h touches a → MayBeLeft h touches b → HasLast h k a
     → byte_over byte a k ≡ byte_over byte b k
-same_byte h touches a b byte k rest la lb (inl none) =
-    none_over byte k a none ∙ sym (none_over byte k b (λ m among. none m (moves h touches b a rest lb la m among)))
+same_byte h touches a b byte k rest la lb (inl none) = grind (arith, none_over)
 same_byte h touches a b byte k rest la lb (inr found) =
     let w = found.0 in
     let before = λ (m : Write) (among : IsIn m a) (differs : m ≡ found.0 → ⊥) (under : is_under m k ≡ true).
@@ -85,8 +69,7 @@ length_below len bound (w ∷ later) low ends =
 
 no_longer : (h : History) (touches : Write → Bool) (a b : List Write) (len : ℕ) → IsAtRest h
     → MayBeLeft h touches a → MayBeLeft h touches b → length_over len a ≤ length_over len b
-no_longer h touches a b len rest la lb =
-    length_below len (length_over len b) a (len_grows len b) (λ w among. end_within len w b (moves h touches a b rest la lb w among))
+no_longer h touches a b len rest la lb = grind (arith, length_below, len_grows, end_within, moves)
 
 pub one_image : RestHasOneImage
 one_image u first h now other positive rest image second =

@@ -1,6 +1,6 @@
 -- A search through a list, and loops over lists of references.
 use Rattle.std.proofs.Common.{◌≡◌, ◌+◌, ◌-◌, ◌*◌, ◌<◌, ◌≤◌, ℕ, zero, suc, min, max, Bool, true, false, ◌&&◌, cond, List, [], ◌∷◌, ◌++◌, length, map, get_or, take, drop, replicate, refl, sym, ap, ◌∙◌, inl, inr, arith}
-use Rattle.uring_volume.proofs.Common.{Err, History, append_assoc, joined, Ok, OnOk, Result, Write, byte_over, bytes_from, bytes_over, cases_Bool, cond-false, cond-true, drop_all, drop_more, end_of, ext_get_or, filter, fronts, get_or-drop, get_or-take, get_or_past, length-append, length-drop, length-replicate, length-take, length_over, list_any, list_any-append, map-append, mul-le-mul_left, or_from, or_left, or_right, pointwise, put_by, take_more, unit_contents}
+use Rattle.uring_volume.proofs.Common.{History, append_assoc, joined, OnOk, Result, Write, byte_over, bytes_from, bytes_over, cases_Bool, cond-false, drop_all, drop_more, end_of, ext_get_or, filter, fronts, get_or-drop, get_or-take, get_or_past, length-append, length-drop, length-replicate, length-take, length_over, list_any, list_any-append, map-append, mul-le-mul_left, or_from, or_left, pointwise, put_by, take_more, unit_contents}
 use Rattle.uring_volume.proofs.Painting.{below_or_from}
 use Rattle.uring_volume.proofs.Leaving.{padded}
 use Rattle.uring_volume.proofs.Files.{length_bytes_over, bytes_over_at, length_bytes_from, bytes_from_at, length_joined}
@@ -9,8 +9,7 @@ holds_at : {X Y : Type 0} (f : X → Y) (p : Y → Bool) (xs : List X) (i : ℕ)
     → i < length xs → p (f (get_or xs i d)) ≡ true → list_any p (map f xs) ≡ true
 holds_at f p [] i d within is = absurd (omega arith)
 holds_at f p (x ∷ xs) zero d within is = or_left (p (f x)) (list_any p (map f xs)) is
-holds_at f p (x ∷ xs) (suc i) d within is =
-    or_right (p (f x)) (list_any p (map f xs)) (holds_at f p xs i d (omega arith) is)
+holds_at f p (x ∷ xs) (suc i) d within is = grind (arith, (holds_at f p xs i d (omega arith) is))
 
 -- the one that is looked for stands at i
 pub one_is : {X Y : Type 0} (f : X → Y) (p : Y → Bool) (xs : List X) (i : ℕ) (x : X)
@@ -47,9 +46,7 @@ pairs_from f same xs ys i x y within long at_x at_y =
 pub pairs_end : {X Y : Type 0} (f : X → Y) (same : Y → Y → Bool) (xs ys : List X) (i : ℕ)
     → length xs ≤ i → length xs ≡ length ys
     → pointwise same (map f (drop i xs)) (map f (drop i ys)) ≡ true
-pairs_end f same xs ys i past long =
-    ap (λ zs. pointwise same (map f zs) (map f (drop i ys))) (drop_all i xs past)
-    ∙ ap (λ zs. pointwise same [] (map f zs)) (drop_all i ys (omega arith))
+pairs_end f same xs ys i past long = grind (arith, drop_all)
 
 pub put_new : {X Y : Type 0} (f : X → Y) (same : Y → Y → Bool) (old new : List X) (x : X) (y : Y)
     → f x ≡ y → list_any (λ z. same z y) (map f old) ≡ false → new ≡ old ++ x ∷ []
@@ -61,8 +58,7 @@ put_new f same old new x y is none pushed =
     ∙ sym (cond-false (list_any (λ z. same z y) (map f old)) (map f old) (map f old ++ y ∷ []) none)
 
 pub on_ok : {T E : Type 0} (r : Result T E) (P Q : Type 0) → (P → Q) → OnOk r P → OnOk r Q
-on_ok (Ok x) P Q follows holds = follows holds
-on_ok (Err e) P Q follows holds = tt
+on_ok r P Q follows holds = grind arith
 
 -- a length after the writes that are left of those from index i on
 pub kept_more : {X : Type 0} (f : X → Write) (p : Write → Bool) (xs : List X) (i : ℕ) (x : X)
@@ -72,12 +68,8 @@ pub kept_more : {X : Type 0} (f : X → Write) (p : Write → Bool) (xs : List X
 kept_more f p xs i x len next b within at is made =
     let here : map f (drop i xs) ≡ f x ∷ map f (drop (i + 1) xs) = ap (map f) (drop_more xs i x within ∙ ap (λ z. z ∷ drop (i + 1) xs) (sym at)) in
     sym (ap (λ ws. length_over len (filter p ws)) here ∙ elim (cases_Bool (p (f x))) as (λ _. length_over len (filter p (f x ∷ map f (drop (i + 1) xs))) ≡ length_over next (filter p (map f (drop (i + 1) xs)))) [
-      | inl is_kept ↦
-          ap (length_over len) (cond-true (p (f x)) (f x ∷ filter p (map f (drop (i + 1) xs))) (filter p (map f (drop (i + 1) xs))) is_kept)
-          ∙ ap (λ n. length_over n (filter p (map f (drop (i + 1) xs)))) (sym (made ∙ cond-true b (max len (end_of (f x))) len (is ∙ is_kept)))
-      | inr is_out ↦
-          ap (length_over len) (cond-false (p (f x)) (f x ∷ filter p (map f (drop (i + 1) xs))) (filter p (map f (drop (i + 1) xs))) is_out)
-          ∙ ap (λ n. length_over n (filter p (map f (drop (i + 1) xs)))) (sym (made ∙ cond-false b (max len (end_of (f x))) len (is ∙ is_out)))
+      | inl is_kept ↦ grind arith
+      | inr is_out ↦ grind arith
     ])
 
 -- none is left after the last one
@@ -89,14 +81,8 @@ kept_all f p xs i len past = sym (ap (λ ys. length_over len (filter p (map f ys
 pub times_most : (a b most : ℕ) → min (min a most * b) most ≡ min (a * b) most
 times_most a b most = elim (below_or_from most a) [
   | inl over ↦ elim (below_or_from 0 b) as (λ _. min (min a most * b) most ≡ min (a * b) most) [
-    | inl some ↦
-        let capped : min a most ≡ most = omega arith in
-        let one : most * 1 ≤ most * b = mul-le-mul_left most some in
-        let two : a * 1 ≤ a * b = mul-le-mul_left a some in
-        ap (λ n. min (n * b) most) capped ∙ (let it : min (most * b) most ≡ min (a * b) most = omega (arith, one, two) in it)
-    | inr none ↦
-        let nothing : b ≡ 0 = omega arith in
-        ap (λ n. min (min a most * n) most) nothing ∙ (let it : min (min a most * 0) most ≡ min (a * 0) most = omega arith in it) ∙ ap (λ n. min (a * n) most) (sym nothing)
+    | inl some ↦ grind (arith, (mul-le-mul_left most some), (mul-le-mul_left a some))
+    | inr none ↦ grind arith
   ]
   | inr within ↦ let exact : min a most ≡ a = omega arith in ap (λ n. min (n * b) most) exact
 ]
@@ -108,44 +94,30 @@ dropped f xs i x within at = ap (map f) (drop_more xs i x within ∙ ap (λ z. z
 pub kept_one : {X Y : Type 0} (f : X → Y) (p : Y → Bool) (xs : List X) (i : ℕ) (x : X) (before : List Y)
     → i < length xs → x ≡ get_or xs i x → p (f x) ≡ true
     → (before ++ f x ∷ []) ++ filter p (map f (drop (i + 1) xs)) ≡ before ++ filter p (map f (drop i xs))
-kept_one f p xs i x before within at is =
-    append_assoc before (f x ∷ []) (filter p (map f (drop (i + 1) xs)))
-    ∙ ap (λ ys. before ++ ys) (sym (ap (filter p) (dropped f xs i x within at) ∙ cond-true (p (f x)) (f x ∷ filter p (map f (drop (i + 1) xs))) (filter p (map f (drop (i + 1) xs))) is))
+kept_one f p xs i x before within at is = grind (arith, append_assoc, dropped)
 
 pub left_one : {X Y : Type 0} (f : X → Y) (p : Y → Bool) (xs : List X) (i : ℕ) (x : X)
     → i < length xs → x ≡ get_or xs i x → p (f x) ≡ false
     → filter p (map f (drop (i + 1) xs)) ≡ filter p (map f (drop i xs))
-left_one f p xs i x within at out =
-    sym (ap (filter p) (dropped f xs i x within at) ∙ cond-false (p (f x)) (f x ∷ filter p (map f (drop (i + 1) xs))) (filter p (map f (drop (i + 1) xs))) out)
+left_one f p xs i x within at out = grind (arith, dropped, cond-false)
 
 pub put_one : {X Y : Type 0} (f : X → Y) (g : Y → Y) (xs : List X) (i : ℕ) (x : X) (before : List Y)
     → i < length xs → x ≡ get_or xs i x
     → (before ++ g (f x) ∷ []) ++ map g (map f (drop (i + 1) xs)) ≡ before ++ map g (map f (drop i xs))
-put_one f g xs i x before within at =
-    append_assoc before (g (f x) ∷ []) (map g (map f (drop (i + 1) xs)))
-    ∙ sym (ap (λ ys. before ++ map g ys) (dropped f xs i x within at))
+put_one f g xs i x before within at = grind (arith, append_assoc, dropped)
 
 pub joined_one : {X : Type 0} (f : X → List ℕ) (xs : List X) (i : ℕ) (x : X) (ends before : List (List ℕ))
     → i < length xs → x ≡ get_or xs i x
     → (before ++ map (λ e. f x ++ e) ends) ++ joined (map f (drop (i + 1) xs)) ends
     ≡ before ++ joined (map f (drop i xs)) ends
-joined_one f xs i x ends before within at =
-    append_assoc before (map (λ e. f x ++ e) ends) (joined (map f (drop (i + 1) xs)) ends)
-    ∙ sym (ap (λ fs. before ++ joined fs ends) (dropped f xs i x within at))
+joined_one f xs i x ends before within at = grind (arith, append_assoc, dropped)
 
 -- how many there are with one unit more
 pub count_more : (u : ℕ) (first : List ℕ) (h : History) (len i count size next most : ℕ)
     (ends : List (List ℕ)) → count ≡ min (length (fronts u first h len i)) most
     → ends ≡ unit_contents u first h len i → size ≡ length ends → next ≡ min (count * size) most
     → next ≡ min (length (fronts u first h len (i + 1))) most
-count_more u first h len i count size next most ends so_far is many made =
-    let more : suc i ≡ i + 1 = omega arith in
-    made
-    ∙ ap (λ n. min (n * size) most) so_far
-    ∙ times_most (length (fronts u first h len i)) size most
-    ∙ ap (λ n. min (length (fronts u first h len i) * n) most) (many ∙ ap length is)
-    ∙ ap (λ n. min n most) (sym (length_joined (fronts u first h len i) (unit_contents u first h len i)))
-    ∙ ap (λ j. min (length (fronts u first h len j)) most) more
+count_more u first h len i count size next most ends so_far is many made = grind (arith, times_most, length_joined)
 
 -- what a file has of n bytes from offset k on, with zeros after it
 pub padded_from : (first xs : List ℕ) (k n a b : ℕ) → a ≡ min k (length first)
@@ -157,9 +129,7 @@ padded_from first xs k n a b begins ends is =
     ext_get_or 0 (xs ++ replicate (n - length xs) 0) (bytes_from first k n) (long ∙ sym (length_bytes_from first k n))
     (λ j within. padded xs (n - length xs) j
     ∙ elim (below_or_from j (b - a)) as (λ _. get_or xs j 0 ≡ get_or first (k + j) 0) [
-      | inl here ↦
-          let at : a + j ≡ k + j = omega arith in
-          ap (λ ys. get_or ys j 0) is ∙ get_or-take (b - a) (drop a first) j 0 here ∙ get_or-drop a first j 0 ∙ ap (λ i. get_or first i 0) at
+      | inl here ↦ grind (arith, get_or-take, get_or-drop)
       | inr past ↦ get_or_past xs j 0 (omega (arith, size)) ∙ sym (get_or_past first (k + j) 0 (omega (arith, long)))
     ]
     ∙ sym (bytes_from_at first k n j (omega (arith, long))))

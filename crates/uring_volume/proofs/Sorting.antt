@@ -31,9 +31,7 @@ fails p xs x out = filter-append p xs (x ∷ []) ∙ ap (λ ys. filter p xs ++ y
 pub sorted_in : {X : Type 0} (p : X → Bool) (xs : List X) (i : ℕ) (x : X) → i < length xs → p (get_or xs i x) ≡ true
     → filter p (take i xs) ++ ((get_or xs i x ∷ filter (λ y. not (p y)) (take i xs)) ++ drop (i + 1) xs) ≡ sorted p (i + 1) xs
 sorted_in p xs i x within is =
-    sym (append_assoc (filter p (take i xs)) (get_or xs i x ∷ []) (filter (λ y. not (p y)) (take i xs) ++ drop (i + 1) xs))
-    ∙ ap (λ ys. ys ++ (filter (λ y. not (p y)) (take i xs) ++ drop (i + 1) xs)) (sym (ap (filter p) (take_more xs i x within) ∙ passes p (take i xs) (get_or xs i x) is))
-    ∙ ap (λ ys. filter p (take (i + 1) xs) ++ (ys ++ drop (i + 1) xs)) (sym (ap (filter (λ y. not (p y))) (take_more xs i x within) ∙ fails (λ y. not (p y)) (take i xs) (get_or xs i x) (ap not is)))
+    grind (arith, (get_or xs i x), (take_more xs i x within), (passes p (take i xs) (get_or xs i x) is), append_assoc, fails)
 
 -- the next one doesn't pass, and stays
 pub sorted_out : {X : Type 0} (p : X → Bool) (xs : List X) (i : ℕ) (x : X) → i < length xs → p (get_or xs i x) ≡ false
@@ -67,13 +65,7 @@ sorted_all p xs ys i n past is size =
 -- the next one stands where it stood
 pub sorted_at : {X : Type 0} (p : X → Bool) (xs : List X) (i : ℕ) (d : X) → i < length xs
     → get_or (sorted p i xs) i d ≡ get_or xs i d
-sorted_at p xs i d within =
-    let both : length (filter p (take i xs)) + length (filter (λ x. not (p x)) (take i xs)) ≡ i = sizes p (take i xs) ∙ length-take-le i xs (omega arith) in
-    let here : i + (i - length (filter p (take i xs)) - length (filter (λ x. not (p x)) (take i xs))) ≡ i = omega (arith, both) in
-    get_or-append_right (filter p (take i xs)) (filter (λ x. not (p x)) (take i xs) ++ drop i xs) (length (filter p (take i xs))) i d refl (omega (arith, both))
-    ∙ get_or-append_right (filter (λ x. not (p x)) (take i xs)) (drop i xs) (length (filter (λ x. not (p x)) (take i xs))) (i - length (filter p (take i xs))) d refl (omega (arith, both))
-    ∙ get_or-drop i xs (i - length (filter p (take i xs)) - length (filter (λ x. not (p x)) (take i xs))) d
-    ∙ ap (λ k. get_or xs k d) here
+sorted_at p xs i d within = grind (arith, sizes, length-take-le, get_or-append_right, get_or-drop, get_or)
 
 -- a part of a list whose last element was turned to its front
 turned_part : {X : Type 0} (a b c ys turned : List X) (x : X) (n m : ℕ) → ys ≡ a ++ (b ++ x ∷ c)
@@ -99,8 +91,7 @@ turned_part a b c ys turned x n m is begins size turns =
 -- the element that was read at i is that of the list as it was
 stands : {X : Type 0} (p : X → Bool) (xs ys : List X) (i : ℕ) (x : X) → i < length xs
     → ys ≡ sorted p i xs → x ≡ get_or ys i x → get_or xs i x ≡ x
-stands p xs ys i x within is at =
-    sym (at ∙ ap (λ zs. get_or zs i x) is ∙ sorted_at p xs i x within)
+stands p xs ys i x within is at = grind (arith, sorted_at)
 
 -- What a step of the loop makes of the list and of the count: x passes, or it doesn't.
 
@@ -131,6 +122,4 @@ count_next p xs ys i n x b within is size at passed =
 -- of the elements up to index i no more pass than there are
 pub no_more : {X : Type 0} (p : X → Bool) (xs : List X) (i n : ℕ) → i < length xs
     → n ≡ length (filter p (take i xs)) → n ≤ i
-no_more p xs i n within size =
-    let both : length (filter p (take i xs)) + length (filter (λ x. not (p x)) (take i xs)) ≡ i = sizes p (take i xs) ∙ length-take-le i xs (omega arith) in
-    omega (arith, both, size)
+no_more p xs i n within size = grind (arith, sizes, length-take-le)

@@ -1,6 +1,6 @@
 -- Lists of references, and which of their writes a choice takes.
-use Rattle.std.proofs.Common.{◌≡◌, ◌<◌, ◌≤◌, ◌+◌, ◌-◌, ℕ, zero, suc, Bool, true, false, List, [], ◌∷◌, ◌++◌, length, get_or, map, take, drop, take-add, append_assoc, refl, sym, subst, ap, ◌∙◌, inl, inr, add-one, arith}
-use Rattle.uring_volume.proofs.Common.{History, Write, append-nil, cases_Bool, chosen, cond-false, cond-true, drop_all, filter, has_safe, is_safe, length-drop, length-map, length-take-le, list_any, map-append, named, or_from, or_left, or_right, take-map, take_all, up_to_safe, waits_for_one, without}
+use Rattle.std.proofs.Common.{◌≡◌, ◌<◌, ◌≤◌, ◌+◌, ◌-◌, ℕ, zero, suc, Bool, true, false, List, [], ◌∷◌, ◌++◌, length, get_or, map, take, drop, take-add, append_assoc, refl, sym, ap, ◌∙◌, add-one, arith}
+use Rattle.uring_volume.proofs.Common.{History, Write, append-nil, chosen, cond-false, cond-true, drop_all, filter, has_safe, is_safe, length-drop, length-map, length-take-le, list_any, map-append, named, or_left, take-map, take_all, up_to_safe, waits_for_one, without}
 use Rattle.std.proofs.Math.Seq.{drop-cons}
 use borrow.Rule.Slice.PartMut.{put_mid}
 use Rattle.uring_volume.proofs.Sorting.{past_first, after_first}
@@ -8,16 +8,7 @@ use Rattle.uring_volume.proofs.Sorting.{past_first, after_first}
 pub filter_of_map : {X Y : Type 0} (f : X → Y) (p : Y → Bool) (xs : List X)
     → filter p (map f xs) ≡ map f (filter (λ x. p (f x)) xs)
 filter_of_map f p [] = refl
-filter_of_map f p (x ∷ xs) = elim (cases_Bool (p (f x))) [
-  | inl is ↦
-      cond-true (p (f x)) (f x ∷ filter p (map f xs)) (filter p (map f xs)) is
-      ∙ ap (λ ys. f x ∷ ys) (filter_of_map f p xs)
-      ∙ ap (map f) (sym (cond-true (p (f x)) (x ∷ filter (λ y. p (f y)) xs) (filter (λ y. p (f y)) xs) is))
-  | inr out ↦
-      cond-false (p (f x)) (f x ∷ filter p (map f xs)) (filter p (map f xs)) out
-      ∙ filter_of_map f p xs
-      ∙ ap (map f) (sym (cond-false (p (f x)) (x ∷ filter (λ y. p (f y)) xs) (filter (λ y. p (f y)) xs) out))
-]
+filter_of_map f p (x ∷ xs) = grind (arith, (filter_of_map f p xs))
 
 -- none of these writes is safe
 pub none_safe : (h : History) (rest : List Write) → has_safe h rest ≡ false
@@ -29,20 +20,15 @@ pub any_at : (p : Write → Bool) (ws : List Write) (i : ℕ) (d : Write) → i 
     → p (get_or ws i d) ≡ true → list_any p ws ≡ true
 any_at p [] i d within is = absurd (omega arith)
 any_at p (w ∷ later) zero d within is = or_left (p w) (list_any p later) is
-any_at p (w ∷ later) (suc i) d within is =
-    or_right (p w) (list_any p later) (any_at p later i d (omega arith) is)
+any_at p (w ∷ later) (suc i) d within is = grind (arith, (any_at p later i d (omega arith) is))
 
 -- the last safe one of these stands at i
 pub up_to_last : (h : History) (rest : List Write) (i : ℕ) (d : Write) → i < length rest
     → is_safe h (get_or rest i d) ≡ true → has_safe h (drop (suc i) rest) ≡ false
     → take (suc i) rest ≡ up_to_safe h rest
 up_to_last h [] i d within safe none = absurd (omega arith)
-up_to_last h (w ∷ later) zero d within safe none =
-    ap (λ ws. w ∷ ws) (sym (none_safe h later none))
-    ∙ sym (cond-true (has_safe h (w ∷ later)) (w ∷ up_to_safe h later) [] (or_left (is_safe h w) (has_safe h later) safe))
-up_to_last h (w ∷ later) (suc i) d within safe none =
-    ap (λ ws. w ∷ ws) (up_to_last h later i d (omega arith) safe none)
-    ∙ sym (cond-true (has_safe h (w ∷ later)) (w ∷ up_to_safe h later) [] (or_right (is_safe h w) (has_safe h later) (any_at (λ v. is_safe h v) later i d (omega arith) safe)))
+up_to_last h (w ∷ later) zero d within safe none = grind (arith, none_safe, cond-true)
+up_to_last h (w ∷ later) (suc i) d within safe none = grind (arith, (up_to_last h later i d (omega arith) safe none), cond-true)
 
 pub get_map : {X Y : Type 0} (f : X → Y) (xs : List X) (i : ℕ) (d : X)
     → get_or (map f xs) i (f d) ≡ f (get_or xs i d)
@@ -57,25 +43,16 @@ pub last_safe : {X : Type 0} (f : X → Write) (h : History) (xs : List X) (n i 
     → has_safe h (drop n (map f xs)) ≡ false
     → take (i + 1) (map f xs) ≡ up_to_safe h (map f xs)
 last_safe f h xs n i x e within at safe none =
-    ap (λ j. take j (map f xs)) (add-one i)
-    ∙ up_to_last h (map f xs) i (f x) (omega (arith, length-map xs f))
-    (subst (λ (w : Write). is_safe h w ≡ true) (ap f at ∙ sym (get_map f xs i x)) safe)
-    (subst (λ j. has_safe h (drop j (map f xs)) ≡ false) e none)
+    grind (arith, (map f xs), (add-one i), (length-map xs f), (get_map f xs i x), up_to_last)
 
 pub one_less : {X : Type 0} (f : X → Write) (p : Write → Bool) (xs : List X) (n i : ℕ) (x : X)
     → n ≡ suc i → n ≤ length xs → x ≡ get_or xs i x → p (f x) ≡ false
     → list_any p (drop n (map f xs)) ≡ false → list_any p (drop i (map f xs)) ≡ false
-one_less f p xs n i x e within at out none =
-    let here : i < length (map f xs) = omega (arith, length-map xs f) in
-    ap (list_any p) (drop-cons (map f xs) i (f x) here)
-    ∙ or_from (p (get_or (map f xs) i (f x))) (list_any p (drop (suc i) (map f xs)))
-    (ap p (get_map f xs i x ∙ ap f (sym at)) ∙ out)
-    (subst (λ j. list_any p (drop j (map f xs)) ≡ false) e none)
+one_less f p xs n i x e within at out none = grind (arith, (map f xs), (length-map xs f), (get_map f xs i x), drop-cons)
 
 pub one_found : {X : Type 0} (f : X → Write) (p : Write → Bool) (xs : List X) (i : ℕ) (x : X)
     → i < length xs → x ≡ get_or xs i x → p (f x) ≡ true → list_any p (map f xs) ≡ true
-one_found f p xs i x within at is =
-    any_at p (map f xs) i (f x) (omega (arith, length-map xs f)) (ap p (get_map f xs i x ∙ ap f (sym at)) ∙ is)
+one_found f p xs i x within at is = grind (arith, (map f xs), (length-map xs f), (get_map f xs i x), any_at)
 
 pub push_map : {X Y : Type 0} (f : X → Y) (old new : List X) (x : X) (ys : List Y)
     → new ≡ old ++ x ∷ [] → map f old ≡ ys → map f new ≡ ys ++ f x ∷ []
@@ -97,10 +74,7 @@ pub one_chosen : {X : Type 0} (f : X → Write) (h : History) (xs ys part : List
     → map f (take (count + m) ys) ++ chosen h (map f (drop (count + m) ys)) more
     ≡ map f (take count xs) ++ chosen h (map f (drop count xs)) (n ∷ more)
 one_chosen f h xs ys part count m n more within free took left is =
-    let made : ys ≡ take count xs ++ part =
-    is
-    ∙ ap (λ zs. take count xs ++ (part ++ zs)) (drop_all (length xs - count) (drop count xs) (omega (arith, length-drop count xs)))
-    ∙ ap (λ zs. take count xs ++ zs) (append-nil part) in
+    let made : ys ≡ take count xs ++ part = grind (arith, drop_all, length-drop, append-nil) in
     let sum : count + m ≡ length (take count xs) + m = ap (λ k. k + m) (sym (length-take-le count xs within)) in
     ap (λ zs. map f zs ++ chosen h (map f (drop (count + m) ys)) more) (ap (take (count + m)) made ∙ ap (λ k. take k (take count xs ++ part)) sum ∙ past_first (take count xs) part m)
     ∙ ap (λ zs. map f (take count xs ++ take m part) ++ chosen h (map f zs) more) (ap (drop (count + m)) made ∙ ap (λ k. drop k (take count xs ++ part)) sum ∙ after_first (take count xs) part m)
@@ -114,9 +88,7 @@ one_chosen f h xs ys part count m n more within free took left is =
 pub none_chosen : {X : Type 0} (f : X → Write) (h : History) (xs : List X) (count n : ℕ)
     (more : List ℕ) → waits_for_one h (map f (take (length xs - count) (drop count xs))) n ≡ true
     → chosen h (map f (drop count xs)) more ≡ chosen h (map f (drop count xs)) (n ∷ more)
-none_chosen f h xs count n more waits =
-    let held : waits_for_one h (map f (drop count xs)) n ≡ true = ap (λ zs. waits_for_one h (map f zs) n) (sym (others_of xs count)) ∙ waits in
-    sym (cond-true (waits_for_one h (map f (drop count xs)) n) (chosen h (map f (drop count xs)) more) (named n (map f (drop count xs)) ++ chosen h (without n (map f (drop count xs))) more) held)
+none_chosen f h xs count n more waits = grind (arith, map, others_of)
 
 pub all_chosen : {X : Type 0} (f : X → Write) (h : History) (xs : List X) (count r i : ℕ)
     (choice : List ℕ) → length choice ≤ i

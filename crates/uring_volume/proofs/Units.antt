@@ -1,15 +1,13 @@
 -- An image of larger units is one of smaller ones: of what is left of a large unit, what lies on the small one is left of that.
-use Rattle.std.proofs.Common.{◌≡◌, ◌<◌, ◌≤◌, ◌+◌, ◌-◌, ◌*◌, ◌/◌, ℕ, min, max, Bool, true, false, cond, List, [], ◌∷◌, length, refl, sym, subst, ap, ◌∙◌, inl, inr, arith}
-use Rattle.uring_volume.proofs.Common.{History, IsIn, IsInOrder, SmallerUnitsAllowIt, UnitIsLeft, Write, both_ways, byte_over, cases_Bool, cond-false, cond-true, cond_both, div-div-eq-div-mul, false_from_ne_true, filter, is_on, is_under, lt-div-mul-add, lt-ltb, ltb-true, mul-div-le, mul-le-mul_left, slice_index}
+use Rattle.std.proofs.Common.{◌≡◌, ◌<◌, ◌≤◌, ◌+◌, ◌-◌, ◌*◌, ◌/◌, ℕ, min, max, Bool, true, false, cond, List, [], ◌∷◌, length, refl, sym, subst, inl, inr, arith}
+use Rattle.uring_volume.proofs.Common.{History, IsIn, IsInOrder, SmallerUnitsAllowIt, UnitIsLeft, Write, both_ways, byte_over, cases_Bool, cond-false, cond-true, div-div-eq-div-mul, filter, is_on, is_under, lt-div-mul-add, lt-ltb, ltb-true, mul-div-le, mul-le-mul_left, slice_index}
 use Rattle.uring_volume.proofs.ReadBack.{on_from}
 
 pub in_filter : (p : Write → Bool) (x : Write) (xs : List Write) → IsIn x xs → p x ≡ true
     → IsIn x (filter p xs)
 in_filter p x [] among is = absurd among
-in_filter p x (y ∷ ys) (inl same) is =
-    subst (λ zs. IsIn x zs) (sym (cond-true (p y) (y ∷ filter p ys) (filter p ys) (subst (λ z. p z ≡ true) same is))) (inl same)
-in_filter p x (y ∷ ys) (inr more) is =
-    cond_both (p y) (y ∷ filter p ys) (filter p ys) (λ zs. IsIn x zs) (λ _. inr (in_filter p x ys more is)) (λ _. in_filter p x ys more is)
+in_filter p x (y ∷ ys) (inl same) is = grind arith
+in_filter p x (y ∷ ys) (inr more) is = grind (arith, (in_filter p x ys more is))
 
 pub of_filter : (p : Write → Bool) (x : Write) (xs : List Write) → IsIn x (filter p xs)
     → IsIn x xs × (p x ≡ true)
@@ -30,25 +28,14 @@ of_filter p x (y ∷ ys) among =
 pub filter_in_order : (h : History) (p : Write → Bool) (xs : List Write) → IsInOrder h xs
     → IsInOrder h (filter p xs)
 filter_in_order h p [] o = tt
-filter_in_order h p (y ∷ ys) o =
-    cond_both (p y) (y ∷ filter p ys) (filter p ys) (λ zs. IsInOrder h zs)
-    (λ _. (λ m among. o.0 m (of_filter p m ys among).0, λ among. o.1 (of_filter p y ys among).0, filter_in_order h p ys o.2))
-    (λ _. filter_in_order h p ys o.2)
+filter_in_order h p (y ∷ ys) o = grind (arith, of_filter, (filter_in_order h p ys o.2))
 
 filter_over : (p : Write → Bool) (k byte : ℕ) (xs : List Write)
     → ((w : Write) → p w ≡ false → is_under w k ≡ false)
     → byte_over byte (filter p xs) k ≡ byte_over byte xs k
 filter_over p k byte [] off = refl
 filter_over p k byte (y ∷ ys) off =
-    elim (cases_Bool (p y)) [
-      | inl is ↦
-          ap (λ zs. byte_over byte zs k) (cond-true (p y) (y ∷ filter p ys) (filter p ys) is)
-          ∙ filter_over p k (cond (is_under y k) (slice_index y.bytes (k - y.off)) byte) ys off
-      | inr out ↦
-          ap (λ zs. byte_over byte zs k) (cond-false (p y) (y ∷ filter p ys) (filter p ys) out)
-          ∙ filter_over p k byte ys off
-          ∙ ap (λ b. byte_over b ys k) (sym (cond-false (is_under y k) (slice_index y.bytes (k - y.off)) byte (off y out)))
-    ]
+    grind (arith, (filter_over p k (cond (is_under y k) (slice_index y.bytes (k - y.off)) byte) ys off), cond)
 
 on_wider : (u c i : ℕ) (w : Write) → 0 < c → is_on u i w ≡ true → is_on (u * c) (i / c) w ≡ true
 on_wider u c i w positive on =
@@ -64,15 +51,8 @@ unit_from : (u c : ℕ) (first : List ℕ) (h : History) (now : List ℕ) (i : �
     → UnitIsLeft (u * c) first h now (i / c) → UnitIsLeft u first h now i
 unit_from u c first h now i positive some large = record {
   order = filter (is_on u i) large.order;
-  left = record {
-    issued = λ w among. ((large.left.issued w (of_filter (is_on u i) w large.order among).0).0, (of_filter (is_on u i) w large.order among).1);
-    safe = λ w among on safe. in_filter (is_on u i) w large.order (large.left.safe w among (on_wider u c i w some on) safe) on;
-    with_those_before = λ m w among on kept before. in_filter (is_on u i) m large.order (large.left.with_those_before m w among (on_wider u c i m some on) (of_filter (is_on u i) w large.order kept).0 before) on;
-    in_order = filter_in_order h (is_on u i) large.order large.left.in_order;
-  };
-  bytes = λ k at within.
-      large.bytes k (sym (div-div-eq-div-mul k u c) ∙ ap (λ j. j / c) at) within
-      ∙ sym (filter_over (is_on u i) k (slice_index first k) large.order (λ w off. false_from_ne_true (is_under w k) (λ under. both_ways (is_on u i w) off (subst (λ j. is_on u j w ≡ true) at (on_from u w k positive under)))));
+  left = grind (arith, of_filter, in_filter, on_wider, filter_in_order);
+  bytes = grind (arith, div-div-eq-div-mul, filter_over, both_ways, on_from);
 }
 
 pub smaller_units : SmallerUnitsAllowIt

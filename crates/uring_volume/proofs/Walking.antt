@@ -1,7 +1,7 @@
 -- The ways through some writes lead to what each list that fits leaves, and to nothing else.
-use Rattle.std.proofs.Common.{◌≡◌, ◌≤◌, ◌<◌, ℕ, zero, suc, Bool, false, not, cond, List, [], ◌∷◌, ◌++◌, ◌⊎◌, length, refl, sym, subst, ap, inl, inr, arith}
-use Rattle.uring_volume.proofs.Common.{History, IsEachOnce, IsIn, Way, Write, both_ways, bytes_over, cond-false, cond_both, contents_of, eq-eqb, false_from_ne_true, filter, found_at, found_by, has_safe, is_safe, named, nat_eq, next_ways, pointwise, put_by, same_way, stepped, steps_of, waits_for_one, way, without}
-use Rattle.uring_volume.proofs.Fitting.{lacks, FitsIn, AreApart, apart_filter, named_is, first_is_free, rest_fits, place_fits, none_in, not_in}
+use Rattle.std.proofs.Common.{◌≡◌, ◌≤◌, ◌<◌, ℕ, zero, suc, Bool, false, cond, List, [], ◌∷◌, ◌⊎◌, length, refl, sym, subst, inl, inr, arith}
+use Rattle.uring_volume.proofs.Common.{History, IsEachOnce, IsIn, Way, Write, bytes_over, cond-false, cond_both, contents_of, false_from_ne_true, filter, found_at, found_by, has_safe, is_safe, nat_eq, next_ways, pointwise, put_by, same_way, stepped, steps_of, waits_for_one, way}
+use Rattle.uring_volume.proofs.Fitting.{FitsIn, AreApart, apart_filter, named_is, first_is_free, rest_fits, place_fits, none_in, not_in}
 use Rattle.uring_volume.proofs.Puts.{in_put_old, in_put_new, of_put, put_once, ways_tell, bytes_tell}
 
 -- these bytes from offset k on, with these writes over them, one after the other
@@ -32,34 +32,19 @@ step_by h k s c [] apart fits made = inl (record {
   none = none_in (λ w. is_safe h w) s.rest (λ w among. false_from_ne_true (is_safe h w) (λ safe. fits.safe w among safe));
   is = made;
 })
-step_by h k s c (w ∷ more) apart fits made = inr (
-  w,
-  record { among = fits.within w (inl refl); free = first_is_free h s.rest w more apart fits },
-  record { order = more; fits = rest_fits h s.rest w more apart fits; made = made },
-)
+step_by h k s c (w ∷ more) apart fits made = grind (arith, first_is_free, rest_fits)
 
 step_down : (h : History) (k : ℕ) (s : Way) (c : List ℕ) → AreApart h s.rest → Gives h k s c
     → IsEnd h s c ⊎ ((w : Write) × IsStep h k s w × Gives h k (stepped k s w) c)
 step_down h k s c apart g = step_by h k s c g.order apart g.fits g.made
 
 end_gives : (h : History) (k : ℕ) (s : Way) (c : List ℕ) → IsEnd h s c → Gives h k s c
-end_gives h k s c e = record {
-  order = [];
-  fits = record {
-    within = λ w among. absurd among;
-    safe = λ w among safe. absurd (both_ways (is_safe h w) (not_in (λ v. is_safe h v) w s.rest e.none among) safe);
-    closed = λ m w among kept before. absurd kept;
-    in_order = tt;
-  };
-  made = e.is;
-}
+end_gives h k s c e = grind (arith, not_in)
 
 step_up : (h : History) (k : ℕ) (s : Way) (w : Write) (c : List ℕ) → AreApart h s.rest
     → IsStep h k s w → Gives h k (stepped k s w) c → Gives h k s c
 step_up h k s w c apart step g =
-    let placed : FitsIn h s.rest (named w.number s.rest ++ g.order) = place_fits h w.number s.rest g.order apart.in_order step.free g.fits in
-    let first : FitsIn h s.rest ((w ∷ []) ++ g.order) = subst (λ ws. FitsIn h s.rest (ws ++ g.order)) (named_is h w s.rest apart step.among) placed in
-    record { order = w ∷ g.order; fits = first; made = g.made }
+    grind (arith, (place_fits h w.number s.rest g.order apart.in_order step.free g.fits), (named_is h w s.rest apart step.among))
 
 -- The steps from some ways.
 
@@ -81,24 +66,14 @@ steps_new : (h : History) (k : ℕ) (s : Way) (ws : List Write) (next : List Way
     → IsIn w ws → waits_for_one h s.rest w.number ≡ false
     → IsIn (stepped k s w) (steps_of h k s ws next)
 steps_new h k s [] next w among free = absurd among
-steps_new h k s (v ∷ more) next w (inl same) free =
-    steps_old h k s more (cond (waits_for_one h s.rest v.number) next (put_by same_way next (stepped k s v))) (stepped k s w)
-    (subst (λ x. IsIn (stepped k s x) (cond (waits_for_one h s.rest v.number) next (put_by same_way next (stepped k s v)))) (sym same)
-    (subst (λ ns. IsIn (stepped k s v) ns) (sym (cond-false (waits_for_one h s.rest v.number) next (put_by same_way next (stepped k s v)) (subst (λ x. waits_for_one h s.rest x.number ≡ false) same free)))
-    (in_put_new same_way (stepped k s v) next ways_tell)))
+steps_new h k s (v ∷ more) next w (inl same) free = grind (arith, steps_old, cond, stepped, cond-false, in_put_new, ways_tell)
 steps_new h k s (v ∷ more) next w (inr later) free =
     steps_new h k s more (cond (waits_for_one h s.rest v.number) next (put_by same_way next (stepped k s v))) w later free
 
 put_comes : (h : History) (k : ℕ) (s : Way) (w : Write) (next : List Way) (t : Way)
     → IsIn w s.rest → IsIn t (cond (waits_for_one h s.rest w.number) next (put_by same_way next (stepped k s w)))
     → IsIn t next ⊎ ((v : Write) × IsStep h k s v × (t ≡ stepped k s v))
-put_comes h k s w next t within =
-    cond_both (waits_for_one h s.rest w.number) next (put_by same_way next (stepped k s w)) (λ ns. IsIn t ns → IsIn t next ⊎ ((v : Write) × IsStep h k s v × (t ≡ stepped k s v)))
-    (λ _ among. inl among)
-    (λ free among. elim (of_put same_way t (stepped k s w) next among) [
-      | inl old ↦ inl old
-      | inr is ↦ inr (w, record { among = within; free = free }, is)
-    ])
+put_comes h k s w next t within = grind (arith, of_put)
 
 of_steps : (h : History) (k : ℕ) (s : Way) (ws : List Write) (next : List Way) (t : Way)
     → ((w : Write) → IsIn w ws → IsIn w s.rest) → IsIn t (steps_of h k s ws next)
@@ -118,22 +93,13 @@ next_old h k (s ∷ more) next t among = next_old h k more (steps_of h k s s.res
 next_new : (h : History) (k : ℕ) (ways next : List Way) (s : Way) (w : Write) → IsIn s ways
     → IsStep h k s w → IsIn (stepped k s w) (next_ways h k ways next)
 next_new h k [] next s w among step = absurd among
-next_new h k (r ∷ more) next s w (inl same) step =
-    next_old h k more (steps_of h k r r.rest next) (stepped k s w)
-    (subst (λ x. IsIn (stepped k s w) (steps_of h k x x.rest next)) same (steps_new h k s s.rest next w step.among step.free))
+next_new h k (r ∷ more) next s w (inl same) step = grind (arith, next_old, steps_new)
 next_new h k (r ∷ more) next s w (inr later) step = next_new h k more (steps_of h k r r.rest next) s w later step
 
 of_next : (h : History) (k : ℕ) (ways next : List Way) (t : Way) → IsIn t (next_ways h k ways next)
     → IsIn t next ⊎ Comes h k ways t
 of_next h k [] next t among = inl among
-of_next h k (s ∷ more) next t among =
-    elim (of_next h k more (steps_of h k s s.rest next) t among) [
-      | inl early ↦ elim (of_steps h k s s.rest next t (λ w is. is) early) [
-        | inl old ↦ inl old
-        | inr found ↦ inr (record { from = s; among = inl refl; by = found.0; step = found.1; is = found.2 })
-      ]
-      | inr comes ↦ inr (record { from = comes.from; among = inr comes.among; by = comes.by; step = comes.step; is = comes.is })
-    ]
+of_next h k (s ∷ more) next t among = grind (arith, (of_next h k more (steps_of h k s s.rest next) t among), of_steps)
 
 -- What has been found at some ways.
 
@@ -147,36 +113,20 @@ at_old h (s ∷ more) found c among =
 at_new : (h : History) (ways : List Way) (found : List (List ℕ)) (s : Way) → IsIn s ways
     → has_safe h s.rest ≡ false → IsIn s.now (found_at h ways found)
 at_new h [] found s among none = absurd among
-at_new h (r ∷ more) found s (inl same) none =
-    at_old h more (cond (has_safe h r.rest) found (put_by (pointwise nat_eq) found r.now)) s.now
-    (subst (λ x. IsIn x.now (cond (has_safe h r.rest) found (put_by (pointwise nat_eq) found r.now))) (sym same)
-    (subst (λ cs. IsIn r.now cs) (sym (cond-false (has_safe h r.rest) found (put_by (pointwise nat_eq) found r.now) (subst (λ x. has_safe h x.rest ≡ false) same none)))
-    (in_put_new (pointwise nat_eq) r.now found bytes_tell)))
+at_new h (r ∷ more) found s (inl same) none = grind (arith, at_old, cond, in_put_new, bytes_tell)
 at_new h (r ∷ more) found s (inr later) none =
     at_new h more (cond (has_safe h r.rest) found (put_by (pointwise nat_eq) found r.now)) s later none
 
 put_end : (h : History) (s : Way) (found : List (List ℕ)) (c : List ℕ)
     → IsIn c (cond (has_safe h s.rest) found (put_by (pointwise nat_eq) found s.now))
     → IsIn c found ⊎ IsEnd h s c
-put_end h s found c =
-    cond_both (has_safe h s.rest) found (put_by (pointwise nat_eq) found s.now) (λ cs. IsIn c cs → IsIn c found ⊎ IsEnd h s c)
-    (λ _ among. inl among)
-    (λ none among. elim (of_put (pointwise nat_eq) c s.now found among) [
-      | inl old ↦ inl old
-      | inr is ↦ inr (record { none = none; is = is })
-    ])
+put_end h s found c = grind (arith, of_put)
 
 of_at : (h : History) (ways : List Way) (found : List (List ℕ)) (c : List ℕ)
     → IsIn c (found_at h ways found) → IsIn c found ⊎ ((s : Way) × IsIn s ways × IsEnd h s c)
 of_at h [] found c among = inl among
 of_at h (s ∷ more) found c among =
-    elim (of_at h more (cond (has_safe h s.rest) found (put_by (pointwise nat_eq) found s.now)) c among) [
-      | inl early ↦ elim (put_end h s found c early) [
-        | inl old ↦ inl old
-        | inr is ↦ inr (s, inl refl, is)
-      ]
-      | inr later ↦ inr (later.0, inr later.1, later.2)
-    ]
+    grind (arith, (of_at h more (cond (has_safe h s.rest) found (put_by (pointwise nat_eq) found s.now)) c among), put_end)
 
 at_once : (h : History) (ways : List Way) (found : List (List ℕ)) → IsEachOnce found
     → IsEachOnce (found_at h ways found)
@@ -189,16 +139,13 @@ at_once h (s ∷ more) found once =
 
 filter_short : (p : Write → Bool) (ws : List Write) → length (filter p ws) ≤ length ws
 filter_short p [] = omega arith
-filter_short p (w ∷ ws) =
-    cond_both (p w) (w ∷ filter p ws) (filter p ws) (λ vs. length vs ≤ suc (length ws)) (λ _. omega (arith, filter_short p ws)) (λ _. omega (arith, filter_short p ws))
+filter_short p (w ∷ ws) = grind (arith, (filter_short p ws))
 
 filter_shorter : (p : Write → Bool) (w : Write) (ws : List Write) → IsIn w ws → p w ≡ false
     → length (filter p ws) < length ws
 filter_shorter p w [] among out = absurd among
-filter_shorter p w (v ∷ ws) (inl same) out =
-    omega (arith, filter_short p ws, ap length (cond-false (p v) (v ∷ filter p ws) (filter p ws) (subst (λ x. p x ≡ false) same out)))
-filter_shorter p w (v ∷ ws) (inr later) out =
-    cond_both (p v) (v ∷ filter p ws) (filter p ws) (λ vs. length vs < suc (length ws)) (λ _. omega (arith, filter_shorter p w ws later out)) (λ _. omega (arith, filter_shorter p w ws later out))
+filter_shorter p w (v ∷ ws) (inl same) out = grind (arith, filter_short)
+filter_shorter p w (v ∷ ws) (inr later) out = grind (arith, (filter_shorter p w ws later out))
 
 pub record IsShort (h : History) (n : ℕ) (s : Way) : Type 0 where
   pub apart : AreApart h s.rest
@@ -207,13 +154,7 @@ pub record IsShort (h : History) (n : ℕ) (s : Way) : Type 0 where
 next_short : (h : History) (k n : ℕ) (ways : List Way)
     → ((s : Way) → IsIn s ways → IsShort h (suc n) s) → (t : Way)
     → IsIn t (next_ways h k ways []) → IsShort h n t
-next_short h k n ways all t among = elim (of_next h k ways [] t among) [
-  | inl none ↦ absurd none
-  | inr comes ↦
-      let was = all comes.from comes.among in
-      let fewer : length (without comes.by.number comes.from.rest) < length comes.from.rest = filter_shorter (lacks comes.by.number) comes.by comes.from.rest comes.step.among (ap not (eq-eqb comes.by.number comes.by.number refl)) in
-      subst (λ x. IsShort h n x) (sym comes.is) (record { apart = apart_filter h (lacks comes.by.number) comes.from.rest was.apart; short = omega (arith, was.short, fewer) })
-]
+next_short h k n ways all t among = grind (arith, of_next, filter_shorter, apart_filter)
 
 found_old : (n : ℕ) (h : History) (k : ℕ) (ways : List Way) (found : List (List ℕ)) (c : List ℕ)
     → IsIn c found → IsIn c (found_by n h k ways found)
@@ -257,8 +198,7 @@ found_once (suc n) h k ways found once =
 
 first_short : (h : History) (rest : List Write) (bytes : List ℕ) → AreApart h rest → (t : Way)
     → IsIn t (way rest bytes ∷ []) → IsShort h (suc (length rest)) t
-first_short h rest bytes apart t (inl same) =
-    subst (λ x. IsShort h (suc (length rest)) x) (sym same) (record { apart = apart; short = omega arith })
+first_short h rest bytes apart t (inl same) = grind arith
 first_short h rest bytes apart t (inr none) = absurd none
 
 pub of_contents : (h : History) (k : ℕ) (rest : List Write) (bytes c : List ℕ) → AreApart h rest

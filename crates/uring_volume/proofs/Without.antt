@@ -1,6 +1,6 @@
 -- A history without one of its writes tells the same of all others.
-use Rattle.std.proofs.Common.{◌≡◌, ◌==◌, ℕ, not, ◌&&◌, ◌||◌, [], ◌∷◌, ◌++◌, refl, sym, subst, ap, ◌∙◌, inl, inr, rules}
-use Rattle.uring_volume.proofs.Common.{Event, History, IsIn, IsLawful, SyncEnded, SyncFailed, SyncIssued, Write, WriteEnded, WriteIssued, cases_Bool, cond_both, eqb-false, eqb-true, filter, has_ended, is_before, is_covered, is_given_up, is_reached, is_safe, ne_eqb, not-true, not_from_false, without_write, writes}
+use Rattle.std.proofs.Common.{◌≡◌, ◌==◌, ℕ, [], ◌∷◌, ◌++◌, refl, sym, ap, ◌∙◌, inl, inr, rules}
+use Rattle.uring_volume.proofs.Common.{Event, History, IsIn, IsLawful, SyncEnded, SyncFailed, SyncIssued, Write, WriteEnded, WriteIssued, cases_Bool, eqb-true, filter, has_ended, is_before, is_covered, is_given_up, is_reached, is_safe, ne_eqb, not-true, without_write, writes}
 use Rattle.uring_volume.proofs.Units.{in_filter, of_filter}
 use Rattle.uring_volume.proofs.Fitting.{lacks}
 
@@ -14,34 +14,15 @@ pub record SameBut (n : ℕ) (g h : History) : Type 0 where
   pub safe : (x : Write) → (x.number ≡ n → ⊥) → is_safe h x ≡ is_safe g x
 
 same_cons : (n : ℕ) (e : Event) (g h : History) → SameBut n g h → SameBut n (e ∷ g) (e ∷ h)
-same_cons n (WriteIssued w) g h same =
-    let before : (a b : ℕ) → (a ≡ n → ⊥) → (b ≡ n → ⊥) → is_before (WriteIssued w ∷ h) a b ≡ is_before (WriteIssued w ∷ g) a b = λ a b na nb. cc (same.ended a na, same.before a b na nb) in
-    assumption
-same_cons n (WriteEnded k) g h same =
-    let ended : (m : ℕ) → (m ≡ n → ⊥) → has_ended (WriteEnded k ∷ h) m ≡ has_ended (WriteEnded k ∷ g) m = λ m nm. cc (same.ended m nm) in
-    assumption
-same_cons n (SyncIssued t range) g h same =
-    let covered : (s : ℕ) (x : Write) → (x.number ≡ n → ⊥) → is_covered (SyncIssued t range ∷ h) s x ≡ is_covered (SyncIssued t range ∷ g) s x = λ s x nx. cc (same.ended x.number nx, same.covered s x nx) in
-    let reached : (s : ℕ) (x : Write) → (x.number ≡ n → ⊥) → is_reached (SyncIssued t range ∷ h) s x ≡ is_reached (SyncIssued t range ∷ g) s x = λ s x nx. cc (same.ended x.number nx, same.reached s x nx) in
-    assumption
-same_cons n (SyncEnded s) g h same =
-    let safe : (x : Write) → (x.number ≡ n → ⊥) → is_safe (SyncEnded s ∷ h) x ≡ is_safe (SyncEnded s ∷ g) x = λ x nx. cc (same.covered s x nx, same.given_up x nx, same.safe x nx) in
-    assumption
-same_cons n (SyncFailed s) g h same =
-    let given_up : (x : Write) → (x.number ≡ n → ⊥) → is_given_up (SyncFailed s ∷ h) x ≡ is_given_up (SyncFailed s ∷ g) x = λ x nx. cc (same.reached s x nx, same.given_up x nx) in
-    assumption
+same_cons n e g h same = search rules
 
 -- the write's own events say nothing of others
 skip_issue : (n : ℕ) (w : Write) (g h : History) → (w.number ≡ n) → SameBut n g h
     → SameBut n (WriteIssued w ∷ g) h
-skip_issue n w g h is same =
-    let before : (a b : ℕ) → (a ≡ n → ⊥) → (b ≡ n → ⊥) → is_before h a b ≡ is_before (WriteIssued w ∷ g) a b = λ a b na nb. same.before a b na nb ∙ sym (ap (λ x. x && has_ended g a || is_before g a b) (ne_eqb w.number b (λ e. nb (sym e ∙ is)))) in
-    assumption
+skip_issue n w g h is same = search rules
 
 skip_end : (n k : ℕ) (g h : History) → k ≡ n → SameBut n g h → SameBut n (WriteEnded k ∷ g) h
-skip_end n k g h is same =
-    let ended : (m : ℕ) → (m ≡ n → ⊥) → has_ended h m ≡ has_ended (WriteEnded k ∷ g) m = λ m nm. same.ended m nm ∙ sym (ap (λ x. x || has_ended g m) (ne_eqb k m (λ e. nm (sym e ∙ is)))) in
-    assumption
+skip_end n k g h is same = search rules
 
 same_nil : (n : ℕ) → SameBut n [] []
 same_nil n = search rules
@@ -68,10 +49,8 @@ same_later n (e ∷ later) h = same_cons n e (later ++ h) (later ++ without_writ
 
 pub writes_without : (n : ℕ) (h : History) → writes (without_write n h) ≡ filter (lacks n) (writes h)
 writes_without n [] = refl
-writes_without n (WriteIssued w ∷ earlier) =
-    elim (cases_Bool (w.number == n)) [ inl is ↦ simp (is, writes_without n earlier) | inr out ↦ simp (out, writes_without n earlier) ]
-writes_without n (WriteEnded k ∷ earlier) =
-    cond_both (not (k == n)) (WriteEnded k ∷ without_write n earlier) (without_write n earlier) (λ g. writes g ≡ filter (lacks n) (writes earlier)) (λ _. writes_without n earlier) (λ _. writes_without n earlier)
+writes_without n (WriteIssued w ∷ earlier) = search (rules, (writes_without n earlier))
+writes_without n (WriteEnded k ∷ earlier) = search (rules, (writes_without n earlier))
 writes_without n (SyncIssued s range ∷ earlier) = writes_without n earlier
 writes_without n (SyncEnded s ∷ earlier) = writes_without n earlier
 writes_without n (SyncFailed s ∷ earlier) = writes_without n earlier
@@ -91,12 +70,7 @@ in_later (SyncEnded k ∷ later) h w among = in_later later h w among
 in_later (SyncFailed k ∷ later) h w among = in_later later h w among
 
 but_without : (n : ℕ) (h : History) → WritesBut n h (without_write n h)
-but_without n h = record {
-  of = λ x among.
-      let parts = of_filter (lacks n) x (writes h) (subst (λ ws. IsIn x ws) (writes_without n h) among) in
-      (parts.0, eqb-false x.number n (not-true (x.number == n) parts.1));
-  into = λ x among other. subst (λ ws. IsIn x ws) (sym (writes_without n h)) (in_filter (lacks n) x (writes h) among (not_from_false (x.number == n) (ne_eqb x.number n other)));
-}
+but_without n h = search (rules, of_filter, writes_without, not-true, in_filter, ne_eqb)
 
 pub but_later : (later h : History) (w : Write) → IsLawful (later ++ h) → IsIn w (writes h)
     → WritesBut w.number (later ++ h) (later ++ without_write w.number h)
