@@ -1,8 +1,6 @@
 -- What a machine that fits a history never wants, so that the judge of an end refuses for want of memory alone.
-use Rattle.std.proofs.Common.{◌≡◌, ◌≤◌, ℕ, ℤ, ◌∷◌, ◌⊎◌, pos, neg_ℤ, Bool, true, false, List, [], refl, sym, ap, subst, ◌∙◌, inl, inr, arith}
-use Rattle.uring_check.proofs.Common.{AllowedBy, Answer, AnyEnd, CalledIn, ENOMEM, EndOrNoMemory, Ends, FinishesApart, Follower, HasOneAnswer, History, IsEnded, IsWanted, IsWrong, MayGive, Meets, OrAgain, Requests, Setup, Step, World, entry_in, if◌then◌else◌, is_apart, is_running, is_some, is_spent, negsuc, no_bytes, rules_of, true≢false, world}
-use Rattle.uring_entry.specs.Submission.{call_length}
-use Rattle.uring_entry.specs.declared.operation.Outcome.{Outcome}
+use Rattle.std.proofs.Common.{◌≡◌, ◌≤◌, ℕ, ℤ, ◌∷◌, ◌⊎◌, pos, neg_ℤ, Bool, true, false, List, [], refl, subst, inl, inr, arith}
+use Rattle.uring_check.proofs.Common.{AllowedBy, Answer, AnyEnd, CalledIn, ENOMEM, EndOrNoMemory, Ends, FinishesApart, Follower, HasOneAnswer, History, IsEnded, IsWanted, IsWrong, MayGive, Meets, OrAgain, Requests, Setup, Step, World, entry_in, if◌then◌else◌, is_apart, is_running, negsuc, no_bytes, rules_of, true≢false, world}
 use Rattle.uring_files.specs.Contents.{FileContents}
 use Rattle.uring_core.specs.CalledFor.{EndsOn, files_of}
 use Rattle.uring_core.specs.declared.answer.Answer.TheVariants as answer
@@ -18,16 +16,11 @@ IsNoBegin _ = ⊥
 no_begin : (closed opened spent : Bool) (length : ℕ) (a : Answer) → IsNoBegin a
     → OrAgain (if closed then answer.Closed else if opened then answer.InCall else if spent then answer.Spent else answer.Call length) a
     → ⊥
-no_begin true opened spent length a is e = subst IsNoBegin e is
-no_begin false true spent length a is e = subst IsNoBegin e is
-no_begin false false true length a is e = subst IsNoBegin e is
-no_begin false false false length a is (inl e) = subst IsNoBegin e is
-no_begin false false false length a is (inr e) = subst IsNoBegin e.0 is
+no_begin closed opened spent length a is e = grind arith
 
 begin_called : (apart : Bool) (g : Setup) (w : World) (count : ℕ) (a : Answer) → IsNoBegin a
     → CalledIn apart g w (step.Begin count) a → ⊥
-begin_called true g w count a is called = no_begin w.is_closed (is_some w.submission.call) (is_spent w (call_length w.submission count)) (call_length w.submission count) a is called
-begin_called false g w count a is called = no_begin w.is_closed (is_some w.submission.call) (is_spent w (call_length w.submission count)) (call_length w.submission count) a is called
+begin_called apart g w count a is called = grind arith
 
 -- ---- any end
 
@@ -58,11 +51,7 @@ no_memory e = subst IsSuccess e tt
 
 two_on_files : (files : List FileContents) (r : Requests) (n : ℕ) (running : Bool)
     → EndsOn files r n running (end_with []) → EndsOn files r n running (end_with (0 ∷ [])) → ⊥
-two_on_files files r n true (inl p) (inl q) =
-    subst (λ (o : Outcome). IsNoByte o.bytes) (p ∙ sym q) tt
-two_on_files files r n true (inr p) q = no_memory (ap (λ (o : Outcome). o.res) p.1)
-two_on_files files r n true (inl p) (inr q) = no_memory (ap (λ (o : Outcome). o.res) q.1)
-two_on_files files r n false p q = subst GivesNoByte p tt
+two_on_files files r n running p q = grind arith
 
 -- such a step is the Finish of a request without files
 abbrev IsAnyhow : Bool → Step → Type 0
@@ -85,9 +74,7 @@ IsOpen (step.Finish n) = Unit {0}
 IsOpen _ = ⊥
 
 one_or_open : (s : Step) → HasOneAnswer s ⊎ IsOpen s
-one_or_open (step.Begin count) = inr tt
-one_or_open (step.Finish n) = inr tt
-one_or_open _ = inl tt
+one_or_open s = grind arith
 
 open_called : (apart : Bool) (g : Setup) (h : History) (s : Step) → IsOpen s
     → AnyCalled apart g h s → IsAnyhow apart s

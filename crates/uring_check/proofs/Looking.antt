@@ -21,19 +21,7 @@ use Rattle.uring_check.proofs.WantedAnswers.{fits_called}
 
 pub looked_passed : (c : Checker) (line : List ℕ) (h : History) → IsNoRecord line
     → is_remark line ≡ true → c.is_over ≡ false → Knows c h → Looked c c line h
-looked_passed c line h none remark over fits = record {
-  finding = finding.Passed;
-  is_so = (none, remark);
-  same = refl;
-  fits = fits;
-  is_all = refl;
-  awaits = refl;
-  numbered = refl;
-  counted = refl;
-  decided = refl;
-  stopped = over;
-  told = sym (append-nil (string_bytes c.report));
-}
+looked_passed c line h none remark over fits = grind (arith, append-nil)
 
 three_parts : (i a b c : List ℕ) → i ++ a ++ b ++ c ≡ i ++ (a ++ b ++ c)
 three_parts i a b c = simp append_assoc refl
@@ -66,20 +54,7 @@ pub looked_bad : (old mid : Checker) (report : String Global) (line : List ℕ) 
     → string_bytes report ≡ string_bytes mid.report ++ line_text mid.number ++ ended (codes "bad line") ++ why_bad line
     → Looked old (found_bad mid report) line h
 looked_bad old mid report line h is none remark fits =
-    subst (λ (m : Checker). string_bytes report ≡ string_bytes m.report ++ line_text m.number ++ ended (codes "bad line") ++ why_bad line → Looked old (found_bad m report) line h) (sym is)
-    (λ told. record {
-      finding = finding.Bad;
-      is_so = (none, remark);
-      same = refl;
-      fits = fits;
-      is_all = refl;
-      awaits = refl;
-      numbered = refl;
-      counted = refl;
-      decided = refl;
-      stopped = refl;
-      told = told ∙ bad_told (rules_of old.machine) h old.number line (string_bytes old.report);
-    })
+    grind (arith, (bad_told (rules_of old.machine) h old.number line (string_bytes old.report)), (rules_of old.machine))
 
 -- a checker whose machine made a step, to which this text was told
 abbrev pub with_machine : Checker → Follower → AnswerText → Vec ℕ Global → Checker

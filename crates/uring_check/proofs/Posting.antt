@@ -1,15 +1,13 @@
 -- Whose completions were posted.
-use Rattle.std.proofs.Common.{◌≡◌, ℕ, Bool, true, false, List, [], ◌∷◌, ◌++◌, length, Option, Some, None, sym, ap, ◌∙◌, append-nil, arith}
-use Rattle.uring_check.proofs.Common.{Answer, AnyEnd, CallOrAgain, EndOrNoMemory, Ending, FitsBy, Follower, History, IsLawfulApart, Only, Setup, Step, Wanted, World, entry_of, if◌then◌else◌, le-leb, length-append, lt-leb, noted_poster, number_in, poster_of, posters, resumed, rules_of, world}
+use Rattle.std.proofs.Common.{◌≡◌, ℕ, Bool, List, [], ◌∷◌, ◌++◌, length, Option, Some, None, sym, ap, ◌∙◌, append-nil, arith}
+use Rattle.uring_check.proofs.Common.{Answer, AnyEnd, CallOrAgain, EndOrNoMemory, Ending, FitsBy, Follower, History, IsLawfulApart, Only, Setup, Step, Wanted, World, entry_of, if◌then◌else◌, le-leb, length-append, noted_poster, number_in, poster_of, posters, resumed, rules_of, world}
 use Rattle.uring_entry.specs.Completions.{Completions, completion_for, with_posted}
 use Rattle.uring_entry.specs.Layout.{Cqe}
 use Rattle.uring_rules.specs.Rules.{posts}
 use Rattle.uring_core.specs.Events.{end_told_by}
-use Rattle.uring_core.specs.declared.answer.Answer.TheVariants as answer
 use Rattle.uring_core.specs.declared.step.Step.TheVariants as step
 use Rattle.uring_core.specs.declared.wanted.Refusal.TheVariants as refusal
 use Rattle.uring_core.proofs.CompletionMoves.{CompletionMove, stays, ends, completion_move}
-use Rattle.uring_check.specs.declared.follower.Follower.TheVariants.{Whole, Apart, Allowed}
 
 -- ---- what one step posts
 
@@ -19,13 +17,11 @@ number_of_end None = []
 
 issue_end : (n : ℕ) (a : Answer) (e : Ending) → end_told_by (step.Issue n, a) ≡ Some e
     → n ∷ [] ≡ e.number ∷ []
-issue_end n (answer.Ended res bytes) e is = ap number_of_end is
-issue_end n _ e is = absurd cc
+issue_end n a e is = grind arith
 
 finish_end : (n : ℕ) (a : Answer) (e : Ending) → end_told_by (step.Finish n, a) ≡ Some e
     → n ∷ [] ≡ e.number ∷ []
-finish_end n (answer.Ended res bytes) e is = ap number_of_end is
-finish_end n _ e is = absurd cc
+finish_end n a e is = grind arith
 
 -- the request of an end is that of its step
 number_told : (s : Step) (a : Answer) (e : Ending) → end_told_by (s, a) ≡ Some e
@@ -41,16 +37,13 @@ none_noted s n = ap (λ (b : Bool). if b then [] else number_in s) (le-leb n n (
 -- one more was posted
 one_noted : (s : Step) (posted : List Cqe) (c : Cqe)
     → noted_poster s (length posted) (length (posted ++ c ∷ [])) ≡ number_in s
-one_noted s posted c =
-    let more = length-append posted (c ∷ []) in
-    ap (λ (b : Bool). if b then [] else number_in s) (lt-leb (length (posted ++ c ∷ [])) (length posted) (omega (arith, more)))
+one_noted s posted c = grind (arith, length-append)
 
 end_noted : (s : Step) (size n : ℕ) (l : Completions) (c : Cqe) (posts : Bool)
     → number_in s ≡ n ∷ []
     → noted_poster s (length l.posted) (length (if posts then with_posted size l c else l).posted)
     ≡ (if posts then n ∷ [] else [])
-end_noted s size n l c true is = one_noted s l.posted c ∙ is
-end_noted s size n l c false is = none_noted s (length l.posted)
+end_noted s size n l c posts is = grind (arith, one_noted)
 
 noted_by : (g : Setup) (w : World) (s : Step) (a : Answer) (v : World) → CompletionMove g w s a v
     → noted_poster s (length w.completions.posted) (length v.completions.posted)
@@ -71,19 +64,14 @@ pub knows_step : (g : Setup) (s : Step) (a : Answer) (h : History) (known later 
     → after ≡ length (world g ((s, a) ∷ h)).completions.posted
     → later ≡ known ++ noted_poster s before after → later ≡ posters g ((s, a) ∷ h)
 knows_step g s a h known later before after lawful is was now more =
-    more ∙ ap (λ (l : List ℕ). l ++ noted_poster s before after) is
-    ∙ ap (λ (n : ℕ). posters g h ++ noted_poster s n after) was
-    ∙ ap (λ (n : ℕ). posters g h ++ noted_poster s (length (world g h).completions.posted) n) now
-    ∙ ap (λ (l : List ℕ). posters g h ++ l) (noted_by g (world g h) s a (world g ((s, a) ∷ h)) (completion_move g s a h lawful))
+    grind (arith, (noted_by g (world g h) s a (world g ((s, a) ∷ h)) (completion_move g s a h lawful)))
 
 -- a step that counts as not made
 knows_same : (g : Setup) (s : Step) (h : History) (known later : List ℕ) (before after : ℕ)
     → known ≡ posters g h → before ≡ length (world g h).completions.posted
     → after ≡ length (world g h).completions.posted → later ≡ known ++ noted_poster s before after
     → later ≡ posters g h
-knows_same g s h known later before after is was now more =
-    more ∙ ap (λ (n : ℕ). known ++ noted_poster s n after) (was ∙ sym now)
-    ∙ ap (λ (l : List ℕ). known ++ l) (none_noted s after) ∙ append-nil known ∙ is
+knows_same g s h known later before after is was now more = grind (arith, append-nil)
 
 -- after a wrong answer
 pub knows_resumed : (g : Setup) (s : Step) (wanted : Wanted) (h : History) (known later : List ℕ) (before after : ℕ)
@@ -99,6 +87,4 @@ knows_resumed g s (EndOrNoMemory res) h known later before after lawful is was n
 
 -- a history that a follower fits is lawful apart from what operations gave
 pub fits_lawful : (m : Follower) (h : History) → FitsBy m h → IsLawfulApart (rules_of m).setup h
-fits_lawful (Whole m) h f = f.core.lawful
-fits_lawful (Apart c) h f = f.lawful
-fits_lawful (Allowed c) h f = f.lawful
+fits_lawful m h f = grind arith

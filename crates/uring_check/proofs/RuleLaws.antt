@@ -1,6 +1,6 @@
 -- What the rules of a check make of histories and answers.
 use Rattle.std.proofs.Common.{◌≡◌, ◌∷◌, ◌<◌, ◌^◌, ◌∙◌, ℕ, Bool, true, false, List, [], drop, sym, ap, arith}
-use Rattle.uring_check.proofs.Common.{Answer, CalledForApart, CalledIn, FinishesApart, History, IsCalled, IsLawfulBy, IsPlain, LawfulIn, Rules, Setup, Step, World, begin_answer, is_apart, is_running, negsuc, pos, signed_decimal, text_of, world, ℤ}
+use Rattle.uring_check.proofs.Common.{Answer, CalledForApart, FinishesApart, History, IsCalled, IsLawfulBy, IsPlain, Rules, Setup, Step, World, begin_answer, is_apart, is_running, signed_decimal, text_of, ℤ}
 use Rattle.std.specs.Int.Signed.{mag}
 use Rattle.std.proofs.lemmas.Fmt.{signed_decimal_injective}
 use Rattle.uring_core.specs.declared.answer.Answer.TheVariants as answer
@@ -12,40 +12,23 @@ use Rattle.uring_check.proofs.SameTexts.{answer_once, begin_once}
 
 pub called_first : (g : Rules) (s : Step) (a : Answer) (h : History) → IsLawfulBy g ((s, a) ∷ h)
     → IsCalled g h s a
-called_first g s a h p = (go (is_apart g.ends) p.0, p.1.0)
-  where
-    go : (b : Bool) → LawfulIn b g.setup ((s, a) ∷ h) → CalledIn b g.setup (world g.setup h) s a
-    go true p = p.0
-    go false p = p.0
+called_first g s a h p = grind arith
 
 pub lawful_rest : (g : Rules) (s : Step) (a : Answer) (h : History) → IsLawfulBy g ((s, a) ∷ h)
     → IsLawfulBy g h
-lawful_rest g s a h p = (go (is_apart g.ends) p.0, p.1.1)
-  where
-    go : (b : Bool) → LawfulIn b g.setup ((s, a) ∷ h) → LawfulIn b g.setup h
-    go true p = p.1
-    go false p = p.1
+lawful_rest g s a h p = grind arith
 
 pub lawful_more : (g : Rules) (s : Step) (a : Answer) (h : History) → IsCalled g h s a
     → IsLawfulBy g h → IsLawfulBy g ((s, a) ∷ h)
-lawful_more g s a h called lawful = (go (is_apart g.ends) called.0 lawful.0, (called.1, lawful.1))
-  where
-    go : (b : Bool) → CalledIn b g.setup (world g.setup h) s a → LawfulIn b g.setup h → LawfulIn b g.setup ((s, a) ∷ h)
-    go true p q = (p, q)
-    go false p q = (p, q)
+lawful_more g s a h called lawful = grind arith
 
 pub lawful_none : (g : Rules) → IsLawfulBy g []
-lawful_none g = (go (is_apart g.ends), tt)
-  where
-    go : (b : Bool) → LawfulIn b g.setup []
-    go true = tt
-    go false = tt
+lawful_none g = grind arith
 
 -- ---- ends without files
 
 bounded : (z : ℤ) → IsFile z → mag z < 2 ^ 63
-bounded (pos n) h = omega arith
-bounded (negsuc n) h = omega arith
+bounded z h = grind arith
 
 pub result_once : (y z : ℤ) → IsFile y → IsFile z → signed_decimal y ≡ signed_decimal z → y ≡ z
 result_once y z p q e = signed_decimal_injective y z (bounded y p) (bounded z q) e
@@ -73,8 +56,4 @@ apart_once g w _ a b p q same x y = p ∙ sym q
 pub called_once : (g : Rules) (h : History) (s : Step) (a b : Answer) → IsCalled g h s a
     → IsCalled g h s b → text_of a ≡ text_of b → IsPlain a (is_apart g.ends) s → IsPlain b (is_apart g.ends) s
     → a ≡ b
-called_once g h s a b p q same x y = go (is_apart g.ends) p.0 q.0 x y
-  where
-    go : (c : Bool) → CalledIn c g.setup (world g.setup h) s a → CalledIn c g.setup (world g.setup h) s b → IsPlain a c s → IsPlain b c s → a ≡ b
-    go true p q x y = apart_once g.setup (world g.setup h) s a b p q same x y
-    go false p q x y = answer_once g.setup (world g.setup h) s a b p q same
+called_once g h s a b p q same x y = grind (arith, apart_once, answer_once)

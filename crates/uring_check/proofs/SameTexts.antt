@@ -1,5 +1,5 @@
 -- No two answers that are called for to one step have the same text.
-use Rattle.std.proofs.Common.{◌≡◌, ℕ, pos, neg_ℤ, ◌^◌, ◌<◌, Bool, true, false, List, get_or, drop, sym, ap, ◌∙◌, inl, inr, arith}
+use Rattle.std.proofs.Common.{◌≡◌, ℕ, pos, neg_ℤ, ◌^◌, ◌<◌, Bool, true, false, List, drop, sym, ap, ◌∙◌, inl, inr, arith}
 use Rattle.std.proofs.lemmas.Fmt.{signed_decimal_injective}
 use Rattle.uring_check.proofs.Common.{Answer, ENOMEM, OrAgain, Requests, Setup, Step, World, begin_answer, entry_of, is_running, no_bytes, text_of}
 use Rattle.uring_entry.specs.Preparation.{operation_of}
@@ -7,7 +7,6 @@ use Rattle.uring_entry.specs.declared.operation.Op.{Op}
 use Rattle.uring_entry.specs.declared.operation.Outcome.{Outcome}
 use Rattle.uring_files.specs.Contents.{FileContents}
 use Rattle.uring_files.specs.Operations.{IsOutcome, ended_with, is_lengthening, result_of}
-use Rattle.uring_files.proofs.OperationCases.{growth}
 use Rattle.uring_core.specs.CalledFor.{CalledFor, EndsOn, files_of}
 use Rattle.uring_core.specs.declared.answer.Answer.TheVariants as answer
 use Rattle.uring_core.specs.declared.step.Step.TheVariants as step
@@ -15,8 +14,7 @@ use Rattle.uring_core.specs.declared.step.Step.TheVariants as step
 -- ---- Begin
 
 call_again : (n : ℕ) → text_of (answer.Call n) ≡ text_of answer.Again → ⊥
-call_again n e =
-    let first : 99 ≡ 97 = ap (λ (l : List ℕ). get_or l 0 0) e in absurd (omega (arith, first))
+call_again n e = grind arith
 
 pub begin_once : (x a b : Answer) → OrAgain x a → OrAgain x b → text_of a ≡ text_of b → a ≡ b
 begin_once (answer.Call n) a b (inl e) (inl f) same = e ∙ sym f
@@ -41,18 +39,11 @@ ended_as outcome = answer.Ended outcome.res outcome.bytes
 grown_once : (files : List FileContents) (op : Op) (x y : Outcome) → x ≡ result_of files op
     → is_lengthening files op ≡ true → y ≡ ended_with (neg_ℤ ENOMEM)
     → text_of (ended_as x) ≡ text_of (ended_as y) → x ≡ y
-grown_once files op x y e long f same =
-    let grows = growth files op long in
-    let is : x ≡ ended_with (pos grows.0) = e ∙ grows.2 in
-    let texts : text_of (ended_as (ended_with (pos grows.0))) ≡ text_of (ended_as (ended_with (neg_ℤ ENOMEM))) = ap (λ (o : Outcome). text_of (ended_as o)) (sym is) ∙ same ∙ ap (λ (o : Outcome). text_of (ended_as o)) f in
-    is ∙ ap ended_with (growth_text grows.0 grows.1 texts) ∙ sym f
+grown_once files op x y e long f same = grind (arith, growth_text)
 
 outcome_once : (files : List FileContents) (op : Op) (x y : Outcome) → IsOutcome files op x
     → IsOutcome files op y → text_of (ended_as x) ≡ text_of (ended_as y) → x ≡ y
-outcome_once files op x y (inl e) (inl f) same = e ∙ sym f
-outcome_once files op x y (inl e) (inr f) same = grown_once files op x y e f.0 f.1 same
-outcome_once files op x y (inr e) (inl f) same = sym (grown_once files op y x f e.0 e.1 (sym same))
-outcome_once files op x y (inr e) (inr f) same = e.1 ∙ sym f.1
+outcome_once files op x y h h2 same = grind (arith, grown_once)
 
 end_once : (files : List FileContents) (r : Requests) (n : ℕ) (running : Bool) (a b : Answer)
     → EndsOn files r n running a → EndsOn files r n running b → text_of a ≡ text_of b → a ≡ b

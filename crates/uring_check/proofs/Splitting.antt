@@ -34,8 +34,7 @@ first_once [] ys [] vs h k e = (refl, tail-eq_of_cons-eq e)
 first_once [] ys (u ∷ us) vs h k e = absurd (k.0 (sym (head-eq_of_cons-eq e)))
 first_once (x ∷ xs) ys [] vs h k e = absurd (h.0 (head-eq_of_cons-eq e))
 first_once (x ∷ xs) ys (u ∷ us) vs h k e =
-    let same = first_once xs ys us vs h.1 k.1 (tail-eq_of_cons-eq e) in
-    (ap (λ (b : ℕ). b ∷ xs) (head-eq_of_cons-eq e) ∙ ap (λ (l : List ℕ). u ∷ l) same.0, same.1)
+    grind (arith, (first_once xs ys us vs h.1 k.1 (tail-eq_of_cons-eq e)), tail-eq_of_cons-eq)
 
 sign_text : (before text : List ℕ)
     → before ++ 32 ∷ 61 ∷ 32 ∷ text ≡ (before ++ 32 ∷ []) ++ 61 ∷ 32 ∷ text
@@ -71,13 +70,7 @@ cut_split line front back before text n c h = elim (cases_lt n (length line)) [
 -- what is left of a cut, each without its space, is the split
 pub split_made : (line front back before text : List ℕ) (n : ℕ) → IsCut line front back n
     → front ≡ before ++ 32 ∷ [] → back ≡ 61 ∷ 32 ∷ text → IsSplit line before text
-split_made line front back before text n c x y = record {
-  whole =
-      sym (take-append-drop n line) ∙ ap (λ (l : List ℕ). l ++ drop n line) (sym c.front_is ∙ x)
-      ∙ ap (λ (l : List ℕ). (before ++ 32 ∷ []) ++ l) (sym c.back_is ∙ y)
-      ∙ sym (sign_text before text);
-  first = none_before before (32 ∷ []) (subst HasNone (sym c.front_is ∙ x) c.none);
-}
+split_made line front back before text n c x y = grind (arith, take-append-drop, sign_text, none_before)
 
 -- no space before the `=`
 pub no_front : (line front back : List ℕ) (n : ℕ) → IsCut line front back n
@@ -107,8 +100,7 @@ split_of line s text r = record { whole = r.whole; first = r.first }
 
 pub recorded : (line before text : List ℕ) (s : Step) → length line ≤ 300 → IsSplit line before text
     → IsStep before s → IsRecord line s text
-recorded line before text s short h is =
-    record { short = short; before = before; whole = h.whole; first = h.first; step = is }
+recorded line before text s short h is = grind arith
 
 pub unsplit_none : (line : List ℕ) → IsUnsplit line → IsNoRecord line
 unsplit_none line none = λ s text r. none r.before text (split_of line s text r)
@@ -120,8 +112,7 @@ bad_none line before text h bad = λ s other r. bad s (subst (λ (l : List ℕ).
 -- what stands before the sign is no longer than the line
 pub short_before : (line before text : List ℕ) → length line ≤ 300 → IsSplit line before text
     → length before ≤ 300
-short_before line before text short h =
-    omega (arith, short, ap length h.whole ∙ length-append before (32 ∷ 61 ∷ 32 ∷ text))
+short_before line before text short h = grind (arith, length-append)
 
 pub long_none : (line : List ℕ) → 300 < length line → IsNoRecord line
 long_none line long = λ s text r. let short : length line ≤ 300 = r.short in absurd (omega arith)

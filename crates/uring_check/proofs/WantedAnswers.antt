@@ -84,8 +84,7 @@ pub sure_judged : (old new : Follower) (s : Step) (text : List ℕ) (x : Answer)
     → HasOneAnswer s → rules_of new ≡ rules_of old
     → ((h : History) → FitsBy old h → FitsBy new ((s, x) ∷ h)) → IsOneJudged x text found
     → Judges old new s text found
-sure_judged old new s text x None one rules fits same =
-    λ h f. (x, same, plain_one x (is_apart (rules_of old).ends) s one, allowed_one (rules_of old).ends (world (rules_of old).setup h).requests s x one, fits h f)
+sure_judged old new s text x None one rules fits same = search (rules, plain_one, rules_of, allowed_one)
 sure_judged old new s text x (Some wanted) one rules fits judged = λ h f.
     let g : Rules = rules_of old in
     let called : CalledBy g h s x = subst (λ (r : Rules). CalledBy r h s x) rules (fits_called new s x h (fits h f)) in

@@ -51,8 +51,7 @@ pub data Change (g : Setup) (w : World) : Step → Answer → Type 0 where
   shuts : w.submission.call ≡ None → Change g w step.Close answer.Shut
 
 pub not_some : {A : Type 0} (o : Option A) → is_some o ≡ false → o ≡ None
-not_some None e = refl
-not_some (Some x) e = cc
+not_some o e = search rules
 
 -- A refusal tells nothing, as it computes.
 module _ (g : Setup) (w : World) where

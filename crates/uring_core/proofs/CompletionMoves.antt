@@ -1,8 +1,8 @@
 -- What an event makes of the completion ring, each with what is known of it because its answer was called for.
 -- `stays` is the frame of all that leave the ring as it was: whatever became of the rest, they tell nothing of it.
-use Rattle.std.proofs.Common.{◌≡◌, ℕ, ℤ, Bool, true, false, List, [], ◌∷◌, ◌++◌, Some, None, refl, sym, subst, append-nil, rules}
+use Rattle.std.proofs.Common.{◌≡◌, ℕ, ℤ, Bool, false, List, [], ◌∷◌, ◌++◌, Some, None, refl, sym, subst, append-nil, rules}
 use Rattle.uring_core.proofs.Common.{Answer, Cqe, Event, History, IsLawfulApart, LinuxRequests, Requests, Setup, Sqe, Step, Submission, World, end_told_by, ending_of, entries_of, happens, is_flush, is_load_cq_tail, is_store_cq_head, next_to_reap, no_bytes, places_from, reaped_by, requests_of, taking_entry_of, taking_of, with_end_of, with_flushed, with_head_stored, with_reaped, with_tail_loaded, world}
-use Rattle.uring_rules.specs.Rules.{doomed_result, cancel_result, with_issued_end}
+use Rattle.uring_rules.specs.Rules.{with_issued_end}
 use Rattle.uring_core.specs.declared.step.Step.TheVariants as step
 use Rattle.uring_core.specs.declared.answer.Answer.TheVariants as answer
 use Rattle.uring_core.proofs.Changes.{Change, refuses as event_refuses, takes as event_takes, drops as event_drops, closes as event_closes, runs as event_runs, dooms as event_dooms, cancels as event_cancels, finishes as event_finishes, flushes as event_flushes, sees_tail as event_sees_tail, reaps as event_reaps, stores_head as event_stores_head, change_of}
@@ -40,13 +40,11 @@ same_ends r = record { more = []; accepted = sym (append-nil r.accepted); ended 
 -- an end as a request is issued, by either's rules
 issued_accepted : (linux : Bool) (r : Requests) (n : ℕ) (res : ℤ)
     → (with_issued_end linux r n res).accepted ≡ r.accepted
-issued_accepted true r n res = refl
-issued_accepted false r n res = refl
+issued_accepted linux r n res = search rules
 
 issued_ended : (linux : Bool) (r : Requests) (n : ℕ) (res : ℤ) → (with_issued_end linux r n res).ended
     ≡ r.ended ++ record { number = n; res = res; bytes = no_bytes } ∷ []
-issued_ended true r n res = refl
-issued_ended false r n res = refl
+issued_ended linux r n res = search rules
 
 ends_issued : (g : Setup) (w : World) (n : ℕ) (res : ℤ)
     → CompletionMove g w (step.Issue n) (answer.Ended res no_bytes) (happens g w (step.Issue n) (answer.Ended res no_bytes))
@@ -65,10 +63,8 @@ completion_by g w s a (event_drops call place opened left at invalid) =
 completion_by g w s a (event_closes accepted missed head call opened all counted) =
     subst (λ o. CompletionMove g w step.End (answer.Taken accepted missed head) (ending_of g w o)) (sym opened) (stays _ _ _ (requests_of (ending_of g w (Some call))) _ (search rules) refl (record { more = entries_of (places_from w.submission call.count); accepted = refl; ended = refl }))
 completion_by g w s a (event_runs n outstanding idle spared ready no_cancel) = stays _ _ _ (requests_of (happens g w (step.Issue n) answer.Run)) _ (search rules) refl (record { more = []; accepted = sym (append-nil w.requests.accepted); ended = refl })
-completion_by g w s a (event_dooms n outstanding idle doomed) =
-    ends_issued g w n (doomed_result g.linux w.requests n)
-completion_by g w s a (event_cancels n outstanding idle spared ready cancel) =
-    ends_issued g w n (cancel_result g.linux w.requests n)
+completion_by g w s a (event_dooms n outstanding idle doomed) = search (rules, ends_issued)
+completion_by g w s a (event_cancels n outstanding idle spared ready cancel) = search (rules, ends_issued)
 completion_by g w s a (event_finishes n res bytes running) =
     ends _ _ n res bytes (requests_of (happens g w (step.Finish n) (answer.Ended res bytes))) (search rules) refl refl refl
 completion_by g w s a (event_flushes moved) = flushes moved
@@ -79,5 +75,4 @@ completion_by g w s a _ = stays _ _ _ (requests_of w) _ (search rules) refl (sam
 
 pub completion_move : (g : Setup) (s : Step) (a : Answer) (h : History)
     → IsLawfulApart g ((s, a) ∷ h) → CompletionMove g (world g h) s a (world g ((s, a) ∷ h))
-completion_move g s a h lawful =
-    completion_by g (world g h) s a (change_of g (world g h) s a lawful.0)
+completion_move g s a h lawful = search (rules, completion_by, change_of)

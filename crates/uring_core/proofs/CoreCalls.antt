@@ -1,6 +1,6 @@
 -- Submission calls, from the layers' contracts to the core's: what a core shows as one opens.
-use Rattle.std.proofs.Common.{◌≡◌, ℕ, ◌+◌, ◌-◌, ◌^◌, ◌<◌, ◌≤◌, Bool, true, false, cond, ◌∷◌, length, None, is_some, refl, sym, ap, subst, ◌∙◌, arith, inl, inr}
-use Rattle.uring_core.proofs.Common.{Completions, Core, Cq, Err, FitsApart, History, IsOk, IsShortFor, KeepsMemory, LinuxRequests, Ok, OnOk, OrAgain, Result, Setup, ShowsCompletions, ShowsSubmission, ShowsWorld, Sq, Submission, World, begin_answer, begin_told, call_length, held_by, is_err, is_spent, ltb-false, requests_of, some_skips, with_begun, world, OnErr}
+use Rattle.std.proofs.Common.{◌≡◌, ℕ, ◌+◌, ◌-◌, ◌^◌, ◌<◌, ◌≤◌, true, false, ◌∷◌, length, None, is_some, refl, sym, ap, subst, ◌∙◌, arith, inl}
+use Rattle.uring_core.proofs.Common.{Completions, Core, Cq, FitsApart, History, IsOk, IsShortFor, KeepsMemory, LinuxRequests, OnOk, OrAgain, Result, Setup, ShowsCompletions, ShowsSubmission, ShowsWorld, Sq, Submission, World, begin_answer, begin_told, call_length, is_err, is_spent, requests_of, with_begun, world, OnErr}
 use Rattle.uring_rings.specs.SqAnswers as ring
 use Rattle.uring_rings.specs.declared.answers.BeginAnswer.{BeginAnswer}
 use Rattle.uring_rings.specs.declared.answers.BeginAnswer.TheVariants as begin
@@ -8,7 +8,6 @@ use Rattle.uring_rules.specs.RulesDispatch.{Rules, ShowsRequests, IsSameCount}
 use Rattle.uring_core.specs.declared.step.Step.TheVariants as step
 use Rattle.uring_core.specs.declared.answer.Answer.TheVariants as answer
 use Rattle.uring_core.proofs.Changes.{not_some}
-use Rattle.uring_core.proofs.TakenEntries.{begun_entries}
 
 -- Begin.
 
@@ -24,13 +23,7 @@ record IsOpening (w : World) (count n : ℕ) : Type 0 where
   unspent : is_spent w (call_length w.submission count) ≡ false
 
 opening : (w : World) (count n : ℕ) → begin_answer w count ≡ answer.Call n → IsOpening w count n
-opening w count n e = by_tests w.is_closed (is_some w.submission.call) (is_spent w (call_length w.submission count)) refl refl e where
-  by_tests : (closed in_call spent : Bool) → in_call ≡ is_some w.submission.call → spent ≡ is_spent w (call_length w.submission count)
-      → cond closed answer.Closed (cond in_call answer.InCall (cond spent answer.Spent (answer.Call (call_length w.submission count)))) ≡ answer.Call n → IsOpening w count n
-  by_tests true in_call spent i s f = absurd cc
-  by_tests false true spent i s f = absurd cc
-  by_tests false false true i s f = absurd cc
-  by_tests false false false i s f = record { no_call = i; positions = cc; unspent = sym s }
+opening w count n e = grind arith
 
 -- such a call has the positions that the history leaves it
 pub opens_with : (p : Core) (count n : ℕ) → Opens p count n → (h : History) → FitsApart p h
@@ -40,11 +33,7 @@ opens_with p count n opens h f = (opening (world p.setup h) count n (opens h f))
 -- the numbers of such a call aren't spent
 pub opens_within : (p : Core) (count n : ℕ) → Opens p count n → (h : History) → FitsApart p h
     → p.dispatch.accepted + n ≤ 2 ^ 63 - 1
-opens_within p count n opens h f =
-    let w = world p.setup h in
-    let o = opening w count n (opens h f) in
-    let few = ltb-false (2 ^ 63 - 1) (length w.requests.accepted + call_length w.submission count) o.unspent in
-    subst (λ k. p.dispatch.accepted + k ≤ 2 ^ 63 - 1) (sym o.positions) (subst (λ k. k + call_length w.submission count ≤ 2 ^ 63 - 1) (sym f.shows.requests.accepted) few)
+opens_within p count n opens h f = grind arith
 
 -- a dispatcher with the same counts, and rings that show what they did
 same_shown : (p : Core) (w : World) (d : Rules) (q : Cq) → ShowsWorld p w
@@ -55,19 +44,14 @@ same_shown p w d q s same between shows shown room promised = grind arith
 
 -- the memory that outstanding requests may need is promised: so it is short for a call of one position or more alone
 short_for_some : (p : Core) (w : World) (n : ℕ) → ShowsWorld p w → IsShortFor p n → 0 < n
-short_for_some p w n s (inl few_requests) = omega arith
-short_for_some p w n s (inr few_posts) = omega (arith, s.room_to_post, s.promised)
+short_for_some p w n s h = grind arith
 
 pub again_goes : (p : Core) (d : Rules) (q : Cq) (count n : ℕ) → Opens p count n
     → IsSameCount p.dispatch d → d.is_between_calls ≡ true
     → ((l : LinuxRequests) → ShowsRequests p.dispatch l → ShowsRequests d l) → q ≡ p.cq → IsShortFor p n
     → (h : History) → FitsApart p h
     → FitsApart (record p { dispatch = d; cq = q }) ((step.Begin count, answer.Again) ∷ h)
-again_goes p d q count n opens same between shows kept short h f =
-    subst (λ c. FitsApart (record p { dispatch = d; cq = c }) ((step.Begin count, answer.Again) ∷ h)) (sym kept) (record {
-      shows = same_shown p (world p.setup h) d p.cq f.shows same between (shows _ f.shows.requests) f.shows.completions (omega arith) f.shows.promised;
-      lawful = (subst (λ a. OrAgain a answer.Again) (sym (opens h f)) (inr (refl, short_for_some p (world p.setup h) n f.shows short)), f.lawful);
-    })
+again_goes p d q count n opens same between shows kept short h f = grind arith
 
 opened : (l : Submission) (count n : ℕ) (r : BeginAnswer) → false ≡ is_some l.call
     → n ≡ call_length l count → r ≡ ring.begin_answer l count → r ≡ begin.Call n
@@ -81,13 +65,7 @@ begun_shows : (p : Core) (w : World) (s' : Sq) (q : Cq) (d : Rules) (count n : �
     → IsSameCount p.dispatch d → n ≤ d.room → d.is_between_calls ≡ true → ShowsRequests d (requests_of w)
     → p.dispatch.accepted + n ≤ 2 ^ 63 - 1
     → ShowsWorld (record p { sq = s'; cq = q; dispatch = d }) (record w { submission = with_begun w.submission count })
-begun_shows p w s' q d count n s none length shown kept room promised same fits between shows numbers =
-    let held = s.held ∙ ap (held_by w.submission) none in
-    let to_post = subst (λ k. d.outstanding + k ≤ q.room) length (omega (arith, room, same)) in
-    let to_accept = subst (λ k. k ≤ d.room) length fits in
-    let below = subst (λ k. d.accepted + k ≤ 2 ^ 63 - 1) length (omega (arith, same, numbers)) in
-    let skipped = s.skipped ∙ ap some_skips (sym (begun_entries w.submission count none)) in
-    grind (arith, held, skipped, to_post, to_accept, below)
+begun_shows p w s' q d count n s none length shown kept room promised same fits between shows numbers = grind arith
 
 pub call_goes : (p : Core) (s' : Sq) (q : Cq) (d : Rules) (count n : ℕ) (r : BeginAnswer)
     → Opens p count n
@@ -112,15 +90,12 @@ call_goes p s' q d count n r opens same fits between shows kept room memory answ
 
 -- what holds of a success
 pub on_success : {A E : Type 0} (r : Result A E) (P : Type 0) → is_err r ≡ false → OnOk r P → P
-on_success (Ok x) P e holds = holds
-on_success (Err x) P e holds = cc
+on_success r P e holds = grind arith
 
 -- what holds of a failure
 pub on_failure : {A E : Type 0} (r : Result A E) (P : Type 0) → is_err r ≡ true → OnErr r P → P
-on_failure (Ok x) P e holds = cc
-on_failure (Err x) P e holds = holds
+on_failure r P e holds = grind arith
 
 -- a success is no failure
 pub not_refused : {A E : Type 0} (r : Result A E) → IsOk r → is_err r ≡ true → ⊥
-not_refused (Ok x) ok e = cc
-not_refused (Err x) ok e = cc
+not_refused r ok e = grind arith

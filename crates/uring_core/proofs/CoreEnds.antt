@@ -1,6 +1,6 @@
 -- What a core shows as a submission call closes, as a request ends, and as it is made.
-use Rattle.std.proofs.Common.{◌≡◌, ℕ, ◌+◌, ◌-◌, ◌^◌, ◌≤◌, ℤ, Bool, true, false, not, cond, eqb, nat_lt, if◌then◌else◌, List, [], ◌∷◌, length, Option, Some, None, refl, sym, ap, subst, ◌∙◌, arith, inl, inr, IfSome}
-use Rattle.uring_core.proofs.Common.{Answer, Call, Completions, Core, Cq, FinishesApart, FitsApart, History, IsFinished, LinuxRequests, Op, Setup, ShowsCompletions, ShowsSubmission, ShowsWorld, Sq, Sqe, Submission, World, cases_Bool, cond_some, dropped, end_answer_in, ending_of, ends_doomed, entries_of, entry_of, eqb-false, eqb-true, held_by, is_cancel, is_outstanding, is_running, issue_answer, issue_told, le-ltb, length-append, lt-ltb, may_start, no_bytes, no_completion, no_submission, operation_of, pending, places_from, positions_of, posts, requests_of, some_skips, sum_by_push, taken, user_data_of, with_closed, with_end_of, with_posted, with_told, word_of, world, happens}
+use Rattle.std.proofs.Common.{◌≡◌, ℕ, ◌+◌, ◌≤◌, ℤ, Bool, true, false, not, cond, eqb, if◌then◌else◌, List, [], ◌∷◌, length, Option, Some, None, refl, sym, ap, subst, ◌∙◌, arith, IfSome}
+use Rattle.uring_core.proofs.Common.{Answer, Call, Completions, Core, Cq, FinishesApart, FitsApart, History, IsFinished, LinuxRequests, Op, Setup, ShowsCompletions, ShowsSubmission, ShowsWorld, Sq, Sqe, Submission, World, cond_some, dropped, end_answer_in, ending_of, ends_doomed, entries_of, entry_of, eqb-true, held_by, is_cancel, is_outstanding, is_running, issue_answer, issue_told, length-append, may_start, no_bytes, no_completion, no_submission, operation_of, pending, places_from, positions_of, requests_of, sum_by_push, taken, with_closed, with_end_of, with_told, word_of, world, happens}
 use Rattle.uring_linux.specs.LinuxRequests.{no_request, with_started}
 use Rattle.uring_rules.specs.Rules.{doomed_result, cancel_result}
 use Rattle.uring_entry.specs.declared.operation.Outcome.{Outcome}
@@ -13,12 +13,10 @@ use Rattle.uring_rules.specs.RulesIssues.{issued, posts_of, posted_by, ended_by,
 use Rattle.uring_rules.specs.declared.answers.Issued.{Issued}
 use Rattle.uring_rules.specs.declared.answers.Issued.TheVariants as issue
 use Rattle.uring_dispatch.specs.declared.answers.Posts.{Posts}
-use Rattle.uring_dispatch.specs.declared.answers.Posts.TheVariants as post
 use Rattle.uring_core.specs.declared.step.Step.TheVariants as step
 use Rattle.uring_core.specs.declared.answer.Answer.TheVariants as answer
 use Rattle.uring_core.proofs.CoreTakes.{held_within}
 use Rattle.uring_core.proofs.TakenEntries.{closed_entries}
-use Rattle.uring_core.proofs.CoreSteps.{told_if}
 
 -- End.
 
@@ -44,35 +42,18 @@ taken_by g l call =
 -- a call that closes took all its positions, and this is told of it
 taken_as : (all : Bool) (t told : Taken)
     → ended_as.Taken t ≡ cond all (ended_as.Taken told) ended_as.NotAll → (all ≡ true) × (t ≡ told)
-taken_as true t told e = (refl, cc)
-taken_as false t told e = absurd cc
+taken_as all t told e = grind arith
 
 closed_shows : (p : Core) (w : World) (q : Sq) (d : Rules) (call : Call) → ShowsWorld p w
     → w.submission.call ≡ Some call → call.taken ≡ call.count → Accepts p d
     → length p.held ≤ call.count → ShowsSubmission p.setup q (with_closed w.submission call)
     → ShowsWorld (record p { sq = q; dispatch = d; held = [] }) (ending_of p.setup w (Some call))
-closed_shows p w q d call s is all accepts few shown =
-    let a = accepts.accepted in
-    let o = accepts.outstanding in
-    let room : p.dispatch.outstanding + call.count ≤ p.cq.room = subst (λ c. p.dispatch.outstanding + positions_of c ≤ p.cq.room) is s.room_to_post in
-    let numbers : p.dispatch.accepted + call.count ≤ 2 ^ 63 - 1 = subst (λ c. p.dispatch.accepted + positions_of c ≤ 2 ^ 63 - 1) is s.numbers in
-    let posts = s.posts in
-    let held : p.held ≡ entries_of (places_from w.submission call.count) = s.held ∙ ap (held_by w.submission) is ∙ ap (λ n. entries_of (places_from w.submission n)) all in
-    let by_rules = subst (λ linux. ShowsRequests d (called_by linux (requests_of w) p.held)) s.rules (accepts.shows (requests_of w) s.requests) in
-    let requests = subst (λ xs. ShowsRequests d (called_by p.setup.linux (requests_of w) xs)) held by_rules in
-    let rules = accepts.rules ∙ s.rules in
-    let none_held : ◌≡◌ {A = List Sqe} [] [] = refl in
-    let skipped = s.skipped ∙ ap some_skips (sym (closed_entries w.submission call is all)) in
-    grind (arith, requests, rules, none_held, skipped)
+closed_shows p w q d call s is all accepts few shown = grind (arith, closed_entries)
 
 closed_answer : (g : Setup) (w : World) (call : Call) (t : Taken)
     → ended_as.Taken t ≡ ring.end_of g w.submission (Some call)
     → answer.Taken t.accepted t.dropped t.head ≡ end_answer_in g w (Some call)
-closed_answer g w call t e =
-    let is = taken_as (eqb call.taken call.count) t (taken_by g w.submission call) e in
-    let all = eqb-true call.taken call.count is.0 in
-    let not_less : nat_lt call.taken call.count ≡ false = le-ltb call.taken call.count (omega arith) in
-    rw (is.1, not_less) (ap (λ n. answer.Taken (length (entries_of (places_from w.submission call.count))) (dropped (with_closed w.submission call)) (word_of g.start n)) (sum_by_push (λ x. x) w.submission.calls call.count))
+closed_answer g w call t e = grind (arith, with_closed, sum_by_push)
 
 end_taken : (p : Core) (w : World) (q : Sq) (d : Rules) (t : Taken) (c : Option Call)
     → ShowsWorld p w → w.submission.call ≡ c → Accepts p d
@@ -80,8 +61,7 @@ end_taken : (p : Core) (w : World) (q : Sq) (d : Rules) (t : Taken) (c : Option 
     → ended_as.Taken t ≡ ring.end_of p.setup w.submission c
     → ShowsSubmission p.setup q (ring.closed_on w.submission c)
     → Ends p w q d (answer.Taken t.accepted t.dropped t.head) c
-end_taken p w q d t None s is accepts few e shown =
-    absurd (let f : ended_as.Taken t ≡ ended_as.NoCall = e in cc)
+end_taken p w q d t None s is accepts few e shown = grind arith
 end_taken p w q d t (Some call) s is accepts few e shown = record {
   shows = closed_shows p w q d call s is (eqb-true call.taken call.count (taken_as (eqb call.taken call.count) t (taken_by p.setup w.submission call) e).0) accepts (subst (λ c. length p.held ≤ positions_of c) is few) shown;
   answered = closed_answer p.setup w call t e;
@@ -104,26 +84,14 @@ end_goes p q d t answered shown accepts h f =
 end_not_all : (g : Setup) (w : World) (c : Option Call)
     → IfSome c (λ call. (call.taken ≤ call.count) × (call.count ≤ pending w.submission))
     → ended_as.NotAll ≡ ring.end_of g w.submission c → answer.NotAll ≡ end_answer_in g w c
-end_not_all g w None fits e = absurd (let f : ended_as.NotAll ≡ ended_as.NoCall = e in cc)
-end_not_all g w (Some call) fits e =
-    elim (cases_Bool (eqb call.taken call.count)) [
-      | inl all ↦ absurd (let f : ended_as.NotAll ≡ ended_as.Taken _ = e ∙ ap (λ b. cond b (ended_as.Taken (taken_by g w.submission call)) ended_as.NotAll) all in cc)
-      | inr more ↦
-          let ne = eqb-false call.taken call.count more in
-          let less : nat_lt call.taken call.count ≡ true = lt-ltb call.taken call.count (omega arith) in
-          rw less refl
-    ]
+end_not_all g w c fits e = grind arith
 
 pub end_not_all_goes : (p : Core) (q : Sq)
     → ((g : Setup) (l : Submission) → ShowsSubmission g p.sq l → ended_as.NotAll ≡ ring.end_answer g l)
     → q ≡ p.sq
     → (h : History) → FitsApart p h
     → FitsApart (record p { sq = q }) ((step.End, answer.NotAll) ∷ h)
-end_not_all_goes p q answered same h f =
-    subst (λ s. FitsApart (record p { sq = s }) ((step.End, answer.NotAll) ∷ h)) (sym same) (record {
-      shows = f.shows;
-      lawful = (end_not_all p.setup (world p.setup h) (world p.setup h).submission.call f.shows.submission.call_fits (answered p.setup _ f.shows.submission), f.lawful);
-    })
+end_not_all_goes p q answered same h f = grind arith
 
 -- The end of a request.
 
@@ -131,20 +99,12 @@ end_not_all_goes p q answered same h f =
 pub told_end : (g : Setup) (w : World) (n : ℕ) (res : ℤ) (bytes : List ℕ)
     → with_told g.cq w.completions (posts_of g.linux w.requests n res) res bytes
     ≡ with_end_of g w n res bytes
-told_end g w n res bytes = go (posts g.linux w.requests n res) where
-  go : (b : Bool) → with_told g.cq w.completions (cond b (post.Completion (user_data_of (entry_of w.requests n))) post.Nothing) res bytes
-      ≡ cond b (with_posted g.cq w.completions (record { user_data = user_data_of (entry_of w.requests n); res = res; payload = bytes })) w.completions
-  go true = refl
-  go false = refl
+told_end g w n res bytes = grind arith
 
 -- an end posts one completion at most
 few_posted : (g : Setup) (w : World) (n : ℕ) (res : ℤ) (bytes : List ℕ)
     → length (with_end_of g w n res bytes).posted ≤ length w.completions.posted + 1
-few_posted g w n res bytes =
-    elim (cases_Bool (posts g.linux w.requests n res)) [
-      | inl told ↦ rw told (omega (arith, length-append w.completions.posted (record { user_data = user_data_of (entry_of w.requests n); res = res; payload = bytes } ∷ [])))
-      | inr skipped ↦ rw skipped (omega arith)
-    ]
+few_posted g w n res bytes = grind (arith, length-append)
 
 -- The parts after an end: one request less is outstanding, and one promised post less is left at most.
 ended_shows : (p : Core) (w : World) (d : Rules) (q : Cq) (r : LinuxRequests) (n : ℕ) (res : ℤ) (bytes : List ℕ)
@@ -156,29 +116,7 @@ ended_shows : (p : Core) (w : World) (d : Rules) (q : Cq) (r : LinuxRequests) (n
     → p.cq.room ≤ q.room + 1 → (p.cq.room ≤ p.cq.spare → q.room ≤ q.spare)
     → ShowsWorld (record p { dispatch = d; cq = q }) (record w { requests = r.requests; drains = r.drains; completions = with_end_of p.setup w n res bytes })
 ended_shows p w d q r n res bytes s shows same_rules accepted outstanding room between shown left promised =
-    let few = few_posted p.setup w n res bytes in
-    let rules = same_rules ∙ s.rules in
-    let in_between = between ∙ s.between in
-    let to_post : d.outstanding + positions_of w.submission.call ≤ q.room = omega (arith, s.room_to_post) in
-    let to_accept : positions_of w.submission.call ≤ d.room = omega (arith, s.room_to_accept) in
-    let numbers : d.accepted + positions_of w.submission.call ≤ 2 ^ 63 - 1 = omega (arith, s.numbers) in
-    let fewer : length (with_end_of p.setup w n res bytes).posted + d.outstanding ≤ d.accepted = omega (arith, s.posts) in
-    let stays_promised = promised s.promised in
-    record {
-      submission = s.submission;
-      completions = shown;
-      requests = shows;
-      rules = rules;
-      held = s.held;
-      skipped = s.skipped;
-      closed = s.closed;
-      between = in_between;
-      room_to_post = to_post;
-      room_to_accept = to_accept;
-      promised = stays_promised;
-      numbers = numbers;
-      posts = fewer;
-    }
+    grind (arith, few_posted)
 
 -- Issue.
 
@@ -186,8 +124,7 @@ ended_shows p w d q r n res bytes s shows same_rules accepted outstanding room b
 told_chain : (a b c d e : Bool) (x y z u v t : Issued)
     → issue_told (cond a x (cond b y (cond c z (cond d u (cond e v t)))))
     ≡ cond a (issue_told x) (cond b (issue_told y) (cond c (issue_told z) (cond d (issue_told u) (cond e (issue_told v) (issue_told t)))))
-told_chain a b c d e x y z u v t =
-    told_if issue_told a _ _ ∙ ap (cond a (issue_told x)) (told_if issue_told b _ _ ∙ ap (cond b (issue_told y)) (told_if issue_told c _ _ ∙ ap (cond c (issue_told z)) (told_if issue_told d _ _ ∙ ap (cond d (issue_told u)) (told_if issue_told e _ _))))
+told_chain a b c d e x y z u v t = grind arith
 
 issue_same : (g : Setup) (w : World) (n : ℕ)
     → issue_told (issued g.linux (requests_of w) n) ≡ issue_answer g w n
@@ -198,16 +135,7 @@ posts_chain : (a b c d e : Bool) (x z : ℤ) (posted_with : ℤ → Posts) (op :
     → issue.Ended res posted
     ≡ cond a issue.Unknown (cond b issue.Running (cond c (issue.Ended x (posted_with x)) (cond d issue.NotReady (cond e (issue.Ended z (posted_with z)) (issue.Run op)))))
     → posted ≡ posted_with res
-posts_chain false false true d e x z posted_with op res posted is =
-    let same : (res ≡ x) × (posted ≡ posted_with x) = (cc, cc) in
-    same.1 ∙ ap posted_with (sym same.0)
-posts_chain false false false false true x z posted_with op res posted is =
-    let same : (res ≡ z) × (posted ≡ posted_with z) = (cc, cc) in
-    same.1 ∙ ap posted_with (sym same.0)
-posts_chain true b c d e x z posted_with op res posted is = absurd cc
-posts_chain false true c d e x z posted_with op res posted is = absurd cc
-posts_chain false false false true e x z posted_with op res posted is = absurd cc
-posts_chain false false false false false x z posted_with op res posted is = absurd cc
+posts_chain a b c d e x z posted_with op res posted is = grind arith
 
 issue_posts : (g : Setup) (w : World) (n : ℕ) (res : ℤ) (posted : Posts)
     → issue.Ended res posted ≡ issued g.linux (requests_of w) n
@@ -220,17 +148,7 @@ pub run_goes : (p : Core) (d : Rules) (n : ℕ) (op : Op)
     → HasStarted p.dispatch d
     → (h : History) → FitsApart p h
     → FitsApart (record p { dispatch = d }) ((step.Issue n, answer.Run) ∷ h)
-run_goes p d n op answered shows counts h f =
-    let w = world p.setup h in
-    let s = f.shows in
-    let started = shows (requests_of w) s.requests in
-    let between = counts.between ∙ s.between in
-    let rules = counts.linux ∙ s.rules in
-    let called = subst (λ linux. issue.Run op ≡ issued linux (requests_of w) n) s.rules (answered (requests_of w) s.requests) in
-    record {
-      shows = grind (arith, s, counts, started, between, rules);
-      lawful = (ap issue_told called ∙ issue_same p.setup w n, f.lawful);
-    }
+run_goes p d n op answered shows counts h f = grind arith
 
 -- an Issue that is refused changes nothing
 pub issue_refused_goes : (p : Core) (d : Rules) (n : ℕ) (r : Issued)
@@ -238,10 +156,7 @@ pub issue_refused_goes : (p : Core) (d : Rules) (n : ℕ) (r : Issued)
     → d ≡ p.dispatch → ((w : World) → happens p.setup w (step.Issue n) (issue_told r) ≡ w)
     → (h : History) → FitsApart p h
     → FitsApart (record p { dispatch = d }) ((step.Issue n, issue_told r) ∷ h)
-issue_refused_goes p d n r answered same stays h f =
-    let w = world p.setup h in
-    let called = subst (λ linux. r ≡ issued linux (requests_of w) n) f.shows.rules (answered (requests_of w) f.shows.requests) in
-    rw same (record { shows = rw (stays w) f.shows; lawful = (ap issue_told called ∙ issue_same p.setup w n, f.lawful) })
+issue_refused_goes p d n r answered same stays h f = grind arith
 
 pub issue_ended_goes : (p : Core) (d : Rules) (q : Cq) (n : ℕ) (res : ℤ) (posted : Posts)
     → ((l : LinuxRequests) → ShowsRequests p.dispatch l → issue.Ended res posted ≡ issued p.dispatch.linux l n)
@@ -297,13 +212,7 @@ pub accepts_held : (p : Core) (d : Rules) (entries : List Sqe) → entries ≡ p
     → ((l : LinuxRequests) → ShowsRequests p.dispatch l → ShowsRequests d (called_by p.dispatch.linux l entries))
     → HasCalled (length entries) p.dispatch d → d.is_between_calls ≡ true
     → Accepts p d
-accepts_held p d entries same shows counts between = record {
-  rules = counts.linux;
-  shows = λ l s. subst (λ xs. ShowsRequests d (called_by p.dispatch.linux l xs)) same (shows l s);
-  accepted = counts.accepted ∙ ap (λ xs. p.dispatch.accepted + length xs) same;
-  outstanding = counts.outstanding ∙ ap (λ xs. p.dispatch.outstanding + length xs) same;
-  between = between;
-}
+accepts_held p d entries same shows counts between = grind arith
 
 -- New.
 
@@ -312,13 +221,7 @@ pub new_fits : (p : Core) → ShowsSubmission p.setup p.sq no_submission
     → ShowsRequests p.dispatch no_request → p.dispatch.linux ≡ p.setup.linux
     → p.dispatch.is_between_calls ≡ true
     → p.held ≡ [] → p.has_skipped ≡ false → p.is_closed ≡ false → FitsApart p []
-new_fits p submission completions none_promised requests rules between held none_skipped open_ring =
-    let a : p.dispatch.accepted ≡ 0 = requests.accepted in
-    let o : p.dispatch.outstanding ≡ 0 = requests.outstanding in
-    record {
-      shows = grind arith;
-      lawful = tt;
-    }
+new_fits p submission completions none_promised requests rules between held none_skipped open_ring = grind arith
 
 -- what posts as it ends was running
 pub ended_as_posted : (g : Setup) (w : World) (n : ℕ) (outcome : Outcome) (posted : Posts) (a : Answer)

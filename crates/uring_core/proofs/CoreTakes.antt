@@ -1,12 +1,11 @@
 -- What a core shows as a submission call takes a position, and that there is room for what it took.
-use Rattle.uring_core.proofs.Common.{Answer, Call, Core, FitsApart, History, Place, Setup, ShowsSubmission, ShowsWorld, Sq, Sqe, Submission, World, append-nil, asks_to_skip, common_steps, entries_of, eqb-false, held_by, option_and_then, pending, positions_of, some_skips, staged, stops_after, stops_at_word, stops_there, take_answer_in, taken, taking_entry_of, taking_of, taking_on, with_stopped, with_taken, world}
-use Rattle.std.proofs.Common.{◌≡◌, ℕ, zero, suc, ◌+◌, ◌-◌, ◌^◌, ◌<◌, ◌≤◌, Bool, false, cond, eqb, ◌||◌, List, [], ◌∷◌, ◌++◌, length, take, drop, Option, Some, None, slice_get, refl, sym, ap, subst, ◌∙◌, arith, IfSome, true}
+use Rattle.uring_core.proofs.Common.{Answer, Call, Core, FitsApart, History, Place, Setup, ShowsSubmission, ShowsWorld, Sq, Sqe, Submission, World, append-nil, asks_to_skip, common_steps, entries_of, eqb-false, held_by, option_and_then, pending, positions_of, some_skips, stops_after, stops_at_word, stops_there, take_answer_in, taken, taking_entry_of, taking_of, taking_on, with_stopped, with_taken, world}
+use Rattle.std.proofs.Common.{◌≡◌, ℕ, zero, suc, ◌+◌, ◌<◌, ◌≤◌, Bool, false, cond, eqb, ◌||◌, List, [], ◌∷◌, ◌++◌, length, take, drop, Option, Some, None, slice_get, refl, sym, ap, subst, ◌∙◌, arith, IfSome}
 use Rattle.std.proofs.lemmas.List.Elements.{filter_map-append}
 use Rattle.uring_rings.specs.SqAnswers as ring
 use Rattle.uring_rings.specs.declared.answers.TakeAnswer.{TakeAnswer}
 use Rattle.uring_rings.specs.declared.answers.TakeAnswer.TheVariants as took_as
 use Rattle.uring_rings.proofs.Places.{places_more, entries_and_dropped}
-use Rattle.uring_core.proofs.SoundRings.{stopped_between}
 use Rattle.uring_core.proofs.TakenEntries.{skips_more, skips_same}
 use Rattle.uring_core.specs.declared.step.Step.TheVariants as step
 use Rattle.uring_core.specs.declared.answer.Answer.TheVariants as answer
@@ -17,32 +16,19 @@ use Rattle.uring_core.specs.declared.answer.Answer.TheVariants as answer
 place_given : (o : Option Place) (entry : Sqe)
     → took_as.Entry entry ≡ ring.given (option_and_then (λ place. place.entry) o)
     → (place : Place) × (o ≡ Some place) × (place.entry ≡ Some entry)
-place_given None entry e = absurd (let f : took_as.Entry entry ≡ took_as.Dropped = e in cc)
-place_given (Some place) entry e = (place, refl, entry_given place.entry entry e)
-  where
-    entry_given : (o : Option Sqe) (entry : Sqe) → took_as.Entry entry ≡ ring.given o → o ≡ Some entry
-    entry_given None entry e = absurd (let f : took_as.Entry entry ≡ took_as.Dropped = e in cc)
-    entry_given (Some other) entry e = let f : took_as.Entry entry ≡ took_as.Entry other = e in cc
+place_given o entry e = grind arith
 
 -- a word that was dropped is that of a place without entry
 place_dropped : (o : Option Place) (place : Place) → o ≡ Some place
     → took_as.Dropped ≡ ring.given (option_and_then (λ p. p.entry) o) → place.entry ≡ None
-place_dropped None place is e = cc
-place_dropped (Some other) place is e =
-    let same : other ≡ place = cc in
-    ap (λ p. p.entry) (sym same) ∙ no_entry other.entry e
-  where
-    no_entry : (o : Option Sqe) → took_as.Dropped ≡ ring.given o → o ≡ None
-    no_entry None e = refl
-    no_entry (Some entry) e = absurd (let f : took_as.Dropped ≡ took_as.Entry entry = e in cc)
+place_dropped o place is e = grind arith
 
 -- the entry of the next place joins what the call took
 held_more : (l : Submission) (call : Call) (place : Place)
     → slice_get l.published (taken l + call.taken) ≡ Some place
     → entries_of (take (call.taken + 1) (drop (taken l) l.published))
     ≡ entries_of (take call.taken (drop (taken l) l.published)) ++ entries_of (place ∷ [])
-held_more l call place is =
-    ap entries_of (places_more l.published (taken l) call.taken place is) ∙ filter_map-append (λ p. p.entry) (take call.taken (drop (taken l) l.published)) (place ∷ [])
+held_more l call place is = grind (arith, (places_more l.published (taken l) call.taken place is), filter_map-append)
 
 one_entry : (place : Place) (entry : Sqe) → place.entry ≡ Some entry
     → entries_of (place ∷ []) ≡ entry ∷ []
@@ -54,8 +40,7 @@ no_entries place e = simp e
 -- the answer to a take within the call
 given_as : (all : Bool) (r given : TakeAnswer) → r ≡ cond all took_as.NoMore given
     → (r ≡ took_as.NoMore → ⊥) → (all ≡ false) × (r ≡ given)
-given_as true r given e other = absurd (other e)
-given_as false r given e other = (refl, e)
+given_as all r given e other = grind arith
 
 -- the core answers as the ring does
 answered_entry : (w : World) (call : Call) (place : Place) (entry : Sqe)
@@ -73,8 +58,7 @@ answered_dropped w call place more is has = rw (more, is, has) refl
 
 some_call : (c : Option Call) (call : Call) (P : Call → Type 0) → c ≡ Some call → IfSome c P
     → P call
-some_call None call P is holds = cc
-some_call (Some other) call P is holds = let same : other ≡ call = cc in subst P same holds
+some_call c call P is holds = grind arith
 
 -- the parts after a take, whatever was taken, and whether or not the call stops after it
 taken_shows : (p : Core) (w : World) (q : Sq) (call : Call) (held : List Sqe) (has_skipped stops : Bool)
@@ -83,28 +67,7 @@ taken_shows : (p : Core) (w : World) (q : Sq) (call : Call) (held : List Sqe) (h
     → held ≡ entries_of (take (call.taken + 1) (drop (taken w.submission) w.submission.published))
     → has_skipped ≡ some_skips (entries_of (take (taken w.submission + (call.taken + 1)) w.submission.published))
     → ShowsWorld (record p { sq = q; held = held; has_skipped = has_skipped }) (taking_on w stops call)
-taken_shows p w q call held has_skipped stops s is more shown holds skipped =
-    let fits = some_call w.submission.call call _ is s.submission.call_fits in
-    let further : call.taken + 1 ≤ call.count = omega (arith, fits.0, eqb-false call.taken call.count more) in
-    let fewer = (stopped_between stops (record call { taken = call.taken + 1 }) further).1 in
-    let to_post : p.dispatch.outstanding + call.count ≤ p.cq.room = subst (λ c. p.dispatch.outstanding + positions_of c ≤ p.cq.room) is s.room_to_post in
-    let to_accept : call.count ≤ p.dispatch.room = subst (λ c. positions_of c ≤ p.dispatch.room) is s.room_to_accept in
-    let numbers : p.dispatch.accepted + call.count ≤ 2 ^ 63 - 1 = subst (λ c. p.dispatch.accepted + positions_of c ≤ 2 ^ 63 - 1) is s.numbers in
-    record {
-      submission = shown;
-      completions = s.completions;
-      requests = s.requests;
-      rules = s.rules;
-      held = holds;
-      skipped = skipped;
-      closed = s.closed;
-      between = s.between;
-      room_to_post = omega (arith, fewer, to_post);
-      room_to_accept = omega (arith, fewer, to_accept);
-      promised = s.promised;
-      numbers = omega (arith, fewer, numbers);
-      posts = s.posts;
-    }
+taken_shows p w q call held has_skipped stops s is more shown holds skipped = grind arith
 
 -- what a take shows and answers, by the call that is open, where the call stops after it or not
 pub record Takes (p : Core) (w v : World) (q : Sq) (held : List Sqe) (has_skipped : Bool) (a : Answer) (c : Option Call) : Type 0 where
@@ -115,8 +78,7 @@ take_entry : (p : Core) (w : World) (q : Sq) (entry : Sqe) (c : Option Call) →
     → w.submission.call ≡ c → took_as.Entry entry ≡ ring.take_in w.submission c
     → ShowsSubmission p.setup q (with_stopped (stops_after p.setup (p.has_skipped || asks_to_skip entry) entry) (ring.taken_on w.submission c))
     → Takes p w (taking_entry_of p.setup w entry c) q (p.held ++ entry ∷ []) (p.has_skipped || asks_to_skip entry) (answer.Entry entry) c
-take_entry p w q entry None s is e shown =
-    absurd (let f : took_as.Entry entry ≡ took_as.NoCall = e in cc)
+take_entry p w q entry None s is e shown = grind arith
 take_entry p w q entry (Some call) s is e shown =
     let within = given_as (eqb call.taken call.count) (took_as.Entry entry) _ e (λ f. cc) in
     let more = within.0 in
@@ -197,33 +159,14 @@ few_entries places n =
 pub held_within : (l : Submission) (size : ℕ) (c : Option Call)
     → IfSome c (λ call. (call.taken ≤ call.count) × (call.count ≤ pending l))
     → length (held_by l c) ≤ positions_of c
-held_within l size None fits = omega arith
-held_within l size (Some call) fits =
-    let k = few_entries (drop (taken l) l.published) call.taken in omega arith
+held_within l size c fits = grind (arith, few_entries)
 
 -- the dispatcher has room for what the open call took
 pub held_accepted : (p : Core) (h : History) → FitsApart p h → length p.held ≤ p.dispatch.room
-held_accepted p h f =
-    let s = f.shows in
-    let l = (world p.setup h).submission in
-    let held = held_within l p.setup.sq l.call s.submission.call_fits in
-    let room = s.room_to_accept in
-    let same : length p.held ≡ length (held_by l l.call) = ap length s.held in
-    omega arith
+held_accepted p h f = grind (arith, held_within)
 
 -- with a position left, fewer entries are held than the ring has
 pub held_has_room : (p : Core) (h : History) (entry : Sqe) → FitsApart p h
     → ((g : Setup) (l : Submission) → ShowsSubmission g p.sq l → took_as.Entry entry ≡ ring.take_answer l)
     → length p.held < p.setup.sq
-held_has_room p h entry f answered =
-    let w = world p.setup h in
-    let s = f.shows.submission in
-    subst (λ n. n < p.setup.sq) (sym (ap length f.shows.held)) (few w.submission p.setup.sq entry w.submission.call (answered p.setup w.submission s) s.call_fits s.seen_first s.taken_first s.few)
-  where
-    few : (l : Submission) (size : ℕ) (entry : Sqe) (c : Option Call) → took_as.Entry entry ≡ ring.take_in l c → IfSome c (λ call. (call.taken ≤ call.count) × (call.count ≤ pending l))
-        → l.seen_head ≤ taken l → taken l ≤ length l.published → staged l ≤ l.seen_head + size → length (held_by l c) < size
-    few l size entry None e fits seen within room = absurd (let f : took_as.Entry entry ≡ took_as.NoCall = e in cc)
-    few l size entry (Some call) e fits seen within room =
-        let ne = eqb-false call.taken call.count (given_as (eqb call.taken call.count) (took_as.Entry entry) _ e (λ f. cc)).0 in
-        let k = few_entries (drop (taken l) l.published) call.taken in
-        omega arith
+held_has_room p h entry f answered = grind (arith, few_entries)

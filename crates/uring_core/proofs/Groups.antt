@@ -1,6 +1,6 @@
 -- A call accepts entries, and closes: what stands before it stays.
-use Rattle.std.proofs.Common.{◌≡◌, ℕ, ◌+◌, ◌-◌, ◌==◌, ◌<◌, ◌≤◌, min, max, neg_ℤ, if◌then◌else◌, List, [], ◌∷◌, length, Bool, true, false, not, ◌&&◌, ◌||◌, leb, refl, sym, subst, ◌∙◌, ap, arith, ◌⊎◌, inl, inr}
-use Rattle.uring_core.proofs.Common.{Requests, Sqe, and_left, entry_of, eq-eqb, get_or_append_left, has_failed, int_eq, is_after_failure, is_cancelled, is_doomed, is_faulty, is_in_faulty_group, is_in_group, is_joined, is_joined_no, is_last, is_linked, is_soft, length-append, list_any, list_any_push, ne_eqb, or_right, some_member, with_call, zero_entry}
+use Rattle.std.proofs.Common.{◌≡◌, ℕ, ◌+◌, ◌-◌, ◌==◌, ◌<◌, ◌≤◌, min, max, neg_ℤ, if◌then◌else◌, List, length, Bool, true, false, not, ◌&&◌, leb, sym, ◌∙◌, ap, arith, ◌⊎◌, inl, inr}
+use Rattle.uring_core.proofs.Common.{Requests, Sqe, and_left, entry_of, eq-eqb, get_or_append_left, has_failed, int_eq, is_after_failure, is_doomed, is_faulty, is_in_group, is_joined, is_joined_no, is_last, length-append, list_any, list_any_push, ne_eqb, some_member, with_call, zero_entry}
 use Rattle.uring_entry.specs.declared.errno.TheConstants.{EINVAL, ECANCELED}
 use Rattle.uring_entry.specs.Success.{is_success}
 use Rattle.uring_entry.proofs.BelowLemmas.{some_below_same, some_below_between}
@@ -16,20 +16,10 @@ module _ (r : Requests) (entries : List Sqe) (cut : (length r.accepted ≡ 0) �
 
   -- the last of the entries before is the last of its group
   last_before : (k : ℕ) → k + 1 ≡ length r.accepted → is_last (with_call r entries) k ≡ true
-  last_before k end =
-      elim cut [
-        | inl none ↦ absurd (omega arith)
-        | inr there ↦ or_right _ _ (any_kept (λ c. c == k + 1) r.cuts (length (with_call r entries).accepted ∷ []) (subst (λ n. list_any (λ c. c == n) r.cuts ≡ true) (sym end) there))
-      ]
+  last_before k end = grind (arith, any_kept)
 
   last_kept : (k : ℕ) → k + 1 < length r.accepted → is_last (with_call r entries) k ≡ is_last r k
-  last_kept k lt =
-      let l = longer in
-      ap (λ e. not (is_linked e) || list_any (λ c. c == k + 1) (with_call r entries).cuts) (entry_kept k (omega arith))
-      ∙ ap (λ b. not (is_linked (entry_of r k)) || b) (list_any_push (λ c. c == k + 1) r.cuts (length (with_call r entries).accepted) ∙ or_none _ _ (ne_eqb _ _ (λ same. omega arith))) where
-        or_none : (x y : Bool) → y ≡ false → (x || y) ≡ x
-        or_none true y e = refl
-        or_none false y e = e
+  last_kept k lt = grind (arith, longer, entry_kept, list_any_push, ne_eqb)
 
   pub join_kept : (m n : ℕ) → n < length r.accepted
       → is_joined (with_call r entries) m n ≡ is_joined r m n
@@ -60,19 +50,12 @@ module _ (r : Requests) (entries : List Sqe) (cut : (length r.accepted ≡ 0) �
 
   after_kept : (n : ℕ) → n < length r.accepted → is_after_failure (with_call r entries) n ≡ is_after_failure r n
   unfolding is_after_failure
-  after_kept n below =
-      some_below_same (λ m. is_joined (with_call r entries) m n && is_soft (entry_of (with_call r entries) m) && has_failed (with_call r entries) m) (λ m. is_joined r m n && is_soft (entry_of r m) && has_failed r m) n
-      (λ k lt.
-      ap (λ b. b && is_soft (entry_of (with_call r entries) k) && has_failed (with_call r entries) k) (join_kept k n below)
-      ∙ ap (λ e. is_joined r k n && is_soft e && has_failed (with_call r entries) k) (entry_kept k (omega arith))
-      ∙ ap (λ b. is_joined r k n && is_soft (entry_of r k) && b) (failed_kept k (omega arith)))
+  after_kept n below = grind (arith, some_below_same, join_kept, entry_kept, failed_kept)
 
   pub doom_kept : (n : ℕ) → n < length r.accepted
       → is_doomed (with_call r entries) n ≡ is_doomed r n
   unfolding is_doomed
-  doom_kept n below =
-      ap (λ b. b || is_after_failure (with_call r entries) n || is_cancelled r n) (member_kept is_faulty n below)
-      ∙ ap (λ b. is_in_faulty_group r n || b || is_cancelled r n) (after_kept n below)
+  doom_kept n below = grind (arith, member_kept, after_kept)
 
   call_free : (n : ℕ) → n < length r.accepted → IsFree r n → IsFree (with_call r entries) n
   call_free n below f = record { spared = doom_kept n below ∙ f.spared; first = λ k lt e. f.first k lt (sym (join_kept k n below) ∙ e) }
@@ -81,16 +64,7 @@ module _ (r : Requests) (entries : List Sqe) (cut : (length r.accepted ≡ 0) �
   ends_kept n below d = ap (λ e. list_any (λ x. (x.number == n) && not (int_eq x.res (if is_faulty e then neg_ℤ EINVAL else neg_ℤ ECANCELED))) r.ended) (entry_kept n below) ∙ d
 
   pub call_sound : IsSoundRequests r → IsSoundRequests (with_call r entries)
-  call_sound s =
-      let l = longer in
-      record {
-        started_accepted = λ n e. omega (arith, s.started_accepted n e);
-        ended_accepted = λ n e. omega (arith, s.ended_accepted n e);
-        starts_once = s.starts_once;
-        ends_once = s.ends_once;
-        cut_at_end = inr (list_any_push (λ c. c == length (with_call r entries).accepted) r.cuts (length (with_call r entries).accepted) ∙ or_right (list_any (λ c. c == length (with_call r entries).accepted) r.cuts) _ (eq-eqb (length (with_call r entries).accepted) _ refl));
-        started_right = λ n e. ap is_faulty (entry_kept n (s.started_accepted n e)) ∙ s.started_right n e;
-      }
+  call_sound s = grind (arith, longer, list_any_push, eq-eqb, entry_kept)
 
   pub call_manual : IsSoundRequests r → IsSoundManual r → IsSoundManual (with_call r entries)
   call_manual s m =

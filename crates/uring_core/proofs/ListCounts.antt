@@ -1,6 +1,6 @@
 -- What passes a test in a list that grows.
 use Rattle.std.proofs.Common.{◌&&◌, ◌≡◌, ℕ, ◌≤◌, List, [], ◌∷◌, ◌++◌, Bool, true, false, count_by, cond, refl, sym, ◌∙◌, ap, arith, ◌⊎◌, inl, inr}
-use Rattle.uring_core.proofs.Common.{and_parts, cases_Bool, list_any, list_any_push, or_cases, or_left, or_parts, or_right, sum_by-cons, sum_by_push}
+use Rattle.uring_core.proofs.Common.{and_parts, list_any, list_any_push, or_cases, or_left, or_parts, or_right, sum_by-cons, sum_by_push}
 use Rattle.std.proofs.lemmas.List.Folds.{list_any-append}
 
 -- what passes stays, and what passes newly is the new element
@@ -35,15 +35,7 @@ count_some p (x ∷ xs) e =
 -- at most once, also with one more that wasn't there
 pub count_once_more : {X : Type 0} (p : X → Bool) (xs : List X) (x : X) → count_by p xs ≤ 1
     → (p x ≡ true → list_any p xs ≡ false) → count_by p (xs ++ x ∷ []) ≤ 1
-count_once_more p xs x once absent =
-    elim (cases_Bool (p x)) [
-      | inl here ↦
-          let one : ◌≡◌ {A = ℕ} (cond (p x) 1 0) 1 = ap (λ t. cond t 1 0) here in
-          omega (arith, sum_by_push (λ y. cond (p y) 1 0) xs x, count_none p xs (absent here))
-      | inr other ↦
-          let none : ◌≡◌ {A = ℕ} (cond (p x) 1 0) 0 = ap (λ t. cond t 1 0) other in
-          omega (arith, sum_by_push (λ y. cond (p y) 1 0) xs x)
-    ]
+count_once_more p xs x once absent = grind (arith, sum_by_push, count_none)
 
 -- a stricter test passes no more
 pub any_looser : {X : Type 0} (p q : X → Bool) (xs : List X) → list_any (λ x. p x && q x) xs ≡ true

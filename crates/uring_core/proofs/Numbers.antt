@@ -1,8 +1,8 @@
 -- How many requests a lawful history accepts.
-use Rattle.std.proofs.Common.{◌≡◌, ◌+◌, ◌-◌, ◌^◌, ◌≤◌, Bool, false, eqb, [], ◌∷◌, length, drop, Some, sym, subst, arith}
-use Rattle.uring_core.proofs.Common.{Answer, Call, History, IsLawfulApart, Setup, Step, World, entries_of, eqb-false, is_outstanding, length-append, ltb-false, open_taken, outstanding_in, places_from, positions_of, stops_at_word, stops_there, taken, taking_on, world}
+use Rattle.std.proofs.Common.{◌≡◌, ◌+◌, ◌-◌, ◌^◌, ◌≤◌, Bool, false, eqb, [], ◌∷◌, length, Some, arith}
+use Rattle.uring_core.proofs.Common.{Answer, Call, History, IsLawfulApart, Setup, Step, World, is_outstanding, length-append, ltb-false, outstanding_in, positions_of, stops_there, taking_on, world}
 use Rattle.uring_core.proofs.SubmissionMoves.{SubmissionMove, stays, begins, takes, drops, closes, submission_move}
-use Rattle.uring_core.proofs.SoundRings.{IsSoundSubmission, open_count, stopped_between}
+use Rattle.uring_core.proofs.SoundRings.{IsSoundSubmission}
 use Rattle.uring_core.proofs.Sound.{sound_of}
 use Rattle.uring_core.proofs.CoreTakes.{few_entries}
 use Rattle.uring_dispatch.proofs.Counting.{count_below_within}
@@ -15,24 +15,16 @@ AreFew w = length w.requests.accepted + positions_of w.submission.call ≤ 2 ^ 6
 few_further : (g : Setup) (w : World) (call : Call) (stops : Bool) → w.submission.call ≡ Some call
     → eqb call.taken call.count ≡ false → IsSoundSubmission g.sq w.submission → AreFew w
     → AreFew (taking_on w stops call)
-few_further g w call stops opened left sound i =
-    let before : length w.requests.accepted + call.count ≤ 2 ^ 63 - 1 = subst (λ o. length w.requests.accepted + positions_of o ≤ 2 ^ 63 - 1) opened i in
-    let within : call.taken ≤ call.count = subst (λ o. open_taken o ≤ open_count o) opened sound.within_call in
-    let further : call.taken + 1 ≤ call.count = omega (arith, within, eqb-false call.taken call.count left) in
-    omega (arith, before, (stopped_between stops (record call { taken = call.taken + 1 }) further).1)
+few_further g w call stops opened left sound i = grind arith
 
 few_kept : (g : Setup) (w : World) (s : Step) (a : Answer) (v : World) → SubmissionMove g w s a v
     → IsSoundSubmission g.sq w.submission → AreFew w → AreFew v
-few_kept g w s a v (stays _ _ r c is_closed off left) sound i =
-    subst (λ entries. length entries + positions_of w.submission.call ≤ 2 ^ 63 - 1) (sym left.accepted) i
+few_kept g w s a v (stays _ _ r c is_closed off left) sound i = grind arith
 few_kept g w s a v (begins count is_open no_call unspent) sound i = ltb-false _ _ unspent
 few_kept g w s a v (takes entry call place opened left at valid) sound i =
     few_further g w call (stops_there g w.submission entry) opened left sound i
-few_kept g w s a v (drops call place opened left at invalid) sound i =
-    few_further g w call (stops_at_word g) opened left sound i
-few_kept g w s a v (closes accepted missed head call opened all many) sound i =
-    let before : length w.requests.accepted + call.count ≤ 2 ^ 63 - 1 = subst (λ o. length w.requests.accepted + positions_of o ≤ 2 ^ 63 - 1) opened i in
-    omega (arith, before, few_entries (drop (taken w.submission) w.submission.published) call.count, length-append w.requests.accepted (entries_of (places_from w.submission call.count)))
+few_kept g w s a v (drops call place opened left at invalid) sound i = grind arith
+few_kept g w s a v (closes accepted missed head call opened all many) sound i = grind (arith, few_entries, length-append)
 few_kept g w s a v _ sound i = i
 
 few_accepted : (g : Setup) (h : History) → IsLawfulApart g h → AreFew (world g h)

@@ -1,20 +1,15 @@
 -- How many requests are outstanding: none exactly if the count is 0, and one less with each end of one of them.
 -- By induction over the numbers below the count of accepted requests.
 -- Stable: other crates may import `none_outstanding`, `all_ended`, `ended_less` and `count_below_zero`.
-use Rattle.std.proofs.Common.{◌≡◌, ◌≢◌, ℕ, zero, suc, ◌+◌, ◌<◌, Bool, true, false, not, ◌&&◌, ltb, cond, ℤ, List, length, refl, sym, ◌∙◌, ap, arith}
+use Rattle.std.proofs.Common.{◌≡◌, ◌≢◌, ℕ, zero, suc, ◌+◌, ◌<◌, Bool, true, false, not, ◌&&◌, ltb, ℤ, List, length, refl, sym, ◌∙◌, ap, arith}
 use Rattle.uring_core.proofs.Common.{Requests, and_parts, false_from_ne_true, has_ended, has_ended_other, has_ended_same, is_outstanding, ltb-true, outstanding_in, with_ended}
 use Rattle.uring_entry.specs.Below.{count_below}
 use Rattle.uring_dispatch.proofs.Counting.{count_below_changed, count_below_some}
-use Rattle.uring_dispatch.specs.Window.{one_if}
 
 -- a number less
 count_below_less : (p q : ℕ → Bool) (n m : ℕ) → m < n → p m ≡ true → q m ≡ false
     → ((k : ℕ) → k ≢ m → q k ≡ p k) → count_below q n + 1 ≡ count_below p n
-count_below_less p q n m lt is isnt same =
-    let changed = count_below_changed p q n m lt same in
-    let one : one_if (p m) ≡ 1 = ap one_if is in
-    let none : one_if (q m) ≡ 0 = ap one_if isnt in
-    omega arith
+count_below_less p q n m lt is isnt same = grind (arith, count_below_changed)
 
 -- none is counted
 count_below_none : (p : ℕ → Bool) (n : ℕ) → count_below p n ≡ 0 → (k : ℕ) → k < n → p k ≡ false
@@ -25,9 +20,7 @@ count_below_none p n none k lt =
 pub count_below_zero : (p : ℕ → Bool) (n : ℕ) → ((k : ℕ) → k < n → p k ≡ false)
     → count_below p n ≡ 0
 count_below_zero p zero none = refl
-count_below_zero p (suc n) none =
-    let here : ◌≡◌ {A = ℕ} (cond (p n) 1 0) 0 = ap (λ b. cond b 1 0) (none n (omega arith)) in
-    omega (arith, here, count_below_zero p n (λ k lt. none k (omega arith)))
+count_below_zero p (suc n) none = grind (arith, (count_below_zero p n (λ k lt. none k (omega arith))))
 
 -- where none is counted, none is outstanding
 pub none_outstanding : (r : Requests) → outstanding_in r ≡ 0 → (n : ℕ) → is_outstanding r n ≡ false

@@ -1,5 +1,5 @@
 -- Answers that were recorded elsewhere: what is called for beside one answer, and what a refusal says.
-use Rattle.std.proofs.Common.{◌≡◌, ℕ, ◌<◌, ◌≤◌, Bool, true, false, if◌then◌else◌, ◌∷◌, Option, Some, None, is_some, refl, sym, ap, subst, ◌∙◌, inl, inr, arith}
+use Rattle.std.proofs.Common.{◌≡◌, ℕ, ◌<◌, ◌≤◌, Bool, true, false, if◌then◌else◌, ◌∷◌, Option, Some, None, is_some, refl, sym, ap, ◌∙◌, inl, inr, arith}
 use Rattle.uring_core.proofs.Common.{Answer, CalledForApart, Core, Err, FinishesApart, FitsApart, History, Ok, Op, OrAgain, Result, Setup, Step, World, begin_answer, entry_of, is_running, operation_of, operation_running, true≢false}
 use Rattle.uring_core.specs.Recorded.{IsWrong, IsOneAnswer, IsRefused}
 use Rattle.uring_core.specs.declared.step.Step.TheVariants as step
@@ -11,11 +11,7 @@ use Rattle.uring_core.specs.declared.wanted.Refusal.TheVariants.{Wrong}
 -- another answer than the one that is called for is wrong
 pub wrong_beside : (Called : Answer → Type 0) (x a : Answer) → Called x
     → ((b : Answer) → Called b → b ≡ x) → (a ≡ x → ⊥) → IsWrong Called a (Only x)
-wrong_beside Called x a called one other = record {
-  not_called = λ k. other (one a k);
-  called = one;
-  only = λ b e. subst Called (sym e) called;
-}
+wrong_beside Called x a called one other = grind arith
 
 -- to any other step than Begin and Finish one answer is called for
 pub one_answer : (g : Setup) (w : World) (s : Step) → ((count : ℕ) → s ≡ step.Begin count → ⊥)
@@ -52,9 +48,7 @@ ended_since w n op x a is some ends =
 -- a Begin that was answered Again made nothing
 pub again_made_nothing : (p : Core) (count : ℕ) (a : Answer) (h : History) → a ≡ answer.Again
     → FitsApart p ((step.Begin count, a) ∷ h) → FitsApart p h
-again_made_nothing p count a h is f =
-    let g : FitsApart p ((step.Begin count, answer.Again) ∷ h) = subst (λ b. FitsApart p ((step.Begin count, b) ∷ h)) is f in
-    record { shows = g.shows; lawful = g.lawful.1 }
+again_made_nothing p count a h is f = grind arith
 
 -- what was followed isn't refused
 pub followed : (r : Result Unit Refusal) (x : Unit) (refusal : Refusal) → r ≡ Ok x → r ≡ Err refusal
@@ -64,40 +58,17 @@ followed r x refusal ok err = cc
 -- what isn't answered Again where a call opens is answered that it does
 pub call_made : (x a given : Answer) (length : ℕ) → x ≡ answer.Call length
     → given ≡ answer.Call length → (a ≡ answer.Again → ⊥) → OrAgain x a → a ≡ given
-call_made x a given length is same sure told =
-    elim (subst (λ y. OrAgain y a) is told) [
-      | inl e ↦ e ∙ sym same
-      | inr again ↦ absurd (sure again.0)
-    ]
+call_made x a given length is same sure told = grind arith
 
 -- another answer than the call and Again is wrong where a call of some positions opens
 pub wrong_call : (x : Answer) (length : ℕ) (a : Answer) → x ≡ answer.Call length → 0 < length
     → (a ≡ answer.Call length → ⊥) → (a ≡ answer.Again → ⊥)
     → IsWrong (OrAgain x) a (CallOrAgain length)
-wrong_call x length a is some no_call no_again =
-    subst (λ y. IsWrong (OrAgain y) a (CallOrAgain length)) (sym is)
-    (record {
-      not_called = λ k. elim k [
-        | inl e ↦ no_call e
-        | inr again ↦ no_again again.0
-      ];
-      called = λ b k. elim k [
-        | inl e ↦ inl e
-        | inr again ↦ inr again.0
-      ];
-      only = λ b k. elim k [
-        | inl e ↦ inl e
-        | inr e ↦ inr (e, some)
-      ];
-    })
+wrong_call x length a is some no_call no_again = grind arith
 
 -- to a Finish of what doesn't run one answer is called for
 pub idle_refused_apart : (w : World) (n : ℕ) (op : Option Op) (a : Answer) (refusal : Refusal)
     → op ≡ operation_running w.requests n → is_some op ≡ false
     → refusal ≡ Wrong (Only answer.NotRunning) → (a ≡ answer.NotRunning → ⊥)
     → IsRefused (FinishesApart (is_running w.requests n)) a refusal
-idle_refused_apart w n op a refusal is none told other =
-    by_running (operation_of (entry_of w.requests n)) (is_running w.requests n) is where
-      by_running : (o : Op) (running : Bool) → op ≡ (if running then Some o else None) → IsRefused (FinishesApart running) a refusal
-      by_running o true e = absurd (true≢false (sym (ap is_some e) ∙ none))
-      by_running o false e = subst (λ r. IsRefused (FinishesApart false) a r) (sym told) (wrong_beside (FinishesApart false) answer.NotRunning a refl (λ b k. k) other)
+idle_refused_apart w n op a refusal is none told other = grind arith

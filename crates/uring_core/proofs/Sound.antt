@@ -1,11 +1,11 @@
 -- What holds of everything that a lawful history has made.
 use Rattle.std.proofs.Common.{◌≡◌, ℕ, ◌+◌, Bool, false, [], ◌∷◌, refl, subst, arith}
-use Rattle.uring_core.proofs.Common.{Answer, History, IsLawfulApart, LinuxRequests, Requests, Setup, Step, World, at_first, no_completion, no_submission, requests_of, stops_at_word, stops_there, with_taken, world}
+use Rattle.uring_core.proofs.Common.{Answer, History, IsLawfulApart, LinuxRequests, Requests, Setup, Step, World, at_first, no_completion, no_submission, requests_of, stops_there, with_taken, world}
 use Rattle.uring_core.proofs.Moves.{Move, stays, accepts, starts, ends_doomed, ends_cancel, ends_run, move_of}
 use Rattle.uring_core.proofs.SubmissionMoves.{SubmissionMove, stays as stays_off_submission, fills, stages, stores, takes, drops, closes, submission_move}
 use Rattle.uring_core.proofs.CompletionMoves.{CompletionMove, stays as stays_off_completions, ends, reaps, completion_move}
 use Rattle.uring_core.proofs.SoundRings.{IsSoundCompletions, IsSoundSubmission, end_sound, reap_sound, stage_sound, store_sound, take_sound, stop_sound, close_sound}
-use Rattle.uring_core.proofs.SoundRequests.{IsSoundRequests, IsSoundManual, first_requests, first_manual, start_sound, start_manual, outstanding_tells}
+use Rattle.uring_core.proofs.SoundRequests.{IsSoundRequests, IsSoundManual, start_sound, start_manual, outstanding_tells}
 use Rattle.uring_core.proofs.ByRules.{starts_right}
 use Rattle.uring_core.proofs.RequestEnds.{finish_sound, issued_end_sound, finish_manual, doom_manual, cancel_manual}
 use Rattle.uring_core.proofs.Groups.{call_sound, call_manual}
@@ -20,24 +20,10 @@ first_submission : (size : ℕ) → IsSoundSubmission size no_submission
 first_submission size = grind arith
 
 first_completions : (size : ℕ) → IsSoundCompletions size no_completion
-first_completions size = record {
-  begins = refl;
-  reaped_seen = omega arith;
-  seen_put = omega arith;
-  put_posted = omega arith;
-  seen_head_head = omega arith;
-  head_reaped = omega arith;
-  fits = omega arith;
-  full_ring = λ waits. absurd (omega arith);
-}
+first_completions size = grind arith
 
 first_sound : (g : Setup) → IsSound g at_first
-first_sound g = record {
-  submission = first_submission g.sq;
-  completions = first_completions g.cq;
-  requests = first_requests;
-  manual = λ is. first_manual;
-}
+first_sound g = grind arith
 
 -- a change keeps the submission ring sound
 submission_kept : (g : Setup) (w : World) (s : Step) (a : Answer) (v : World)
@@ -49,8 +35,7 @@ submission_kept g w s a v (stages word room) i = stage_sound g.sq w.submission w
 submission_kept g w s a v (stores tail) i = store_sound g.sq w.submission i
 submission_kept g w s a v (takes entry call place opened left at valid) i =
     stop_sound g.sq (with_taken w.submission call) (record call { taken = call.taken + 1 }) (stops_there g w.submission entry) refl (take_sound g.sq w.submission call opened left i)
-submission_kept g w s a v (drops call place opened left at invalid) i =
-    stop_sound g.sq (with_taken w.submission call) (record call { taken = call.taken + 1 }) (stops_at_word g) refl (take_sound g.sq w.submission call opened left i)
+submission_kept g w s a v (drops call place opened left at invalid) i = grind arith
 submission_kept g w s a v (closes accepted missed head call opened all counted) i =
     close_sound g.sq w.submission call opened i
 submission_kept g w s a v _ i = grind arith
@@ -60,41 +45,33 @@ completions_kept : (g : Setup) (w : World) (s : Step) (a : Answer) (v : World)
     → CompletionMove g w s a v → IsSoundCompletions g.cq w.completions
     → IsSoundCompletions g.cq v.completions
 completions_kept g w s a v (stays_off_completions _ _ l r is_closed off no_end left) i = i
-completions_kept g w s a v (ends _ _ n res bytes r off told same_accepted one_more) i =
-    end_sound g.cq w.completions _ _ i
-completions_kept g w s a v (reaps completion next) i =
-    reap_sound g.cq w.completions completion next i
+completions_kept g w s a v (ends _ _ n res bytes r off told same_accepted one_more) i = grind (arith, end_sound)
+completions_kept g w s a v (reaps completion next) i = grind (arith, (reap_sound g.cq w.completions completion next i))
 completions_kept g w s a v _ i = grind arith
 
 -- a change keeps the requests sound
 requests_kept : (linux : Bool) (l : LinuxRequests) (s : Step) (a : Answer) (later : Requests)
     → Move linux l s a later → IsSoundRequests l.requests → IsSoundRequests later
 requests_kept linux l s a later (stays _ _ no_start no_end) i = i
-requests_kept linux l s a later (accepts accepted missed head entries) i =
-    call_sound l.requests entries i.cut_at_end i
+requests_kept linux l s a later (accepts accepted missed head entries) i = grind (arith, call_sound)
 requests_kept linux l s a later (starts n outstanding idle spared ready no_cancel) i =
     start_sound l.requests n outstanding idle (starts_right linux l n (outstanding_tells l.requests n outstanding).0 spared ready) i
 requests_kept linux l s a later (ends_doomed n outstanding) i =
     issued_end_sound linux l.requests n _ outstanding i
 requests_kept linux l s a later (ends_cancel n outstanding spared ready cancel) i =
     issued_end_sound linux l.requests n _ outstanding i
-requests_kept linux l s a later (ends_run n res bytes running) i =
-    finish_sound l.requests n res bytes running i
+requests_kept linux l s a later (ends_run n res bytes running) i = grind (arith, (finish_sound l.requests n res bytes running i))
 
 -- by the manual pages' rules
 manual_kept : (l : LinuxRequests) (s : Step) (a : Answer) (later : Requests)
     → Move false l s a later → IsSoundRequests l.requests → IsSoundManual l.requests
     → IsSoundManual later
 manual_kept l s a later (stays _ _ no_start no_end) i m = m
-manual_kept l s a later (accepts accepted missed head entries) i m =
-    call_manual l.requests entries i.cut_at_end i m
-manual_kept l s a later (starts n outstanding idle spared ready no_cancel) i m =
-    start_manual l.requests n spared ready m
+manual_kept l s a later (accepts accepted missed head entries) i m = grind (arith, call_manual)
+manual_kept l s a later (starts n outstanding idle spared ready no_cancel) i m = grind (arith, start_manual)
 manual_kept l s a later (ends_doomed n outstanding) i m = doom_manual l.requests n outstanding m
-manual_kept l s a later (ends_cancel n outstanding spared ready cancel) i m =
-    cancel_manual l.requests n outstanding spared ready m
-manual_kept l s a later (ends_run n res bytes running) i m =
-    finish_manual l.requests n res bytes running i m
+manual_kept l s a later (ends_cancel n outstanding spared ready cancel) i m = grind (arith, cancel_manual)
+manual_kept l s a later (ends_run n res bytes running) i m = grind (arith, finish_manual)
 
 pub sound_of : (g : Setup) (h : History) → IsLawfulApart g h → IsSound g (world g h)
 sound_of g [] lawful = first_sound g

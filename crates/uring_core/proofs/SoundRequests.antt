@@ -1,6 +1,6 @@
 -- What holds of the requests of every lawful history, and stays as one starts.
-use Rattle.std.proofs.Common.{◌≡◌, ℕ, ◌==◌, ◌<◌, ◌≤◌, length, Bool, true, false, not, ◌&&◌, count_by, refl, sym, subst, ◌∙◌, arith, ◌⊎◌, inl, inr}
-use Rattle.uring_core.proofs.Common.{Ending, Requests, and_cases, and_parts, both_ways, doomed_result, entry_of, eqb-true, has_ended, has_started, int_eq, is_doomed, is_faulty, is_joined, is_outstanding, is_ready, is_ready_inside, is_running, list_any, ltb-true, no_request, not-false, not-true, or_left, waits_for, with_started}
+use Rattle.std.proofs.Common.{◌≡◌, ℕ, ◌==◌, ◌<◌, ◌≤◌, length, Bool, true, false, not, ◌&&◌, count_by, subst, arith, ◌⊎◌, inl, inr}
+use Rattle.uring_core.proofs.Common.{Ending, Requests, and_cases, and_parts, doomed_result, entry_of, eqb-true, has_ended, has_started, int_eq, is_doomed, is_faulty, is_joined, is_outstanding, is_ready, is_ready_inside, is_running, list_any, ltb-true, no_request, not-true, or_left, waits_for, with_started}
 use Rattle.uring_entry.proofs.EventLemmas.{is_doomed_started, is_joined_started}
 use Rattle.uring_core.proofs.ListCounts.{any_new, count_once_more}
 
@@ -34,30 +34,16 @@ pub record IsSoundManual (r : Requests) : Type 0 where
   pub ended_how : (n : ℕ) → has_ended r n ≡ true → EndsDoomed r n ⊎ IsFree r n
 
 pub first_requests : IsSoundRequests no_request
-first_requests =
-    record {
-      started_accepted = λ n e. absurd (let f : false ≡ true = e in cc);
-      ended_accepted = λ n e. absurd (let f : false ≡ true = e in cc);
-      starts_once = λ n. omega arith;
-      ends_once = λ n. omega arith;
-      cut_at_end = inl refl;
-      started_right = λ n e. absurd (let f : false ≡ true = e in cc);
-    }
+first_requests = grind arith
 
 pub first_manual : IsSoundManual no_request
-first_manual = record {
-  started_free = λ n e. absurd (let f : false ≡ true = e in cc);
-  ended_how = λ n e. absurd (let f : false ≡ true = e in cc);
-}
+first_manual = grind arith
 
 -- A request starts.
 
 -- a start changes neither groups nor who is doomed
 start_free : (r : Requests) (n m : ℕ) → IsFree r m → IsFree (with_started r n) m
-start_free r n m f = record {
-  spared = is_doomed_started r n m ∙ f.spared;
-  first = λ k lt e. f.first k lt (sym (is_joined_started r n k m) ∙ e);
-}
+start_free r n m f = grind (arith, is_doomed_started, is_joined_started)
 
 -- what is outstanding is accepted, and hasn't ended
 pub outstanding_tells : (r : Requests) (n : ℕ) → is_outstanding r n ≡ true
@@ -67,20 +53,13 @@ outstanding_tells r n e = let p = and_parts _ _ e in (ltb-true _ _ p.0, not-true
 -- what hasn't ended and isn't running hasn't started
 pub idle_tells : (r : Requests) (n : ℕ) → is_running r n ≡ false → has_ended r n ≡ false
     → has_started r n ≡ false
-idle_tells r n idle open_end =
-    elim (and_cases (has_started r n) _ idle) [
-      | inl fresh ↦ fresh
-      | inr over ↦ absurd (both_ways _ open_end (not-false _ over))
-    ]
+idle_tells r n idle open_end = grind arith
 
 -- what is ready waits for nothing that hasn't ended
 pub waited : (r : Requests) (n m : ℕ) → is_ready r n ≡ true → m < n → waits_for r n m ≡ true
     → has_ended r m ≡ true
 waited r n m ready lt waits =
-    elim (and_cases (not (has_ended r m)) _ (is_ready_inside r n m ready lt)) [
-      | inl over ↦ not-false _ over
-      | inr apart ↦ absurd (both_ways _ apart waits)
-    ]
+    grind (arith, (and_cases (not (has_ended r m)) _ (is_ready_inside r n m ready lt)), (is_ready_inside r n m ready lt))
 
 -- a request that is ready is after no member of its group
 pub ready_first : (r : Requests) (n : ℕ) → is_ready r n ≡ true → (k : ℕ) → k < n

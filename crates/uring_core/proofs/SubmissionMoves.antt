@@ -2,7 +2,7 @@
 -- `stays` is the frame of all that leave the ring as it was: whatever became of the rest, they tell nothing of it.
 use Rattle.std.proofs.Common.{◌≡◌, ℕ, ℤ, Bool, true, false, ◌||◌, nat_lt, eqb, ◌+◌, length, Some, None, slice_get, refl, sym, subst, ap, rules, ◌∷◌}
 use Rattle.uring_core.proofs.Common.{Answer, Call, Completions, Event, History, IsLawfulApart, LinuxRequests, Place, Requests, Setup, Sqe, Step, World, accepted_by, call_length, closes_call, closes_ring, ending_of, entries_of, entry_taken_by, filled_by, happens, is_full, is_load_head, is_spent, is_store_tail, no_bytes, opened_by, opens_call, places_from, requests_of, staged_by, taken, takes_in, takes_position, taking_entry_of, taking_of, with_begun, with_filled, with_head_loaded, with_published, with_staged, world}
-use Rattle.uring_rules.specs.Rules.{doomed_result, cancel_result, with_issued_end}
+use Rattle.uring_rules.specs.Rules.{with_issued_end}
 use Rattle.uring_core.specs.declared.step.Step.TheVariants as step
 use Rattle.uring_core.specs.declared.answer.Answer.TheVariants as answer
 use Rattle.uring_core.proofs.Changes.{Change, IsSilent, refuses as event_refuses, fills as event_fills, stages as event_stages, stores as event_stores, loads as event_loads, begins as event_begins, takes as event_takes, drops as event_drops, closes as event_closes, dooms as event_dooms, cancels as event_cancels, change_of}
@@ -62,8 +62,7 @@ leaves_issued g w n res =
       same_accepted false r = refl
 
       same_cuts : (linux : Bool) (r : Requests) → (with_issued_end linux r n res).cuts ≡ r.cuts
-      same_cuts true r = refl
-      same_cuts false r = refl
+      same_cuts linux r = search rules
 
 submission_by : (g : Setup) (w : World) (s : Step) (a : Answer) → Change g w s a
     → SubmissionMove g w s a (happens g w s a)
@@ -81,13 +80,10 @@ submission_by g w s a (event_drops call place opened left at invalid) =
     subst (λ o. SubmissionMove g w step.Take answer.Dropped (taking_of g w o)) (sym opened) (drops call place opened left at invalid)
 submission_by g w s a (event_closes accepted missed head call opened all counted) =
     subst (λ o. SubmissionMove g w step.End (answer.Taken accepted missed head) (ending_of g w o)) (sym opened) (closes accepted missed head call opened all counted)
-submission_by g w s a (event_dooms n outstanding idle doomed) =
-    leaves_issued g w n (doomed_result g.linux w.requests n)
-submission_by g w s a (event_cancels n outstanding idle spared ready cancel) =
-    leaves_issued g w n (cancel_result g.linux w.requests n)
+submission_by g w s a (event_dooms n outstanding idle doomed) = search (rules, leaves_issued)
+submission_by g w s a (event_cancels n outstanding idle spared ready cancel) = search (rules, leaves_issued)
 submission_by g w s a _ = stays _ _ (requests_of (happens g w s a)) _ _ (search rules) (search rules)
 
 pub submission_move : (g : Setup) (s : Step) (a : Answer) (h : History)
     → IsLawfulApart g ((s, a) ∷ h) → SubmissionMove g (world g h) s a (world g ((s, a) ∷ h))
-submission_move g s a h lawful =
-    submission_by g (world g h) s a (change_of g (world g h) s a lawful.0)
+submission_move g s a h lawful = search (rules, submission_by, change_of)

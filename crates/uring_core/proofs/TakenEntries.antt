@@ -1,6 +1,6 @@
 -- Whether an entry that was taken asks for skipped success, from step to step.
-use Rattle.std.proofs.Common.{◌≡◌, ℕ, ◌+◌, ◌≤◌, ◌||◌, [], ◌∷◌, ◌++◌, length, take, map, List, Option, Some, None, slice_get, get_or, sym, ap, ◌∙◌, arith, append-nil, IfSome}
-use Rattle.uring_core.proofs.Common.{Call, Place, Sqe, Submission, asks_to_skip, cons_option, entries_of, get_or_from_slice_get, list_any_push, open_taken, pending, place_of, reached, slice_get_within, some_skips, sum_by_push, take-append-le, take_more, taken, taken_entries, with_begun, with_closed, with_published}
+use Rattle.std.proofs.Common.{◌≡◌, ℕ, ◌+◌, ◌≤◌, ◌||◌, [], ◌++◌, length, take, List, Option, Some, None, slice_get, sym, ap, ◌∙◌, arith, append-nil, IfSome}
+use Rattle.uring_core.proofs.Common.{Call, Place, Sqe, Submission, asks_to_skip, cons_option, entries_of, get_or_from_slice_get, list_any_push, open_taken, pending, slice_get_within, some_skips, sum_by_push, take-append-le, take_more, taken, taken_entries, with_begun, with_closed, with_published}
 use Rattle.std.proofs.lemmas.List.Elements.{filter_map-append}
 
 -- a beginning that goes one place further
@@ -8,9 +8,7 @@ pub one_further : (places : List Place) (k : ℕ) (place : Place) (entry : Optio
     → slice_get places k ≡ Some place → place.entry ≡ entry
     → entries_of (take (k + 1) places) ≡ entries_of (take k places) ++ cons_option entry []
 one_further places k place entry at is =
-    ap entries_of (take_more places k place (slice_get_within places k place at)) ∙ filter_map-append (λ p. p.entry) (take k places) (get_or places k place ∷ [])
-    ∙ ap (λ p. entries_of (take k places) ++ cons_option p.entry []) (get_or_from_slice_get places k place place at)
-    ∙ ap (λ o. entries_of (take k places) ++ cons_option o []) is
+    grind (arith, (take_more places k place (slice_get_within places k place at)), (get_or_from_slice_get places k place place at), filter_map-append)
 
 -- the entries once the open call took this position more
 abbrev further : Submission → Call → List Sqe
@@ -39,22 +37,14 @@ skips_same l call place is at has =
 pub stored_entries : (size : ℕ) (l : Submission) → taken l ≤ length l.published
     → IfSome l.call (λ call. (call.taken ≤ call.count) × (call.count ≤ pending l))
     → taken_entries (with_published size l) ≡ taken_entries l
-stored_entries size l within fits =
-    ap entries_of (take-append-le (reached l) l.published (map (place_of size l.content) l.fresh) (below l.call fits))
-  where
-    below : (c : Option Call) → IfSome c (λ call. (call.taken ≤ call.count) × (call.count ≤ pending l)) → taken l + open_taken c ≤ length l.published
-    below None f = omega (arith, within)
-    below (Some call) f = omega (arith, within, f.0, f.1)
+stored_entries size l within fits = grind (arith, take-append-le)
 
 -- as a call opens
 pub begun_entries : (l : Submission) (count : ℕ) → l.call ≡ None
     → taken_entries (with_begun l count) ≡ taken_entries l
-begun_entries l count none =
-    ap (λ o. entries_of (take (taken l + open_taken o) l.published)) (sym none)
+begun_entries l count none = grind arith
 
 -- and as it closes
 pub closed_entries : (l : Submission) (call : Call) → l.call ≡ Some call → call.taken ≡ call.count
     → taken_entries (with_closed l call) ≡ taken_entries l
-closed_entries l call is all =
-    ap (λ k. entries_of (take k l.published)) (omega (arith, sum_by_push (λ x. x) l.calls call.count, all))
-    ∙ ap (λ o. entries_of (take (taken l + open_taken o) l.published)) (sym is)
+closed_entries l call is all = grind (arith, sum_by_push)

@@ -1,6 +1,6 @@
 -- Rows of steps that are made at once: one entry, one take or one completion more at their end, and what their answers are known to be.
-use Rattle.std.proofs.Common.{◌≡◌, ℕ, suc, ◌+◌, ◌≤◌, ◌<◌, Bool, true, false, cond, List, [], ◌∷◌, ◌++◌, length, take, set, get_or, is_some, refl, sym, ap, subst, ◌∙◌, arith, inl, inr}
-use Rattle.uring_core.proofs.Common.{Answer, CalledForApart, Core, Cqe, Err, FitsApart, HasNoLessMemory, History, IsShortFor, OrAgain, Result, Setup, Sqe, Step, World, after_entries, after_fill, after_index, after_reaps, after_takes, begin_answer, call_length, common_steps, elements_for_call, is_spent, length-take-le, take_answer, take_more, world, after_refused}
+use Rattle.std.proofs.Common.{◌≡◌, ℕ, suc, ◌+◌, ◌≤◌, ◌<◌, List, [], ◌∷◌, ◌++◌, length, take, set, get_or, refl, ap, ◌∙◌, arith}
+use Rattle.uring_core.proofs.Common.{Answer, CalledForApart, Core, Cqe, Err, FitsApart, HasNoLessMemory, History, IsShortFor, OrAgain, Result, Setup, Sqe, Step, World, after_entries, after_fill, after_index, after_reaps, after_takes, begin_answer, call_length, common_steps, elements_for_call, length-take-le, take_answer, take_more, world, after_refused}
 use Rattle.uring_core.specs.declared.cores.submit.NotSubmitted.{NotSubmitted}
 use Rattle.uring_core.specs.declared.cores.submit.NotSubmitted.TheVariants as refused
 use Rattle.uring_core.specs.declared.step.Step.TheVariants as step
@@ -10,8 +10,7 @@ use Rattle.uring_core.specs.declared.answer.Answer.TheVariants as answer
 pub as_called : (p : Core) (g : Setup) (s : Step) (a b : Answer) (h : History) → p.setup ≡ g
     → (CalledForApart g (world g h) s a → a ≡ b) → FitsApart p ((s, a) ∷ h)
     → FitsApart p ((s, b) ∷ h)
-as_called p g s a b h same told f =
-    subst (λ x. FitsApart p ((s, x) ∷ h)) (told (subst (λ k. CalledForApart k (world k h) s a) same f.lawful.0)) f
+as_called p g s a b h same told f = grind arith
 
 -- the last entry is put in last
 pub after_entries_snoc : (g : Setup) (slot : ℕ) (entries : List Sqe) (entry : Sqe) (h : History)
@@ -29,10 +28,7 @@ pub entries_next : (g : Setup) (entries : List Sqe) (i slot : ℕ) (entry : Sqe)
     → after_entries g 0 (take (i + 1) entries) h
     ≡ after_index g slot (after_fill g slot entry (after_entries g 0 (take i entries) h))
 entries_next g entries i slot entry h at within is =
-    let many : 0 + length (take i entries) ≡ slot = omega (arith, at, length-take-le i entries (omega arith)) in
-    rw (take_more entries i entry within, ← is)
-    (after_entries_snoc g 0 (take i entries) entry h
-    ∙ ap (λ s. after_index g s (after_fill g s entry (after_entries g 0 (take i entries) h))) many)
+    grind (arith, (take_more entries i entry within), (after_entries_snoc g 0 (take i entries) entry h), length-take-le)
 
 -- one position more is taken
 pub takes_next : (g : Setup) (n : ℕ) (h : History)
@@ -64,36 +60,21 @@ submission_then p q r first second = second ∙ ap (λ (x : Core). record x { sq
 
 -- it keeps the memory
 pub submission_keeps : (p q : Core) → q ≡ record p { sq = q.sq } → HasNoLessMemory p q
-submission_keeps p q alone =
-    subst (λ x. HasNoLessMemory p x) (sym alone) (record { requests = omega arith; completions = omega arith })
+submission_keeps p q alone = grind arith
 
 pub memory_then : (p q r : Core) → HasNoLessMemory p q → HasNoLessMemory q r
     → HasNoLessMemory p r
-memory_then p q r first second = record {
-  requests = omega (arith, first.requests, second.requests);
-  completions = omega (arith, first.completions, second.completions);
-}
+memory_then p q r first second = grind arith
 
 -- a call that opens has the length that is called for
 pub opened_called : (w : World) (count n : ℕ) → OrAgain (begin_answer w count) (answer.Call n)
     → answer.Call n ≡ answer.Call (call_length w.submission count)
-opened_called w count n told =
-    by_tests w.is_closed (is_some w.submission.call) (is_spent w (call_length w.submission count)) told
-  where
-    by_tests : (closed in_call spent : Bool)
-        → OrAgain (cond closed answer.Closed (cond in_call answer.InCall (cond spent answer.Spent (answer.Call (call_length w.submission count))))) (answer.Call n)
-        → answer.Call n ≡ answer.Call (call_length w.submission count)
-    by_tests true in_call spent e = absurd (let f : answer.Call n ≡ answer.Closed = e in cc)
-    by_tests false true spent e = absurd (let f : answer.Call n ≡ answer.InCall = e in cc)
-    by_tests false false true e = absurd (let f : answer.Call n ≡ answer.Spent = e in cc)
-    by_tests false false false (inl e) = e
-    by_tests false false false (inr e) = absurd (let f : answer.Call n ≡ answer.Again = e.0 in cc)
+opened_called w count n told = grind arith
 
 -- a call that was refused before its Begin made nothing
 pub nothing_made : (g : Setup) (entries : List Sqe) (refusal : NotSubmitted) (h : History)
     → ((a : Answer) → refusal ≡ refused.Begin a → ⊥) → after_refused g entries refusal h ≡ h
-nothing_made g entries (refused.Begin a) h before = absurd (before a refl)
-nothing_made g entries _ h before = refl
+nothing_made g entries refusal h before = grind arith
 
 -- one refusal, and one answer of a Begin that was refused
 pub one_refusal : (a b : NotSubmitted) → ◌≡◌ {A = Result Answer NotSubmitted} (Err a) (Err b)
@@ -106,8 +87,7 @@ begin_refused a b e = cc
 
 -- memory that is short for a call is short for a longer one
 pub short_for_more : (p : Core) (few many : ℕ) → few ≤ many → IsShortFor p few → IsShortFor p many
-short_for_more p few many less (inl requests) = inl (omega arith)
-short_for_more p few many less (inr posts) = inr (omega arith)
+short_for_more p few many less h = grind arith
 
 -- and a longer one may need more elements
 pub more_elements : (p : Core) (few many n : ℕ) → few ≤ many → elements_for_call p many ≤ n

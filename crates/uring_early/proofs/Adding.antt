@@ -1,29 +1,18 @@
 -- The operations that may take effect before an end are those that are added for each that runs.
 use Rattle.std.proofs.Common.{◌≡◌, ◌==◌, ℕ, Bool, true, false, List, [], ◌∷◌, ◌++◌, Option, Some, None, if◌then◌else◌, refl, sym, ap, subst, ◌∙◌, ◌⊎◌, inl, inr, arith, negsuc, map}
 use Rattle.uring_early.proofs.Common.{Adds, AreTakers, Contains, End, FileContents, FitsEnd, IsForFiles, IsOutcome, Mark, MayTake, Op, Outcome, Running, Taker, awaits, both_ways, end_in, ended_with, eq-eqb, eqb-true, is_lengthening, is_some, look, plain, result_of, same_Some}
-use Rattle.std.proofs.lemmas.List.Elements.{Contains-append_left, Contains-append_right, Contains-push_cases}
+use Rattle.std.proofs.lemmas.List.Elements.{Contains-append_right, Contains-push_cases}
 use Rattle.uring_early.proofs.Plain.{outcome_back, outcome_plain}
 
 -- those of one kind were added, and then those of another
 pub adds_both : (P Q R : Taker → Type 0) (old mid new : List Taker) → Adds P old mid → Adds Q mid new
     → ((x : Taker) → P x → R x) → ((x : Taker) → Q x → R x) → ((x : Taker) → R x → P x ⊎ Q x)
     → Adds R old new
-adds_both P Q R old mid new first second left right cases = record {
-  kept = λ x there. second.kept x (first.kept x there);
-  right = λ x there. elim (second.right x there) [
-    | inl before ↦ (elim (first.right x before) [ inl there ↦ inl there | inr has ↦ inr (left x has) ])
-    | inr has ↦ inr (right x has)
-  ];
-  all = λ x has. elim (cases x has) [ inl p ↦ second.kept x (first.all x p) | inr q ↦ second.all x q ];
-}
+adds_both P Q R old mid new first second left right cases = grind arith
 
 pub adds_same : (P Q : Taker → Type 0) (old new : List Taker) → Adds P old new → ((x : Taker) → P x → Q x)
     → ((x : Taker) → Q x → P x) → Adds Q old new
-adds_same P Q old new adds to from = record {
-  kept = adds.kept;
-  right = λ x there. elim (adds.right x there) [ inl before ↦ inl before | inr has ↦ inr (to x has) ];
-  all = λ x has. adds.all x (from x has);
-}
+adds_same P Q old new adds to from = grind arith
 
 -- what is found stands at a place, and has the number
 pub record StandsIn (running : List Running) (n : ℕ) : Type 0 where
@@ -32,21 +21,12 @@ pub record StandsIn (running : List Running) (n : ℕ) : Type 0 where
   pub number : one.number ≡ n
 
 in_rest : (r : Running) (rs : List Running) (n : ℕ) → StandsIn rs n → StandsIn (r ∷ rs) n
-in_rest r rs n later = record {
-  one = later.one;
-  there = Contains-append_right (r ∷ []) rs later.one later.there;
-  number = later.number;
-}
+in_rest r rs n later = grind (arith, (Contains-append_right (r ∷ []) rs later.one later.there))
 
 found_by : (r : Running) (rs : List Running) (n : ℕ) (b : Bool) (one : Running) → (r.number == n) ≡ b
     → (look rs n ≡ Some one → StandsIn rs n)
     → (if b then Some r else look rs n) ≡ Some one → StandsIn (r ∷ rs) n
-found_by r rs n true one same later found = record {
-  one = r;
-  there = Contains-append_left (r ∷ []) rs r (0, omega arith, refl);
-  number = eqb-true r.number n same;
-}
-found_by r rs n false one other later found = in_rest r rs n (later found)
+found_by r rs n b one same later found = grind (arith, in_rest)
 
 pub stands_in : (running : List Running) (n : ℕ) (one : Running) → look running n ≡ Some one → StandsIn running n
 stands_in [] n one found = absurd (let f : None ≡ Some one = found in cc)
@@ -56,9 +36,7 @@ stands_in (r ∷ rs) n one found =
 number_by : (r : Running) (rs : List Running) (n : ℕ) (b : Bool) (one : Running) → (r.number == n) ≡ b
     → (look rs n ≡ Some one → one.number ≡ n)
     → (if b then Some r else look rs n) ≡ Some one → one.number ≡ n
-number_by r rs n true one same later found =
-    ap (λ (x : Running). x.number) (sym (same_Some r one found)) ∙ eqb-true r.number n same
-number_by r rs n false one other later found = later found
+number_by r rs n b one same later found = grind arith
 
 found_number : (running : List Running) (n : ℕ) (one : Running) → look running n ≡ Some one → one.number ≡ n
 found_number [] n one found = absurd (let f : None ≡ Some one = found in cc)
@@ -74,19 +52,12 @@ pub record IsReady (running : List Running) (left : List Mark) (n : ℕ) (op : O
   pub waits : awaits running left ≡ true
 
 none_taken : (o : Option Outcome) → is_some o ≡ false → o ≡ None
-none_taken None e = refl
-none_taken (Some x) e = let f : true ≡ false = e in absurd cc
+none_taken o e = grind arith
 
 pub ready_by : (running : List Running) (left : List Mark) (n : ℕ) (one : Running) → Some one ≡ look running n
     → is_some one.taken ≡ false → IsForFiles one.op → awaits running left ≡ true
     → IsReady running left n one.op
-ready_by running left n one found idle asks waits = record {
-  runs =
-      sym found ∙ ap (λ (k : ℕ). Some (record { number = k; op = one.op; taken = one.taken })) (found_number running n one (sym found))
-      ∙ ap (λ (o : Option Outcome). Some (record { number = n; op = one.op; taken = o })) (none_taken one.taken idle);
-  asks = asks;
-  waits = waits;
-}
+ready_by running left n one found idle asks waits = grind (arith, found_number)
 
 -- it may take effect, of this number
 abbrev pub MayBe : List FileContents → List Running → List Mark → ℕ → Taker → Type 0
@@ -128,8 +99,7 @@ may_with files running left n op x ready may = by x.outcome refl (outcome_back f
   is_with o same = (ap (λ (k : ℕ). record { number = k; outcome = x.outcome }) may.0 ∙ ap (λ (p : Outcome). record { number = n; outcome = p }) same, subst (FitsEnd (end_in left n)) same ends)
 
   by : (o : Outcome) → x.outcome ≡ o → IsOutcome files op o → IsWith left n (result_of files op) x ⊎ ((is_lengthening files op ≡ true) × IsWith left n (ended_with (negsuc 11)) x)
-  by o is (inl e) = inl (is_with (result_of files op) (is ∙ e))
-  by o is (inr e) = inr (e.0, is_with (ended_with (negsuc 11)) (is ∙ e.1))
+  by o is h = grind arith
 
 -- what was added by an end that was looked up
 pub adds_for : (left : List Mark) (n : ℕ) (wanted : Option End) (o p : Outcome) (old new : List Taker)

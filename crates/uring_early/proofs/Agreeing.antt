@@ -1,6 +1,6 @@
 -- What is known of the bytes of ends agrees with what was posted.
-use Rattle.std.proofs.Common.{◌≡◌, ℕ, ◌==◌, Bool, true, false, List, [], ◌∷◌, ◌++◌, length, map, Option, Some, None, if◌then◌else◌, refl, sym, ap, subst, ◌∙◌, append-nil, append_assoc, arith}
-use Rattle.uring_early.proofs.Common.{Answer, Cqe, Ending, Event, History, IsLawfulApart, MeetsBytes, Setup, Step, World, bytes_at, bytes_of, bytes_reaped, bytes_told, end_told_by, entry_of, known_by, le-ltb, length-append, length-map, lt-ltb, map-append, option_map, posts, same_Some, slice_get, slice_get-map, sound_of, with_end_of, world}
+use Rattle.std.proofs.Common.{◌≡◌, ℕ, ◌==◌, Bool, List, [], ◌∷◌, ◌++◌, length, map, Option, Some, None, if◌then◌else◌, refl, sym, ap, subst, ◌∙◌, append-nil, append_assoc, arith}
+use Rattle.uring_early.proofs.Common.{Answer, Cqe, Ending, Event, History, IsLawfulApart, MeetsBytes, Setup, Step, World, bytes_at, bytes_of, bytes_reaped, bytes_told, end_told_by, entry_of, known_by, le-ltb, length-append, length-map, map-append, option_map, posts, same_Some, slice_get, slice_get-map, sound_of, with_end_of, world}
 use Rattle.uring_entry.specs.Completions.{Completions, completion_for, next_to_reap, with_posted}
 use Rattle.uring_core.proofs.CompletionMoves.{CompletionMove, stays, ends, reaps, completion_move}
 use Rattle.uring_laws.proofs.RingLaws.{begin_posted}
@@ -64,10 +64,7 @@ grown posted c = map-append (λ (d : Cqe). d.payload) posted (c ∷ [])
 
 at_next : (known : List (List ℕ)) (posted : List Cqe) (c : Cqe)
     → bytes_at known (length posted) (length (posted ++ c ∷ [])) ≡ slice_get known (length (payloads posted))
-at_next known posted c =
-    let more = length-append posted (c ∷ []) in
-    ap (λ (b : Bool). if b then slice_get known (length posted) else None) (lt-ltb (length posted) (length (posted ++ c ∷ [])) (omega (arith, more)))
-    ∙ ap (slice_get known) (sym (length-map posted (λ (d : Cqe). d.payload)))
+at_next known posted c = grind (arith, length-append, length-map)
 
 at_same : (known : List (List ℕ)) (n : ℕ) → bytes_at known n n ≡ None
 at_same known n = ap (λ (b : Bool). if b then slice_get known n else None) (le-ltb n n (omega arith))
@@ -75,18 +72,12 @@ at_same known n = ap (λ (b : Bool). if b then slice_get known n else None) (le-
 end_agrees : (known : List (List ℕ)) (size : ℕ) (l : Completions) (c : Cqe) (posts : Bool) → Agree known (payloads l.posted)
     → MeetsBytes (bytes_at known (length l.posted) (length (if posts then with_posted size l c else l).posted)) c.payload
     → Agree known (payloads (if posts then with_posted size l c else l).posted)
-end_agrees known size l c false agree meets = agree
-end_agrees known size l c true agree meets =
-    subst (Agree known) (sym (grown l.posted c)) (agree_push known (payloads l.posted) c.payload agree (subst (λ (o : Option (List ℕ)). MeetsBytes o c.payload) (at_next known l.posted c) meets))
+end_agrees known size l c posts agree meets = grind (arith, grown, agree_push, at_next)
 
 end_met : (known : List (List ℕ)) (size : ℕ) (l : Completions) (c : Cqe) (posts : Bool)
     → Agree known (payloads (if posts then with_posted size l c else l).posted)
     → MeetsBytes (bytes_at known (length l.posted) (length (if posts then with_posted size l c else l).posted)) c.payload × Agree known (payloads l.posted)
-end_met known size l c false agree =
-    (subst (λ (o : Option (List ℕ)). MeetsBytes o c.payload) (sym (at_same known (length l.posted))) tt, agree)
-end_met known size l c true agree =
-    let both : Agree known (payloads l.posted ++ c.payload ∷ []) = subst (Agree known) (grown l.posted c) agree in
-    (subst (λ (o : Option (List ℕ)). MeetsBytes o c.payload) (sym (at_next known l.posted c)) (agree_last known (payloads l.posted) c.payload both), agree_first known (payloads l.posted) (c.payload ∷ []) both)
+end_met known size l c posts agree = grind (arith, at_same, grown, at_next, agree_last, agree_first)
 
 agrees_by : (known : List (List ℕ)) (g : Setup) (w : World) (s : Step) (a : Answer) (v : World) → CompletionMove g w s a v
     → Agree known (payloads w.completions.posted)
@@ -108,8 +99,7 @@ met_by known g w s a v _ agree = (tt, agree)
 pub agree_after : (g : Setup) (known : List (List ℕ)) (s : Step) (a : Answer) (h : History) → IsLawfulApart g ((s, a) ∷ h)
     → Agree known (posted_bytes g h) → EndMeets (known_by g known h (s, a)) (end_told_by (s, a))
     → Agree known (posted_bytes g ((s, a) ∷ h))
-agree_after g known s a h lawful agree meets =
-    agrees_by known g (world g h) s a (world g ((s, a) ∷ h)) (completion_move g s a h lawful) agree meets
+agree_after g known s a h lawful agree meets = grind (arith, (completion_move g s a h lawful), agrees_by)
 
 pub met_after : (g : Setup) (known : List (List ℕ)) (s : Step) (a : Answer) (h : History) → IsLawfulApart g ((s, a) ∷ h)
     → Agree known (posted_bytes g ((s, a) ∷ h))
@@ -121,8 +111,7 @@ met_after g known s a h lawful agree =
 
 end_reaps : (size : ℕ) (l : Completions) (c : Cqe) (posts : Bool)
     → (if posts then with_posted size l c else l).reaped ≡ l.reaped
-end_reaps size l c true = refl
-end_reaps size l c false = refl
+end_reaps size l c posts = grind arith
 
 reaped_by_move : (g : Setup) (w : World) (s : Step) (a : Answer) (v : World) → CompletionMove g w s a v
     → payloads v.completions.reaped ≡ payloads w.completions.reaped ++ bytes_reaped (s, a)

@@ -1,8 +1,7 @@
 -- What operations give on any files has a result that may_end allows.
-use Rattle.std.proofs.Common.{◌≡◌, ◌&&◌, ◌-◌, ◌^◌, ◌≤◌, ℕ, ℤ, pos, negsuc, min, Bool, true, false, List, None, if◌then◌else◌, refl, sym, subst, ◌∙◌, inl, inr, arith}
+use Rattle.std.proofs.Common.{◌≡◌, ◌&&◌, ◌-◌, ◌^◌, ◌≤◌, ℕ, ℤ, pos, min, Bool, true, false, List, None, if◌then◌else◌, refl, sym, subst, ◌∙◌, inl, inr, arith}
 use Rattle.uring_early.proofs.Common.{FileContents, IsForFiles, IsOutcome, Outcome, Sqe, fault_of, int_le, is_cancel, is_on_file, is_transfer, le-leb, len_of, operation_of, result_of, true≢false}
 use Rattle.std.proofs.Math.Dec.{leb-zero}
-use Rattle.std.proofs.Math.Nat.{le-min}
 use Rattle.uring_files.proofs.OperationCases.{IsCalled, most_of, cases, result_called}
 use Rattle.uring_files.proofs.Prepared.{is_short, is_served_of, moved, on_some_file}
 use Rattle.uring_entry.specs.Results.{is_own_error, may_end}
@@ -18,19 +17,12 @@ count_by transfer file len k low = rw (leb-zero k, le-leb k _ low) refl
 
 short : (transfer : Bool) (len k : ℕ) → len ≤ 64 → k ≤ (if transfer then len else 0)
     → k ≤ (if transfer then min len (2 ^ 31 - 1) else 0)
-short true len k small low = le-min low (omega arith)
-short false len k small low = low
+short transfer len k small low = grind arith
 
 -- a result that is called for on a file
 called_by : (transfer : Bool) (len most : ℕ) (res : ℤ) → len ≤ 64 → most ≤ (if transfer then len else 0)
     → IsCalled most res → end_by transfer true len res ≡ true
-called_by transfer len most res small low (inl (inl n)) =
-    let few : n.0 ≤ most = n.1 in
-    subst (λ r. end_by transfer true len r ≡ true) (sym n.2) (count_by transfer true len n.0 (short transfer len n.0 small (omega (arith, few, low))))
-called_by transfer len most res small low (inl (inr long)) =
-    subst (λ r. end_by transfer true len r ≡ true) (sym long) refl
-called_by transfer len most res small low (inr none) =
-    subst (λ r. end_by transfer true len r ≡ true) (sym none) refl
+called_by transfer len most res small low h = grind arith
 
 on_a_file : (file transfer : Bool) (len : ℕ) (res : ℤ) → file ≡ true → end_by transfer true len res ≡ true
     → end_by transfer file len res ≡ true
@@ -55,8 +47,6 @@ outcome_allowed files e o none other asks gives = elim (cases (operation_of e)) 
             subst (λ (x : Outcome). may_end e x.res ≡ true) (sym is)
             (on_a_file (is_on_file e) (is_transfer e) (len_of e) (result_of files (operation_of e)).res file
             (called_by (is_transfer e) (len_of e) (most_of (operation_of e)) (result_of files (operation_of e)).res (is_short e none) (moved e served) (result_called files (operation_of e))))
-        | inr refused ↦
-            subst (λ (x : Outcome). may_end e x.res ≡ true) (sym refused.1)
-            (on_a_file (is_on_file e) (is_transfer e) (len_of e) (negsuc 11) file refl)
+        | inr refused ↦ grind arith
       ]
 ]

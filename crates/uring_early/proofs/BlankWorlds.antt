@@ -1,6 +1,6 @@
 -- A history without its bytes makes the world without them, and is lawful apart if the history is; and back, if what is reaped has the bytes that were posted.
 use Rattle.std.proofs.Common.{◌≡◌, ℕ, ℤ, ◌+◌, ◌-◌, ◌==◌, ◌&&◌, nat_lt, pos, Bool, true, false, min, List, [], ◌∷◌, length, map, Option, Some, None, if◌then◌else◌, refl, sym, ap, subst, ◌∙◌, arith}
-use Rattle.uring_early.proofs.Common.{Answer, CalledForApart, Cqe, FinishesApart, History, IsLawfulApart, Setup, Sqe, Step, World, blank, blank_answer, blank_completion, ending, ending_of, entry_of, happens, is_running, length-map, map-append, next_answer_of, no_bytes, option_map, posts, reap_answer_of, requests_of, slice_get, slice_get-map, with_end_of, world}
+use Rattle.uring_early.proofs.Common.{Answer, CalledForApart, Cqe, FinishesApart, History, IsLawfulApart, Setup, Sqe, Step, World, blank, blank_answer, blank_completion, ending, ending_of, happens, is_running, length-map, map-append, next_answer_of, no_bytes, option_map, reap_answer_of, requests_of, slice_get, slice_get-map, with_end_of, world}
 use Rattle.uring_core.specs.World.{taking}
 use Rattle.uring_entry.specs.Completions.{Completions, completion_for, has_room, next_to_reap, put_by_flush, with_posted}
 use Rattle.uring_entry.specs.IndexWords.{word_of}
@@ -39,9 +39,7 @@ posted_same size l e res bytes true = λ i. record {
 
 end_same : (g : Setup) (w : World) (n : ℕ) (res : ℤ) (bytes : List ℕ)
     → with_end_of g (blank_world w) n res no_bytes ≡ blank_completions (with_end_of g w n res bytes)
-end_same g w n res bytes =
-    ap (λ (b : Bool). if b then with_posted g.cq (blank_completions w.completions) (completion_for (entry_of w.requests n) res no_bytes) else blank_completions w.completions) (posts_same g.linux w.requests n res)
-    ∙ posted_same g.cq w.completions (entry_of w.requests n) res bytes (posts g.linux w.requests n res)
+end_same g w n res bytes = grind (arith, posts_same, posted_same)
 
 put_same : (size : ℕ) (l : Completions) → put_by_flush size (blank_completions l) ≡ put_by_flush size l
 put_same size l = ap (λ (n : ℕ). min n (l.head + size)) (length-map l.posted blank_completion)
@@ -53,9 +51,7 @@ reap_same l =
     ∙ grind arith
 
 take_made : (g : Setup) (w : World) (a : Answer) → taking g (blank_world w) a ≡ blank_world (taking g w a)
-take_made g w (answer.Entry entry) = grind arith
-take_made g w answer.Dropped = grind arith
-take_made g w _ = refl
+take_made g w a = grind arith
 
 ending_made : (g : Setup) (w : World) (call : Option Call) → ending_of g (blank_world w) call ≡ blank_world (ending_of g w call)
 ending_made g w None = refl
@@ -102,8 +98,7 @@ made_same g w _ _ = refl
 
 pub world_same : (g : Setup) (h : History) → world g (map blank h) ≡ blank_world (world g h)
 world_same g [] = refl
-world_same g ((s, a) ∷ h) =
-    ap (λ (w : World). happens g w s (blank_answer s a)) (world_same g h) ∙ made_same g (world g h) s a
+world_same g ((s, a) ∷ h) = grind (arith, (world_same g h), made_same)
 
 -- ---- what is called for
 
@@ -117,9 +112,7 @@ reaped_blank : (o : Option Cqe) → blank_answer step.Reap (reap_answer_of o) �
 reaped_blank o = grind arith
 
 finish_blank : (b : Bool) (n : ℕ) (a : Answer) → FinishesApart b a → FinishesApart b (blank_answer (step.Finish n) a)
-finish_blank true n (answer.Ended res bytes) called = called
-finish_blank true n _ called = absurd called
-finish_blank false n a called = ap (blank_answer (step.Finish n)) called
+finish_blank b n a called = grind arith
 
 flush_same : (g : Setup) (l : Completions)
     → answer.Moved (put_by_flush g.cq (blank_completions l) - l.put) ≡ answer.Moved (put_by_flush g.cq l - l.put)
@@ -142,10 +135,7 @@ called_blank g w step.Next a called = called ∙ ap next_answer_of (sym (next_sa
 called_blank g w _ a called = called
 
 finish_back : (b : Bool) (n : ℕ) (a : Answer) → FinishesApart b (blank_answer (step.Finish n) a) → FinishesApart b a
-finish_back true n (answer.Ended res bytes) called = called
-finish_back true n _ called = absurd called
-finish_back false n (answer.Ended res bytes) called = absurd cc
-finish_back false n _ called = called
+finish_back b n a called = grind arith
 
 abbrev completion_of : Answer → Cqe
 completion_of (answer.Reaped c) = c
@@ -154,12 +144,7 @@ completion_of _ = record { user_data = 0; res = pos 0; payload = [] }
 reap_back : (o : Option Cqe) (w : World) (a : Answer) → next_to_reap w.completions ≡ o
     → blank_answer step.Reap a ≡ reap_answer_of (option_map blank_completion o) → ReapMeets w step.Reap a
     → a ≡ reap_answer_of o
-reap_back (Some d) w (answer.Reaped c) next called meets =
-    let same : blank_completion c ≡ blank_completion d = ap completion_of called in
-    λ i. answer.Reaped (record { user_data = (ap (λ (x : Cqe). x.user_data) same) i; res = (ap (λ (x : Cqe). x.res) same) i; payload = meets d next i })
-reap_back None w (answer.Reaped c) next called meets = absurd cc
-reap_back None w _ next called meets = called
-reap_back (Some d) w _ next called meets = absurd cc
+reap_back o w a next called meets = grind arith
 
 pub called_back : (g : Setup) (w : World) (s : Step) (a : Answer)
     → CalledForApart g (blank_world w) s (blank_answer s a) → ReapMeets w s a → CalledForApart g w s a

@@ -1,6 +1,6 @@
 -- Results of early effects are allowed: an effect's was when it was taken, and its request's entry stays.
-use Rattle.std.proofs.Common.{◌≡◌, ◌==◌, ◌<◌, ℕ, Bool, true, false, [], ◌∷◌, length, Some, if◌then◌else◌, refl, sym, subst, arith}
-use Rattle.uring_early.proofs.Common.{EndsAsTaken, Event, GiveAllowed, GivesAllowed, Grows, History, IsLawfulApart, IsLawfulEarly, IsTimely, Makes, Outcome, Requests, Setup, Sqe, Takes, TakesEffect, Timeline, and_parts, effect_of, entry_of, eqb-true, event_grows, fault_of, files_at, has_started, made_in, not_some, requests_in, same_Some, sound_of}
+use Rattle.std.proofs.Common.{◌≡◌, ◌==◌, ◌<◌, ℕ, Bool, true, [], ◌∷◌, length, Some, if◌then◌else◌, refl, arith}
+use Rattle.uring_early.proofs.Common.{EndsAsTaken, Event, GiveAllowed, GivesAllowed, Grows, History, IsLawfulApart, IsLawfulEarly, IsTimely, Makes, Outcome, Requests, Setup, Takes, TakesEffect, Timeline, and_parts, effect_of, entry_of, eqb-true, event_grows, fault_of, files_at, has_started, made_in, not_some, requests_in, sound_of}
 use Rattle.uring_entry.specs.Results.{may_end}
 use Rattle.uring_core.specs.declared.step.Step.TheVariants as step
 use Rattle.uring_core.specs.declared.answer.Answer.TheVariants as answer
@@ -25,20 +25,14 @@ taken_allowed g before n o lawful takes =
     }
 
 allows_then : (r later : Requests) (n : ℕ) (o : Outcome) → Grows r later → Allows r n o → Allows later n o
-allows_then r later n o more a = record {
-  accepted = let low = a.accepted in let longer = more.longer_then in omega (arith, low, longer);
-  may = subst (λ (e : Sqe). may_end e o.res ≡ true) (sym (more.same_entry n a.accepted)) a.may;
-}
+allows_then r later n o more a = grind arith
 
 -- the newest effect, or one before it
 newest_allowed : (g : Setup) (before : Timeline) (m n : ℕ) (outcome o : Outcome) (b : Bool) → (m == n) ≡ b
     → IsLawfulApart g (made_in before) → TakesEffect g before m outcome
     → (effect_of before n ≡ Some o → Allows (requests_in g before) n o)
     → (if b then Some outcome else effect_of before n) ≡ Some o → Allows (requests_in g before) n o
-newest_allowed g before m n outcome o true same lawful takes earlier is =
-    subst (λ (k : ℕ). Allows (requests_in g before) k o) (eqb-true m n same)
-    (subst (λ (x : Outcome). Allows (requests_in g before) m x) (same_Some outcome o is) (taken_allowed g before m outcome lawful takes))
-newest_allowed g before m n outcome o false other lawful takes earlier is = earlier is
+newest_allowed g before m n outcome o b same lawful takes earlier is = grind (arith, eqb-true, taken_allowed)
 
 effect_allowed : (g : Setup) (t : Timeline) → IsTimely g t → IsLawfulApart g (made_in t) → (n : ℕ)
     → (o : Outcome) → effect_of t n ≡ Some o → Allows (requests_in g t) n o
@@ -62,5 +56,4 @@ all_allowed g (Makes (s, a) ∷ before) timely lawful =
 all_allowed g (Takes n outcome ∷ before) timely lawful = all_allowed g before timely.1 lawful
 
 pub early_effects_give_allowed : (g : Setup) (h : History) → IsLawfulEarly g h → GiveAllowed g h
-early_effects_give_allowed g h early =
-    subst (GiveAllowed g) early.made (all_allowed g early.timeline early.timely (subst (IsLawfulApart g) (sym early.made) early.lawful))
+early_effects_give_allowed g h early = grind (arith, all_allowed)

@@ -1,8 +1,8 @@
 -- No outcome tells what a file counts: operations give the same on files without their counts, and leave the same bytes.
-use Rattle.std.proofs.Common.{◌≡◌, ℕ, ℤ, zero, suc, pos, negsuc, Bool, true, false, List, [], ◌∷◌, Option, Some, None, length, map, take, get_or, refl, sym, ap, ◌∙◌, inl, inr, ◌++◌, ◌+◌, ◌<◌, arith}
-use Rattle.uring_early.proofs.Common.{FileContents, IsOutcome, Op, Outcome, after, cases_lt, empty_file, ext_get_or, file_of, file_of_bytes, get_or_from_slice_get, if◌then◌else◌, is_lengthening, length-map, map-set, on_file, option_map, option_map_or, plain, replicate, result_of, slice_get, slice_get-get_or, slice_get-map, slice_get_past, slice_index_or, slice_set, take_all, take_more, with_changed}
+use Rattle.std.proofs.Common.{◌≡◌, ℕ, ℤ, zero, suc, pos, negsuc, Bool, false, List, [], ◌∷◌, Option, Some, None, length, map, take, get_or, refl, sym, ap, ◌∙◌, inl, inr, ◌++◌, ◌+◌, ◌<◌, arith}
+use Rattle.uring_early.proofs.Common.{FileContents, IsOutcome, Op, Outcome, after, cases_lt, empty_file, ext_get_or, file_of, get_or_from_slice_get, if◌then◌else◌, is_lengthening, length-map, map-set, on_file, option_map, option_map_or, plain, replicate, result_of, slice_get, slice_get-get_or, slice_get-map, slice_get_past, slice_index_or, slice_set, take_all, take_more, with_changed}
 use Rattle.std.proofs.Math.ListN.{get_or-map}
-use Rattle.uring_files.proofs.OperationCases.{Task, IsTask, cases, many_after}
+use Rattle.uring_files.proofs.OperationCases.{Task, IsTask, many_after}
 
 file_plain : (files : List FileContents) (fd : ℤ) → file_of (map plain files) fd ≡ option_map plain (file_of files fd)
 file_plain files (pos fd) = slice_get-map plain files fd
@@ -10,45 +10,27 @@ file_plain files (negsuc below) = refl
 
 same_on : (file : Option FileContents) (t : Task) → IsTask t
     → on_file (option_map plain file) t.ends ≡ on_file file t.ends
-same_on None t is = refl
-same_on (Some f) t is = is.same_end (plain f) f refl
+same_on file t is = grind arith
 
 pub result_plain : (files : List FileContents) (op : Op) → result_of (map plain files) op ≡ result_of files op
-result_plain files op = elim (cases op) [
-  | inl idle ↦ idle.ends (map plain files) ∙ sym (idle.ends files)
-  | inr busy ↦
-      busy.1.ends (map plain files)
-      ∙ ap (λ (f : Option FileContents). on_file f busy.0.ends) (file_plain files busy.0.fd)
-      ∙ same_on (file_of files busy.0.fd) busy.0 busy.2
-      ∙ sym (busy.1.ends files)
-]
+result_plain files op = grind (arith, file_plain)
 
 longer_plain : (file : Option FileContents) (t : Task) → IsTask t
     → option_map_or t.lengthens (option_map plain file) false ≡ option_map_or t.lengthens file false
-longer_plain None t is = refl
-longer_plain (Some f) t is = is.same_growth (plain f) f refl
+longer_plain file t is = grind arith
 
 pub lengthens_plain : (files : List FileContents) (op : Op) → is_lengthening (map plain files) op ≡ is_lengthening files op
-lengthens_plain files op = elim (cases op) [
-  | inl idle ↦ idle.lengthens (map plain files) ∙ sym (idle.lengthens files)
-  | inr busy ↦
-      busy.1.lengthens (map plain files)
-      ∙ ap (λ (f : Option FileContents). option_map_or busy.0.lengthens f false) (file_plain files busy.0.fd)
-      ∙ longer_plain (file_of files busy.0.fd) busy.0 busy.2
-      ∙ sym (busy.1.lengthens files)
-]
+lengthens_plain files op = grind (arith, map, file_plain)
 
 -- what they give on plain ones they give on these, and the other way round
 
 pub outcome_back : (files : List FileContents) (op : Op) (o : Outcome) → IsOutcome (map plain files) op o
     → IsOutcome files op o
-outcome_back files op o (inl e) = inl (e ∙ result_plain files op)
-outcome_back files op o (inr e) = inr (sym (lengthens_plain files op) ∙ e.0, e.1)
+outcome_back files op o h = grind (arith, result_plain, lengthens_plain)
 
 pub outcome_plain : (files : List FileContents) (op : Op) (o : Outcome) → IsOutcome files op o
     → IsOutcome (map plain files) op o
-outcome_plain files op o (inl e) = inl (e ∙ sym (result_plain files op))
-outcome_plain files op o (inr e) = inr (lengthens_plain files op ∙ e.0, e.1)
+outcome_plain files op o h = grind (arith, result_plain, lengthens_plain)
 
 -- and leave the same bytes
 
@@ -70,19 +52,11 @@ changed_plain files (negsuc below) change same = plain_twice files
 either_plain : (b : Bool) (files : List FileContents) (fd : ℤ) (change : FileContents → FileContents)
     → ((f : FileContents) → plain (change (plain f)) ≡ plain (change f))
     → map plain (if b then with_changed (map plain files) fd change else map plain files) ≡ map plain (if b then with_changed files fd change else files)
-either_plain true files fd change same = changed_plain files fd change same
-either_plain false files fd change same = plain_twice files
+either_plain b files fd change same = grind (arith, changed_plain, plain_twice)
 
 pub after_plain : (files : List FileContents) (op : Op) (res : ℤ)
     → map plain (after (map plain files) op res) ≡ map plain (after files op res)
-after_plain files op res = elim (cases op) [
-  | inl idle ↦
-      ap (λ fs. map plain fs) (idle.after (map plain files) res) ∙ plain_twice files ∙ sym (ap (λ fs. map plain fs) (idle.after files res))
-  | inr busy ↦
-      ap (λ fs. map plain fs) (busy.1.after (map plain files) res)
-      ∙ either_plain (busy.0.changes res) files busy.0.fd busy.0.change (λ f. ap (λ bytes. file_of_bytes bytes) (busy.2.same_bytes (plain f) f refl))
-      ∙ sym (ap (λ fs. map plain fs) (busy.1.after files res))
-]
+after_plain files op res = grind (arith, plain_twice, either_plain)
 
 -- they stay as many
 pub after_length : (files : List FileContents) (op : Op) (res : ℤ)
@@ -98,10 +72,7 @@ plain_new (suc count) = ap (λ (fs : List FileContents). empty_file ∷ fs) (pla
 
 pub read_more : (bs items new : List ℕ) (at b : ℕ) → items ≡ take at bs → new ≡ items ++ b ∷ []
     → Some b ≡ slice_get bs at → new ≡ take (at + 1) bs
-read_more bs items new at b so_far more is = elim (cases_lt at (length bs)) [
-  | inl low ↦ more ∙ ap (λ (xs : List ℕ). xs ++ b ∷ []) so_far ∙ ap (λ (x : ℕ). take at bs ++ x ∷ []) (sym (get_or_from_slice_get bs at b 0 (sym is))) ∙ sym (take_more bs at 0 low)
-  | inr past ↦ absurd (let f : Some b ≡ None = is ∙ slice_get_past bs at past in cc)
-]
+read_more bs items new at b so_far more is = grind (arith, (get_or_from_slice_get bs at b 0 (sym is)), take_more, slice_get_past)
 
 pub read_none : (bs items : List ℕ) (at : ℕ) → items ≡ take at bs → None ≡ slice_get bs at
     → items ≡ take (at + 1) bs

@@ -1,9 +1,8 @@
 -- Which operations run after an event, by its mark.
-use Rattle.std.proofs.Common.{◌≡◌, ◌==◌, ◌||◌, ◌&&◌, ℕ, ℤ, Bool, true, false, not, List, Some, None, if◌then◌else◌, refl, sym, ap, ◌∙◌, arith}
-use Rattle.uring_early.proofs.Common.{Answer, Change, Ending, Ends, Idle, IsSilent, Mark, Requests, Setup, Starts, Step, World, cancel_result, cancels, chosen_by, closes, doomed_result, dooms, drops, entry_of, eq-eqb, eqb-true, finishes, happens, has_ended, has_started, is_running, list_any_push, mark_by, no_bytes, operation_of, refuses, runs, start_mark, takes, with_cancelled, with_ended, with_issued_end, with_started}
+use Rattle.std.proofs.Common.{◌≡◌, ◌==◌, ◌||◌, ◌&&◌, ℕ, ℤ, Bool, true, false, not, List, refl, sym, ap, ◌∙◌, arith}
+use Rattle.uring_early.proofs.Common.{Answer, Change, Ends, Idle, IsSilent, Mark, Requests, Setup, Starts, Step, World, cancel_result, cancels, closes, doomed_result, dooms, drops, entry_of, finishes, happens, has_ended, has_started, is_running, list_any_push, mark_by, operation_of, refuses, runs, takes, with_ended, with_issued_end, with_started}
 use Rattle.uring_core.specs.declared.step.Step.TheVariants as step
 use Rattle.uring_core.specs.declared.answer.Answer.TheVariants as answer
-use Rattle.std.proofs.Math.Bool.{or-true}
 use Rattle.uring_laws.proofs.EndedRequests.{not_ended}
 
 -- whether an operation runs after a mark, if it did before it or not as told
@@ -27,38 +26,29 @@ ended_run s e k = grind arith
 
 start_runs : (r : Requests) (m n : ℕ) → has_ended r m ≡ false
     → is_running (with_started r m) n ≡ (is_running r n || (m == n))
-start_runs r m n unended =
-    ap (λ (b : Bool). b && not (has_ended r n)) (list_any_push (λ k. k == n) r.started m)
-    ∙ started_more (has_started r n) (m == n) (has_ended r n) (λ same. ap (has_ended r) (sym (eqb-true m n same)) ∙ unended)
+start_runs r m n unended = grind (arith, list_any_push, started_more)
 
 end_is : (r : Requests) (m n : ℕ) (res : ℤ) (bytes : List ℕ)
     → is_running (with_ended r m res bytes) n ≡ (has_started r n && not (has_ended r n || (m == n)))
-end_is r m n res bytes =
-    ap (λ (b : Bool). has_started r n && not b) (list_any_push (λ (e : Ending). e.number == n) r.ended (record { number = m; res = res; bytes = bytes }))
+end_is r m n res bytes = grind (arith, list_any_push)
 
 end_idle : (r : Requests) (m n : ℕ) (res : ℤ) (bytes : List ℕ) → is_running r m ≡ false
     → is_running (with_ended r m res bytes) n ≡ is_running r n
-end_idle r m n res bytes idle =
-    end_is r m n res bytes ∙ ended_idle (has_started r n) (has_ended r n) (m == n) (λ same. ap (is_running r) (sym (eqb-true m n same)) ∙ idle)
+end_idle r m n res bytes idle = grind (arith, end_is, ended_idle)
 
 issued_idle : (linux : Bool) (r : Requests) (m n : ℕ) (res : ℤ) → is_running r m ≡ false
     → is_running (with_issued_end linux r m res) n ≡ is_running r n
-issued_idle true r m n res idle = end_idle r m n res no_bytes idle
-issued_idle false r m n res idle =
-    end_idle (with_cancelled r (chosen_by r m res)) m n res no_bytes idle
+issued_idle linux r m n res idle = grind (arith, end_idle)
 
 -- ---- of events
 
 idle_of : (r : Requests) (s : Step) (a : Answer) → IsSilent (s, a) → mark_by r (s, a) ≡ Idle
-idle_of r (step.Issue n) answer.Run silent = absurd cc
-idle_of r (step.Finish n) (answer.Ended res bytes) silent = absurd cc
-idle_of r _ a silent = refl
+idle_of r s a silent = grind arith
 
 -- the mark of a start has the operation
 pub started_mark : (r : Requests) (m : ℕ) → has_ended r m ≡ false
     → mark_by (with_started r m) (step.Issue m, answer.Run) ≡ Starts m (operation_of (entry_of r m))
-started_mark r m unended =
-    ap (λ (b : Bool). start_mark m (if b then Some (operation_of (entry_of r m)) else None)) (start_runs r m m unended ∙ ap (λ (b : Bool). is_running r m || b) (eq-eqb m m refl) ∙ or-true (is_running r m))
+started_mark r m unended = grind (arith, operation_of, start_runs)
 
 pub runs_by : (g : Setup) (w : World) (s : Step) (a : Answer) (n : ℕ) → Change g w s a
     → is_running (happens g w s a).requests n ≡ runs_after (mark_by (happens g w s a).requests (s, a)) (is_running w.requests n) n

@@ -1,6 +1,6 @@
 -- That a search covers all moves: `passed_one` and `dropped_one` where the next mark is passed or not, and `taken_all` where an operation takes effect first.
-use Rattle.std.proofs.Common.{◌≡◌, ◌<◌, ◌≤◌, ◌+◌, ℕ, true, false, not, List, [], ◌∷◌, ◌++◌, Option, Some, None, length, map, drop, is_some, refl, sym, ap, subst, ◌∙◌, inl, inr, arith, add-one, append-nil}
-use Rattle.uring_early.proofs.Common.{AreTakers, Contains, End, Ends, EndsBy, Goes, GoesOn, Idle, IsPlaced, IsSearch, IsWalk, Mark, MayTake, Move, OneGoes, Outcome, Pass, Passes, PassesAt, Replaces, Running, Seat, Standing, Starts, Take, Taker, at_first, awaits, awaits_at, drop-cons, drop_all, left_at, length-replicate, look, op_of, passed, passed_at, slice_index_or, taken_by, took, took_at}
+use Rattle.std.proofs.Common.{◌≡◌, ◌<◌, ◌≤◌, ◌+◌, ℕ, true, false, not, List, [], ◌∷◌, ◌++◌, Option, length, map, drop, is_some, refl, sym, ap, subst, ◌∙◌, inl, inr, arith, append-nil}
+use Rattle.uring_early.proofs.Common.{AreTakers, Contains, End, EndsBy, Goes, GoesOn, Idle, IsPlaced, IsSearch, IsWalk, Mark, MayTake, Move, OneGoes, Outcome, Pass, Passes, PassesAt, Replaces, Running, Seat, Standing, Take, Taker, at_first, awaits, awaits_at, drop-cons, drop_all, left_at, length-replicate, look, op_of, passed, passed_at, slice_index_or, took, took_at}
 use Rattle.std.proofs.lemmas.List.Elements.{Contains-append_left, Contains-append_right, Contains-append_cases, Contains-push, Contains-push_cases}
 use Rattle.uring_early.proofs.Plain.{after_length}
 
@@ -10,10 +10,7 @@ none_there : {X : Type 0} (x : X) → Contains [] x → ⊥
 none_there x there = let low : there.0 < 0 = there.1 in omega (arith, low)
 
 alone : {X : Type 0} (x y : X) → Contains (x ∷ []) y → x ≡ y
-alone x y there = elim (Contains-push_cases [] x y there) [
-  | inl before ↦ absurd (none_there y before)
-  | inr same ↦ same
-]
+alone x y there = grind arith
 
 first_there : {X : Type 0} (x : X) (xs : List X) → Contains (x ∷ xs) x
 first_there x xs = Contains-append_left (x ∷ []) xs x (0, omega arith, refl)
@@ -45,8 +42,7 @@ pass_by : (s : Standing) (m : Mark) (marks : List Mark) → awaits s.running (m 
     → (moves : List Move) → IsWalk s (m ∷ marks) moves → Passes s.running m × Goes (passed s m) marks
 pass_by s m marks free [] walk = absurd (let f : m ∷ marks ≡ [] = walk in cc)
 pass_by s m marks free (Pass ∷ later) walk = (walk.0, record { moves = later; walk = walk.1 })
-pass_by s m marks free (Take n o ∷ later) walk =
-    absurd (let t : awaits s.running (m ∷ marks) ≡ true = walk.0.waits in let f : true ≡ false = sym t ∙ free in cc)
+pass_by s m marks free (Take n o ∷ later) walk = grind arith
 
 -- an operation takes effect, and others do later
 pub record Takes (s : Standing) (marks : List Mark) : Type 0 where
@@ -56,25 +52,17 @@ pub record Takes (s : Standing) (marks : List Mark) : Type 0 where
   pub goes : Goes (took s number outcome) marks
 
 awaited_free : (o : Option Outcome) (e : End) → not (is_some o) ≡ true → EndsBy o e → ⊥
-awaited_free None e free ends = ends
-awaited_free (Some q) e free ends = let f : false ≡ true = free in absurd cc
+awaited_free o e free ends = grind arith
 
 never_passes : (running : List Running) (m : Mark) (marks : List Mark) → awaits running (m ∷ marks) ≡ true → Passes running m → ⊥
-never_passes running (Ends n e) marks waits passes = awaited_free (taken_by running n) e waits passes
-never_passes running (Starts n op) marks waits passes = let f : false ≡ true = waits in absurd cc
-never_passes running Idle marks waits passes = let f : false ≡ true = waits in absurd cc
+never_passes running m marks waits passes = grind arith
 
 take_by : (s : Standing) (marks : List Mark) → awaits s.running marks ≡ true → (moves : List Move)
     → IsWalk s marks moves → Takes s marks
 take_by s [] waits moves walk = absurd (let f : false ≡ true = waits in cc)
 take_by s (m ∷ marks) waits [] walk = absurd (let f : m ∷ marks ≡ [] = walk in cc)
 take_by s (m ∷ marks) waits (Pass ∷ later) walk = absurd (never_passes s.running m marks waits walk.0)
-take_by s (m ∷ marks) waits (Take n o ∷ later) walk = record {
-  number = n;
-  outcome = o;
-  may = walk.0;
-  goes = record { moves = later; walk = walk.1 };
-}
+take_by s (m ∷ marks) waits (Take n o ∷ later) walk = grind arith
 
 taken_goes : (s : Standing) (marks : List Mark) (n : ℕ) (o : Outcome) → MayTake s marks n o
     → Goes (took s n o) marks → Goes s marks
@@ -90,14 +78,10 @@ passed_goes s m marks passes later = record { moves = Pass ∷ later.moves; walk
 -- the marks that are left begin with the next one
 left_next : (marks : List Mark) (s : Seat) → s.place < length marks
     → left_at marks s ≡ slice_index_or marks s.place Idle ∷ drop (s.place + 1) marks
-left_next marks s before =
-    drop-cons marks s.place Idle before
-    ∙ ap (λ (k : ℕ). slice_index_or marks s.place Idle ∷ drop k marks) (sym (add-one s.place))
+left_next marks s before = grind (arith, drop-cons)
 
 passed_files : (s : Standing) (m : Mark) → (passed s m).files ≡ s.files
-passed_files s (Starts n op) = refl
-passed_files s (Ends n e) = refl
-passed_files s Idle = refl
+passed_files s m = grind arith
 
 pub passed_one : (count : ℕ) (marks : List Mark) (s x : Seat) (old new : List Seat) → IsPlaced count marks s
     → s.place < length marks → awaits_at marks s ≡ false → PassesAt marks s → x ≡ passed_at marks s
@@ -113,29 +97,13 @@ passed_one count marks s x old new placed before free passes is more =
           let walk : IsWalk s.standing (m ∷ drop (s.place + 1) marks) goes.moves = subst (λ (ms : List Mark). IsWalk s.standing ms goes.moves) next goes.walk in
           let past = pass_by s.standing m (drop (s.place + 1) marks) (sym (ap (awaits s.standing.running) next) ∙ free) goes.moves walk in
           record { seat = y; there = first_there y []; goes = past.1 };
-      right = λ z there.
-          let same : y ≡ z = alone y z there in
-          subst (λ (w : Seat). IsPlaced count marks w × (GoesOn marks w → GoesOn marks s)) same (
-            record { count_is = ap length (passed_files s.standing m) ∙ placed.count_is; within = omega (arith, before) },
-            λ goes. subst (Goes s.standing) (sym next) (passed_goes s.standing m (drop (s.place + 1) marks) passes goes),
-          );
+      right = grind (arith, passed_goes);
     }
 
 pub dropped_one : (count : ℕ) (marks : List Mark) (s : Seat) (old : List Seat)
     → s.place < length marks → awaits_at marks s ≡ false → (PassesAt marks s → ⊥)
     → Replaces count marks s old old
-dropped_one count marks s old before free never =
-    let m : Mark = slice_index_or marks s.place Idle in
-    let next : left_at marks s ≡ m ∷ drop (s.place + 1) marks = left_next marks s before in
-    record {
-      next = [];
-      is = sym (append-nil old);
-      all = λ goes.
-          let walk : IsWalk s.standing (m ∷ drop (s.place + 1) marks) goes.moves = subst (λ (ms : List Mark). IsWalk s.standing ms goes.moves) next goes.walk in
-          let past = pass_by s.standing m (drop (s.place + 1) marks) (sym (ap (awaits s.standing.running) next) ∙ free) goes.moves walk in
-          absurd (never past.0);
-      right = λ z there. absurd (none_there z there);
-    }
+dropped_one count marks s old before free never = grind (arith, left_next, append-nil, pass_by, none_there)
 
 pub taken_all : (count : ℕ) (marks : List Mark) (s : Seat) (takers : List Taker) (old new : List Seat)
     → IsPlaced count marks s → awaits_at marks s ≡ true → AreTakers s.standing (left_at marks s) takers
@@ -193,8 +161,5 @@ pub begins : (count : ℕ) (marks : List Mark) (s : Seat) → s ≡ record { sta
 begins count marks s is =
     subst (λ (x : Seat). IsSearch count marks (x ∷ [])) (sym is) (record {
       all = λ goes. record { seat = record { standing = at_first count; place = 0 }; there = first_there (record { standing = at_first count; place = 0 }) []; goes = goes };
-      right = λ x there. subst (λ (y : Seat). IsPlaced count marks y × (GoesOn marks y → Goes (at_first count) marks)) (alone _ x there) (
-        record { count_is = length-replicate count _; within = omega arith },
-        λ goes. goes,
-      );
+      right = grind (arith, length-replicate);
     })

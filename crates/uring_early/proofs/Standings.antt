@@ -1,16 +1,15 @@
 -- How operations stand along a timeline: as a search has it, after each event and each effect.
-use Rattle.std.proofs.Common.{◌≡◌, ◌==◌, ◌||◌, ◌&&◌, ℕ, ℤ, Bool, true, false, not, List, [], ◌∷◌, ◌++◌, map, Option, Some, None, if◌then◌else◌, refl, sym, ap, subst, ◌∙◌, arith, inl, inr}
-use Rattle.uring_early.proofs.Common.{Answer, CalledForApart, Change, Ends, EndsAsTaken, EndsBy, FileContents, FinishesApart, History, Idle, IsLawfulApart, IsOutcome, IsSilent, IsTimely, Makes, Mark, MayTake, Op, Outcome, Passes, Requests, Running, Setup, Standing, Starts, Step, Takes, TakesEffect, Timeline, World, after, and_from, and_parts, both_ways, cases_Bool, change_of, effect_of, effects_in, empty_files, entry_of, eqb-true, event_grows, false_from_ne_true, files_at, has_ended, has_started, is_running, look, made_in, mark_by, op_of, operation_at, operation_of, operation_running, option_map, passed, plain, refuses, requests_in, requests_of, runs, same_Some, sound_of, start_mark, taken_by, taken_of, taking, took, with_issued_end, with_taken, without, world}
-use Rattle.std.proofs.Math.Bool.{or-false, and-true, and-false}
+use Rattle.std.proofs.Common.{◌≡◌, ◌==◌, ◌||◌, ◌&&◌, ℕ, ℤ, Bool, true, false, not, List, [], ◌∷◌, ◌++◌, map, Option, Some, None, if◌then◌else◌, refl, sym, ap, subst, ◌∙◌, arith}
+use Rattle.uring_early.proofs.Common.{Answer, CalledForApart, Change, Ends, EndsAsTaken, EndsBy, FileContents, FinishesApart, History, Idle, IsLawfulApart, IsOutcome, IsSilent, IsTimely, Makes, Mark, MayTake, Op, Outcome, Passes, Requests, Running, Setup, Standing, Starts, Step, Takes, TakesEffect, Timeline, World, and_from, both_ways, change_of, effect_of, entry_of, eqb-true, event_grows, false_from_ne_true, files_at, has_ended, has_started, is_running, look, made_in, mark_by, op_of, operation_at, operation_of, operation_running, option_map, passed, plain, requests_in, requests_of, sound_of, start_mark, taken_by, taken_of, taking, took, with_issued_end, with_taken, without, world}
+use Rattle.std.proofs.Math.Bool.{and-false}
 use Rattle.uring_files.proofs.DoneLemmas.{left_snoc}
 use Rattle.uring_core.specs.declared.step.Step.TheVariants as step
 use Rattle.uring_core.specs.declared.answer.Answer.TheVariants as answer
 use Rattle.uring_linux.specs.LinuxRequests.{LinuxRequests}
 use Rattle.uring_core.proofs.ListCounts.{any_kept}
-use Rattle.uring_core.proofs.Moves.{Move, starts, ends_doomed, ends_cancel, move_of}
+use Rattle.uring_core.proofs.Moves.{Move, move_of}
 use Rattle.uring_early.proofs.Plain.{after_plain, outcome_back}
 use Rattle.uring_early.proofs.RunningAfter.{runs_after, runs_by}
-use Rattle.uring_laws.proofs.EndedRequests.{not_ended}
 
 -- ---- the list of what runs
 
@@ -33,8 +32,7 @@ taking_number m o r = grind arith
 look_taken : (rs : List Running) (m n : ℕ) (o : Outcome)
     → look (with_taken rs m o) n ≡ option_map (λ r. taking m o r) (look rs n)
 look_taken [] m n o = refl
-look_taken (r ∷ rs) m n o =
-    grind (arith, taking_number m o r, look_taken rs m n o)
+look_taken (r ∷ rs) m n o = grind (arith, (look_taken rs m n o))
 
 -- ---- how a request stands
 
@@ -53,34 +51,26 @@ pub record Stands (g : Setup) (t : Timeline) (s : Standing) : Type 0 where
 
 runs_one : (b : Bool) (n : ℕ) (op op2 : Op) (taken : Option Outcome) (r : Running)
     → one_of b n op taken ≡ Some r → (b ≡ true) × ((op ≡ r.op) × (taken ≡ r.taken))
-runs_one true n op op2 taken r is = (refl, (ap (λ (x : Running). x.op) (same_Some _ r is), ap (λ (x : Running). x.taken) (same_Some _ r is)))
-runs_one false n op op2 taken r is = absurd cc
+runs_one b n op op2 taken r is = grind arith
 
 -- ---- effects
 
 -- an end at an issue starts none
 issued_starts : (linux : Bool) (r : Requests) (m n : ℕ) (res : ℤ)
     → has_started (with_issued_end linux r m res) n ≡ has_started r n
-issued_starts true r m n res = refl
-issued_starts false r m n res = refl
+issued_starts linux r m n res = grind arith
 
 -- an effect that was taken was by what had started
 starts_stay : (linux : Bool) (l : LinuxRequests) (s : Step) (a : Answer) (q : Requests) (n : ℕ) → Move linux l s a q
     → has_started l.requests n ≡ true → has_started q n ≡ true
-starts_stay linux l s a q n (starts m outstanding idle spared ready no_cancel) started =
-    any_kept (λ k. k == n) l.requests.started _ started
-starts_stay linux l s a q n (ends_doomed m outstanding) started = issued_starts linux l.requests m n _ ∙ started
-starts_stay linux l s a q n (ends_cancel m outstanding spared ready cancel) started = issued_starts linux l.requests m n _ ∙ started
-starts_stay linux l s a q n _ started = started
+starts_stay linux l s a q n h started = grind (arith, any_kept, issued_starts)
 
 effect_started : (g : Setup) (t : Timeline) (n : ℕ) (o : Outcome) → IsTimely g t → IsLawfulApart g (made_in t)
     → effect_of t n ≡ Some o → has_started (requests_in g t) n ≡ true
 effect_started g [] n o timely lawful is = absurd cc
 effect_started g (Makes (s, a) ∷ t) n o timely lawful is =
     starts_stay g.linux (requests_of (world g (made_in t))) s a _ n (move_of g s a (made_in t) lawful) (effect_started g t n o timely.1 lawful.1 is)
-effect_started g (Takes m p ∷ t) n o timely lawful is =
-    let started = (and_parts (has_started (requests_in g t) m) _ timely.0.runs).0 in
-    grind (arith, effect_started g t n o timely.1 lawful, started, is)
+effect_started g (Takes m p ∷ t) n o timely lawful is = grind (arith, (effect_started g t n o timely.1 lawful))
 
 -- what hasn't started has taken none
 pub unstarted_free : (g : Setup) (t : Timeline) (n : ℕ) → IsTimely g t → IsLawfulApart g (made_in t)
@@ -93,23 +83,18 @@ unstarted_free g t n timely lawful idle = by (effect_of t n) refl where
 -- ---- after an event
 
 passed_files : (s : Standing) (m : Mark) → (passed s m).files ≡ s.files
-passed_files s Idle = refl
-passed_files s _ = refl
+passed_files s m = grind arith
 
 -- a request of the same entry stands as before, if it runs as before
 stands_so : (r later : Requests) (n : ℕ) (taken : Option Outcome) → is_running later n ≡ is_running r n
     → (is_running r n ≡ true → entry_of later n ≡ entry_of r n)
     → standing_at r taken n ≡ standing_at later taken n
-stands_so r later n taken same entry = elim (cases_Bool (is_running r n)) [
-  | inl ran ↦ cc (entry ran)
-  | inr idle ↦ cc
-]
+stands_so r later n taken same entry = grind arith
 
 entry_same : (g : Setup) (s : Step) (a : Answer) (h : History) (n : ℕ) → IsLawfulApart g ((s, a) ∷ h)
     → is_running (world g h).requests n ≡ true
     → entry_of (world g ((s, a) ∷ h)).requests n ≡ entry_of (world g h).requests n
-entry_same g s a h n lawful running =
-    (event_grows g s a h lawful).same_entry n ((sound_of g h lawful.1).requests.started_accepted n (and_parts _ _ running).0)
+entry_same g s a h n lawful running = grind (arith, event_grows, sound_of)
 
 -- of a start what stood before it
 abbrev StartFacts : Requests → Step → Answer → Type 0
@@ -117,13 +102,10 @@ StartFacts r (step.Issue k) answer.Run = (is_running r k ≡ false) × (has_ende
 StartFacts r s a = Unit {0}
 
 silent_start : (r : Requests) (s : Step) (a : Answer) → IsSilent (s, a) → StartFacts r s a
-silent_start r (step.Issue k) answer.Run silent = absurd cc
-silent_start r _ a silent = tt
+silent_start r s a silent = grind arith
 
 start_facts : (g : Setup) (w : World) (s : Step) (a : Answer) → Change g w s a → StartFacts w.requests s a
-start_facts g w s a (refuses _ _ same silent) = silent_start w.requests s a silent
-start_facts g w s a (runs m outstanding idle spared ready no_cancel) = (idle, not_ended w.requests m outstanding)
-start_facts g w s a _ = tt
+start_facts g w s a h = grind arith
 
 -- what a mark of a start tells
 record IsStart (r : Requests) (s : Step) (a : Answer) (k : ℕ) (op : Op) : Type 0 where
@@ -133,8 +115,7 @@ record IsStart (r : Requests) (s : Step) (a : Answer) (k : ℕ) (op : Op) : Type
 
 start_by : (r : Requests) (n k : ℕ) (op : Op) (o : Option Op) → operation_running r n ≡ o
     → start_mark n o ≡ Starts k op → IsStart r (step.Issue n) answer.Run k op
-start_by r n k op None is mark = absurd cc
-start_by r n k op (Some p) is mark = record { step_is = cc; answer_is = refl; asks = cc }
+start_by r n k op o is mark = grind arith
 
 start_from : (r : Requests) (s : Step) (a : Answer) (k : ℕ) (op : Op) → mark_by r (s, a) ≡ Starts k op
     → IsStart r s a k op
@@ -166,9 +147,7 @@ module _ (g : Setup) (t : Timeline) (st : Standing) (s : Step) (a : Answer) wher
     later = requests_in g (Makes (s, a) ∷ t)
 
     by : (b : Bool) → (k == n) ≡ b → (if b then None else look st.running n) ≡ standing_at later (effect_of t n) n
-    by true same = ap (λ (b : Bool). one_of b n (operation_of (entry_of later n)) (effect_of t n)) (sym (runs_so n ∙ ap (λ (b : Bool). is_running (requests_in g t) n && not b) same ∙ and-false (is_running (requests_in g t) n)))
-    by false other =
-        stands.running n ∙ stands_so (requests_in g t) later n (effect_of t n) (runs_so n ∙ ap (λ (b : Bool). is_running (requests_in g t) n && not b) other ∙ and-true (is_running (requests_in g t) n)) (entry_same g s a (made_in t) n lawful)
+    by b same = grind (arith, runs_so, and-false, entry_same)
 
   after_start : (k : ℕ) (op : Op) → Stands g t st → IsLawfulApart g ((s, a) ∷ made_in t)
       → is_running (requests_in g t) k ≡ false → effect_of t k ≡ None
@@ -183,18 +162,10 @@ module _ (g : Setup) (t : Timeline) (st : Standing) (s : Step) (a : Answer) wher
     new = record { number = k; op = op; taken = None }
 
     here : or_else (look st.running k) (Some new) ≡ standing_at later (effect_of t k) k
-    here =
-        let asked = asked_by (is_running later k) op (operation_of (entry_of later k)) asks in
-        ap (λ (o : Option Running). or_else o (Some new)) (stands.running k ∙ ap (λ (b : Bool). one_of b k (operation_of (entry_of (requests_in g t) k)) (effect_of t k)) idle)
-        ∙ ap (λ (x : Op). one_of true k x None) (sym asked.1)
-        ∙ ap (λ (o : Option Outcome). one_of true k (operation_of (entry_of later k)) o) (sym free)
-        ∙ ap (λ (b : Bool). one_of b k (operation_of (entry_of later k)) (effect_of t k)) (sym asked.0)
+    here = grind arith
 
     by : (b : Bool) → (k == n) ≡ b → or_else (look st.running n) (if b then Some new else None) ≡ standing_at later (effect_of t n) n
-    by true same = subst (λ (m : ℕ). or_else (look st.running m) (Some new) ≡ standing_at later (effect_of t m) m) (eqb-true k n same) here
-    by false other =
-        or_none (look st.running n) ∙ stands.running n
-        ∙ stands_so (requests_in g t) later n (effect_of t n) (runs_so n ∙ ap (λ (b : Bool). is_running (requests_in g t) n || b) other ∙ or-false (is_running (requests_in g t) n)) (entry_same g s a (made_in t) n lawful)
+    by b same = grind (arith, eqb-true, here)
 
   runs_so : IsLawfulApart g ((s, a) ∷ made_in t) → {m : Mark} → mark_by (requests_in g (Makes (s, a) ∷ t)) (s, a) ≡ m → (k : ℕ) → is_running (requests_in g (Makes (s, a) ∷ t)) k ≡ runs_after m (is_running (requests_in g t) k) k
   runs_so lawful is k = runs_by g (world g (made_in t)) s a k (change_of g (world g (made_in t)) s a lawful.0) ∙ ap (λ (x : Mark). runs_after x (is_running (requests_in g t) k) k) is
@@ -202,8 +173,7 @@ module _ (g : Setup) (t : Timeline) (st : Standing) (s : Step) (a : Answer) wher
   after_mark : (m : Mark) → mark_by (requests_in g (Makes (s, a) ∷ t)) (s, a) ≡ m → IsTimely g t → Stands g t st
       → IsLawfulApart g ((s, a) ∷ made_in t)
       → (n : ℕ) → look (passed st m).running n ≡ standing_at (requests_in g (Makes (s, a) ∷ t)) (effect_of t n) n
-  after_mark Idle is timely stands lawful n =
-      after_idle stands lawful (runs_so lawful is) n
+  after_mark Idle is timely stands lawful n = grind (arith, (after_idle stands lawful (runs_so lawful is) n))
   after_mark (Ends m e) is timely stands lawful n =
       after_end m stands lawful (runs_so lawful is) n
   after_mark (Starts m op) is timely stands lawful n =
@@ -223,24 +193,14 @@ stands_makes g t st s a timely stands lawful = record {
 
 taken_one : (b : Bool) (n m : ℕ) (op : Op) (o : Outcome) (taken : Option Outcome)
     → option_map (λ r. taking m o r) (one_of b n op taken) ≡ one_of b n op (if m == n then Some o else taken)
-taken_one false n m op o taken = refl
-taken_one true n m op o taken = grind arith
+taken_one b n m op o taken = grind arith
 
 op_one : (b : Bool) (n : ℕ) (op : Op) (taken : Option Outcome) → b ≡ true → op_of (one_of b n op taken) ≡ op
 op_one b n op taken ran = cc
 
 pub stands_takes : (g : Setup) (t : Timeline) (st : Standing) (n : ℕ) (o : Outcome) → Stands g t st
     → is_running (requests_in g t) n ≡ true → Stands g (Takes n o ∷ t) (took st n o)
-stands_takes g t st n o stands ran = record {
-  files =
-      ap (λ (x : Op). map plain (after st.files x o.res)) (ap op_of (stands.running n) ∙ op_one (is_running (requests_in g t) n) n (operation_at g t n) (effect_of t n) ran)
-      ∙ ap (λ (fs : List FileContents). map plain (after fs (operation_at g t n) o.res)) stands.files
-      ∙ after_plain (files_at g t) (operation_at g t n) o.res
-      ∙ ap (map plain) (sym (left_snoc (empty_files g.files) (effects_in g t) (record { number = n; op = operation_at g t n; outcome = o })));
-  running = λ k.
-      look_taken st.running n k o ∙ ap (λ (x : Option Running). option_map (λ r. taking n o r) x) (stands.running k)
-      ∙ taken_one (is_running (requests_in g t) k) k n (operation_at g t k) o (effect_of t k);
-}
+stands_takes g t st n o stands ran = grind (arith, after_plain, left_snoc, look_taken, taken_one)
 
 -- an effect that a search has is one of the timeline
 pub takes_effect : (g : Setup) (t : Timeline) (st : Standing) (marks : List Mark) (n : ℕ) (o : Outcome) → Stands g t st
@@ -257,13 +217,11 @@ takes_effect g t st marks n o stands may =
 
 taken_one_of : (b : Bool) (n : ℕ) (op : Op) (taken : Option Outcome) (o : Outcome)
     → taken_of (one_of b n op taken) ≡ Some o → taken ≡ Some o
-taken_one_of true n op taken o is = is
-taken_one_of false n op taken o is = absurd cc
+taken_one_of b n op taken o is = grind arith
 
 ended_by : (taken : Option Outcome) (res : ℤ) (bytes : List ℕ)
     → EndsBy taken (record { res = res; bytes = Some bytes }) → taken ≡ Some (record { res = res; bytes = bytes })
-ended_by None res bytes ends = absurd ends
-ended_by (Some o) res bytes ends = λ i. Some (record { res = sym ends.0 i; bytes = sym ends.1 i })
+ended_by taken res bytes ends = grind arith
 
 -- what passes the mark of an end ends as it was taken
 pub ends_so : (g : Setup) (t : Timeline) (st : Standing) (s : Step) (a : Answer) → Stands g t st
@@ -274,22 +232,12 @@ ends_so g t st _ a stands passes = tt
 
 -- and what ends as it was taken passes
 start_passes : (running : List Running) (n : ℕ) (o : Option Op) → Passes running (start_mark n o)
-start_passes running n None = tt
-start_passes running n (Some op) = tt
+start_passes running n o = grind arith
 
 finish_runs : (b : Bool) (res : ℤ) (bytes : List ℕ) → FinishesApart b (answer.Ended res bytes) → b ≡ true
-finish_runs true res bytes called = refl
-finish_runs false res bytes called = absurd cc
+finish_runs b res bytes called = grind arith
 
 pub passes_so : (g : Setup) (t : Timeline) (st : Standing) (s : Step) (a : Answer) → Stands g t st
     → CalledForApart g (world g (made_in t)) s a
     → EndsAsTaken t (s, a) → Passes st.running (mark_by (requests_in g (Makes (s, a) ∷ t)) (s, a))
-passes_so g t st (step.Finish n) (answer.Ended res bytes) stands called ends =
-    let taken : taken_by st.running n ≡ Some (record { res = res; bytes = bytes }) =
-    ap taken_of (stands.running n)
-    ∙ ap (λ (b : Bool). taken_of (one_of b n (operation_at g t n) (effect_of t n))) (finish_runs (is_running (requests_in g t) n) res bytes called)
-    ∙ ends in
-    subst (λ (o : Option Outcome). EndsBy o (record { res = res; bytes = Some bytes })) (sym taken) (refl, refl)
-passes_so g t st (step.Issue n) answer.Run stands called ends =
-    start_passes st.running n (operation_running (requests_in g (Makes (step.Issue n, answer.Run) ∷ t)) n)
-passes_so g t st _ a stands called ends = tt
+passes_so g t st s a stands called ends = grind arith

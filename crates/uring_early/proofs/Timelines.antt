@@ -1,7 +1,7 @@
 -- A search's moves are a timeline of the history, and a timeline whose effects wait is moves of the search.
 use Rattle.std.proofs.Common.{◌≡◌, ◌==◌, ℕ, ℤ, Bool, true, false, not, is_some, List, [], ◌∷◌, ◌++◌, Option, Some, None, if◌then◌else◌, refl, sym, ap, subst, ◌∙◌, append-nil, arith}
 use Rattle.std.proofs.lemmas.Bool.{false≢true}
-use Rattle.uring_early.proofs.Common.{Answer, EffectsWait, End, EndsAsTaken, EndsLast, Event, FileContents, FitsEnd, Goes, History, IsFated, IsFound, IsLawfulApart, IsLawfulEarly, IsLawfulLate, IsOutcome, IsTimely, IsWalk, Makes, Mark, MayTake, Move, Op, Outcome, Pass, Passes, Running, Setup, Standing, Step, Take, Takes, TakesEffect, Timeline, at_first, awaits, effect_of, end_in, ends_in_effect, eq-eqb, eqb-true, files_at, found_by, history_of, history_of_cons, is_end_of, is_running, made_in, mark_by, marks_after, operation_at, operation_running, passed, requests_in, reverse, reverse-reverse, same_Some, start_mark, taken_of, took}
+use Rattle.uring_early.proofs.Common.{Answer, EffectsWait, End, EndsAsTaken, EndsLast, Event, FileContents, FitsEnd, Goes, History, IsFated, IsFound, IsLawfulApart, IsLawfulEarly, IsLawfulLate, IsOutcome, IsTimely, IsWalk, Makes, Mark, MayTake, Move, Op, Outcome, Pass, Passes, Setup, Standing, Step, Take, Takes, TakesEffect, Timeline, at_first, awaits, effect_of, end_in, ends_in_effect, eq-eqb, files_at, found_by, history_of, history_of_cons, is_end_of, made_in, mark_by, marks_after, operation_at, operation_running, passed, requests_in, reverse, reverse-reverse, start_mark, taken_of, took}
 use Rattle.uring_core.specs.declared.step.Step.TheVariants as step
 use Rattle.uring_core.specs.declared.answer.Answer.TheVariants as answer
 use Rattle.uring_core.proofs.Running.{running_asks}
@@ -39,13 +39,11 @@ by_moves : (g : Setup) (moves : List Move) (later : List Event) (t : Timeline) (
     → IsWalk st (marks_after g (made_in t) later) moves → Stands g t st → IsTimely g t
     → IsLawfulApart g (onto (made_in t) later) → HasTimeline g (onto (made_in t) later)
 by_moves g [] [] t st walk stands timely lawful = record { timeline = t; made = refl; timely = timely }
-by_moves g [] (e ∷ later) t st walk stands timely lawful =
-    absurd (let f : marks_after g (made_in t) (e ∷ later) ≡ [] = walk in cc)
+by_moves g [] (e ∷ later) t st walk stands timely lawful = grind arith
 by_moves g (Pass ∷ moves) [] t st walk stands timely lawful = absurd walk
 by_moves g (Pass ∷ moves) ((s, a) ∷ later) t st walk stands timely lawful =
     by_moves g moves later (Makes (s, a) ∷ t) (passed st (mark_by (requests_in g (Makes (s, a) ∷ t)) (s, a))) walk.1 (stands_makes g t st s a timely stands (lawful_below g later ((s, a) ∷ made_in t) lawful)) (ends_so g t st s a stands walk.0, timely) lawful
-by_moves g (Take n o ∷ moves) [] t st walk stands timely lawful =
-    absurd (let f : false ≡ true = walk.0.waits in cc)
+by_moves g (Take n o ∷ moves) [] t st walk stands timely lawful = grind arith
 by_moves g (Take n o ∷ moves) (e ∷ later) t st walk stands timely lawful =
     let taken : TakesEffect g t n o = takes_effect g t st (marks_after g (made_in t) (e ∷ later)) n o stands walk.0 in
     by_moves g moves (e ∷ later) (Takes n o ∷ t) (took st n o) walk.1 (stands_takes g t st n o stands taken.runs) (taken, timely) lawful
@@ -67,8 +65,7 @@ standing_of g (Takes n o ∷ t) = took (standing_of g t) n o
 
 stands_of : (g : Setup) (t : Timeline) → IsTimely g t → IsLawfulApart g (made_in t) → Stands g t (standing_of g t)
 stands_of g [] timely lawful = first_stands g
-stands_of g (Makes (s, a) ∷ t) timely lawful =
-    stands_makes g t (standing_of g t) s a timely.1 (stands_of g t timely.1 lawful.1) lawful
+stands_of g (Makes (s, a) ∷ t) timely lawful = grind (arith, stands_makes, (stands_of g t timely.1 lawful.1))
 stands_of g (Takes n o ∷ t) timely lawful =
     stands_takes g t (standing_of g t) n o (stands_of g t timely.1 lawful) timely.0.runs
 
@@ -97,11 +94,7 @@ taken_free b n op = grind arith
 
 waits_by : (g : Setup) (t : Timeline) (st : Standing) (later : List Event) → Stands g t st → EndsNext t later
     → awaits st.running (marks_after g (made_in t) later) ≡ true
-waits_by g t st later stands next =
-    ap (λ (l : List Event). awaits st.running (marks_after g (made_in t) l)) next.is
-    ∙ ap (λ (r : Option Running). not (is_some (taken_of r))) (stands.running next.number)
-    ∙ ap (λ (o : Option Outcome). not (is_some (taken_of (one_of (is_running (requests_in g t) next.number) next.number (operation_at g t next.number) o)))) next.free
-    ∙ taken_free (is_running (requests_in g t) next.number) next.number (operation_at g t next.number)
+waits_by g t st later stands next = grind arith
 
 -- an effect of the timeline is one that a search has
 may_take : (g : Setup) (t : Timeline) (st : Standing) (later : List Event) (n : ℕ) (o : Outcome) → Stands g t st
@@ -110,10 +103,7 @@ may_take : (g : Setup) (t : Timeline) (st : Standing) (later : List Event) (n : 
     → MayTake st (marks_after g (made_in t) later) n o
 may_take g t st later n o stands lawful taken next fits = record {
   op = operation_at g t n;
-  runs =
-      stands.running n
-      ∙ ap (λ (b : Bool). one_of b n (operation_at g t n) (effect_of t n)) taken.runs
-      ∙ ap (λ (x : Option Outcome). one_of true n (operation_at g t n) x) taken.first;
+  runs = grind arith;
   asks = running_asks g (made_in t) n lawful taken.runs;
   gives = subst (λ (fs : List FileContents). IsOutcome fs (operation_at g t n) o) (sym stands.files) (outcome_plain (files_at g t) (operation_at g t n) o taken.gives);
   ends = fits;
@@ -125,16 +115,7 @@ free_before : (m k : ℕ) (p : Outcome) (t : Timeline) → effect_of (Takes m p 
 free_before m k p t free = grind (arith, free)
 
 next_before : (t : Timeline) (later : List Event) → EndsNext t later → IsNext t later
-next_before [] later next = tt
-next_before (Makes e ∷ t) later next = tt
-next_before (Takes m p ∷ t) later next = record {
-  number = next.number;
-  res = next.res;
-  bytes = next.bytes;
-  rest = next.rest;
-  is = next.is;
-  free = free_before m next.number p t next.free;
-}
+next_before t later next = grind arith
 
 ends_before_effect : (g : Setup) (m : ℕ) (p : Outcome) (t : Timeline) (later : List Event) → effect_of t m ≡ None
     → EndsSo g (Takes m p ∷ t) later → EndsSo g t later
@@ -143,21 +124,12 @@ ends_before_effect g m p t later first so n o taken = so n o (grind (arith, firs
 -- going back over an event
 next_by_end : (e : Event) (m : ℕ) (t : Timeline) (later : List Event) → is_end_of m e ≡ true
     → effect_of t m ≡ None → EndsNext t (e ∷ later)
-next_by_end (step.Finish k, answer.Ended res bytes) m t later ends free = record {
-  number = k;
-  res = res;
-  bytes = bytes;
-  rest = later;
-  is = refl;
-  free = ap (effect_of t) (sym (eqb-true m k ends)) ∙ free;
-}
+next_by_end (step.Finish k, answer.Ended res bytes) m t later ends free = grind arith
 next_by_end _ m t later ends free = absurd (false≢true ends)
 
 next_by : (g : Setup) (e : Event) (t : Timeline) (later : List Event) → IsTimely g t → EndsLast t e
     → IsNext t (e ∷ later)
-next_by g e [] later timely last = tt
-next_by g e (Makes x ∷ t) later timely last = tt
-next_by g e (Takes m p ∷ t) later timely last = next_by_end e m t later last timely.0.first
+next_by g e t later timely last = grind (arith, next_by_end)
 
 pub start_ends : (n k : ℕ) (o : Option Op) (marks : List Mark) → end_in (start_mark n o ∷ marks) k ≡ end_in marks k
 start_ends n k o marks = grind arith
@@ -169,10 +141,7 @@ ends_before g (step.Finish k) (answer.Ended res bytes) t later ends so n o taken
   rest = marks_after g ((step.Finish k, answer.Ended res bytes) ∷ made_in t) later
 
   by : (b : Bool) → (k == n) ≡ b → FitsEnd (if b then Some (record { res = res; bytes = Some bytes }) else end_in rest n) o
-  by true same =
-      let is : record { res = res; bytes = bytes } ≡ o = same_Some (record { res = res; bytes = bytes }) o (sym ends ∙ ap (effect_of t) (eqb-true k n same) ∙ taken) in
-      (ap (λ (x : Outcome). x.res) is, ap (λ (x : Outcome). x.bytes) is)
-  by false other = so n o taken
+  by b same = grind arith
 ends_before g (step.Issue k) answer.Run t later ends so n o taken =
     subst (λ (x : Option End). FitsEnd x o) (sym (start_ends k n (operation_running (requests_in g (Makes (step.Issue k, answer.Run) ∷ t)) k) (marks_after g ((step.Issue k, answer.Run) ∷ made_in t) later))) (so n o taken)
 ends_before g _ a t later ends so n o taken = so n o taken
@@ -198,9 +167,7 @@ back g (Takes n o ∷ t) later timely lawful waits next so goes =
 
 -- nothing that is left ends, and nothing is left
 none_next : (t : Timeline) → ends_in_effect t ≡ false → IsNext t []
-none_next [] none = tt
-none_next (Makes e ∷ t) none = tt
-none_next (Takes n o ∷ t) none = absurd cc
+none_next t none = grind arith
 
 pub goes_by : (g : Setup) (events : List Event) → IsLawfulEarly g (history_of events)
     → Goes (at_first g.files) (marks_after g [] events)

@@ -1,15 +1,13 @@
 -- Counts that rise by one where something counts, and what was noted of them earlier.
-use Rattle.std.proofs.Common.{◌≡◌, ◌≤◌, ℕ, ◌+◌, Bool, true, false, not, ◌&&◌, ◌==◌, if◌then◌else◌, arith}
+use Rattle.std.proofs.Common.{◌≡◌, ◌≤◌, ℕ, ◌+◌, Bool, false, not, ◌&&◌, ◌==◌, if◌then◌else◌, arith}
 use Rattle.std.proofs.lemmas.Bool.{ne_eqb}
 
 pub grows : (n c : ℕ) (b : Bool) → n ≤ c → n ≤ (if b then c + 1 else c)
-grows n c true le = omega (arith, le)
-grows n c false le = le
+grows n c b le = grind arith
 
 -- it is the same as the count where nothing has counted since
 pub stays : (n c : ℕ) (b k : Bool) → n ≤ c → (n == c) ≡ k → (n == (if b then c + 1 else c)) ≡ (not b && k)
-stays n c true k le is = ne_eqb n (c + 1) (λ same. omega (arith, le, same))
-stays n c false k le is = is
+stays n c b k le is = grind arith
 
 pub apart : (n c : ℕ) → n ≤ c → (n == (c + 1)) ≡ false
 apart n c le = ne_eqb n (c + 1) (λ same. omega (arith, le, same))

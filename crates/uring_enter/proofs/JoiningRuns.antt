@@ -1,6 +1,6 @@
 -- The laws of joining: of each descriptor one row is left, in their order, which asks all that was asked of it.
-use Rattle.std.proofs.Common.{refl, Bool, true, false, ◌&&◌, ◌||◌, ◌==◌, max, ◌≡◌, ◌≢◌, ◌<◌, ◌≤◌, ◌+◌, ◌-◌, length, take, get_or, set, ℕ, ⊎_elim, arith, List, get_or-set_other, get_or-set_same}
-use Rattle.uring_enter.proofs.Common.{PollRow, bit_at, cases_eq, cases_lt, get_or-take, length-set, length-take-le, take_more_set}
+use Rattle.std.proofs.Common.{Bool, ◌&&◌, ◌||◌, ◌==◌, max, ◌≡◌, ◌≢◌, ◌<◌, ◌≤◌, ◌+◌, ◌-◌, length, take, get_or, set, ℕ, ⊎_elim, arith, List, get_or-set_other, get_or-set_same}
+use Rattle.uring_enter.proofs.Common.{PollRow, bit_at, cases_eq, get_or-take, length-set, length-take-le, take_more_set}
 use Rattle.std.proofs.lemmas.List.Quantifiers.{all_pairs_push}
 use Rattle.std.specs.Int.RustNames.{bit_or}
 use Rattle.std.proofs.lemmas.Nat.Bits.{bit_at_or, bit_at-lt}
@@ -25,13 +25,7 @@ once_joined xs n i v is l e h a b d before within =
 
 -- a row of another descriptor than the last is past all of them
 below : (ys : List PollRow) (row : PollRow) → spec.EachOnce ys → spec.AreUpTo row.fd ys → ((d : PollRow) → 0 < length ys → (get_or ys (length ys - 1) d).fd ≡ row.fd → ⊥) → (k : ℕ) (d : PollRow) → k < length ys → (get_or ys k d).fd < row.fd
-below ys row once up other k d within =
-    let last : (get_or ys (length ys - 1) d).fd ≤ row.fd = up (length ys - 1) d (omega arith) in
-    let apart : (get_or ys (length ys - 1) d).fd ≢ row.fd = other d (omega arith) in
-    ⊎_elim
-    (λ (h : k < length ys - 1). let less : (get_or ys k d).fd < (get_or ys (length ys - 1) d).fd = once k (length ys - 1) d h (omega arith) in omega arith)
-    (λ (h : length ys - 1 ≤ k). let is : k ≡ length ys - 1 = omega arith in rw is (omega arith))
-    (cases_lt k (length ys - 1))
+below ys row once up other k d within = grind arith
 
 pub once_pushed : (xs : List PollRow) (n : ℕ) (row : PollRow) → n < length xs → spec.EachOnce (take n xs) → spec.AreUpTo row.fd (take n xs) → ((d : PollRow) → 0 < n → (get_or xs (n - 1) d).fd ≡ row.fd → ⊥) → spec.EachOnce (take (n + 1) (set xs n row))
 once_pushed xs n row l once up other =
@@ -55,8 +49,7 @@ one_of : (a b : ℕ) → a < 2 → b < 2 → (max a b == 1) ≡ (a == 1 || b == 
 one_of a b la lb = grind (arith, nat_tests)
 
 over : (x a b : Bool) → (x && (a || b)) ≡ (x && a || x && b)
-over true a b = refl
-over false a b = refl
+over x a b = grind arith
 
 -- a joined row asks for an event exactly if one of the two does, and polls what both do
 pub asks_joined : (fd event : ℕ) → spec.Joins (λ row. row.fd == fd && bit_at row.events event == 1)
@@ -65,8 +58,7 @@ asks_joined fd event row other same =
     rw (← same) (rw bits (rw (one_of (bit_at row.events event) (bit_at other.events event) (bit_at-lt row.events event) (bit_at-lt other.events event)) (over (row.fd == fd) (bit_at row.events event == 1) (bit_at other.events event == 1))))
 
 twice : (x : Bool) → x ≡ (x || x)
-twice true = refl
-twice false = refl
+twice x = grind arith
 
 pub polls_joined : (fd : ℕ) → spec.Joins (λ row. row.fd == fd)
 polls_joined fd row other same = rw (← same) (twice (row.fd == fd))

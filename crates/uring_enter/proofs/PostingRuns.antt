@@ -1,5 +1,5 @@
 -- The laws of completions that were posted.
-use Rattle.std.proofs.Common.{◌≡◌, ◌+◌, ◌-◌, ◌≤◌, true, ◌==◌, length, drop, Some, None, List, [], ◌∷◌, ◌++◌, refl, sym, ap, ◌∙◌, arith}
+use Rattle.std.proofs.Common.{◌≡◌, ◌≤◌, true, ◌==◌, length, drop, Some, None, List, [], ◌∷◌, ◌++◌, refl, sym, ap, ◌∙◌, arith}
 use Rattle.std.specs.Ordering.{int_eq}
 use Rattle.uring_enter.proofs.Common.{and_parts, drop-append-le, drop-drop, drop-map, length-append, length-drop, map-append}
 use Rattle.std.proofs.lemmas.Bool.Decides.{Decides-eqb, Decides-int_eq}
@@ -22,8 +22,7 @@ shows_the_cores (Ended end (Some c) ∷ earlier) run =
     map-append core_of (unreaped earlier) (end ∷ [])
     ∙ ap (λ l. l ++ core_of end ∷ []) (shows_the_cores earlier run.0)
     ∙ ap (λ v. cores earlier ++ v ∷ []) (core_is end c run.1)
-shows_the_cores (Reaped count ∷ earlier) run =
-    sym (drop-map core_of count (unreaped earlier)) ∙ ap (λ l. drop count l) (shows_the_cores earlier run.0)
+shows_the_cores (Reaped count ∷ earlier) run = grind (arith, drop-map, (shows_the_cores earlier run.0))
 
 record IsInOrder (log : List Posting) : Type 0 where
   pub rest : unreaped log ≡ drop (gone log) (all log)
@@ -31,25 +30,9 @@ record IsInOrder (log : List Posting) : Type 0 where
 
 in_order : (log : List Posting) → IsPosting log → IsInOrder log
 in_order [] run = record { rest = refl; within = omega arith }
-in_order (Ended end None ∷ earlier) run =
-    let before = in_order earlier run in
-    record { rest = before.rest; within = before.within }
-in_order (Ended end (Some c) ∷ earlier) run =
-    let before = in_order earlier run.0 in
-    let longer : length (all earlier ++ end ∷ []) ≡ length (all earlier) + 1 = length-append (all earlier) (end ∷ []) in
-    record {
-      rest = ap (λ l. l ++ end ∷ []) before.rest
-          ∙ sym (drop-append-le (gone earlier) (all earlier) (end ∷ []) before.within);
-      within = omega (arith, before.within, longer);
-    }
-in_order (Reaped count ∷ earlier) run =
-    let before = in_order earlier run.0 in
-    let left : length (unreaped earlier) ≡ length (all earlier) - gone earlier =
-    ap (λ l. length l) before.rest ∙ length-drop (gone earlier) (all earlier) in
-    record {
-      rest = ap (λ l. drop count l) before.rest ∙ drop-drop count (gone earlier) (all earlier);
-      within = omega (arith, before.within, left, run.1);
-    }
+in_order (Ended end None ∷ earlier) run = grind (arith, (in_order earlier run))
+in_order (Ended end (Some c) ∷ earlier) run = grind (arith, (in_order earlier run.0), length-append, drop-append-le)
+in_order (Reaped count ∷ earlier) run = grind (arith, (in_order earlier run.0), length-drop, drop-drop)
 
 pub shows_each_once : ShowsEachOnce
 shows_each_once log run = (in_order log run).rest

@@ -21,23 +21,12 @@ no_other_from number t same = not_from_true _ (eq-eqb _ _ same)
 -- the first so many rows, about the one at a place
 split_at : (rows : List Timeout) (count i : ℕ) (t : Timeout) → i < count → count ≤ length rows → t ≡ get_or rows i t
     → take count rows ≡ take i rows ++ t ∷ take (count - (i + 1)) (drop (i + 1) rows)
-split_at rows count i t below within at =
-    let rest : List Timeout = take (count - (i + 1)) (drop (i + 1) rows) in
-    let sum : count ≡ i + 1 + (count - (i + 1)) = omega arith in
-    ap (λ n. take n rows) sum ∙ take-add (i + 1) (count - (i + 1)) rows
-    ∙ ap (λ l. l ++ rest) (take_more rows i t (omega arith) ∙ ap (λ v. take i rows ++ v ∷ []) (sym at))
-    ∙ append_assoc (take i rows) (t ∷ []) rest
+split_at rows count i t below within at = grind (arith, (take-add (i + 1) (count - (i + 1)) rows), take_more, append_assoc)
 
 -- the first one of the first so many rows that is found to be reached
 pub first_reached : (rows : List Timeout) (count i posted : ℕ) (t : Timeout) → i < count → count ≤ length rows → t ≡ get_or rows i t
     → NoneIsReached (take i rows) posted → is_reached_by posted t ≡ true → IsFirstReached (take count rows) posted t
-first_reached rows count i posted t below within at none is = record {
-  before = take i rows;
-  after = take (count - (i + 1)) (drop (i + 1) rows);
-  split = split_at rows count i t below within at;
-  reached = is;
-  first = none;
-}
+first_reached rows count i posted t below within at none is = grind (arith, (split_at rows count i t below within at))
 
 pub none_reached_more : (rows : List Timeout) (i posted : ℕ) (t : Timeout) → i < length rows → t ≡ get_or rows i t
     → NoneIsReached (take i rows) posted → is_reached_by posted t ≡ false → NoneIsReached (take (i + 1) rows) posted

@@ -1,26 +1,17 @@
 -- The laws of timeouts.
-use Rattle.std.proofs.Common.{◌≡◌, ℕ, ◌≤◌, ◌<◌, ◌-◌, ◌^◌, max, ℤ, pos, Bool, true, false, ◌&&◌, eqb, ltb, cond, length, get_or, List, [], ◌∷◌, ◌++◌, ◌⊎◌, inl, inr, Some, None, map, filter, refl, sym, ap, subst, arith, ◌∙◌, if◌then◌else◌}
-use Rattle.uring_enter.proofs.Common.{All, All-cons, All-contains, All-contains_itself, All-filter, All-map, All-nil, All-push, All-weaker, AreApart, Changed, Clock, Contains, Contains-append_right, Contains-get_or, Contains-push_cases, Ended, Event, IsSome, Passed, Posted, Slept, Started, Stopped, Timeout, ends_before, eqb-false, eqb-true, false≢true, filter_passes, get_or-map, has_counted, is_other, is_over, later, leb-true, length-map, ltb-false, ne_eqb, not-true, not_from_false, or_parts, running, started, time, with_expiry}
+use Rattle.std.proofs.Common.{◌≡◌, ℕ, ◌≤◌, ◌<◌, ◌-◌, ◌^◌, max, ℤ, Bool, true, false, eqb, cond, length, get_or, List, [], ◌∷◌, ◌++◌, ◌⊎◌, inl, inr, Some, None, map, filter, refl, sym, ap, arith, ◌∙◌, if◌then◌else◌}
+use Rattle.uring_enter.proofs.Common.{All, All-cons, All-contains, All-contains_itself, All-filter, All-map, All-nil, All-push, All-weaker, AreApart, Changed, Clock, Contains, Contains-append_right, Contains-get_or, Contains-push_cases, Ended, Event, IsSome, Passed, Posted, Slept, Started, Stopped, Timeout, ends_before, eqb-false, false≢true, filter_passes, get_or-map, is_other, later, length-map, ne_eqb, not-true, not_from_false, or_parts, running, started, time, with_expiry}
 use Rattle.uring_operations.specs.declared.entries.timeout.Start.{Start}
-use Rattle.uring_entry.specs.Errors.{error}
 use Rattle.uring_enter.specs.Time.TimeLaws.{IsRun, NeverGoesBack, WasGiven, EndsInTime, starts, EndsOnce, EndsAlone, RunsApart, is_virtual, PassesNoneOver}
 
 pub never_goes_back : NeverGoesBack
-never_goes_back log (Started s) = omega arith
-never_goes_back log (Posted count) = omega arith
-never_goes_back log (Changed number more) = omega arith
-never_goes_back log (Stopped number) = omega arith
-never_goes_back log (Clock now) = omega arith
-never_goes_back log (Slept start stop) = omega arith
-never_goes_back log (Passed t) = omega arith
-never_goes_back log (Ended t) = omega arith
+never_goes_back log h = grind arith
 
 -- what a change of one time makes of what all were given
 given_by : (earlier : List Event) (number more : ℕ) (t : Timeout) (b : Bool) → eqb t.number number ≡ b
     → WasGiven earlier t
     → WasGiven (Changed number more ∷ earlier) (if b then record t { expiry = later (time earlier) more; enough = 0 } else t)
-given_by earlier number more t true same given = inl (eqb-true t.number number same, refl, refl)
-given_by earlier number more t false other given = inr given
+given_by earlier number more t b same given = grind arith
 
 given_changed : (earlier : List Event) (number more : ℕ) (t : Timeout) → WasGiven earlier t
     → WasGiven (Changed number more ∷ earlier) (with_expiry number (later (time earlier) more) t)
@@ -45,18 +36,10 @@ all_given (Passed t ∷ earlier) = all_given earlier
 -- one that ends has counted enough, or its time is over
 over : (counted late : Bool) (x y : ℤ) → IsSome (if counted then Some x else (if late then Some y else None))
     → (counted ≡ true) ⊎ (late ≡ true)
-over true late x y ends = inl refl
-over false true x y ends = inr refl
-over false false x y ends = absurd (false≢true ends)
+over counted late x y ends = grind arith
 
 pub ends_in_time : EndsInTime
-ends_in_time log t run = (
-  All-contains (WasGiven log) (running log) t (all_given log) run.1,
-  elim (over (has_counted log t) (is_over log t) (pos 0) (error 62) run.2) [
-    | inl counted ↦ inl counted
-    | inr late ↦ inr (leb-true t.expiry (time log) late)
-  ],
-)
+ends_in_time log t run = grind (arith, All-contains, all_given)
 
 -- none of a number runs, nor after events that don't start it
 abbrev IsNot : ℕ → Timeout → Type 0
@@ -66,14 +49,11 @@ other_is_not : (number : ℕ) (t : Timeout) → is_other number t ≡ true → I
 other_is_not number t other = eqb-false t.number number (not-true (eqb t.number number) other)
 
 none_after_filter : (number : ℕ) (rows : List Timeout) → All (IsNot number) (filter (is_other number) rows)
-none_after_filter number rows =
-    All-weaker (λ t. is_other number t ≡ true) (IsNot number) (λ t other. other_is_not number t other)
-    (filter (is_other number) rows) (filter_passes (is_other number) rows)
+none_after_filter number rows = grind (arith, filter_passes)
 
 is_not_by : (number expiry : ℕ) (t : Timeout) (b : Bool) → IsNot number t
     → IsNot number (if b then record t { expiry = expiry; enough = 0 } else t)
-is_not_by number expiry t true other = other
-is_not_by number expiry t false other = other
+is_not_by number expiry t b other = grind arith
 
 changed_is_not : (number changed expiry : ℕ) (t : Timeout) → IsNot number t → IsNot number (with_expiry changed expiry t)
 changed_is_not number changed expiry t other = is_not_by number expiry t (eqb t.number changed) other
@@ -103,9 +83,7 @@ none_after number (Slept start stop ∷ newer) earlier quiet none = none_after n
 none_after number (Passed t ∷ newer) earlier quiet none = none_after number newer earlier quiet none
 
 pub ends_once : EndsOnce
-ends_once newer earlier t u quiet runs same =
-    All-contains (IsNot t.number) (running (newer ++ Ended t ∷ earlier)) u
-    (none_after t.number newer (Ended t ∷ earlier) quiet (none_after_filter t.number (running earlier))) runs same
+ends_once newer earlier t u quiet runs same = grind (arith, All-contains, none_after, none_after_filter)
 
 -- whoever passes a test is among those that a filter keeps
 abbrev Among : (Timeout → Bool) → List Timeout → Timeout → Type 0
@@ -118,9 +96,7 @@ among_more p x kept false u among passes = among passes
 
 among_itself : (p : Timeout → Bool) (x : Timeout) (kept : List Timeout)
     → Among p (cond (p x) (x ∷ kept) kept) x
-among_itself p x kept passes =
-    let P : Bool → Type 0 = λ b. Contains (cond b (x ∷ kept) kept) x in
-    let first : Contains (x ∷ kept) x = (0, omega arith, refl) in subst P (sym passes) first
+among_itself p x kept passes = grind arith
 
 all_among : (p : Timeout → Bool) (rows : List Timeout) → All (Among p (filter p rows)) rows
 all_among p [] = All-nil (Among p [])
@@ -149,15 +125,13 @@ of_map f rows t among =
 
 kept_by : (expiry : ℕ) (t : Timeout) (b : Bool)
     → (if b then record t { expiry = expiry; enough = 0 } else t).number ≡ t.number
-kept_by expiry t true = refl
-kept_by expiry t false = refl
+kept_by expiry t b = grind arith
 
 number_kept : (number expiry : ℕ) (t : Timeout) → (with_expiry number expiry t).number ≡ t.number
 number_kept number expiry t = kept_by expiry t (eqb t.number number)
 
 apart_filter : (p : Timeout → Bool) (rows : List Timeout) → AreApart rows → AreApart (filter p rows)
-apart_filter p rows apart t u first second same =
-    apart t u (of_filter p rows t first) (of_filter p rows u second) same
+apart_filter p rows apart t u first second same = grind (arith, (of_filter p rows t first), (of_filter p rows u second))
 
 apart_changed : (number expiry : ℕ) (rows : List Timeout) → AreApart rows
     → AreApart (map (with_expiry number expiry) rows)
@@ -211,18 +185,14 @@ within_later now more small t is = record { low = omega (arith, is); high = omeg
 
 within_by : (now more : ℕ) → now ≤ 2 ^ 63 - 1 → (t : Timeout) (b : Bool) → Within now t
     → Within now (if b then record t { expiry = later now more; enough = 0 } else t)
-within_by now more small t true within =
-    within_later now more small (record t { expiry = later now more; enough = 0 }) refl
-within_by now more small t false within = within
+within_by now more small t b within = grind arith
 
 within_changed : (now number more : ℕ) → now ≤ 2 ^ 63 - 1 → (t : Timeout) → Within now t
     → Within now (with_expiry number (later now more) t)
 within_changed now number more small t within = within_by now more small t (eqb t.number number) within
 
 within_passed : (now : ℕ) (t u : Timeout) → Within now u → ends_before u t ≡ false → Within (max t.expiry now) u
-within_passed now t u within after =
-    let no_sooner : t.expiry ≤ u.expiry = ltb-false u.expiry t.expiry (or_parts (ltb u.expiry t.expiry) (eqb u.expiry t.expiry && ltb u.number t.number) after).0 in
-    record { low = omega (arith, within.low, no_sooner); high = within.high }
+within_passed now t u within after = grind arith
 
 all_within : (log : List Event) → IsRun log → is_virtual log ≡ true → IsWithin log
 all_within [] run only = record { now = omega arith; all = All-nil (Within 0) }
@@ -247,8 +217,7 @@ all_within (Stopped number ∷ earlier) run only =
 all_within (Ended t ∷ earlier) run only =
     let before = all_within earlier run.0 only in
     record { now = before.now; all = All-filter (is_other t.number) (Within (time earlier)) (running earlier) before.all }
-all_within (Posted count ∷ earlier) run only =
-    let before = all_within earlier run only in record { now = before.now; all = before.all }
+all_within (Posted count ∷ earlier) run only = grind (arith, (all_within earlier run only))
 all_within (Clock now ∷ earlier) run only = absurd (false≢true only)
 all_within (Slept start stop ∷ earlier) run only = absurd (false≢true only)
 all_within (Passed t ∷ earlier) run only =
@@ -263,5 +232,4 @@ all_within (Passed t ∷ earlier) run only =
     }
 
 pub passes_none_over : PassesNoneOver
-passes_none_over log run only t runs =
-    (All-contains (Within (time log)) (running log) t (all_within log run only).all runs).low
+passes_none_over log run only t runs = grind (arith, all_within)

@@ -1,6 +1,6 @@
 -- What is kept of the timeouts of a ring, and what is told of it.
-use Rattle.std.proofs.Common.{◌≡◌, ℕ, ◌≤◌, ◌<◌, ◌+◌, min, ℤ, Bool, true, false, ◌&&◌, eqb, ltb, leb, length, take, set, zero, suc, List, [], ◌∷◌, ◌++◌, inl, inr, Option, Some, None, map, filter, refl, sym, ap, subst, arith, ◌∙◌, if◌then◌else◌}
-use Rattle.uring_enter.proofs.Common.{AreApart, Changed, Contains, EndsNone, Event, HasCounted, HasNone, IsDueOf, IsEarliest, IsNext, IsNextOf, IsRow, MatchOption, NoneIsOver, Timeout, cases_order, counted_found, due_of, earliest_of, ends_before, has_counted, is_other, is_over, later, leb-false, leb-true, lt-ltb, ltb-false, or_parts, outcome, outcome_at, posted, running, take_more_set, time, with_expiry}
+use Rattle.std.proofs.Common.{◌≡◌, ℕ, ◌≤◌, ◌<◌, ◌+◌, min, ℤ, Bool, true, false, ltb, leb, length, take, set, List, [], ◌∷◌, ◌++◌, inl, inr, Option, Some, None, map, filter, refl, sym, ap, subst, arith, ◌∙◌, if◌then◌else◌}
+use Rattle.uring_enter.proofs.Common.{AreApart, Changed, Contains, EndsNone, Event, HasCounted, HasNone, IsDueOf, IsEarliest, IsNext, IsNextOf, IsRow, MatchOption, NoneIsOver, Timeout, cases_order, counted_found, due_of, earliest_of, ends_before, has_counted, is_other, is_over, later, leb-false, leb-true, outcome, outcome_at, posted, running, take_more_set, time, with_expiry}
 use Rattle.uring_enter.specs.declared.call.wait.WakeSources.{WakeSources}
 use Rattle.uring_enter.specs.declared.call.wait.Woken.{Woken}
 use Rattle.uring_enter.specs.declared.call.wait.Woken.TheVariants.{TimedOut, Other}
@@ -8,44 +8,33 @@ use Rattle.uring_enter.specs.Call.Waits.{has_any, IsWoken, IsPassing, IsPassingB
 
 -- none is among none
 none_among : (rows : List Timeout) (t : Timeout) → rows ≡ [] → Contains rows t → ⊥
-none_among rows t none among =
-    let P : List Timeout → Type 0 = λ l. Contains l t in
-    let in_none : Contains [] t = subst P none among in
-    omega (arith, in_none.1)
+none_among rows t none among = grind arith
 
 -- whoever doesn't end before another is over no sooner
 pub no_sooner : (u t : Timeout) → ends_before u t ≡ false → t.expiry ≤ u.expiry
-no_sooner u t after =
-    ltb-false u.expiry t.expiry
-    (or_parts (ltb u.expiry t.expiry) (eqb u.expiry t.expiry && ltb u.number t.number) after).0
+no_sooner u t after = grind arith
 
 -- the rows, once one more has started
 pub started_rows : (rows : List Timeout) (count : ℕ) (x y : Timeout) (kept : List Timeout) → count < length rows
     → take count rows ≡ kept → x ≡ y → take (count + 1) (set rows count x) ≡ kept ++ y ∷ []
-started_rows rows count x y kept below is same =
-    take_more_set rows count x below ∙ ap (λ l. l ++ x ∷ []) is ∙ ap (λ v. kept ++ v ∷ []) same
+started_rows rows count x y kept below is same = grind (arith, take_more_set)
 
 -- the rows, once the time of some was changed
 pub changed_rows : (log : List Event) (number more count held expiry now : ℕ) (old new : List Timeout) → count ≡ held
     → take count new ≡ map (with_expiry number expiry) (take count old) → expiry ≡ later now more → now ≡ time log
     → take held old ≡ running log → take held new ≡ running (Changed number more ∷ log)
-changed_rows log number more count held expiry now old new same made sum at is =
-    ap (λ n. take n new) (sym same) ∙ made
-    ∙ ap (λ l. map (with_expiry number expiry) l) (ap (λ n. take n old) same ∙ is)
-    ∙ ap (λ n. map (with_expiry number n) (running log)) (sum ∙ ap (λ n. later n more) at)
+changed_rows log number more count held expiry now old new same made sum at is = grind arith
 
 -- the rows, once some were taken out
 pub taken_rows : (log : List Event) (number count held kept : ℕ) (old new : List Timeout) → count ≡ held
     → take kept new ≡ filter (is_other number) (take count old) → take held old ≡ running log
     → take kept new ≡ filter (is_other number) (running log)
-taken_rows log number count held kept old new same made is =
-    made ∙ ap (λ l. filter (is_other number) l) (ap (λ n. take n old) same ∙ is)
+taken_rows log number count held kept old new same made is = grind arith
 
 -- a fact on the first rows, of those that run
 pub at_running : (P : List Timeout → Type 0) (log : List Event) (rows : List Timeout) (count held : ℕ)
     → count ≡ held → take held rows ≡ running log → P (take count rows) → P (running log)
-at_running P log rows count held same is holds =
-    subst P (ap (λ n. take n rows) same ∙ is) holds
+at_running P log rows count held same is holds = grind arith
 
 due_by : (log : List Event) (t : Timeout) (b : Bool) → is_over log t ≡ b → IsNext (running log) t
     → IsDueOf log (if b then Some t else None)
@@ -58,22 +47,16 @@ due_by log t false is next = λ u among over.
 
 due_at : (log : List Event) (next : Option Timeout) → IsNextOf (running log) next
     → IsDueOf log (due_of (time log) next)
-due_at log None none = λ u among over. none_among (running log) u none among
-due_at log (Some t) next = due_by log t (is_over log t) refl next
+due_at log next none = grind (arith, due_by)
 
 pub due_is : (log : List Event) (now : ℕ) (next result : Option Timeout) → now ≡ time log
     → IsNextOf (running log) next → result ≡ due_of now next → IsDueOf log result
-due_is log now next result same is made =
-    subst (IsDueOf log) (sym (made ∙ ap (λ n. due_of n next) same)) (due_at log next is)
+due_is log now next result same is made = grind (arith, due_at)
 
 earliest_at : (rows : List Timeout) (next : Option Timeout) (limit : Option ℕ) → IsNextOf rows next
     → IsEarliest rows limit (earliest_of next limit)
 earliest_at rows None None none = (refl, none)
-earliest_at rows None (Some limit) none = (
-  omega arith,
-  λ u among. absurd (none_among rows u none among),
-  inl refl,
-)
+earliest_at rows None (Some limit) none = grind arith
 earliest_at rows (Some t) None next = (
   tt,
   λ u among. no_sooner u t (next.1 u among),
@@ -93,8 +76,7 @@ earliest_at rows (Some t) (Some limit) next = (
 
 pub earliest_is : (rows : List Timeout) (next : Option Timeout) (limit result : Option ℕ) → IsNextOf rows next
     → result ≡ earliest_of next limit → IsEarliest rows limit result
-earliest_is rows next limit result is made =
-    subst (IsEarliest rows limit) (sym made) (earliest_at rows next limit is)
+earliest_is rows next limit result is made = grind (arith, earliest_at)
 
 -- the rest that have its number are it
 pub none_ends : (log : List Event) (number : ℕ) (t : Timeout) → AreApart (running log) → IsRow number (running log) t
@@ -106,10 +88,7 @@ none_ends log number t apart row none u other =
 -- whether one ends by its count
 counts_by : (log : List Event) (number : ℕ) (t : Timeout) (counts : Bool) → has_counted log t ≡ counts
     → AreApart (running log) → IsRow number (running log) t → HasCounted log number counts
-counts_by log number t true is apart row = (t, row, is)
-counts_by log number t false is apart row = λ u other.
-    let same : t ≡ u = apart t u row.0 other.0 (row.1 ∙ sym other.1) in
-    let P : Timeout → Type 0 = λ v. has_counted log v ≡ false in subst P same is
+counts_by log number t counts is apart row = grind arith
 
 counts_among : (log : List Event) (number : ℕ) (found : Option Timeout) → AreApart (running log)
     → MatchOption found (HasNone number (running log)) (IsRow number (running log))
@@ -121,34 +100,27 @@ pub counts_is : (log : List Event) (number sent : ℕ) (found : Option Timeout) 
     → sent ≡ posted log → AreApart (running log)
     → MatchOption found (HasNone number (running log)) (IsRow number (running log))
     → result ≡ counted_found sent found → HasCounted log number result
-counts_is log number sent found result one apart row made =
-    subst (HasCounted log number) (sym (made ∙ ap (λ n. counted_found n found) one))
-    (counts_among log number found apart row)
+counts_is log number sent found result one apart row made = grind (arith, counts_among)
 
 -- a row that was found, and how it ends
 pub row_is : (number : ℕ) (rows : List Timeout) (found : Option Timeout) (t : Timeout)
     → MatchOption found (HasNone number rows) (IsRow number rows) → found ≡ Some t → IsRow number rows t
-row_is number rows None t row is = cc
-row_is number rows (Some u) t row is = let same : u ≡ t = cc in subst (IsRow number rows) same row
+row_is number rows found t row is = grind arith
 
 pub row_is_none : (number : ℕ) (rows : List Timeout) (found : Option Timeout)
     → MatchOption found (HasNone number rows) (IsRow number rows) → found ≡ None → HasNone number rows
-row_is_none number rows None row is = row
-row_is_none number rows (Some u) row is = cc
+row_is_none number rows found row is = grind arith
 
 pub outcome_told : (log : List Event) (t : Timeout) (sent now : ℕ) (told given : Option ℤ) → sent ≡ posted log → now ≡ time log
     → told ≡ outcome_at sent now t → told ≡ given → outcome log t ≡ given
-outcome_told log t sent now told given one two made is =
-    sym (made ∙ ap (λ n. outcome_at n now t) one ∙ ap (λ n. outcome_at (posted log) n t) two) ∙ is
+outcome_told log t sent now told given one two made is = grind arith
 
 pub none_runs : (log : List Event) (number : ℕ) → HasNone number (running log) → EndsNone log number
 none_runs log number none u other = absurd (none u other.0 other.1)
 
 -- waits
 any_of : (count : ℕ) (rows : List Timeout) → count ≤ length rows → has_any (take count rows) ≡ ltb 0 count
-any_of zero rows within = refl
-any_of (suc count) [] within = absurd (omega arith)
-any_of (suc count) (t ∷ rows) within = sym (lt-ltb 0 (suc count) (omega arith))
+any_of count rows within = grind arith
 
 pub any_is : (log : List Event) (count : ℕ) (rows : List Timeout) → count ≤ length rows → take count rows ≡ running log
     → ltb 0 count ≡ has_any (running log)
@@ -156,31 +128,20 @@ any_is log count rows within is = sym (any_of count rows within) ∙ ap has_any 
 
 reached_by : (log : List Event) (limit : ℕ) (b : Bool) → leb limit (time log) ≡ b → NoneIsOver log
     → IsWoken log (Some limit) (if b then TimedOut else Other)
-reached_by log limit true is none = (none, leb-true limit (time log) is)
-reached_by log limit false is none = (
-  none,
-  λ reached. let after : time log < limit = leb-false limit (time log) is in omega arith,
-)
+reached_by log limit b is none = grind arith
 
 woken_at : (log : List Event) (due : Option Timeout) (limit : Option ℕ) → IsDueOf log due
     → IsWoken log limit (woken_of due limit (time log))
-woken_at log (Some t) limit due = due
-woken_at log None None none = (none, λ never. never)
-woken_at log None (Some limit) none = reached_by log limit (leb limit (time log)) refl none
+woken_at log due limit h = grind arith
 
 pub woken_is : (log : List Event) (due : Option Timeout) (limit : Option ℕ) (now : ℕ) (result : Woken) → IsDueOf log due
     → now ≡ time log → result ≡ woken_of due limit now → IsWoken log limit result
-woken_is log due limit now result is same made =
-    subst (IsWoken log limit) (sym (made ∙ ap (λ n. woken_of due limit n) same)) (woken_at log due limit is)
+woken_is log due limit now result is same made = grind arith
 
 passing_by : (log : List Event) (next : Option Timeout) (real streams : Bool) → IsNextOf (running log) next
     → IsPassingBy real streams log (if real then due_of (time log) next else (if streams then None else next))
-passing_by log next true streams is = due_at log next is
-passing_by log next false true is = refl
-passing_by log next false false is = is
+passing_by log next real streams is = grind (arith, due_at)
 
 pub passing_is : (log : List Event) (sources : WakeSources) (next : Option Timeout) (now : ℕ) (result : Option Timeout)
     → IsNextOf (running log) next → now ≡ time log → result ≡ passing_of sources now next → IsPassing log sources result
-passing_is log sources next now result is same made =
-    subst (IsPassing log sources) (sym (made ∙ ap (λ n. passing_of sources n next) same))
-    (passing_by log next sources.is_real sources.has_streams is)
+passing_is log sources next now result is same made = grind (arith, passing_by)

@@ -1,7 +1,7 @@
 -- What is kept of a request that runs says what has happened to it.
 use Rattle.std.proofs.Common.{◌≡◌, ◌≤◌, true, false, not, ◌==◌, List, [], ◌∷◌, refl, arith}
-use Rattle.uring_enter.proofs.Common.{Around, Encounter, FoundWaiting, HeardWrite, MissedWrite, RingKnows, Took, WasCancelled, WasSeen, WasUpdated, WouldWait, and_parts, around, eq-eqb, false≢true, found_in, has_to_wait, is_known, is_seen, not-true, seen_in, true≢false, waited_in}
-use Rattle.uring_enter.specs.Waiting.Lookouts.{Happening, Found, Started, Left, Touched, Updated, Waited, Moved, Told, Heard, Opened, Ended, Changed, Woke, have_to_wait, lets_go, makes_ready, moments, releases, renews, rounds}
+use Rattle.uring_enter.proofs.Common.{Around, Encounter, FoundWaiting, HeardWrite, MissedWrite, RingKnows, Took, WasCancelled, WasSeen, WasUpdated, WouldWait, and_parts, around, eq-eqb, false≢true, found_in, has_to_wait, is_known, is_seen, not-true, seen_in, waited_in}
+use Rattle.uring_enter.specs.Waiting.Lookouts.{Happening, have_to_wait, lets_go, makes_ready, moments, releases, renews, rounds}
 use Rattle.uring_enter.proofs.Counts.{grows, stays, apart, never}
 
 rounds_begin : (log : List Happening) → 1 ≤ rounds log
@@ -86,19 +86,7 @@ seen (Took ∷ log) = eq-eqb (moments (around log)) (moments (around log)) refl
 
 -- what lets none of those go that had to wait leaves the ring knowing of them
 through : (h : Happening) (earlier : List Happening) → lets_go h ≡ false → have_to_wait earlier ≡ true → have_to_wait (h ∷ earlier) ≡ true
-through (Found _) earlier stays is = is
-through (Started _) earlier stays is = is
-through (Left _) earlier stays is = is
-through (Touched _) earlier stays is = is
-through (Updated _ _) earlier stays is = is
-through Waited earlier stays is = refl
-through Moved earlier stays is = is
-through Told earlier stays is = is
-through Heard earlier stays is = is
-through Opened earlier stays is = absurd (true≢false stays)
-through (Ended _) earlier stays is = absurd (true≢false stays)
-through Changed earlier stays is = is
-through Woke earlier stays is = is
+through h earlier stays is = grind arith
 
 pub ring_knows : RingKnows
 ring_knows [] is = absurd (false≢true is)

@@ -1,14 +1,13 @@
 -- Searches below a bound: what an answer tells, and what gives it.
-use Rattle.std.proofs.Common.{◌≡◌, ℕ, zero, suc, ◌<◌, ◌≤◌, Bool, true, false, ◌||◌, ◌==◌, [], ◌∷◌, ◌++◌, cond, Option, Some, None, is_some, refl, sym, ◌∙◌, ap, arith, inl, inr}
-use Rattle.uring_entry.proofs.Common.{all_below, both_ways, cases_Bool, cases_lt, eq-eqb, eqb-true, false_from_ne_true, found_or, least_below, list_any, or_cases, or_from, or_left, or_right, some_below}
+use Rattle.std.proofs.Common.{◌≡◌, ℕ, zero, suc, ◌<◌, ◌≤◌, Bool, true, false, ◌||◌, ◌==◌, [], ◌∷◌, cond, Option, Some, None, is_some, refl, sym, ◌∙◌, ap, arith, inl, inr}
+use Rattle.uring_entry.proofs.Common.{all_below, both_ways, cases_Bool, cases_lt, found_or, least_below, list_any, or_cases, or_left, or_right, some_below}
 use Rattle.std.proofs.lemmas.List.Folds.{list_any-append}
 use Rattle.std.proofs.lemmas.Option.{same_Some, none-some}
 
 pub some_below_none : (p : ℕ → Bool) (n : ℕ) → ((k : ℕ) → k < n → p k ≡ false)
     → some_below p n ≡ false
 some_below_none p zero h = refl
-some_below_none p (suc n) h =
-    or_from _ _ (some_below_none p n (λ k lt. h k (omega arith))) (h n (omega arith))
+some_below_none p (suc n) h = grind (arith, (some_below_none p n (λ k lt. h k (omega arith))))
 
 pub some_below_some : (p : ℕ → Bool) (n k : ℕ) → k < n → p k ≡ true → some_below p n ≡ true
 some_below_some p zero k lt e = absurd (omega arith)
@@ -38,8 +37,7 @@ some_below_in p (suc n) e =
 pub some_below_same : (p q : ℕ → Bool) (n : ℕ) → ((k : ℕ) → k < n → p k ≡ q k)
     → some_below p n ≡ some_below q n
 some_below_same p q zero h = refl
-some_below_same p q (suc n) h =
-    ap (λ b. b || p n) (some_below_same p q n (λ k lt. h k (omega arith))) ∙ ap (λ b. some_below q n || b) (h n (omega arith))
+some_below_same p q (suc n) h = grind (arith, (some_below_same p q n (λ k lt. h k (omega arith))))
 
 pub some_below_raised : (p : ℕ → Bool) (n m : ℕ) → n ≤ m → some_below p n ≡ true
     → some_below p m ≡ true
@@ -65,8 +63,7 @@ some_below_between p n m le h =
 pub least_below_none : (p : ℕ → Bool) (n : ℕ) → ((k : ℕ) → k < n → p k ≡ false)
     → least_below p n ≡ None
 least_below_none p zero h = refl
-least_below_none p (suc n) h =
-    ap (λ o. found_or o (p n) n) (least_below_none p n (λ k lt. h k (omega arith))) ∙ ap (λ b. found_or None b n) (h n (omega arith))
+least_below_none p (suc n) h = grind (arith, (least_below_none p n (λ k lt. h k (omega arith))))
 
 pub least_below_some : (p : ℕ → Bool) (n k : ℕ) → k < n → p k ≡ true
     → ((j : ℕ) → j < k → p j ≡ false) → least_below p n ≡ Some k
@@ -74,18 +71,13 @@ least_below_some p zero k lt e before = absurd (omega arith)
 least_below_some p (suc n) k lt e before =
     elim (cases_lt k n) [
       | inl low ↦ ap (λ o. found_or o (p n) n) (least_below_some p n k low e before)
-      | inr high ↦
-          let same : k ≡ n = omega arith in
-          ap (λ o. found_or o (p n) n) (least_below_none p n (λ j lt2. before j (omega arith)))
-          ∙ ap (λ b. found_or None b n) (ap p (sym same) ∙ e) ∙ ap Some (sym same)
+      | inr high ↦ grind (arith, least_below_none)
     ]
 
 pub least_below_same : (p q : ℕ → Bool) (n : ℕ) → ((k : ℕ) → k < n → p k ≡ q k)
     → least_below p n ≡ least_below q n
 least_below_same p q zero h = refl
-least_below_same p q (suc n) h =
-    ap (λ o. found_or o (p n) n) (least_below_same p q n (λ k lt. h k (omega arith)))
-    ∙ ap (λ b. found_or (least_below q n) b n) (h n (omega arith))
+least_below_same p q (suc n) h = grind (arith, (least_below_same p q n (λ k lt. h k (omega arith))))
 
 -- what the least number is
 pub record IsLeast (p : ℕ → Bool) (n k : ℕ) : Type 0 where
@@ -95,19 +87,15 @@ pub record IsLeast (p : ℕ → Bool) (n k : ℕ) : Type 0 where
 
 -- the value that is there
 pub is_some_value : {X : Type 0} (o : Option X) → is_some o ≡ true → (q : X) × (o ≡ Some q)
-is_some_value None e = absurd (both_ways false refl e)
-is_some_value (Some q) e = (q, refl)
+is_some_value o e = grind arith
 
 is_some_found : (o : Option ℕ) (b : Bool) (n : ℕ) → is_some (found_or o b n) ≡ (is_some o || b)
-is_some_found (Some m) b n = refl
-is_some_found None true n = refl
-is_some_found None false n = refl
+is_some_found o b n = grind arith
 
 -- there is a least number where there is some
 pub is_some_least_below : (p : ℕ → Bool) (n : ℕ) → is_some (least_below p n) ≡ some_below p n
 is_some_least_below p zero = refl
-is_some_least_below p (suc n) =
-    is_some_found (least_below p n) (p n) n ∙ ap (λ b. b || p n) (is_some_least_below p n)
+is_some_least_below p (suc n) = grind (arith, (is_some_least_below p n))
 
 pub least_below_out : (p : ℕ → Bool) (n : ℕ) → least_below p n ≡ None → (k : ℕ) → k < n
     → p k ≡ false
@@ -138,12 +126,7 @@ least_below_tells p (suc n) k e =
 
 here_if : (holds : Bool) (n m : ℕ) → list_any (λ k. k == m) (cond holds (n ∷ []) []) ≡ true
     → (n ≡ m) × (holds ≡ true)
-here_if false n m e = absurd (both_ways false refl e)
-here_if true n m e =
-    elim (or_cases (n == m) false e) [
-      | inl here ↦ (eqb-true n m here, refl)
-      | inr none ↦ absurd (both_ways false refl none)
-    ]
+here_if holds n m e = grind arith
 
 pub all_below_in : (p : ℕ → Bool) (n m : ℕ) → list_any (λ k. k == m) (all_below p n) ≡ true
     → (m < n) × (p m ≡ true)
@@ -161,19 +144,14 @@ all_below_there p (suc n) m lt e =
     list_any-append (λ k. k == m) (all_below p n) (cond (p n) (n ∷ []) [])
     ∙ elim (cases_lt m n) [
       | inl low ↦ or_left _ _ (all_below_there p n m low e)
-      | inr high ↦
-          let same : n ≡ m = omega arith in
-          or_right _ _ (ap (λ b. list_any (λ k. k == m) (cond b (n ∷ []) [])) (ap p same ∙ e) ∙ or_left _ _ (eq-eqb n m same))
+      | inr high ↦ grind arith
     ]
 
 pub all_below_none : (p : ℕ → Bool) (n : ℕ) → ((k : ℕ) → k < n → p k ≡ false) → all_below p n ≡ []
 all_below_none p zero h = refl
-all_below_none p (suc n) h =
-    ap (λ xs. xs ++ cond (p n) (n ∷ []) []) (all_below_none p n (λ k lt. h k (omega arith)))
-    ∙ ap (λ b. cond b (n ∷ []) []) (h n (omega arith))
+all_below_none p (suc n) h = grind (arith, (all_below_none p n (λ k lt. h k (omega arith))))
 
 -- one at or past the bound isn't
 pub all_below_past : (p : ℕ → Bool) (n m : ℕ) → n ≤ m
     → list_any (λ k. k == m) (all_below p n) ≡ false
-all_below_past p n m le =
-    false_from_ne_true _ (λ there. let lt = (all_below_in p n m there).0 in omega (arith, le))
+all_below_past p n m le = grind (arith, all_below_in)

@@ -26,19 +26,13 @@ same_words (x ∷ xs) (y ∷ ys) p q e =
 -- two words, and others after them
 pub words_after : (a b : ℕ) (rest more : List ℕ) → a < 2 ^ 64 → b < 2 ^ 64 → rest ≡ more
     → AreWords more → AreWords (a ∷ b ∷ (rest ++ []))
-words_after a b rest more first second same range =
-    (first, (second, subst AreWords (sym (append-nil rest ∙ same)) range))
+words_after a b rest more first second same range = grind (arith, append-nil)
 
 -- the user data, the result and the bytes, as words, are those of a completion
 pub words_made : (c : Cqe) (second : ℕ) (rest : List ℕ) → c.user_data < 2 ^ 64 → second < 2 ^ 64
     → second ≡ cast_unsigned w32 c.res → length rest ≡ 8 → AreWords rest → bytes_of rest ≡ c.payload
     → HasWords c (c.user_data ∷ second ∷ rest)
-words_made c second rest user_data word is size range payload = record {
-  size = omega arith;
-  range = (user_data, (word, range));
-  first = ap (λ w. c.user_data ∷ w ∷ []) is;
-  payload = payload;
-}
+words_made c second rest user_data word is size range payload = grind arith
 
 -- the low half of a word is the word of the result that it holds
 low_half : (b : ℕ) → cast_unsigned w32 (cast_signed w32 (b % 2 ^ 32)) ≡ b % 2 ^ 32
@@ -56,8 +50,7 @@ kept_words a b rest (x ∷ y ∷ more) range h =
 
 words_kept : (a b : ℕ) (rest : List ℕ) → a < 2 ^ 64 → length rest ≡ 8 → AreWords rest
     → HasWords (completion_of (a ∷ b ∷ rest)) (without_flags (a ∷ b ∷ rest))
-words_kept a b rest word size range =
-    words_made (completion_of (a ∷ b ∷ rest)) (b % 2 ^ 32) rest word (omega arith) (sym (low_half b)) size range refl
+words_kept a b rest word size range = grind arith
 
 -- ten words are those of the completion that they hold, but for the flags
 pub words_are_kept : (words again : List ℕ) → length words ≡ 10 → AreWords words

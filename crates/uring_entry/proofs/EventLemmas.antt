@@ -1,6 +1,6 @@
 -- What each event leaves as it was, and who it dooms.
-use Rattle.std.proofs.Common.{◌≡◌, ℕ, ◌+◌, ◌<◌, ◌⊎◌, ℤ, List, length, true, not, ◌&&◌, ◌||◌, ◌==◌, Some, refl, ap, arith, inl, inr}
-use Rattle.uring_entry.proofs.Common.{Requests, Sqe, and_from, and_parts, entry_of, has_failed, is_after_failure, is_cancelled, is_candidate, is_doomed, is_draining, is_in_faulty_group, is_joined, is_last, is_linked, is_soft, list_any, or_cases, some_member, target_of, with_accepted, with_ended, with_started}
+use Rattle.std.proofs.Common.{◌≡◌, ℕ, ◌<◌, ◌⊎◌, ℤ, List, length, true, ◌&&◌, Some, refl, arith}
+use Rattle.uring_entry.proofs.Common.{Requests, Sqe, and_from, entry_of, has_failed, is_after_failure, is_cancelled, is_candidate, is_doomed, is_draining, is_in_faulty_group, is_joined, is_last, is_soft, some_member, target_of, with_accepted, with_ended, with_started}
 use Rattle.uring_entry.proofs.BelowLemmas.{some_below_some, some_below_in, least_below_tells, IsLeast}
 use Rattle.uring_entry.proofs.RequestLemmas.{entry_of_accepted_other}
 
@@ -23,20 +23,12 @@ is_after_failure_from r n m f =
 pub is_after_failure_tells : (r : Requests) (n : ℕ) → is_after_failure r n ≡ true
     → (m : ℕ) × IsFailureBefore r n m
 unfolding is_after_failure
-is_after_failure_tells r n e =
-    let found = some_below_in (λ k. (is_joined r k n && is_soft (entry_of r k)) && has_failed r k) n e in
-    let parts = and_parts _ _ found.2 in
-    let link = and_parts _ _ parts.0 in
-    (found.0, record { before = found.1; joined = link.0; soft = link.1; failed = parts.1 })
+is_after_failure_tells r n e = grind (arith, some_below_in)
 
 pub is_doomed_tells : (r : Requests) (n : ℕ) → is_doomed r n ≡ true
     → (is_in_faulty_group r n ≡ true) ⊎ ((is_after_failure r n ≡ true) ⊎ (is_cancelled r n ≡ true))
 unfolding is_doomed
-is_doomed_tells r n e =
-    elim (or_cases _ _ e) [
-      | inl group ↦ elim (or_cases _ _ group) [ inl faulty ↦ inl faulty | inr after ↦ inr (inl after) ]
-      | inr cancelled ↦ inr (inr cancelled)
-    ]
+is_doomed_tells r n e = grind arith
 
 pub target_of_tells : (r : Requests) (n m : ℕ) → target_of r n ≡ Some m
     → IsLeast (is_candidate r n) (length r.accepted) m
@@ -68,5 +60,4 @@ is_doomed_started r n k = refl
 
 pub is_last_accepted : (r : Requests) (entry : Sqe) (k : ℕ) → k < length r.accepted
     → is_last (with_accepted r entry) k ≡ is_last r k
-is_last_accepted r entry k lt =
-    ap (λ e. not (is_linked e) || list_any (λ cut. cut == k + 1) r.cuts) (entry_of_accepted_other r entry k (λ e. absurd (omega arith)))
+is_last_accepted r entry k lt = grind (arith, entry_of_accepted_other)

@@ -1,6 +1,6 @@
 -- What each event makes of what is known of a group.
-use Rattle.std.proofs.Common.{◌≡◌, ◌≢◌, ℕ, suc, ◌+◌, ◌<◌, ◌≤◌, ℤ, List, [], ◌∷◌, length, length-append, Bool, true, false, not, ◌&&◌, ◌||◌, ◌==◌, leb, Option, Some, None, refl, sym, ◌∙◌, ap, arith, inl, inr, add-one}
-use Rattle.uring_entry.proofs.Common.{IsGroup, Requests, Sqe, and_from, and_left, and_right, both_ways, cases_Bool, cases_eq, cases_lt, earlier_of, entry_of, eq-eqb, first_broken, first_member, found_or, has_ended, has_failed, if◌then◌else◌, is_last, is_linked, is_soft, le-leb, le-ltb, least_below, lt-leb, lt-ltb, ne_eqb, or_right, with_accepted, with_cut, with_ended}
+use Rattle.std.proofs.Common.{◌≡◌, ◌≢◌, ℕ, suc, ◌+◌, ◌<◌, ◌≤◌, ℤ, List, [], ◌∷◌, length, length-append, Bool, true, false, not, ◌&&◌, ◌||◌, ◌==◌, leb, Option, Some, None, refl, sym, ◌∙◌, ap, arith, inl, inr}
+use Rattle.uring_entry.proofs.Common.{IsGroup, Requests, Sqe, and_from, and_left, and_right, both_ways, cases_Bool, cases_lt, earlier_of, entry_of, eq-eqb, first_broken, first_member, found_or, has_ended, has_failed, if◌then◌else◌, is_last, is_linked, is_soft, le-leb, le-ltb, least_below, lt-leb, lt-ltb, ne_eqb, or_right, with_accepted, with_cut, with_ended}
 use Rattle.uring_entry.specs.Success.{is_success}
 use Rattle.uring_entry.proofs.BelowLemmas.{least_below_none, least_below_some, least_below_same, least_below_out, least_below_tells}
 use Rattle.uring_entry.proofs.RequestLemmas.{entry_of_accepted_at, entry_of_accepted_other, has_failed_accepted, has_failed_unended, has_failed_same, has_failed_other, added_other, added_same}
@@ -15,14 +15,11 @@ first_member_same p q from end h = least_below_same (λ m. leb from m && p m) (�
 pub first_member_more : (p : ℕ → Bool) (from end : ℕ) → from ≤ end
     → first_member p from (end + 1) ≡ found_or (first_member p from end) (p end) end
 unfolding first_member
-first_member_more p from end le =
-    ap (least_below (λ m. leb from m && p m)) (add-one end)
-    ∙ ap (λ b. found_or (least_below (λ m. leb from m && p m) end) (b && p end) end) (le-leb from end le)
+first_member_more p from end le = grind arith
 
 pub first_member_none : (p : ℕ → Bool) (from : ℕ) → first_member p from from ≡ None
 unfolding first_member
-first_member_none p from =
-    least_below_none (λ m. leb from m && p m) from (λ k lt. and_left _ _ (lt-leb from k lt))
+first_member_none p from = grind (arith, least_below_none, and_left)
 
 -- An entry is accepted.
 
@@ -33,48 +30,19 @@ longer r entry = length-append r.accepted (entry ∷ [])
 -- after a group that was closed
 pub group_accepted : (r : Requests) (entry : Sqe) (from end : ℕ) → IsGroup r from end
     → ((k : ℕ) → suc k ≡ end → is_last r k ≡ true) → IsGroup (with_accepted r entry) from end
-group_accepted r entry from end g closed =
-    let more = longer r entry in
-    let some = g.some in
-    let within = g.accepted in
-    record {
-      some = some;
-      accepted = omega arith;
-      begins = λ k e. is_last_accepted r entry k (omega arith) ∙ g.begins k e;
-      joined = λ k high lt. is_last_accepted r entry k (omega arith) ∙ g.joined k high lt;
-      ends = λ k e lt. is_last_accepted r entry k (omega arith) ∙ closed k e;
-    }
+group_accepted r entry from end g closed = grind (arith, longer, is_last_accepted)
 
 -- into the group that is open
 pub group_joined : (r : Requests) (entry : Sqe) (from : ℕ) → IsGroup r from (length r.accepted)
     → ((k : ℕ) → suc k ≡ length r.accepted → is_last r k ≡ false)
     → IsGroup (with_accepted r entry) from (length r.accepted + 1)
-group_joined r entry from g joins =
-    let more = longer r entry in
-    let some = g.some in
-    record {
-      some = omega arith;
-      accepted = omega arith;
-      begins = λ k e. is_last_accepted r entry k (omega arith) ∙ g.begins k e;
-      joined = λ k high lt.
-          is_last_accepted r entry k (omega arith)
-          ∙ elim (cases_lt (suc k) (length r.accepted)) [ inl low ↦ g.joined k high low | inr top ↦ joins k (omega arith) ];
-      ends = λ k e lt. absurd (omega arith);
-    }
+group_joined r entry from g joins = grind (arith, longer, is_last_accepted)
 
 -- into a new group
 pub group_new : (r : Requests) (entry : Sqe)
     → ((k : ℕ) → suc k ≡ length r.accepted → is_last r k ≡ true)
     → IsGroup (with_accepted r entry) (length r.accepted) (length r.accepted + 1)
-group_new r entry closed =
-    let more = longer r entry in
-    record {
-      some = omega arith;
-      accepted = omega arith;
-      begins = λ k e. is_last_accepted r entry k (omega arith) ∙ closed k e;
-      joined = λ k high lt. absurd (omega arith);
-      ends = λ k e lt. absurd (omega arith);
-    }
+group_new r entry closed = grind (arith, longer, is_last_accepted)
 
 pub entry_same : (r : Requests) (entry : Sqe) (p : Sqe → Bool) (m : ℕ) → m < length r.accepted
     → p (entry_of (with_accepted r entry) m) ≡ p (entry_of r m)
@@ -91,29 +59,22 @@ pub first_entry_more : (r : Requests) (entry : Sqe) (p : Sqe → Bool) (from : �
     → from ≤ length r.accepted
     → first_member (λ m. p (entry_of (with_accepted r entry) m)) from (length r.accepted + 1)
     ≡ found_or (first_member (λ m. p (entry_of r m)) from (length r.accepted)) (p entry) (length r.accepted)
-first_entry_more r entry p from le =
-    first_member_more (λ m. p (entry_of (with_accepted r entry) m)) from (length r.accepted) le
-    ∙ ap (λ o. found_or o (p (entry_of (with_accepted r entry) (length r.accepted))) (length r.accepted)) (first_entry_accepted r entry p from (length r.accepted) (omega arith))
-    ∙ ap (λ e. found_or (first_member (λ m. p (entry_of r m)) from (length r.accepted)) (p e) (length r.accepted)) (entry_of_accepted_at r entry)
+first_entry_more r entry p from le = grind (arith, first_member_more, first_entry_accepted, entry_of_accepted_at)
 
 broke_accepted : (r : Requests) (entry : Sqe) (m : ℕ) → has_ended r (length r.accepted) ≡ false
     → m < length r.accepted
     → (is_soft (entry_of (with_accepted r entry) m) && has_failed (with_accepted r entry) m)
     ≡ (is_soft (entry_of r m) && has_failed r m)
-broke_accepted r entry m none lt =
-    ap (λ b. b && has_failed (with_accepted r entry) m) (entry_same r entry is_soft m lt)
-    ∙ ap (λ b. is_soft (entry_of r m) && b) (has_failed_accepted r entry m none)
+broke_accepted r entry m none lt = grind (arith, (entry_same r entry is_soft m lt), (has_failed_accepted r entry m none))
 
 pub first_broken_accepted : (r : Requests) (entry : Sqe) (from end : ℕ)
     → has_ended r (length r.accepted) ≡ false
     → end ≤ length r.accepted
     → first_broken (with_accepted r entry) from end ≡ first_broken r from end
-first_broken_accepted r entry from end none le =
-    first_member_same _ _ from end (λ m lt. broke_accepted r entry m none (omega arith))
+first_broken_accepted r entry from end none le = grind (arith, first_member_same, broke_accepted)
 
 found_or_false : (o : Option ℕ) (n : ℕ) → found_or o false n ≡ o
-found_or_false None n = refl
-found_or_false (Some m) n = refl
+found_or_false o n = grind arith
 
 pub first_broken_more : (r : Requests) (entry : Sqe) (from : ℕ)
     → has_ended r (length r.accepted) ≡ false
@@ -137,22 +98,10 @@ pub is_last_cut_last : (r : Requests) (k : ℕ) → suc k ≡ length r.accepted
 is_last_cut_last r k e = or_right _ _ (added_same (λ cut. cut == k + 1) r.cuts (length r.accepted) (eq-eqb _ _ (omega arith)))
 
 is_last_kept : (r : Requests) (k : ℕ) → is_last r k ≡ true → is_last (with_cut r) k ≡ true
-is_last_kept r k was =
-    elim (cases_eq (suc k) (length r.accepted)) [
-      | inl last ↦ is_last_cut_last r k last
-      | inr other ↦ is_last_cut r k other ∙ was
-    ]
+is_last_kept r k was = grind (arith, is_last_cut_last, is_last_cut)
 
 pub group_cut : (r : Requests) (from end : ℕ) → IsGroup r from end → IsGroup (with_cut r) from end
-group_cut r from end g =
-    let within = g.accepted in
-    record {
-      some = g.some;
-      accepted = within;
-      begins = λ k e. is_last_kept r k (g.begins k e);
-      joined = λ k high lt. is_last_cut r k (λ e. absurd (omega arith)) ∙ g.joined k high lt;
-      ends = λ k e lt. is_last_kept r k (g.ends k e lt);
-    }
+group_cut r from end g = grind (arith, is_last_cut)
 
 -- A request ends.
 
@@ -164,11 +113,7 @@ unfolding first_member
 first_member_changed p q from end n le lt was others =
     elim (cases_Bool (q n)) [
       | inl holds ↦ here (least_below (λ m. leb from m && p m) end) refl holds ∙ ap (λ b. earlier_of (least_below (λ m. leb from m && p m) end) b n) (sym holds)
-      | inr fails ↦
-          least_below_same (λ m. leb from m && q m) (λ m. leb from m && p m) end
-          (λ m inside. ap (λ b. leb from m && b) (elim (cases_eq m n) [ inl same ↦ ap q same ∙ fails ∙ sym was ∙ ap p (sym same) | inr other ↦ others m other ]))
-          ∙ sym (kept (least_below (λ m. leb from m && p m) end))
-          ∙ ap (λ b. earlier_of (least_below (λ m. leb from m && p m) end) b n) (sym fails)
+      | inr fails ↦ grind arith
     ]
   where
     kept : (o : Option ℕ) → earlier_of o false n ≡ o
@@ -225,10 +170,4 @@ first_broken_elsewhere r n res bytes from end apart =
 pub group_ended : (r : Requests) (n : ℕ) (res : ℤ) (bytes : List ℕ) (from end : ℕ)
     → IsGroup r from end
     → IsGroup (with_ended r n res bytes) from end
-group_ended r n res bytes from end g = record {
-  some = g.some;
-  accepted = g.accepted;
-  begins = g.begins;
-  joined = g.joined;
-  ends = g.ends;
-}
+group_ended r n res bytes from end g = grind arith

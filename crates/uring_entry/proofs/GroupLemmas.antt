@@ -1,6 +1,6 @@
 -- What is doomed, drains and is ready, from what is known of its group: no more is needed of the members that have ended.
 use Rattle.std.proofs.Common.{◌≡◌, ℕ, zero, suc, ◌<◌, ◌≤◌, min, max, length, Bool, true, false, not, ◌&&◌, ◌||◌, leb, ltb, Option, Some, None, is_some, refl, sym, ◌∙◌, ap, arith, inl, inr}
-use Rattle.uring_entry.proofs.Common.{IsGroup, Requests, Sqe, and-true, and_assoc, and_from, and_left, and_parts, and_right, both_ways, cases_Bool, cases_lt, entry_of, first_broken, first_drain, first_fault, first_member, has_ended, has_failed, holds_back, is_after_failure, is_before, is_cancelled, is_doomed, is_drain, is_draining, is_faulty, is_in_faulty_group, is_in_group, is_joined, is_ready, is_soft, le-leb, le-ltb, least_below, leb-true, lt-leb, lt-ltb, or_from, or_left, or_right, some_below, some_member}
+use Rattle.uring_entry.proofs.Common.{IsGroup, Requests, Sqe, and-true, and_assoc, and_from, and_left, and_right, both_ways, cases_Bool, cases_lt, entry_of, first_broken, first_drain, first_fault, first_member, has_ended, has_failed, holds_back, is_after_failure, is_before, is_cancelled, is_doomed, is_drain, is_draining, is_faulty, is_in_faulty_group, is_in_group, is_joined, is_ready, is_soft, le-leb, le-ltb, least_below, lt-leb, lt-ltb, or_from, or_left, or_right, some_below, some_member}
 use Rattle.uring_entry.proofs.BelowLemmas.{some_below_none, some_below_some, some_below_same, some_below_between, least_below_out, least_below_tells, is_some_least_below}
 use Rattle.uring_entry.proofs.RequestLemmas.{is_joined_yes, is_joined_no, is_ready_yes, is_ready_no}
 
@@ -35,9 +35,7 @@ in_group_after r from end n m g high lt within after =
     let top : max m n ≡ m = omega arith in
     ap (λ a. is_joined r a (max m n)) low ∙ ap (is_joined r n) top
     ∙ elim (cases_lt m end) [
-      | inl inside ↦
-          is_joined_yes r n m (λ k up under. g.joined k (omega arith) (omega arith))
-          ∙ sym (and_from _ _ (le-leb from m (omega arith)) (lt-ltb m end inside))
+      | inl inside ↦ grind (arith, is_joined_yes, and_from)
       | inr past ↦ joined_past r from end n m g lt past within ∙ sym (and_right _ _ (le-ltb m end past))
     ]
 
@@ -47,11 +45,7 @@ pub in_group_member : (r : Requests) (from end n m : ℕ) → IsGroup r from end
 in_group_member r from end n m g high lt within =
     elim (cases_lt n m) [
       | inl after ↦ in_group_after r from end n m g high lt within after
-      | inr before ↦
-          let low : min m n ≡ m = omega arith in
-          let top : max m n ≡ n = omega arith in
-          ap (λ a. is_joined r a (max m n)) low ∙ ap (is_joined r m) top ∙ joined_member r from end m n g high lt before
-          ∙ sym (and-true (leb from m)) ∙ ap (λ b. leb from m && b) (sym (lt-ltb m end (omega arith)))
+      | inr before ↦ grind (arith, (min m n), (max m n), (joined_member r from end m n g high lt before))
     ]
 
 -- Whether some member has a property.
@@ -107,9 +101,7 @@ pub doomed_is : (r : Requests) (from end n : ℕ) → IsGroup r from end → fro
     → is_doomed r n
     ≡ ((is_some (first_fault r from end) || is_before (first_broken r from end) n) || is_cancelled r n)
 unfolding is_doomed
-doomed_is r from end n g high lt =
-    ap (λ b. (b || is_after_failure r n) || is_cancelled r n) (faulty_is r from end n g high lt)
-    ∙ ap (λ b. (is_some (first_fault r from end) || b) || is_cancelled r n) (after_is r from end n g high lt)
+doomed_is r from end n g high lt = grind (arith, faulty_is, is_some, after_is)
 
 -- Whether a request is ready depends on requests that haven't ended.
 
@@ -130,12 +122,7 @@ ready_yes r from end n g high lt members drains alone =
       | inr going ↦
           elim (cases_lt m from) [
             | inr inside ↦ absurd (both_ways _ going (members m inside low))
-            | inl before ↦
-                waits_not r n m (joined_before r from end m n g before high) (drains m before going)
-                (elim (cases_Bool (is_draining r n)) [
-                  | inl draining ↦ absurd (both_ways _ going (alone draining m before))
-                  | inr free ↦ free
-                ])
+            | inl before ↦ grind (arith, (joined_before r from end m n g before high), waits_not)
           ]
     ])
 
@@ -168,7 +155,4 @@ groups_apart r from end (suc k) last m g h high lt low inside =
 pub first_member_inside : (p : ℕ → Bool) (from end k : ℕ) → first_member p from end ≡ Some k
     → (from ≤ k) × (k < end) × (p k ≡ true)
 unfolding first_member
-first_member_inside p from end k e =
-    let least = least_below_tells (λ m. leb from m && p m) end k e in
-    let parts = and_parts (leb from k) (p k) least.holds in
-    (leb-true from k parts.0, least.below, parts.1)
+first_member_inside p from end k e = grind (arith, least_below_tells)

@@ -1,11 +1,10 @@
 -- What the definitions on requests mean, and what each event changes in them.
-use Rattle.std.proofs.Common.{◌≡◌, ℕ, ◌<◌, ◌≤◌, min, max, ℤ, pos, negsuc, List, [], ◌∷◌, ◌++◌, length, get_or, Bool, true, false, not, ◌&&◌, ◌||◌, leb, Some, None, length-append, ◌==◌, ◌≢◌, refl, sym, ◌∙◌, ap, arith, inl, inr}
-use Rattle.uring_entry.proofs.Common.{Requests, Sqe, and_cases, and_from, and_left, and_right, both_ways, cases_Bool, cases_eq, cases_lt, entry_of, eq-eqb, eqb-true, get_or_past, has_ended, has_failed, has_started, holds_back, if◌then◌else◌, int_le, is_after_failure, is_cancel, is_cancel_all, is_cancelled, is_candidate, is_doomed, is_faulty, is_in_faulty_group, is_in_group, is_issuable, is_joined, is_last, is_outstanding, is_ready, is_running, is_target, is_transfer, le-leb, least_of, len_of, list_any, lt-leb, lt-ltb, ne_eqb, not-false, opcode_of, or-false, or_from, or_left, or_parts, or_right, some_member, target_of, targets_of, with_accepted, with_ended, with_started, zero_entry}
+use Rattle.std.proofs.Common.{◌≡◌, ℕ, ◌<◌, ◌≤◌, ℤ, pos, negsuc, List, [], ◌∷◌, ◌++◌, length, get_or, Bool, true, false, not, ◌&&◌, ◌||◌, leb, Some, None, length-append, ◌==◌, ◌≢◌, refl, sym, ◌∙◌, ap, arith, inl, inr}
+use Rattle.uring_entry.proofs.Common.{Requests, Sqe, and_from, and_left, and_right, cases_Bool, cases_eq, entry_of, eq-eqb, get_or_past, has_ended, has_failed, holds_back, if◌then◌else◌, int_le, is_after_failure, is_cancel, is_cancel_all, is_cancelled, is_candidate, is_doomed, is_faulty, is_in_faulty_group, is_in_group, is_issuable, is_joined, is_last, is_outstanding, is_ready, is_running, is_target, is_transfer, le-leb, least_of, len_of, list_any, or-false, or_from, or_left, or_parts, or_right, some_member, target_of, targets_of, with_accepted, with_ended, with_started, zero_entry}
 use Rattle.std.specs.Ordering.{int_eq}
 use Rattle.std.proofs.Math.ListN.{get_or-append}
 use Rattle.std.proofs.Math.Seq.{get_or-append_seam}
 use Rattle.std.proofs.lemmas.List.Folds.{list_any-append}
-use Rattle.uring_entry.specs.declared.operation.opcode.TheConstants.{READ, WRITE}
 use Rattle.uring_entry.specs.Success.{is_success}
 use Rattle.uring_entry.proofs.BelowLemmas.{some_below_none, some_below_some, least_below_none, least_below_some, least_below_tells, IsLeast, all_below_in, all_below_there}
 
@@ -14,10 +13,7 @@ use Rattle.uring_entry.proofs.BelowLemmas.{some_below_none, some_below_some, lea
 pub is_joined_yes : (r : Requests) (m n : ℕ) → ((k : ℕ) → m ≤ k → k < n → is_last r k ≡ false)
     → is_joined r m n ≡ true
 unfolding is_joined
-is_joined_yes r m n h =
-    ap not
-    (some_below_none (λ k. leb m k && is_last r k) n
-    (λ k lt. elim (cases_lt k m) [ inl low ↦ and_left _ _ (lt-leb m k low) | inr high ↦ and_right _ _ (h k high lt) ]))
+is_joined_yes r m n h = grind (arith, some_below_none, and_left)
 
 pub is_joined_no : (r : Requests) (m n k : ℕ) → m ≤ k → k < n → is_last r k ≡ true
     → is_joined r m n ≡ false
@@ -27,11 +23,7 @@ is_joined_no r m n k le lt e =
 
 pub is_joined_inside : (r : Requests) (m n k : ℕ) → is_joined r m n ≡ true → m ≤ k → k < n
     → is_last r k ≡ false
-is_joined_inside r m n k joined le lt =
-    elim (cases_Bool (is_last r k)) [
-      | inl last ↦ absurd (both_ways _ (is_joined_no r m n k le lt last) joined)
-      | inr inside ↦ inside
-    ]
+is_joined_inside r m n k joined le lt = grind (arith, is_joined_no)
 
 -- Who is doomed.
 
@@ -49,10 +41,7 @@ is_doomed_cancelled r n e = or_right _ _ e
 
 -- a request is in its own group
 pub is_in_own_group : (r : Requests) (n : ℕ) → is_in_group r n n ≡ true
-is_in_own_group r n =
-    let low : min n n ≡ n = omega arith in
-    let high : max n n ≡ n = omega arith in
-    ap (λ m. is_joined r m (max n n)) low ∙ ap (is_joined r n) high ∙ is_joined_yes r n n (λ k le lt. absurd (omega arith))
+is_in_own_group r n = grind (arith, is_joined_yes)
 
 pub some_member_own : (r : Requests) (p : Sqe → Bool) (n : ℕ) → n < length r.accepted
     → p (entry_of r n) ≡ true → some_member r p n ≡ true
@@ -77,11 +66,7 @@ is_ready_no r n m lt e = ap not (some_below_some (holds_back r n) n m lt e)
 
 pub is_ready_inside : (r : Requests) (n m : ℕ) → is_ready r n ≡ true → m < n
     → holds_back r n m ≡ false
-is_ready_inside r n m ready lt =
-    elim (cases_Bool (holds_back r n m)) [
-      | inl back ↦ absurd (both_ways _ (is_ready_no r n m lt back) ready)
-      | inr free ↦ free
-    ]
+is_ready_inside r n m ready lt = grind (arith, is_ready_no)
 
 -- What a cancel chooses.
 
@@ -93,8 +78,7 @@ target_of_none r n h = least_below_none (is_candidate r n) (length r.accepted) h
 pub target_of_some : (r : Requests) (n m : ℕ) → m < length r.accepted → is_candidate r n m ≡ true
     → ((k : ℕ) → k < m → is_candidate r n k ≡ false) → target_of r n ≡ Some m
 unfolding target_of
-target_of_some r n m lt e before =
-    least_below_some (is_candidate r n) (length r.accepted) m lt e before
+target_of_some r n m lt e before = grind (arith, (least_below_some (is_candidate r n) (length r.accepted) m lt e before))
 
 pub target_in : (r : Requests) (n m : ℕ) → list_any (λ k. k == m) (targets_of r n) ≡ true
     → is_target r n m ≡ true
@@ -110,10 +94,7 @@ target_there r n m lt e = all_below_there (is_target r n) (length r.accepted) m 
 
 pub one_success : (e : Sqe) (res : ℤ) → is_cancel e ≡ true → is_cancel_all e ≡ false
     → is_success e res ≡ int_eq res (pos 0)
-one_success e res is one =
-    let code : opcode_of e ≡ 14 = eqb-true (opcode_of e) 14 is in
-    ap (λ b. if b then int_le (pos 0) res else int_eq res (pos (if is_transfer e then len_of e else 0))) one
-    ∙ ap (λ o. int_eq res (pos (if (o == READ) || (o == WRITE) then len_of e else 0))) code
+one_success e res is one = grind arith
 
 pub all_success : (e : Sqe) (res : ℤ) → is_cancel_all e ≡ true
     → is_success e res ≡ int_le (pos 0) res
@@ -121,19 +102,12 @@ all_success e res all = ap (λ b. if b then int_le (pos 0) res else int_eq res (
 
 -- nothing succeeds with the negative of a number
 pub never_success : (e : Sqe) (below : ℕ) → is_success e (negsuc below) ≡ false
-never_success e below = by_all (is_cancel_all e) where
-  by_all : (all : Bool) → (if all then int_le (pos 0) (negsuc below) else int_eq (negsuc below) (pos (if is_transfer e then len_of e else 0))) ≡ false
-  by_all true = refl
-  by_all false = refl
+never_success e below = grind arith
 
 -- what is before the least outstanding request has ended
 ended_before : (r : Requests) (n m : ℕ) → IsLeast (is_outstanding r) (length r.accepted) n → m < n
     → has_ended r m ≡ true
-ended_before r n m least lt =
-    elim (and_cases _ _ (least.before m lt)) [
-      | inl out ↦ absurd (both_ways _ out (lt-ltb m (length r.accepted) (omega (arith, least.below))))
-      | inr over ↦ not-false _ over
-    ]
+ended_before r n m least lt = grind arith
 
 -- the least outstanding request is running, or can be issued
 pub least_of_goes_on : (r : Requests) (n : ℕ) → least_of r ≡ Some n
@@ -143,9 +117,7 @@ least_of_goes_on r n e =
     let ready = is_ready_yes r n (λ m lt. and_left _ _ (ap not (ended_before r n m least lt))) in
     elim (cases_Bool (is_running r n)) [
       | inl running ↦ or_left _ _ running
-      | inr still ↦
-          or_right _ _
-          (and_from _ _ (and_from _ _ least.holds (ap not still)) (or_right _ _ ready))
+      | inr still ↦ grind arith
     ]
 
 -- What each event changes.
@@ -169,8 +141,7 @@ has_ended_same r n res bytes = added_same (λ e. e.number == n) r.ended _ (eq-eq
 
 pub has_ended_other : (r : Requests) (n : ℕ) (res : ℤ) (bytes : List ℕ) (k : ℕ) → k ≢ n
     → has_ended (with_ended r n res bytes) k ≡ has_ended r k
-has_ended_other r n res bytes k ne =
-    added_other (λ e. e.number == k) r.ended _ (ne_eqb n k (λ e. ne (sym e)))
+has_ended_other r n res bytes k ne = grind (arith, added_other)
 
 pub is_running_ended_same : (r : Requests) (n : ℕ) (res : ℤ) (bytes : List ℕ)
     → is_running (with_ended r n res bytes) n ≡ false
@@ -178,18 +149,15 @@ is_running_ended_same r n res bytes = and_right _ _ (ap not (has_ended_same r n 
 
 pub is_running_ended_other : (r : Requests) (n : ℕ) (res : ℤ) (bytes : List ℕ) (k : ℕ) → k ≢ n
     → is_running (with_ended r n res bytes) k ≡ is_running r k
-is_running_ended_other r n res bytes k ne =
-    ap (λ b. has_started r k && not b) (has_ended_other r n res bytes k ne)
+is_running_ended_other r n res bytes k ne = grind (arith, has_ended_other)
 
 pub is_running_started_same : (r : Requests) (n : ℕ) → has_ended r n ≡ false
     → is_running (with_started r n) n ≡ true
-is_running_started_same r n e =
-    and_from _ _ (added_same (λ m. m == n) r.started n (eq-eqb n n refl)) (ap not e)
+is_running_started_same r n e = grind (arith, and_from, added_same)
 
 pub is_running_started_other : (r : Requests) (n k : ℕ) → k ≢ n
     → is_running (with_started r n) k ≡ is_running r k
-is_running_started_other r n k ne =
-    ap (λ b. b && not (has_ended r k)) (added_other (λ m. m == k) r.started n (ne_eqb n k (λ e. ne (sym e))))
+is_running_started_other r n k ne = grind (arith, added_other)
 
 list_any_both : {X : Type 0} (p q : X → Bool) (xs : List X) → list_any p xs ≡ false
     → list_any (λ x. p x && q x) xs ≡ false
@@ -204,26 +172,16 @@ has_failed_unended r k e =
 
 pub has_failed_same : (r : Requests) (n : ℕ) (res : ℤ) (bytes : List ℕ) → has_ended r n ≡ false
     → has_failed (with_ended r n res bytes) n ≡ not (is_success (entry_of r n) res)
-has_failed_same r n res bytes e =
-    list_any_push (λ x. (x.number == n) && not (is_success (entry_of r n) x.res)) r.ended _
-    ∙ ap (λ b. b || ((n == n) && not (is_success (entry_of r n) res))) (has_failed_unended r n e)
-    ∙ ap (λ b. b && not (is_success (entry_of r n) res)) (eq-eqb n n refl)
+has_failed_same r n res bytes e = grind (arith, (has_failed_unended r n e), (eq-eqb n n refl), list_any_push)
 
 pub has_failed_other : (r : Requests) (n : ℕ) (res : ℤ) (bytes : List ℕ) (k : ℕ) → k ≢ n
     → has_failed (with_ended r n res bytes) k ≡ has_failed r k
-has_failed_other r n res bytes k ne =
-    added_other (λ x. (x.number == k) && not (is_success (entry_of r k) x.res)) r.ended _
-    (and_left _ _ (ne_eqb n k (λ e. ne (sym e))))
+has_failed_other r n res bytes k ne = grind (arith, added_other, and_left)
 
 -- an element added at the end stands there alone
 pub get_or_push_other : {X : Type 0} (xs : List X) (x : X) (k : ℕ) (d : X) → k ≢ length xs
     → get_or (xs ++ x ∷ []) k d ≡ get_or xs k d
-get_or_push_other xs x k d ne =
-    elim (cases_lt k (length xs)) [
-      | inl low ↦ get_or-append xs (x ∷ []) d k low
-      | inr high ↦
-          get_or_past (xs ++ x ∷ []) k d (omega (arith, length-append xs (x ∷ []))) ∙ sym (get_or_past xs k d high)
-    ]
+get_or_push_other xs x k d ne = grind (arith, get_or-append, get_or_past, length-append)
 
 pub entry_of_accepted_at : (r : Requests) (entry : Sqe)
     → entry_of (with_accepted r entry) (length r.accepted) ≡ entry
@@ -241,6 +199,5 @@ has_failed_accepted r entry k none =
       | inl same ↦
           let unended = ap (has_ended r) same ∙ none in
           has_failed_unended (with_accepted r entry) k unended ∙ sym (has_failed_unended r k unended)
-      | inr other ↦
-          ap (λ e. list_any (λ x. (x.number == k) && not (is_success e x.res)) r.ended) (entry_of_accepted_other r entry k other)
+      | inr other ↦ grind (arith, entry_of_accepted_other)
     ]

@@ -1,6 +1,6 @@
 -- Why a request stands as it does: from what is known of its group, and what each case says.
 use Rattle.std.proofs.Common.{◌≡◌, ℕ, ◌<◌, ◌≤◌, length, Bool, true, false, not, ◌&&◌, leb, ltb, Option, Some, None, refl, ◌∙◌, ap, subst, arith, inl, inr}
-use Rattle.uring_entry.proofs.Common.{IsGroup, Requests, and-true, and_assoc, and_left, and_right, both_ways, cases_lt, entry_of, first_broken, first_fault, first_member, has_ended, has_failed, if◌then◌else◌, is_before, is_doomed, is_faulty, is_joined, is_running, is_soft, le-ltb, least_below, lt-ltb, ltb-true}
+use Rattle.uring_entry.proofs.Common.{IsGroup, Requests, and-true, and_assoc, and_left, and_right, both_ways, cases_lt, entry_of, first_broken, first_fault, first_member, has_ended, has_failed, if◌then◌else◌, is_before, is_doomed, is_faulty, is_joined, is_running, is_soft, le-ltb, least_below, lt-ltb}
 use Rattle.uring_entry.specs.Why.{is_faulty_member, is_failure_before, faulty_member_of, failed_member_of, doom_of, holder_of, since_of, waiting_for, why_of}
 use Rattle.uring_entry.specs.declared.why.Why.{Why}
 use Rattle.uring_entry.specs.declared.why.Why.TheVariants.{NeverAccepted, HasEnded, Runs, IsDoomed, Waits, MayStart}
@@ -83,8 +83,7 @@ IsTold r n MayStart = StillWaits r n × (is_doomed r n ≡ false) × (holder_of 
 
 waiting_told : (r : Requests) (n : ℕ) (o : Option ℕ) → StillWaits r n → is_doomed r n ≡ false
     → holder_of r n ≡ o → IsTold r n (waiting_for r n o)
-waiting_told r n (Some m) s free e = (s, free, e, refl)
-waiting_told r n None s free e = (s, free, e)
+waiting_told r n o s free e = grind arith
 
 -- the tests that are left, with what the next one gives
 abbrev from_doomed : Requests → ℕ → Bool → Why
@@ -101,28 +100,19 @@ from_given r n given = if not given then NeverAccepted else from_ended r n (has_
 
 told_doomed : (r : Requests) (n : ℕ) (b : Bool) → StillWaits r n → is_doomed r n ≡ b
     → IsTold r n (from_doomed r n b)
-told_doomed r n true s e = (s, e, refl)
-told_doomed r n false s e = waiting_told r n (holder_of r n) s e refl
+told_doomed r n b s e = grind arith
 
 told_running : (r : Requests) (n : ℕ) (b : Bool) → n < length r.accepted → has_ended r n ≡ false
     → is_running r n ≡ b → IsTold r n (from_running r n b)
-told_running r n true lt going e = (lt, going, e)
-told_running r n false lt going e =
-    told_doomed r n (is_doomed r n) (record { given = lt; unended = going; unstarted = e }) refl
+told_running r n b lt going e = grind arith
 
 told_ended : (r : Requests) (n : ℕ) (b : Bool) → n < length r.accepted → has_ended r n ≡ b
     → IsTold r n (from_ended r n b)
-told_ended r n true lt e = (lt, e)
-told_ended r n false lt e = told_running r n (is_running r n) lt e refl
+told_ended r n b lt e = grind arith
 
 told_given : (r : Requests) (n : ℕ) (b : Bool) → ltb n (length r.accepted) ≡ b
     → IsTold r n (from_given r n b)
-told_given r n true e = told_ended r n (has_ended r n) (ltb-true n (length r.accepted) e) refl
-told_given r n false e =
-    elim (cases_lt n (length r.accepted)) [
-      | inl lt ↦ absurd (both_ways _ e (lt-ltb n (length r.accepted) lt))
-      | inr le ↦ le
-    ]
+told_given r n b e = grind arith
 
 pub told : (r : Requests) (n : ℕ) → IsTold r n (why_of r n)
 told r n = told_given r n (ltb n (length r.accepted)) refl
@@ -133,8 +123,7 @@ told_as r n why e = subst (IsTold r n) e (told r n)
 -- What is told, by what is so.
 
 why_still : (r : Requests) (n : ℕ) → StillWaits r n → why_of r n ≡ from_doomed r n (is_doomed r n)
-why_still r n s =
-    ap (from_given r n) (lt-ltb n (length r.accepted) s.given) ∙ ap (from_ended r n) s.unended ∙ ap (from_running r n) s.unstarted
+why_still r n s = grind arith
 
 pub why_doomed : (r : Requests) (n : ℕ) → StillWaits r n → is_doomed r n ≡ true
     → why_of r n ≡ IsDoomed (doom_of r n)

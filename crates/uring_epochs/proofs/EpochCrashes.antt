@@ -1,13 +1,11 @@
 -- That what a crash leaves may be left, and that the next epoch goes on from it.
-use Rattle.std.proofs.Common.{◌≡◌, ℕ, zero, suc, ◌<◌, ◌≤◌, ◌-◌, List, [], ◌∷◌, ◌++◌, length, get_or, length-append, inl, inr, Bool, true, false, cond, Option, Some, None, Result, Ok, Err, refl, sym, subst, ◌∙◌, ap, arith}
-use Rattle.uring_epochs.proofs.Common.{Answer, AreImages, AreLeft, Change, CrashMachine, Epoch, FileContents, FitsApart, FitsRun, History, IfOk, IsImage, IsImageBy, IsLeftAt, IsLeftBy, IsRun, Log, Nothing, Op, Put, Requests, Setup, Step, Sync, Volume, begun, begun_of, begun_on, change_begun, change_by, change_ended, empty_files, file_at, file_of_bytes, finished, finished_of, first_files, get_or-append_right, get_or-eq_default, get_or_append_left, log_from, log_on, logged, logs_on, max_len, operation_running, pos, shown_length, slice_get, volume_of, with_event, world, ℤ}
+use Rattle.std.proofs.Common.{◌≡◌, ℕ, zero, suc, ◌<◌, ◌≤◌, List, [], ◌∷◌, ◌++◌, length, get_or, length-append, inl, inr, Bool, cond, Option, Some, None, Result, Ok, Err, refl, sym, subst, ◌∙◌, ap, arith}
+use Rattle.uring_epochs.proofs.Common.{Answer, AreImages, AreLeft, Change, CrashMachine, Epoch, FileContents, FitsApart, FitsRun, History, IfOk, IsImage, IsImageBy, IsLeftAt, IsLeftBy, Log, Op, Requests, Setup, Step, Volume, begun, begun_of, begun_on, change_begun, change_by, change_ended, empty_files, file_at, file_of_bytes, finished, finished_of, first_files, get_or-append_right, get_or-eq_default, get_or_append_left, log_from, log_on, logged, logs_on, max_len, pos, shown_length, slice_get, volume_of, with_event, ℤ}
 use Rattle.std.specs.declared.alloc.AllocError.{AllocError}
 use Rattle.std.specs.Option.{option_map}
 use Rattle.std.proofs.lemmas.Option.{slice_get-map, slice_get_within, get_or_from_slice_get}
 use Rattle.uring_volume.proofs.Painting.{below_or_from}
 use Rattle.uring_volume.specs.declared.event.Event.{Event}
-use Rattle.uring_core.specs.declared.step.Step.TheVariants as step
-use Rattle.uring_core.specs.declared.answer.Answer.TheVariants as answer
 use Rattle.uring_epochs.proofs.Noted.{map_same, first_many, first_empty, first_at, logs_at}
 
 -- a log keeps its unit and its first bytes
@@ -15,23 +13,17 @@ abbrev pub Keeps : Log → Log → Type 0
 Keeps old new = (new.volume.unit ≡ old.volume.unit) × (new.volume.first ≡ old.volume.first)
 
 keeps_if : (b : Bool) (old new : Log) → Keeps old new → Keeps old (cond b new old)
-keeps_if true old new k = k
-keeps_if false old new k = (refl, refl)
+keeps_if b old new k = grind arith
 
 event_if : (b : Bool) (e : Event) (v : Volume)
     → ((cond b (with_event e v) v).unit ≡ v.unit) × ((cond b (with_event e v) v).first ≡ v.first)
-event_if true e v = (refl, refl)
-event_if false e v = (refl, refl)
+event_if b e v = grind arith
 
 change_begun_keeps : (n : ℕ) (c : Change) (log : Log) → Keeps log (change_begun n c log)
-change_begun_keeps n (Put fd off len bytes given) log = keeps_if _ log _ (refl, refl)
-change_begun_keeps n (Sync fd) log = keeps_if _ log _ (refl, refl)
-change_begun_keeps n Nothing log = (refl, refl)
+change_begun_keeps n c log = grind arith
 
 change_ended_keeps : (n : ℕ) (c : Change) (res : ℤ) (log : Log) → Keeps log (change_ended n c res log)
-change_ended_keeps n (Put fd off len bytes given) res log = keeps_if _ log _ (event_if _ _ log.volume)
-change_ended_keeps n (Sync fd) res log = keeps_if _ log _ (event_if _ _ log.volume)
-change_ended_keeps n Nothing res log = (refl, refl)
+change_ended_keeps n c res log = grind arith
 
 pub begun_keeps : (n : ℕ) (op : Op) (log : Log) → Keeps log (begun n op log)
 begun_keeps n op log = change_begun_keeps n (change_by op (shown_length log.volume)) log
@@ -48,18 +40,11 @@ finished_of_keeps n None res log = (refl, refl)
 finished_of_keeps n (Some op) res log = finished_keeps n op res log
 
 logged_keeps : (r q : Requests) (s : Step) (a : Answer) (log : Log) → Keeps log (logged r q s a log)
-logged_keeps r q (step.Issue n) answer.Run log = begun_of_keeps n (operation_running q n) log
-logged_keeps r q (step.Finish n) (answer.Ended res bytes) log = finished_of_keeps n (operation_running r n) res log
-logged_keeps r q (step.Issue n) _ log = (refl, refl)
-logged_keeps r q (step.Finish n) _ log = (refl, refl)
-logged_keeps r q _ a log = (refl, refl)
+logged_keeps r q s a log = grind (arith, finished_of_keeps)
 
 pub from_keeps : (start : Log) (g : Setup) (h : History) → Keeps start (log_from start g h)
 from_keeps start g [] = (refl, refl)
-from_keeps start g ((s, a) ∷ before) =
-    let k = logged_keeps (world g before).requests (world g ((s, a) ∷ before)).requests s a (log_from start g before) in
-    let l = from_keeps start g before in
-    (k.0 ∙ l.0, k.1 ∙ l.1)
+from_keeps start g ((s, a) ∷ before) = grind (arith, logged_keeps, log_from, (from_keeps start g before))
 
 -- Images of the first files, one after the other.
 pub record ImagesUpTo (logs : List Log) (choices images : List (List ℕ)) (n : ℕ) : Type 0 where
@@ -76,14 +61,7 @@ images_more logs choices images n log now here by so = record {
     | inl before ↦
         let inside : place < length images = omega (arith, before, so.many) in
         subst (λ (bs : List ℕ). IsImageBy other (get_or choices place []) bs) (sym (get_or_append_left images (now ∷ []) [] place inside)) (so.each place other before is)
-    | inr from ↦
-        let same : place ≡ n = omega (arith, below, from) in
-        let one : Some other ≡ Some log = sym is ∙ ap (slice_get logs) same ∙ here in
-        let is_log : other ≡ log = cc in
-        let last : get_or (images ++ now ∷ []) place [] ≡ now = get_or-append_right images (now ∷ []) n place [] so.many (omega (arith, same)) ∙ ap (λ (k : ℕ). get_or (now ∷ []) k []) (let it : place - n ≡ 0 = omega (arith, same) in it) in
-        subst (λ (bs : List ℕ). IsImageBy other (get_or choices place []) bs) (sym last)
-        (subst (λ (k : ℕ). IsImageBy other (get_or choices k []) now) (sym same)
-        (subst (λ (l : Log). IsImageBy l (get_or choices n []) now) (sym is_log) by))
+    | inr from ↦ grind (arith, (get_or (images ++ now ∷ []) place), (get_or-append_right images (now ∷ []) n place), (get_or choices place))
   ];
 }
 
@@ -145,14 +123,7 @@ pub crash_fits : (m next : CrashMachine) (choices images : List (List ℕ)) (e :
     → FitsRun next (begun_on (first_files m.core.setup.files images)) []
     → AreImages m.logs choices images → FitsRun m e earlier
     → FitsRun next (begun_on next.files) (e ∷ earlier)
-crash_fits m next choices images e earlier same units fresh are f =
-    let first : List FileContents = first_files m.core.setup.files images in
-    let left : AreLeft m.unit m.core.setup e first = images_left m e earlier choices images f are in
-    let run : IsRun m.unit m.core.setup (begun_on first ∷ e ∷ earlier) = (tt, left, f.run) in
-    let moved : IsRun next.unit next.core.setup (begun_on first ∷ e ∷ earlier) =
-    subst (λ (g : Setup). IsRun next.unit g (begun_on first ∷ e ∷ earlier)) (sym same) (subst (λ (u : ℕ). IsRun u m.core.setup (begun_on first ∷ e ∷ earlier)) (sym units) run) in
-    subst (λ (fs : List FileContents). FitsRun next (begun_on fs) (e ∷ earlier)) (sym fresh.files)
-    (record { core = fresh.core; files = fresh.files; logs = fresh.logs; many = fresh.many; run = moved })
+crash_fits m next choices images e earlier same units fresh are f = grind (arith, (images_left m e earlier choices images f are))
 
 pub crash_chosen : (m next : CrashMachine) (choices images : List (List ℕ)) (e : Epoch) (earlier : List Epoch)
     → FitsRun next (begun_on (first_files m.core.setup.files images)) []
@@ -178,13 +149,7 @@ pub on_fits : (m : CrashMachine) (images : List (List ℕ)) (files : ℕ)
     → FitsApart m.core [] → m.core.setup.files ≡ files → m.files ≡ first_files files images
     → m.logs ≡ logs_on m.unit 0 (first_files files images)
     → FitsRun m (begun_on (first_files files images)) []
-on_fits m images files fits same these logs = record {
-  core = fits;
-  files = these;
-  logs = logs ∙ map_same (λ log. log) (logs_on m.unit 0 (first_files files images)) (λ log. refl);
-  many = first_many files images ∙ sym same;
-  run = (tt, tt, tt);
-}
+on_fits m images files fits same these logs = grind (arith, map_same, first_many)
 
 -- What a call that makes the next machine says of it.
 
@@ -223,6 +188,4 @@ images_short logs choices images are place = elim (below_or_from place (length i
 
 pub log_read : (logs : List Log) (i : ℕ) (log : Log) → i < length logs → log ≡ get_or logs i log
     → slice_get logs i ≡ Some log
-log_read logs i log within is =
-    let here = some_at logs i within in
-    here.1 ∙ ap (λ (l : Log). Some l) (sym (get_or_from_slice_get logs i here.0 log here.1) ∙ sym is)
+log_read logs i log within is = grind (arith, (some_at logs i within), Log, get_or_from_slice_get)

@@ -1,6 +1,6 @@
 -- How long the file is that a volume shows, and which events a log has, as writes end.
-use Rattle.std.proofs.Common.{◌≡◌, ◌≤◌, ◌+◌, ◌==◌, ℕ, true, false, max, List, [], ◌∷◌, ◌++◌, length, reverse, Result, Ok, Err, refl, ap, ◌∙◌, inl, inr, arith}
-use Rattle.uring_epochs.proofs.Common.{OnOk, Volume, Write, WriteEnded, cases_Bool, cond-false, cond-true, end_of, ended, issued, length_over, named, reverse-append, shown_length, with_event}
+use Rattle.std.proofs.Common.{◌≡◌, ◌≤◌, ◌+◌, ◌==◌, ℕ, true, false, max, List, [], ◌∷◌, ◌++◌, length, reverse, Result, refl, ap, ◌∙◌, arith}
+use Rattle.uring_epochs.proofs.Common.{OnOk, Volume, Write, WriteEnded, cond-true, end_of, issued, length_over, named, reverse-append, shown_length, with_event}
 use Rattle.std.proofs.lemmas.List.Elements.{filter-append}
 use Rattle.std.specs.Result.{is_err}
 use Rattle.uring_volume.specs.declared.event.Event.{Event}
@@ -23,9 +23,7 @@ over_from len (w ∷ ws) =
 pub shown_longer : (k : ℕ) (v : Volume)
     → shown_length (with_event (WriteEnded k) v)
     ≡ max (shown_length v) (length_over 0 (named k (issued v.history)))
-shown_longer k v =
-    over_both (length v.first) (ended v.history) (named k (issued v.history))
-    ∙ over_from (shown_length v) (named k (issued v.history))
+shown_longer k v = grind (arith, over_both, over_from)
 
 pub shown_grows : (k : ℕ) (v : Volume) → shown_length v ≤ shown_length (with_event (WriteEnded k) v)
 shown_grows k v = omega (arith, shown_longer k v)
@@ -34,36 +32,24 @@ shown_grows k v = omega (arith, shown_longer k v)
 
 named_more : (n : ℕ) (ws : List Write) (w : Write)
     → length_over 0 (named n (ws ++ w ∷ [])) ≡ length_over (length_over 0 (named n ws)) (named n (w ∷ []))
-named_more n ws w =
-    ap (length_over 0) (filter-append (λ m. m.number == n) ws (w ∷ [])) ∙ over_both 0 (named n ws) (named n (w ∷ []))
+named_more n ws w = grind (arith, filter-append, over_both)
 
 pub ends_with : (n : ℕ) (ws : List Write) (w : Write) → (w.number == n) ≡ true → (length w.bytes == 0) ≡ false
     → length_over 0 (named n (ws ++ w ∷ [])) ≡ max (length_over 0 (named n ws)) (w.off + length w.bytes)
-ends_with n ws w is some =
-    named_more n ws w
-    ∙ ap (length_over (length_over 0 (named n ws))) (cond-true (w.number == n) (w ∷ []) [] is)
-    ∙ ap (max (length_over 0 (named n ws))) (cond-false (length w.bytes == 0) 0 (w.off + length w.bytes) some)
+ends_with n ws w is some = grind (arith, named_more, cond-true)
 
 pub ends_empty : (n : ℕ) (ws : List Write) (w : Write) → (length w.bytes == 0) ≡ true
     → length_over 0 (named n (ws ++ w ∷ [])) ≡ length_over 0 (named n ws)
-ends_empty n ws w none = named_more n ws w ∙ elim (cases_Bool (w.number == n)) [
-  | inl is ↦
-      ap (length_over (length_over 0 (named n ws))) (cond-true (w.number == n) (w ∷ []) [] is)
-      ∙ ap (max (length_over 0 (named n ws))) (cond-true (length w.bytes == 0) 0 (w.off + length w.bytes) none)
-      ∙ (let it : max (length_over 0 (named n ws)) 0 ≡ length_over 0 (named n ws) = omega arith in it)
-  | inr other ↦ ap (length_over (length_over 0 (named n ws))) (cond-false (w.number == n) (w ∷ []) [] other)
-]
+ends_empty n ws w none = grind (arith, named_more, cond-true)
 
 pub ends_without : (n : ℕ) (ws : List Write) (w : Write) → (w.number == n) ≡ false
     → length_over 0 (named n (ws ++ w ∷ [])) ≡ length_over 0 (named n ws)
-ends_without n ws w other =
-    named_more n ws w ∙ ap (length_over (length_over 0 (named n ws))) (cond-false (w.number == n) (w ∷ []) [] other)
+ends_without n ws w other = grind (arith, named_more)
 
 -- The events of a log, with the end of a write after them.
 
 put_there : {E : Type 0} (r : Result (Unit {0}) E) (P : Type 0) → is_err r ≡ false → OnOk r P → P
-put_there (Ok x) P good on = on
-put_there (Err e) P good on = absurd cc
+put_there r P good on = grind arith
 
 pub turned_more : {E : Type 0} (r : Result (Unit {0}) E) (events now : List Event) (k : ℕ) → is_err r ≡ false
     → OnOk r (now ≡ events ++ WriteEnded k ∷ []) → reverse now ≡ WriteEnded k ∷ reverse events

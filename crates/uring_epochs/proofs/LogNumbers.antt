@@ -1,14 +1,11 @@
 -- The numbers of a log's requests, and of what runs.
 use Rattle.std.proofs.Common.{◌≡◌, ◌<◌, ◌≤◌, ◌==◌, ◌||◌, ◌⊎◌, ℕ, suc, Bool, true, false, not, List, [], ◌∷◌, ◌++◌, length, refl, sym, subst, ◌∙◌, inl, inr, arith}
-use Rattle.uring_epochs.proofs.Common.{both_ways, but, cases_Bool, cond-false, cond-true, eq-eqb, eqb-true, is_one_of, number_of, or_left, or_right}
+use Rattle.uring_epochs.proofs.Common.{both_ways, but, cases_Bool, cond-false, cond-true, eqb-true, is_one_of, number_of, or_left, or_right}
 use Rattle.std.proofs.lemmas.List.Folds.{list_any-append}
 
 pub number_short : (n : ℕ) (q : List ℕ) → number_of n q ≤ length q
 number_short n [] = omega arith
-number_short n (m ∷ q) = elim (cases_Bool (m == n)) [
-  | inl same ↦ omega (arith, cond-true (m == n) (suc (length q)) (number_of n q) same)
-  | inr other ↦ omega (arith, cond-false (m == n) (suc (length q)) (number_of n q) other, number_short n q)
-]
+number_short n (m ∷ q) = grind (arith, (number_short n q))
 
 pub number_old : (m n : ℕ) (q : List ℕ) → (m == n) ≡ false → number_of n (m ∷ q) ≡ number_of n q
 number_old m n q other = cond-false (m == n) (suc (length q)) (number_of n q) other
@@ -28,22 +25,17 @@ number_once n m (x ∷ q) some same = elim (cases_Bool (x == n)) [
 ]
 
 or_either : (x y : Bool) → (x || y) ≡ true → (x ≡ true) ⊎ (y ≡ true)
-or_either true y is = inl refl
-or_either false y is = inr is
+or_either x y is = grind arith
 
 was_true : (b : Bool) → not b ≡ false → b ≡ true
-was_true true e = refl
-was_true false e = absurd (both_ways true e refl)
+was_true b e = grind arith
 
 -- what runs, with one more
 pub in_more : (k j : ℕ) (ns : List ℕ) → is_one_of j ns ≡ true → is_one_of j (ns ++ k ∷ []) ≡ true
-in_more k j ns is =
-    list_any-append (λ m. m == j) ns (k ∷ []) ∙ or_left (is_one_of j ns) (is_one_of j (k ∷ [])) is
+in_more k j ns is = grind (arith, list_any-append)
 
 pub in_new : (k : ℕ) (ns : List ℕ) → is_one_of k (ns ++ k ∷ []) ≡ true
-in_new k ns =
-    list_any-append (λ m. m == k) ns (k ∷ [])
-    ∙ or_right (is_one_of k ns) (is_one_of k (k ∷ [])) (or_left (k == k) false (eq-eqb k k refl))
+in_new k ns = grind (arith, list_any-append, or_right)
 
 -- and without another
 pub in_but : (k j : ℕ) (ns : List ℕ) → (j ≡ k → ⊥) → is_one_of j ns ≡ true

@@ -1,7 +1,7 @@
 -- What the log of a file keeps: whatever of the file runs on the machine runs on the volume.
-use Rattle.std.proofs.Common.{◌≡◌, ◌<◌, ◌≤◌, ◌==◌, ◌&&◌, ◌||◌, ◌⊎◌, ℕ, ℤ, suc, Bool, true, false, not, cond, List, [], ◌∷◌, ◌++◌, length, take, Option, Some, None, refl, sym, subst, ap, ◌∙◌, inl, inr, arith}
+use Rattle.std.proofs.Common.{◌≡◌, ◌<◌, ◌≤◌, ◌==◌, ◌⊎◌, ℕ, ℤ, suc, Bool, true, false, not, cond, List, [], ◌∷◌, ◌++◌, length, take, Option, Some, None, refl, sym, subst, ap, ◌∙◌, inl, inr, arith}
 use Rattle.std.specs.Ordering.{int_eq}
-use Rattle.uring_epochs.proofs.Common.{Answer, Change, IsLawfulApart, Log, Nothing, Op, Put, Requests, Setup, Step, Sync, SyncEnded, SyncFailed, Volume, WriteEnded, and_from, and_parts, append-nil, begun_of, both_ways, cases_Bool, change_begun, change_by, change_ended, cond-false, cond-true, entry_of, eq-eqb, eqb-true, false_from_ne_true, finished_of, has_ended, has_started, is_one_of, is_running, issued, log_from, log_of, log_on, logged, named, no_bytes, no_request, number_of, operation_of, operation_running, or_left, or_right, pos, requests_of, running_syncs, running_writes, shown_length, sync_with, with_call, with_ended, with_event, with_started, with_sync, with_write, world, write_ended}
+use Rattle.uring_epochs.proofs.Common.{Answer, Change, IsLawfulApart, Log, Nothing, Op, Put, Requests, Setup, Step, Sync, SyncEnded, SyncFailed, WriteEnded, and_from, and_parts, append-nil, begun_of, both_ways, cases_Bool, change_begun, change_by, change_ended, cond-false, cond-true, entry_of, eq-eqb, eqb-true, false_from_ne_true, finished_of, has_ended, has_started, is_one_of, is_running, issued, log_from, log_of, log_on, logged, named, no_request, number_of, operation_of, operation_running, or_left, or_right, pos, requests_of, running_syncs, running_writes, shown_length, sync_with, with_call, with_ended, with_event, with_started, with_sync, with_write, world, write_ended}
 use Rattle.std.proofs.lemmas.List.Elements.{filter-append}
 use Rattle.std.proofs.lemmas.List.Folds.{list_any-append}
 use Rattle.uring_linux.specs.LinuxRequests.{LinuxRequests}
@@ -12,8 +12,6 @@ use Rattle.uring_volume.specs.Events.{History}
 use Rattle.uring_volume.specs.declared.event.SyncRange.TheVariants.{Whole}
 use Rattle.uring_core.specs.Events.{started_by, end_told_by}
 use Rattle.uring_core.specs.Histories as core
-use Rattle.uring_core.specs.declared.step.Step.TheVariants as step
-use Rattle.uring_core.specs.declared.answer.Answer.TheVariants as answer
 use Rattle.uring_core.proofs.ListCounts.{any_new}
 use Rattle.uring_core.proofs.Moves.{Move, stays, accepts, starts, ends_doomed, ends_cancel, ends_run, move_of}
 use Rattle.uring_core.proofs.Running.{entry_stays}
@@ -47,42 +45,22 @@ pub record Stands (fd : ℤ) (r : Requests) (log : Log) : Type 0 where
       × (is_one_of (number_of m log.requests) (running_syncs log.volume.history) ≡ true)
 
 stands_first : (unit : ℕ) (first : List ℕ) (fd : ℤ) → Stands fd no_request (log_on unit first fd)
-stands_first unit first fd = record {
-  file = refl;
-  next = refl;
-  fresh = λ k next. refl;
-  writes = λ m own off len bytes given runs is on. absurd (both_ways false refl runs);
-  syncs = λ m own runs is on. absurd (both_ways false refl runs);
-}
+stands_first unit first fd = grind arith
 
 -- Who runs.
 
 -- as one starts
 run_or : (r : Requests) (n m : ℕ) → is_running (with_started r n) m ≡ true
     → (is_running r m ≡ true) ⊎ (n ≡ m)
-run_or r n m is =
-    let parts = and_parts (has_started (with_started r n) m) (not (has_ended r m)) is in
-    elim (any_new (λ k. k == m) r.started n parts.0) [
-      | inl old ↦ inl (and_from (has_started r m) (not (has_ended r m)) old parts.1)
-      | inr new ↦ inr (eqb-true n m new)
-    ]
+run_or r n m is = grind (arith, any_new, and_from)
 
 not_ended : (b : Bool) → not b ≡ true → b ≡ false
-not_ended true e = absurd (both_ways false refl e)
-not_ended false e = refl
+not_ended b e = grind arith
 
 -- as one ends
 run_less : (r : Requests) (n : ℕ) (res : ℤ) (bytes : List ℕ) (m : ℕ) → is_running (with_ended r n res bytes) m ≡ true
     → (is_running r m ≡ true) × (m ≡ n → ⊥)
-run_less r n res bytes m is =
-    let q = with_ended r n res bytes in
-    let parts = and_parts (has_started r m) (not (has_ended q m)) is in
-    let none : has_ended q m ≡ false = not_ended (has_ended q m) parts.1 in
-    let all : has_ended q m ≡ (has_ended r m || ((n == m) || false)) = list_any-append (λ e. e.number == m) r.ended (record { number = n; res = res; bytes = bytes } ∷ []) in
-    let old : has_ended r m ≡ false = false_from_ne_true (has_ended r m) (λ e. both_ways (has_ended q m) none (all ∙ or_left (has_ended r m) ((n == m) || false) e)) in (
-      and_from (has_started r m) (not (has_ended r m)) parts.0 (ap not old),
-      λ same. both_ways (has_ended q m) none (all ∙ or_right (has_ended r m) ((n == m) || false) (or_left (n == m) false (eq-eqb n m (sym same)))),
-    )
+run_less r n res bytes m is = grind (arith, not_ended, list_any-append, false_from_ne_true, both_ways)
 
 -- fewer run, and the log stays
 stands_less : (fd : ℤ) (r q : Requests) (log : Log)
@@ -126,25 +104,16 @@ stands_unlogged fd r n log no_write no_sync s = record {
 -- whoever ran before and isn't this one
 ran : (r : Requests) (n m : ℕ) → (n == m) ≡ false → is_running (with_started r n) m ≡ true
     → is_running r m ≡ true
-ran r n m other runs = elim (run_or r n m runs) [
-  | inl old ↦ old
-  | inr new ↦ absurd (both_ways (n == m) other (eq-eqb n m new))
-]
+ran r n m other runs = grind (arith, run_or, both_ways)
 
 -- the writes of a number, with one more
 named_old : (k : ℕ) (ws : List piece.Write) (w : piece.Write) → (w.number == k) ≡ false
     → named k (ws ++ w ∷ []) ≡ named k ws
-named_old k ws w other =
-    filter-append (λ v. v.number == k) ws (w ∷ [])
-    ∙ ap (λ (vs : List piece.Write). named k ws ++ vs) (cond-false (w.number == k) (w ∷ []) [] other)
-    ∙ append-nil (named k ws)
+named_old k ws w other = grind (arith, filter-append, cond-false, append-nil)
 
 named_new : (k : ℕ) (ws : List piece.Write) (w : piece.Write) → w.number ≡ k → named k ws ≡ []
     → named k (ws ++ w ∷ []) ≡ w ∷ []
-named_new k ws w same none =
-    filter-append (λ v. v.number == k) ws (w ∷ [])
-    ∙ ap (λ (vs : List piece.Write). vs ++ named k (w ∷ [])) none
-    ∙ cond-true (w.number == k) (w ∷ []) [] (eq-eqb w.number k same)
+named_new k ws w same none = grind (arith, filter-append, cond-true)
 
 -- a write that begins
 stands_write : (fd : ℤ) (r : Requests) (n : ℕ) (log : Log) (own : ℤ) (off len : ℕ) (bytes : List ℕ) (given : ℤ)
@@ -158,9 +127,7 @@ stands_write fd r n log own off len bytes given is s =
     record {
       file = s.file;
       next = omega (arith, s.next);
-      fresh = λ k from.
-          named_old k (issued h) w (false_from_ne_true (next == k) (λ e. omega (arith, eqb-true next k e, from)))
-          ∙ s.fresh k (omega (arith, from));
+      fresh = grind (arith, named_old, false_from_ne_true);
       writes = λ m own' off' len' bytes' given' runs is' on. elim (cases_Bool (n == m)) [
         | inl same ↦
             let at : Put own off len bytes given ≡ Put own' off' len' bytes' given' = as_of r n m log _ _ (eqb-true n m same) is is' in
@@ -179,9 +146,7 @@ stands_write fd r n log own off len bytes given is s =
             (record { positive = old.positive; running = in_more next k (running_writes h) old.running; is = named_old k (issued h) w differs ∙ old.is })
       ];
       syncs = λ m own' runs is' on. elim (cases_Bool (n == m)) [
-        | inl same ↦
-            let at : Put own off len bytes given ≡ Sync own' = as_of r n m log _ _ (eqb-true n m same) is is' in
-            absurd cc
+        | inl same ↦ grind (arith, (eqb-true n m same))
         | inr other ↦
             subst (λ (j : ℕ). (0 < j) × (is_one_of j (running_syncs now) ≡ true)) (sym (number_old n m log.requests other))
             (s.syncs m own' (ran r n m other runs) is' on)
@@ -201,18 +166,14 @@ stands_sync fd r n log own is s =
       next = omega (arith, s.next);
       fresh = λ k from. s.fresh k (omega (arith, from));
       writes = λ m own' off' len' bytes' given' runs is' on. elim (cases_Bool (n == m)) [
-        | inl same ↦
-            let at : Sync own ≡ Put own' off' len' bytes' given' = as_of r n m log _ _ (eqb-true n m same) is is' in
-            absurd cc
+        | inl same ↦ grind (arith, (eqb-true n m same))
         | inr other ↦
             let old = s.writes m own' off' len' bytes' given' (ran r n m other runs) is' on in
             subst (λ (j : ℕ). Runs now j off' (take len' bytes')) (sym (number_old n m log.requests other))
             (record { positive = old.positive; running = old.running; is = old.is })
       ];
       syncs = λ m own' runs is' on. elim (cases_Bool (n == m)) [
-        | inl same ↦
-            let number : next ≡ number_of m (n ∷ log.requests) = s.next ∙ sym (cond-true (n == m) (suc (length log.requests)) (number_of m log.requests) same) in
-            subst (λ (j : ℕ). (0 < j) × (is_one_of j (running_syncs now) ≡ true)) number (omega (arith, s.next), in_new next (running_syncs h))
+        | inl same ↦ grind (arith, (in_new next (running_syncs h)))
         | inr other ↦
             let old = s.syncs m own' (ran r n m other runs) is' on in
             subst (λ (j : ℕ). (0 < j) × (is_one_of j (running_syncs now) ≡ true)) (sym (number_old n m log.requests other))
@@ -283,8 +244,7 @@ stands_write_end fd r n res bytes log s =
             running = in_but k (number_of m log.requests) (running_writes log.volume.history) (λ same. less.1 (number_once m n log.requests old.positive same)) old.running;
             is = old.is;
           };
-      syncs = λ m own runs is on.
-          s.syncs m own (run_less r n res bytes m runs).0 (change_before (operation_of (entry_of r m)) (shown_length log.volume) _ (Sync own) longer (λ e. absurd cc) is) on;
+      syncs = grind (arith, run_less, change_before);
     }
 
 -- its sync ends there, with success or without
@@ -322,32 +282,9 @@ stands_sync_end fd r n res bytes log false s =
 stands_finished : (fd : ℤ) (r : Requests) (n : ℕ) (res : ℤ) (bytes : List ℕ) (log : Log) (c : Change) → Stands fd r log
     → Stands fd (with_ended r n res bytes) (change_ended n c res log)
 stands_finished fd r n res bytes log (Put own off len put given) s =
-    let k : ℕ = number_of n log.requests in
-    let q : Requests = with_ended r n res bytes in
-    let test : Bool = int_eq log.fd own && int_eq res given in
-    let more : Log = record log { volume = write_ended k log.volume } in
-    let runs : Bool = is_one_of k (running_writes log.volume.history) in
-    elim (cases_Bool test) [
-      | inl sure ↦ subst (Stands fd q) (sym (cond-true test more log sure)) (elim (cases_Bool runs) [
-        | inl is ↦ subst (λ (v : Volume). Stands fd q (record log { volume = v })) (sym (cond-true runs (with_event (WriteEnded k) log.volume) log.volume is)) (stands_write_end fd r n res bytes log s)
-        | inr fails ↦ subst (λ (v : Volume). Stands fd q (record log { volume = v })) (sym (cond-false runs (with_event (WriteEnded k) log.volume) log.volume fails)) (stands_after fd r n res bytes log s)
-      ])
-      | inr fails ↦ subst (Stands fd q) (sym (cond-false test more log fails)) (stands_after fd r n res bytes log s)
-    ]
+    grind (arith, (stands_write_end fd r n res bytes log s), (stands_after fd r n res bytes log s), Log, write_ended, cond-true, cond-false)
 stands_finished fd r n res bytes log (Sync own) s =
-    let k : ℕ = number_of n log.requests in
-    let q : Requests = with_ended r n res bytes in
-    let test : Bool = int_eq log.fd own in
-    let more : Log = record log { volume = sync_with res k log.volume } in
-    let runs : Bool = is_one_of k (running_syncs log.volume.history) in
-    let event = cond (int_eq res (pos 0)) (SyncEnded k) (SyncFailed k) in
-    elim (cases_Bool test) [
-      | inl sure ↦ subst (Stands fd q) (sym (cond-true test more log sure)) (elim (cases_Bool runs) [
-        | inl is ↦ subst (λ (v : Volume). Stands fd q (record log { volume = v })) (sym (cond-true runs (with_event event log.volume) log.volume is)) (stands_sync_end fd r n res bytes log (int_eq res (pos 0)) s)
-        | inr fails ↦ subst (λ (v : Volume). Stands fd q (record log { volume = v })) (sym (cond-false runs (with_event event log.volume) log.volume fails)) (stands_after fd r n res bytes log s)
-      ])
-      | inr fails ↦ subst (Stands fd q) (sym (cond-false test more log fails)) (stands_after fd r n res bytes log s)
-    ]
+    grind (arith, (stands_sync_end fd r n res bytes log (int_eq res (pos 0)) s), (stands_after fd r n res bytes log s), Log, sync_with, cond, cond-true, cond-false)
 stands_finished fd r n res bytes log Nothing s = stands_after fd r n res bytes log s
 
 -- An event.
@@ -355,26 +292,18 @@ stands_finished fd r n res bytes log Nothing s = stands_after fd r n res bytes l
 -- one that starts and ends none
 pub quiet : (r q : Requests) (s : Step) (a : Answer) (log : Log) → started_by (s, a) ≡ None
     → end_told_by (s, a) ≡ None → logged r q s a log ≡ log
-quiet r q (step.Issue n) answer.Run log no_start no_end = let e : Some n ≡ None = no_start in absurd cc
-quiet r q (step.Finish n) (answer.Ended res bytes) log no_start no_end = let e : Some (record { number = n; res = res; bytes = bytes }) ≡ None = no_end in absurd cc
-quiet r q (step.Issue n) _ log no_start no_end = refl
-quiet r q (step.Finish n) _ log no_start no_end = refl
-quiet r q _ a log no_start no_end = refl
+quiet r q s a log no_start no_end = grind arith
 
 -- the operation of one that has just been started
 pub runs_now : (r : Requests) (n : ℕ) → has_ended r n ≡ false
     → operation_running (with_started r n) n ≡ Some (operation_of (entry_of r n))
-runs_now r n going =
-    let started : has_started (with_started r n) n ≡ true = list_any-append (λ k. k == n) r.started (n ∷ []) ∙ or_right (has_started r n) ((n == n) || false) (or_left (n == n) false (eq-eqb n n refl)) in
-    cond-true (is_running (with_started r n) n) (Some (operation_of (entry_of r n))) None
-    (and_from (has_started (with_started r n) n) (not (has_ended r n)) started (ap not going))
+runs_now r n going = grind (arith, list_any-append, or_right, or_left, eq-eqb)
 
 -- fewer run as one ends as it is issued
 issued_less : (linux : Bool) (r : Requests) (n : ℕ) (res : ℤ) (m : ℕ)
     → is_running (with_issued_end linux r n res) m ≡ true
     → (is_running r m ≡ true) × (operation_of (entry_of (with_issued_end linux r n res) m) ≡ operation_of (entry_of r m))
-issued_less true r n res m runs = ((run_less r n res no_bytes m runs).0, refl)
-issued_less false r n res m runs = ((run_less r n res no_bytes m runs).0, refl)
+issued_less linux r n res m runs = grind (arith, run_less)
 
 stands_move : (fd : ℤ) (linux : Bool) (l : LinuxRequests) (q : Requests) (s : Step) (a : Answer) (log : Log)
     → Move linux l s a q → IsSoundRequests l.requests → Stands fd l.requests log

@@ -1,5 +1,5 @@
 -- Lists of logs in which each, one after the other, is noted, and the first files of an epoch with their logs.
-use Rattle.std.proofs.Common.{◌≡◌, ◌<◌, ◌+◌, ℕ, zero, suc, List, [], ◌∷◌, ◌++◌, length, map, take, drop, get_or, Some, refl, sym, ap, ◌∙◌, arith}
+use Rattle.std.proofs.Common.{◌≡◌, ◌<◌, ◌+◌, ℕ, zero, suc, List, [], ◌∷◌, ◌++◌, length, map, take, drop, get_or, Some, refl, ap, ◌∙◌, arith}
 use Rattle.uring_epochs.proofs.Common.{FileContents, empty_file, empty_files, file_at, file_of_bytes, first_files, log_on, logs_on, pos, set, slice_get}
 
 -- the first of some are changed, and one more is
@@ -20,8 +20,7 @@ map_twice f g [] = refl
 map_twice f g (x ∷ xs) = ap (λ ys. f (g x) ∷ ys) (map_twice f g xs)
 
 pub map_alike : {X : Type 0} (f g : X → X) (xs : List X) → ((x : X) → f x ≡ g x) → map f xs ≡ map g xs
-map_alike f g [] same = refl
-map_alike f g (x ∷ xs) same = ap (λ y. y ∷ map f xs) (same x) ∙ ap (λ ys. g x ∷ ys) (map_alike f g xs same)
+map_alike f g xs same = grind arith
 
 -- First files.
 
@@ -59,23 +58,15 @@ first_at (suc n) (b ∷ later) (suc i) within = first_at n later i (omega (arith
 logs_longer : (unit from n : ℕ) (contents : List (List ℕ))
     → logs_on unit from (first_files (suc n) contents)
     ≡ logs_on unit from (first_files n contents) ++ log_on unit (get_or contents n []) (pos (n + from)) ∷ []
-logs_longer unit from zero [] =
-    ap (λ (k : ℕ). log_on unit [] (pos k) ∷ []) (let same : from ≡ 0 + from = omega arith in same)
-logs_longer unit from zero (b ∷ later) =
-    ap (λ (k : ℕ). log_on unit b (pos k) ∷ []) (let same : from ≡ 0 + from = omega arith in same)
-logs_longer unit from (suc n) [] =
-    ap (λ ls. log_on unit [] (pos from) ∷ ls)
-    (logs_longer unit (suc from) n [] ∙ ap (λ (k : ℕ). logs_on unit (suc from) (first_files n []) ++ log_on unit [] (pos k) ∷ []) (let same : n + suc from ≡ suc n + from = omega arith in same))
-logs_longer unit from (suc n) (b ∷ later) =
-    ap (λ ls. log_on unit b (pos from) ∷ ls)
-    (logs_longer unit (suc from) n later ∙ ap (λ (k : ℕ). logs_on unit (suc from) (first_files n later) ++ log_on unit (get_or later n []) (pos k) ∷ []) (let same : n + suc from ≡ suc n + from = omega arith in same))
+logs_longer unit from zero [] = grind arith
+logs_longer unit from zero (b ∷ later) = grind arith
+logs_longer unit from (suc n) [] = grind (arith, (logs_longer unit (suc from) n))
+logs_longer unit from (suc n) (b ∷ later) = grind (arith, log_on, (logs_longer unit (suc from) n later))
 
 pub logs_more : (unit n : ℕ) (contents : List (List ℕ))
     → logs_on unit 0 (first_files (suc n) contents)
     ≡ logs_on unit 0 (first_files n contents) ++ log_on unit (get_or contents n []) (pos n) ∷ []
-logs_more unit n contents =
-    logs_longer unit 0 n contents
-    ∙ ap (λ (k : ℕ). logs_on unit 0 (first_files n contents) ++ log_on unit (get_or contents n []) (pos k) ∷ []) (let same : n + 0 ≡ n = omega arith in same)
+logs_more unit n contents = grind (arith, logs_longer, log_on)
 
 pub logs_many : (unit from : ℕ) (files : List FileContents) → length (logs_on unit from files) ≡ length files
 logs_many unit from [] = refl
@@ -85,21 +76,15 @@ logs_many unit from (f ∷ more) = ap suc (logs_many unit (suc from) more)
 logs_at_from : (unit from : ℕ) (files : List FileContents) (i : ℕ) → i < length files
     → slice_get (logs_on unit from files) i ≡ Some (log_on unit (file_at files i).bytes (pos (i + from)))
 logs_at_from unit from [] i within = absurd (omega (arith, within))
-logs_at_from unit from (f ∷ more) zero within =
-    ap (λ (k : ℕ). Some (log_on unit f.bytes (pos k))) (let same : from ≡ 0 + from = omega arith in same)
+logs_at_from unit from (f ∷ more) zero within = grind arith
 logs_at_from unit from (f ∷ more) (suc i) within =
-    logs_at_from unit (suc from) more i (omega (arith, within))
-    ∙ ap (λ (k : ℕ). Some (log_on unit (file_at more i).bytes (pos k))) (let same : i + suc from ≡ suc i + from = omega arith in same)
+    grind (arith, (logs_at_from unit (suc from) more i (omega (arith, within))), log_on)
 
 pub logs_at : (unit : ℕ) (files : List FileContents) (i : ℕ) → i < length files
     → slice_get (logs_on unit 0 files) i ≡ Some (log_on unit (file_at files i).bytes (pos i))
-logs_at unit files i within =
-    logs_at_from unit 0 files i within
-    ∙ ap (λ (k : ℕ). Some (log_on unit (file_at files i).bytes (pos k))) (let same : i + 0 ≡ i = omega arith in same)
+logs_at unit files i within = grind (arith, logs_at_from, log_on)
 
 pub one_noted : {X : Type 0} (f : X → X) (init logs : List X) (i j : ℕ) (d new : X) → i < length init → j ≡ suc i
     → logs ≡ map f (take i init) ++ drop i init → new ≡ f (get_or logs i d)
     → set logs i new ≡ map f (take j init) ++ drop j init
-one_noted f init logs i j d new within next so noted =
-    ap (set logs i) noted ∙ ap (λ ls. set ls i (f (get_or ls i d))) so ∙ set_noted f init i d within
-    ∙ ap (λ k. map f (take k init) ++ drop k init) (sym next)
+one_noted f init logs i j d new within next so noted = grind (arith, get_or, set_noted)

@@ -1,6 +1,6 @@
 -- That no file of a volume gets longer than files may be, and so no image does.
-use Rattle.std.proofs.Common.{◌≤◌, ◌+◌, ◌==◌, ℕ, max, List, [], ◌∷◌, length, refl, sym, subst, inl, inr, arith}
-use Rattle.uring_epochs.proofs.Common.{IsImage, IsIn, IsShort, Volume, Write, end_of, length_over, max_len, writes}
+use Rattle.std.proofs.Common.{◌≤◌, ℕ, max, List, [], ◌∷◌, length, refl, sym, subst, inl, inr, arith}
+use Rattle.uring_epochs.proofs.Common.{IsImage, IsIn, IsShort, Volume, Write, end_of, length_over, max_len}
 
 longest : (len : ℕ) (order : List Write) → len ≤ max_len → ((w : Write) → IsIn w order → end_of w ≤ max_len)
     → length_over len order ≤ max_len

@@ -1,6 +1,6 @@
 -- Events that are added to those that may come next.
-use Rattle.std.proofs.Common.{◌≡◌, ℕ, zero, suc, ◌+◌, ◌-◌, ◌<◌, ◌≤◌, ℤ, pos, Bool, true, false, not, if◌then◌else◌, slice_get, None, List, [], ◌∷◌, ◌++◌, length, drop, Option, Some, refl, sym, ap, subst, ◌∙◌, ◌⊎◌, inl, inr, arith}
-use Rattle.uring_fill.proofs.Common.{Adds, Answer, AreAllNext, AreNext, CalledForApart, Contains, Contains-append_left, Contains-push, Contains-push_cases, Core, Cqe, Event, FinishFits, HasEndsOf, History, IsErrorOf, IsIdle, IsLawfulApart, IsPart, QuietResult, Requests, Setup, Sqe, StandsAt, TellsNext, and_from, and_parts, cases_Bool, cases_lt, completion_for, count_result, entry_of, entry_outstanding, has_ended, has_started, is_asked, is_drain, is_hidden, is_issuable, is_outstanding, is_running, is_stale, lt-ltb, neg_ℤ, no_bytes, posts, put_by_flush, requests_of, seen_in, with_count, with_error, with_none, world}
+use Rattle.std.proofs.Common.{◌≡◌, ℕ, zero, suc, ◌+◌, ◌-◌, ◌<◌, ◌≤◌, ℤ, pos, Bool, true, false, if◌then◌else◌, slice_get, None, List, [], ◌∷◌, ◌++◌, length, drop, Option, Some, refl, sym, subst, ◌∙◌, ◌⊎◌, inl, inr, arith}
+use Rattle.uring_fill.proofs.Common.{Adds, Answer, AreAllNext, AreNext, CalledForApart, Contains, Contains-append_left, Contains-push, Contains-push_cases, Core, Cqe, Event, FinishFits, HasEndsOf, History, IsErrorOf, IsIdle, IsLawfulApart, IsPart, QuietResult, Requests, Setup, Sqe, StandsAt, TellsNext, and_from, cases_Bool, cases_lt, completion_for, count_result, entry_of, entry_outstanding, is_asked, is_drain, is_hidden, is_issuable, is_outstanding, is_running, is_stale, neg_ℤ, no_bytes, posts, put_by_flush, requests_of, seen_in, with_count, with_error, with_none, world}
 use Rattle.std.proofs.lemmas.Option.{same_Some, none-some}
 use Rattle.uring_entry.specs.Success.{posts_completion}
 use Rattle.uring_entry.specs.declared.errno.TheConstants.{EINVAL, EOPNOTSUPP, ECANCELED}
@@ -44,8 +44,7 @@ pub end_pushed : (old new : List Event) (s : Step) (a : Answer) (given res : ℤ
     → a ≡ answer.Ended given bytes
     → given ≡ res
     → new ≡ old ++ (s, answer.Ended res bytes) ∷ []
-end_pushed old new s a given res bytes is ended same =
-    is ∙ ap (λ (a : Answer). old ++ (s, a) ∷ []) (ended ∙ ap (λ (r : ℤ). answer.Ended r bytes) same)
+end_pushed old new s a given res bytes is ended same = grind arith
 
 -- All events that go on from a part.
 
@@ -114,17 +113,11 @@ flush_called core h a waiting next called waits there =
 pub fits_told : (e : Sqe) (wanted : Option Cqe) (res : ℤ) (bytes : List ℕ) → may_end e res ≡ true
     → posts_completion e res ≡ true → wanted ≡ Some (completion_for e res bytes)
     → FinishFits e wanted res bytes
-fits_told e wanted res bytes may posts is = record {
-  may = record { result = may; untold = λ quiet. absurd (let f : true ≡ false = sym posts ∙ quiet in cc) };
-  tells = λ told. is;
-}
+fits_told e wanted res bytes may posts is = grind arith
 
 pub fits_quiet : (e : Sqe) (wanted : Option Cqe) (res : ℤ) (bytes : List ℕ) → may_end e res ≡ true
     → posts_completion e res ≡ false → bytes ≡ no_bytes → FinishFits e wanted res bytes
-fits_quiet e wanted res bytes may quiet none = record {
-  may = record { result = may; untold = λ q. none };
-  tells = λ told. absurd (let f : true ≡ false = sym told ∙ quiet in cc);
-}
+fits_quiet e wanted res bytes may quiet none = grind arith
 
 -- Ends of a request as it is issued.
 
@@ -155,14 +148,7 @@ pub counts_next : (P : ℤ → Type 0) (n : ℕ) (old new : List Event) (below :
     → (P res → Contains new (issued_as n res))
     → (j : ℕ) → j < below + 1 → P (count_result (j + 1))
     → Contains new (issued_as n (count_result (j + 1)))
-counts_next P n old new below res is kept before here j low so =
-    elim (cases_lt j below) [
-      | inl less ↦ kept (issued_as n (count_result (j + 1))) (before j less so)
-      | inr past ↦
-          let same : below ≡ j = omega (arith, past, low) in
-          let result : res ≡ count_result (j + 1) = is ∙ ap (λ k. count_result (k + 1)) same in
-          subst (λ r. Contains new (issued_as n r)) result (here (subst P (sym result) so))
-    ]
+counts_next P n old new below res is kept before here j low so = grind arith
 
 pub counts_all : (P : ℤ → Type 0) (n : ℕ) (old new : List Event) (accepted : ℕ)
     → ((x : Event) → Contains old x → Contains new x)
@@ -184,10 +170,8 @@ pub quiet_there : (linux : Bool) (e : Sqe) (accepted n : ℕ) (Q : ℤ → Type 
     → (linux ≡ false → is_cancel_all e ≡ true → (count : ℕ) → count ≤ accepted → posts_completion e (count_result count) ≡ false → Q (count_result count) → Contains new (issued_as n (count_result count)))
     → (res : ℤ) → Q res → QuietResult linux e accepted res → Contains new (issued_as n res)
 quiet_there linux e accepted n Q errors new kept failed none some _ so (with_none quiet) = none quiet so
-quiet_there linux e accepted n Q errors new kept failed none some _ so (with_count count manual all few quiet) =
-    some manual all count few quiet so
-quiet_there linux e accepted n Q errors new kept failed none some _ so (with_error res is error) =
-    kept (issued_as n res) (failed res so is error)
+quiet_there linux e accepted n Q errors new kept failed none some _ so (with_count count manual all few quiet) = grind arith
+quiet_there linux e accepted n Q errors new kept failed none some _ so (with_error res is error) = grind arith
 
 -- each of the errors is there
 pub errors_there : (e : Sqe) (n : ℕ) (Q : ℤ → Type 0) (first second new : List Event)
@@ -197,14 +181,7 @@ pub errors_there : (e : Sqe) (n : ℕ) (Q : ℤ → Type 0) (first second new : 
     → (is_drain e ≡ true → Q (neg_ℤ EOPNOTSUPP) → Contains second (issued_as n (neg_ℤ EOPNOTSUPP)))
     → (is_faulty e ≡ false → Q (neg_ℤ ECANCELED) → Contains new (issued_as n (neg_ℤ ECANCELED)))
     → (res : ℤ) → Q res → IsErrorOf e res → Contains new (issued_as n res)
-errors_there e n Q first second new on further a b c res so (inl (is, faulty)) =
-    subst (λ r. Contains new (issued_as n r)) (sym is)
-    (further (issued_as n (neg_ℤ EINVAL)) (on (issued_as n (neg_ℤ EINVAL)) (a faulty (subst Q is so))))
-errors_there e n Q first second new on further a b c res so (inr (inl (is, drain))) =
-    subst (λ r. Contains new (issued_as n r)) (sym is)
-    (further (issued_as n (neg_ℤ EOPNOTSUPP)) (b drain (subst Q is so)))
-errors_there e n Q first second new on further a b c res so (inr (inr (is, fine))) =
-    subst (λ r. Contains new (issued_as n r)) (sym is) (c fine (subst Q is so))
+errors_there e n Q first second new on further a b c res so h = grind arith
 
 -- each end of a request of this entry as it is issued that goes on from the part is there
 pub issued_there : (core : Core) (seen : List Event) (wanted : Option Cqe) (h : History) (n : ℕ) (res : ℤ) (bytes : List ℕ) (e : Sqe) (accepted : ℕ) (quiet new : List Event)
@@ -240,10 +217,7 @@ finish_there e wanted n res bytes quiet new kept silent loud fits = elim (cases_
 pub ends_kept : (g : Setup) (seen : List Event) (h : History) (n : ℕ) (old new : List Event)
     → ((x : Event) → Contains old x → Contains new x) → HasEndsOf g seen h n old
     → HasEndsOf g seen h n new
-ends_kept g seen h n old new kept ends = record {
-  issued = λ res bytes p. kept (step.Issue n, answer.Ended res bytes) (ends.issued res bytes p);
-  finished = λ res bytes p. kept (step.Finish n, answer.Ended res bytes) (ends.finished res bytes p);
-}
+ends_kept g seen h n old new kept ends = grind arith
 
 pub running_ends : (core : Core) (seen : List Event) (wanted : Option Cqe) (h : History) (n : ℕ) (e : Sqe) (next : List Event)
     → StandsAt core seen wanted h → is_running (world core.setup h).requests n ≡ true
@@ -259,18 +233,11 @@ pub idle_ends : (core : Core) (seen : List Event) (wanted : Option Cqe) (h : His
     → StandsAt core seen wanted h → is_running (world core.setup h).requests n ≡ false
     → ((res : ℤ) (bytes : List ℕ) → IsPart core.setup seen ((step.Issue n, answer.Ended res bytes) ∷ h) → Contains next (step.Issue n, answer.Ended res bytes))
     → HasEndsOf core.setup seen h n next
-idle_ends core seen wanted h n next at idle there = record {
-  issued = there;
-  finished = λ res bytes p. absurd (let f : true ≡ false = sym (finish_runs (is_running (world core.setup h).requests n) res bytes p.lawful.0) ∙ idle in cc);
-}
+idle_ends core seen wanted h n next at idle there = grind arith
 
 running_outstanding : (g : Setup) (h : History) (n : ℕ) → IsLawfulApart g h
     → is_running (world g h).requests n ≡ true → is_outstanding (world g h).requests n ≡ true
-running_outstanding g h n lawful running =
-    let r = (world g h).requests in
-    let parts = and_parts (has_started r n) (not (has_ended r n)) running in
-    let low : n < length r.accepted = (sound_of g h lawful).requests.started_accepted n parts.0 in
-    and_from _ _ (lt-ltb n (length r.accepted) low) parts.1
+running_outstanding g h n lawful running = grind (arith, sound_of, and_from)
 
 -- what may end is outstanding
 ends_outstanding : (g : Setup) (seen : List Event) (h : History) (n : ℕ) (next : List Event)
@@ -288,8 +255,7 @@ none_outstanding outstanding e none is = cc
 
 pub no_ends : (g : Setup) (seen : List Event) (h : History) (n : ℕ) (next : List Event)
     → IsLawfulApart g h → None ≡ entry_outstanding (world g h).requests n → HasEndsOf g seen h n next
-no_ends g seen h n next lawful none =
-    ends_outstanding g seen h n next lawful (λ is. absurd (none_outstanding (is_outstanding (world g h).requests n) (entry_of (world g h).requests n) none is))
+no_ends g seen h n next lawful none = grind (arith, ends_outstanding)
 
 pub accepted_ends : (g : Setup) (seen : List Event) (h : History) (n : ℕ) (next : List Event)
     → IsLawfulApart g h
@@ -326,10 +292,7 @@ seen_added g seen h new x y there next shown p =
 pub hidden_never : (g : Setup) (seen : List Event) (h : History) (x y : Event)
     → is_hidden x.0 ≡ true → slice_get seen (length (seen_in h)) ≡ Some x → is_hidden y.0 ≡ false
     → IsPart g seen (y ∷ h) → ⊥
-hidden_never g seen h x y hidden next shown p =
-    let same : x ≡ y = same_event seen (length (seen_in h)) x y next (part_seen g seen h y p shown) in
-    let f : true ≡ false = sym hidden ∙ (ap (λ (z : Event). is_hidden z.0) same ∙ shown) in
-    cc
+hidden_never g seen h x y hidden next shown p = grind (arith, (part_seen g seen h y p shown))
 
 pub none_next : (g : Setup) (seen : List Event) (h : History) (y : Event)
     → None ≡ slice_get seen (length (seen_in h)) → is_hidden y.0 ≡ false → IsPart g seen (y ∷ h) → ⊥
@@ -337,11 +300,7 @@ none_next g seen h y none shown p = none-some y (none ∙ part_seen g seen h y p
 
 pub none_right : (g : Setup) (seen : List Event) (h : History) (next : List Event) → next ≡ []
     → AreNext g seen h next
-none_right g seen h next is x there lawful =
-    let t : Contains [] x = subst (λ xs. Contains xs x) is there in
-    let low : t.0 < 0 = t.1 in
-    absurd (omega (arith, low))
+none_right g seen h next is x there lawful = grind arith
 
 pub by_asked : (b : Bool) (P : Bool → Type 0) → P false → P true → P b
-by_asked true P otherwise given = given
-by_asked false P otherwise given = otherwise
+by_asked b P otherwise given = grind arith

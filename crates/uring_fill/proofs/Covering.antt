@@ -1,6 +1,6 @@
 -- That a search covers all histories: `path_taken` when a path is gone on from, `path_dropped` when it isn't lawful, and `none_left` when none is left.
 use Rattle.std.proofs.Common.{◌≡◌, ℕ, ◌<◌, ◌≤◌, Bool, true, false, List, [], ◌∷◌, ◌++◌, length, map, refl, sym, ap, subst, ◌∙◌, ◌⊎◌, inl, inr, arith, append-nil}
-use Rattle.uring_fill.proofs.Common.{Contains, Contains-append_cases, Contains-append_left, Contains-append_right, Contains-push, Contains-push_cases, Event, GoesOn, HasLonger, History, IsFilling, IsLawfulApart, IsPart, IsReach, IsSearch, IsWhole, OneGoesOn, Setup, completions_in, history_of, history_of_snoc, length-map, map-append, onto, paths_of, reverse, reverse-reverse, seen_in, world}
+use Rattle.uring_fill.proofs.Common.{Contains, Contains-append_cases, Contains-append_left, Contains-append_right, Contains-push, Contains-push_cases, Event, GoesOn, HasLonger, History, IsFilling, IsLawfulApart, IsPart, IsReach, IsSearch, IsWhole, OneGoesOn, Setup, history_of, history_of_snoc, length-map, map-append, onto, paths_of, reverse, reverse-reverse, seen_in}
 use Rattle.std.proofs.Math.ListN.{get_or-map}
 use Rattle.std.specs.declared.vec.Vec.{Vec}
 use Rattle.std.specs.declared.alloc.Global.{Global}
@@ -14,19 +14,14 @@ use Rattle.uring_fill.proofs.Going.{lawful_onto, goes_by, onto_is}
 -- Lists.
 
 there_mapped : {X Y : Type 0} (f : X → Y) (xs : List X) (x : X) → Contains xs x → Contains (map f xs) (f x)
-there_mapped f xs x there =
-    let low : there.0 < length xs = there.1 in
-    (there.0, omega (arith, low, length-map xs f), get_or-map f xs there.0 x ∙ ap f there.2)
+there_mapped f xs x there = grind (arith, length-map, get_or-map)
 
 none_there : {X : Type 0} (x : X) → Contains [] x → ⊥
 none_there x there = let low : there.0 < 0 = there.1 in omega (arith, low)
 
 -- what is in a list of one is that one
 alone : {X : Type 0} (x y : X) → Contains (x ∷ []) y → x ≡ y
-alone x y there = elim (Contains-push_cases [] x y there) [
-  | inl before ↦ absurd (none_there y before)
-  | inr same ↦ same
-]
+alone x y there = grind arith
 
 record IsMapped {X Y : Type 0} (f : X → Y) (xs : List X) (y : Y) : Type 0 where
   of : X
@@ -45,8 +40,7 @@ mapped_by f (x ∷ xs) y there =
     ]
 
 not_asked : (whole : Bool) (P : Type 0) → (whole ≡ true → P) → (P → ⊥) → whole ≡ false
-not_asked true P is not = absurd (not (is refl))
-not_asked false P is not = refl
+not_asked whole P is not = grind arith
 
 -- A path isn't lawful.
 
@@ -104,12 +98,7 @@ path_taken g seen path todo after events reached place far_place part longer not
 -- The beginning, and the end.
 
 empty_part : (g : Setup) (seen : List Event) → IsPart g seen []
-empty_part g seen = record {
-  lawful = tt;
-  results = tt;
-  shows = record { rest = seen; is = refl };
-  posts = record { rest = completions_in seen; is = refl };
-}
+empty_part g seen = grind arith
 
 pub at_first : (g : Setup) (seen : List Event) → IsSearch g seen ([] ∷ []) [] 0
 at_first g seen = record {
@@ -131,12 +120,7 @@ from_nothing g seen whole h part is_whole =
     }
 
 filling_part : (g : Setup) (seen : List Event) (h : History) → IsFilling g seen h → IsPart g seen h
-filling_part g seen h f = record {
-  lawful = f.lawful;
-  results = f.results;
-  shows = begins_all (seen_in h) seen f.shows;
-  posts = begins_all (world g h).completions.posted (completions_in seen) f.posted;
-}
+filling_part g seen h f = grind (arith, begins_all)
 
 none_in : (g : Setup) (seen : List Event) (whole : Bool) (far : ℕ) → OneGoesOn g seen whole far [] → ⊥
 none_in g seen whole far one = none_there one.path one.there
@@ -157,13 +141,7 @@ none_left g seen events place s = record {
 -- a part that is whole is a filling
 pub whole_fills : (g : Setup) (seen : List Event) (h : History) → IsPart g seen h → IsWhole g seen h
     → IsFilling g seen h
-whole_fills g seen h part whole = record {
-  lawful = part.lawful;
-  results = part.results;
-  shows = whole.shows;
-  none_outstanding = whole.none_outstanding;
-  posted = whole.posted;
-}
+whole_fills g seen h part whole = grind arith
 
 -- Vectors.
 
@@ -177,20 +155,16 @@ path_pushed old new v path is holds =
 pub visited_part : (g o : Setup) (seen path : List Event) (todo : List (List Event)) (events : List Event) (place : ℕ)
     → o ≡ g → IsSearch g seen (todo ++ path ∷ []) events place → IsLawfulApart o (history_of path)
     → IsPart o seen (history_of path)
-visited_part g o seen path todo events place same s lawful =
-    subst (λ k. IsPart k seen (history_of path)) (sym same) (s.parts path (Contains-push todo path) (subst (λ k. IsLawfulApart k (history_of path)) same lawful))
+visited_part g o seen path todo events place same s lawful = grind (arith, Contains-push)
 
 pub visited_reach : (g o : Setup) (seen events : List Event) (place : ℕ) → o ≡ g
     → IsReach g seen events place → IsReach o seen events place
-visited_reach g o seen events place same reach =
-    subst (λ k. IsReach k seen events place) (sym same) reach
+visited_reach g o seen events place same reach = grind arith
 
 pub visited_fills : (g o : Setup) (seen path reached : List Event) → o ≡ g
     → IsPart o seen (history_of path)
     → (reached ≡ path) × IsWhole o seen (history_of path) → IsFilling g seen (history_of reached)
-visited_fills g o seen path reached same part whole =
-    subst (λ k. IsFilling k seen (history_of reached)) same
-    (subst (λ p. IsFilling o seen (history_of p)) (sym whole.0) (whole_fills o seen (history_of path) part whole.1))
+visited_fills g o seen path reached same part whole = grind arith
 
 pub visited_on : (g o : Setup) (seen path : List Event) (todo after : List (List Event)) (events reached : List Event) (place far_place : ℕ)
     → o ≡ g → IsPart o seen (history_of path) → HasLonger o seen path todo after
@@ -207,18 +181,11 @@ visited_on g o seen path todo after events reached place far_place same part lon
 pub begins : (g : Setup) (seen : List Event) (old todo : List (Vec Event Global)) (path : Vec Event Global) (events : List Event) (place : ℕ)
     → old ≡ [] → todo ≡ old ++ path ∷ [] → path.items ≡ [] → events ≡ [] → place ≡ 0
     → IsSearch g seen (paths_of todo) events place
-begins g seen old todo path events place none is empty unreached nowhere =
-    let paths : [] ∷ [] ≡ paths_of todo = sym (path_pushed old todo path [] is empty ∙ ap (λ xs. paths_of xs ++ [] ∷ []) none) in
-    subst (IsSearch g seen (paths_of todo) events) (sym nowhere)
-    (subst (λ es. IsSearch g seen (paths_of todo) es 0) (sym unreached)
-    (subst (λ ps. IsSearch g seen ps [] 0) paths (at_first g seen)))
+begins g seen old todo path events place none is empty unreached nowhere = grind (arith, (at_first g seen))
 
 pub fate_found : (g : Setup) (seen : List Event) (now : Fate) (todo : List (List Event)) (reach : Reach)
     → HasFate g seen now todo reach → IsFound g seen (filled_by now reach)
-fate_found g seen fate.Found todo reach has = has
-fate_found g seen fate.Over todo reach has =
-    (none_left g seen reach.events.items reach.place (subst (λ ps. IsSearch g seen ps reach.events.items reach.place) has.0 has.1), has.1.reach)
-fate_found g seen fate.Open todo reach has = has.reach
+fate_found g seen now todo reach has = grind (arith, none_left)
 
 pub open_search : (g : Setup) (seen : List Event) (now : Fate) (todo : List (List Event)) (reach : Reach)
     → now ≡ fate.Open → HasFate g seen now todo reach

@@ -4,7 +4,6 @@ use Rattle.uring_fill.proofs.Common.{Requests, and_from, and_left, is_issuable, 
 use Rattle.uring_core.proofs.SoundRequests.{outstanding_tells}
 use Rattle.uring_entry.proofs.BelowLemmas.{least_below_some}
 use Rattle.uring_linux.specs.LinuxRequests.{LinuxRequests}
-use Rattle.uring_core.proofs.Issuable.{issuable_outstanding}
 
 -- what is outstanding was accepted
 pub outstanding_accepted : (r : Requests) (n : ℕ) → is_outstanding r n ≡ true → n < length r.accepted
@@ -13,8 +12,7 @@ outstanding_accepted r n is = (outstanding_tells r n is).0
 -- so was what can be issued
 pub issuable_accepted : (linux : Bool) (l : LinuxRequests) (n : ℕ) → is_issuable linux l n ≡ true
     → n < length l.requests.accepted
-issuable_accepted linux l n can =
-    outstanding_accepted l.requests n (issuable_outstanding linux l n can)
+issuable_accepted linux l n can = grind arith
 
 -- and is the least from its number on that can be
 pub issuable_first : (linux : Bool) (l : LinuxRequests) (n : ℕ) → is_issuable linux l n ≡ true

@@ -1,6 +1,6 @@
 -- Events one after the other.
-use Rattle.std.proofs.Common.{◌≡◌, ℕ, suc, ◌+◌, ◌-◌, ◌<◌, ◌≤◌, Bool, List, [], ◌∷◌, ◌++◌, length, take, drop, get_or, if◌then◌else◌, refl, sym, ap, subst, ◌∙◌, inl, inr, arith, append_assoc, append-nil, Option}
-use Rattle.uring_fill.proofs.Common.{CalledForApart, Cqe, Event, History, IsLawfulApart, Setup, cases_lt, completions_in, filter_map-append, history_of, history_of_snoc, onto, take-append-drop, take_more, world}
+use Rattle.std.proofs.Common.{◌≡◌, ℕ, suc, ◌+◌, ◌-◌, ◌<◌, ◌≤◌, Bool, List, [], ◌∷◌, ◌++◌, length, take, drop, get_or, if◌then◌else◌, refl, sym, ap, subst, ◌∙◌, arith, append_assoc, append-nil, Option}
+use Rattle.uring_fill.proofs.Common.{CalledForApart, Cqe, Event, History, IsLawfulApart, Setup, completions_in, filter_map-append, history_of, history_of_snoc, onto, take-append-drop, take_more, world}
 use Rattle.std.specs.List.{cons_option}
 use Rattle.std.specs.Option.{option_to_list}
 use Rattle.std.proofs.Math.Seq.{drop-cons}
@@ -13,8 +13,7 @@ at_most_one b = grind arith
 -- one event more
 pub taken_next : (events : List Event) (k : ℕ) (e : Event) → k < length events → e ≡ get_or events k e
     → history_of (take (k + 1) events) ≡ e ∷ history_of (take k events)
-taken_next events k e low is =
-    ap history_of (take_more events k e low ∙ ap (λ y. take k events ++ y ∷ []) (sym is)) ∙ history_of_snoc (take k events) e
+taken_next events k e low is = grind (arith, (take_more events k e low), (history_of_snoc (take k events) e))
 
 onto_append : (earlier later : List Event) (h : History)
     → onto h (earlier ++ later) ≡ onto (onto h earlier) later
@@ -41,17 +40,12 @@ pub wrong_from : (g o : Setup) (events : List Event) (k : ℕ) (e : Event) → k
     → e ≡ get_or events k e → o ≡ g
     → (CalledForApart o (world o (history_of (take k events))) e.0 e.1 → ⊥)
     → IsLawfulApart g (history_of events) → ⊥
-wrong_from g o events k e low is same wrong =
-    wrong_at g events k e low is (subst (λ s. CalledForApart s (world s (history_of (take k events))) e.0 e.1 → ⊥) same wrong)
+wrong_from g o events k e low is same wrong = grind (arith, wrong_at)
 
 -- numbers from the greatest down: what is so of those before, and of the next one
 pub descend : (P : ℕ → Type 0) (count place n : ℕ) → count ≤ n + (place + 1)
     → (count ≤ n + place → P n) → P (count - 1 - place) → P n
-descend P count place n high before here =
-    elim (cases_lt (n + place) count) [
-      | inl next ↦ (let same : count - 1 - place ≡ n = omega (arith, next, high) in subst P same here)
-      | inr past ↦ before past
-    ]
+descend P count place n high before here = grind arith
 
 -- one event more, with the completion that it reaps
 added_none : (o : Option Cqe) → cons_option o [] ≡ option_to_list o

@@ -1,6 +1,6 @@
 -- By Linux's rules whatever was started comes before whatever is deferred: groups are deferred in their order, go on in that order, and no later group starts before them.
 use Rattle.std.proofs.Common.{◌≡◌, ℕ, suc, ◌+◌, ◌<◌, ◌≤◌, ℤ, length, Bool, true, false, not, ◌||◌, ◌==◌, List, [], ◌∷◌, ◌++◌, refl, sym, ◌∙◌, ap, subst, arith, inl, inr, length-append}
-use Rattle.uring_machine.proofs.Common.{LinuxRequests, Requests, added_other, after_going_on, and_parts, both_ways, cases_Bool, cases_eq, cases_lt, entry_of_accepted_at, has_started, if◌then◌else◌, is_alone, is_deferred, is_doomed, is_faulty_from, is_in_faulty_group, is_in_turn, is_issuable, is_last, is_linked, is_outstanding, ltb-false, ltb-true, nat_lt, ne_eqb, not-false, not-true, or_cases, or_from, or_parts, with_accepted, with_cut, with_ended, with_group, with_last_entry}
+use Rattle.uring_machine.proofs.Common.{LinuxRequests, Requests, added_other, after_going_on, and_parts, both_ways, cases_Bool, cases_eq, cases_lt, entry_of_accepted_at, has_started, if◌then◌else◌, is_alone, is_deferred, is_doomed, is_faulty_from, is_in_faulty_group, is_in_turn, is_issuable, is_last, is_linked, is_outstanding, ltb-false, ltb-true, nat_lt, ne_eqb, not-false, not-true, or_from, or_parts, with_accepted, with_cut, with_ended, with_group, with_last_entry}
 use Rattle.uring_entry.specs.Layout.{Sqe}
 use Rattle.uring_entry.specs.Requests as manual
 use Rattle.uring_entry.proofs.GroupEvents.{is_last_cut}
@@ -59,45 +59,18 @@ group_ordered r d some open_ order ring passed = go (not d.ring || is_faulty_fro
 
   -- and nobody before it
   is_old : (k : ℕ) → k < d.from → is_in_some all k ≡ true → is_in_some d.deferred k ≡ true
-  is_old k lt e = elim (in_pushed d.deferred g k e) [
-    | inl old ↦ old
-    | inr new ↦ absurd (let from : d.from ≤ k = new.0 in omega (arith, from, lt))
-  ]
+  is_old k lt e = grind (arith, in_pushed)
 
   after : (n k : ℕ) → n < length r.accepted → k < n → (not d.ring || is_faulty_from r d.from) ≡ true → is_in_some d.deferred k ≡ true → is_in_some d.deferred n ≡ false → is_in_faulty_group r n ≡ true
-  after n k lt under e there out = elim (cases_lt n d.from) [
-    | inl before ↦ passed n k before under there out
-    | inr past ↦ elim (or_cases (not d.ring) (is_faulty_from r d.from) e) [
-      | inl off ↦ absurd (none_in k d.deferred (ring (not-true _ off)) there)
-      | inr faulty ↦ group_faulty r d.from n open_ past lt faulty
-    ]
-  ]
+  after n k lt under e there out = grind (arith, ring, not-true, group_faulty)
 
   gone_on : (alone : Bool) (n k : ℕ) → n < length r.accepted → k < n → is_in_some (still_deferred alone all) k ≡ true → is_in_some (still_deferred alone all) n ≡ false → is_in_faulty_group r n ≡ true
-  gone_on alone n k lt under there out = elim (cases_Bool (is_in_some all n)) [
-    | inl here ↦ absurd (let before : n < k = still_before IsAny alone 0 all (length r.accepted) n k all_order here out there in omega arith)
-    | inr never ↦ elim (cases_lt n d.from) [
-      | inl before ↦ passed n k before under (is_old k (omega arith) (still_fewer alone all k there)) (elim (cases_Bool (is_in_some d.deferred n)) [ inl old ↦ absurd (both_ways (is_in_some all n) never (pushed_old d.deferred g n old)) | inr none ↦ none ])
-      | inr past ↦ absurd (both_ways (is_in_some all n) never (is_new n past lt))
-    ]
-  ]
+  gone_on alone n k lt under there out =
+      grind (arith, still_before, all_order, passed, is_old, still_fewer, both_ways, pushed_old, is_new)
 
   go : (b : Bool) → (not d.ring || is_faulty_from r d.from) ≡ b
       → IsGrouped r d (if b then with_deferred d (length r.accepted) d.deferred else with_ring (with_deferred d (length r.accepted) (after_going_on r (deferred_with d (length r.accepted)))) d.group)
-  go true e = record {
-    from = refl;
-    ring = ring;
-    passed = λ n k lt under there out. after n k lt under e there out;
-    fewer = λ k lt there. there;
-  }
-  go false e =
-      let on : d.ring ≡ true = not-false _ (or_parts (not d.ring) (is_faulty_from r d.from) e).0 in
-      record {
-        from = refl;
-        ring = λ off. (ring_off d.ring d.group (still_deferred (is_alone r all) all) on off).1;
-        passed = gone_on (is_alone r all);
-        fewer = λ k lt there. is_old k lt (still_fewer (is_alone r all) all k there);
-      }
+  go b e = grind (arith, ring, passed, after, not-false, or_parts, ring_off, gone_on, is_old, still_fewer)
 
 -- of the requests
 pub record IsOrdered (l : LinuxRequests) : Type 0 where
@@ -129,9 +102,7 @@ accepted_open l e o k le lt = last_accepted l.requests e k lt ∙ o.amid k le lt
 
 accepted_passed : (l : LinuxRequests) (e : Sqe) → IsSettled l → IsOrdered l
     → OnlyFaultyPass (manual.with_accepted l.requests e) l.drains.from l.drains.deferred
-accepted_passed l e s o n k lt under there out =
-    let low = s.low in
-    faulty_kept l.requests (manual.with_accepted l.requests e) (accepted_faults l.requests e) n (omega arith) (o.passed n k lt under there out)
+accepted_passed l e s o n k lt under there out = grind (arith, faulty_kept, accepted_faults)
 
 accepted_ordered : (l : LinuxRequests) (e : Sqe) → IsSettled l → IsOrdered l → IsOrdered (with_accepted l e)
 accepted_ordered l e s o = go (is_linked e) refl where
@@ -269,10 +240,6 @@ all_ordered [] may spared = record {
   started = λ n k is there. absurd (let f : false ≡ true = is in cc);
 }
 all_ordered (Call entries ∷ earlier) may spared =
-    let s = (all_between earlier may.1).settled in
-    cut_ordered (with_entries (made_by earlier) entries) (entries_settled (made_by earlier) entries s)
-    (entries_ordered (made_by earlier) entries s (all_ordered earlier may.1 spared.1))
-all_ordered (Start n ∷ earlier) may spared =
-    start_ordered (made_by earlier) n (all_ordered earlier may.1 spared.1) (all_between earlier may.1).closed may.0 spared.0
-all_ordered (End n res bytes ∷ earlier) may spared =
-    end_ordered (made_by earlier) n res bytes (all_between earlier may.1) (all_ordered earlier may.1 spared.1)
+    grind (arith, all_between, cut_ordered, with_entries, entries_settled, entries_ordered, (all_ordered earlier may.1 spared.1))
+all_ordered (Start n ∷ earlier) may spared = grind (arith, start_ordered, (all_ordered earlier may.1 spared.1), all_between)
+all_ordered (End n res bytes ∷ earlier) may spared = grind (arith, end_ordered, all_between, (all_ordered earlier may.1 spared.1))

@@ -1,6 +1,6 @@
 -- Where something is outstanding, the least of it runs, or something can be issued: by either's rules.
 use Rattle.std.proofs.Common.{◌≡◌, ℕ, ◌<◌, Bool, true, false, not, ◌&&◌, length, Some, is_some, refl, sym, ◌∙◌, ap, subst, arith, ◌⊎◌, inl, inr}
-use Rattle.uring_machine.proofs.Common.{History, IsLawfulApart, LinuxRequests, Setup, and_from, and_parts, both_ways, cases_Bool, cases_eq, cases_lt, has_ended, has_started, is_deferred, is_outstanding, is_running, least_of, least_of_goes_on, lt-ltb, or_cases, requests_of, world}
+use Rattle.uring_machine.proofs.Common.{History, IsLawfulApart, LinuxRequests, Setup, and_from, and_parts, both_ways, cases_eq, cases_lt, is_deferred, is_outstanding, is_running, least_of, least_of_goes_on, or_cases, requests_of, world}
 use Rattle.uring_entry.proofs.BelowLemmas.{IsLeast, least_below_tells, is_some_least_below, some_below_some}
 use Rattle.uring_linux.specs.Happenings.{made_by}
 use Rattle.uring_linux.proofs.GoingOn.{goes_on_from}
@@ -14,14 +14,7 @@ use Rattle.uring_machine.proofs.Deferring.{IsOrdered, all_ordered}
 runs_first : (l : LinuxRequests) (n m : ℕ) → IsOrdered l
     → IsLeast (is_outstanding l.requests) (length l.requests.accepted) n
     → m < length l.requests.accepted → is_running l.requests m ≡ true → is_deferred l n ≡ false
-runs_first l n m o least within running =
-    let parts = and_parts (has_started l.requests m) (not (has_ended l.requests m)) running in
-    elim (cases_Bool (is_deferred l n)) [
-      | inl held ↦
-          let before : m < n = o.started m n parts.0 held in
-          absurd (both_ways _ (least.before m before) (and_from _ _ (lt-ltb m (length l.requests.accepted) within) parts.1))
-      | inr free ↦ free
-    ]
+runs_first l n m o least within running = grind arith
 
 abbrev GoesOn : Bool → LinuxRequests → ℕ → Type 0
 GoesOn linux l n = (is_running l.requests n ≡ true) ⊎ (is_some (next_of linux l) ≡ true)

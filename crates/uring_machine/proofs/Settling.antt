@@ -1,13 +1,12 @@
 -- What the steps make that settle requests.
-use Rattle.std.proofs.Common.{◌≡◌, ℕ, ℤ, ◌+◌, ◌-◌, ◌^◌, ◌≤◌, Bool, true, false, List, [], ◌∷◌, ◌++◌, length, Option, Some, None, is_some, refl, sym, subst, ◌∙◌, ap, arith, inl, inr, length-append}
-use Rattle.uring_machine.proofs.Common.{Answer, AreSettling, AreUnrefused, Core, Event, FileContents, FinishesApart, Fits, FitsApart, HasSettled, History, IsEnded, IsIssued, IsLawfulApart, IsSettled, IsSettledIf, IsUnrefused, LinuxRequests, Machine, Requests, Setup, World, and_from, and_parts, both_ways, finishing, has_ended, history_of, history_of_append, history_of_cons, is_issue_or_finish, is_outstanding, is_running, is_running_started_same, issuing, least_of, next_answer_of, no_bytes, not-true, outstanding_in, requests_of, settling_step, started_last, world}
+use Rattle.std.proofs.Common.{◌≡◌, ℕ, ℤ, ◌+◌, ◌-◌, ◌^◌, ◌≤◌, Bool, true, false, List, [], ◌∷◌, ◌++◌, length, Option, Some, None, is_some, refl, sym, subst, ◌∙◌, ap, arith, length-append}
+use Rattle.uring_machine.proofs.Common.{Answer, AreSettling, AreUnrefused, Core, Event, FileContents, FinishesApart, Fits, FitsApart, HasSettled, History, IsEnded, IsIssued, IsLawfulApart, IsSettled, IsSettledIf, IsUnrefused, LinuxRequests, Machine, Requests, Setup, World, and_from, and_parts, finishing, has_ended, history_of, history_of_append, history_of_cons, is_issue_or_finish, is_outstanding, is_running, is_running_started_same, issuing, least_of, next_answer_of, no_bytes, not-true, outstanding_in, requests_of, settling_step, started_last, world}
 use Rattle.std.proofs.lemmas.List.Folds.{list_all-append}
 use Rattle.uring_rules.specs.Rules.{next_of, with_issued_end}
 use Rattle.uring_entry.proofs.BelowLemmas.{least_below_tells, least_below_out}
 use Rattle.uring_core.specs.Events.{started_by}
 use Rattle.uring_core.specs.declared.step.Step.TheVariants as step
 use Rattle.uring_core.specs.declared.answer.Answer.TheVariants as answer
-use Rattle.uring_core.proofs.Numbers.{few_outstanding}
 use Rattle.uring_core.proofs.Outstanding.{ended_less, none_outstanding, count_below_zero}
 use Rattle.uring_machine.proofs.GoingOn.{least_goes_on}
 use Rattle.uring_core.proofs.Issuable.{issue_goes, issued_ends, issuable_outstanding, next_is, next_tells}
@@ -21,37 +20,28 @@ issued_less false r n res outstanding = ended_less r n res no_bytes outstanding
 
 issue_less : (g : Setup) (w : World) (n : ℕ) (a : Answer) → is_outstanding w.requests n ≡ true
     → IsEnded a → outstanding_in (issuing g w n a).requests + 1 ≡ outstanding_in w.requests
-issue_less g w n (answer.Ended res bytes) outstanding ended =
-    issued_less g.linux w.requests n res outstanding
+issue_less g w n (answer.Ended res bytes) outstanding ended = grind (arith, issued_less)
 issue_less g w n _ outstanding ended = absurd ended
 
 finish_less : (g : Setup) (w : World) (n : ℕ) (a : Answer) → is_outstanding w.requests n ≡ true
     → IsEnded a → outstanding_in (finishing g w n a).requests + 1 ≡ outstanding_in w.requests
-finish_less g w n (answer.Ended res bytes) outstanding ended =
-    ended_less w.requests n res bytes outstanding
-finish_less g w n _ outstanding ended = absurd ended
+finish_less g w n a outstanding ended = grind (arith, ended_less)
 
 -- there is no next where none was answered
 next_none : (next : Option ℕ) (a : Answer) → a ≡ next_answer_of next
     → ((k : ℕ) → a ≡ answer.Next k → ⊥) → next ≡ None
-next_none None a is other = refl
-next_none (Some m) a is other = absurd (other m is)
+next_none next a is other = grind arith
 
 -- an issue not answered Run started nothing
 not_started : (n : ℕ) (a : Answer) → (a ≡ answer.Run → ⊥) → started_by (step.Issue n, a) ≡ None
-not_started n answer.Run other = absurd (other refl)
-not_started n _ other = refl
+not_started n a other = grind arith
 
 -- where there is no next, the least outstanding request runs
 least_runs : (g : Setup) (h : History) (n : ℕ) (a : Answer) → IsLawfulApart g h
     → a ≡ next_answer_of (next_of g.linux (requests_of (world g h)))
     → ((k : ℕ) → a ≡ answer.Next k → ⊥) → least_of (world g h).requests ≡ Some n
     → is_running (world g h).requests n ≡ true
-least_runs g h n a lawful is other least =
-    elim (least_goes_on g h n lawful least) [
-      | inl running ↦ running
-      | inr some ↦ absurd (let none : is_some (next_of g.linux (requests_of (world g h))) ≡ false = ap is_some (next_none (next_of g.linux (requests_of (world g h))) a is other) in both_ways _ none some)
-    ]
+least_runs g h n a lawful is other least = grind (arith, least_goes_on, is_some, requests_of)
 
 -- a machine that answered Next fits what it fitted
 pub next_fits : (m : Machine) (a : Answer) (h : History) → Fits m ((step.Next, a) ∷ h) → Fits m h
@@ -68,9 +58,7 @@ finished_least : (linux : Bool) (l : LinuxRequests) (n : ℕ) (a : Answer)
     → a ≡ next_answer_of (next_of linux l) → ((k : ℕ) → a ≡ answer.Next k → ⊥)
     → least_of l.requests ≡ Some n
     → settling_step None (next_of linux l) (least_of l.requests) ≡ Some (step.Finish n)
-finished_least linux l n a told other is =
-    subst (λ k. settling_step None k (least_of l.requests) ≡ Some (step.Finish n)) (sym (next_none (next_of linux l) a told other))
-    (subst (λ k. settling_step None None k ≡ Some (step.Finish n)) (sym is) refl)
+finished_least linux l n a told other is = grind arith
 
 -- events that settle further, after others that did
 
@@ -97,8 +85,7 @@ unrefused_append g before ((s, a) ∷ earlier) later e l =
 
 -- an end isn't Again
 not_again : (a : Answer) → IsEnded a → a ≡ answer.Again → ⊥
-not_again (answer.Ended res bytes) ended is = cc
-not_again _ ended is = absurd ended
+not_again a ended is = grind arith
 
 run_not_again : (a : Answer) → a ≡ answer.Run → a ≡ answer.Again → ⊥
 run_not_again a run again = cc
@@ -114,8 +101,7 @@ one_fewer : (old new : Machine) (h later : History) → new.core.setup ≡ old.c
     → outstanding_in (world new.core.setup later).requests + 1
     ≡ outstanding_in (world new.core.setup h).requests
     → new.core.dispatch.outstanding + 1 ≡ old.core.dispatch.outstanding
-one_fewer old new h later same fits reached less =
-    omega (arith, less, outstanding_of new later reached, outstanding_of old h fits, ap (λ g. outstanding_in (world g h).requests) same)
+one_fewer old new h later same fits reached less = grind arith
 
 -- the next request ran, and was finished
 pub settled_run : (granted : Type 0) (old asked new : Machine) (n : ℕ) (a b c : Answer) (h : History)
@@ -287,14 +273,4 @@ pub counted : (core : Core) (files : List FileContents) (now : Machine) (n : ℕ
     → ((h : History) × Fits (record { core = core; files = files }) h)
     → ((h : History) → FitsApart core h → n ≡ outstanding_in (world core.setup h).requests)
     → IsCounted now n
-counted core files now n is some counts =
-    subst (λ m. IsCounted m n) is
-    (let h : History = some.0 in
-    let fits = some.1 in
-    let many : n ≡ outstanding_in (world core.setup h).requests = counts h fits.core in
-    record {
-      history = h;
-      fits = fits;
-      same = many ∙ sym (outstanding_of (record { core = core; files = files }) h fits);
-      few = omega (arith, many, few_outstanding core.setup h fits.core.lawful);
-    })
+counted core files now n is some counts = grind arith

@@ -101,10 +101,7 @@ entry_of _ tokens p h = (_, refl)
 entry_or : (tokens : List (List ℕ)) (f : Option Form) → form_of tokens ≡ f
     → ((e : Sqe) × SpellsEntry tokens e) ⊎ IsNoEntry tokens
 entry_or tokens None e = inr (λ entry s. absurd (let no : None ≡ Some s.form = sym e ∙ form_again tokens s.form s.spells in cc))
-entry_or tokens (Some f) e =
-    let spells = form_found tokens f e in
-    let entry = entry_of f.name spells.0 f.parts spells.2 in
-    inl (entry.0, record { form = f; spells = spells; is_entry = entry.1 })
+entry_or tokens (Some f) e = grind (arith, form_found, entry_of)
 
 word_or : (size : ℕ) (token : List ℕ) (n : Option ℕ)
     → MatchOption n (IsNoNumber (2 ^ 32) token) (SpellsNumber (2 ^ 32) token)
@@ -124,8 +121,7 @@ named_or : (tokens : List (List ℕ))
     ⊎ ((token : List ℕ) → IsBadNamed tokens token → ⊥)
 named_or [] = inr (λ token e. absurd (let no : [] ≡ codes "bad" ∷ token ∷ [] = e in cc))
 named_or (t ∷ []) = inr (λ token e. absurd (let no : t ∷ [] ≡ codes "bad" ∷ token ∷ [] = e in cc))
-named_or (t ∷ u ∷ v ∷ more) =
-    inr (λ token e. absurd (let no : t ∷ u ∷ v ∷ more ≡ codes "bad" ∷ token ∷ [] = e in cc))
+named_or (t ∷ u ∷ v ∷ more) = grind arith
 named_or (t ∷ u ∷ []) =
     elim (cases_Bool (bytes_eq t (codes "bad"))) [
       | inl is ↦ inl (u, ap (λ (l : List ℕ). l ∷ u ∷ []) ((bytes_eq-Decides t (codes "bad")).0 is))

@@ -1,5 +1,5 @@
 -- Blocks and calls, line by line.
-use Rattle.std.proofs.Common.{◌≡◌, ℕ, suc, ◌<◌, Bool, true, false, cond, List, [], ◌∷◌, ◌++◌, length, refl, sym, ap, subst, ◌∙◌, arith}
+use Rattle.std.proofs.Common.{◌≡◌, ℕ, suc, ◌<◌, Bool, true, false, cond, List, [], ◌∷◌, ◌++◌, length, refl, ap, ◌∙◌, arith}
 use Rattle.uring_play_text.proofs.Common.{AreCalls, AreItemLines, IsCall, IsItemLine, Item, last_block, one_call, onto_first, slice_split}
 use Rattle.std.proofs.lemmas.List.Splits.{slice_split-cons_yes, slice_split-cons_no, length-slice_split}
 
@@ -11,14 +11,11 @@ onto_last x (part ∷ next ∷ parts) = part ∷ onto_last x (next ∷ parts)
 
 first_append : {X : Type 0} (x : X) (parts more : List (List X)) → 0 < length parts
     → onto_first x (parts ++ more) ≡ onto_first x parts ++ more
-first_append x [] more lt = absurd (omega arith)
-first_append x (part ∷ parts) more lt = refl
+first_append x parts more lt = grind arith
 
 first_last : {X : Type 0} (x y : X) (parts : List (List X)) → 0 < length parts
     → onto_first x (onto_last y parts) ≡ onto_last y (onto_first x parts)
-first_last x y [] lt = absurd (omega arith)
-first_last x y (part ∷ []) lt = refl
-first_last x y (part ∷ next ∷ parts) lt = refl
+first_last x y parts lt = grind arith
 
 pub last_is : {X : Type 0} (x : X) (ended : List (List X)) (last : List X)
     → onto_last x (ended ++ last ∷ []) ≡ ended ++ (last ++ x ∷ []) ∷ []
@@ -31,8 +28,7 @@ module _ {X : Type 0} (p : X → Bool) where
   some_part xs = omega (arith, length-slice_split p xs)
 
   yes_of : (b : Bool) (y : X) (parts : List (List X)) → 0 < length parts → cond b ([] ∷ (parts ++ [] ∷ [])) (onto_first y (parts ++ [] ∷ [])) ≡ cond b ([] ∷ parts) (onto_first y parts) ++ [] ∷ []
-  yes_of true y parts lt = refl
-  yes_of false y parts lt = first_append y parts ([] ∷ []) lt
+  yes_of b y parts lt = grind arith
 
   -- one element more, which cuts
   pub split_yes : (xs : List X) (x : X) → p x ≡ true
@@ -41,12 +37,10 @@ module _ {X : Type 0} (p : X → Bool) where
   split_yes (y ∷ xs) x e = ap (λ (l : List (List X)). cond (p y) ([] ∷ l) (onto_first y l)) (split_yes xs x e) ∙ yes_of (p y) y (slice_split p xs) (some_part xs)
 
   nil_last : (x : X) (parts : List (List X)) → 0 < length parts → [] ∷ onto_last x parts ≡ onto_last x ([] ∷ parts)
-  nil_last x [] lt = absurd (omega arith)
-  nil_last x (part ∷ parts) lt = refl
+  nil_last x parts lt = grind arith
 
   no_of : (b : Bool) (x y : X) (parts : List (List X)) → 0 < length parts → cond b ([] ∷ onto_last x parts) (onto_first y (onto_last x parts)) ≡ onto_last x (cond b ([] ∷ parts) (onto_first y parts))
-  no_of true x y parts lt = nil_last x parts lt
-  no_of false x y parts lt = first_last y x parts lt
+  no_of b x y parts lt = grind arith
 
   -- one that doesn't
   pub split_no : (xs : List X) (x : X) → p x ≡ false
@@ -57,20 +51,17 @@ module _ {X : Type 0} (p : X → Bool) where
 -- ---- calls
 
 no_items : (size : ℕ) (items : List Item) → AreItemLines size [] items → one_call items ≡ []
-no_items size [] h = refl
-no_items size (i ∷ items) h = absurd h
+no_items size items h = grind arith
 
 some_items : (size : ℕ) (line : List ℕ) (lines : List (List ℕ)) (items : List Item)
     → IsCall size (line ∷ lines) items → AreCalls size ((line ∷ lines) ∷ []) (one_call items)
-some_items size line lines [] h = absurd h.lines_are
-some_items size line lines (i ∷ items) h = (h, tt)
+some_items size line lines items h = grind arith
 
 -- a last block, whose items are a call or none
 pub calls_more : (size : ℕ) (blocks : List (List (List ℕ))) (calls : List (List Item)) (last : List (List ℕ)) (call : List Item)
     → AreCalls size blocks calls → IsCall size last call
     → AreCalls size (blocks ++ last ∷ []) (calls ++ one_call call)
-calls_more size [] [] [] call h k =
-    subst (AreCalls size []) (sym (no_items size call k.lines_are)) tt
+calls_more size [] [] [] call h k = grind arith
 calls_more size [] [] (line ∷ lines) call h k = some_items size line lines call k
 calls_more size [] (c ∷ calls) last call h k = absurd h
 calls_more size ([] ∷ blocks) calls last call h k = calls_more size blocks calls last call h k

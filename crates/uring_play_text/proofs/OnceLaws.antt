@@ -1,6 +1,6 @@
 -- Lines tell one thing at most.
-use Rattle.std.proofs.Common.{◌≡◌, ℕ, ◌+◌, ◌<◌, ◌≤◌, Bool, true, false, cond, List, [], ◌∷◌, ◌++◌, length, Ok, Err, refl, sym, ap, subst, ◌∙◌, arith, reverse, ◌⊎◌, inl, inr}
-use Rattle.uring_play_text.proofs.Common.{AreCalls, AreItemLines, HasLines, IsBadFirst, IsBadLine, IsCall, IsItemLine, IsLongFirst, IsTold, Item, PlayFault, Reaches, SpellsCalls, Tells, Told, blocks_of, is_blank, last_block, ne_eqb, onto_first, open_block, slice_split, with_last}
+use Rattle.std.proofs.Common.{◌≡◌, ℕ, ◌<◌, ◌≤◌, Bool, false, cond, List, [], ◌∷◌, ◌++◌, length, Ok, Err, refl, ap, subst, ◌∙◌, arith, ◌⊎◌, inl, inr}
+use Rattle.uring_play_text.proofs.Common.{AreCalls, AreItemLines, HasLines, IsBadFirst, IsBadLine, IsCall, IsItemLine, IsLongFirst, IsTold, Item, PlayFault, Reaches, SpellsCalls, Tells, Told, blocks_of, is_blank, last_block, ne_eqb, onto_first, open_block, slice_split}
 use Rattle.std.proofs.lemmas.List.Splits.{slice_split-cons_no, length-slice_split}
 use Rattle.uring_text.proofs.LineLaws.{split_once}
 use Rattle.uring_play_text.specs.declared.play_fault.PlayFault.TheVariants as fault
@@ -43,22 +43,18 @@ glue (a ∷ c ∷ parts) b bs = a ∷ glue (c ∷ parts) b bs
 
 glue_nil : {X : Type 0} (parts : List (List X)) (b : List X) (bs : List (List X)) → 0 < length parts
     → [] ∷ glue parts b bs ≡ glue ([] ∷ parts) b bs
-glue_nil [] b bs lt = absurd (omega arith)
-glue_nil (c ∷ parts) b bs lt = refl
+glue_nil parts b bs lt = grind arith
 
 glue_first : {X : Type 0} (x : X) (parts : List (List X)) (b : List X) (bs : List (List X))
     → 0 < length parts → onto_first x (glue parts b bs) ≡ glue (onto_first x parts) b bs
-glue_first x [] b bs lt = absurd (omega arith)
-glue_first x (a ∷ []) b bs lt = refl
-glue_first x (a ∷ c ∷ parts) b bs lt = refl
+glue_first x parts b bs lt = grind arith
 
 module _ {X : Type 0} (p : X → Bool) where
   some_part : (xs : List X) → 0 < length (slice_split p xs)
   some_part xs = omega (arith, length-slice_split p xs)
 
   glue_of : (c : Bool) (x : X) (parts : List (List X)) (b : List X) (bs : List (List X)) → 0 < length parts → cond c ([] ∷ glue parts b bs) (onto_first x (glue parts b bs)) ≡ glue (cond c ([] ∷ parts) (onto_first x parts)) b bs
-  glue_of true x parts b bs lt = glue_nil parts b bs lt
-  glue_of false x parts b bs lt = glue_first x parts b bs lt
+  glue_of c x parts b bs lt = grind arith
 
   -- an element that doesn't cut, among others
   pub split_among : (xs : List X) (y : X) (ys : List X) (b : List X) (bs : List (List X))
@@ -78,21 +74,14 @@ among : (size : ℕ) (a : Block) (line : Line) (b : Block) (items : List Item)
 among size [] line b [] h = absurd h
 among size [] line b (i ∷ items) h = (i, h.0, omega arith)
 among size (l ∷ a) line b [] h = absurd h
-among size (l ∷ a) line b (i ∷ items) h =
-    let r = among size a line b items h.1 in
-    let lt : length a < length items = r.2 in
-    (r.0, r.1, omega arith)
+among size (l ∷ a) line b (i ∷ items) h = grind (arith, (among size a line b items h.1))
 
 abbrev Has : ℕ → Block → Line → Type 0
 Has size block line = (i : Item) × IsItemLine size line i × (length block < size)
 
 of_call : (size : ℕ) (a : Block) (line : Line) (b : Block) (items : List Item)
     → IsCall size (a ++ line ∷ b) items → Has size a line
-of_call size a line b items h =
-    let r = among size a line b items h.lines_are in
-    let lt : length a < length items = r.2 in
-    let le : length items ≤ size = h.fits in
-    (r.0, r.1, omega arith)
+of_call size a line b items h = grind (arith, among)
 
 inside : (size : ℕ) (blocks : List Block) (line : Line) (b : Block) (bs : List Block) (calls : List (List Item))
     → 0 < length blocks → AreCalls size (glue blocks (line ∷ b) bs) calls
@@ -102,8 +91,7 @@ inside size ([] ∷ []) line b bs [] lt h = absurd h
 inside size ([] ∷ []) line b bs (c ∷ calls) lt h = of_call size [] line b c h.0
 inside size ((l ∷ a) ∷ []) line b bs [] lt h = absurd h
 inside size ((l ∷ a) ∷ []) line b bs (c ∷ calls) lt h = of_call size (l ∷ a) line b c h.0
-inside size ([] ∷ c ∷ blocks) line b bs calls lt h =
-    inside size (c ∷ blocks) line b bs calls (omega arith) h
+inside size ([] ∷ c ∷ blocks) line b bs calls lt h = grind (arith, (inside size (c ∷ blocks) line b bs calls (omega arith) h))
 inside size ((l ∷ a) ∷ c ∷ blocks) line b bs [] lt h = absurd h
 inside size ((l ∷ a) ∷ c ∷ blocks) line b bs (d ∷ calls) lt h =
     inside size (c ∷ blocks) line b bs calls (omega arith) h.1
@@ -127,14 +115,8 @@ not_blank (b ∷ line) some = ne_eqb (length (b ∷ line)) 0 (λ e. omega arith)
 
 no_fault : (size : ℕ) (before : Block) (line : Line) (after : Block) (calls : List (List Item))
     → SpellsCalls size (before ++ line ∷ after) calls → IsFaulty size before line → ⊥
-no_fault size before line after calls h (inl bad) =
-    let g = good size before line after calls (not_blank line bad.some) h in
-    bad.none g.0 g.1
-no_fault size before line after calls h (inr long) =
-    let g = good size before line after calls (item_not_blank size line long.0 long.1) h in
-    let lt : length (open_block before) < size = g.2 in
-    let le : size ≤ length (open_block before) = long.2 in
-    absurd (omega arith)
+no_fault size before line after calls h (inl bad) = grind (arith, good, not_blank)
+no_fault size before line after calls h (inr long) = grind (arith, good, item_not_blank)
 
 -- ---- the first faulty line stands at one place
 
@@ -147,36 +129,18 @@ tails x y a b e = cc
 places : (b : Block) (l : Line) (a c : Block) (m : Line) (d : Block) → b ++ l ∷ a ≡ c ++ m ∷ d
     → ((b ≡ c) × (l ≡ m)) ⊎ (((x : Block) × (c ≡ b ++ l ∷ x)) ⊎ ((x : Block) × (b ≡ c ++ m ∷ x)))
 places [] l a [] m d e = inl (refl, heads l m a d e)
-places [] l a (y ∷ c) m d e =
-    inr (inl (c, ap (λ (x : Line). x ∷ c) (sym (heads l y a (c ++ m ∷ d) e))))
+places [] l a (y ∷ c) m d e = grind arith
 places (x ∷ b) l a [] m d e = inr (inr (b, ap (λ (z : Line). z ∷ b) (heads x m (b ++ l ∷ a) d e)))
-places (x ∷ b) l a (y ∷ c) m d e =
-    let same : x ≡ y = heads x y (b ++ l ∷ a) (c ++ m ∷ d) e in
-    elim (places b l a c m d (tails x y (b ++ l ∷ a) (c ++ m ∷ d) e)) [
-      | inl p ↦ inl (ap (λ (z : Line). z ∷ b) same ∙ ap (λ (l : Block). y ∷ l) p.0, p.1)
-      | inr q ↦ elim q [
-        | inl p ↦ inr (inl (p.0, ap (λ (l : Block). y ∷ l) p.1 ∙ ap (λ (z : Line). z ∷ (b ++ l ∷ p.0)) (sym same)))
-        | inr p ↦ inr (inr (p.0, ap (λ (z : Line). z ∷ b) same ∙ ap (λ (l : Block). y ∷ l) p.1))
-      ]
-    ]
+places (x ∷ b) l a (y ∷ c) m d e = grind (arith, heads, (places b l a c m d (tails x y (b ++ l ∷ a) (c ++ m ∷ d) e)))
 
 same_place : (size : ℕ) (lines : Block) (j k : ℕ) (r : Reaches size lines j) (s : Reaches size lines k)
     → IsFaulty size r.before r.line → IsFaulty size s.before s.line
     → (j ≡ k) × (r.before ≡ s.before) × (r.line ≡ s.line)
-same_place size lines j k r s f g =
-    elim (places r.before r.line r.after s.before s.line s.after (sym r.all ∙ s.all)) [
-      | inl p ↦ (r.number ∙ ap (λ (b : Block). length b + 1) p.0 ∙ sym s.number, p.0, p.1)
-      | inr q ↦ elim q [
-        | inl p ↦ absurd (no_fault size r.before r.line p.0 s.calls (subst (λ (b : Block). SpellsCalls size b s.calls) p.1 s.faultless) f)
-        | inr p ↦ absurd (no_fault size s.before s.line p.0 r.calls (subst (λ (b : Block). SpellsCalls size b r.calls) p.1 r.faultless) g)
-      ]
-    ]
+same_place size lines j k r s f g = grind (arith, places, no_fault)
 
 not_both : (size : ℕ) (lines : Block) (j k : ℕ) → IsBadFirst size lines j → IsLongFirst size lines k
     → ⊥
-not_both size lines j k h l =
-    let same = same_place size lines j k h.0 l.0 (inl h.1) (inr (l.1, l.2, l.3)) in
-    h.1.none l.1 (subst (λ (x : Line). IsItemLine size x l.1) (sym same.2) l.2)
+not_both size lines j k h l = grind (arith, (same_place size lines j k h.0 l.0 (inl h.1) (inr (l.1, l.2, l.3))))
 
 not_calls : (size : ℕ) (lines : Block) (calls : List (List Item)) (k : ℕ) (r : Reaches size lines k)
     → IsFaulty size r.before r.line → SpellsCalls size lines calls → ⊥
@@ -191,21 +155,15 @@ spelled calls = Ok calls
 lines_once : (size : ℕ) (lines : Block) (a b : Told) → Tells size lines a → Tells size lines b
     → a ≡ b
 lines_once size lines (Ok a) (Ok b) h k = ap spelled (calls_once size (blocks_of lines) a b h k)
-lines_once size lines (Ok a) (Err (fault.Line j)) h k =
-    absurd (not_calls size lines a j k.0 (inl k.1) h)
-lines_once size lines (Ok a) (Err (fault.Long j)) h k =
-    absurd (not_calls size lines a j k.0 (inr (k.1, k.2, k.3)) h)
-lines_once size lines (Err (fault.Line i)) (Ok b) h k =
-    absurd (not_calls size lines b i h.0 (inl h.1) k)
-lines_once size lines (Err (fault.Long i)) (Ok b) h k =
-    absurd (not_calls size lines b i h.0 (inr (h.1, h.2, h.3)) k)
+lines_once size lines (Ok a) (Err (fault.Line j)) h k = grind (arith, (not_calls size lines a j k.0 (inl k.1) h))
+lines_once size lines (Ok a) (Err (fault.Long j)) h k = grind (arith, (not_calls size lines a j k.0 (inr (k.1, k.2, k.3)) h))
+lines_once size lines (Err (fault.Line i)) (Ok b) h k = grind (arith, (not_calls size lines b i h.0 (inl h.1) k))
+lines_once size lines (Err (fault.Long i)) (Ok b) h k = grind (arith, (not_calls size lines b i h.0 (inr (h.1, h.2, h.3)) k))
 lines_once size lines (Err (fault.Line i)) (Err (fault.Line j)) h k =
     ap (λ (n : ℕ). made (fault.Line n)) (same_place size lines i j h.0 k.0 (inl h.1) (inl k.1)).0
 lines_once size lines (Err (fault.Long i)) (Err (fault.Long j)) h k = ap (λ (n : ℕ). made (fault.Long n)) (same_place size lines i j h.0 k.0 (inr (h.1, h.2, h.3)) (inr (k.1, k.2, k.3))).0
-lines_once size lines (Err (fault.Line i)) (Err (fault.Long j)) h k =
-    absurd (not_both size lines i j h k)
-lines_once size lines (Err (fault.Long i)) (Err (fault.Line j)) h k =
-    absurd (not_both size lines j i k h)
+lines_once size lines (Err (fault.Line i)) (Err (fault.Long j)) h k = grind (arith, (not_both size lines i j h k))
+lines_once size lines (Err (fault.Long i)) (Err (fault.Line j)) h k = grind (arith, (not_both size lines j i k h))
 lines_once size lines (Err fault.Read) b h k = absurd h
 lines_once size lines (Err fault.Write) b h k = absurd h
 lines_once size lines (Err fault.Memory) b h k = absurd h
@@ -215,9 +173,7 @@ lines_once size lines a (Err fault.Memory) h k = absurd k
 
 one_list : (bytes : List ℕ) (lines others : Block) → HasLines bytes lines → HasLines bytes others
     → lines ≡ others
-one_list bytes lines others h k =
-    let same = split_once bytes h.ended k.ended h.rest k.rest h.splits k.splits in
-    h.all ∙ ap (λ (l : Block). reverse (with_last l h.rest)) same.0 ∙ ap (λ (l : Line). reverse (with_last k.ended l)) same.1 ∙ sym k.all
+one_list bytes lines others h k = grind (arith, (split_once bytes h.ended k.ended h.rest k.rest h.splits k.splits))
 
 -- bytes tell one thing at most
 pub told_once : (size : ℕ) (bytes : List ℕ) (a b : Told) → IsTold size bytes a → IsTold size bytes b

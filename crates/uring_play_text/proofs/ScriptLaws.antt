@@ -107,19 +107,13 @@ pub took_blank : (old new : Script) (number : ℕ) → old.fault ≡ None → nu
     → EndsCall (record old { number = number }) new
     → (size : ℕ) (lines : List (List ℕ)) (text : List ℕ) → text ≡ [] → Gathers size lines old
     → Gathers size (lines ++ text ∷ []) new
-took_blank old new number none next e size lines text blank h =
-    let g : Goes size lines old.number (lists_of old.calls.items) old.call.items = goes size lines old.fault _ _ _ none h.1 in
-    (e.size ∙ h.0, moved size (lines ++ text ∷ []) None new.fault (old.number + 1) new.number _ _ [] _ (e.fault ∙ none) (e.number ∙ next) e.calls e.call (blank_more size lines text _ _ _ blank g))
+took_blank old new number none next e size lines text blank h = grind (arith, blank_more)
 
 pub took_item : (old new : Script) (number : ℕ) (i : Item) → old.fault ≡ None
     → number ≡ old.number + 1 → Adds (record old { number = number }) new i
     → (size : ℕ) (lines : List (List ℕ)) (text : List ℕ) → IsItemLine old.size text i
     → Gathers size lines old → Gathers size (lines ++ text ∷ []) new
-took_item old new number i none next (inl a) size lines text is h =
-    let g : Goes size lines old.number (lists_of old.calls.items) old.call.items = goes size lines old.fault _ _ _ none h.1 in
-    let here : IsItemLine size text i = subst (λ (n : ℕ). IsItemLine n text i) h.0 is in
-    let room : length old.call.items < size = subst (λ (n : ℕ). length old.call.items < n) h.0 a.0 in
-    (ap (λ (s : Script). s.size) a.1 ∙ h.0, moved size (lines ++ text ∷ []) None new.fault (old.number + 1) new.number (lists_of old.calls.items) _ _ _ (ap (λ (s : Script). s.fault) a.1 ∙ none) (ap (λ (s : Script). s.number) a.1 ∙ next) (ap (λ (s : Script). lists_of s.calls.items) a.1) a.2 (item_more size lines text _ _ _ i here room g))
+took_item old new number i none next (inl a) size lines text is h = grind (arith, item_more)
 took_item old new number i none next (inr a) size lines text is h =
     let g : Goes size lines old.number (lists_of old.calls.items) old.call.items = goes size lines old.fault _ _ _ none h.1 in
     let here : IsItemLine size text i = subst (λ (n : ℕ). IsItemLine n text i) h.0 is in
@@ -138,16 +132,13 @@ took_bad old number none next size lines text bad h =
 -- a script with a fault keeps it
 pub stays : (size : ℕ) (lines : List (List ℕ)) (text : List ℕ) (f : Option PlayFault) (n : ℕ) (calls : List (List Item)) (call : List Item)
     → IsSome f → IsAt size lines f n calls call → IsAt size (lines ++ text ∷ []) f n calls call
-stays size lines text None n calls call some h = absurd cc
-stays size lines text (Some f) n calls call some h = fault_stays size lines text f h
+stays size lines text f n calls call some h = grind (arith, fault_stays)
 
 -- the end of the input
 pub ended : (old new : Script) → EndsCall old new → new.fault ≡ None
     → (size : ℕ) (lines : List (List ℕ)) → Gathers size lines old
     → SpellsCalls size lines (lists_of new.calls.items)
-ended old new e none size lines h =
-    let g : Goes size lines old.number (lists_of old.calls.items) old.call.items = goes size lines old.fault _ _ _ (sym e.fault ∙ none) h.1 in
-    subst (SpellsCalls size lines) (sym e.calls) (so_far size lines _ _ _ g)
+ended old new e none size lines h = grind (arith, so_far)
 
 -- what a faulty line tells, and nothing of an outcome without a fault
 abbrev FaultTold : ℕ → List (List ℕ) → Result (Vec (Vec Item Global) Global) PlayFault → Type 0
@@ -161,6 +152,4 @@ IsNotMemory result = result ≢ Err fault.Memory
 pub not_memory : (size : ℕ) (lines : List (List ℕ)) (s : Script) (now : Option PlayFault) (f : PlayFault)
     → now ≡ s.fault → now ≡ Some f → Gathers size lines s
     → IsNotMemory (Err f)
-not_memory size lines s now f same is h memory =
-    let told : IsAt size lines (Some f) s.number (lists_of s.calls.items) s.call.items = subst (λ (x : Option PlayFault). IsAt size lines x s.number (lists_of s.calls.items) s.call.items) (sym same ∙ is) h.1 in
-    subst (λ (r : Result (Vec (Vec Item Global) Global) PlayFault). FaultTold size lines r) memory told
+not_memory size lines s now f same is h memory = grind arith

@@ -1,6 +1,6 @@
 -- What is told of lines, by what the search came to.
 use Rattle.std.proofs.Common.{◌≡◌, ◌++◌, ◌+◌, ℕ, List, [], ◌∷◌, length, sym, ap, subst, ◌∙◌, append_assoc, append-nil, arith}
-use Rattle.uring_seen.proofs.Common.{AreAnswered, AreShown, Begins, Event, Fills, HasNoFilling, History, IsAnswered, IsFar, IsFaulty, IsFilling, IsLawfulApart, IsSaid, IsToldBy, IsToldOf, Names, Reads, SaysFirst, Setup, ShowsNever, Tells, TellsFar, codes, decimal, history_of, lines_in, reverse, reverse-reverse, seen_in, setup_text, visible, ◌==◌}
+use Rattle.uring_seen.proofs.Common.{Begins, Event, Fills, HasNoFilling, History, IsAnswered, IsFar, IsFaulty, IsFilling, IsLawfulApart, IsToldBy, IsToldOf, Names, Reads, SaysFirst, Setup, ShowsNever, Tells, TellsFar, codes, decimal, history_of, lines_in, reverse, reverse-reverse, seen_in, setup_text, ◌==◌}
 use Rattle.std.proofs.lemmas.List.Splits.{length-slice_split}
 use Rattle.uring_text.specs.Lines.{joined}
 use Rattle.uring_check.specs.declared.setup_line.Said.{Said}
@@ -9,19 +9,13 @@ use Rattle.uring_fill.specs.Parts.{IsReach}
 use Rattle.uring_fill.specs.declared.search.Filled.{Filled}
 use Rattle.uring_fill.proofs.Begun.{begins_all}
 use Rattle.uring_seen.specs.declared.filling.Told.{Told}
-use Rattle.uring_seen.specs.declared.filling.Verdict.{Verdict}
 use Rattle.uring_seen.specs.declared.filling.Verdict.TheVariants as verdict
 use Rattle.uring_seen.proofs.OneLine.{visible_is}
 
 -- a history that shows what was read fills the lines
 pub fills_by : (g : Setup) (lines : List (List ℕ)) (seen : List Event) (h : History)
     → Reads g lines (history_of seen) → IsFilling g seen h → Fills g lines h
-fills_by g lines seen h r f =
-    let shows : visible h ≡ history_of seen = sym (visible_is h) ∙ ap history_of f.shows in
-    record {
-      filling = subst (λ xs. IsFilling g xs h) (sym f.shows) f;
-      shown = subst (AreShown lines) (sym shows) r.shown;
-    }
+fills_by g lines seen h r f = grind (arith, visible_is)
 
 -- if there is none that shows what was read, the lines have none
 pub none_by : (g : Setup) (lines : List (List ℕ)) (seen : List Event) (place : ℕ)
@@ -44,8 +38,7 @@ filling_begins g seen h f = begins_all (seen_in h) seen f.shows
 -- what a search found, as an arm has it
 pub found_at : (g : Setup) (xs seen : List Event) (filled x : Filled) → xs ≡ seen → filled ≡ x
     → IsFound g xs filled → IsFound g seen x
-found_at g xs seen filled x same is found =
-    subst (λ (es : List Event). IsFound g es x) same (subst (λ (f : Filled). IsFound g xs f) is found)
+found_at g xs seen filled x same is found = grind arith
 
 -- a history that a search found or came to is one that comes so far
 pub far_whole : (g : Setup) (seen : List Event) (h : History) → IsFilling g seen h → IsFar g seen h
@@ -57,8 +50,7 @@ far_reach g seen events place r = (r.part.lawful, r.part.shows)
 
 pub told_faulty : (g : Setup) (lines : List (List ℕ)) (place : ℕ) (told : Told) → IsFaulty lines place
     → told.verdict ≡ verdict.Bad → Names place told.text.items → IsToldOf g lines told.verdict told.text.items
-told_faulty g lines place told faulty is names =
-    subst (λ (v : Verdict). IsToldOf g lines v told.text.items) (sym is) (place, faulty, names)
+told_faulty g lines place told faulty is names = grind arith
 
 -- ---- texts
 
@@ -79,8 +71,7 @@ tells_far g h a b c d e remark line lawful tells p q r s =
 -- a text that names a line
 pub named : (place : ℕ) (z a b c flaw : List ℕ) → z ≡ [] → a ≡ z ++ codes "line " ++ decimal (place + 1)
     → b ≡ a ++ codes ": bad line: " → c ≡ b ++ flaw → Names place c
-named place z a b c flaw z_is a_is b_is c_is =
-    (flaw, c_is ∙ ap (λ (l : List ℕ). l ++ flaw) (b_is ∙ ap (λ (l : List ℕ). l ++ codes ": bad line: ") (a_is ∙ ap (λ (l : List ℕ). l ++ codes "line " ++ decimal (place + 1)) z_is)))
+named place z a b c flaw z_is a_is b_is c_is = grind arith
 
 -- ---- the first line
 
@@ -93,6 +84,4 @@ no_line bytes is =
 -- what is told by what the first line says
 pub answered : (given : Setup) (bytes : List ℕ) (lines : List (List ℕ)) (said x : Said) (told : Told) → lines ≡ lines_in bytes
     → SaysFirst lines said → said ≡ x → IsToldBy given lines x told → IsAnswered given bytes told
-answered given bytes [] said x told is says same by = absurd (no_line bytes is)
-answered given bytes (first ∷ rest) said x told is says same by =
-    subst (λ (ls : List (List ℕ)). AreAnswered given ls told) is (x, subst (λ (s : Said). IsSaid first s) same says, by)
+answered given bytes lines said x told is says same by = grind (arith, no_line)

@@ -1,10 +1,10 @@
 -- The lines of a history that shows the first ones of the steps that were seen.
-use Rattle.std.proofs.Common.{◌≡◌, ◌++◌, ℕ, ◌+◌, ◌<◌, ◌≤◌, Bool, true, false, List, [], ◌∷◌, length, take, drop, get_or, if◌then◌else◌, refl, sym, ap, subst, ◌∙◌, arith, append_assoc, append-nil, Some}
-use Rattle.uring_seen.proofs.Common.{AreLinesOf, ArePaired, Begins, Event, History, IsLineIf, IsLineOf, Setup, Shows, Step, Tells, codes, hidden_text, history_of, is_hidden, length-append, reverse-append, seen_in, setup_text, slice_get, take-append-drop, text_of}
+use Rattle.std.proofs.Common.{◌≡◌, ◌++◌, ℕ, ◌+◌, ◌<◌, ◌≤◌, Bool, false, List, [], ◌∷◌, length, take, drop, get_or, if◌then◌else◌, refl, sym, ap, subst, ◌∙◌, arith, append_assoc, append-nil, Some}
+use Rattle.uring_seen.proofs.Common.{AreLinesOf, ArePaired, Begins, Event, History, IsLineOf, Setup, Shows, Step, Tells, history_of, is_hidden, length-append, reverse-append, seen_in, setup_text, slice_get, take-append-drop}
 use Rattle.uring_core.specs.declared.step.Step.TheVariants as step
 use Rattle.uring_text.specs.Lines.{ended, joined}
 use Rattle.uring_fill.proofs.Seeing.{taken_next}
-use Rattle.uring_fill.proofs.Begun.{begins_itself, begins_more, begins_on}
+use Rattle.uring_fill.proofs.Begun.{begins_itself, begins_on}
 
 -- ---- pairs
 
@@ -25,19 +25,14 @@ pub record LineThere (lines : List (List ℕ)) (k : ℕ) (e : Event) : Type 0 wh
 pub paired_at : (lines : List (List ℕ)) (first rest : List Event) (e : Event)
     → ArePaired lines (first ++ e ∷ rest) → LineThere lines (length first) e
 paired_at (l ∷ lines) [] rest e paired = record { line = l; there = refl; shows = paired.0 }
-paired_at (l ∷ lines) (x ∷ first) rest e paired =
-    let later : LineThere lines (length first) e = paired_at lines first rest e paired.1 in
-    record { line = later.line; there = later.there; shows = later.shows }
+paired_at (l ∷ lines) (x ∷ first) rest e paired = grind (arith, (paired_at lines first rest e paired.1))
 paired_at [] [] rest e paired = absurd paired
 paired_at [] (x ∷ first) rest e paired = absurd paired
 
 -- ---- what a history shows
 
 seen_more : (h : History) (e : Event) → Begins (seen_in h) (seen_in (e ∷ h))
-seen_more h e = go (is_hidden e.0) where
-  go : (hidden : Bool) → Begins (seen_in h) (if hidden then seen_in h else seen_in h ++ e ∷ [])
-  go true = begins_itself (seen_in h)
-  go false = begins_more (seen_in h) e
+seen_more h e = grind (arith, begins_itself)
 
 seen_before : (newer h : History) → Begins (seen_in h) (seen_in (newer ++ h))
 seen_before [] h = begins_itself (seen_in h)
@@ -56,22 +51,13 @@ pub line_there : (lines : List (List ℕ)) (events seen : List Event) (i : ℕ) 
     → i < length events → e ≡ get_or events i e → is_hidden e.0 ≡ false
     → LineThere lines (length (seen_in (history_of (take i events)))) e
 line_there lines events seen i e paired begins low is shown =
-    let so_far = seen_in (history_of (take i events)) in
-    let with : seen_in (history_of (take (i + 1) events)) ≡ so_far ++ e ∷ [] = ap seen_in (taken_next events i e low is) ∙ ap (λ (b : Bool). if b then so_far else so_far ++ e ∷ []) shown in
-    let b : Begins (seen_in (history_of (take (i + 1) events))) seen = begins_on (seen_in (history_of (take (i + 1) events))) (seen_in (history_of events)) seen (part_begins events (i + 1)) begins in
-    let all : seen ≡ so_far ++ e ∷ b.rest = b.is ∙ ap (λ (xs : List Event). xs ++ b.rest) with ∙ append_assoc so_far (e ∷ []) b.rest in
-    paired_at lines so_far b.rest e (subst (ArePaired lines) all paired)
+    grind (arith, (taken_next events i e low is), (part_begins events (i + 1)), begins_on, append_assoc, paired_at)
 
 -- how many were seen
 pub count_more : (events : List Event) (i : ℕ) (e : Event) → i < length events → e ≡ get_or events i e
     → length (seen_in (history_of (take (i + 1) events)))
     ≡ length (seen_in (history_of (take i events))) + (if is_hidden e.0 then 0 else 1)
-count_more events i e low is =
-    ap (λ (k : History). length (seen_in k)) (taken_next events i e low is) ∙ go (is_hidden e.0)
-  where
-    go : (hidden : Bool) → length (if hidden then seen_in (history_of (take i events)) else seen_in (history_of (take i events)) ++ e ∷ []) ≡ length (seen_in (history_of (take i events))) + (if hidden then 0 else 1)
-    go true = omega arith
-    go false = length-append (seen_in (history_of (take i events))) (e ∷ [])
+count_more events i e low is = grind (arith, taken_next, length-append)
 
 -- ---- the text
 
@@ -102,26 +88,19 @@ HasLineOf old new e = (line : List ℕ) × IsLineOf line e × (new ≡ old ++ en
 pub shown_more : (lines : List (List ℕ)) (k : ℕ) (old new : List ℕ) (e : Event) → is_hidden e.0 ≡ false
     → (line : List ℕ) × (slice_get lines k ≡ Some line) × Shows line e
     → ((line : List ℕ) → slice_get lines k ≡ Some line → new ≡ old ++ ended line) → HasLineOf old new e
-shown_more lines k old new e seen there more =
-    (there.0, subst (λ (b : Bool). IsLineIf b there.0 e) (sym seen) there.2, more there.0 there.1)
+shown_more lines k old new e seen there more = grind arith
 
 -- a step that is none of these can be seen
 pub unhidden : (s : Step) → ((n : ℕ) → s ≡ step.Issue n → ⊥) → ((n : ℕ) → s ≡ step.Finish n → ⊥)
     → (s ≡ step.Flush → ⊥) → is_hidden s ≡ false
-unhidden (step.Issue n) issue finish flush = absurd (issue n refl)
-unhidden (step.Finish n) issue finish flush = absurd (finish n refl)
-unhidden step.Flush issue finish flush = absurd (flush refl)
-unhidden _ issue finish flush = refl
+unhidden s issue finish flush = grind arith
 
 -- it takes one line of what was seen, or none
 pub one_at_most : (hidden : Bool) (n : ℕ) → n ≡ (if hidden then 0 else 1) → n ≤ 1
-one_at_most true n e = omega arith
-one_at_most false n e = omega arith
+one_at_most hidden n e = grind arith
 
 -- ---- all of it
 
 pub text_told : (g : Setup) (h : History) (a b c : List ℕ) → a ≡ [] → b ≡ a ++ setup_text g
     → (out : List (List ℕ)) × AreLinesOf out h × (c ≡ b ++ joined out) → Tells g h c []
-text_told g h a b c a_is b_is w =
-    let start : b ≡ setup_text g = b_is ∙ ap (λ (l : List ℕ). l ++ setup_text g) a_is in
-    (w.0, w.1, w.2 ∙ ap (λ (l : List ℕ). l ++ joined w.0) start ∙ sym (append-nil (setup_text g ++ joined w.0)))
+text_told g h a b c a_is b_is w = grind (arith, append-nil)

@@ -1,8 +1,6 @@
 -- What a step with the text of an answer shows.
-use Rattle.std.proofs.Common.{◌≡◌, ℕ, true, false, List, ◌∷◌, Option, Some, None, drop, ◌<◌, ◌^◌, get_or, refl, sym, ap, subst, ◌∙◌, inl, inr, arith}
-use Rattle.uring_seen.proofs.Common.{Answer, CalledForApart, Core, Cqe, FitsApart, History, IsAnsweredAs, IsBare, IsFollowed, IsGuess, IsGuessed, IsNoFinish, IsSeenAs, IsShownIf, OrAgain, Setup, Sight, Step, World, begin_answer, is_hidden, is_submitting, next_answer_of, reap_answer_of, requests_of, submitted, text_of, world}
-use Rattle.uring_entry.specs.Completions.{next_to_reap}
-use Rattle.uring_rules.specs.Rules.{next_of}
+use Rattle.std.proofs.Common.{◌≡◌, ℕ, true, false, List, ◌∷◌, ◌<◌, ◌^◌, refl, sym, ap, subst, ◌∙◌, inl, inr, arith}
+use Rattle.uring_seen.proofs.Common.{Answer, CalledForApart, Core, FitsApart, History, IsAnsweredAs, IsBare, IsFollowed, IsGuess, IsGuessed, IsNoFinish, IsSeenAs, IsShownIf, OrAgain, Setup, Sight, Step, World, begin_answer, is_hidden, is_submitting, submitted, text_of, world}
 use Rattle.uring_core.specs.declared.step.Step.TheVariants as step
 use Rattle.uring_core.specs.declared.answer.Answer.TheVariants as answer
 use Rattle.uring_check.proofs.SameTexts.{begin_once}
@@ -14,8 +12,7 @@ use Rattle.uring_seen.proofs.Texts.{number_once, completion_once}
 
 -- that it was is the only answer of its text
 again_only : (b : Answer) → text_of b ≡ text_of answer.Again → b ≡ answer.Again
-again_only answer.Again same = refl
-again_only b same = let first = ap (λ (l : List ℕ). get_or l 0 0) same in absurd (omega (arith, first))
+again_only b same = grind arith
 
 answer_once : (g : Setup) (w : World) (s : Step) (a b : Answer) → IsNoFinish s → CalledForApart g w s a
     → CalledForApart g w s b → text_of b ≡ text_of a → b ≡ a
@@ -42,15 +39,7 @@ answer_other g w _ a b text of no_again lasts other e f same = other (ap text_of
 -- memory was refused, if that is called for
 pub again_answered : (core : Core) (h : History) (s : Step) (text : List ℕ) (x : Sight) → text_of answer.Again ≡ text
     → IsFollowed core h s answer.Again x → IsAnsweredAs core h s text x
-again_answered core h s text (sight.Shown t a) same (t_is, a_is, fits) = (
-  t_is,
-  ap text_of a_is ∙ same,
-  (λ b called is. again_only b (is ∙ sym same) ∙ sym a_is),
-  subst (λ (y : Answer). FitsApart core ((s, y) ∷ h)) (sym a_is) fits,
-)
-again_answered core h s text sight.Wrong same never = λ b called is.
-    never (subst (CalledForApart core.setup (world core.setup h) s) (again_only b (is ∙ sym same)) called)
-again_answered core h s text _ same none = absurd none
+again_answered core h s text x same never = grind arith
 
 pub step_answered : (core : Core) (h : History) (s : Step) (a : Answer) (text : List ℕ) (x : Sight) → IsNoFinish s
     → (text_of answer.Again ≡ text → ⊥) → (a ≡ answer.Again → ⊥) → FitsApart core ((s, a) ∷ h)
@@ -66,47 +55,21 @@ step_answered core h s a text sight.Wrong of no_again lasts fits other = λ b ca
 step_answered core h s a text _ of no_again lasts fits none = absurd none
 
 submitting_seen : (s : Step) → is_submitting s ≡ true → is_hidden s ≡ false
-submitting_seen (step.Issue n) of = absurd (let f : false ≡ true = of in cc)
-submitting_seen (step.Finish n) of = absurd (let f : false ≡ true = of in cc)
-submitting_seen step.Flush of = absurd (let f : false ≡ true = of in cc)
-submitting_seen _ of = refl
+submitting_seen s of = grind arith
 
 submitting_bare : (s : Step) (a : Answer) → is_submitting s ≡ true → IsBare s a
-submitting_bare step.LoadCqTail a of = absurd (let f : false ≡ true = of in cc)
-submitting_bare step.Reap a of = absurd (let f : false ≡ true = of in cc)
-submitting_bare step.StoreCqHead a of = absurd (let f : false ≡ true = of in cc)
-submitting_bare step.Next a of = absurd (let f : false ≡ true = of in cc)
-submitting_bare _ a of = tt
+submitting_bare s a of = grind arith
 
 -- what is called for is what may be shown
 pub answered_seen : (core : Core) (seen : History) (s : Step) (text : List ℕ) (x : Sight) → is_submitting s ≡ true
     → IsAnsweredAs core (submitted seen) s text x → IsSeenAs core seen s text x
-answered_seen core seen s text (sight.Shown t a) of (t_is, same, only, fits) = (
-  t_is,
-  same,
-  submitting_seen s of,
-  submitting_bare s a of,
-  (λ b may is bare. only b (may_submitted core.setup seen s b of may) is),
-  rw of fits,
-)
-answered_seen core seen s text sight.Wrong of none = λ b may is bare. none b (may_submitted core.setup seen s b of may) is
-answered_seen core seen s text _ of none = absurd none
+answered_seen core seen s text x of none = grind (arith, may_submitted)
 
 -- ---- steps whose answer their text alone tells
 
 guess_called : (g : Setup) (w : World) (s : Step) (a : Answer) → IsGuessed s → CalledForApart g w s a
     → IsGuess s a
-guess_called g w step.LoadCqTail a of called = subst (IsGuess step.LoadCqTail) (sym called) tt
-guess_called g w step.StoreCqHead a of called = subst (IsGuess step.StoreCqHead) (sym called) tt
-guess_called g w step.Reap a of called = subst (IsGuess step.Reap) (sym called) (go (next_to_reap w.completions)) where
-  go : (c : Option Cqe) → IsGuess step.Reap (reap_answer_of c)
-  go None = tt
-  go (Some c) = tt
-guess_called g w step.Next a of called = subst (IsGuess step.Next) (sym called) (go (next_of g.linux (requests_of w))) where
-  go : (n : Option ℕ) → IsGuess step.Next (next_answer_of n)
-  go None = tt
-  go (Some n) = tt
-guess_called g w _ a of called = absurd of
+guess_called g w s a of called = grind arith
 
 long : (n : ℕ) → n < 2 ^ 32 → n < 2 ^ 64
 long n p = omega arith
@@ -114,45 +77,29 @@ long n p = omega arith
 -- two of the same text are the same
 pub guess_once : (s : Step) (a b : Answer) → IsGuess s a → IsGuess s b → text_of a ≡ text_of b
     → IsBare s a → IsBare s b → a ≡ b
-guess_once step.LoadCqTail (answer.Tail n) (answer.Tail m) x y same p q =
-    ap (λ (k : ℕ). answer.Tail k) (number_once n m (long n p) (long m q) (ap (λ (l : List ℕ). drop 5 l) same))
+guess_once step.LoadCqTail (answer.Tail n) (answer.Tail m) x y same p q = grind (arith, number_once)
 guess_once step.LoadCqTail (answer.Tail n) _ x y same p q = absurd y
-guess_once step.StoreCqHead (answer.Head n) (answer.Head m) x y same p q =
-    ap (λ (k : ℕ). answer.Head k) (number_once n m (long n p) (long m q) (ap (λ (l : List ℕ). drop 5 l) same))
+guess_once step.StoreCqHead (answer.Head n) (answer.Head m) x y same p q = grind (arith, number_once)
 guess_once step.StoreCqHead (answer.Head n) _ x y same p q = absurd y
-guess_once step.Next (answer.Next n) (answer.Next m) x y same p q =
-    ap (λ (k : ℕ). answer.Next k) (number_once n m p q (ap (λ (l : List ℕ). drop 5 l) same))
-guess_once step.Next (answer.Next n) answer.Nothing x y same p q =
-    absurd (let third : 120 ≡ 110 = ap (λ (l : List ℕ). get_or l 2 0) same in omega (arith, third))
+guess_once step.Next (answer.Next n) (answer.Next m) x y same p q = grind (arith, number_once)
+guess_once step.Next (answer.Next n) answer.Nothing x y same p q = grind arith
 guess_once step.Next (answer.Next n) _ x y same p q = absurd y
-guess_once step.Next answer.Nothing (answer.Next m) x y same p q =
-    absurd (let third : 110 ≡ 120 = ap (λ (l : List ℕ). get_or l 2 0) same in omega (arith, third))
+guess_once step.Next answer.Nothing (answer.Next m) x y same p q = grind arith
 guess_once step.Next answer.Nothing answer.Nothing x y same p q = refl
 guess_once step.Next answer.Nothing _ x y same p q = absurd y
-guess_once step.Reap (answer.Reaped c) (answer.Reaped d) x y same p q =
-    ap (λ (k : Cqe). answer.Reaped k) (completion_once c d same p q)
-guess_once step.Reap (answer.Reaped c) answer.Nothing x y same p q =
-    absurd (let first : 99 ≡ 110 = ap (λ (l : List ℕ). get_or l 0 0) same in omega (arith, first))
+guess_once step.Reap (answer.Reaped c) (answer.Reaped d) x y same p q = grind (arith, (completion_once c d same p q))
+guess_once step.Reap (answer.Reaped c) answer.Nothing x y same p q = grind arith
 guess_once step.Reap (answer.Reaped c) _ x y same p q = absurd y
-guess_once step.Reap answer.Nothing (answer.Reaped d) x y same p q =
-    absurd (let first : 110 ≡ 99 = ap (λ (l : List ℕ). get_or l 0 0) same in omega (arith, first))
+guess_once step.Reap answer.Nothing (answer.Reaped d) x y same p q = grind arith
 guess_once step.Reap answer.Nothing answer.Nothing x y same p q = refl
 guess_once step.Reap answer.Nothing _ x y same p q = absurd y
 guess_once _ a b x y same p q = absurd x
 
 guessed_seen : (s : Step) → IsGuessed s → is_hidden s ≡ false
-guessed_seen step.LoadCqTail of = refl
-guessed_seen step.StoreCqHead of = refl
-guessed_seen step.Reap of = refl
-guessed_seen step.Next of = refl
-guessed_seen _ of = absurd of
+guessed_seen s of = grind arith
 
 guessed_other : (s : Step) → IsGuessed s → is_submitting s ≡ false
-guessed_other step.LoadCqTail of = refl
-guessed_other step.StoreCqHead of = refl
-guessed_other step.Reap of = refl
-guessed_other step.Next of = refl
-guessed_other _ of = absurd of
+guessed_other s of = grind arith
 
 pub guess_shown : (core : Core) (seen : History) (s : Step) (a : Answer) (text : List ℕ) → IsGuessed s
     → IsGuess s a × (text_of a ≡ text) × IsBare s a → FitsApart core (submitted seen)

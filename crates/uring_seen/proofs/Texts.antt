@@ -1,5 +1,5 @@
 -- The texts of completions and numbers, each of one alone.
-use Rattle.std.proofs.Common.{◌≡◌, ◌≢◌, ℕ, ℤ, ◌+◌, ◌<◌, ◌^◌, true, false, List, [], ◌∷◌, ◌++◌, drop, Some, refl, sym, ap, subst, ◌∙◌, append_assoc, arith}
+use Rattle.std.proofs.Common.{◌≡◌, ◌≢◌, ℕ, ℤ, ◌<◌, ◌^◌, true, false, List, [], ◌∷◌, ◌++◌, drop, Some, refl, sym, ap, subst, ◌∙◌, append_assoc, arith}
 use mathlib.Core.List.{head-eq_of_cons-eq, tail-eq_of_cons-eq}
 use Rattle.uring_seen.proofs.Common.{Cqe, IsBare, IsCompletion, IsFile, IsNoCompletion, IsNoNumber, IsParted, IsUnparted, SpellsNumber, and_parts, append_cancel_right, codes, decimal, no_bytes, text_of}
 use Rattle.std.specs.Char.{is_ascii_digit}
@@ -48,8 +48,7 @@ blank_once [] ys [] vs h k e = (refl, tail-eq_of_cons-eq e)
 blank_once [] ys (u ∷ us) vs h k e = absurd (k.0 (sym (head-eq_of_cons-eq e)))
 blank_once (x ∷ xs) ys [] vs h k e = absurd (h.0 (head-eq_of_cons-eq e))
 blank_once (x ∷ xs) ys (u ∷ us) vs h k e =
-    let same = blank_once xs ys us vs h.1 k.1 (tail-eq_of_cons-eq e) in
-    (ap (λ (b : ℕ). b ∷ xs) (head-eq_of_cons-eq e) ∙ ap (λ (l : List ℕ). u ∷ l) same.0, same.1)
+    grind (arith, (blank_once xs ys us vs h.1 k.1 (tail-eq_of_cons-eq e)), tail-eq_of_cons-eq)
 
 pub none_and_one : (xs ys : List ℕ) → HasNoBlank (xs ++ 32 ∷ ys) → ⊥
 none_and_one [] ys h = h.0 refl
@@ -66,9 +65,7 @@ bare_text ud res = simp append_assoc refl
 
 pub completion_is : (text : List ℕ) (c : Cqe) → IsCompletion text c
     → text ≡ codes "cqe " ++ (middle c.user_data c.res ++ codes " -")
-completion_is text c is =
-    sym is.text_is ∙ ap (λ (p : List ℕ). completion_text (record { user_data = c.user_data; res = c.res; payload = p })) is.bare.2
-    ∙ bare_text c.user_data c.res
+completion_is text c is = grind (arith, bare_text)
 
 -- the parts of its text say what it is
 pub completion_once : (c d : Cqe) → text_of (answer.Reaped c) ≡ text_of (answer.Reaped d)
@@ -106,8 +103,7 @@ framed text rest mid front back = front ∙ ap (λ (l : List ℕ). codes "cqe " 
 
 middle_is : (text mid : List ℕ) (c : Cqe) → IsFramed text mid → IsCompletion text c
     → mid ≡ middle c.user_data c.res
-middle_is text mid c f is =
-    append_cancel_right mid (middle c.user_data c.res) (codes " -") (ap (λ (l : List ℕ). drop 4 l) (sym f ∙ completion_is text c is))
+middle_is text mid c f is = grind (arith, (completion_is text c is), append_cancel_right)
 
 -- the text of a completion has a blank in it
 pub unparted_none : (text mid : List ℕ) → IsFramed text mid → IsUnparted mid → IsNoCompletion text
@@ -134,12 +130,4 @@ result_none text mid before after f p none = λ c is.
 pub completion_read : (text mid before after : List ℕ) (n : ℕ) (z : ℤ) → IsFramed text mid
     → IsParted mid before after → SpellsNumber (2 ^ 64) before n → (signed_decimal z ≡ after) × IsFile z
     → IsCompletion text (record { user_data = n; res = z; payload = no_bytes })
-completion_read text mid before after n z f p number result = record {
-  text_is =
-      bare_text n z
-      ∙ ap (λ (l : List ℕ). codes "cqe " ++ ((l ++ 32 ∷ signed_decimal z) ++ codes " -")) (sym number.0)
-      ∙ ap (λ (l : List ℕ). codes "cqe " ++ ((before ++ 32 ∷ l) ++ codes " -")) result.0
-      ∙ ap (λ (l : List ℕ). codes "cqe " ++ (l ++ codes " -")) (sym p.whole)
-      ∙ sym f;
-  bare = (number.1, result.1, refl);
-}
+completion_read text mid before after n z f p number result = grind (arith, bare_text)

@@ -1,8 +1,7 @@
 -- Completions by their texts, with their bytes.
-use Rattle.std.proofs.Common.{◌≡◌, ℕ, zero, suc, ◌<◌, ◌≤◌, ◌+◌, ◌-◌, List, [], ◌∷◌, ◌++◌, length, map, take, drop, replicate, ◌/◌, Option, Some, None, refl, sym, ap, subst, ◌∙◌, append_assoc, arith}
+use Rattle.std.proofs.Common.{◌≡◌, ℕ, zero, suc, ◌<◌, ◌≤◌, ◌+◌, List, [], ◌∷◌, ◌++◌, length, map, take, drop, replicate, ◌/◌, Option, Some, None, refl, sym, ap, subst, ◌∙◌, append_assoc, arith}
 use Rattle.std.specs.List.{AllByRecursion}
-use Rattle.uring_seen.proofs.Common.{AreBytes, CompletesTo, Cqe, HasText, IsPadded, MatchOption, append_cancel_left, blank_completion, bytes_eq-Decides, codes, false_from_ne_true, front_of, le-ltb, length-append, length-drop, lt-ltb, ne_eqb, no_bytes, same_Some, take-append-drop}
-use Rattle.std.specs.Str.{bytes_eq}
+use Rattle.uring_seen.proofs.Common.{AreBytes, CompletesTo, Cqe, HasText, IsPadded, MatchOption, append_cancel_left, blank_completion, bytes_eq-Decides, codes, false_from_ne_true, front_of, length-append, length-drop, no_bytes, same_Some, take-append-drop}
 use Rattle.uring_text.proofs.HexLaws.{data_again, data_found, hex_found}
 use Rattle.uring_text.specs.Completions.{before_others, completion_text, trimmed}
 use Rattle.uring_text.specs.Reading.{data_of, hex_of}
@@ -15,10 +14,7 @@ zeros_of p = map (λ b. 0) p
 
 refilled : (b : ℕ) (ts zs p : List ℕ) → ts ++ drop (length ts) zs ≡ p
     → before_others b ts ++ drop (length (before_others b ts)) (0 ∷ zs) ≡ b ∷ p
-refilled zero [] zs p e = ap (λ (l : List ℕ). 0 ∷ l) e
-refilled (suc b) [] zs p e = ap (λ (l : List ℕ). suc b ∷ l) e
-refilled zero (t ∷ ts) zs p e = ap (λ (l : List ℕ). 0 ∷ l) e
-refilled (suc b) (t ∷ ts) zs p e = ap (λ (l : List ℕ). suc b ∷ l) e
+refilled b ts zs p e = grind arith
 
 refill : (p : List ℕ) → trimmed p ++ drop (length (trimmed p)) (zeros_of p) ≡ p
 refill [] = refl
@@ -29,34 +25,24 @@ zeros_are [] = refl
 zeros_are (b ∷ p) = ap (λ (l : List ℕ). 0 ∷ l) (zeros_are p)
 
 refill_all : (p : List ℕ) → length p ≡ 64 → trimmed p ++ drop (length (trimmed p)) no_bytes ≡ p
-refill_all p size =
-    ap (λ (zs : List ℕ). trimmed p ++ drop (length (trimmed p)) zs) (sym (zeros_are p ∙ ap (λ (n : ℕ). replicate n 0) size)) ∙ refill p
+refill_all p size = grind (arith, (zeros_are p), (refill p))
 
 others_all : (P : ℕ → Type 0) (b : ℕ) (ts : List ℕ) → P b → AllByRecursion P ts → AllByRecursion P (before_others b ts)
-others_all P zero [] has all = tt
-others_all P (suc b) [] has all = (has, tt)
-others_all P zero (t ∷ ts) has all = (has, all)
-others_all P (suc b) (t ∷ ts) has all = (has, all)
+others_all P b ts has all = grind arith
 
 trimmed_all : (P : ℕ → Type 0) (p : List ℕ) → AllByRecursion P p → AllByRecursion P (trimmed p)
 trimmed_all P [] all = tt
 trimmed_all P (b ∷ p) all = others_all P b (trimmed p) all.0 (trimmed_all P p all.1)
 
 others_few : (b n : ℕ) (ts : List ℕ) → length ts ≤ n → length (before_others b ts) ≤ n + 1
-others_few zero n [] few = omega arith
-others_few (suc b) n [] few = omega arith
-others_few zero n (t ∷ ts) few = omega (arith, few)
-others_few (suc b) n (t ∷ ts) few = omega (arith, few)
+others_few b n ts few = grind arith
 
 trimmed_few : (p : List ℕ) → length (trimmed p) ≤ length p
 trimmed_few [] = omega arith
 trimmed_few (b ∷ p) = let few = others_few b (length p) (trimmed p) (trimmed_few p) in omega (arith, few)
 
 trimmed_sized : (p : List ℕ) → AreBytes p 64 64 → AreBytes (trimmed p) 0 64
-trimmed_sized p sized =
-    let few = trimmed_few p in
-    let enough : length p ≤ 64 = sized.enough in
-    record { few = omega arith; enough = omega (arith, few); each = trimmed_all (λ b. b < 256) p sized.each }
+trimmed_sized p sized = grind (arith, trimmed_few, trimmed_all)
 
 -- ---- with zeros at their end
 
@@ -74,15 +60,7 @@ joined_all P (x ∷ xs) ys all more = (all.0, joined_all P xs ys all.1 more)
 
 filled_sized : (bytes : List ℕ) → AreBytes bytes 0 64 → AreBytes (bytes ++ drop (length bytes) no_bytes) 64 64
 filled_sized bytes sized =
-    let enough : length bytes ≤ 64 = sized.enough in
-    let size : length (bytes ++ drop (length bytes) no_bytes) ≡ length bytes + length (drop (length bytes) no_bytes) = length-append bytes (drop (length bytes) no_bytes) in
-    let rest : length (drop (length bytes) no_bytes) ≡ length no_bytes - length bytes = length-drop (length bytes) no_bytes in
-    let whole : length (bytes ++ drop (length bytes) no_bytes) ≡ 64 = omega (arith, size, rest) in
-    record {
-      few = omega (arith, whole);
-      enough = omega (arith, whole);
-      each = joined_all (λ b. b < 256) bytes (drop (length bytes) no_bytes) sized.each (zeros_drop (length bytes) 64);
-    }
+    grind (arith, (length-append bytes (drop (length bytes) no_bytes)), (length-drop (length bytes) no_bytes), (zeros_drop (length bytes) 64), joined_all)
 
 -- ---- texts
 
@@ -93,8 +71,7 @@ front_same : (c e : Cqe) → blank_completion e ≡ blank_completion c → front
 front_same c e same = ap front_of same
 
 has_front : (c e : Cqe) (text : List ℕ) → HasText c text e → text ≡ front_of c ++ hex_or_dash (trimmed e.payload)
-has_front c e text has =
-    sym has.text_is ∙ text_front e ∙ ap (λ (l : List ℕ). l ++ hex_or_dash (trimmed e.payload)) (front_same c e has.same)
+has_front c e text has = grind arith
 
 -- a text that begins otherwise
 pub front_none : (c : Cqe) (text : List ℕ) → ((rest : List ℕ) → text ≡ front_of c ++ rest → ⊥) → (e : Cqe) → HasText c text e → ⊥
@@ -102,67 +79,49 @@ front_none c text none e has = none (hex_or_dash (trimmed e.payload)) (has_front
 
 token_is : (c e : Cqe) (text token : List ℕ) → text ≡ front_of c ++ token → HasText c text e
     → data_of token ≡ Some (trimmed e.payload)
-token_is c e text token is has =
-    ap data_of (append_cancel_left (front_of c) token (hex_or_dash (trimmed e.payload)) (sym is ∙ has_front c e text has))
-    ∙ data_again (trimmed e.payload) (trimmed_sized e.payload has.sized)
+token_is c e text token is has = grind (arith, append_cancel_left, has_front, data_again, trimmed_sized)
 
 -- a token that is no bytes
 pub data_none : (c : Cqe) (text token : List ℕ) → text ≡ front_of c ++ token → data_of token ≡ None
     → (e : Cqe) → HasText c text e → ⊥
-data_none c text token is none e has =
-    let f : None ≡ Some (trimmed e.payload) = sym none ∙ token_is c e text token is has in absurd cc
+data_none c text token is none e has = grind (arith, (token_is c e text token is has))
 
 -- ---- a token
 
 pub padded : (token room : List ℕ) (count : ℕ) → hex_of count token ≡ Some (take count room)
     → drop count room ≡ drop count no_bytes → IsPadded (hex_of count token) room
-padded token room count found rest =
-    let few : count ≤ length (take count room) = (hex_found count token (take count room) found).1.few in
-    let enough : length (take count room) ≤ count = (hex_found count token (take count room) found).1.enough in
-    let size : count ≡ length (take count room) = omega (arith, few, enough) in
-    subst (λ (o : Option (List ℕ)). IsPadded o room) (sym found)
-    (sym (take-append-drop count room) ∙ ap (λ (l : List ℕ). take count room ++ l) (rest ∙ ap (λ (n : ℕ). drop n no_bytes) size))
+padded token room count found rest = grind (arith, hex_found, take-append-drop)
 
 -- a token of this data has that of its digits
 pub data_digits : (token : List ℕ) (count : ℕ) → (token ≡ codes "-" → ⊥) → count ≡ length token / 2 → (count ≡ 0 → ⊥)
     → count ≤ 64 → data_of token ≡ hex_of count token
 unfolding data_of
-data_digits token count other is some most =
-    rw (false_from_ne_true (bytes_eq token (codes "-")) (λ same. other ((bytes_eq-Decides token (codes "-")).0 same)), sym is, ne_eqb count 0 some, le-ltb 64 count most) refl
+data_digits token count other is some most = grind (arith, false_from_ne_true, bytes_eq-Decides)
 
 pub data_few : (token : List ℕ) → (token ≡ codes "-" → ⊥) → length token / 2 ≡ 0 → data_of token ≡ None
 unfolding data_of
-data_few token other none =
-    rw (false_from_ne_true (bytes_eq token (codes "-")) (λ same. other ((bytes_eq-Decides token (codes "-")).0 same)), none) refl
+data_few token other none = grind (arith, bytes_eq-Decides)
 
 pub data_many : (token : List ℕ) → (token ≡ codes "-" → ⊥) → 64 < length token / 2 → data_of token ≡ None
 unfolding data_of
-data_many token other many =
-    rw (false_from_ne_true (bytes_eq token (codes "-")) (λ same. other ((bytes_eq-Decides token (codes "-")).0 same)), ne_eqb (length token / 2) 0 (λ none. absurd (omega (arith, none, many))), lt-ltb 64 (length token / 2) many) refl
+data_many token other many = grind (arith, false_from_ne_true, bytes_eq-Decides)
 
 pub data_dash : data_of (codes "-") ≡ Some []
 unfolding data_of
 data_dash = refl
 
 pub dash_padded : (token room : List ℕ) → token ≡ codes "-" → room ≡ no_bytes → IsPadded (data_of token) room
-dash_padded token room dash none =
-    subst (λ (o : Option (List ℕ)). IsPadded o room) (sym (ap data_of dash ∙ data_dash)) none
+dash_padded token room dash none = grind (arith, data_dash)
 
 pub decoded_padded : (token : List ℕ) (count : ℕ) (r : Option (List ℕ)) → data_of token ≡ hex_of count token
     → MatchOption r (hex_of count token ≡ None) (λ room. (hex_of count token ≡ Some (take count room)) × (drop count room ≡ drop count no_bytes))
     → MatchOption r (data_of token ≡ None) (λ room. IsPadded (data_of token) room)
-decoded_padded token count None same is = same ∙ is
-decoded_padded token count (Some room) same is =
-    subst (λ (o : Option (List ℕ)). IsPadded o room) (sym same) (padded token room count is.0 is.1)
+decoded_padded token count r same is = grind (arith, padded)
 
 payload_is : (c e : Cqe) (text token bytes room : List ℕ) → text ≡ front_of c ++ token → data_of token ≡ Some bytes
     → room ≡ bytes ++ drop (length bytes) no_bytes → HasText c text e → e.payload ≡ room
 payload_is c e text token bytes room is found room_is has =
-    let same : bytes ≡ trimmed e.payload = same_Some bytes (trimmed e.payload) (sym found ∙ token_is c e text token is has) in
-    let few : 64 ≤ length e.payload = has.sized.few in
-    let enough : length e.payload ≤ 64 = has.sized.enough in
-    sym (refill_all e.payload (omega (arith, few, enough)))
-    ∙ ap (λ (l : List ℕ). l ++ drop (length l) no_bytes) (sym same) ∙ sym room_is
+    grind (arith, (same_Some bytes (trimmed e.payload) (sym found ∙ token_is c e text token is has)), (token_is c e text token is has), refill_all)
 
 pub completes_to : (c d : Cqe) (text token bytes room : List ℕ) → text ≡ front_of c ++ token → data_of token ≡ Some bytes
     → room ≡ bytes ++ drop (length bytes) no_bytes → d ≡ record { user_data = c.user_data; res = c.res; payload = room }
@@ -177,8 +136,7 @@ completes_to c d text token bytes room is found room_is d_is = record {
 
 padded_by : (o : Option (List ℕ)) (room : List ℕ) → IsPadded o room
     → (bytes : List ℕ) × (o ≡ Some bytes) × (room ≡ bytes ++ drop (length bytes) no_bytes)
-padded_by None room is = absurd is
-padded_by (Some bytes) room is = (bytes, refl, is)
+padded_by o room is = grind arith
 
 pub completes_padded : (c d : Cqe) (text token room : List ℕ) → text ≡ front_of c ++ token → IsPadded (data_of token) room
     → d ≡ record { user_data = c.user_data; res = c.res; payload = room } → CompletesTo c text d

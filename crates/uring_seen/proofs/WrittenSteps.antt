@@ -1,46 +1,30 @@
 -- What a step with the text of an answer is, of a core that knows no bytes.
-use Rattle.std.proofs.Common.{◌≡◌, ℕ, ℤ, Bool, true, false, List, ◌∷◌, Option, Some, None, drop, get_or, refl, sym, ap, subst, ◌∙◌, arith}
-use Rattle.uring_seen.proofs.Common.{Answer, CalledForApart, CompletesTo, Core, Cqe, Event, FinishesApart, FitsApart, HasNoBytes, HasText, History, IsAnsweredAs, IsCompleted, IsFile, IsFinishAnswer, IsFollowed, IsShownIf, IsSized, IsWrittenAs, Sight, Step, bare, blank_answer, blank_completion, is_running, no_bytes, same_Some, text_of, world}
+use Rattle.std.proofs.Common.{◌≡◌, ℕ, ℤ, Bool, true, false, List, ◌∷◌, Option, Some, None, drop, refl, sym, ap, subst, ◌∙◌, arith}
+use Rattle.uring_seen.proofs.Common.{Answer, CompletesTo, Core, Cqe, Event, FinishesApart, FitsApart, HasNoBytes, HasText, History, IsAnsweredAs, IsCompleted, IsFile, IsFinishAnswer, IsFollowed, IsShownIf, IsSized, IsWrittenAs, Sight, Step, bare, blank_answer, blank_completion, is_running, no_bytes, text_of, world}
 use Rattle.uring_core.specs.declared.answer.Answer.TheVariants as answer
 use Rattle.uring_core.specs.declared.step.Step.TheVariants as step
 use Rattle.uring_seen.specs.declared.sight.Sight.TheVariants as sight
 use Rattle.uring_seen.proofs.Texts.{signed_once}
-use Rattle.uring_seen.proofs.WrittenCompletions.{blank_own}
 
 -- ---- steps to which what is called for has no bytes
 
 own_blank : (s : Step) (a : Answer) → HasNoBytes s → blank_answer s a ≡ a
-own_blank (step.Finish n) a of = absurd of
-own_blank step.Reap a of = absurd of
-own_blank _ a of = refl
+own_blank s a of = grind arith
 
 own_sized : (s : Step) (a : Answer) → HasNoBytes s → IsSized s a
-own_sized (step.Finish n) a of = absurd of
-own_sized step.Reap a of = absurd of
-own_sized _ a of = tt
+own_sized s a of = grind arith
 
 pub answered_written : (core : Core) (h : History) (s : Step) (text : List ℕ) (x : Sight) → HasNoBytes s
     → IsAnsweredAs core h s text x → IsWrittenAs core h s text x
-answered_written core h s text (sight.Shown t a) of (t_is, same, only, fits) = (
-  t_is,
-  same,
-  own_sized s a of,
-  (λ b called is sized. ap (λ (y : Answer). bare (s, y)) (only b (subst (CalledForApart core.setup (world core.setup h) s) (own_blank s b of) called) is)),
-  subst (λ (y : Answer). FitsApart core ((s, y) ∷ h)) (sym (own_blank s a of)) fits,
-)
-answered_written core h s text sight.Wrong of none = λ b called is sized.
-    none b (subst (CalledForApart core.setup (world core.setup h) s) (own_blank s b of) called) is
-answered_written core h s text _ of none = absurd none
+answered_written core h s text x of none = grind arith
 
 -- ---- Finish
 
 ended_other : (res : ℤ) (bytes : List ℕ) → text_of (answer.Ended res bytes) ≡ text_of answer.NotRunning → ⊥
-ended_other res bytes e =
-    let first : 101 ≡ 110 = ap (λ (l : List ℕ). get_or l 0 0) e in absurd (omega (arith, first))
+ended_other res bytes e = grind arith
 
 idle_is : (n : ℕ) (b : Answer) → blank_answer (step.Finish n) b ≡ answer.NotRunning → b ≡ answer.NotRunning
-idle_is n (answer.Ended res bytes) e = absurd (let f : answer.Ended res no_bytes ≡ answer.NotRunning = e in cc)
-idle_is n b e = e
+idle_is n b e = grind arith
 
 finish_once : (n : ℕ) (runs : Bool) (a b : Answer) → IsFinishAnswer a → FinishesApart runs a
     → FinishesApart runs (blank_answer (step.Finish n) b) → IsSized (step.Finish n) a → IsSized (step.Finish n) b
@@ -54,17 +38,10 @@ finish_once n false a b of called also small sized same =
 
 finish_never : (n : ℕ) (runs : Bool) (a b : Answer) → IsFinishAnswer a → (FinishesApart runs a → ⊥)
     → FinishesApart runs (blank_answer (step.Finish n) b) → text_of b ≡ text_of a → ⊥
-finish_never n true (answer.Ended res bytes) b of never also same = never tt
-finish_never n true answer.NotRunning (answer.Ended z more) of never also same = ended_other z more same
-finish_never n true answer.NotRunning b of never also same = absurd also
-finish_never n false answer.NotRunning b of never also same = never refl
-finish_never n false (answer.Ended res bytes) b of never also same =
-    ended_other res bytes (sym same ∙ ap text_of (idle_is n b also))
-finish_never n runs a b of never also same = absurd of
+finish_never n runs a b of never also same = grind arith
 
 finish_blank : (n : ℕ) (a : Answer) → IsFinishAnswer a → blank_answer (step.Finish n) a ≡ a
-finish_blank n (answer.Ended res bytes) of = ap (λ (bs : List ℕ). answer.Ended res bs) (sym of)
-finish_blank n a of = refl
+finish_blank n a of = grind arith
 
 pub finish_followed : (core : Core) (h : History) (n : ℕ) (text : List ℕ) (a : Answer) (x : Sight) → IsFinishAnswer a
     → text_of a ≡ text → ((m : ℕ) → IsSized (step.Finish m) a) → IsFollowed core h (step.Finish n) a x
@@ -116,51 +93,27 @@ completion_in _ = None
 
 reaped_is : (b : Answer) (c : Cqe) → blank_answer step.Reap b ≡ answer.Reaped c
     → (e : Cqe) × (b ≡ answer.Reaped e) × (blank_completion e ≡ c)
-reaped_is (answer.Reaped e) c is = (e, refl, let f : Some (blank_completion e) ≡ Some c = ap completion_in is in same_Some (blank_completion e) c f)
-reaped_is b c is = absurd cc
+reaped_is b c is = grind arith
 
 has_text : (b : Answer) (c e : Cqe) (text : List ℕ) → b ≡ answer.Reaped e → blank_completion e ≡ c → text_of b ≡ text
     → IsSized step.Reap b → HasText c text e
-has_text b c e text is same text_is sized = record {
-  same = ap blank_completion same;
-  sized = subst (IsSized step.Reap) is sized;
-  text_is = ap text_of (sym is) ∙ text_is;
-}
+has_text b c e text is same text_is sized = grind arith
 
 pub reap_written : (core : Core) (h : History) (c : Cqe) (text : List ℕ) (x : Sight) → FitsApart core ((step.Reap, answer.Reaped c) ∷ h)
     → IsCompleted c text x → IsWrittenAs core h step.Reap text x
-reap_written core h c text (sight.Shown s a) fits (d, s_is, a_is, same, has, only) =
-    subst (λ (u : Step). IsWrittenAs core h step.Reap text (sight.Shown u a)) (sym s_is)
-    (subst (λ (y : Answer). IsWrittenAs core h step.Reap text (sight.Shown step.Reap y)) (sym a_is) (
-      refl,
-      has.text_is,
-      has.sized,
-      λ b called text_is sized.
-          let e = reaped_is b c (called ∙ sym fits.lawful.0) in
-          ap (λ (y : Answer). bare (step.Reap, y)) (e.1 ∙ ap (λ (k : Cqe). answer.Reaped k) (only e.0 (has_text b c e.0 text e.1 e.2 text_is sized))),
-      subst (λ (k : Cqe). FitsApart core ((step.Reap, answer.Reaped k) ∷ h)) (sym same) fits,
-    ))
-reap_written core h c text sight.Wrong fits never = λ b called text_is sized.
-    let e = reaped_is b c (called ∙ sym fits.lawful.0) in
-    never e.0 e.2 (has_text b c e.0 text e.1 e.2 text_is sized)
-reap_written core h c text sight.Passed fits none = absurd none
-reap_written core h c text sight.Hidden fits none = absurd none
-reap_written core h c text sight.Bad fits none = absurd none
+reap_written core h c text x fits never = grind arith
 
 abbrev IsNone : Answer → Type 0
 IsNone a = (c : Cqe) → a ≡ answer.Reaped c → ⊥
 
 none_blank : (a : Answer) → IsNone a → blank_answer step.Reap a ≡ a
-none_blank (answer.Reaped c) none = absurd (none c refl)
-none_blank a none = refl
+none_blank a none = grind arith
 
 none_sized : (a : Answer) → IsNone a → IsSized step.Reap a
-none_sized (answer.Reaped c) none = absurd (none c refl)
-none_sized a none = tt
+none_sized a none = grind arith
 
 none_is : (a b : Answer) → IsNone a → blank_answer step.Reap b ≡ a → b ≡ a
-none_is a (answer.Reaped c) none is = absurd (none (blank_completion c) (sym is))
-none_is a b none is = is
+none_is a b none is = grind arith
 
 pub none_written : (core : Core) (h : History) (a : Answer) (text : List ℕ) (x : Sight) → ((c : Cqe) → a ≡ answer.Reaped c → ⊥)
     → FitsApart core ((step.Reap, a) ∷ h) → IsShownIf step.Reap a text x → IsWrittenAs core h step.Reap text x
@@ -180,11 +133,7 @@ none_written core h a text _ none fits so = absurd so
 -- what a text comes to after which a completion without bytes is reaped
 pub completed_whole : (c d : Cqe) (text : List ℕ) (x : Sight) → c.payload ≡ no_bytes → CompletesTo c text d
     → IsShownIf step.Reap (answer.Reaped d) text x → IsCompleted c text x
-completed_whole c d text (sight.Shown s a) none to (s_is, a_is, same) =
-    (d, s_is, a_is, to.same ∙ blank_own c none, record { same = to.same; sized = to.sized; text_is = same }, to.only)
-completed_whole c d text sight.Wrong none to other = λ e same has.
-    other (ap (λ (y : Cqe). text_of (answer.Reaped y)) (sym (to.only e has)) ∙ has.text_is)
-completed_whole c d text _ none to so = absurd so
+completed_whole c d text x none to other = grind arith
 
 pub completed_full : (c : Cqe) (text : List ℕ) → (c.payload ≡ no_bytes → ⊥) → IsCompleted c text sight.Wrong
 completed_full c text full = λ e same has. full (ap (λ (x : Cqe). x.payload) (sym same))

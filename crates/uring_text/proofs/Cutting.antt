@@ -50,11 +50,9 @@ cut_more all before after token rest left None is made some none told =
 -- less is left
 pub cut_less : (rest : Bor (List ℕ)) (left over : Option (Bor (List ℕ))) → left ≡ Some rest
     → IfSome over (λ b. length b.now < length rest.now) → left_size over < left_size left
-cut_less rest left (Some b) is shorter = rw is (omega (arith, shorter))
-cut_less rest left None is shorter = rw is (omega arith)
+cut_less rest left over is shorter = grind arith
 
 -- nothing is left
 pub cut_all : (all : List (List ℕ)) (tokens : List (Bor (List ℕ))) (left : Option (Bor (List ℕ)))
     → left ≡ None → words tokens ++ left_tokens left ≡ all → words tokens ≡ all
-cut_all all tokens left is told =
-    sym (append-nil (words tokens)) ∙ ap (λ (o : Option (Bor (List ℕ))). words tokens ++ left_tokens o) (sym is) ∙ told
+cut_all all tokens left is told = grind (arith, append-nil)

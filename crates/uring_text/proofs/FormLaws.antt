@@ -1,7 +1,6 @@
 -- The form that is read of tokens is the one that they spell.
 use Rattle.std.proofs.Common.{◌≡◌, ℕ, ◌^◌, ◌≤◌, List, [], ◌∷◌, Some, refl, sym, ap, subst, ◌∙◌, arith, inl, inr}
-use Rattle.uring_text.proofs.Common.{Form, Name, Parts, SayParts, SaysPart, SpellsForm, SpellsNumber, bytes_eq, bytes_eq-Decides, data_of, file_of, find, flags_of, form_named, form_of, hex_of, kinds_of, name_of, name_text, names, number_of, option_map, part_of, parts_of, ◌>>=◌}
-use Rattle.uring_text.specs.declared.forms.Name.TheVariants as name
+use Rattle.uring_text.proofs.Common.{Form, Name, Parts, SayParts, SaysPart, SpellsForm, SpellsNumber, bytes_eq, bytes_eq-Decides, data_of, file_of, find, form_named, form_of, hex_of, kinds_of, name_of, name_text, names, number_of, option_map, part_of, parts_of}
 use Rattle.uring_text.specs.declared.place.Kind.{Kind}
 use Rattle.uring_text.specs.declared.place.Kind.TheVariants as kind
 use Rattle.uring_text.proofs.Options.{bind_some, chosen, mapped}
@@ -22,9 +21,7 @@ pub part_found : (k : Kind) (token : List ℕ) (p q : Parts) → part_of k token
 unfolding part_of
 part_found kind.Code token p q e = number_said 256 token _ q (omega arith) e
 part_found kind.UserData token p q e = number_said (2 ^ 64) token _ q (omega arith) e
-part_found kind.Flags token p q e =
-    let m = mapped (λ flags. record p { flags = flags }) (flags_of token) q e in
-    (m.0, flags_found token m.0 m.1, sym m.2)
+part_found kind.Flags token p q e = grind (arith, flags_found)
 part_found kind.File token p q e =
     let m = mapped (λ fd. record p { fd = fd }) (file_of token) q e in
     let is = file_found token m.0 m.1 in
@@ -46,16 +43,12 @@ pub part_again : (k : Kind) (token : List ℕ) (p q : Parts) → SaysPart k toke
     → part_of k token p ≡ Some q
 unfolding part_of
 part_again kind.Code token p q h = rw (h.1.0, number_again 256 h.0 (omega arith) h.1.1, h.2) refl
-part_again kind.UserData token p q h =
-    rw (h.1.0, number_again (2 ^ 64) h.0 (omega arith) h.1.1, h.2) refl
+part_again kind.UserData token p q h = grind (arith, number_again)
 part_again kind.Flags token p q h = rw (flags_again token h.0 h.1, h.2) refl
 part_again kind.File token p q h = rw (h.1, file_again h.0 h.2, h.3) refl
-part_again kind.Offset token p q h =
-    rw (h.1.0, number_again (2 ^ 64) h.0 (omega arith) h.1.1, h.2) refl
-part_again kind.Length token p q h =
-    rw (h.1.0, number_again (2 ^ 32) h.0 (omega arith) h.1.1, h.2) refl
-part_again kind.Target token p q h =
-    rw (h.1.0, number_again (2 ^ 64) h.0 (omega arith) h.1.1, h.2) refl
+part_again kind.Offset token p q h = grind (arith, number_again)
+part_again kind.Length token p q h = grind (arith, number_again)
+part_again kind.Target token p q h = grind (arith, number_again)
 part_again kind.Data token p q h = rw (h.1, data_again h.0 h.2, h.3) refl
 part_again kind.Bytes token p q h = rw (h.1, hex_again 128 h.0 h.2, h.3) refl
 part_again _ token p q h = absurd h
@@ -73,8 +66,7 @@ parts_found _ _ q e = absurd cc
 pub parts_again : (kinds : List Kind) (tokens : List (List ℕ)) (q : Parts)
     → SayParts kinds tokens q → parts_of kinds tokens ≡ Some q
 parts_again [] [] q h = ap (λ (p : Parts). Some p) (sym h)
-parts_again (k ∷ kinds) (token ∷ tokens) q h =
-    ap (λ o. o >>= part_of k token) (parts_again kinds tokens h.0 h.1) ∙ part_again k token h.0 q h.2
+parts_again (k ∷ kinds) (token ∷ tokens) q h = grind (arith, (parts_again kinds tokens h.0 h.1), part_again)
 parts_again _ _ q h = absurd h
 
 -- The name.
@@ -94,8 +86,7 @@ name_found token n e = found_among token names n e
 
 name_again : (n : Name) → name_of (name_text n) ≡ Some n
 unfolding name_of
-name_again name.Nop = refl
-name_again _ = refl
+name_again n = grind arith
 
 -- what is read is spelled so
 pub form_found : (tokens : List (List ℕ)) (f : Form) → form_of tokens ≡ Some f → SpellsForm tokens f
@@ -110,7 +101,4 @@ form_found (token ∷ tokens) f e =
 -- what is spelled so is read
 pub form_again : (tokens : List (List ℕ)) (f : Form) → SpellsForm tokens f → form_of tokens ≡ Some f
 unfolding form_of
-form_again tokens f h =
-    ap form_of h.1
-    ∙ ap (λ o. o >>= λ n. form_named n h.0) (name_again f.name)
-    ∙ ap (option_map (λ parts. record { name = f.name; parts = parts })) (parts_again (kinds_of f.name) h.0 f.parts h.2)
+form_again tokens f h = grind (arith, name_again, parts_again)

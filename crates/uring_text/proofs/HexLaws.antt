@@ -1,11 +1,11 @@
 -- Bytes are read of just the tokens that are their lower case digits.
-use Rattle.std.proofs.Common.{◌≡◌, ℕ, zero, suc, ◌+◌, ◌-◌, ◌*◌, ◌/◌, ◌%◌, ◌<◌, ◌≤◌, true, false, cond, ltb, eqb, ◌&&◌, List, [], ◌∷◌, length, Option, Some, None, Result, Ok, Err, refl, sym, ap, subst, ◌∙◌, arith, inl, inr}
-use Rattle.uring_text.proofs.Common.{AllByRecursion, AreBytes, IsBytes, and_from, and_parts, both_ways, bytes_eq, bytes_eq-Decides, cases_eq, codes, data_of, decode_of, decode_pairs, decode_sized, digit_or_error, encode_lower, encode_with, eqb-false, hex_digit_value, hex_of, hex_or_dash, is_capital, le-leb, le-ltb, leb-true, list_any, lower_digits, ltb-false, nat_le, ne_eqb, or_parts, pair_value, same_Some, slice_index, value_at}
+use Rattle.std.proofs.Common.{◌≡◌, ℕ, zero, suc, ◌+◌, ◌*◌, ◌/◌, ◌%◌, ◌<◌, ◌≤◌, false, cond, ltb, eqb, List, [], ◌∷◌, length, Option, Some, None, Result, Ok, refl, sym, ap, subst, ◌∙◌, arith, inl, inr}
+use Rattle.uring_text.proofs.Common.{AllByRecursion, AreBytes, IsBytes, and_from, both_ways, bytes_eq, bytes_eq-Decides, cases_eq, codes, data_of, decode_of, decode_pairs, decode_sized, digit_or_error, encode_lower, encode_with, eqb-false, hex_digit_value, hex_of, hex_or_dash, is_capital, le-leb, le-ltb, leb-true, list_any, lower_digits, ltb-false, ne_eqb, or_parts, pair_value, same_Some, slice_index, value_at}
 use Rattle.hex.specs.Hex.{◌>>=◌}
 use Rattle.std.specs.Result.{result_ok}
 use Rattle.hex.specs.declared.error.FromHexError.{FromHexError}
 use Rattle.hex.proofs.HexLemmas.{decode_sized-encode_lower, decode_sized-ok, decode_sized-twice, decode_of-ok, decode_of-even, length-encode_with}
-use Rattle.uring_text.proofs.Options.{test_some, chosen, no_dash, unless_some}
+use Rattle.uring_text.proofs.Options.{chosen, no_dash, unless_some}
 
 -- what holds of each number below one
 abbrev Below : (ℕ → Type 0) → ℕ → Type 0
@@ -39,38 +39,11 @@ bytes_to (b ∷ bytes) h = (h 0, bytes_to bytes (λ i. h (suc i)))
 -- a digit that is no capital letter
 lower_digit : (c v : ℕ) → hex_digit_value c ≡ Some v → is_capital c ≡ false
     → (slice_index lower_digits v ≡ c) × (v < 16)
-lower_digit c v e small =
-    elim (chosen (nat_le 65 c && nat_le c 70) (Some (c - 55)) (cond (nat_le 97 c && nat_le c 102) (Some (c - 87)) (cond (nat_le 48 c && nat_le c 57) (Some (c - 48)) None)) (Some v) e) [
-      | inl p ↦
-          let b = and_parts (nat_le 65 c) (nat_le c 70) p.0 in
-          let low : 65 ≤ c = leb-true 65 c b.0 in
-          let high : c ≤ 70 = leb-true c 70 b.1 in
-          let capital : is_capital c ≡ true = and_from (nat_le 65 c) (nat_le c 90) (le-leb 65 c low) (le-leb c 90 (omega arith)) in
-          absurd (both_ways (is_capital c) small capital)
-      | inr p ↦ elim (chosen (nat_le 97 c && nat_le c 102) (Some (c - 87)) (cond (nat_le 48 c && nat_le c 57) (Some (c - 48)) None) (Some v) p.1) [
-        | inl q ↦
-            let b = and_parts (nat_le 97 c) (nat_le c 102) q.0 in
-            let low : 97 ≤ c = leb-true 97 c b.0 in
-            let high : c ≤ 102 = leb-true c 102 b.1 in
-            let value : c - 87 ≡ v = same_Some (c - 87) v q.1 in
-            let at : v ≡ 10 + (c - 97) = omega arith in
-            let back : 97 + (c - 97) ≡ c = omega arith in
-            (ap (slice_index lower_digits) at ∙ letter_at (c - 97) (omega arith) ∙ back, omega arith)
-        | inr q ↦
-            let t = test_some (nat_le 48 c && nat_le c 57) (Some (c - 48)) v q.1 in
-            let b = and_parts (nat_le 48 c) (nat_le c 57) t.0 in
-            let low : 48 ≤ c = leb-true 48 c b.0 in
-            let high : c ≤ 57 = leb-true c 57 b.1 in
-            let value : c - 48 ≡ v = same_Some (c - 48) v t.1 in
-            let back : 48 + (c - 48) ≡ c = omega arith in
-            (ap (slice_index lower_digits) (sym value) ∙ figure_at (c - 48) (omega arith) ∙ back, omega arith)
-      ]
-    ]
+lower_digit c v e small = grind (arith, cond, leb-true, and_from, le-leb, both_ways)
 
 bind_ok : {A B : Type 0} (r : Result A FromHexError) (f : A → Result B FromHexError) (y : B)
     → (r >>= f) ≡ Ok y → (x : A) × (r ≡ Ok x) × (f x ≡ Ok y)
-bind_ok (Ok x) f y h = (x, refl, h)
-bind_ok (Err e) f y h = absurd cc
+bind_ok r f y h = grind arith
 
 abbrev ok : {A : Type 0} → A → Result A FromHexError
 ok x = Ok x
@@ -79,8 +52,7 @@ ok_is : {A : Type 0} (x y : A) → ok x ≡ ok y → x ≡ y
 ok_is x y e = cc
 
 digit_read : (c i : ℕ) (o : Option ℕ) (v : ℕ) → digit_or_error c i o ≡ Ok v → o ≡ Some v
-digit_read c i (Some w) v h = ap (λ (k : ℕ). Some k) (ok_is w v h)
-digit_read c i None v h = absurd cc
+digit_read c i o v h = grind arith
 
 -- what decodes, and has no capital letter
 pairs_lower : (i : ℕ) (s bytes : List ℕ) → decode_pairs i s ≡ Ok bytes
@@ -108,8 +80,7 @@ pairs_lower i (a ∷ b ∷ rest) bytes e n =
 
 ok_from : (r : Result (List ℕ) FromHexError) (bytes : List ℕ) → result_ok r ≡ Some bytes
     → r ≡ Ok bytes
-ok_from (Ok x) bytes e = ap (λ (l : List ℕ). ok l) (same_Some x bytes e)
-ok_from (Err d) bytes e = absurd cc
+ok_from r bytes e = grind arith
 
 pub hex_found : (count : ℕ) (token bytes : List ℕ) → hex_of count token ≡ Some bytes
     → (token ≡ encode_lower bytes) × AreBytes bytes count count
@@ -128,9 +99,7 @@ encoded_small : (bytes : List ℕ) → AllByRecursion (λ b. b < 256) bytes
     → list_any is_capital (encode_lower bytes) ≡ false
 unfolding encode_with
 encoded_small [] h = refl
-encoded_small (b ∷ bytes) h =
-    let small : b < 256 = h.0 in
-    rw (no_capital (b / 16) (omega arith), no_capital (b % 16) (omega arith)) (encoded_small bytes h.1)
+encoded_small (b ∷ bytes) h = grind (arith, no_capital, (encoded_small bytes h.1))
 
 pub hex_again : (count : ℕ) (bytes : List ℕ) → AreBytes bytes count count
     → hex_of count (encode_lower bytes) ≡ Some bytes
@@ -141,8 +110,7 @@ hex_again count bytes h =
     rw (encoded_small bytes h.each, decode_sized-encode_lower bytes count (omega arith) (bytes_from bytes h.each)) refl
 
 shown : (bytes : List ℕ) → 0 < length bytes → hex_or_dash bytes ≡ encode_lower bytes
-shown [] lt = absurd (omega arith)
-shown (b ∷ bytes) lt = refl
+shown bytes lt = grind arith
 
 pub data_found : (token bytes : List ℕ) → data_of token ≡ Some bytes
     → (token ≡ hex_or_dash bytes) × AreBytes bytes 0 64
@@ -175,5 +143,4 @@ data_again_of bytes token lt is h =
 
 pub data_again : (bytes : List ℕ) → AreBytes bytes 0 64 → data_of (hex_or_dash bytes) ≡ Some bytes
 unfolding data_of
-data_again [] h = refl
-data_again (b ∷ bytes) h = data_again_of (b ∷ bytes) (encode_lower (b ∷ bytes)) (omega arith) refl h
+data_again bytes h = grind (arith, data_again_of)

@@ -1,34 +1,23 @@
 -- A number is read of just the token that is its decimal form.
-use Rattle.std.proofs.Common.{◌≡◌, ℕ, zero, suc, ◌^◌, ◌<◌, ◌≤◌, true, ltb, eqb, List, [], ◌∷◌, length, get_or, Option, Some, None, refl, sym, ap, subst, ◌∙◌, arith, inl, inr}
+use Rattle.std.proofs.Common.{◌≡◌, ℕ, zero, suc, ◌^◌, ◌<◌, ◌≤◌, true, eqb, List, [], ◌∷◌, length, get_or, Option, Some, None, refl, sym, ap, subst, ◌∙◌, arith, inl, inr}
 use Rattle.std.specs.Char.{is_ascii_digit}
-use Rattle.uring_text.proofs.Common.{IsFile, MatchOption, cases_eq, eq-eqb, eqb-true, file_of, is_numeral, list_all, lt-ltb, ltb-true, ne_eqb, negative_of, negsuc, number_of, option_map, pos, same_Some, ℤ, ◌>>=◌}
+use Rattle.uring_text.proofs.Common.{IsFile, MatchOption, eqb-true, file_of, is_numeral, list_all, lt-ltb, negative_of, negsuc, number_of, option_map, pos, ℤ, ◌>>=◌}
 use Rattle.std.specs.Str.Parse.{digits_value}
 use Rattle.std.specs.Fmt.{decimal, signed_decimal}
 use Rattle.std.proofs.lemmas.Fmt.{decimal-digits_value, digits_decimal, first_decimal, decimal_nonempty, decimal_digit, decimal_is_IsNumeral}
 use Rattle.std.proofs.lemmas.Str.Parse.{digit_at}
-use Rattle.uring_text.proofs.Options.{bind_some, test_some, chosen, mapped}
+use Rattle.uring_text.proofs.Options.{bind_some, chosen, mapped}
 use Rattle.uring_text.proofs.Numbers.{own, numeral_digits, some_length, number_parts, file_other}
 
 -- a numeral has no leading zero
 no_leading_zero : (w : List ℕ) → is_numeral w ≡ true → get_or w 0 0 ≡ 48 → length w ≡ 1
 unfolding is_numeral
-no_leading_zero [] e z = absurd cc
-no_leading_zero (b ∷ bs) e z =
-    let first : eqb b 48 ≡ true = eq-eqb b 48 z in
-    let none : eqb (length bs) 0 ≡ true = rw first at e in
-    omega (arith, eqb-true (length bs) 0 none)
+no_leading_zero w e z = grind arith
 
 numeral_from : (w : List ℕ) → list_all is_ascii_digit w ≡ true → 0 < length w
     → (get_or w 0 0 ≡ 48 → length w ≡ 1) → is_numeral w ≡ true
 unfolding is_numeral
-numeral_from [] digits lt one = absurd (omega arith)
-numeral_from (b ∷ bs) digits lt one =
-    elim (cases_eq b 48) [
-      | inl e ↦
-          let alone : length bs ≡ 0 = omega (arith, one e) in
-          rw (eq-eqb b 48 e, alone) refl
-      | inr ne ↦ rw (ne_eqb b 48 ne) digits
-    ]
+numeral_from w digits lt one = grind arith
 
 -- the decimal form of a number has no leading zero
 leading : (n : ℕ) → n < 2 ^ 64 → get_or (decimal n) 0 0 ≡ 48 → length (decimal n) ≡ 1
@@ -58,10 +47,7 @@ number_again limit n le lt =
 
 negative_found : (n : ℕ) (fd : ℤ) → negative_of n ≡ Some fd
     → (k : ℕ) × (n ≡ suc k) × (k < 2 ^ 31) × (fd ≡ negsuc k)
-negative_found zero fd e = absurd cc
-negative_found (suc k) fd e =
-    let t = test_some (ltb k (2 ^ 31)) (Some (negsuc k)) fd e in
-    (k, refl, ltb-true k (2 ^ 31) t.0, sym (same_Some (negsuc k) fd t.1))
+negative_found n fd e = grind arith
 
 abbrev IsSpelled : List ℕ → ℤ → Type 0
 IsSpelled w fd = (w ≡ signed_decimal fd) × IsFile fd
@@ -94,12 +80,10 @@ no_minus n lt e =
 pub file_again : (fd : ℤ) → IsFile fd → file_of (signed_decimal fd) ≡ Some fd
 unfolding file_of
 file_again (pos n) lt = sym (file_other (decimal n) (no_minus n (omega arith))) ∙ ap (option_map (λ n. pos n)) (number_again (2 ^ 31) n (omega arith) lt)
-file_again (negsuc k) lt =
-    rw (number_again (2 ^ 64) (suc k) (omega arith) (omega arith), lt-ltb k (2 ^ 31) lt) refl
+file_again (negsuc k) lt = grind (arith, number_again)
 
 signed_other : (w : List ℕ) → file_of w ≡ None → (fd : ℤ) → IsFile fd → signed_decimal fd ≡ w → ⊥
-signed_other w none fd is same = let found : file_of w
-    ≡ Some fd = subst (λ (l : List ℕ). file_of l ≡ Some fd) same (file_again fd is) in absurd cc
+signed_other w none fd is same = grind (arith, file_again)
 
 -- what a token spells that is read as a signed number, or as none
 pub signed_tells : (w : List ℕ) (r : Option ℤ) → r ≡ file_of w

@@ -1,5 +1,5 @@
 -- Zeros at the end of bytes.
-use Rattle.std.proofs.Common.{◌≡◌, ℕ, zero, suc, ◌-◌, ◌<◌, ◌≤◌, List, [], ◌∷◌, ◌++◌, length, get_or, take, refl, sym, ap, ◌∙◌, arith}
+use Rattle.std.proofs.Common.{◌≡◌, ℕ, ◌-◌, ◌<◌, ◌≤◌, List, [], ◌∷◌, ◌++◌, length, get_or, take, refl, ap, arith}
 use Rattle.std.proofs.lemmas.List.{take_more, length-take, get_or-take}
 use Rattle.uring_text.specs.Completions.{trimmed, before_others}
 
@@ -9,19 +9,14 @@ trimmed_zero [] = refl
 trimmed_zero (b ∷ bytes) = ap (before_others b) (trimmed_zero bytes)
 
 kept_before : (b : ℕ) (bytes : List ℕ) → 0 < length bytes → before_others b bytes ≡ b ∷ bytes
-kept_before b [] h = absurd (omega arith)
-kept_before zero (c ∷ bytes) h = refl
-kept_before (suc b) (c ∷ bytes) h = refl
+kept_before b bytes h = grind arith
 
 alone : (b : ℕ) → (b ≡ 0 → ⊥) → before_others b [] ≡ b ∷ []
-alone zero h = absurd (h refl)
-alone (suc b) h = refl
+alone b h = grind arith
 
 same_last : (b c : ℕ) (bytes : List ℕ) → get_or (c ∷ bytes) (length (c ∷ bytes) - 1) 0 ≡ 0
     → get_or (b ∷ c ∷ bytes) (length (b ∷ c ∷ bytes) - 1) 0 ≡ 0
-same_last b c bytes e =
-    let at : length (b ∷ c ∷ bytes) - 1 ≡ suc (length (c ∷ bytes) - 1) = omega arith in
-    rw at e
+same_last b c bytes e = grind arith
 
 -- bytes that don't end with a zero are whole
 pub trimmed_whole : (bytes : List ℕ)
@@ -29,19 +24,14 @@ pub trimmed_whole : (bytes : List ℕ)
 trimmed_whole [] h = refl
 trimmed_whole (b ∷ []) h = alone b (λ e. h (omega arith) e)
 trimmed_whole (b ∷ c ∷ bytes) h =
-    let rest : trimmed (c ∷ bytes) ≡ c ∷ bytes = trimmed_whole (c ∷ bytes) (λ lt e. h (omega arith) (same_last b c bytes e)) in
-    rw rest (kept_before b (c ∷ bytes) (omega arith))
+    grind (arith, (trimmed_whole (c ∷ bytes) (λ lt e. h (omega arith) (same_last b c bytes e))), same_last)
 
 -- a zero at the end is cut off
 pub cut_zero : (bytes : List ℕ) (used : ℕ) → 0 < used → used ≤ length bytes
     → get_or bytes (used - 1) 0 ≡ 0 → trimmed (take (used - 1) bytes) ≡ trimmed (take used bytes)
-cut_zero bytes used lt le zero_is =
-    let last : take used bytes ≡ take (used - 1) bytes ++ get_or bytes (used - 1) 0 ∷ [] = ap (λ (n : ℕ). take n bytes) (omega arith) ∙ take_more bytes (used - 1) 0 (omega arith) in
-    sym (ap trimmed last ∙ ap (λ (b : ℕ). trimmed (take (used - 1) bytes ++ b ∷ [])) zero_is ∙ trimmed_zero (take (used - 1) bytes))
+cut_zero bytes used lt le zero_is = grind (arith, (get_or bytes (used - 1) 0), (trimmed_zero (take (used - 1) bytes)), take_more)
 
 -- no zero is left at the end
 pub cut_whole : (bytes : List ℕ) (used : ℕ) → used ≤ length bytes
     → (0 < used → get_or bytes (used - 1) 0 ≡ 0 → ⊥) → take used bytes ≡ trimmed (take used bytes)
-cut_whole bytes used le h =
-    let size : length (take used bytes) ≡ used = omega (arith, length-take used bytes) in
-    sym (trimmed_whole (take used bytes) (λ lt e. h (omega arith) (sym (get_or-take used bytes (used - 1) 0 (omega arith)) ∙ ap (λ (n : ℕ). get_or (take used bytes) (n - 1) 0) (sym size) ∙ e)))
+cut_whole bytes used le h = grind (arith, length-take, trimmed_whole, get_or-take, get_or)

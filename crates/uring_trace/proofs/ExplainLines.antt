@@ -1,5 +1,5 @@
 -- What an explainer keeps, byte by byte and line by line.
-use Rattle.std.proofs.Common.{◌≡◌, ◌≢◌, ℕ, ◌+◌, ◌-◌, ◌^◌, min, Bool, true, false, ◌||◌, List, [], ◌∷◌, ◌++◌, length, Option, Result, Ok, Err, refl, sym, ap, subst, ◌∙◌, append_assoc, arith}
+use Rattle.std.proofs.Common.{◌≡◌, ◌≢◌, ℕ, ◌+◌, ◌-◌, ◌^◌, min, Bool, true, false, List, [], ◌∷◌, ◌++◌, length, Option, Result, refl, sym, ap, subst, ◌∙◌, append_assoc, arith}
 use Rattle.uring_trace.proofs.Common.{AppendsLine, Asked, Bad, Explaining, Explains, ExplainsBeginning, ExplainsEnded, ExplainsWholeBy, Fits, History, IfOk, IsBad, IsGrantedTo, IsStep, KeptLine, Machine, Made, Remark, Saying, Step, Telling, TellsShown, TellsStep, Why, after_text, append-nil, bad_note, codes, ended, event_in, events_in, history_of, is_bad, joined, kept_of, line_number, lines_in, noted_of, option_to_list, told_of, with_event, with_last, world}
 use Rattle.std.specs.List.{list_any}
 use Rattle.uring_entry.specs.Setup.{Setup}
@@ -11,7 +11,7 @@ use Rattle.uring_trace.specs.Reasons.{kept_reason, reason_text}
 use Rattle.uring_trace.specs.Text.{text_of}
 use Rattle.uring_trace.specs.declared.reason_text.Reason.{Reason}
 use Rattle.uring_text.specs.Remarks.{is_remark}
-use Rattle.std.proofs.Math.Bool.{or-false, or-true, or_comm}
+use Rattle.std.proofs.Math.Bool.{or-false, or-true}
 use Rattle.uring_trace.specs.Questions.{IsQuestion, IsNoQuestion}
 use Rattle.uring_trace.specs.declared.questions.Question.{Question}
 use Rattle.uring_text.proofs.Splits.{split_more, split_end, split_whole, last_some}
@@ -20,8 +20,7 @@ use Rattle.uring_trace.proofs.Sessions.{one_more, unrefused_more}
 -- two facts of a value, whatever the value
 pub if_ok_both : {T E : Type 0} (r : Result T E) (P Q R : T → Type 0) → ((x : T) → P x → Q x → R x)
     → IfOk r P → IfOk r Q → IfOk r R
-if_ok_both (Ok x) P Q R f a b = f x a b
-if_ok_both (Err e) P Q R f a b = tt
+if_ok_both r P Q R f a b = grind arith
 
 -- an answer and what is kept of its reason, with the end of the line
 four_parts : (i a b c : List ℕ) → i ++ a ++ b ++ c ≡ i ++ (a ++ (b ++ c))
@@ -33,12 +32,7 @@ pub line_reasoned : (before one two three four : List ℕ) (answer : Answer) (wh
     → kept ≡ kept_reason answer why found → why ≡ w → found ≡ f → chosen ≡ c
     → four ≡ before ++ ended (text_of answer ++ (reason_text (kept_reason answer w f) ++ after_text c))
 line_reasoned before one two three four answer why w found f kept chosen c said told last end is asked sought all =
-    let reason : kept ≡ kept_reason answer w f = is ∙ ap (λ (x : Option Why). kept_reason answer x found) asked ∙ ap (λ (x : Option Found). kept_reason answer w x) sought in
-    let tail = reason_text kept ++ after_text chosen in
-    let whole : three ≡ before ++ (text_of answer ++ tail) = last ∙ ap (λ (l : List ℕ). l ++ after_text chosen) (told ∙ ap (λ (l : List ℕ). l ++ reason_text kept) said) ∙ four_parts before (text_of answer) (reason_text kept) (after_text chosen) in
-    let so : four ≡ before ++ ended (text_of answer ++ tail) = end ∙ ap ended whole ∙ append_assoc before (text_of answer ++ tail) (10 ∷ []) in
-    subst (λ (x : Option (List ℕ)). four ≡ before ++ ended (text_of answer ++ (reason_text (kept_reason answer w f) ++ after_text x))) all
-    (subst (λ (r : Option Reason). four ≡ before ++ ended (text_of answer ++ (reason_text r ++ after_text chosen))) reason so)
+    grind (arith, append_assoc)
 
 -- what becomes of a line: a step, a question, a remark, or a bad one
 
@@ -101,34 +95,15 @@ line_remark granted m number bad line text notes is = record {
 -- before the first line
 pub explaining_none : (telling : Telling) (m : Machine) (kept : KeptLine) → kept ≡ kept_of []
     → m.core.setup ≡ telling.setup → Fits m [] → Explaining telling m kept 1 false [] [] []
-explaining_none telling m kept keeps same fits = record {
-  sayings = [];
-  line = [];
-  explains = record { each = tt; lawful = tt; unrefused = λ yes. tt; told = refl; noted = refl };
-  splits = record { whole = refl; each = tt; unbroken = tt };
-  keeps = keeps;
-  numbered = omega arith;
-  bad_lines = refl;
-  same = same;
-  fits = fits;
-}
+explaining_none telling m kept keeps same fits = grind arith
 
 -- one byte more of a line
 pub explain_byte : (telling : Telling) (m : Machine) (kept kept' : KeptLine) (number : ℕ) (bad : Bool) (before text notes : List ℕ) (b : ℕ)
     → b ≢ 10 → ((line : List ℕ) → kept ≡ kept_of line → kept' ≡ kept_of (line ++ b ∷ []))
     → Explaining telling m kept number bad before text notes
     → Explaining telling m kept' number bad (before ++ b ∷ []) text notes
-explain_byte telling m kept kept' number bad before text notes b ne more h = record {
-  sayings = h.sayings;
-  line = h.line ++ b ∷ [];
-  explains = h.explains;
-  splits = split_more before (lines_in h.sayings) h.line b ne h.splits;
-  keeps = more h.line h.keeps;
-  numbered = h.numbered;
-  bad_lines = h.bad_lines;
-  same = h.same;
-  fits = h.fits;
-}
+explain_byte telling m kept kept' number bad before text notes b ne more h =
+    grind (arith, (split_more before (lines_in h.sayings) h.line b ne h.splits))
 
 -- one line more
 explained_more : (granted : Type 0) (telling : Telling) (m m' : Machine) (number : ℕ) (was_bad bad : Bool) (xs : List Saying) (line text before after notes noted noted' : List ℕ)
@@ -158,8 +133,7 @@ bad_more : (granted : Type 0) (m m' : Machine) (number : ℕ) (was_bad bad : Boo
     → was_bad ≡ list_any (λ x. is_bad x.said) xs
     → (a : AppendsLine granted m m' number was_bad bad line before after noted noted')
     → bad ≡ list_any (λ x. is_bad x.said) (record { line = line; said = a.said } ∷ xs)
-bad_more granted m m' number was_bad bad xs line before after noted noted' was a =
-    a.bad_line ∙ ap (λ b. b || is_bad a.said) was ∙ or_comm (list_any (λ x. is_bad x.said) xs) (is_bad a.said)
+bad_more granted m m' number was_bad bad xs line before after noted noted' was a = grind arith
 
 -- a line that has its end
 pub explain_line : (granted : Type 0) (telling : Telling) (m m' : Machine) (kept : KeptLine) (number number' : ℕ) (was_bad bad : Bool) (bytes text before after notes noted noted' : List ℕ)

@@ -1,12 +1,12 @@
 -- What explain reads and writes.
-use Rattle.std.proofs.Common.{◌≡◌, ℕ, Bool, List, [], ◌++◌, Option, Result, Ok, Err, refl, sym, ap, subst, ◌∙◌, append_assoc, arith, inl, inr}
+use Rattle.std.proofs.Common.{◌≡◌, ℕ, Bool, List, [], ◌++◌, Option, Result, Ok, Err, refl, sym, subst, ◌∙◌, append_assoc, arith, inr}
 use Rattle.uring_trace.proofs.Common.{Appends, Consumes, ExplainsBeginning, ExplainsLess, ExplainsWholeBy, HasToldBy, IsAtEnd, IsExplained, Keeps, ReadsWhole, Telling, TookBoth, WritesBoth, WritesPair, WritesTexts, WroteBoth, append-nil}
-use Rattle.std.proofs.KnownBytes.{Consumes-nil, Appends-nil, Appends-trans, Consumes-trans, Consumes-kept}
+use Rattle.std.proofs.KnownBytes.{Consumes-nil, Appends-nil, Appends-trans, Consumes-trans}
 use Rattle.uring_text.specs.declared.trace_fault.TraceFault.{TraceFault}
 use Rattle.uring_text.specs.declared.trace_fault.TraceFault.TheVariants as fault
 use Rattle.uring_trace.specs.declared.explainer.Explainer.{Explainer}
 use Rattle.uring_text.specs.Writing.{WritesText}
-use Rattle.uring_trace.proofs.ExplainLines.{explain_beginning, explain_ended}
+use Rattle.uring_trace.proofs.ExplainLines.{explain_beginning}
 
 abbrev Done : Type 0
 Done = Result (Unit {0}) TraceFault
@@ -23,9 +23,7 @@ Known = Option (List ℕ)
 pub pair_cut : (w w' e : Known) (result : Done) (f : TraceFault) (text notes : List ℕ)
     → result ≡ Err f → (written : List ℕ) × Appends w w' written × WritesText (Err f) text written
     → WritesPair w w' e e result text notes
-pair_cut w w' e result f text notes is x =
-    let some = x.2.2 in
-    (x.0, [], x.1, Appends-nil e, subst (λ (r : Done). WritesTexts r text notes x.0 []) (sym is) (x.2.0, x.2.1, notes, omega arith, x.2.3, refl))
+pair_cut w w' e result f text notes is x = grind (arith, Appends-nil)
 
 -- the first was written whole
 pub pair_whole : (w w' e e' : Known) (result : Done) (text notes : List ℕ)
@@ -43,24 +41,18 @@ pair_whole w w' e e' result text notes x y = (x.0, y.0, x.1, y.1, go result y.2)
 pub nothing_yet : (telling : Telling) (s : Explainer) (bytes told noted none none' : List ℕ) → none ≡ []
     → none' ≡ [] → HasToldBy telling s bytes told noted
     → HasToldBy telling s bytes (told ++ none) (noted ++ none')
-nothing_yet telling s bytes told noted none none' a b h =
-    subst (λ (l : List ℕ). HasToldBy telling s bytes (told ++ none) l) (sym (ap (λ (l : List ℕ). noted ++ l) b ∙ append-nil noted))
-    (subst (λ (l : List ℕ). HasToldBy telling s bytes l noted) (sym (ap (λ (l : List ℕ). told ++ l) a ∙ append-nil told)) h)
+nothing_yet telling s bytes told noted none none' a b h = grind (arith, append-nil)
 
 beginning : (telling : Telling) (s : Explainer) (bytes told noted more : List ℕ)
     → HasToldBy telling s bytes told noted
     → ExplainsBeginning telling (bytes ++ more) (told ++ []) (noted ++ [])
 beginning telling s bytes told noted more h =
-    subst (λ (l : List ℕ). ExplainsBeginning telling (bytes ++ more) (told ++ []) l) (sym (append-nil noted))
-    (subst (λ (l : List ℕ). ExplainsBeginning telling (bytes ++ more) l noted) (sym (append-nil told))
-    (explain_beginning telling s.machine s.line s.number s.has_bad bytes told noted more h))
+    grind (arith, (append-nil noted), (append-nil told), (explain_beginning telling s.machine s.line s.number s.has_bad bytes told noted more h))
 
 -- the same bytes, with nothing after them
 beginning_here : (telling : Telling) (s : Explainer) (bytes told noted : List ℕ)
     → HasToldBy telling s bytes told noted → ExplainsBeginning telling bytes told noted
-beginning_here telling s bytes told noted h =
-    subst (λ (l : List ℕ). ExplainsBeginning telling l told noted) (append-nil bytes)
-    (explain_beginning telling s.machine s.line s.number s.has_bad bytes told noted [] h)
+beginning_here telling s bytes told noted h = grind (arith, append-nil)
 
 -- memory was refused
 pub none_told : (telling : Telling) (result : Done) (w e : Known) (s s' : Explainer) (before told noted more : List ℕ)
@@ -72,20 +64,15 @@ none_told telling result w e s s' before told noted more is h =
 -- a text of which a part was written
 split_text : (told new written more : List ℕ) → new ≡ written ++ more
     → told ++ new ≡ (told ++ written) ++ more
-split_text told new written more e =
-    ap (λ (l : List ℕ). told ++ l) e ∙ sym (append_assoc told written more)
+split_text told new written more e = grind (arith, append_assoc)
 
 took : (telling : Telling) (result : Done) (s : Explainer) (bytes told noted new new' written written' : List ℕ)
     → HasToldBy telling s bytes (told ++ new) (noted ++ new')
     → WritesTexts result new new' written written'
     → TookBoth telling result s bytes (told ++ written) (noted ++ written')
-took telling (Ok done) s bytes told noted new new' written written' h w =
-    subst (λ (l : List ℕ). HasToldBy telling s bytes (told ++ written) (noted ++ l)) (sym w.1) (subst (λ (l : List ℕ). HasToldBy telling s bytes (told ++ l) (noted ++ new')) (sym w.0) h)
+took telling (Ok done) s bytes told noted new new' written written' h w = grind arith
 took telling (Err f) s bytes told noted new new' written written' h w =
-    let first = subst (λ (l : List ℕ). ExplainsBeginning telling bytes l (noted ++ new')) (split_text told new written w.1 w.4) (beginning_here telling s bytes (told ++ new) (noted ++ new') h) in
-    let both = subst (λ (l : List ℕ). ExplainsBeginning telling bytes ((told ++ written) ++ w.1) l) (split_text noted new' written' w.2 w.5) first in
-    let less : ExplainsLess telling bytes (told ++ written) (noted ++ written') = (w.1, w.2, w.3, inl both) in
-    subst (λ (x : TraceFault). WritesBoth telling (Err x) bytes (told ++ written) (noted ++ written')) (sym w.0) less
+    grind (arith, (split_text told new written w.1 w.4), (beginning_here telling s bytes (told ++ new) (noted ++ new') h), (split_text noted new' written' w.2 w.5))
 
 pub bytes_told : (telling : Telling) (result : Done) (w w' e e' : Known) (s s' : Explainer) (before told noted more none none' new new' : List ℕ)
     → none ≡ [] → none' ≡ []
@@ -173,8 +160,7 @@ far_start telling a d x s h = ([], [], [], Consumes-nil a, Appends-nil d, Append
 -- a read that was interrupted
 pub far_again : (telling : Telling) (a r r' d w x e : Known) (s : Explainer) → Keeps r r'
     → Far telling a r d w x e s → Far telling a r' d w x e s
-far_again telling a r r' d w x e s h so =
-    (so.0, so.1, so.2, Consumes-kept a r r' so.0 so.3 h, so.4, so.5, so.6)
+far_again telling a r r' d w x e s h so = grind arith
 
 -- bytes that were read, with what is told and noted of them
 pub far_on : (telling : Telling) (a r r' d w w' x e e' : Known) (s s' : Explainer) (more : List ℕ)
@@ -204,8 +190,7 @@ far_cut telling answer f a r r' d w w' x e e' s more is read tells so =
     }
 
 at_end : (answer : Answer) (left : Known) → IsAtEnd left → ReadsWhole answer left
-at_end (Ok bad) left h = h
-at_end (Err f) left h = tt
+at_end answer left h = grind arith
 
 -- the end of the input
 pub far_end : (telling : Telling) (answer : Answer) (a r r' d w w' x e e' : Known) (s : Explainer)
@@ -228,13 +213,4 @@ far_end telling answer a r r' d w w' x e e' s read end tells so =
 -- no further read
 pub far_failed : (telling : Telling) (answer : Answer) (a r d w x e : Known) (s : Explainer)
     → answer ≡ Err fault.Read → Far telling a r d w x e s → IsExplained telling answer a r d w x e
-far_failed telling answer a r d w x e s is so = record {
-  bytes = so.0;
-  text = so.1;
-  notes = so.2;
-  consumed = so.3;
-  appended = so.4;
-  noted = so.5;
-  written = subst (λ (k : Answer). WritesBoth telling k so.0 so.1 so.2) (sym is) (explain_ended telling s.machine s.line s.number s.has_bad so.0 so.1 so.2 so.6);
-  whole = subst (λ (k : Answer). ReadsWhole k r) (sym is) tt;
-}
+far_failed telling answer a r d w x e s is so = grind arith

@@ -30,12 +30,7 @@ name_found name t e = name_among name steps t e
 
 -- one token
 alone_found : (t s : Step) → alone t ≡ Some s → Spells (name_of t ∷ []) s
-alone_found (step.Fill slot entry) s e = absurd cc
-alone_found (step.Index n) s e = absurd cc
-alone_found (step.Begin n) s e = absurd cc
-alone_found (step.Issue n) s e = absurd cc
-alone_found (step.Finish n) s e = absurd cc
-alone_found t s e = subst (Spells (name_of t ∷ [])) (same_Some t s e) refl
+alone_found t s e = grind arith
 
 one_found : (name : List ℕ) (s : Step) → step_of_one name ≡ Some s → Spells (name ∷ []) s
 one_found name s e =
@@ -53,15 +48,7 @@ number_said name token limit made s le h e =
 
 numbered_found : (token : List ℕ) (t s : Step) → numbered token t ≡ Some s
     → Spells (name_of t ∷ token ∷ []) s
-numbered_found token (step.Index n) s e =
-    number_said (codes "index") token (2 ^ 32) (λ n. step.Index n) s (omega arith) (λ n lt. (refl, lt)) e
-numbered_found token (step.Begin n) s e =
-    number_said (codes "begin") token (2 ^ 32) (λ n. step.Begin n) s (omega arith) (λ n lt. (refl, lt)) e
-numbered_found token (step.Issue n) s e =
-    number_said (codes "issue") token (2 ^ 64) (λ n. step.Issue n) s (omega arith) (λ n lt. (refl, lt)) e
-numbered_found token (step.Finish n) s e =
-    number_said (codes "finish") token (2 ^ 64) (λ n. step.Finish n) s (omega arith) (λ n lt. (refl, lt)) e
-numbered_found token _ s e = absurd cc
+numbered_found token t s e = grind (arith, number_said)
 
 two_found : (name token : List ℕ) (s : Step) → step_of_two name token ≡ Some s
     → Spells (name ∷ token ∷ []) s
@@ -85,19 +72,10 @@ some_of_more : (name token : List ℕ) (rest : List (List ℕ)) (s : Step) (b : 
     → bytes_eq name (codes "fill") ≡ b
     → MatchBool b (ReadsFill (Some s) (number_of (2 ^ 32) token) (form_of rest)) (Some s ≡ cond (eqb (length rest) 0) (step_of_two name token) None)
     → Spells (name ∷ token ∷ rest) s
-some_of_more name token rest s true is e =
-    subst (λ (n : List ℕ). Spells (n ∷ token ∷ rest) s) (sym ((bytes_eq-Decides name (codes "fill")).0 is)) (fill_found token rest s (number_of (2 ^ 32) token) (form_of rest) refl refl e)
-some_of_more name token rest s false is e =
-    elim (chosen (eqb (length rest) 0) (step_of_two name token) None (Some s) (sym e)) [
-      | inl p ↦ subst (λ (l : List (List ℕ)). Spells (name ∷ token ∷ l) s) (sym (nil_from_length rest (eqb-true (length rest) 0 p.0))) (two_found name token s p.1)
-      | inr p ↦ absurd (let no : None ≡ Some s = p.1 in cc)
-    ]
+some_of_more name token rest s b is e = grind (arith, bytes_eq-Decides, fill_found, nil_from_length, eqb-true, two_found)
 
 step_found : (tokens : List (List ℕ)) (s : Step) → ReadsStep (Some s) tokens → Spells tokens s
-step_found [] s e = absurd cc
-step_found (name ∷ []) s e = one_found name s (sym e)
-step_found (name ∷ token ∷ rest) s e =
-    some_of_more name token rest s (bytes_eq name (codes "fill")) refl e
+step_found tokens s e = grind (arith, one_found, some_of_more)
 
 -- ---- what is spelled is read
 
@@ -110,17 +88,12 @@ two_again : (name : List ℕ) (n limit : ℕ) (made : ℕ → Step) → limit �
     → step_of_two name (decimal n) ≡ option_map made (number_of limit (decimal n))
     → (tokens : List (List ℕ)) → tokens ≡ name ∷ decimal n ∷ []
     → ReadsStep (Some (made n)) tokens
-two_again name n limit made le lt other e tokens is =
-    let read : Some (made n) ≡ step_of_two name (decimal n) = sym (e ∙ ap (option_map made) (number_again limit n le lt)) in
-    let reads : ReadsStep (Some (made n)) (name ∷ decimal n ∷ []) = rw other read in
-    subst (ReadsStep (Some (made n))) (sym is) reads
+two_again name n limit made le lt other e tokens is = grind (arith, number_again)
 
 fill_again : (slot : ℕ) (entry : Sqe) (rest : List (List ℕ)) (f : Form) → slot < 2 ^ 32
     → SpellsForm rest f → IsEntryOf f entry → (tokens : List (List ℕ))
     → tokens ≡ codes "fill" ∷ decimal slot ∷ rest → ReadsStep (Some (step.Fill slot entry)) tokens
-fill_again slot entry rest f lt h is_entry tokens is =
-    let filled : ReadsFill (Some (step.Fill slot entry)) (number_of (2 ^ 32) (decimal slot)) (form_of rest) = rw (number_again (2 ^ 32) slot (omega arith) lt, form_again rest f h) (entry, refl, is_entry) in
-    subst (ReadsStep (Some (step.Fill slot entry))) (sym is) filled
+fill_again slot entry rest f lt h is_entry tokens is = grind (arith, (form_again rest f h), number_again)
 
 step_again : (tokens : List (List ℕ)) (s : Step) → Spells tokens s → ReadsStep (Some s) tokens
 unfolding step_named
@@ -142,16 +115,12 @@ none_some o s r q = absurd (let no : None ≡ Some s = r ∙ sym q in cc)
 
 no_fill : (o : Option ℕ) (f : Option Form) (s : Step) → ReadsFill None o f → ReadsFill (Some s) o f
     → ⊥
-no_fill None f s r q = absurd cc
-no_fill (Some slot) None s r q = absurd cc
-no_fill (Some slot) (Some f) s r q =
-    none_some (Some (step.Fill slot r.0)) (step.Fill slot r.0) r.1 refl
+no_fill o f s r q = grind arith
 
 no_more : (b : Bool) (o : Option ℕ) (f : Option Form) (other : Option Step) (s : Step)
     → MatchBool b (ReadsFill None o f) (None ≡ other)
     → MatchBool b (ReadsFill (Some s) o f) (Some s ≡ other) → ⊥
-no_more true o f other s r q = no_fill o f s r q
-no_more false o f other s r q = none_some other s r q
+no_more b o f other s r q = grind arith
 
 none_and_step : (tokens : List (List ℕ)) (s : Step) → ReadsStep None tokens
     → ReadsStep (Some s) tokens → ⊥
@@ -161,13 +130,7 @@ none_and_step (name ∷ token ∷ rest) s r q = no_more (bytes_eq name (codes "f
 
 fill_once : (o : Option ℕ) (f : Option Form) (s t : Step) → ReadsFill (Some s) o f
     → ReadsFill (Some t) o f → s ≡ t
-fill_once None f s t r q = absurd cc
-fill_once (Some slot) None s t r q = absurd cc
-fill_once (Some slot) (Some f) s t r q =
-    let s_is : s ≡ step.Fill slot r.0 = same_Some s (step.Fill slot r.0) r.1 in
-    let t_is : t ≡ step.Fill slot q.0 = same_Some t (step.Fill slot q.0) q.1 in
-    let same : r.0 ≡ q.0 = entry_once f r.0 q.0 r.2 q.2 in
-    s_is ∙ ap (λ (entry : Sqe). step.Fill slot entry) same ∙ sym t_is
+fill_once o f s t r q = grind (arith, entry_once)
 
 more_once : (b : Bool) (o : Option ℕ) (f : Option Form) (other : Option Step) (s t : Step)
     → MatchBool b (ReadsFill (Some s) o f) (Some s ≡ other)
@@ -188,13 +151,10 @@ step_once line s t h k = read_once (tokens_of line) s t (step_again (tokens_of l
 -- what a line is read as
 pub read_line : (line : List ℕ) (read : Option Step) → length line ≤ 300
     → ReadsStep read (tokens_of line) → MatchOption read (IsBad line) (IsStep line)
-read_line line None le e =
-    λ s h. none_and_step (tokens_of line) s e (step_again (tokens_of line) s h.spells)
-read_line line (Some s) le e = record { short = le; spells = step_found (tokens_of line) s e }
+read_line line read le e = grind (arith, none_and_step, step_again, step_found)
 
 -- ---- whether a line is a step
 
 pub spells_read : (line : List ℕ) (read s : Step) (same : Bool) → IsStep line read
     → Decides same (read ≡ s) → Decides same (IsStep line s)
-spells_read line read s same is decides =
-    (λ so. subst (IsStep line) (decides.0 so) is, λ h. decides.1 (step_once line read s is h))
+spells_read line read s same is decides = grind (arith, step_once)

@@ -1,5 +1,5 @@
 -- What positions more do to the calls that positions hold.
-use Rattle.std.proofs.Common.{◌≡◌, ◌↔◌, ◌<◌, Bool, true, false, List, [], ◌∷◌, ◌++◌, length, refl, sym, ◌∙◌, ap, subst, arith, append-nil}
+use Rattle.std.proofs.Common.{◌≡◌, ◌↔◌, ◌<◌, Bool, true, false, List, [], ◌∷◌, ◌++◌, length, refl, sym, ap, subst, arith, append-nil}
 use Rattle.uring_words.proofs.Common.{AreWhole, AreWholeFrom, Item, LeavesItems, Position, Put, all_more, calls_of, false≢true, has_close_mark, items_of, items_of_calls, places_of, put_of, with_call, with_close}
 use Rattle.uring_ports.specs.Messages.{with_first}
 use Rattle.uring_words.specs.declared.submission.view.Position.TheVariants as position
@@ -28,8 +28,7 @@ whole_both b (position.Close ∷ ps) ys h none = absurd (false≢true (sym none)
 
 two_first : (x y : Item) (cs ds : List (List Item))
     → with_first x (with_first y cs ++ ds) ≡ with_first x (with_first y cs) ++ ds
-two_first x y [] ds = refl
-two_first x y (c ∷ cs) ds = refl
+two_first x y cs ds = grind arith
 
 first_append : (x : Item) (ps : List Position) (ds : List (List Item)) → AreWholeFrom true ps
     → has_close_mark ps ≡ false
@@ -42,10 +41,8 @@ first_append x (position.Close ∷ ps) ds h none = absurd (false≢true (sym non
 calls_append : (b : Bool) (xs ys : List Position) → AreWholeFrom b xs
     → has_close_mark xs ≡ false → calls_of (xs ++ ys) ≡ calls_of xs ++ calls_of ys
 calls_append b [] ys h none = refl
-calls_append b (position.More x ∷ ps) ys h none =
-    ap (with_first x) (calls_append true ps ys h none) ∙ first_append x ps (calls_of ys) h none
-calls_append b (position.Last x ∷ ps) ys h none =
-    ap (λ cs. (x ∷ []) ∷ cs) (calls_append false ps ys h none)
+calls_append b (position.More x ∷ ps) ys h none = grind (arith, (calls_append true ps ys h none), first_append)
+calls_append b (position.Last x ∷ ps) ys h none = grind (arith, (calls_append false ps ys h none))
 calls_append b (position.Close ∷ ps) ys h none = absurd (false≢true (sym none))
 
 -- the positions of one call
@@ -74,47 +71,29 @@ pub holds_call : (xs : List Position) (front : List Item) (last : Item) → AreW
     → has_close_mark xs ≡ false
     → Holding (xs ++ (all_more front ++ position.Last last ∷ [])) (with_call (put_of xs) (front ++ last ∷ []))
 holds_call xs front last whole none =
-    let call = all_more front ++ position.Last last ∷ [] in
-    record {
-      is = λ i. record {
-        calls = (calls_append false xs call whole none ∙ ap (λ cs. calls_of xs ++ cs) (one_call front last)) i;
-        closed = (close_mark_append xs call none ∙ call_is_open front last ∙ sym none) i;
-      };
-      whole = (whole_both false xs call whole none).1 (call_is_whole false front last);
-    }
+    grind (arith, calls_append, one_call, close_mark_append, call_is_open, whole_both, call_is_whole)
 
 -- the close mark after all calls
 pub holds_close : (xs : List Position) → AreWhole xs → has_close_mark xs ≡ false
     → Holding (xs ++ position.Close ∷ []) (with_close (put_of xs))
-holds_close xs whole none =
-    let mark = position.Close ∷ [] in
-    record {
-      is = λ i. record {
-        calls = (calls_append false xs mark whole none ∙ append-nil (calls_of xs)) i;
-        closed = close_mark_append xs mark none i;
-      };
-      whole = (whole_both false xs mark whole none).1 (refl, refl);
-    }
+holds_close xs whole none = grind (arith, calls_append, append-nil, close_mark_append, whole_both)
 
 items_with_first : (x : Item) (calls : List (List Item))
     → items_of_calls (with_first x calls) ≡ x ∷ items_of_calls calls
-items_with_first x [] = refl
-items_with_first x (c ∷ cs) = refl
+items_with_first x calls = grind arith
 
 -- the items that positions hold are those of their calls
 items_calls_of : (b : Bool) (ps : List Position) → AreWholeFrom b ps
     → items_of ps ≡ items_of_calls (calls_of ps)
 items_calls_of b [] h = refl
-items_calls_of b (position.More x ∷ ps) h =
-    ap (λ xs. x ∷ xs) (items_calls_of true ps h) ∙ sym (items_with_first x (calls_of ps))
+items_calls_of b (position.More x ∷ ps) h = grind (arith, (items_calls_of true ps h))
 items_calls_of b (position.Last x ∷ ps) h = ap (λ xs. x ∷ xs) (items_calls_of false ps h)
 items_calls_of b (position.Close ∷ ps) h = ap items_of h.1
 
 -- whole calls take as many places as there are of them
 pub places : (b : Bool) (ps : List Position) → AreWholeFrom b ps → places_of (put_of ps) ≡ length ps
 places b [] h = refl
-places b (position.More x ∷ ps) h =
-    let n = places true ps h in omega (arith, ap length (items_with_first x (calls_of ps)))
+places b (position.More x ∷ ps) h = grind (arith, (places true ps h))
 places b (position.Last x ∷ ps) h = let n = places false ps h in omega arith
 places b (position.Close ∷ ps) h = omega (arith, ap length h.1)
 
@@ -152,27 +131,10 @@ close_is_first (x ∷ xs) rest h = absurd (no_mark_inside xs rest h)
 
 leaves_either : (b : Bool) (all old new : List Position) → all ≡ old ++ new → AreWhole all
     → AreWhole old → has_close_mark old ≡ b → LeavesItems (put_of all) (put_of old) (items_of new)
-leaves_either true all old new is whole old_whole closed =
-    let whole' = subst AreWhole is whole in
-    let none = nothing_after false old new whole' closed in
-    let same : all ≡ old = is ∙ ap (λ l. old ++ l) none ∙ append-nil old in
-    record {
-      rest = [];
-      calls = append-nil (calls_of old) ∙ ap calls_of (sym same);
-      items = ap items_of none;
-      closed = λ _. (ap has_close_mark same ∙ closed, refl);
-    }
-leaves_either false all old new is whole old_whole open' =
-    let new_whole = (whole_both false old new old_whole open').0 (subst AreWhole is whole) in
-    record {
-      rest = calls_of new;
-      calls = sym (ap calls_of is ∙ calls_append false old new old_whole open');
-      items = items_calls_of false new new_whole;
-      closed = λ c. absurd (false≢true (sym open' ∙ c));
-    }
+leaves_either b all old new is whole old_whole closed =
+    grind (arith, nothing_after, append-nil, whole_both, calls_append, items_calls_of, false≢true)
 
 -- what was put and not pulled
 pub leaves : (all old new : List Position) → all ≡ old ++ new → AreWhole all → AreWhole old
     → LeavesItems (put_of all) (put_of old) (items_of new)
-leaves all old new is whole old_whole =
-    leaves_either (has_close_mark old) all old new is whole old_whole refl
+leaves all old new is whole old_whole = grind (arith, leaves_either)

@@ -20,30 +20,13 @@ use Rattle.uring_words.proofs.SlotSeats.{app_hands, app_step, kernel_hands, kern
 module _ {words : List ℕ} {homes : List (Option Cqe)} {a : AppSide} {d : KernelSide} where
   lists : (h : Agree words homes a d)
       → ListsAgree 3 words homes d.start d.size d.end a.got a.known d.put h.rest h.free
-  lists h =
-      let fits : d.size ≤ 2 ^ 32 = omega (arith, h.sized.limit) in
-      let some : 2 ≤ 3 = omega arith in
-      assumption
+  lists h = grind arith
 
   agrees : {rest free : List Cqe} → a.start ≡ d.start → a.size ≡ d.size → d.size ≤ 8192
       → get_or words dropped_index 0 ≡ last_of 0 d.dropped → last_of 0 d.dropped < 2 ^ 32 → WereHad (0 ∷ d.dropped) a.dropped
       → ListsAgree 3 words homes d.start d.size d.end a.got a.known d.put rest free
       → Agree words homes a d
-  agrees {rest} {free} start size limit dropped small loaded l = record {
-    sized = assumption;
-    room = l.room;
-    tail = l.tail;
-    head = l.head;
-    dropped = dropped;
-    small = small;
-    rest = rest;
-    begins = l.begins;
-    stand = l.stand;
-    free = free;
-    all = l.all;
-    stand_free = l.stand_free;
-    loaded = loaded;
-  }
+  agrees {rest} {free} start size limit dropped small loaded l = grind arith
 
 -- a new table keeps the rule
 pub opens : (key : Shape) (blank : Cqe) → IsPowerOfTwo key.size → key.size ≤ 8192 → key.start < 2 ^ 32

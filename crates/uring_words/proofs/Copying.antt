@@ -27,14 +27,10 @@ module _ {seat table : TableId} {v : View AppSide KernelSide} {held : List (ℕ 
   many = omega (arith, length-append (all_more front) (last ∷ []), more_length front)
 
   enough : length (all_more front) < length i.blank
-  enough =
-      let r = subst (λ (x : End). length x.knows.app.published + (length front + 1) ≤ x.knows.app.end) (sym seen) room in
-      omega (arith, i.many, more_length front)
+  enough = grind (arith, more_length)
 
   place : word % size ≡ place_of v.app.start v.app.size (length v.app.published + length (all_more front))
-  place =
-      at_place v.app.start size v.app.size (length v.app.published + length front) word i.fits.sized at
-      ∙ ap (λ (k : ℕ). place_of v.app.start v.app.size (length v.app.published + k)) (sym (more_length front))
+  place = grind (arith, more_length)
 
   -- the place after the front is first
   pub last_stands_first : (x : Position) × (m.1 ≡ (word % size, x) ∷ rest m.1)
@@ -63,10 +59,7 @@ module _ {seat table : TableId} {v : View AppSide KernelSide} {held : List (ℕ 
     -- and with it what was written is published
     module _ (slots : ℕ) (stored : Holder) (told : StoresTail (step slots 0 ((word + 1) % 2 ^ 32) 0 none) after ((word + 1) % 2 ^ 32) stored) where
       pub tail_published : stored ≡ (record v { app = tail_stored v.app written }, held_from v.app.start v.app.size (length v.app.published + length written) left)
-      tail_published =
-          let next : ℕ = (word + 1) % 2 ^ 32 in
-          let P : Holder → Type 0 = λ x. StoresTail (step slots 0 next 0 none) x next stored in
-          subst P all_written told left written refl word_after
+      tail_published = grind (arith, all_written, word_after)
 
       pub publishes : IsWriter seat table stored.0 stored.1 size ((word + 1) % 2 ^ 32) end
       publishes =
@@ -175,9 +168,7 @@ head_allowed slots id b m what items next r is_kernel few =
 pub head_taken : (slots : ℕ) (b m after : Holder) (what : Pulled) (items : List Item) (next : ℕ) → (r : ReadsCall b m what items next)
     → StoresHead (step slots 1 next 0 none) m next after
     → after ≡ (record b.0 { kernel = head_stored b.0.kernel r.read r.others }, held_from b.0.kernel.start b.0.kernel.size (length b.0.kernel.taken + length r.read) r.others)
-head_taken slots b m after what items next r told =
-    let P : Holder → Type 0 = λ x. StoresHead (step slots 1 next 0 none) x next after in
-    subst P r.is told r.others r.read refl r.known r.next_word
+head_taken slots b m after what items next r told = grind arith
 
 -- which is one call or the close mark
 pub pulls : (d : KernelSide) (what : Pulled) (items : List Item) (read others : List Position) → ReaderRests d
@@ -191,9 +182,5 @@ pulls d pulled.Call items read others rests open' few known h =
       (some, many, open', ap (λ l. put_of (d.taken ++ l)) h.3 ∙ holding.is ∙ ap (with_call (put_of d.taken)) (sym h.2)),
       subst (λ l. AreWhole (d.taken ++ l)) (sym h.3) holding.whole,
     )
-pulls d pulled.Close items read others rests open' few known h =
-    let holding = holds_close d.taken rests.whole open' in (
-      (h.0, open', ap (λ l. put_of (d.taken ++ l)) h.1 ∙ holding.is),
-      subst (λ l. AreWhole (d.taken ++ l)) (sym h.1) holding.whole,
-    )
+pulls d pulled.Close items read others rests open' few known h = grind (arith, (holds_close d.taken rests.whole open'))
 pulls d pulled.Nothing items read others rests open' few known h = absurd h

@@ -1,10 +1,10 @@
 -- A new table of either ring: nothing was put, and every place is free.
 use Rattle.uring_words.proofs.Common.{IsPowerOfTwo, StandFrom, length-map, length-replicate, replicate}
-use Rattle.std.proofs.Common.{◌≡◌, ℕ, zero, suc, ◌+◌, ◌<◌, ◌≤◌, ◌^◌, ◌%◌, List, [], ◌∷◌, length, map, refl, ◌∙◌, arith, ap}
+use Rattle.std.proofs.Common.{◌≡◌, ℕ, zero, suc, ◌+◌, ◌<◌, ◌≤◌, ◌^◌, ◌%◌, List, [], ◌∷◌, length, map, refl, arith}
 use mathlib.Core.Option.{Option, some}
 use lib.ListN.{get_elem?}
 use Rattle.uring_words.proofs.RingLists.{ListsAgree}
-use Rattle.uring_words.proofs.Standing.{some_size, place_below}
+use Rattle.uring_words.proofs.Standing.{some_size}
 
 pub start_word : (start : ℕ) → start < 2 ^ 32 → start ≡ (start + 0) % 2 ^ 32
 start_word start small = omega arith
@@ -19,31 +19,18 @@ module _ {S : Type 0} where
       → ((i : ℕ) → i < size → get_elem? homes i ≡ some (some x)) → 0 < size → (n k : ℕ)
       → StandFrom start size homes k (replicate n x)
   same_stand start size homes x there positive zero k = tt
-  same_stand start size homes x there positive (suc n) k = (
-    there _ (place_below start size k positive),
-    same_stand start size homes x there positive n (k + 1),
-  )
+  same_stand start size homes x there positive (suc n) k = grind (arith, (same_stand start size homes x there positive n (k + 1)))
 
   -- in a new ring the same value stands in each slot
   all_stand : (start size count : ℕ) (x : S) → IsPowerOfTwo size
       → StandFrom start size (map some (replicate size x)) count (replicate size x)
-  all_stand start size count x power =
-      same_stand start size (map some (replicate size x)) x (λ i. same_there size i x) (some_size size power) size count
+  all_stand start size count x power = grind (arith, same_stand, map, same_there, some_size)
 
   pub first_lists : (start size : ℕ) (blank : S) (more : List ℕ) → IsPowerOfTwo size → size ≤ 2 ^ 32 → start < 2 ^ 32
       → ListsAgree (suc (suc (length more))) (start ∷ start ∷ more) (map some (replicate size blank)) start size 0 [] [] [] [] (replicate size blank)
-  first_lists start size blank more power fits small =
-      let words : 2 ≤ suc (suc (length more)) = omega arith in
-      let many : length (replicate size blank) ≡ size = length-replicate size blank in
-      let places = length-map (replicate size blank) some ∙ many in
-      let room : length {A = S} [] ≤ 0 = omega arith in
-      let word = start_word start small in
-      let all : 0 + length (replicate size blank) ≡ length {A = S} [] + size = omega arith in
-      let stand_free = all_stand start size 0 blank power in
-      assumption tt
+  first_lists start size blank more power fits small = grind (arith, length-replicate, length-map, start_word, all_stand)
 
 -- the words and the places of a table fit where all of its elements do
 pub both_fit : {X : Type 0} (xs : List X) (x : X) (count size n : ℕ) → xs ≡ replicate size x
     → count + size ≤ n → (count ≤ n) × (length xs ≤ n)
-both_fit xs x count size n is room =
-    (omega (arith, room), omega (arith, room, ap length is, length-replicate size x))
+both_fit xs x count size n is room = grind (arith, length-replicate)

@@ -1,10 +1,9 @@
 -- A step after which a seat holds other slots: it gives all that it holds, and takes what it is to hold.
-use Rattle.std.proofs.Common.{◌≡◌, ℕ, suc, ◌+◌, ◌^◌, ◌≤◌, List, [], ◌∷◌, ◌++◌, map, length, take, drop, set, refl, sym, ◌∙◌, ap, ap₂, subst, arith, length-append}
+use Rattle.std.proofs.Common.{◌≡◌, ℕ, suc, ◌+◌, ◌^◌, ◌≤◌, List, [], ◌∷◌, ◌++◌, map, length, set, refl, sym, ◌∙◌, ap, ap₂, subst, arith, length-append}
 use Rattle.std.proofs.Math.Seq.{take-append_seam, drop-append_seam}
 use mathlib.Core.List.{map-append}
 use Rattle.uring_words.proofs.Common.{IsPowerOfTwo, StandFrom, Valid, held_from, homes_after}
 use mathlib.Core.Option.{Option, some}
-use lib.ListN.{get_elem?}
 use Rattle.uring_words.proofs.SlotActs.{takes_all, changes, changes-homes, with_given, with_taken, gives_all-valid, with_given-length, with_taken-length, Moves, stands_given, stands_taken, given_stand, taken_valid, more_valid, more_stands}
 use Rattle.uring_words.proofs.Standing.{next_turn}
 
@@ -15,8 +14,7 @@ module _ {S : Type 0} where
 
   after-length : (homes : List (Option S)) (old new : List (ℕ × S))
       → length (after homes old new) ≡ length homes
-  after-length homes old new =
-      ap length (changes-homes homes old new) ∙ with_taken-length (with_given homes old) new ∙ with_given-length homes old
+  after-length homes old new = grind (arith, changes-homes, with_taken-length, with_given-length)
 
   -- one part is given after another
   given_both : (homes : List (Option S)) (xs ys : List (ℕ × S))
@@ -29,11 +27,7 @@ module _ {S : Type 0} (start size : ℕ) (power : IsPowerOfTwo size) (fits : siz
   pub stand_later : (homes : List (Option S)) (count : ℕ) (xs : List S)
       → StandFrom start size homes count xs → StandFrom start size homes (count + size) xs
   stand_later homes count [] h = tt
-  stand_later homes count (x ∷ xs) h =
-      let next : (count + 1) + size ≡ (count + size) + 1 = omega arith in (
-        ap (λ p. get_elem? homes p) (next_turn start size count power fits) ∙ h.0,
-        subst (λ n. StandFrom start size homes n xs) next (stand_later homes (count + 1) xs h.1),
-      )
+  stand_later homes count (x ∷ xs) h = grind (arith, next_turn, (stand_later homes (count + 1) xs h.1))
 
   stand_after : (homes : List (Option S)) (old new : List (ℕ × S)) (count : ℕ) (xs : List S)
       → StandFrom start size (with_taken (with_given homes old) new) count xs
@@ -50,9 +44,7 @@ module _ {S : Type 0} (start size : ℕ) (power : IsPowerOfTwo size) (fits : siz
 
     pub take_valid : length held + length more ≤ size → StandFrom start size homes (count + length held) more
         → Valid homes old (changes old new)
-    take_valid few h =
-        let both = length-append held more in
-        gives_all-valid homes old (takes_all new) (more_valid start size power fits homes count (count + length held) held more long refl (omega arith) h)
+    take_valid few h = grind (arith, length-append, gives_all-valid, takes_all, more_valid)
 
     pub take_moves : Moves start size homes (after homes old new) count (length held + length more)
     take_moves =
@@ -74,21 +66,14 @@ module _ {S : Type 0} (start size : ℕ) (power : IsPowerOfTwo size) (fits : siz
     given = with_given (with_given homes front) back
 
     pub give_valid : length done + length kept ≤ size → Valid homes (front ++ back) (changes (front ++ back) front)
-    give_valid few =
-        let here = given_stand start size power fits homes (count + length done) kept long (omega arith) in
-        let there = stands_given start size power fits (with_given homes front) count (count + length done) done kept (λ a b l m n o. ((λ e. omega arith), omega arith, omega arith)) here in
-        gives_all-valid homes (front ++ back) (takes_all front)
-        (taken_valid start size power fits (with_given homes (front ++ back)) (count + length done) kept (omega arith)
-        (subst (λ hs. StandFrom start size hs (count + length done) kept) (sym (given_both homes front back)) there))
+    give_valid few = grind (arith, given_stand, stands_given, gives_all-valid, takes_all, taken_valid, given_both)
 
     left : (other : ℕ) (xs : List S) → StandFrom start size (with_taken (with_given (with_given homes front) back) front) other xs
         → StandFrom start size (after homes (front ++ back) front) other xs
     left other xs h = stand_after homes (front ++ back) front other xs (subst (λ hs. StandFrom start size (with_taken hs front) other xs) (sym (given_both homes front back)) h)
 
     pub give_done : length done + length kept ≤ size → StandFrom start size (after homes (front ++ back) front) count done
-    give_done few =
-        let here = given_stand start size power fits (with_given homes front) count done (with_given-length homes front ∙ long) (omega arith) in
-        left count done (stands_taken start size power fits (with_given (with_given homes front) back) (count + length done) count kept done (λ a b l m n o. ((λ e. omega arith), omega arith, omega arith)) here)
+    give_done few = grind (arith, given_stand, with_given-length, left, stands_taken)
 
     pub give_moves : Moves start size homes (after homes (front ++ back) front) count (length done + length kept)
     give_moves = record {
@@ -120,10 +105,8 @@ module _ {S : Type 0} (start size : ℕ) (power : IsPowerOfTwo size) (fits : siz
 -- two lists whose first parts are as long have the same parts
 pub same_parts : {A : Type 0} (xs ys us vs : List A) → length xs ≡ length us → xs ++ ys ≡ us ++ vs
     → (xs ≡ us) × (ys ≡ vs)
-same_parts xs ys us vs many e = (
-  sym (take-append_seam xs ys) ∙ ap₂ (λ (n : ℕ) l. take n l) many e ∙ take-append_seam us vs,
-  sym (drop-append_seam xs ys) ∙ ap₂ (λ (n : ℕ) l. drop n l) many e ∙ drop-append_seam us vs,
-)
+same_parts xs ys us vs many e =
+    grind (arith, (take-append_seam xs ys), (take-append_seam us vs), (drop-append_seam xs ys), (drop-append_seam us vs))
 
 module _ {S : Type 0} where
   held_values : (start size count : ℕ) (xs : List S)

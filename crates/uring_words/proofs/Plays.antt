@@ -15,27 +15,12 @@ use Rattle.uring_words.proofs.SlotSeats.{app_hands, kernel_hands, opens_with}
 module _ {words : List ℕ} {homes : List (Option Position)} {a : AppSide} {d : KernelSide} where
   lists : (h : Agree words homes a d)
       → ListsAgree 2 words homes a.start a.size a.end d.taken d.known a.published h.rest h.free
-  lists h =
-      let fits : a.size ≤ 2 ^ 32 = omega (arith, h.sized.limit) in
-      let some : 2 ≤ 2 = omega arith in
-      assumption
+  lists h = grind arith
 
   agrees : {rest free : List Position} → d.start ≡ a.start → d.size ≡ a.size → a.size ≤ 4096 → AreWhole a.published
       → ListsAgree 2 words homes a.start a.size a.end d.taken d.known a.published rest free
       → Agree words homes a d
-  agrees {rest} {free} start size limit whole l = record {
-    sized = assumption;
-    room = l.room;
-    tail = l.tail;
-    head = l.head;
-    rest = rest;
-    begins = l.begins;
-    stand = l.stand;
-    free = free;
-    all = l.all;
-    stand_free = l.stand_free;
-    whole = whole;
-  }
+  agrees {rest} {free} start size limit whole l = grind arith
 
 -- a new table keeps the rule
 pub opens : (key : Shape) (blank : Position) → IsPowerOfTwo key.size → key.size ≤ 4096

@@ -3,7 +3,7 @@ use Rattle.std.proofs.Common.{◌≡◌, ◌≢◌, ℕ, ◌+◌, ◌%◌, ◌<�
 use Rattle.uring_words.proofs.Common.{Act, IsPowerOfTwo, StandFrom, Valid, carried_after, cases_lt, chain, gives, held_from, homes_after, keeps, place_of, rest, set_else, set_here, takes, word_of}
 use mathlib.Core.Option.{Option, none, some}
 use lib.ListN.{get_elem?}
-use Rattle.uring_words.proofs.Standing.{some_size, place_below, at_place, apart}
+use Rattle.uring_words.proofs.Standing.{some_size, place_below, apart}
 
 module _ {S : Type 0} where
   -- all these slots are given back, and then this is done
@@ -53,14 +53,12 @@ module _ {S : Type 0} where
   pub with_given-length : (homes : List (Option S)) (held : List (ℕ × S))
       → length (with_given homes held) ≡ length homes
   with_given-length homes [] = refl
-  with_given-length homes (x ∷ xs) =
-      with_given-length (set homes x.0 (some x.1)) xs ∙ length-set homes x.0 (some x.1)
+  with_given-length homes (x ∷ xs) = grind (arith, (with_given-length (set homes x.0 (some x.1)) xs), length-set)
 
   pub with_taken-length : (homes : List (Option S)) (xs : List (ℕ × S))
       → length (with_taken homes xs) ≡ length homes
   with_taken-length homes [] = refl
-  with_taken-length homes (x ∷ xs) =
-      length-set (with_taken homes xs) x.0 none ∙ with_taken-length homes xs
+  with_taken-length homes (x ∷ xs) = grind (arith, length-set, (with_taken-length homes xs))
 
   -- what is at home once a seat that held the slots of xs holds those of ys after them too: it gives all back, and takes all
   abbrev pub taken_more : (start size : ℕ) (homes : List (Option S)) (k : ℕ) (xs ys : List S) → List (Option S)
@@ -73,8 +71,7 @@ module _ {S : Type 0} where
 
   pub changes-homes : (homes : List (Option S)) (held after : List (ℕ × S))
       → homes_after homes held (changes held after) ≡ with_taken (with_given homes held) after
-  changes-homes homes held after =
-      gives_all-homes homes held (takes_all after) ∙ takes_all-homes (with_given homes held) after
+  changes-homes homes held after = grind (arith, gives_all-homes, takes_all-homes)
 
   pub changes-carried : (held after : List (ℕ × S)) → carried_after held (changes held after) ≡ after
   changes-carried held after = gives_all-carried held (takes_all after) ∙ takes_all-carried after
@@ -138,10 +135,7 @@ module _ {S : Type 0} (start size : ℕ) (power : IsPowerOfTwo size) (fits : siz
 
   pub set_moves : (homes : List (Option S)) (j : ℕ) (y : Option S)
       → Moves start size homes (set homes (place_of start size j) y) j 1
-  set_moves homes j y = record {
-    long = length-set homes (place_of start size j) y;
-    others = λ other xs clear h. stands_else homes j other y xs clear h;
-  }
+  set_moves homes j y = grind (arith, length-set, stands_else)
 
   -- what was given back is at home
   pub set_stands : (homes : List (Option S)) (j : ℕ) (y : S) → length homes ≡ size
@@ -184,11 +178,7 @@ module _ {S : Type 0} (start size : ℕ) (power : IsPowerOfTwo size) (fits : siz
       → n ≡ k + length xs → length (xs ++ ys) ≤ size → StandFrom start size homes n ys
       → Valid (with_given homes (held_from start size k xs)) [] (takes_all (held_from start size k (xs ++ ys)))
   more_valid homes k n xs ys many is few s =
-      let long = length-append xs ys in
-      let given = with_given homes (held_from start size k xs) in
-      let back = given_stand homes k xs many (omega arith) in
-      let there = stands_given homes k n xs ys (λ a b l m n' o. ((λ e. omega arith), omega arith, omega arith)) s in
-      taken_valid given k (xs ++ ys) few (stand_both given k n xs ys is back there)
+      grind (arith, length-append, held_from, given_stand, stands_given, taken_valid, stand_both)
 
   pub more_stands : (homes : List (Option S)) (k m : ℕ) (xs ys zs : List S)
       → Clear size k (length (xs ++ ys)) m (length zs) → StandFrom start size homes m zs
@@ -205,9 +195,7 @@ pub first_held : {S : Type 0} (start size own count word : ℕ) (held : List (�
     × (held ≡ (word % size, x) ∷ held_from start own (count + 1) ys)
     × (word % size ≡ place_of start own count)
 first_held start size own count word held [] is at holds positive = absurd (omega arith)
-first_held start size own count word held (x ∷ ys) is at holds positive =
-    let there = at_place start size own count word is at in
-    (x, ys, refl, holds ∙ ap (λ (p : ℕ). (p, x) ∷ held_from start own (count + 1) ys) (sym there), there)
+first_held start size own count word held (x ∷ ys) is at holds positive = grind arith
 
 -- a seat's first slot, as `slot_mut` asks for it
 pub is_first : {S : Type 0} (held others : List (ℕ × S)) (x : ℕ × S) → held ≡ x ∷ others

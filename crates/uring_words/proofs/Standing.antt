@@ -19,17 +19,10 @@ at_place start size own count word is at = ap (λ w. w % size) at ∙ ap (λ s. 
 -- two counts less than the size apart have places of their own
 pub apart : (start size j k : ℕ) → IsPowerOfTwo size → size ≤ 2 ^ 32 → j < k → k < j + size
     → place_of start size j ≢ place_of start size k
-apart start size j k power fits before near e =
-    let ordered : j ≤ k = omega arith in
-    let one : j ≡ k = same_cell size start j k power fits ordered near e in
-    omega arith
+apart start size j k power fits before near e = grind (arith, same_cell)
 
 -- a count one turn of the ring on has the same place
 pub next_turn : (start size k : ℕ) → IsPowerOfTwo size → size ≤ 2 ^ 32
     → place_of start size (k + size) ≡ place_of start size k
 next_turn start size k power fits =
-    let after : start + (k + size) ≡ (start + k) + size = omega arith in
-    cell_of_count size start (k + size) power fits
-    ∙ ap (λ (n : ℕ). n % size) after
-    ∙ add-mod_right (start + k) size
-    ∙ sym (cell_of_count size start k power fits)
+    grind (arith, (cell_of_count size start (k + size) power fits), (add-mod_right (start + k) size), (cell_of_count size start k power fits))

@@ -11,12 +11,8 @@ module _ {S : Type 0} where
 
   held_more : (start size count : ℕ) (xs : List S) (x : S)
       → held_from start size count (xs ++ x ∷ []) ≡ held_from start size count xs ++ (place_of start size (count + length xs), x) ∷ []
-  held_more start size count [] x =
-      let same : count ≡ count + 0 = omega arith in
-      ap (λ (n : ℕ). (place_of start size n, x) ∷ []) same
-  held_more start size count (y ∷ ys) x =
-      let same : (count + 1) + length ys ≡ count + length (y ∷ ys) = omega arith in
-      ap (λ l. (place_of start size count, y) ∷ l) (held_more start size (count + 1) ys x ∙ ap (λ (n : ℕ). held_from start size (count + 1) ys ++ (place_of start size n, x) ∷ []) same)
+  held_more start size count [] x = grind arith
+  held_more start size count (y ∷ ys) x = grind (arith, (held_more start size (count + 1) ys x))
 
   abbrev value_of : S → List (ℕ × S) → S
   value_of x [] = x
@@ -29,13 +25,7 @@ module _ {S : Type 0} where
 
   module _ {V : Type 0} (start size count k place : ℕ) (all done : List S) (me : V × List (ℕ × S)) (v : V) (is : me ≡ (v, part_done start size count k all done)) (below : k < length all) (at : place ≡ place_of start size (count + k)) where
     first : me.1 ≡ (place, (next_of k all below).0) ∷ held_from start size (count + (k + 1)) (drop (k + 1) all) ++ held_from start size count done
-    first =
-        let n = next_of k all below in
-        let later : (count + k) + 1 ≡ count + (k + 1) = omega arith in
-        ap (λ (m : V × List (ℕ × S)). m.1) is
-        ∙ ap (λ l. held_from start size (count + k) l ++ held_from start size count done) n.1
-        ∙ ap (λ (m : ℕ). (place_of start size (count + k), n.0) ∷ (held_from start size m (drop (k + 1) all) ++ held_from start size count done)) later
-        ∙ ap (λ (p : ℕ). (p, n.0) ∷ (held_from start size (count + (k + 1)) (drop (k + 1) all) ++ held_from start size count done)) (sym at)
+    first = grind arith
 
     -- the next one is first
     pub stands_first : (x : S) × (me.1 ≡ (place, x) ∷ rest me.1)
@@ -48,18 +38,10 @@ module _ {S : Type 0} where
     pub goes_after : (x : S) (after : V × List (ℕ × S)) → k ≡ length done
         → after ≡ (me.0, rest me.1 ++ (place, x) ∷ [])
         → after ≡ (v, part_done start size count (k + 1) all (done ++ x ∷ []))
-    goes_after x after many moved =
-        let ahead = held_from start size (count + (k + 1)) (drop (k + 1) all) in
-        moved ∙ (λ i. ((is i).0, ap rest first i ++ (at i, x) ∷ []))
-        ∙ ap (λ l. (v, l)) (append_assoc ahead (held_from start size count done) ((place_of start size (count + k), x) ∷ [])
-        ∙ ap (λ (m : ℕ). ahead ++ (held_from start size count done ++ (place_of start size (count + m), x) ∷ [])) many
-        ∙ ap (λ l. ahead ++ l) (sym (held_more start size count done x)))
+    goes_after x after many moved = grind (arith, held_from, first, append_assoc, held_more)
 
     -- with the value that it had
     pub turns_after : (x : S) (after : V × List (ℕ × S)) → done ≡ take k all → k ≡ length done
         → me.1 ≡ (place, x) ∷ rest me.1 → after ≡ (me.0, turned me.1)
         → after ≡ (v, part_done start size count (k + 1) all (take (k + 1) all))
-    turns_after x after same many read moved =
-        let n = next_of k all below in
-        goes_after x after many (moved ∙ ap (λ l. (me.0, turned l)) read)
-        ∙ ap (λ l. (v, part_done start size count (k + 1) all l)) (ap (λ l. l ++ x ∷ []) same ∙ ap (λ y. take k all ++ y ∷ []) (is_next x read) ∙ sym n.2)
+    turns_after x after same many read moved = grind (arith, next_of, goes_after, is_next)

@@ -2,9 +2,6 @@ use Rattle.std.proofs.Common.{not, ◌&&◌, length, sym, ◌∙◌, ap, arith}
 use Rattle.uring_linux.proofs.Common.{and_from, and_left, has_ended, is_alone, is_in_some, some_below_none, some_below_some}
 use Rattle.uring_linux.proofs.drains.is_alone.Goals as goal
 
-pub loop-n-init : goal.loop-n-init
-loop-n-init c = λ r s k lt. and_left _ _ (ap not (c.least-n.ensures.ended r s k (omega arith)))
-
 pub returns-then-not-is_in_some : goal.returns-then-not-is_in_some
 unfolding is_alone
 returns-then-not-is_in_some c = λ r s.

@@ -18,12 +18,3 @@ returns-clause-left g c =
     c.deref_mut.result.now c.leave_units.new.now c.in_ok-len.len
     c.first_part.ensures.first c.first_part.ensures.rest
     c.in_ok-len.ensures.length (c.deref_mut.ensures.value ∙ c.in_ok-now.ensures.bytes) c.leave_units.auto.now c.in_ok-leave_units.ensures.left)
-
-pub returns-in_err-leave_units-clause-granted : goal.returns-in_err-leave_units-clause-granted
-returns-in_err-leave_units-clause-granted g c = λ all. absurd (false≢true (c.in_err-leave_units.ensures.granted all))
-
-pub returns-in_err-len-clause-granted : goal.returns-in_err-len-clause-granted
-returns-in_err-len-clause-granted g c = λ all. absurd (false≢true (c.in_err-len.ensures.granted all))
-
-pub returns-in_err-now-clause-granted : goal.returns-in_err-now-clause-granted
-returns-in_err-now-clause-granted g c = λ all. absurd (false≢true (c.in_err-now.ensures.granted all))

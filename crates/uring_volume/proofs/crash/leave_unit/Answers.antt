@@ -12,6 +12,3 @@ returns-clause-others g c = λ k apart.
         | inr after ↦ c.write_all.ensures.after k (omega arith)
       ]
     ]
-
-pub returns-in_err-on-clause-granted : goal.returns-in_err-on-clause-granted
-returns-in_err-on-clause-granted g c = λ all. absurd (false≢true (c.in_err-on.ensures.granted all))

@@ -15,6 +15,3 @@ returns-clause-folded g c = λ _. record {
       ∙ reverse_filter (λ e. not (is_of_write c.number-n.result e)) c.args.events.now.items
       ∙ ap (λ n. without_write n (reverse c.args.events.now.items)) c.number-n.ensures;
 }
-
-pub returns-in_err-write_under-clause-granted : goal.returns-in_err-write_under-clause-granted
-returns-in_err-write_under-clause-granted g c = λ all. absurd (false≢true (c.in_err-write_under.ensures.granted all))

@@ -8,11 +8,3 @@ loop-i-preserved g c =
     let many : c.in_ok-ends.ends.len ≡ length c.in_ok-ends.ends.items = search rules in
     count_more c.args.unit c.args.first.now (reverse c.args.events.now) c.args.len c.loop-i.i c.loop-i.count c.len.result c.saturating_mul-count.result (2 ^ 64 - 1) (map (λ b. b.items) c.in_ok-ends.ends.items)
     c.loop-i.invariant c.in_ok-ends.ensures.contents (c.len.ensures ∙ many ∙ sym (length-map c.in_ok-ends.ends.items (λ b. b.items))) c.saturating_mul-count.ensures
-
-pub returns-clause-count : goal.returns-clause-count
-returns-clause-count g c =
-    let all : c.loop-i.i ≡ c.count_units-i-end.result = omega arith in
-    c.loop-i.invariant ∙ ap (λ n. min (length (fronts c.args.unit c.args.first.now (reverse c.args.events.now) c.args.len n)) (2 ^ 64 - 1)) (all ∙ c.count_units-i-end.ensures.value)
-
-pub returns-in_err-ends-clause-granted : goal.returns-in_err-ends-clause-granted
-returns-in_err-ends-clause-granted g c = λ all. absurd (false≢true (c.in_err-ends.ensures.granted all))

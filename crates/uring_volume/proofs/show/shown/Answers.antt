@@ -18,9 +18,3 @@ returns-clause-shown g c =
     (ap (map (λ p. p.now)) c.deref-2.ensures.value ∙ c.in_ok-order.ensures.order)
     (c.length_left-len.ensures ∙ ap (length_over (length c.args.first.now)) (sym same))
     (c.deref_mut.ensures.value ∙ c.in_ok-now.ensures.bytes) c.write_all.auto.now c.write_all.ensures.within)
-
-pub returns-in_err-now-clause-granted : goal.returns-in_err-now-clause-granted
-returns-in_err-now-clause-granted g c = λ all. absurd (false≢true (c.in_err-now.ensures.granted all))
-
-pub returns-in_err-order-clause-granted : goal.returns-in_err-order-clause-granted
-returns-in_err-order-clause-granted g c = λ all. absurd (false≢true (c.in_err-order.ensures.granted all))

@@ -17,14 +17,6 @@ loop-k-init c = record {
   within = omega arith;
 }
 
-pub next_after-k-requires-clause-within : goal.next_after-k-requires-clause-within
-next_after-k-requires-clause-within c =
-    let first = ap (λ (d : LinuxDispatch). d.held.window.first) c.self.view_is in
-    record { low = omega (arith, c.loop-k.invariant.low); high = omega arith }
-
-pub overflow_add-total : goal.overflow_add-total
-overflow_add-total c = omega (arith, c.loop-k.invariant.within, c.one-total.ensures.few)
-
 pub loop-k-preserved : goal.loop-k-preserved
 loop-k-preserved c = record {
   low = omega (arith, c.loop-k.invariant.low, c.next_after-k.ensures.after);

@@ -25,11 +25,6 @@ returns-then-is_issuable c = λ l g.
     (and_from _ _ (le-leb c.args.n c.loop-k.k c.loop-k.invariant.after) (sym (c.is_issuable.ensures l g) ∙ c.if-is_issuable.true))
     (c.loop-k.invariant.passed l g))
 
-pub next_after-k-requires-clause-within : goal.next_after-k-requires-clause-within
-next_after-k-requires-clause-within c =
-    let first = ap (λ (d : LinuxDispatch). d.held.window.first) c.self.view_is in
-    record { low = omega (arith, c.loop-k.invariant.low); high = omega arith }
-
 pub loop-k-preserved : goal.loop-k-preserved
 loop-k-preserved c = record {
   after = omega (arith, c.loop-k.invariant.after, c.next_after-k.ensures.after);

@@ -17,11 +17,6 @@ loop-n-init c = record {
       omega arith;
 }
 
-pub next_after-n-requires-clause-within : goal.next_after-n-requires-clause-within
-next_after-n-requires-clause-within c =
-    let first = ap (λ (d : LinuxDispatch). d.held.window.first) c.self.view_is in
-    record { low = omega (arith, c.loop-n.invariant.low); high = omega arith }
-
 pub returns-then-left-count : goal.returns-then-left-count
 returns-then-left-count c = λ l g.
     let end = ap (λ (d : LinuxDispatch). d.accepted) c.self.view_is in

@@ -8,8 +8,3 @@ pub returns-then-is_faulty-clause-breaker : goal.returns-then-is_faulty-clause-b
 returns-then-is_faulty-clause-breaker c = λ r m.
     c.if_before.ensures.value ∙ sym (first_is r _ _ c.args.n m.told.group m.low m.high)
     ∙ ap (λ b. if b then first_of r c.args.n else failed_member_of r c.args.n) (sym c.if-is_faulty.true ∙ c.is_faulty.ensures r c.args.n m)
-
-pub returns-else-is_faulty-clause-breaker : goal.returns-else-is_faulty-clause-breaker
-returns-else-is_faulty-clause-breaker c = λ r m.
-    c.failed.ensures.failed r m
-    ∙ ap (λ b. if b then first_of r c.args.n else failed_member_of r c.args.n) (sym c.if-is_faulty.false ∙ c.is_faulty.ensures r c.args.n m)

@@ -2,9 +2,6 @@ use Rattle.std.proofs.Common.{◌&&◌, leb, sym, ◌∙◌, arith, below_more}
 use Rattle.uring_linux.proofs.Common.{and_from, and_left, and_right, first_member, le-leb, least_below_none, least_below_some, lt-leb, said}
 use Rattle.uring_linux.proofs.window.Window.first_with.Goals as goal
 
-pub loop-n-init : goal.loop-n-init
-loop-n-init c = λ r s a b k lt. and_left _ _ (lt-leb c.args.from k lt)
-
 pub returns-then-passes-clause-first : goal.returns-then-passes-clause-first
 unfolding first_member
 returns-then-passes-clause-first c = λ r s a b.
@@ -13,11 +10,6 @@ returns-then-passes-clause-first c = λ r s a b.
     (and_from _ _ (le-leb c.args.from c.loop-n.n (omega arith))
     (sym (c.passes.ensures r s (record { low = omega arith; high = omega arith })) ∙ c.if-passes.true))
     (c.loop-n.invariant r s a b))
-
-pub loop-n-preserved : goal.loop-n-preserved
-loop-n-preserved c = λ r s a b.
-    below_more _ _ (c.loop-n.invariant r s a b)
-    (and_right _ _ (sym (c.passes.ensures r s (record { low = omega arith; high = omega arith })) ∙ c.if-passes.false))
 
 pub returns-clause-first : goal.returns-clause-first
 unfolding first_member

@@ -2,10 +2,6 @@ use Rattle.std.proofs.Common.{sym, ◌∙◌, arith}
 use Rattle.uring_linux.proofs.PassedOver.{ended_passed, after_passed}
 use Rattle.uring_linux.proofs.window.Window.next_after.Goals as goal
 
-pub returns-then-n-group-clause-skipped : goal.returns-then-n-group-clause-skipped
-returns-then-n-group-clause-skipped c = λ r k h after lt.
-    ended_passed r c.args.n k c.group_of-group.result (c.group_of-group.ensures.member r c.args.n h (sym c.in-Some.ensures)) after lt
-
 pub returns-clause-skipped : goal.returns-clause-skipped
 returns-clause-skipped c = λ r k h after lt.
     let here = sym c.in-Some.ensures in

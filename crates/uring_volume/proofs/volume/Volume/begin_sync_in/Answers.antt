@@ -13,9 +13,3 @@ invariant_of-self-2 g c = record {
       (pushed c.self.inside.events.items c.make_room.new.events.items c.put-2.new.items.items (SyncIssued c.self.inside.next c.args.range) c.put-2.ensures.items c.make_room.ensures.events) refl refl (c.put.ensures.items ∙ ap (λ ns. ns ++ c.self.inside.next ∷ []) c.make_room.ensures.numbers);
   room = omega (arith, not_err c.make_room.result _ (sym c.is_err.ensures.value ∙ c.if-is_err.false) c.make_room.ensures.ends);
 }
-
-pub returns-then-is_err-clause-granted : goal.returns-then-is_err-clause-granted
-returns-then-is_err-clause-granted g c = λ n grants most.
-    let held : Volume = record { unit = c.self.inside.unit; first = c.self.inside.first.items; history = reverse c.self.inside.events.items; next = c.self.inside.next } in
-    let room : length c.self.inside.events.items + length c.self.inside.writes.items + length c.self.inside.syncs.items + 2 ≤ n = room_for held c.args.self.now c.self.inside.events.items c.self.inside.writes.items c.self.inside.syncs.items n c.self.view_is refl c.self.invariant.held most in
-    absurd (not_ok c.make_room.result (sym c.is_err.ensures.value ∙ c.if-is_err.true) (c.make_room.ensures.granted n grants (omega (arith, room)) (omega (arith, room))))

@@ -4,11 +4,6 @@ use Rattle.uring_volume.proofs.Folded.{folded_none, folded_more}
 use Rattle.uring_volume.proofs.FoldSearch.{none_in_nothing}
 use Rattle.uring_volume.proofs.volume.Volume.fold_in.Goals as goal
 
-pub loop-step-init : goal.loop-step-init
-loop-step-init g c =
-    let many : length c.args.self.now.history ≡ length c.self.inside.events.items = ap (λ (v : Volume). length v.history) (sym c.self.view_is) ∙ length-reverse c.self.inside.events.items in
-    record { folded = folded_none c.args.self.now; room = omega (arith, many, c.len-count.ensures) }
-
 pub returns-in_err-fold_one-clause-folded : goal.returns-in_err-fold_one-clause-folded
 returns-in_err-fold_one-clause-folded g c =
     let sound : IsSound c.args.self.now = subst IsSound c.self.view_is c.self.invariant.held.sound in
@@ -26,11 +21,3 @@ loop-step-preserved g c =
       folded = folded_more c.args.self.now c.loop-step.self c.fold_one.new.self sound.lawful c.loop-step.invariant.folded c.fold_one.ensures.folded;
       room = omega (arith, c.loop-step.invariant.room, c.fold_one.ensures.fewer (c.in_ok-fold_one.was ∙ ap Ok c.if-not-branch.false));
     }
-
-pub returns-clause-folded : goal.returns-clause-folded
-returns-clause-folded g c = c.loop-step.invariant.folded
-
-pub returns-clause-none_left : goal.returns-clause-none_left
-returns-clause-none_left g c = λ w foldable.
-    let empty : length c.loop-step.self.history ≡ 0 = omega (arith, c.loop-step.invariant.room, c.loop-step-test.false) in
-    none_in_nothing c.loop-step.self.history w empty foldable
