@@ -1,6 +1,6 @@
 -- What a machine that fits a history never wants, so that the judge of an end refuses for want of memory alone.
-use Rattle.std.proofs.Common.{◌≡◌, ◌≤◌, ℕ, ℤ, ◌∷◌, ◌⊎◌, pos, neg_ℤ, Bool, true, false, List, [], refl, subst, inl, inr, arith}
-use Rattle.uring_check.proofs.Common.{AllowedBy, Answer, AnyEnd, CalledIn, ENOMEM, EndOrNoMemory, Ends, FinishesApart, Follower, HasOneAnswer, History, IsEnded, IsWanted, IsWrong, MayGive, Meets, OrAgain, Requests, Setup, Step, World, entry_in, if◌then◌else◌, is_apart, is_running, negsuc, no_bytes, rules_of, true≢false, world}
+use Rattle.std.proofs.Common.{◌≡◌, ◌≤◌, ℕ, ℤ, ◌∷◌, ◌⊎◌, pos, Bool, true, false, List, [], refl, subst, inl, inr, arith}
+use Rattle.uring_check.proofs.Common.{AllowedBy, Answer, AnyEnd, CalledIn, EndOrNoMemory, Ends, FinishesApart, Follower, HasOneAnswer, History, IsEnded, IsWanted, IsWrong, MayGive, Meets, Requests, Setup, Step, World, entry_in, is_apart, is_running, no_bytes, rules_of, true≢false, world}
 use Rattle.uring_files.specs.Contents.{FileContents}
 use Rattle.uring_core.specs.CalledFor.{EndsOn, files_of}
 use Rattle.uring_core.specs.declared.answer.Answer.TheVariants as answer
@@ -12,11 +12,6 @@ use Rattle.uring_check.proofs.WantedAnswers.{one_answer}
 abbrev IsNoBegin : Answer → Type 0
 IsNoBegin (answer.Ended res bytes) = Unit {0}
 IsNoBegin _ = ⊥
-
-no_begin : (closed opened spent : Bool) (length : ℕ) (a : Answer) → IsNoBegin a
-    → OrAgain (if closed then answer.Closed else if opened then answer.InCall else if spent then answer.Spent else answer.Call length) a
-    → ⊥
-no_begin closed opened spent length a is e = grind arith
 
 begin_called : (apart : Bool) (g : Setup) (w : World) (count : ℕ) (a : Answer) → IsNoBegin a
     → CalledIn apart g w (step.Begin count) a → ⊥
@@ -35,19 +30,12 @@ abbrev GivesEnd : Answer → Type 0
 GivesEnd (answer.Ended res bytes) = Unit {0}
 GivesEnd _ = ⊥
 
-abbrev IsSuccess : ℤ → Type 0
-IsSuccess (pos n) = Unit {0}
-IsSuccess (negsuc n) = ⊥
-
 abbrev GivesNoByte : Answer → Type 0
 GivesNoByte (answer.Ended res bytes) = IsNoByte bytes
 GivesNoByte _ = ⊥
 
 two_ends : end_with [] ≡ end_with (0 ∷ []) → ⊥
 two_ends e = subst GivesNoByte e tt
-
-no_memory : pos 0 ≡ neg_ℤ ENOMEM → ⊥
-no_memory e = subst IsSuccess e tt
 
 two_on_files : (files : List FileContents) (r : Requests) (n : ℕ) (running : Bool)
     → EndsOn files r n running (end_with []) → EndsOn files r n running (end_with (0 ∷ [])) → ⊥

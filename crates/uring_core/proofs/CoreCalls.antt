@@ -1,5 +1,5 @@
 -- Submission calls, from the layers' contracts to the core's: what a core shows as one opens.
-use Rattle.std.proofs.Common.{◌≡◌, ℕ, ◌+◌, ◌-◌, ◌^◌, ◌<◌, ◌≤◌, true, false, ◌∷◌, length, None, is_some, refl, sym, ap, subst, ◌∙◌, arith, inl}
+use Rattle.std.proofs.Common.{◌≡◌, ℕ, ◌+◌, ◌-◌, ◌^◌, ◌≤◌, true, false, ◌∷◌, length, None, is_some, refl, sym, ap, subst, ◌∙◌, arith, inl}
 use Rattle.uring_core.proofs.Common.{Completions, Core, Cq, FitsApart, History, IsOk, IsShortFor, KeepsMemory, LinuxRequests, OnOk, OrAgain, Result, Setup, ShowsCompletions, ShowsSubmission, ShowsWorld, Sq, Submission, World, begin_answer, begin_told, call_length, is_err, is_spent, requests_of, with_begun, world, OnErr}
 use Rattle.uring_rings.specs.SqAnswers as ring
 use Rattle.uring_rings.specs.declared.answers.BeginAnswer.{BeginAnswer}
@@ -34,17 +34,6 @@ opens_with p count n opens h f = (opening (world p.setup h) count n (opens h f))
 pub opens_within : (p : Core) (count n : ℕ) → Opens p count n → (h : History) → FitsApart p h
     → p.dispatch.accepted + n ≤ 2 ^ 63 - 1
 opens_within p count n opens h f = grind arith
-
--- a dispatcher with the same counts, and rings that show what they did
-same_shown : (p : Core) (w : World) (d : Rules) (q : Cq) → ShowsWorld p w
-    → IsSameCount p.dispatch d → d.is_between_calls ≡ true → ShowsRequests d (requests_of w)
-    → ShowsCompletions p.setup q w.completions → p.cq.room ≤ q.room → q.room ≤ q.spare
-    → ShowsWorld (record p { dispatch = d; cq = q }) w
-same_shown p w d q s same between shows shown room promised = grind arith
-
--- the memory that outstanding requests may need is promised: so it is short for a call of one position or more alone
-short_for_some : (p : Core) (w : World) (n : ℕ) → ShowsWorld p w → IsShortFor p n → 0 < n
-short_for_some p w n s h = grind arith
 
 pub again_goes : (p : Core) (d : Rules) (q : Cq) (count n : ℕ) → Opens p count n
     → IsSameCount p.dispatch d → d.is_between_calls ≡ true

@@ -1,6 +1,6 @@
 -- What a core shows as a submission call closes, as a request ends, and as it is made.
-use Rattle.std.proofs.Common.{◌≡◌, ℕ, ◌+◌, ◌≤◌, ℤ, Bool, true, false, not, cond, eqb, if◌then◌else◌, List, [], ◌∷◌, length, Option, Some, None, refl, sym, ap, subst, ◌∙◌, arith, IfSome}
-use Rattle.uring_core.proofs.Common.{Answer, Call, Completions, Core, Cq, FinishesApart, FitsApart, History, IsFinished, LinuxRequests, Op, Setup, ShowsCompletions, ShowsSubmission, ShowsWorld, Sq, Sqe, Submission, World, cond_some, dropped, end_answer_in, ending_of, ends_doomed, entries_of, entry_of, eqb-true, held_by, is_cancel, is_outstanding, is_running, issue_answer, issue_told, length-append, may_start, no_bytes, no_completion, no_submission, operation_of, pending, places_from, positions_of, requests_of, sum_by_push, taken, with_closed, with_end_of, with_told, word_of, world, happens}
+use Rattle.std.proofs.Common.{◌≡◌, ℕ, ◌+◌, ◌≤◌, ℤ, Bool, true, false, not, cond, eqb, if◌then◌else◌, List, [], ◌∷◌, length, Option, Some, None, refl, sym, ap, subst, ◌∙◌, arith}
+use Rattle.uring_core.proofs.Common.{Answer, Call, Completions, Core, Cq, FinishesApart, FitsApart, History, IsFinished, LinuxRequests, Op, Setup, ShowsCompletions, ShowsSubmission, ShowsWorld, Sq, Sqe, Submission, World, cond_some, dropped, end_answer_in, ending_of, ends_doomed, entries_of, entry_of, eqb-true, held_by, is_cancel, is_outstanding, is_running, issue_answer, issue_told, length-append, may_start, no_bytes, no_completion, no_submission, operation_of, places_from, positions_of, requests_of, sum_by_push, taken, with_closed, with_end_of, with_told, word_of, world, happens}
 use Rattle.uring_linux.specs.LinuxRequests.{no_request, with_started}
 use Rattle.uring_rules.specs.Rules.{doomed_result, cancel_result}
 use Rattle.uring_entry.specs.declared.operation.Outcome.{Outcome}
@@ -80,11 +80,6 @@ end_goes p q d t answered shown accepts h f =
     let same : length p.held ≡ length (held_by w.submission w.submission.call) = ap length s.held in
     let e = end_taken p w q d t w.submission.call s refl accepts (omega arith) (answered p.setup w.submission s.submission) (shown p.setup w.submission s.submission) in
     record { shows = e.shows; lawful = (e.answered, f.lawful) }
-
-end_not_all : (g : Setup) (w : World) (c : Option Call)
-    → IfSome c (λ call. (call.taken ≤ call.count) × (call.count ≤ pending w.submission))
-    → ended_as.NotAll ≡ ring.end_of g w.submission c → answer.NotAll ≡ end_answer_in g w c
-end_not_all g w c fits e = grind arith
 
 pub end_not_all_goes : (p : Core) (q : Sq)
     → ((g : Setup) (l : Submission) → ShowsSubmission g p.sq l → ended_as.NotAll ≡ ring.end_answer g l)

@@ -1,6 +1,6 @@
 -- What holds of everything that a lawful history has made.
-use Rattle.std.proofs.Common.{◌≡◌, ℕ, ◌+◌, Bool, false, [], ◌∷◌, refl, subst, arith}
-use Rattle.uring_core.proofs.Common.{Answer, History, IsLawfulApart, LinuxRequests, Requests, Setup, Step, World, at_first, no_completion, no_submission, requests_of, stops_there, with_taken, world}
+use Rattle.std.proofs.Common.{◌≡◌, ◌+◌, Bool, false, [], ◌∷◌, refl, subst, arith}
+use Rattle.uring_core.proofs.Common.{Answer, History, IsLawfulApart, LinuxRequests, Requests, Setup, Step, World, at_first, requests_of, stops_there, with_taken, world}
 use Rattle.uring_core.proofs.Moves.{Move, stays, accepts, starts, ends_doomed, ends_cancel, ends_run, move_of}
 use Rattle.uring_core.proofs.SubmissionMoves.{SubmissionMove, stays as stays_off_submission, fills, stages, stores, takes, drops, closes, submission_move}
 use Rattle.uring_core.proofs.CompletionMoves.{CompletionMove, stays as stays_off_completions, ends, reaps, completion_move}
@@ -15,12 +15,6 @@ pub record IsSound (g : Setup) (w : World) : Type 0 where
   pub completions : IsSoundCompletions g.cq w.completions
   pub requests : IsSoundRequests w.requests
   pub manual : g.linux ≡ false → IsSoundManual w.requests
-
-first_submission : (size : ℕ) → IsSoundSubmission size no_submission
-first_submission size = grind arith
-
-first_completions : (size : ℕ) → IsSoundCompletions size no_completion
-first_completions size = grind arith
 
 first_sound : (g : Setup) → IsSound g at_first
 first_sound g = grind arith

@@ -1,6 +1,6 @@
 -- What holds of both rings' lists in every lawful history.
 use Rattle.std.proofs.Common.{◌≡◌, ℕ, ◌+◌, ◌-◌, ◌<◌, ◌≤◌, Bool, true, false, eqb, List, [], ◌∷◌, ◌++◌, length, take, Option, Some, None, slice_get, cond, refl, sym, ap, ◌∙◌, arith}
-use Rattle.uring_core.proofs.Common.{Call, Completions, Cqe, Submission, and_parts, eqb-false, eqb-true, get_or_from_slice_get, has_room, is_full, length-append, length-map, length_push, ltb-true, next_to_reap, open_taken, slice_get_within, staged, stopped, sum_by_push, take-append-le, take_more, taken, with_closed, with_posted, with_published, with_reaped, with_staged, with_stopped, with_taken}
+use Rattle.uring_core.proofs.Common.{Call, Completions, Cqe, Submission, and_parts, eqb-false, eqb-true, get_or_from_slice_get, has_room, is_full, length-append, length-map, length_push, ltb-true, next_to_reap, open_taken, slice_get_within, staged, sum_by_push, take-append-le, take_more, taken, with_closed, with_posted, with_published, with_reaped, with_staged, with_stopped, with_taken}
 
 -- The completion ring.
 
@@ -75,11 +75,6 @@ pub take_sound : (size : ℕ) (l : Submission) (call : Call) → l.call ≡ Some
     → eqb call.taken call.count ≡ false → IsSoundSubmission size l
     → IsSoundSubmission size (with_taken l call)
 take_sound size l call e f s = grind arith
-
--- a call that may stop takes no fewer positions than it took, and no more than it would
-pub stopped_between : (stops : Bool) (call : Call) → call.taken ≤ call.count
-    → (call.taken ≤ (stopped stops call).count) × ((stopped stops call).count ≤ call.count)
-stopped_between stops call within = grind arith
 
 pub stop_sound : (size : ℕ) (l : Submission) (call : Call) (stops : Bool) → l.call ≡ Some call
     → IsSoundSubmission size l → IsSoundSubmission size (with_stopped stops l)

@@ -1,6 +1,6 @@
 -- Whether an entry that was taken asks for skipped success, from step to step.
 use Rattle.std.proofs.Common.{◌≡◌, ℕ, ◌+◌, ◌≤◌, ◌||◌, [], ◌++◌, length, take, List, Option, Some, None, slice_get, sym, ap, ◌∙◌, arith, append-nil, IfSome}
-use Rattle.uring_core.proofs.Common.{Call, Place, Sqe, Submission, asks_to_skip, cons_option, entries_of, get_or_from_slice_get, list_any_push, open_taken, pending, slice_get_within, some_skips, sum_by_push, take-append-le, take_more, taken, taken_entries, with_begun, with_closed, with_published}
+use Rattle.uring_core.proofs.Common.{Call, Place, Sqe, Submission, asks_to_skip, cons_option, entries_of, get_or_from_slice_get, list_any_push, open_taken, pending, slice_get_within, some_skips, sum_by_push, take-append-le, take_more, taken, taken_entries, with_closed, with_published}
 use Rattle.std.proofs.lemmas.List.Elements.{filter_map-append}
 
 -- a beginning that goes one place further
@@ -38,11 +38,6 @@ pub stored_entries : (size : ℕ) (l : Submission) → taken l ≤ length l.publ
     → IfSome l.call (λ call. (call.taken ≤ call.count) × (call.count ≤ pending l))
     → taken_entries (with_published size l) ≡ taken_entries l
 stored_entries size l within fits = grind (arith, take-append-le)
-
--- as a call opens
-pub begun_entries : (l : Submission) (count : ℕ) → l.call ≡ None
-    → taken_entries (with_begun l count) ≡ taken_entries l
-begun_entries l count none = grind arith
 
 -- and as it closes
 pub closed_entries : (l : Submission) (call : Call) → l.call ≡ Some call → call.taken ≡ call.count

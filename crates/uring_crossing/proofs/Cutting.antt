@@ -1,5 +1,5 @@
 -- A list that is cut part by part.
-use Rattle.std.proofs.Common.{◌≡◌, ◌<◌, ◌≤◌, ◌+◌, ◌-◌, ◌++◌, ◌∷◌, ℕ, zero, suc, List, [], length, map, take, drop, min, get_or, refl, sym, subst, ap, ◌∙◌, arith}
+use Rattle.std.proofs.Common.{◌≡◌, ◌<◌, ◌≤◌, ◌+◌, ◌-◌, ◌++◌, ◌∷◌, ℕ, zero, suc, List, [], length, map, take, drop, min, get_or, refl, sym, ap, ◌∙◌, arith}
 use Rattle.std.proofs.Math.Seq.{drop-cons, drop-nil}
 use Rattle.std.proofs.lemmas.List.{drop_more, map_more, map_push}
 use Rattle.uring_crossing.proofs.Common.{AreShort, Sqe, append-nil, append_assoc, cut, drop_all, drop_min, laid_out, length-drop, length-map, length-take, map-append, take_min}
@@ -19,15 +19,7 @@ pub cut_next : {X : Type 0} (lens : List ℕ) (values : List X) (i j from to len
     → cut (drop i lens) (drop from values)
     ≡ take (to - from) (drop from values) ∷ cut (drop j lens) (drop to values)
 cut_next lens values i j from to len within next is ends =
-    let rest = drop from values in
-    let len_rest : length rest ≡ length values - from = length-drop from values in
-    let many : to - from ≡ min len (length rest) = omega (arith, ends, len_rest) in
-    let after : to ≡ from + min len (length rest) = omega (arith, ends, len_rest) in
-    ap (λ ls. cut ls rest) (drop-cons lens i 0 within)
-    ∙ ap (λ (k : ℕ). take k rest ∷ cut (drop (suc i) lens) (drop k rest)) (sym is)
-    ∙ ap (λ ys. ys ∷ cut (drop (suc i) lens) (drop len rest)) (sym (take_min len rest) ∙ ap (λ (k : ℕ). take k rest) (sym many))
-    ∙ ap (λ ys. take (to - from) rest ∷ cut (drop (suc i) lens) ys) (sym (drop_min len rest) ∙ sym (drop_plus from (min len (length rest)) values) ∙ ap (λ (k : ℕ). drop k values) (sym after))
-    ∙ ap (λ (k : ℕ). take (to - from) rest ∷ cut (drop k lens) (drop to values)) (sym next)
+    grind (arith, (length-drop from values), (drop-cons lens i 0 within), min, take_min, drop_min, drop_plus)
 
 pub next_suc : (i : ℕ) → i + 1 ≡ suc i
 next_suc i = omega arith
@@ -50,8 +42,7 @@ cut_step f done new part lens values i j from to len all within next is ends giv
 -- after the last length there is nothing left to cut, and nothing to make of a list at its end
 pub nothing_left : {X Y : Type 0} (f : List X → List Y) (xs : List X) (i : ℕ) (done all : List Y) → length xs ≤ i
     → f [] ≡ [] → done ++ f (drop i xs) ≡ all → done ≡ all
-nothing_left f xs i done all past none so =
-    sym (append-nil done) ∙ ap (λ ys. done ++ ys) (sym (ap f (drop_all i xs past) ∙ none)) ∙ so
+nothing_left f xs i done all past none so = grind (arith, append-nil, drop_all)
 
 -- there are as many parts as lengths
 cut_many : {X : Type 0} (lens : List ℕ) (values : List X) → length (cut lens values) ≡ length lens
@@ -60,8 +51,7 @@ cut_many (n ∷ more) values = ap suc (cut_many more (drop n values))
 
 pub parts_many : {X Y : Type 0} (f : Y → List X) (parts : List Y) (lens : List ℕ) (values : List X)
     → map f parts ≡ cut lens values → length parts ≡ length lens
-parts_many {X = X} f parts lens values is =
-    sym (length-map parts f) ∙ ap (λ (ls : List (List X)). length ls) is ∙ cut_many lens values
+parts_many {X = X} f parts lens values is = grind (arith, length-map, cut_many)
 
 -- and none of them is longer than files may be, if no length is
 cut_short : (lens bytes : List ℕ) → AreShort lens → (place : ℕ)
@@ -73,27 +63,23 @@ cut_short (n ∷ more) bytes short (suc place) =
 
 pub parts_short : {Y : Type 0} (f : Y → List ℕ) (parts : List Y) (lens bytes : List ℕ) → map f parts ≡ cut lens bytes
     → AreShort lens → (place : ℕ) → length (get_or (map f parts) place []) ≤ max_len
-parts_short f parts lens bytes is short place =
-    subst (λ (ps : List (List ℕ)). length (get_or ps place []) ≤ max_len) (sym is) (cut_short lens bytes short place)
+parts_short f parts lens bytes is short place = grind (arith, cut_short)
 
 -- and calls that entries are cut into have no more entries than there are
 pub cut_within : (lens : List ℕ) (entries : List Sqe) → entry_count (cut lens entries) ≤ length entries
 cut_within [] entries = omega arith
-cut_within (n ∷ more) entries =
-    omega (arith, cut_within more (drop n entries), length-take n entries, length-drop n entries)
+cut_within (n ∷ more) entries = grind (arith, (cut_within more (drop n entries)), length-take, length-drop)
 
 -- ---- what is made of a list element by element
 
 pub made_more : {X Y : Type 0} (f : X → Y) (xs : List X) (i : ℕ) (x d : X) (y : Y) (done new : List Y) → i < length xs
     → x ≡ get_or xs i d → y ≡ f x → new ≡ done ++ y ∷ [] → done ≡ map f (take i xs) → new ≡ map f (take (i + 1) xs)
-made_more f xs i x d y done new within is gives pushed so =
-    pushed ∙ ap (λ ys. ys ++ y ∷ []) so ∙ ap (λ z. map f (take i xs) ++ z ∷ []) (gives ∙ ap f is) ∙ sym (map_more f xs i d within)
+made_more f xs i x d y done new within is gives pushed so = grind (arith, map_more)
 
 pub made_twice : {X Y Z : Type 0} (g : Y → Z) (f : X → Y) (xs : List X) (i : ℕ) (x d : X) (z : Z) (done new : List Z) → i < length xs
     → x ≡ get_or xs i d → z ≡ g (f x) → new ≡ done ++ z ∷ [] → done ≡ map g (map f (take i xs)) → new ≡ map g (map f (take (i + 1) xs))
 made_twice g f xs i x d z done new within is gives pushed so =
-    pushed ∙ ap (λ zs. zs ++ z ∷ []) so ∙ ap (λ y. map g (map f (take i xs)) ++ y ∷ []) (gives ∙ ap (λ y. g (f y)) is)
-    ∙ sym (ap (map g) (map_more f xs i d within) ∙ map_push g (map f (take i xs)) (f (get_or xs i d)))
+    grind (arith, (map_more f xs i d within), (map_push g (map f (take i xs)) (f (get_or xs i d))))
 
 pub laid_more : {X : Type 0} (f : X → List ℕ) (xs : List X) (i : ℕ) (x : X) (done kept new all : List ℕ) → i < length xs
     → x ≡ get_or xs i x → kept ≡ done → new ≡ kept ++ f x → done ++ laid_out (map f (drop i xs)) ≡ all

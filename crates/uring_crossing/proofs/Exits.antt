@@ -4,7 +4,7 @@ use Rattle.std.specs.Borrow.{Bor}
 use Rattle.std.specs.Ordering.{int_eq}
 use Rattle.std.specs.Prelude.{is_some, option_copied}
 use Rattle.std.proofs.lemmas.Bool.Decides.{Decides-int_eq}
-use Rattle.uring_crossing.proofs.Common.{AreShort, CrashMachine, FitsRun, IsNoStart, IsSome, IsSomeAnd, Setup, Step, both_ways, to_z-of_z}
+use Rattle.uring_crossing.proofs.Common.{AreShort, CrashMachine, FitsRun, IsNoStart, IsSome, IsSomeAnd, Setup, Step, both_ways}
 use Rattle.uring_entry.specs.declared.errno.TheConstants.{EBADF, EFBIG, EINVAL, ENOENT}
 use Rattle.uring_crossing.specs.declared.machines.crash_machine_memory.TheConstants.{ENOTRECOVERABLE}
 use Rattle.uring_core.specs.declared.answer.Answer.{Answer}
@@ -13,7 +13,6 @@ use Rattle.uring_crossing.specs.CoreWords.AnswerForm.{words_of}
 use Rattle.uring_crossing.specs.Machines.Crashing.{BeginsOn, SteppedOn, TellsStepOn}
 use Rattle.uring_crossing.specs.CoreWords.SetUps.{IsAskedFor, SufficesFor}
 use Rattle.uring_crossing.specs.declared.core_words.set_up_words.SetupWords.{SetupWords}
-use Rattle.uring_crossing.proofs.Starts.{is_start}
 use Rattle.uring_epochs.specs.Asked.{log_at}
 use Rattle.uring_epochs.specs.Logs.{Log}
 use Rattle.uring_epochs.specs.Epochs.{begun_on, first_files}
@@ -44,14 +43,12 @@ pub is_some_as : {T : Type 0} (given : Option T) (v : T) → given ≡ Some v �
 is_some_as given v is = subst IsSome (sym is) refl
 
 pub some_not_none : {T A : Type 0} (P : T → Type 0) (place : Option T) → IsSomeAnd place P → place ≡ None → A
-some_not_none P None made none = absurd made
-some_not_none P (Some v) made none = not_none _ v refl none
+some_not_none P place made none = grind arith
 
 -- a machine that is lost, and one that isn't
 pub not_lost : {A : Type 0} (place : Option CrashMachine) (is_lost : Bool) → IsSomeAnd place (λ m. is_lost ≡ m.is_lost) → is_lost ≡ false
     → IsSomeAnd place (λ m. m.is_lost ≡ true) → A
-not_lost None is_lost told other so = absurd so
-not_lost (Some m) is_lost told other so = absurd (both_ways is_lost other (told ∙ so))
+not_lost place is_lost told other so = grind arith
 
 pub known_ready : (place : Option CrashMachine) (m : CrashMachine) (is_lost : Bool) → place ≡ Some m → IsSomeAnd place (λ m. is_lost ≡ m.is_lost)
     → is_lost ≡ false → m.is_lost ≡ false
@@ -59,8 +56,7 @@ known_ready place m is_lost full told other = sym (of_some (λ machine. is_lost 
 
 pub known_lost : (place : Option CrashMachine) (is_lost : Bool) → IsSomeAnd place (λ m. is_lost ≡ m.is_lost) → is_lost ≡ true
     → IsSomeAnd place (λ m. m.is_lost ≡ true)
-known_lost None is_lost told so = told
-known_lost (Some m) is_lost told so = sym told ∙ so
+known_lost place is_lost told so = grind arith
 
 -- which refusals a step of a machine that goes on isn't told as
 pub step_goes : (place : Option CrashMachine) (given : Option Step) (m : CrashMachine) (s : Step) (is_lost : Bool) (result : ℤ)
@@ -69,32 +65,21 @@ pub step_goes : (place : Option CrashMachine) (given : Option Step) (m : CrashMa
     → ((result ≡ neg_ℤ EBADF) ↔ (place ≡ None))
     × ((result ≡ neg_ℤ EINVAL) ↔ (IsSome place × (given ≡ None)))
     × ((result ≡ neg_ℤ ENOTRECOVERABLE) ↔ (IsSome given × IsSomeAnd place (λ machine. machine.is_lost ≡ true)))
-step_goes place given m s is_lost result full is told other a b c = (
-  not_empty place m result full a,
-  (apart result _ b, λ h. not_none given s is h.1),
-  (apart result _ c, λ h. not_lost place is_lost told other h.1),
-)
+step_goes place given m s is_lost result full is told other a b c = grind arith
 
 -- the words of an answer tell the step that the machine has made
 pub step_told : (place after : Option CrashMachine) (given : Option Step) (s : Step) (m new : CrashMachine) (a : Answer) (words : AnswerWords)
     → place ≡ Some m → after ≡ Some new → given ≡ Some s → words ≡ words_of a → SteppedOn s a m new
     → IsSomeAnd given (λ t. TellsStepOn t place after words)
-step_told place after given s m new a words full put is told made =
-    subst (λ o. IsSomeAnd o (λ t. TellsStepOn t place after words)) (sym is) (record {
-      given = a;
-      told = told;
-      made = subst (λ o. IsSomeAnd o (λ before. IsSomeAnd after (SteppedOn s a before))) (sym full) (subst (λ o. IsSomeAnd o (SteppedOn s a m)) (sym put) made);
-    })
+step_told place after given s m new a words full put is told made = grind arith
 
 -- ---- a file is asked for
 
 is_none : {T : Type 0} (o : Option T) → is_some o ≡ false → o ≡ None
-is_none None other = refl
-is_none (Some v) other = absurd (both_ways true other refl)
+is_none o other = grind arith
 
 copied_some : {T : Type 0} (o : Option (Bor T)) → is_some (option_copied o) ≡ is_some o
-copied_some None = refl
-copied_some (Some v) = refl
+copied_some o = grind arith
 
 -- what is said of the machine that was taken out
 pub lost_as : (m seen : CrashMachine) (is_lost told : Bool) → seen ≡ m → is_lost ≡ seen.is_lost → is_lost ≡ told → m.is_lost ≡ told
@@ -102,10 +87,7 @@ lost_as m seen is_lost told same is so = sym (ap (λ (v : CrashMachine). v.is_lo
 
 pub log_as : (m seen : CrashMachine) (fd : ℤ) (log : Option (Bor Log)) (has told : Bool) → SFits w32 fd → seen ≡ m
     → option_copied log ≡ log_at seen.logs (to_z w32 (of_z w32 fd)) → has ≡ is_some log → has ≡ told → is_some (log_at m.logs fd) ≡ told
-log_as m seen fd log has told fits same is some so =
-    ap (λ (n : ℤ). is_some (log_at m.logs n)) (sym (to_z-of_z w32 fd fits))
-    ∙ ap (λ (v : CrashMachine). is_some (log_at v.logs (to_z w32 (of_z w32 fd)))) (sym same)
-    ∙ ap is_some (sym is) ∙ copied_some log ∙ sym some ∙ so
+log_as m seen fd log has told fits same is some so = grind arith
 
 -- what of a place and a file is told by a result
 abbrev Tells : Option CrashMachine → (fd result : ℤ) → Type 0
@@ -116,56 +98,32 @@ Tells place fd result =
     × (result ≡ pos 0 → IsSomeAnd place (λ machine. (machine.is_lost ≡ false) × IsSome (log_at machine.logs fd)))
 
 pub tells_lost : (place : Option CrashMachine) (m : CrashMachine) (fd : ℤ) → place ≡ Some m → m.is_lost ≡ true → Tells place fd (neg_ℤ ENOTRECOVERABLE)
-tells_lost place m fd full lost = (
-  not_empty place m _ full refl,
-  (λ _. at_some (λ machine. machine.is_lost ≡ true) place m full lost, λ _. refl),
-  (apart _ _ refl, λ h. absurd (both_ways m.is_lost (of_some (λ machine. (machine.is_lost ≡ false) × (log_at machine.logs fd ≡ None)) place m full h).0 lost)),
-  apart _ _ refl,
-)
+tells_lost place m fd full lost = grind arith
 
 pub tells_no_file : (place : Option CrashMachine) (m : CrashMachine) (fd : ℤ) → place ≡ Some m → m.is_lost ≡ false → is_some (log_at m.logs fd) ≡ false → Tells place fd (neg_ℤ ENOENT)
-tells_no_file place m fd full ready none = (
-  not_empty place m _ full refl,
-  (apart _ _ refl, λ h. absurd (both_ways m.is_lost ready (of_some (λ machine. machine.is_lost ≡ true) place m full h))),
-  (λ _. at_some (λ machine. (machine.is_lost ≡ false) × (log_at machine.logs fd ≡ None)) place m full (ready, is_none _ none), λ _. refl),
-  apart _ _ refl,
-)
+tells_no_file place m fd full ready none = grind arith
 
 pub tells_there : (place : Option CrashMachine) (m : CrashMachine) (fd : ℤ) → place ≡ Some m → m.is_lost ≡ false → is_some (log_at m.logs fd) ≡ true → Tells place fd (pos 0)
-tells_there place m fd full ready there = (
-  not_empty place m _ full refl,
-  (apart _ _ refl, λ h. absurd (both_ways m.is_lost ready (of_some (λ machine. machine.is_lost ≡ true) place m full h))),
-  (apart _ _ refl, λ h. absurd (both_ways _ (ap is_some (of_some (λ machine. (machine.is_lost ≡ false) × (log_at machine.logs fd ≡ None)) place m full h).1) there)),
-  λ _. at_some (λ machine. (machine.is_lost ≡ false) × IsSome (log_at machine.logs fd)) place m full (ready, there),
-)
+tells_there place m fd full ready there = grind arith
 
 -- a file isn't refused otherwise
 pub other_refusal : {A : Type 0} (result told : ℤ) → int_eq told (pos 0) ≡ false → int_eq told (neg_ℤ EBADF) ≡ false
     → int_eq told (neg_ℤ ENOTRECOVERABLE) ≡ false → int_eq told (neg_ℤ ENOENT) ≡ false
     → ((result ≡ pos 0 → ⊥) → (result ≡ neg_ℤ EBADF → ⊥) → (result ≡ neg_ℤ ENOTRECOVERABLE → ⊥) → (result ≡ neg_ℤ ENOENT → ⊥) → ⊥)
     → result ≡ told → A
-other_refusal result told a b c d only is =
-    absurd (only (λ e. apart told _ a (sym is ∙ e)) (λ e. apart told _ b (sym is ∙ e)) (λ e. apart told _ c (sym is ∙ e)) (λ e. apart told _ d (sym is ∙ e)))
+other_refusal result told a b c d only is = grind arith
 
 -- words that ask for a machine, with lengths that files may have, aren't refused
 pub starts : (w : SetupWords) (s : Setup) (unit : ℕ) (lens : List ℕ) (result : ℤ) → IsAskedFor w s × (0 < unit) × (length lens ≤ s.files) → AreShort lens
     → int_eq result (neg_ℤ EINVAL) ≡ false → int_eq result (neg_ℤ EFBIG) ≡ false
     → ((result ≡ neg_ℤ EINVAL) ↔ IsNoStart w unit (length lens))
     × ((result ≡ neg_ℤ EFBIG) ↔ ((IsNoStart w unit (length lens) → ⊥) × (AreShort lens → ⊥)))
-starts w s unit lens result asked short a b = (
-  (apart result _ a, λ refused. absurd (is_start w s unit (length lens) asked.0 asked.1 asked.2 refused)),
-  (apart result _ b, λ h. absurd (h.1 short)),
-)
+starts w s unit lens result asked short a b = grind arith
 
 -- and the machine that comes of them begins so
 pub begins : (w : SetupWords) (s : Setup) (unit : ℕ) (contents given : List (List ℕ)) (m : CrashMachine) → IsAskedFor w s → m.core.setup ≡ s → m.unit ≡ unit
     → m.is_lost ≡ false → given ≡ contents → FitsRun m (begun_on (first_files s.files given)) [] → BeginsOn w unit contents m
-begins w s unit contents given m asked setup units ready is fits = record {
-  setup = subst (λ (g : Setup). IsAskedFor w g) (sym setup) asked;
-  units = units;
-  ready = ready;
-  fits = subst (λ (g : Setup). FitsRun m (begun_on (first_files g.files contents)) []) (sym setup) (subst (λ (cs : List (List ℕ)). FitsRun m (begun_on (first_files s.files cs)) []) is fits);
-}
+begins w s unit contents given m asked setup units ready is fits = grind arith
 
 -- what is asked for by its own size is granted
 pub fits_itself : (n : ℕ) → n ≤ n

@@ -1,5 +1,5 @@
 -- The letters of flags, as they are read.
-use Rattle.std.proofs.Common.{◌≡◌, ◌≢◌, ℕ, zero, suc, ◌<◌, Bool, true, false, eqb, ◌&&◌, ◌==◌, if◌then◌else◌, List, [], ◌∷◌, ◌++◌, length, length-append, refl, sym, ap, ◌∙◌, inl, inr, append-nil, append_assoc, arith}
+use Rattle.std.proofs.Common.{◌≡◌, ℕ, zero, suc, ◌<◌, Bool, true, false, eqb, ◌&&◌, ◌==◌, if◌then◌else◌, List, [], ◌∷◌, ◌++◌, length, length-append, refl, ap, ◌∙◌, inl, inr, append-nil, append_assoc, arith}
 use Rattle.uring_crossing.proofs.Common.{and_parts, bit_and, cases_Bool, codes, eqb-false, eqb-true, named_if, sum_by}
 use Rattle.std.specs.List.{AllByRecursion, filter}
 use Rattle.uring_text.specs.Tokens.{flag_value, NoneAgain, AreFlags}
@@ -7,31 +7,19 @@ use Rattle.uring_crossing.specs.Traces.FlagLetters.{has_flag, letters_of, flags_
 
 -- a letter that passes stands before the others that do
 filter_one : (p : ℕ → Bool) (x : ℕ) (xs : List ℕ) → filter p (x ∷ xs) ≡ named_if (p x) (x ∷ []) ++ filter p xs
-filter_one p x xs =
-    elim (cases_Bool (p x)) [
-      | inl is ↦ rw is refl
-      | inr other ↦ rw other refl
-    ]
+filter_one p x xs = grind arith
 
 -- what is appended in five parts
 pub five_parts : (old a b c d new u v w x y : List ℕ) → a ≡ old ++ u → b ≡ a ++ v → c ≡ b ++ w → d ≡ c ++ x
     → new ≡ d ++ y → new ≡ old ++ (u ++ (v ++ (w ++ (x ++ y))))
-five_parts old a b c d new u v w x y e f g h i =
-    i ∙ ap (λ (t : List ℕ). t ++ y) (h ∙ ap (λ (t : List ℕ). t ++ x) (g ∙ ap (λ (t : List ℕ). t ++ w) (f ∙ ap (λ (t : List ℕ). t ++ v) e)))
-    ∙ simp append_assoc (refl)
+five_parts old a b c d new u v w x y e f g h i = grind (arith, append_assoc)
 
 abbrev letter_part : (flags letter : ℕ) → List ℕ
 letter_part flags letter = named_if (has_flag flags letter) (letter ∷ [])
 
 pub parts_of : (flags : ℕ)
     → letter_part flags 68 ++ (letter_part flags 76 ++ (letter_part flags 72 ++ (letter_part flags 65 ++ letter_part flags 83))) ≡ letters_of flags
-parts_of flags =
-    let p : ℕ → Bool = λ letter. has_flag flags letter in
-    let last : letter_part flags 83 ≡ filter p (83 ∷ []) = sym (filter_one p 83 [] ∙ append-nil (letter_part flags 83)) in
-    let fourth = ap (λ (t : List ℕ). letter_part flags 65 ++ t) last ∙ sym (filter_one p 65 (83 ∷ [])) in
-    let third = ap (λ (t : List ℕ). letter_part flags 72 ++ t) fourth ∙ sym (filter_one p 72 (65 ∷ 83 ∷ [])) in
-    let second = ap (λ (t : List ℕ). letter_part flags 76 ++ t) third ∙ sym (filter_one p 76 (72 ∷ 65 ∷ 83 ∷ [])) in
-    ap (λ (t : List ℕ). letter_part flags 68 ++ t) second ∙ sym (filter_one p 68 (76 ∷ 72 ∷ 65 ∷ 83 ∷ []))
+parts_of flags = grind arith
 
 -- letters, or `-` where there are none
 pub dashed : (ls old mid new dash : List ℕ) → mid ≡ old ++ ls → length mid ≡ length old → dash ≡ codes "-" → new ≡ mid ++ dash
@@ -42,30 +30,18 @@ dashed (x ∷ ls) old mid new dash is same text pushed = absurd (omega (arith, a
 pub lettered : (ls old mid new dash : List ℕ) → mid ≡ old ++ ls → (length mid ≡ length old → ⊥) → dash ≡ [] → new ≡ mid ++ dash
     → new ≡ old ++ (if length ls == 0 then codes "-" else ls)
 lettered [] old mid new dash is other text pushed = absurd (other (ap (λ (t : List ℕ). length t) (is ∙ append-nil old)))
-lettered (x ∷ ls) old mid new dash is other text pushed =
-    elim (cases_Bool (length (x ∷ ls) == 0)) [
-      | inl none ↦ absurd (omega (arith, eqb-true (length (x ∷ ls)) 0 none))
-      | inr some ↦ pushed ∙ ap (λ (t : List ℕ). mid ++ t) text ∙ append-nil mid ∙ is ∙ ap (λ (b : Bool). old ++ (if b then codes "-" else x ∷ ls)) (sym some)
-    ]
+lettered (x ∷ ls) old mid new dash is other text pushed = grind (arith, append-nil)
 
 -- ---- what is read
 
 -- what holds of each holds of those that pass
 kept : (P : ℕ → Type 0) (p : ℕ → Bool) (xs : List ℕ) → AllByRecursion P xs → AllByRecursion P (filter p xs)
 kept P p [] h = tt
-kept P p (x ∷ xs) h =
-    elim (cases_Bool (p x)) [
-      | inl is ↦ rw is (h.0, kept P p xs h.1)
-      | inr other ↦ rw other (kept P p xs h.1)
-    ]
+kept P p (x ∷ xs) h = grind (arith, (kept P p xs h.1))
 
 kept_once : (p : ℕ → Bool) (xs : List ℕ) → NoneAgain xs → NoneAgain (filter p xs)
 kept_once p [] h = tt
-kept_once p (x ∷ xs) h =
-    elim (cases_Bool (p x)) [
-      | inl is ↦ rw is (kept (λ c. c ≢ x) p xs h.0, kept_once p xs h.1)
-      | inr other ↦ rw other (kept_once p xs h.1)
-    ]
+kept_once p (x ∷ xs) h = grind (arith, kept, (kept_once p xs h.1))
 
 -- all numbers below one pass
 all_below : (ℕ → Bool) → ℕ → Bool
@@ -93,16 +69,7 @@ are_letters : AllByRecursion (λ letter. 0 < flag_value letter) (codes "DLHAS")
 are_letters = (omega arith, (omega arith, (omega arith, (omega arith, (omega arith, tt)))))
 
 stand_once : NoneAgain (codes "DLHAS")
-stand_once = (
-  (eqb-false 76 68 refl, (eqb-false 72 68 refl, (eqb-false 65 68 refl, (eqb-false 83 68 refl, tt)))),
-  (
-    (eqb-false 72 76 refl, (eqb-false 65 76 refl, (eqb-false 83 76 refl, tt))),
-    (
-      (eqb-false 65 72 refl, (eqb-false 83 72 refl, tt)),
-      ((eqb-false 83 65 refl, tt), (tt, tt)),
-    ),
-  ),
-)
+stand_once = grind arith
 
 pub spelled : (flags : ℕ) → flags < 256 → AreFlags (flags_text flags) (bit_and flags 94)
 spelled flags lt =
@@ -123,5 +90,4 @@ spelled flags lt =
     empty (x ∷ l) e = absurd (omega arith)
 
     more : (l : List ℕ) → eqb (length l) 0 ≡ false → 0 < length l
-    more [] e = absurd (let f : true ≡ false = e in cc)
-    more (x ∷ l) e = omega arith
+    more l e = grind arith

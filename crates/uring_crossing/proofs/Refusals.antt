@@ -1,10 +1,9 @@
 -- Which words tell that memory was refused.
-use Rattle.std.proofs.Common.{◌≡◌, ℕ, ◌≤◌, Bool, true, false, List, length, Option, Some, None, Result, Ok, Err, if◌then◌else◌, refl, sym, ap, subst, arith}
-use Rattle.uring_crossing.proofs.Common.{Core, CrashMachine, Epoch, FitsApart, FitsRun, History, IfSome, IsErrOf, IsSomeAnd, Setup, Sqe, Step, SubmittedApart, TellsUnrefusedOn, elements_for, elements_for_call, nat_lt, submit_told, world}
+use Rattle.std.proofs.Common.{◌≡◌, ℕ, ◌≤◌, Bool, List, length, Option, Some, None, Result, Ok, Err, if◌then◌else◌, sym, ap, subst, arith}
+use Rattle.uring_crossing.proofs.Common.{Core, CrashMachine, Epoch, FitsApart, FitsRun, History, IfSome, IsErrOf, IsSomeAnd, Setup, Sqe, Step, SubmittedApart, TellsUnrefusedOn, elements_for, elements_for_call, submit_told, world}
 use Rattle.uring_entry.specs.Submission.{Call}
 use Rattle.uring_core.specs.World.{World}
 use Rattle.uring_core.specs.StepAnswers.{end_answer_in}
-use Rattle.uring_core.specs.WholeCalls.{after_taken, after_published}
 use Rattle.uring_core.specs.declared.answer.Answer.{Answer}
 use Rattle.uring_core.specs.declared.answer.Answer.TheVariants as answer
 use Rattle.uring_core.specs.declared.step.Step.TheVariants as step
@@ -18,8 +17,7 @@ use Rattle.uring_crossing.specs.declared.core_words.answer_words.AnswerWords.{An
 
 -- no other answer has the kind of Again
 again_alone : (a : Answer) → kind_of a ≡ 11 → a ≡ answer.Again
-again_alone answer.Again is = refl
-again_alone _ is = absurd (omega (arith, is))
+again_alone a is = grind arith
 
 -- an answer that refuses no memory is told as one
 unrefused_is_told : (g : Setup) (w : World) (s : Step) (a : Answer) → IsUnrefused g w s a
@@ -32,10 +30,7 @@ pub core_granted : (grants : ℕ → Type 0) (place : Option Core) (given : Opti
     → given ≡ Some s → (a : Answer) (words : AnswerWords) → words ≡ words_of a
     → IsSomeAnd place (λ core. (h : History) (n : ℕ) → FitsApart core h → grants n → elements_for core (world core.setup h) s ≤ n → a ≡ answer.Again → ⊥)
     → IfSome place (λ core. IfSome given (λ t. (h : History) (n : ℕ) → FitsApart core h → grants n → elements_for core (world core.setup h) t ≤ n → IsAgain words → ⊥))
-core_granted grants None given s is a words told made = absurd made
-core_granted grants (Some core) given s is a words told made =
-    subst (λ o. IfSome o (λ t. (h : History) (n : ℕ) → FitsApart core h → grants n → elements_for core (world core.setup h) t ≤ n → IsAgain words → ⊥)) (sym is)
-    (λ h n fits has few again. made h n fits has few (again_alone a (subst IsAgain told again)))
+core_granted grants place given s is a words told made = grind arith
 
 -- and that to a machine's
 pub machine_granted : (grants : ℕ → Type 0) (place : Option Machine) (given : Option Step) (s : Step)
@@ -52,31 +47,23 @@ pub crash_unrefused : (grants : ℕ → Type 0) (place now : Option CrashMachine
     → now ≡ place → given ≡ Some s → (a : Answer) (words : AnswerWords) → words ≡ words_of a
     → IsSomeAnd now (λ m. ((n : ℕ) → grants n) → (e : Epoch) (earlier : List Epoch) → FitsRun m e earlier → IsUnrefusedOn m.files (world m.core.setup e.history) s a)
     → ((n : ℕ) → grants n) → IsSomeAnd given (λ t. IsSomeAnd place (λ m. TellsUnrefusedOn t m words))
-crash_unrefused grants place None given s kept is a words told made all = absurd made
-crash_unrefused grants place (Some m) given s kept is a words told made all =
-    subst (λ o. IsSomeAnd o (λ t. IsSomeAnd place (λ m. TellsUnrefusedOn t m words))) (sym is)
-    (subst (λ o. IsSomeAnd o (λ m. TellsUnrefusedOn s m words)) kept (record { given = a; told = told; unrefused = made all }))
+crash_unrefused grants place now given s kept is a words told made all = grind arith
 
 -- neither answer of an open call's End is Again
 no_kind : (is_left : Bool) (accepted dropped head : ℕ)
     → kind_of (if is_left then answer.NotAll else answer.Taken accepted dropped head) ≡ 11 → ⊥
-no_kind true accepted dropped head is = omega (arith, is)
-no_kind false accepted dropped head is = omega (arith, is)
+no_kind is_left accepted dropped head is = grind arith
 
 -- no End is answered Again
 end_is_not_again : (g : Setup) (w : World) (call : Option Call) → kind_of (end_answer_in g w call) ≡ 11 → ⊥
-end_is_not_again g w None is = omega (arith, is)
-end_is_not_again g w (Some call) is = no_kind (nat_lt call.taken call.count) _ _ _ is
+end_is_not_again g w call is = grind arith
 
 -- what C is told is Again only if the Begin of the call was answered so
 again_of_begin : (entries : List Sqe) (made : Result Answer NotSubmitted) (old new : Core) (h : History)
     → SubmittedApart entries made old new → FitsApart old h → kind_of (submit_told made) ≡ 11
     → IsErrOf made (not_made_as.Begin answer.Again)
-again_of_begin entries (Ok told) old new h made fits is =
-    let w = world new.setup (after_taken old.setup (length entries) (after_published old.setup entries h)) in
-    absurd (end_is_not_again new.setup w w.submission.call (subst (λ a. kind_of a ≡ 11) ((made.fits h fits).lawful.0) is))
-again_of_begin entries (Err (not_made_as.Begin refusal)) old new h made fits is =
-    ap (λ a. Err (not_made_as.Begin a)) (again_alone refusal is)
+again_of_begin entries (Ok told) old new h made fits is = grind (arith, end_is_not_again)
+again_of_begin entries (Err (not_made_as.Begin refusal)) old new h made fits is = grind arith
 again_of_begin entries (Err not_made_as.Closed) old new h made fits is = absurd (omega (arith, is))
 again_of_begin entries (Err not_made_as.InCall) old new h made fits is = absurd (omega (arith, is))
 again_of_begin entries (Err not_made_as.TooMany) old new h made fits is = absurd (omega (arith, is))
@@ -88,8 +75,4 @@ pub submit_granted : (grants : ℕ → Type 0) (place after : Option Core) (entr
     → IsSomeAnd place (λ old. IsSomeAnd after (SubmittedApart entries made old))
     → IsSomeAnd place (λ core. (h : History) (n : ℕ) → FitsApart core h → grants n → elements_for_call core (length entries) ≤ n → IsErrOf made (not_made_as.Begin answer.Again) → ⊥)
     → IfSome place (λ core. (h : History) (n : ℕ) → FitsApart core h → grants n → elements_for_call core many ≤ n → IsAgain words → ⊥)
-submit_granted grants None after entries many is made words told makes granted = absurd granted
-submit_granted grants (Some core) None entries many is made words told makes granted = absurd makes
-submit_granted grants (Some core) (Some new) entries many is made words told makes granted =
-    λ h n fits has few again. granted h n fits has (subst (λ k. elements_for_call core k ≤ n) (sym is) few)
-    (again_of_begin entries made core new h makes fits (subst IsAgain told again))
+submit_granted grants place after entries many is made words told makes granted = grind (arith, again_of_begin)

@@ -1,6 +1,6 @@
 -- The tokens of a set-up's line.
-use Rattle.std.proofs.Common.{◌≡◌, ℕ, ◌<◌, ◌^◌, Bool, true, false, eqb, List, [], ◌∷◌, ◌++◌, refl, sym, ap, ◌∙◌, inl, inr, append-nil, append_assoc, arith}
-use Rattle.uring_crossing.proofs.Common.{Setup, and_parts, cases_Bool, codes, eqb-true, named_if, setup_line, setup_tokens, token_if}
+use Rattle.std.proofs.Common.{◌≡◌, ℕ, ◌<◌, ◌^◌, Bool, true, false, eqb, List, [], ◌∷◌, ◌++◌, refl, ap, ◌∙◌, append-nil, append_assoc, arith}
+use Rattle.uring_crossing.proofs.Common.{Setup, and_parts, codes, named_if, setup_line, setup_tokens, token_if}
 use Rattle.std.specs.Char.{is_ascii_digit}
 use Rattle.std.specs.Fmt.{decimal}
 use Rattle.std.specs.List.{All, list_all}
@@ -14,11 +14,7 @@ abbrev HasNoBlank : List ℕ → Type 0
 HasNoBlank bytes = All (λ b. eqb b 32 ≡ false) bytes
 
 no_digit : (b : ℕ) → is_ascii_digit b ≡ true → eqb b 32 ≡ false
-no_digit b digit =
-    elim (cases_Bool (eqb b 32)) [
-      | inl same ↦ let no : is_ascii_digit 32 ≡ true = ap is_ascii_digit (sym (eqb-true b 32 same)) ∙ digit in absurd (let f : false ≡ true = no in cc)
-      | inr other ↦ other
-    ]
+no_digit b digit = grind arith
 
 no_blank : (bs : List ℕ) → list_all is_ascii_digit bs ≡ true → HasNoBlank bs
 no_blank [] e = λ k d lt. absurd (omega arith)
@@ -44,10 +40,7 @@ end_of stops linux = named_if stops (codes " --stop") ++ named_if linux (codes "
 end_tokens : (n : ℕ) (stops linux : Bool) → n < 2 ^ 64
     → tokens_of (decimal n ++ end_of stops linux)
     ≡ decimal n ∷ (token_if stops (codes "--stop") ++ token_if linux (codes "--linux"))
-end_tokens n true true small = number_first n (codes "--stop --linux") small
-end_tokens n true false small = number_first n (codes "--stop") small
-end_tokens n false true small = number_first n (codes "--linux") small
-end_tokens n false false small = number_last n small
+end_tokens n stops linux small = grind (arith, number_first, number_last)
 
 regrouped : (a b c d e f g h i j : List ℕ)
     → a ++ b ++ c ++ d ++ e ++ f ++ g ++ h ++ i ++ j

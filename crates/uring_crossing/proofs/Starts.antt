@@ -1,5 +1,5 @@
 -- Which words ask for a machine or a ring that serves, and which don't.
-use Rattle.std.proofs.Common.{◌≡◌, ◌<◌, ◌≤◌, ℕ, true, List, sym, subst, inl, inr, ◌∙◌, arith}
+use Rattle.std.proofs.Common.{◌≡◌, ◌<◌, ◌≤◌, ℕ, true, List, inl, inr, ◌∙◌, arith}
 use Rattle.uring_crossing.proofs.Common.{All, IsNoStart, Setup, both_ways}
 use Rattle.uring_entry.proofs.Powers.{rounded_once}
 use Rattle.uring_crossing.specs.Outcomes.Outcomes.{TakesWhole, IsNoWalk}
@@ -20,10 +20,7 @@ no_start_many w s unit count a many = λ t b. inr (omega (arith, a.0.files_kept,
 
 pub is_start : (w : SetupWords) (s : Setup) (unit count : ℕ) → IsAskedFor w s → 0 < unit → count ≤ s.files
     → IsNoStart w unit count → ⊥
-is_start w s unit count a some few refuses = elim (refuses s a) [
-  | inl none ↦ absurd (omega (arith, none, some))
-  | inr many ↦ absurd (omega (arith, many, few))
-]
+is_start w s unit count a some few refuses = grind arith
 
 -- A ring that takes calls of these lengths in whole.
 
@@ -38,8 +35,7 @@ no_walk_linux w lens linux = λ t b takes. both_ways t.linux takes.1 (b.2 ∙ li
 
 pub no_walk_long : (w : SetupWords) (s : Setup) (lens : List ℕ) → IsAskedFor w s
     → (All (λ len. len ≤ s.sq) lens → ⊥) → IsNoWalk w lens
-no_walk_long w s lens a long = λ t b takes.
-    long (subst (λ (k : ℕ). All (λ len. len ≤ k) lens) (sym (rounded_once w.sq s.sq t.sq a.0.sq_rounded b.0.sq_rounded a.0.sq_asked)) takes.2)
+no_walk_long w s lens a long = grind (arith, rounded_once)
 
 pub is_walk : (w : SetupWords) (s : Setup) (lens : List ℕ) → IsAskedFor w s → TakesWhole s lens
     → IsNoWalk w lens → ⊥

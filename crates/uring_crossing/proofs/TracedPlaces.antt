@@ -1,5 +1,5 @@
 -- The step that is told at each place of a submission call is the one that stands there.
-use Rattle.std.proofs.Common.{◌≡◌, ℕ, zero, suc, ◌+◌, ◌-◌, ◌*◌, ◌/◌, ◌%◌, ◌^◌, ◌==◌, nat_lt, nat_le, Bool, true, false, cond, Option, Some, None, option_map, List, [], ◌∷◌, ◌++◌, length, map, slice_get, refl, sym, ap, ◌∙◌, arith}
+use Rattle.std.proofs.Common.{◌≡◌, ℕ, zero, suc, ◌+◌, ◌-◌, ◌*◌, ◌/◌, ◌%◌, ◌^◌, ◌==◌, nat_lt, nat_le, Bool, false, cond, Option, Some, None, option_map, List, [], ◌∷◌, ◌++◌, length, map, slice_get, refl, sym, ap, ◌∙◌, arith}
 use Rattle.std.proofs.lemmas.Grind.{common_steps}
 use Rattle.uring_crossing.proofs.Common.{Event, Step}
 use Rattle.uring_core.specs.declared.answer.Answer.{Answer}
@@ -19,9 +19,7 @@ pick is_within is_fill slot entry other =
 
 same : (w w' f f' : Bool) (s s' : ℕ) (e e' : Option EntryWords) (o o' : Option Step)
     → w ≡ w' → f ≡ f' → s ≡ s' → e ≡ e' → o ≡ o' → pick w f s e o ≡ pick w' f' s' e' o'
-same w w' f f' s s' e e' o o' ww ff ss ee oo =
-    ap (λ x. pick x f s e o) ww ∙ ap (λ x. pick w' x s e o) ff ∙ ap (λ x. pick w' f' x e o) ss
-    ∙ ap (λ x. pick w' f' s' x o) ee ∙ ap (λ x. pick w' f' s' e' x) oo
+same w w' f f' s s' e e' o o' ww ff ss ee oo = grind arith
 
 -- the step of this place among those that put entries in from this slot on, and others after them
 abbrev at : ℕ → List EntryWords → List Step → ℕ → Option Step
@@ -33,16 +31,7 @@ puts_at : (slot : ℕ) (entries : List EntryWords) (others : List Step) (k : ℕ
 puts_at slot [] others k = grind (arith, common_steps)
 puts_at slot (entry ∷ later) others zero = grind (arith, common_steps)
 puts_at slot (entry ∷ later) others (suc zero) = grind (arith, common_steps)
-puts_at slot (entry ∷ later) others (suc (suc k)) =
-    puts_at (slot + 1) later others k
-    ∙ same (nat_lt k (2 * length later)) (nat_lt (suc (suc k)) (2 * suc (length later))) (k % 2 == 0) (suc (suc k) % 2 == 0)
-    (slot + 1 + k / 2) (slot + suc (suc k) / 2) (slice_get later (k / 2)) (slice_get (entry ∷ later) (suc (suc k) / 2))
-    (slice_get others (k - 2 * length later)) (slice_get others (suc (suc k) - 2 * suc (length later)))
-    (grind (arith, common_steps))
-    (ap (λ n. n == 0) (let e : k % 2 ≡ suc (suc k) % 2 = omega arith in e))
-    (omega arith)
-    (sym (ap (λ n. slice_get (entry ∷ later) n) (let e : suc (suc k) / 2 ≡ suc (k / 2) = omega arith in e)))
-    (ap (λ n. slice_get others n) (let e : k - 2 * length later ≡ suc (suc k) - 2 * suc (length later) = omega arith in e))
+puts_at slot (entry ∷ later) others (suc (suc k)) = grind (arith, (puts_at (slot + 1) later others k))
 
 -- the takes, and the end after them
 takes_at : (entries : List EntryWords) (is_accepted : Bool) (end : Answer) (j : ℕ)
@@ -51,9 +40,7 @@ takes_at : (entries : List EntryWords) (is_accepted : Bool) (end : Answer) (j : 
 takes_at [] is_accepted end zero = refl
 takes_at [] is_accepted end (suc j) = grind (arith, common_steps)
 takes_at (entry ∷ later) is_accepted end zero = refl
-takes_at (entry ∷ later) is_accepted end (suc j) =
-    ap (λ b. option_map (λ e. e.0) (take_or_close (slice_get later j) is_accepted b end)) (let e : (suc j == suc (length later)) ≡ (j == length later) = grind (arith, common_steps) in e)
-    ∙ takes_at later is_accepted end j
+takes_at (entry ∷ later) is_accepted end (suc j) = grind (arith, (takes_at later is_accepted end j))
 
 -- what is after those that put entries in
 abbrev others : List EntryWords → List Step
@@ -68,25 +55,16 @@ tested is_tail is_begin entries head accepted dropped after j =
 
 calls_at : (entries : List EntryWords) (head accepted dropped after k : ℕ)
     → option_map (λ e. e.0) (call_event entries head (answer.Taken accepted dropped after) k) ≡ slice_get (others entries) k
-calls_at entries head accepted dropped after zero = refl
-calls_at entries head accepted dropped after (suc zero) = refl
-calls_at entries head accepted dropped after (suc (suc j)) =
-    ap (λ b. tested b (suc (suc j) == 1) entries head accepted dropped after (suc (suc j) - 2)) (let e : (suc (suc j) == 0) ≡ false = grind (arith, common_steps) in e)
-    ∙ ap (λ b. tested false b entries head accepted dropped after (suc (suc j) - 2)) (let e : (suc (suc j) == 1) ≡ false = grind (arith, common_steps) in e)
-    ∙ ap (λ n. tested false false entries head accepted dropped after n) (let e : suc (suc j) - 2 ≡ j = omega arith in e)
-    ∙ takes_at entries (nat_lt j accepted) (answer.Taken accepted dropped after) j
+calls_at entries head accepted dropped after k = grind (arith, takes_at)
 
 -- of an event the step
 put_at : (is_fill : Bool) (slot : ℕ) (entry : Option EntryWords)
     → option_map (λ e. e.0) (cond is_fill (filled slot entry) (Some (step.Index slot, answer.Staged))) ≡ cond is_fill (fill slot entry) (Some (step.Index slot))
-put_at true slot None = refl
-put_at true slot (Some entry) = refl
-put_at false slot entry = refl
+put_at is_fill slot entry = grind arith
 
 both : (w : Bool) (x y : Option Event) (x' y' : Option Step) → option_map (λ e. e.0) x ≡ x' → option_map (λ e. e.0) y ≡ y'
     → option_map (λ e. e.0) (cond w x y) ≡ cond w x' y'
-both true x y x' y' first second = first
-both false x y x' y' first second = second
+both w x y x' y' first second = grind arith
 
 -- a submission, as far as its tests are known
 abbrev sent : (is_long is_first is_put : Bool) → List EntryWords → (head accepted dropped after put later : ℕ) → Option Step

@@ -229,13 +229,6 @@ accept_held {w} {v} {g} {h} {r} {entry} {key} s a c outstanding running =
       untouched = λ m le. let old = a.untouched m (omega arith) in assumption;
     }
 
--- what the code keeps of an entry
-prepared : (e : Sqe) (p : Result Op Fault)
-    → IfOk p (λ op. (fault_of e ≡ None) × (op ≡ operation_of e))
-    → IfErr p (λ fault. fault_of e ≡ Some fault)
-    → (result_ok p ≡ op_of e) × (is_some (result_ok p) ≡ not (is_faulty e))
-prepared e p right wrong = grind arith
-
 pub kept_op : (e : Sqe) (p : Result Op Fault) (o : Option Op) (none : Bool)
     → IfOk p (λ op. (fault_of e ≡ None) × (op ≡ operation_of e))
     → IfErr p (λ fault. fault_of e ≡ Some fault) → o ≡ result_ok p → is_some o ≡ not none

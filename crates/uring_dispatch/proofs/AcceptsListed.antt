@@ -1,6 +1,6 @@
 -- Who waits, when an entry is accepted, a call ends and memory is asked for.
-use Rattle.std.proofs.Common.{◌≡◌, ◌≢◌, ◌⊎◌, ℕ, ◌+◌, ◌/◌, ◌<◌, ◌≤◌, length, Bool, false, ◌||◌, Option, Some, None, is_some, refl, sym, ◌∙◌, ap, subst, arith, inl, inr}
-use Rattle.uring_dispatch.proofs.Common.{Accepts, CanGrow, Group, Groups, GrowsTo, HasSame, IsListed, IsListedAt, IsSound, NumberSet, Reaches, Request, Sqe, StandsAsBefore, Starts, Waiting, Window, at, cases_eq, cases_lt, end_of, found_or, group_at, holds, holds_same, is_before, is_drain, is_faulty, same_Some, start_of, stop_of, with_member}
+use Rattle.std.proofs.Common.{◌≡◌, ◌≢◌, ◌⊎◌, ℕ, ◌+◌, ◌/◌, ◌<◌, ◌≤◌, length, Bool, ◌||◌, Option, Some, None, is_some, refl, sym, ◌∙◌, ap, subst, arith, inl, inr}
+use Rattle.uring_dispatch.proofs.Common.{Accepts, Group, Groups, GrowsTo, HasSame, IsListed, IsListedAt, IsSound, NumberSet, Reaches, Request, Sqe, StandsAsBefore, Starts, Waiting, Window, at, cases_eq, cases_lt, end_of, found_or, group_at, holds_same, is_before, is_drain, is_faulty, same_Some, stop_of, with_member}
 use Rattle.uring_dispatch.proofs.HeldLemmas.{some_none, linked, least_before}
 use Rattle.uring_dispatch.proofs.WaitingLemmas.{told_before, stands_apart, stands_in}
 
@@ -21,10 +21,6 @@ pub starts_least : (w : Window) (g : Groups) (s : Waiting) (key : ℕ) (q : Grou
 starts_least w g s key q sound l is =
     let kept = sound.kept key q is in
     record { heads = l.heads.low q.least kept.here; doomed = l.doomed.low q.least kept.here }
-
-pub can_grow : (w : Window) (s : NumberSet) (n room : ℕ) → Reaches w s → n ≡ end_of w → 0 < room
-    → end_of w + room ≤ s.limit → CanGrow s n
-can_grow w s n room r is some fits = omega arith
 
 reaches_accepted : (w v : Window) (s t : NumberSet) (n : ℕ) → Reaches w s
     → GrowsTo s t n → n ≡ end_of w → end_of v ≡ end_of w + 1
@@ -99,16 +95,6 @@ cut_listed w g s l = record { told = λ n. let t = l.told n in assumption; heads
 
 -- Memory is asked for.
 
-reaches_same : (w : Window) (s t : NumberSet) → Reaches w s → HasSame s t → Reaches w t
-reaches_same w s t r h = grind arith
-
 pub same_listed : (w : Window) (g : Groups) (s t : Waiting) → IsListed w g s
     → HasSame s.heads t.heads → HasSame s.doomed t.doomed → IsListed w g t
 same_listed w g s t l x y = grind (arith, holds_same)
-
--- Nothing waits at first.
-pub empty_listed : (w : Window) (g : Groups) (s : Waiting) → ((n : ℕ) → at w n ≡ None)
-    → end_of w ≡ 0 → ((n : ℕ) → holds s.heads n ≡ false) → ((n : ℕ) → holds s.doomed n ≡ false)
-    → start_of s.heads ≡ 0 → stop_of s.heads ≡ 0 → start_of s.doomed ≡ 0 → stop_of s.doomed ≡ 0
-    → IsListed w g s
-empty_listed w g s none end heads doomed a b c d = grind arith

@@ -41,9 +41,6 @@ goes_accepted w v g h entry request a = grind arith
 
 -- What the changes of what is noted keep.
 
-pub found_none : (w : Window) (x : ByUserData) → end_of w ≡ 0 → x.stop ≡ 0 → AreFound w x
-found_none w x end stop = grind arith
-
 pub found_dropped : (w : Window) (x y : ByUserData) (n : ℕ) → AreFound w x → n ≤ end_of w
     → ((k : ℕ) → k < n → at w k ≡ None) → x.stop ≤ y.stop
     → ((k : ℕ) → x.stop ≤ k → n ≤ k → y.stop ≤ k) → y.ends ≡ x.ends → AreFound w y

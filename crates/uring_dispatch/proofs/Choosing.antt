@@ -1,6 +1,6 @@
 -- What cancels make of the lists: the end of a request as it is issued, with those that it dooms, and the search for all targets of a cancel.
 use Rattle.std.proofs.Common.{◌≡◌, ℕ, ◌+◌, ◌<◌, ◌≤◌, pos, negsuc, List, [], ◌∷◌, ◌++◌, length, length-append, Bool, true, false, ◌==◌, Option, Some, refl, sym, ◌∙◌, ap, arith}
-use Rattle.uring_dispatch.proofs.Common.{AreHeld, Changes, Groups, HasSameRequests, IsAsBefore, KeepsPlaces, Request, Requests, Shows, Sqe, Window, addr_of, all_below, all_below_none, all_below_past, append-nil, append_assoc, at, cancel_result, chosen, chosen_by, entry_of, if◌then◌else◌, int_le, is_after_failure, is_cancel, is_cancel_all, is_doomed, is_joined, is_running, is_success, is_target, list_any, no_bytes, result_for, runs, some_member, target_of, targets_of, with_cancelled, with_ended, with_issued_end}
+use Rattle.uring_dispatch.proofs.Common.{AreHeld, Groups, HasSameRequests, KeepsPlaces, Requests, Shows, Sqe, Window, addr_of, all_below, all_below_none, all_below_past, append-nil, append_assoc, at, cancel_result, chosen, chosen_by, entry_of, if◌then◌else◌, int_le, is_after_failure, is_cancel, is_cancel_all, is_doomed, is_joined, is_running, is_success, is_target, list_any, no_bytes, result_for, runs, some_member, target_of, targets_of, with_cancelled, with_ended, with_issued_end}
 use Rattle.std.proofs.lemmas.List.Folds.{list_any-append}
 use Rattle.uring_dispatch.specs.declared.outstanding.Outstanding.{Outstanding}
 use Rattle.uring_dispatch.specs.Choosing.{HasChosen}
@@ -10,10 +10,6 @@ use Rattle.uring_dispatch.specs.declared.by_user_data.ByUserData.{ByUserData}
 
 none_cancelled : (r : Requests) → with_cancelled r [] ≡ r
 none_cancelled r = ap (λ all. record r { cancelled = all }) (append-nil r.cancelled)
-
--- one that fails dooms nobody
-pub failing_chooses : (r : Requests) (n below : ℕ) → chosen_by r n (negsuc below) ≡ []
-failing_chooses r n below = grind arith
 
 pub held_failing : (v : Window) (h : Groups) (r : Requests) (n below : ℕ) → AreHeld v h r
     → AreHeld v h (with_cancelled r (chosen_by r n (negsuc below)))
@@ -45,15 +41,8 @@ cancel_succeeds r n is = by_all (is_cancel_all (entry_of r n)) refl
 
 -- A cancel chooses one.
 
-pub choose_same : (w v : Window) (m : ℕ) (p : Request) → at w m ≡ Some p
-    → Changes w v m (Some (chosen p)) → IsAsBefore w v → v.running ≡ w.running → HasSameRequests w v
-choose_same w v m p there c as_before running = grind arith
-
 same_none : (w : Window) → HasSameRequests w w
 same_none w = assumption
-
-same_both : (u v w : Window) → HasSameRequests u v → HasSameRequests v w → HasSameRequests u w
-same_both u v w a b = grind arith
 
 pub chosen_nobody : (d : Outstanding) → HasChosen d d
 chosen_nobody d = record { same = same_none d.grouped.window; groups = refl; memory = omega arith; places = omega arith }

@@ -1,6 +1,6 @@
 -- The queue of barriers, and what the groups keep when a request is accepted, and when a group is let go: each that drains has its barrier, and the first barrier holds.
-use Rattle.std.proofs.Common.{◌≡◌, ◌≢◌, ℕ, ◌+◌, ◌<◌, ◌≤◌, ◌⊎◌, List, [], ◌∷◌, ◌++◌, Bool, true, false, Option, Some, None, is_some, refl, sym, ◌∙◌, ap, arith, inl, inr, get_or, length, subst, ◌==◌, ltb}
-use Rattle.uring_dispatch.proofs.Common.{AreGroups, Barrier, Group, Groups, HasBarrierBefore, IsBeyond, IsFirstDraining, IsLiveFront, IsSorted, MatchOption, added_same, and_from, and_parts, both_ways, cases_eq, covers, drain_of, eq-eqb, eqb-true, false≢true, found_or, group_at, if◌then◌else◌, last_group, list_all, list_any, ltb-true, or_cases, or_left, or_right, starts_at, with_barrier, with_member}
+use Rattle.std.proofs.Common.{◌≡◌, ◌≢◌, ℕ, ◌+◌, ◌<◌, ◌≤◌, ◌⊎◌, List, [], ◌∷◌, ◌++◌, Bool, true, Option, Some, None, refl, sym, ◌∙◌, ap, arith, inl, inr, get_or, length, subst, ◌==◌, ltb}
+use Rattle.uring_dispatch.proofs.Common.{AreGroups, Barrier, Group, Groups, HasBarrierBefore, IsBeyond, IsFirstDraining, IsLiveFront, IsSorted, MatchOption, added_same, and_from, and_parts, cases_eq, covers, drain_of, eqb-true, false≢true, group_at, if◌then◌else◌, last_group, list_all, list_any, ltb-true, or_cases, or_left, or_right, with_barrier, with_member}
 
 -- every barrier after the first has no smaller number
 covered_above : (b : Barrier) (rest : List Barrier) (key number : ℕ)
@@ -68,39 +68,7 @@ pub covered_pushed : (barriers : List Barrier) (key number : ℕ)
     → list_any (covers key number) (barriers ++ record { number = number; key = key } ∷ []) ≡ true
 covered_pushed barriers key number = grind (arith, added_same, and_from)
 
--- A first barrier that isn't live is dropped.
-
-pub covered_pop : (records : List (Option Group)) (b : Barrier) (rest : List Barrier) (key number : ℕ)
-    → drain_of (get_or records b.key None) ≢ Some b.number
-    → drain_of (get_or records key None) ≡ Some number
-    → list_any (covers key number) (b ∷ rest) ≡ true → list_any (covers key number) rest ≡ true
-covered_pop records b rest key number dead drains any = grind arith
-
-pub beyond_pop : (b : Barrier) (rest : List Barrier) (n : ℕ) → IsBeyond (b ∷ rest) n
-    → IsBeyond rest n
-beyond_pop b rest n all = (and_parts (ltb b.number n) _ all).1
-
 -- What accepting a request keeps.
-
--- a group that doesn't drain from its new member on drained before
-found_before : (o : Option ℕ) (b : Bool) (n d : ℕ) → found_or o b n ≡ Some d → d ≢ n → o ≡ Some d
-found_before o b n d e ne = grind arith
-
-covered_accept : (records : List (Option Group)) (barriers : List Barrier) (old : Option Group) (key n d : ℕ) (drains faulty : Bool)
-    → ((number : ℕ) → drain_of old ≡ Some number → list_any (covers key number) barriers ≡ true)
-    → (with_member old n drains faulty).drain ≡ Some d → d ≢ n
-    → list_any (covers key d) barriers ≡ true
-covered_accept records barriers old key n d drains faulty was e ne = grind arith
-
-pub starts_at_yes : (o : Option ℕ) (n : ℕ) → starts_at o n ≡ true → o ≡ Some n
-starts_at_yes o n e = grind arith
-
-pub starts_at_no : (o : Option ℕ) (n : ℕ) → starts_at o n ≡ false → o ≢ Some n
-starts_at_no o n e same = both_ways _ e (ap (λ x. starts_at x n) same ∙ eq-eqb n n refl)
-
-with_added : (barriers : List Barrier) (o : Option ℕ) (n key : ℕ) → o ≡ Some n
-    → with_barrier barriers o n key ≡ barriers ++ record { number = n; key = key } ∷ []
-with_added barriers o n key is = grind arith
 
 with_cases : (barriers : List Barrier) (o : Option ℕ) (n key : ℕ)
     → ((o ≡ Some n) × (with_barrier barriers o n key ≡ barriers ++ record { number = n; key = key } ∷ []))
@@ -172,13 +140,6 @@ only_key b key k o is e = grind arith
 
 -- What letting go a group keeps.
 
-pub remove_groups : (records new : List (Option Group)) (barriers left : List Barrier) (last : Option ℕ) (key : ℕ)
-    → AreGroups records barriers last → get_or new key None ≡ None
-    → ((k : ℕ) → k ≢ key → get_or new k None ≡ get_or records k None)
-    → ((k d : ℕ) → drain_of (get_or new k None) ≡ Some d → list_any (covers k d) barriers ≡ true → list_any (covers k d) left ≡ true)
-    → (IsSorted barriers → IsSorted left) → last ≡ None → AreGroups new left last
-remove_groups records new barriers left last key g gone others covered sorted closed = grind arith
-
 head_is : (barriers : List Barrier) (b : Barrier) → 0 < length barriers → b ≡ get_or barriers 0 b
     → (rest : List Barrier) × (barriers ≡ b ∷ rest)
 head_is [] b lt e = absurd (omega arith)
@@ -227,14 +188,3 @@ first_draining g b (Some p) a live lt e is =
       drains = ap drain_of is ∙ live b head.0 head.1;
       first = before_free g.records g.barriers g.last b b.number a lt e (omega arith);
     }
-
-pub sorted_pop : (b : Barrier) (rest : List Barrier) → IsSorted (b ∷ rest) → IsSorted rest
-sorted_pop b rest s = s.1
-
-pub head_at : (barriers : List Barrier) (b : Barrier) (rest : List Barrier) (x : Barrier)
-    → barriers ≡ b ∷ rest → x ≡ get_or barriers 0 x → x ≡ b
-head_at barriers b rest x e is = is ∙ ap (λ xs. get_or xs 0 x) e
-
-pub last_kept : (records : List (Option Group)) (barriers : List Barrier) (last : Option ℕ)
-    → AreGroups records barriers last → is_some (last_group records last) ≡ is_some last
-last_kept records barriers last a = grind arith

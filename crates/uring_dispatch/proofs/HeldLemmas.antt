@@ -1,6 +1,6 @@
 -- How an outstanding request stands, from what is held.
 use Rattle.std.proofs.Common.{◌≡◌, ◌≢◌, ℕ, ◌<◌, ◌≤◌, length, Bool, true, false, not, ◌&&◌, ◌||◌, ltb, leb, Option, Some, None, is_some, refl, sym, ◌∙◌, ap, arith, inl, inr}
-use Rattle.uring_dispatch.proofs.Common.{AreHeld, Group, Groups, HasBarrierBefore, HasBefore, HasGroup, IsGroup, IsKept, IsShownGroup, IsSound, Request, Requests, Window, addr_of, and_from, and_left, and_parts, and_right, at, cases_lt, doomed_is, drain_of, draining_is, end_of, entry_of, eq-eqb, false≢true, first_member_inside, group_at, groups_apart, has_ended, has_member, is_before, is_candidate, is_doomed, is_draining, is_issuable, is_outstanding, is_ready, is_running, is_some_value, le-leb, leb-true, lt-ltb, ltb-true, or-false, ready_not_after, ready_not_alone, ready_not_member, ready_yes, user_data_of}
+use Rattle.uring_dispatch.proofs.Common.{AreHeld, Group, Groups, HasBarrierBefore, HasBefore, HasGroup, IsGroup, IsKept, IsShownGroup, IsSound, Request, Requests, Window, addr_of, and_from, and_left, and_parts, at, cases_lt, doomed_is, drain_of, draining_is, end_of, entry_of, false≢true, first_member_inside, group_at, groups_apart, has_ended, has_member, is_before, is_candidate, is_doomed, is_draining, is_issuable, is_outstanding, is_ready, is_running, is_some_value, le-leb, leb-true, lt-ltb, ltb-true, or-false, ready_not_after, ready_not_alone, ready_not_member, ready_yes, user_data_of}
 use Rattle.std.proofs.Math.Numerals.{lt_of_le_of_ne}
 
 pub some_none : {X P : Type 0} {x : X} {o : Option X} → o ≡ None → o ≡ Some x → P
@@ -66,13 +66,6 @@ module _ {w : Window} {g : Groups} {r : Requests} (h : AreHeld w g r) where
 
   pub candidate_none : (n m : ℕ) → at w m ≡ None → is_candidate r n m ≡ false
   candidate_none n m e = and_left _ _ (and_left _ _ (and_left _ _ (outstanding_none m e)))
-
-  pub candidate_other_data : (n m : ℕ) {named_data : ℕ} {q : Request} → at w m ≡ Some q
-      → named_data ≡ addr_of (entry_of r n) → user_data_of q.entry ≢ named_data → is_candidate r n m ≡ false
-  candidate_other_data n m {q = q} e named ne = grind arith
-
-pub candidate_self : (r : Requests) (n m : ℕ) → m ≡ n → is_candidate r n m ≡ false
-candidate_self r n m e = and_left _ _ (and_left _ _ (and_right _ _ (ap not (eq-eqb m n e))))
 
 pub doomed_rest : (a b c : Bool) → a ≡ false → c ≡ false → ((a || b) || c) ≡ b
 doomed_rest a b c x y = ap (λ v. (v || b) || c) x ∙ ap (λ v. b || v) y ∙ or-false b

@@ -120,10 +120,6 @@ module _ {w : Window} {g : Groups} {r : Requests} (s : IsSound w g) (h : AreHeld
 issuable_within : (r : Requests) (k : ℕ) → is_issuable r k ≡ true → k < length r.accepted
 issuable_within r k e = grind arith
 
--- what is tested from n on
-from_on : (p : ℕ → Bool) (n k : ℕ) → (n ≤ k → p k ≡ false) → (leb n k && p k) ≡ false
-from_on p n k none = grind arith
-
 least_doomed : (s : NumberSet) (n : ℕ) (o : Option ℕ)
     → MatchOption o ((k : ℕ) → n ≤ k → holds s k ≡ false) (IsLeastFrom s n)
     → IsLeastOf (λ k. leb n k && holds s k) o

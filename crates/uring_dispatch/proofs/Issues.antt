@@ -1,10 +1,8 @@
 -- What the issue of a request is answered, by what the code found.
 use Rattle.std.proofs.Common.{◌≡◌, ℕ, ◌<◌, ℤ, negsuc, length, Bool, true, false, Some, None, refl, sym, ◌∙◌, ap, inl, inr}
-use Rattle.uring_dispatch.proofs.Common.{Cancel, Ended, NotReady, Op, Requests, Run, Running, Sqe, Unknown, addr_of, cancel_result, cases_Bool, entry_of, if◌then◌else◌, is_cancel, is_cancel_all, is_doomed, is_doomed_own_fault, is_faulty, is_outstanding, is_ready, is_running, op_of, operation_of}
+use Rattle.uring_dispatch.proofs.Common.{Cancel, Ended, Op, Requests, Run, Running, Sqe, Unknown, addr_of, cancel_result, cases_Bool, entry_of, if◌then◌else◌, is_cancel, is_cancel_all, is_doomed, is_doomed_own_fault, is_faulty, is_outstanding, is_ready, is_running, op_of, operation_of}
 use Rattle.uring_entry.proofs.Preparations.{asks_cancel}
-use Rattle.uring_dispatch.specs.declared.answers.Finished.TheVariants as finish
-use Rattle.uring_dispatch.specs.declared.answers.Posts.{Posts}
-use Rattle.uring_dispatch.specs.IssueAndFinish.{issued, issued_waiting, finished, posts_of, posted_by}
+use Rattle.uring_dispatch.specs.IssueAndFinish.{issued, issued_waiting, posts_of, posted_by}
 
 none_faulty : {X : Type 0} (b : Bool) (x : X) → None ≡ (if b then None else Some x) → b ≡ true
 none_faulty true x is = refl
@@ -30,10 +28,6 @@ issued_faulty r n lt faulty = rw (is_doomed_own_fault r n lt faulty, faulty)
 pub issued_doomed : (r : Requests) (n : ℕ) → is_doomed r n ≡ true → is_faulty (entry_of r n) ≡ false
     → Ended (negsuc 124) ≡ issued_waiting r n
 issued_doomed r n doomed right = rw (doomed, right)
-
-pub issued_not_ready : (r : Requests) (n : ℕ) → is_doomed r n ≡ false → is_ready r n ≡ false
-    → NotReady ≡ issued_waiting r n
-issued_not_ready r n free waits = rw (free, waits)
 
 pub issued_cancel : (r : Requests) (n : ℕ) (res : ℤ) → is_doomed r n ≡ false → is_ready r n ≡ true
     → is_cancel (entry_of r n) ≡ true → res ≡ cancel_result r n → Ended res ≡ issued_waiting r n
@@ -74,20 +68,3 @@ posted_none r n res e = rw e
 pub posted_some : (r : Requests) (n : ℕ) (res : ℤ) → is_running r n ≡ true
     → Some (posts_of (entry_of r n) res) ≡ posted_by r n res
 posted_some r n res e = rw e
-
--- a finish is answered by whether the request was running
-pub finished_none : (r : Requests) (n : ℕ) (res : ℤ) → None ≡ posted_by r n res
-    → finish.NotRunning ≡ finished r n
-finished_none r n res e = go (is_running r n) e
-  where
-    go : (b : Bool) → None ≡ (if b then Some (posts_of (entry_of r n) res) else None) → finish.NotRunning ≡ (if b then finish.Ended else finish.NotRunning)
-    go true x = cc
-    go false x = refl
-
-pub finished_some : (r : Requests) (n : ℕ) (res : ℤ) (posted : Posts)
-    → Some posted ≡ posted_by r n res → finish.Ended ≡ finished r n
-finished_some r n res posted e = go (is_running r n) e
-  where
-    go : (b : Bool) → Some posted ≡ (if b then Some (posts_of (entry_of r n) res) else None) → finish.Ended ≡ (if b then finish.Ended else finish.NotRunning)
-    go true x = refl
-    go false x = cc

@@ -8,9 +8,6 @@ use Rattle.uring_dispatch.proofs.Changes.{before_end}
 
 -- Telling anew.
 
-pub keeps_none : (w : Window) (g : Groups) (s : Waiting) → Keeps w g s s
-keeps_none w g s = record { told = λ k e. e; heads = omega arith; doomed = omega arith }
-
 pub keeps_both : (w : Window) (g : Groups) (s t u : Waiting) → Keeps w g s t → Keeps w g t u
     → Keeps w g s u
 keeps_both w g s t u a b = grind arith
@@ -31,10 +28,6 @@ pub forgotten_keeps : (w : Window) (g : Groups) (s t : Waiting) (n : ℕ) → Is
 forgotten_keeps w g s t n own a b = grind arith
 
 -- What an event leaves as it was.
-
--- a request that is the same, in the same group
-pub stands_same : (w v : Window) (g : Groups) (k : ℕ) → at v k ≡ at w k → StandsAsBefore w v g g k
-stands_same w v g k e = grind arith
 
 -- what is told stays right where the request stands as it did
 pub told_before : (w v : Window) (g h : Groups) (s : Waiting) (k : ℕ) → IsListedAt w g s k
@@ -99,11 +92,6 @@ pub tell_outstanding : (w : Window) (g : Groups) (s : Waiting) (n : ℕ) → IsL
     → is_some (at w n) ≡ true → CanTell s n
 tell_outstanding w g s n l there =
     omega (arith, l.heads.stop, l.doomed.stop, l.heads.low n there, l.doomed.low n there, within_end w n there)
-
--- and of one after it
-pub tell_after : (w : Window) (g : Groups) (s : Waiting) (n k : ℕ) → IsListed w g s
-    → is_some (at w n) ≡ true → n ≤ k → k < end_of w → CanTell s k
-tell_after w g s n k l there from to = grind arith
 
 -- fewer requests are outstanding
 pub reaches_fewer : (w v : Window) (s t : NumberSet) → Reaches w s → end_of v ≡ end_of w

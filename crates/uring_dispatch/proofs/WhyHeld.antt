@@ -1,12 +1,12 @@
 -- Why an outstanding request stands as it does, from what is held.
-use Rattle.std.proofs.Common.{◌≡◌, ◌≢◌, ℕ, ◌<◌, ◌≤◌, length, Bool, true, false, not, Option, Some, None, is_some, refl, sym, ◌∙◌, ap, arith, inl, inr}
-use Rattle.uring_dispatch.proofs.Common.{AreHeld, Group, Groups, IsFirst, IsFirstDraining, IsGroup, IsSound, Request, Requests, Window, and_from, and_right, at, cases_lt, drain_of, draining_is, entry_of, fault_of, first_member_inside, group_at, has_ended, holds_back, if◌then◌else◌, is_before, is_draining, is_joined, joined_member, le-leb, least_below_none, least_below_some, lt-leb, lt-ltb, or_from, or_left, or_right}
-use Rattle.uring_entry.specs.Why.{first_doom, faulty_member_of, failed_member_of, doom_of, since_of, holder_of, waiting_for, why_of}
+use Rattle.std.proofs.Common.{◌≡◌, ◌≢◌, ℕ, ◌<◌, ◌≤◌, Bool, true, false, not, Option, Some, None, is_some, refl, sym, ◌∙◌, ap, arith, inl, inr}
+use Rattle.uring_dispatch.proofs.Common.{AreHeld, Group, Groups, IsFirst, IsFirstDraining, IsGroup, IsSound, Request, Requests, Window, and_from, and_right, at, cases_lt, drain_of, draining_is, entry_of, fault_of, first_member_inside, group_at, holds_back, if◌then◌else◌, is_before, is_draining, is_joined, joined_member, le-leb, least_below_none, least_below_some, lt-leb, or_from, or_left, or_right}
+use Rattle.uring_entry.specs.Why.{first_doom, faulty_member_of, failed_member_of, doom_of, since_of, holder_of, waiting_for}
 use Rattle.uring_entry.specs.declared.fault.Fault.{Fault}
 use Rattle.uring_entry.specs.declared.why.Doom.TheVariants.{OwnFault, FaultOf, FailureOf, Cancel}
 use Rattle.uring_entry.specs.declared.why.Since.{Since}
 use Rattle.uring_entry.specs.declared.why.Since.TheVariants.{SameGroup, ItDrains, OwnDrains}
-use Rattle.uring_entry.specs.declared.why.Why.TheVariants.{HasEnded, Waits, MayStart}
+use Rattle.uring_entry.specs.declared.why.Why.TheVariants.{Waits, MayStart}
 use Rattle.uring_entry.proofs.WhyLemmas.{StillWaits, faulty_member_is, failed_member_before, failed_member_none}
 use Rattle.uring_dispatch.specs.Waits.{IsFirstHolder}
 use Rattle.uring_dispatch.proofs.HeldLemmas.{InGroup, its_group, shown_within, draining_held, least_open, vacant, plain_before, within_group}
@@ -148,9 +148,3 @@ pub since_is : (r : Requests) (n m : ℕ) (joined drains : Bool) → is_joined r
     → is_draining r m ≡ drains
     → (if joined then SameGroup else if drains then ItDrains else OwnDrains) ≡ since_of r n m
 since_is r n m joined drains a b = rw (a, b)
-
--- What has ended.
-
-pub why_ended : (r : Requests) (n : ℕ) → n < length r.accepted → has_ended r n ≡ true
-    → HasEnded ≡ why_of r n
-why_ended r n lt ended = rw (lt-ltb n (length r.accepted) lt, ended)

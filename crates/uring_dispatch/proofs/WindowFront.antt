@@ -15,11 +15,6 @@ trimmed_push (k ∷ keys) key t = λ lt. t (omega arith)
 pub at_empty : (w : Window) (n : ℕ) → length w.keys ≡ 0 → at w n ≡ None
 at_empty w n e = grind (arith, at_keyed, key_at_low, key_at_past)
 
-found_some : (requests : List (Option Request)) (o : Option ℕ) → is_some o ≡ true
-    → ((k : ℕ) → o ≡ Some k → is_some (get_or requests k None) ≡ true)
-    → is_some (found_by requests o) ≡ true
-found_some requests o e h = grind arith
-
 pub first_outstanding : (w : Window) → IsWindow w → IsTrimmed w.keys → 0 < length w.keys
     → IsFirst w w.first
 first_outstanding w i t lt = grind (arith, key_at_high, is_some, at_keyed, key_at_low)

@@ -61,10 +61,6 @@ at_key w n = refl
 abbrev pub IsSameBut : List (Option Request) → List (Option Request) → ℕ → Type 0
 IsSameBut was now key = (k : ℕ) → k ≢ key → get_or now k None ≡ get_or was k None
 
-found_other : (was now : List (Option Request)) (key : ℕ) (o : Option ℕ) → IsSameBut was now key → ((k : ℕ) → o ≡ Some k → k ≢ key)
-    → found_by now o ≡ found_by was o
-found_other was now key o h ne = grind arith
-
 -- A request of a new key is pushed.
 
 module _ (w : Window) (requests : List (Option Request)) (key outstanding room : ℕ) (q : Request) (i : IsWindow w)

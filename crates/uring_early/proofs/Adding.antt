@@ -51,9 +51,6 @@ pub record IsReady (running : List Running) (left : List Mark) (n : ℕ) (op : O
   pub asks : IsForFiles op
   pub waits : awaits running left ≡ true
 
-none_taken : (o : Option Outcome) → is_some o ≡ false → o ≡ None
-none_taken o e = grind arith
-
 pub ready_by : (running : List Running) (left : List Mark) (n : ℕ) (one : Running) → Some one ≡ look running n
     → is_some one.taken ≡ false → IsForFiles one.op → awaits running left ≡ true
     → IsReady running left n one.op

@@ -15,10 +15,6 @@ count_by : (transfer file : Bool) (len k : ℕ) → k ≤ (if transfer then min 
     → end_by transfer file len (pos k) ≡ true
 count_by transfer file len k low = rw (leb-zero k, le-leb k _ low) refl
 
-short : (transfer : Bool) (len k : ℕ) → len ≤ 64 → k ≤ (if transfer then len else 0)
-    → k ≤ (if transfer then min len (2 ^ 31 - 1) else 0)
-short transfer len k small low = grind arith
-
 -- a result that is called for on a file
 called_by : (transfer : Bool) (len most : ℕ) (res : ℤ) → len ≤ 64 → most ≤ (if transfer then len else 0)
     → IsCalled most res → end_by transfer true len res ≡ true

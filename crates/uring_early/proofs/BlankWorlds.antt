@@ -1,5 +1,5 @@
 -- A history without its bytes makes the world without them, and is lawful apart if the history is; and back, if what is reaped has the bytes that were posted.
-use Rattle.std.proofs.Common.{◌≡◌, ℕ, ℤ, ◌+◌, ◌-◌, ◌==◌, ◌&&◌, nat_lt, pos, Bool, true, false, min, List, [], ◌∷◌, length, map, Option, Some, None, if◌then◌else◌, refl, sym, ap, subst, ◌∙◌, arith}
+use Rattle.std.proofs.Common.{◌≡◌, ℕ, ℤ, ◌+◌, ◌-◌, ◌==◌, ◌&&◌, nat_lt, Bool, true, false, min, List, [], ◌∷◌, length, map, Option, Some, None, if◌then◌else◌, refl, sym, ap, subst, ◌∙◌, arith}
 use Rattle.uring_early.proofs.Common.{Answer, CalledForApart, Cqe, FinishesApart, History, IsLawfulApart, Setup, Sqe, Step, World, blank, blank_answer, blank_completion, ending, ending_of, happens, is_running, length-map, map-append, next_answer_of, no_bytes, option_map, reap_answer_of, requests_of, slice_get, slice_get-map, with_end_of, world}
 use Rattle.uring_core.specs.World.{taking}
 use Rattle.uring_entry.specs.Completions.{Completions, completion_for, has_room, next_to_reap, put_by_flush, with_posted}
@@ -136,10 +136,6 @@ called_blank g w _ a called = called
 
 finish_back : (b : Bool) (n : ℕ) (a : Answer) → FinishesApart b (blank_answer (step.Finish n) a) → FinishesApart b a
 finish_back b n a called = grind arith
-
-abbrev completion_of : Answer → Cqe
-completion_of (answer.Reaped c) = c
-completion_of _ = record { user_data = 0; res = pos 0; payload = [] }
 
 reap_back : (o : Option Cqe) (w : World) (a : Answer) → next_to_reap w.completions ≡ o
     → blank_answer step.Reap a ≡ reap_answer_of (option_map blank_completion o) → ReapMeets w step.Reap a

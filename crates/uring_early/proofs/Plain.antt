@@ -1,23 +1,15 @@
 -- No outcome tells what a file counts: operations give the same on files without their counts, and leave the same bytes.
-use Rattle.std.proofs.Common.{◌≡◌, ℕ, ℤ, zero, suc, pos, negsuc, Bool, false, List, [], ◌∷◌, Option, Some, None, length, map, take, get_or, refl, sym, ap, ◌∙◌, inl, inr, ◌++◌, ◌+◌, ◌<◌, arith}
-use Rattle.uring_early.proofs.Common.{FileContents, IsOutcome, Op, Outcome, after, cases_lt, empty_file, ext_get_or, file_of, get_or_from_slice_get, if◌then◌else◌, is_lengthening, length-map, map-set, on_file, option_map, option_map_or, plain, replicate, result_of, slice_get, slice_get-get_or, slice_get-map, slice_get_past, slice_index_or, slice_set, take_all, take_more, with_changed}
+use Rattle.std.proofs.Common.{◌≡◌, ℕ, ℤ, zero, suc, pos, negsuc, Bool, List, [], ◌∷◌, Some, None, length, map, take, get_or, refl, sym, ap, ◌∙◌, inl, inr, ◌++◌, ◌+◌, ◌<◌, arith}
+use Rattle.uring_early.proofs.Common.{FileContents, IsOutcome, Op, Outcome, after, cases_lt, empty_file, ext_get_or, file_of, get_or_from_slice_get, if◌then◌else◌, is_lengthening, length-map, map-set, option_map, plain, replicate, result_of, slice_get, slice_get-get_or, slice_get-map, slice_get_past, slice_index_or, slice_set, take_all, take_more, with_changed}
 use Rattle.std.proofs.Math.ListN.{get_or-map}
-use Rattle.uring_files.proofs.OperationCases.{Task, IsTask, many_after}
+use Rattle.uring_files.proofs.OperationCases.{many_after}
 
 file_plain : (files : List FileContents) (fd : ℤ) → file_of (map plain files) fd ≡ option_map plain (file_of files fd)
 file_plain files (pos fd) = slice_get-map plain files fd
 file_plain files (negsuc below) = refl
 
-same_on : (file : Option FileContents) (t : Task) → IsTask t
-    → on_file (option_map plain file) t.ends ≡ on_file file t.ends
-same_on file t is = grind arith
-
 pub result_plain : (files : List FileContents) (op : Op) → result_of (map plain files) op ≡ result_of files op
 result_plain files op = grind (arith, file_plain)
-
-longer_plain : (file : Option FileContents) (t : Task) → IsTask t
-    → option_map_or t.lengthens (option_map plain file) false ≡ option_map_or t.lengthens file false
-longer_plain file t is = grind arith
 
 pub lengthens_plain : (files : List FileContents) (op : Op) → is_lengthening (map plain files) op ≡ is_lengthening files op
 lengthens_plain files op = grind (arith, map, file_plain)

@@ -1,6 +1,6 @@
 -- That a search covers all moves: `passed_one` and `dropped_one` where the next mark is passed or not, and `taken_all` where an operation takes effect first.
-use Rattle.std.proofs.Common.{◌≡◌, ◌<◌, ◌≤◌, ◌+◌, ℕ, true, false, not, List, [], ◌∷◌, ◌++◌, Option, length, map, drop, is_some, refl, sym, ap, subst, ◌∙◌, inl, inr, arith, append-nil}
-use Rattle.uring_early.proofs.Common.{AreTakers, Contains, End, EndsBy, Goes, GoesOn, Idle, IsPlaced, IsSearch, IsWalk, Mark, MayTake, Move, OneGoes, Outcome, Pass, Passes, PassesAt, Replaces, Running, Seat, Standing, Take, Taker, at_first, awaits, awaits_at, drop-cons, drop_all, left_at, length-replicate, look, op_of, passed, passed_at, slice_index_or, took, took_at}
+use Rattle.std.proofs.Common.{◌≡◌, ◌<◌, ◌≤◌, ◌+◌, ℕ, true, false, List, [], ◌∷◌, ◌++◌, length, map, drop, refl, sym, ap, subst, ◌∙◌, inl, inr, arith, append-nil}
+use Rattle.uring_early.proofs.Common.{AreTakers, Contains, Goes, GoesOn, Idle, IsPlaced, IsSearch, IsWalk, Mark, MayTake, Move, OneGoes, Outcome, Pass, Passes, PassesAt, Replaces, Running, Seat, Standing, Take, Taker, at_first, awaits, awaits_at, drop-cons, drop_all, left_at, length-replicate, look, op_of, passed, passed_at, slice_index_or, took, took_at}
 use Rattle.std.proofs.lemmas.List.Elements.{Contains-append_left, Contains-append_right, Contains-append_cases, Contains-push, Contains-push_cases}
 use Rattle.uring_early.proofs.Plain.{after_length}
 
@@ -51,9 +51,6 @@ pub record Takes (s : Standing) (marks : List Mark) : Type 0 where
   pub may : MayTake s marks number outcome
   pub goes : Goes (took s number outcome) marks
 
-awaited_free : (o : Option Outcome) (e : End) → not (is_some o) ≡ true → EndsBy o e → ⊥
-awaited_free o e free ends = grind arith
-
 never_passes : (running : List Running) (m : Mark) (marks : List Mark) → awaits running (m ∷ marks) ≡ true → Passes running m → ⊥
 never_passes running m marks waits passes = grind arith
 
@@ -79,9 +76,6 @@ passed_goes s m marks passes later = record { moves = Pass ∷ later.moves; walk
 left_next : (marks : List Mark) (s : Seat) → s.place < length marks
     → left_at marks s ≡ slice_index_or marks s.place Idle ∷ drop (s.place + 1) marks
 left_next marks s before = grind (arith, drop-cons)
-
-passed_files : (s : Standing) (m : Mark) → (passed s m).files ≡ s.files
-passed_files s m = grind arith
 
 pub passed_one : (count : ℕ) (marks : List Mark) (s x : Seat) (old new : List Seat) → IsPlaced count marks s
     → s.place < length marks → awaits_at marks s ≡ false → PassesAt marks s → x ≡ passed_at marks s

@@ -1,6 +1,6 @@
 -- How operations stand along a timeline: as a search has it, after each event and each effect.
 use Rattle.std.proofs.Common.{◌≡◌, ◌==◌, ◌||◌, ◌&&◌, ℕ, ℤ, Bool, true, false, not, List, [], ◌∷◌, ◌++◌, map, Option, Some, None, if◌then◌else◌, refl, sym, ap, subst, ◌∙◌, arith}
-use Rattle.uring_early.proofs.Common.{Answer, CalledForApart, Change, Ends, EndsAsTaken, EndsBy, FileContents, FinishesApart, History, Idle, IsLawfulApart, IsOutcome, IsSilent, IsTimely, Makes, Mark, MayTake, Op, Outcome, Passes, Requests, Running, Setup, Standing, Starts, Step, Takes, TakesEffect, Timeline, World, and_from, both_ways, change_of, effect_of, entry_of, eqb-true, event_grows, false_from_ne_true, files_at, has_ended, has_started, is_running, look, made_in, mark_by, op_of, operation_at, operation_of, operation_running, option_map, passed, plain, requests_in, requests_of, sound_of, start_mark, taken_by, taken_of, taking, took, with_issued_end, with_taken, without, world}
+use Rattle.uring_early.proofs.Common.{Answer, CalledForApart, Change, Ends, EndsAsTaken, EndsBy, FileContents, History, Idle, IsLawfulApart, IsOutcome, IsTimely, Makes, Mark, MayTake, Op, Outcome, Passes, Requests, Running, Setup, Standing, Starts, Step, Takes, TakesEffect, Timeline, World, and_from, both_ways, change_of, effect_of, entry_of, eqb-true, event_grows, false_from_ne_true, files_at, has_ended, has_started, is_running, look, made_in, mark_by, operation_at, operation_of, operation_running, option_map, passed, plain, requests_in, requests_of, sound_of, start_mark, taken_by, taken_of, taking, took, with_issued_end, with_taken, without, world}
 use Rattle.std.proofs.Math.Bool.{and-false}
 use Rattle.uring_files.proofs.DoneLemmas.{left_snoc}
 use Rattle.uring_core.specs.declared.step.Step.TheVariants as step
@@ -25,9 +25,6 @@ look_push (r ∷ rs) new n = grind (arith, look_push rs new n)
 look_without : (rs : List Running) (m n : ℕ) → look (without rs m) n ≡ (if m == n then None else look rs n)
 look_without [] m n = grind arith
 look_without (r ∷ rs) m n = grind (arith, look_without rs m n)
-
-taking_number : (m : ℕ) (o : Outcome) (r : Running) → (taking m o r).number ≡ r.number
-taking_number m o r = grind arith
 
 look_taken : (rs : List Running) (m n : ℕ) (o : Outcome)
     → look (with_taken rs m o) n ≡ option_map (λ r. taking m o r) (look rs n)
@@ -101,9 +98,6 @@ abbrev StartFacts : Requests → Step → Answer → Type 0
 StartFacts r (step.Issue k) answer.Run = (is_running r k ≡ false) × (has_ended r k ≡ false)
 StartFacts r s a = Unit {0}
 
-silent_start : (r : Requests) (s : Step) (a : Answer) → IsSilent (s, a) → StartFacts r s a
-silent_start r s a silent = grind arith
-
 start_facts : (g : Setup) (w : World) (s : Step) (a : Answer) → Change g w s a → StartFacts w.requests s a
 start_facts g w s a h = grind arith
 
@@ -122,13 +116,6 @@ start_from : (r : Requests) (s : Step) (a : Answer) (k : ℕ) (op : Op) → mark
 start_from r (step.Issue n) answer.Run k op mark = start_by r n k op (operation_running r n) refl mark
 start_from r (step.Finish n) (answer.Ended res bytes) k op mark = absurd cc
 start_from r _ a k op mark = absurd cc
-
-or_none : (o : Option Running) → or_else o None ≡ o
-or_none o = grind arith
-
--- a running request asks for this operation
-asked_by : (b : Bool) (op asked : Op) → (if b then Some asked else None) ≡ Some op → (b ≡ true) × (asked ≡ op)
-asked_by b op asked is = grind arith
 
 -- ---- after a mark
 
@@ -195,9 +182,6 @@ taken_one : (b : Bool) (n m : ℕ) (op : Op) (o : Outcome) (taken : Option Outco
     → option_map (λ r. taking m o r) (one_of b n op taken) ≡ one_of b n op (if m == n then Some o else taken)
 taken_one b n m op o taken = grind arith
 
-op_one : (b : Bool) (n : ℕ) (op : Op) (taken : Option Outcome) → b ≡ true → op_of (one_of b n op taken) ≡ op
-op_one b n op taken ran = cc
-
 pub stands_takes : (g : Setup) (t : Timeline) (st : Standing) (n : ℕ) (o : Outcome) → Stands g t st
     → is_running (requests_in g t) n ≡ true → Stands g (Takes n o ∷ t) (took st n o)
 stands_takes g t st n o stands ran = grind (arith, after_plain, left_snoc, look_taken, taken_one)
@@ -229,13 +213,6 @@ pub ends_so : (g : Setup) (t : Timeline) (st : Standing) (s : Step) (a : Answer)
 ends_so g t st (step.Finish n) (answer.Ended res bytes) stands passes =
     taken_one_of (is_running (requests_in g t) n) n (operation_at g t n) (effect_of t n) (record { res = res; bytes = bytes }) (ap taken_of (sym (stands.running n)) ∙ ended_by (taken_by st.running n) res bytes passes)
 ends_so g t st _ a stands passes = tt
-
--- and what ends as it was taken passes
-start_passes : (running : List Running) (n : ℕ) (o : Option Op) → Passes running (start_mark n o)
-start_passes running n o = grind arith
-
-finish_runs : (b : Bool) (res : ℤ) (bytes : List ℕ) → FinishesApart b (answer.Ended res bytes) → b ≡ true
-finish_runs b res bytes called = grind arith
 
 pub passes_so : (g : Setup) (t : Timeline) (st : Standing) (s : Step) (a : Answer) → Stands g t st
     → CalledForApart g (world g (made_in t)) s a

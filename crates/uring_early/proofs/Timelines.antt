@@ -1,7 +1,7 @@
 -- A search's moves are a timeline of the history, and a timeline whose effects wait is moves of the search.
-use Rattle.std.proofs.Common.{◌≡◌, ◌==◌, ℕ, ℤ, Bool, true, false, not, is_some, List, [], ◌∷◌, ◌++◌, Option, Some, None, if◌then◌else◌, refl, sym, ap, subst, ◌∙◌, append-nil, arith}
+use Rattle.std.proofs.Common.{◌≡◌, ◌==◌, ℕ, ℤ, Bool, true, false, List, [], ◌∷◌, ◌++◌, Option, Some, None, if◌then◌else◌, refl, sym, ap, subst, ◌∙◌, append-nil, arith}
 use Rattle.std.proofs.lemmas.Bool.{false≢true}
-use Rattle.uring_early.proofs.Common.{Answer, EffectsWait, End, EndsAsTaken, EndsLast, Event, FileContents, FitsEnd, Goes, History, IsFated, IsFound, IsLawfulApart, IsLawfulEarly, IsLawfulLate, IsOutcome, IsTimely, IsWalk, Makes, Mark, MayTake, Move, Op, Outcome, Pass, Passes, Setup, Standing, Step, Take, Takes, TakesEffect, Timeline, at_first, awaits, effect_of, end_in, ends_in_effect, eq-eqb, files_at, found_by, history_of, history_of_cons, is_end_of, made_in, mark_by, marks_after, operation_at, operation_running, passed, requests_in, reverse, reverse-reverse, start_mark, taken_of, took}
+use Rattle.uring_early.proofs.Common.{Answer, EffectsWait, End, EndsAsTaken, EndsLast, Event, FileContents, FitsEnd, Goes, History, IsFated, IsFound, IsLawfulApart, IsLawfulEarly, IsLawfulLate, IsOutcome, IsTimely, IsWalk, Makes, Mark, MayTake, Move, Op, Outcome, Pass, Passes, Setup, Standing, Step, Take, Takes, TakesEffect, Timeline, at_first, awaits, effect_of, end_in, ends_in_effect, eq-eqb, files_at, found_by, history_of, history_of_cons, is_end_of, made_in, mark_by, marks_after, operation_at, operation_running, passed, requests_in, reverse, reverse-reverse, start_mark, took}
 use Rattle.uring_core.specs.declared.step.Step.TheVariants as step
 use Rattle.uring_core.specs.declared.answer.Answer.TheVariants as answer
 use Rattle.uring_core.proofs.Running.{running_asks}
@@ -9,7 +9,7 @@ use Rattle.uring_early.proofs.Waiting.{early_effects_can_wait}
 use Rattle.uring_early.proofs.Plain.{outcome_plain, plain_new}
 use Rattle.uring_early.specs.declared.search.Fate.{Fate}
 use Rattle.uring_early.specs.declared.search.Fate.TheVariants as fate
-use Rattle.uring_early.proofs.Standings.{Stands, ends_so, one_of, passes_so, stands_makes, stands_takes, takes_effect}
+use Rattle.uring_early.proofs.Standings.{Stands, ends_so, passes_so, stands_makes, stands_takes, takes_effect}
 
 -- these events, the oldest first, after a history
 abbrev pub onto : History → List Event → History
@@ -89,9 +89,6 @@ abbrev EndsSo : Setup → Timeline → List Event → Type 0
 EndsSo g t later = (n : ℕ) (o : Outcome) → effect_of t n ≡ Some o
     → FitsEnd (end_in (marks_after g (made_in t) later) n) o
 
-taken_free : (b : Bool) (n : ℕ) (op : Op) → not (is_some (taken_of (one_of b n op None))) ≡ true
-taken_free b n op = grind arith
-
 waits_by : (g : Setup) (t : Timeline) (st : Standing) (later : List Event) → Stands g t st → EndsNext t later
     → awaits st.running (marks_after g (made_in t) later) ≡ true
 waits_by g t st later stands next = grind arith
@@ -109,10 +106,6 @@ may_take g t st later n o stands lawful taken next fits = record {
   ends = fits;
   waits = waits_by g t st later stands next;
 }
-
--- going back over an effect
-free_before : (m k : ℕ) (p : Outcome) (t : Timeline) → effect_of (Takes m p ∷ t) k ≡ None → effect_of t k ≡ None
-free_before m k p t free = grind (arith, free)
 
 next_before : (t : Timeline) (later : List Event) → EndsNext t later → IsNext t later
 next_before t later next = grind arith

@@ -1,5 +1,5 @@
 -- The laws of what a ring looks out for.
-use Rattle.std.proofs.Common.{◌≡◌, ◌≤◌, ℕ, ◌+◌, Bool, true, false, not, ◌&&◌, ◌||◌, ◌⊎◌, List, [], ◌∷◌, ◌++◌, if◌then◌else◌, refl, arith}
+use Rattle.std.proofs.Common.{◌≡◌, ◌≤◌, ℕ, ◌+◌, Bool, true, false, not, ◌&&◌, ◌||◌, List, [], ◌∷◌, ◌++◌, if◌then◌else◌, refl, arith}
 use Rattle.std.proofs.lemmas.Bool.{true≢false}
 use Rattle.uring_enter.specs.Waiting.Lookouts.{Happening, Found, Started, Left, Touched, Updated, Waited, Moved, Told, Heard, Opened, Ended, Changed, Woke, makes_ready, moments, has_moved, has_changed, EndLetsNone, LooksAfresh, WakesForEach, TakesItsOwn}
 use Rattle.uring_enter.proofs.Counts.{grows}
@@ -16,33 +16,11 @@ pub looks_afresh : LooksAfresh
 looks_afresh [] earlier same = refl
 looks_afresh (h ∷ newer) earlier same = none_counted (makes_ready h) (has_moved newer) (moments (newer ++ earlier)) (moments earlier) (no_less newer earlier) (looks_afresh newer earlier) same
 
--- who has found a buffer waits for its descriptor alone
-waits_on : (selects bf mb af lb mr lr : Bool) → (bf || mb ≡ true → af || lb ≡ true) → lr ≡ mr
-    → selects && not bf && not mb || mr ≡ false → selects && not af && not lb || lr ≡ false
-waits_on selects bf mb af lb mr lr found ready is = grind arith
-
 -- what is told of a descriptor is the same, a buffer that was found is found still, and a completion may be posted that might before
 rest : (g s selects mp lp bf mb af lb mr lr : Bool) → (lp ≡ true → mp ≡ true) → (bf || mb ≡ true → af || lb ≡ true) → lr ≡ mr
     → (if g && not mp then false else if s then (selects && not bf && not mb || mr) else true) ≡ false
     → (if g && not lp then false else if s then (selects && not af && not lb || lr) else true) ≡ false
 rest g s selects mp lp bf mb af lb mr lr posts buffer ready is = grind arith
-
-none_more : (bw aw k t g s selects mc lc mp lp bf mb af lb mr lr : Bool) → (bw ≡ true → ⊥) → (lc ≡ true → mc ≡ true) → (lp ≡ true → mp ≡ true) → (bf || mb ≡ true → af || lb ≡ true) → lr ≡ mr
-    → (if k then true else if bw then false else if t then mc else if g && not mp then false else if s then (selects && not bf && not mb || mr) else true) ≡ false
-    → (if k then true else if aw then false else if t then lc else if g && not lp then false else if s then (selects && not af && not lb || lr) else true) ≡ false
-none_more bw aw k t g s selects mc lc mp lp bf mb af lb mr lr none counts posts buffer ready is = grind arith
-
-unless : {A : Type 0} (b : Bool) → A ⊎ (b ≡ true) → b ≡ false → A
-unless b h is = grind arith
-
-opposite : (b : Bool) → not b ≡ false → b ≡ true
-opposite b is = grind arith
-
-both : (a b : Bool) → a && b ≡ true → b ≡ true
-both a b is = grind arith
-
-or_true : (b : Bool) → b || true ≡ true
-or_true b = grind arith
 
 pub end_lets_none : EndLetsNone
 end_lets_none log drainages staged linux has_memory is_draining end had_to_wait has_to_wait before after n is_cancelled m l is lets waits =

@@ -1,5 +1,5 @@
 -- The laws of what is shown.
-use Rattle.std.proofs.Common.{◌≡◌, ℕ, ◌+◌, ◌-◌, ◌*◌, ◌%◌, ◌^◌, ◌<◌, ◌≤◌, [], ◌∷◌, arith}
+use Rattle.std.proofs.Common.{◌≡◌, ℕ, ◌+◌, ◌-◌, ◌%◌, ◌^◌, ◌<◌, ◌≤◌, [], ◌∷◌, arith}
 use Rattle.std.proofs.Math.Pow.{mod-mod-pow}
 use Rattle.uring_enter.specs.Completions.Showing.{Posted, Written, Reaped}
 use Rattle.uring_enter.specs.Completions.ShowingLaws.{ShowsWhatWasPosted, StandsApart}
@@ -9,10 +9,6 @@ shows_what_was_posted entries [] run = (omega arith, omega arith, omega arith)
 shows_what_was_posted entries (Posted ∷ earlier) run = grind (arith, (shows_what_was_posted entries earlier run))
 shows_what_was_posted entries (Written ∷ earlier) run = grind (arith, (shows_what_was_posted entries earlier run.0))
 shows_what_was_posted entries (Reaped count ∷ earlier) run = grind (arith, (shows_what_was_posted entries earlier run.0))
-
--- a quotient that is greater makes a number greater by n at least
-quotients_in_order : (n p q : ℕ) → p < q → p * n + n ≤ q * n
-quotients_in_order n p q less = grind arith
 
 -- numbers less than n apart have one remainder only where they are equal
 pub same_remainder : (n a b : ℕ) → a ≤ b → b < a + n → a % n ≡ b % n → a ≡ b

@@ -1,24 +1,14 @@
 -- The laws of what a call takes.
-use Rattle.std.proofs.Common.{◌≡◌, ℕ, ◌+◌, ◌-◌, ◌%◌, ◌^◌, ◌<◌, ◌≤◌, Bool, true, false, not, ◌&&◌, ◌||◌, List, [], ◌∷◌, ◌++◌, length, sym, arith, if◌then◌else◌}
+use Rattle.std.proofs.Common.{◌≡◌, ℕ, ◌+◌, ◌-◌, ◌%◌, ◌^◌, ◌<◌, ◌≤◌, Bool, true, false, ◌||◌, List, [], ◌∷◌, ◌++◌, length, sym, arith}
 use Rattle.std.specs.Int.RustNames.{bit_and}
 use Rattle.uring_enter.proofs.Common.{false≢true, length-append}
 use Rattle.std.proofs.lemmas.Nat.{and_mask}
 use Rattle.uring_enter.proofs.ShowingRuns.{same_remainder, cell_of_position}
 use Rattle.uring_enter.specs.declared.taking_up.taking.Submitting.{Submitting}
 use Rattle.uring_enter.specs.declared.taking_up.taking.Item.{Item}
-use Rattle.uring_enter.specs.declared.taking_up.taking.Onward.{Onward}
-use Rattle.uring_enter.specs.declared.taking_up.taking.Onward.TheVariants.{Takes, IsFull, HasEnded}
+use Rattle.uring_enter.specs.declared.taking_up.taking.Onward.TheVariants.{Takes}
 use Rattle.uring_enter.specs.TakingUp.Takings.{most, ends, has_ended, cell_of, next_of}
 use Rattle.uring_enter.specs.TakingUp.TakingLaws.{TakesWhatIsPublished, TakesEachOnce, TakesNoneAfterAnEnd}
-
-abbrev cell_in : Onward → ℕ
-cell_in (Takes cell) = cell
-cell_in _ = 0
-
--- a cell is taken only where nothing has ended the call, and it hasn't taken the most
-taken_by : (ended less : Bool) (cell named : ℕ) → (if ended then HasEnded else (if not ended && less then Takes cell else IsFull)) ≡ Takes named
-    → (ended ≡ false) × (less ≡ true) × (cell ≡ named)
-taken_by ended less cell named is = grind arith
 
 below_most : (a : Submitting) (taken : List Item) (cell : ℕ) → next_of a taken ≡ Takes cell
     → (has_ended a.submits_all taken ≡ false) × (length taken < most a) × (cell_of a taken ≡ cell)

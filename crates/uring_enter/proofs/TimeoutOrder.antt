@@ -1,18 +1,6 @@
 -- Who ends first.
-use Rattle.std.proofs.Common.{◌≡◌, ℕ, Bool, true, false, List, [], ◌∷◌, ◌++◌, ◌+◌, ◌<◌, ◌≤◌, ◌⊎◌, length, get_or, take, Option, Some, None, if◌then◌else◌, inl, inr, refl, subst, arith}
+use Rattle.std.proofs.Common.{◌≡◌, ℕ, Bool, true, false, List, [], ◌∷◌, ◌++◌, ◌+◌, ◌<◌, ◌≤◌, length, get_or, take, Option, Some, None, if◌then◌else◌, inl, inr, refl, subst, arith}
 use Rattle.uring_enter.proofs.Common.{Contains-append_left, Contains-push, Contains-push_cases, IsNext, IsNextOf, Timeout, ends_before, nearer, take_more}
-
--- what it says of two that one doesn't end before the other
-not_before : (x y : Timeout) → ends_before x y ≡ false
-    → (y.expiry < x.expiry) ⊎ ((y.expiry ≡ x.expiry) × (y.number ≤ x.number))
-not_before x y is = grind arith
-
-before_is : (x y : Timeout) → ends_before x y ≡ true
-    → (x.expiry < y.expiry) ⊎ ((x.expiry ≡ y.expiry) × (x.number < y.number))
-before_is x y is = grind arith
-
-later_is_not : (x y : Timeout) → y.expiry < x.expiry → ends_before x y ≡ false
-later_is_not x y late = grind arith
 
 after_is_not : (x y : Timeout) → y.expiry ≡ x.expiry → y.number ≤ x.number → ends_before x y ≡ false
 after_is_not x y same below = grind arith
@@ -26,9 +14,6 @@ before_one_way x y is = grind arith
 
 pub before_itself : (x : Timeout) → ends_before x x ≡ false
 before_itself x = after_is_not x x refl (omega arith)
-
-pub next_alone : (t : Timeout) → IsNext (t ∷ []) t
-next_alone t = grind arith
 
 pub next_keeps : (xs : List Timeout) (x b : Timeout)
     → IsNext xs b → ends_before x b ≡ false → IsNext (xs ++ x ∷ []) b

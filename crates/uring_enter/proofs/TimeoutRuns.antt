@@ -1,6 +1,6 @@
 -- The laws of timeouts.
-use Rattle.std.proofs.Common.{◌≡◌, ℕ, ◌≤◌, ◌<◌, ◌-◌, ◌^◌, max, ℤ, Bool, true, false, eqb, cond, length, get_or, List, [], ◌∷◌, ◌++◌, ◌⊎◌, inl, inr, Some, None, map, filter, refl, sym, ap, arith, ◌∙◌, if◌then◌else◌}
-use Rattle.uring_enter.proofs.Common.{All, All-cons, All-contains, All-contains_itself, All-filter, All-map, All-nil, All-push, All-weaker, AreApart, Changed, Clock, Contains, Contains-append_right, Contains-get_or, Contains-push_cases, Ended, Event, IsSome, Passed, Posted, Slept, Started, Stopped, Timeout, ends_before, eqb-false, false≢true, filter_passes, get_or-map, is_other, later, length-map, ne_eqb, not-true, not_from_false, or_parts, running, started, time, with_expiry}
+use Rattle.std.proofs.Common.{◌≡◌, ℕ, ◌≤◌, ◌<◌, ◌-◌, ◌^◌, max, Bool, true, false, eqb, cond, length, get_or, List, [], ◌∷◌, ◌++◌, inl, inr, map, filter, refl, sym, ap, arith, ◌∙◌, if◌then◌else◌}
+use Rattle.uring_enter.proofs.Common.{All, All-cons, All-contains, All-contains_itself, All-filter, All-map, All-nil, All-push, All-weaker, AreApart, Changed, Clock, Contains, Contains-append_right, Contains-get_or, Contains-push_cases, Ended, Event, Passed, Posted, Slept, Started, Stopped, Timeout, ends_before, eqb-false, false≢true, filter_passes, get_or-map, is_other, later, length-map, ne_eqb, not_from_false, or_parts, running, started, time, with_expiry}
 use Rattle.uring_operations.specs.declared.entries.timeout.Start.{Start}
 use Rattle.uring_enter.specs.Time.TimeLaws.{IsRun, NeverGoesBack, WasGiven, EndsInTime, starts, EndsOnce, EndsAlone, RunsApart, is_virtual, PassesNoneOver}
 
@@ -33,20 +33,12 @@ all_given (Clock now ∷ earlier) = all_given earlier
 all_given (Slept start stop ∷ earlier) = all_given earlier
 all_given (Passed t ∷ earlier) = all_given earlier
 
--- one that ends has counted enough, or its time is over
-over : (counted late : Bool) (x y : ℤ) → IsSome (if counted then Some x else (if late then Some y else None))
-    → (counted ≡ true) ⊎ (late ≡ true)
-over counted late x y ends = grind arith
-
 pub ends_in_time : EndsInTime
 ends_in_time log t run = grind (arith, All-contains, all_given)
 
 -- none of a number runs, nor after events that don't start it
 abbrev IsNot : ℕ → Timeout → Type 0
 IsNot number t = t.number ≡ number → ⊥
-
-other_is_not : (number : ℕ) (t : Timeout) → is_other number t ≡ true → IsNot number t
-other_is_not number t other = eqb-false t.number number (not-true (eqb t.number number) other)
 
 none_after_filter : (number : ℕ) (rows : List Timeout) → All (IsNot number) (filter (is_other number) rows)
 none_after_filter number rows = grind (arith, filter_passes)

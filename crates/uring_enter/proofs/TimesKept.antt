@@ -1,14 +1,9 @@
 -- What is kept of the timeouts of a ring, and what is told of it.
-use Rattle.std.proofs.Common.{◌≡◌, ℕ, ◌≤◌, ◌<◌, ◌+◌, min, ℤ, Bool, true, false, ltb, leb, length, take, set, List, [], ◌∷◌, ◌++◌, inl, inr, Option, Some, None, map, filter, refl, sym, ap, subst, arith, ◌∙◌, if◌then◌else◌}
-use Rattle.uring_enter.proofs.Common.{AreApart, Changed, Contains, EndsNone, Event, HasCounted, HasNone, IsDueOf, IsEarliest, IsNext, IsNextOf, IsRow, MatchOption, NoneIsOver, Timeout, cases_order, counted_found, due_of, earliest_of, ends_before, has_counted, is_other, is_over, later, leb-false, leb-true, outcome, outcome_at, posted, running, take_more_set, time, with_expiry}
+use Rattle.std.proofs.Common.{◌≡◌, ℕ, ◌≤◌, ◌<◌, ◌+◌, min, ℤ, Bool, true, false, ltb, length, take, set, List, [], ◌∷◌, ◌++◌, inl, inr, Option, Some, None, map, filter, refl, sym, ap, subst, arith, ◌∙◌, if◌then◌else◌}
+use Rattle.uring_enter.proofs.Common.{AreApart, Changed, EndsNone, Event, HasCounted, HasNone, IsDueOf, IsEarliest, IsNext, IsNextOf, IsRow, MatchOption, Timeout, cases_order, counted_found, due_of, earliest_of, ends_before, has_counted, is_other, is_over, later, leb-false, leb-true, outcome, outcome_at, posted, running, take_more_set, time, with_expiry}
 use Rattle.uring_enter.specs.declared.call.wait.WakeSources.{WakeSources}
 use Rattle.uring_enter.specs.declared.call.wait.Woken.{Woken}
-use Rattle.uring_enter.specs.declared.call.wait.Woken.TheVariants.{TimedOut, Other}
 use Rattle.uring_enter.specs.Call.Waits.{has_any, IsWoken, IsPassing, IsPassingBy, woken_of, passing_of}
-
--- none is among none
-none_among : (rows : List Timeout) (t : Timeout) → rows ≡ [] → Contains rows t → ⊥
-none_among rows t none among = grind arith
 
 -- whoever doesn't end before another is over no sooner
 pub no_sooner : (u t : Timeout) → ends_before u t ≡ false → t.expiry ≤ u.expiry
@@ -125,14 +120,6 @@ any_of count rows within = grind arith
 pub any_is : (log : List Event) (count : ℕ) (rows : List Timeout) → count ≤ length rows → take count rows ≡ running log
     → ltb 0 count ≡ has_any (running log)
 any_is log count rows within is = sym (any_of count rows within) ∙ ap has_any is
-
-reached_by : (log : List Event) (limit : ℕ) (b : Bool) → leb limit (time log) ≡ b → NoneIsOver log
-    → IsWoken log (Some limit) (if b then TimedOut else Other)
-reached_by log limit b is none = grind arith
-
-woken_at : (log : List Event) (due : Option Timeout) (limit : Option ℕ) → IsDueOf log due
-    → IsWoken log limit (woken_of due limit (time log))
-woken_at log due limit h = grind arith
 
 pub woken_is : (log : List Event) (due : Option Timeout) (limit : Option ℕ) (now : ℕ) (result : Woken) → IsDueOf log due
     → now ≡ time log → result ≡ woken_of due limit now → IsWoken log limit result

@@ -1,7 +1,7 @@
 -- The words of a completion.
 use Rattle.std.proofs.Common.{◌≡◌, ◌↔◌, ℕ, ◌%◌, ◌^◌, ◌<◌, ◌∙◌, sym, ap, refl, subst, arith, List, [], ◌∷◌, ◌++◌, length}
 use Rattle.std.proofs.lemmas.Nat.{from_le_bytes-to_le_bytes_8}
-use Rattle.uring_entry.proofs.Common.{AreWords, Cqe, HasWords, append-nil, append_cancel_left, bytes_of, cast_signed, cast_unsigned, completion_of, from_le_bytes, to_le_bytes, w32, w64, without_flags}
+use Rattle.uring_entry.proofs.Common.{AreWords, HasWords, append-nil, append_cancel_left, bytes_of, cast_signed, cast_unsigned, completion_of, from_le_bytes, to_le_bytes, w32, w64, without_flags}
 use Rattle.std.proofs.lemmas.Int.{of_z-to_z}
 
 first_eight : (x y : ℕ) (r s : List ℕ) → to_le_bytes w64 x ++ r ≡ to_le_bytes w64 y ++ s
@@ -27,12 +27,6 @@ same_words (x ∷ xs) (y ∷ ys) p q e =
 pub words_after : (a b : ℕ) (rest more : List ℕ) → a < 2 ^ 64 → b < 2 ^ 64 → rest ≡ more
     → AreWords more → AreWords (a ∷ b ∷ (rest ++ []))
 words_after a b rest more first second same range = grind (arith, append-nil)
-
--- the user data, the result and the bytes, as words, are those of a completion
-pub words_made : (c : Cqe) (second : ℕ) (rest : List ℕ) → c.user_data < 2 ^ 64 → second < 2 ^ 64
-    → second ≡ cast_unsigned w32 c.res → length rest ≡ 8 → AreWords rest → bytes_of rest ≡ c.payload
-    → HasWords c (c.user_data ∷ second ∷ rest)
-words_made c second rest user_data word is size range payload = grind arith
 
 -- the low half of a word is the word of the result that it holds
 low_half : (b : ℕ) → cast_unsigned w32 (cast_signed w32 (b % 2 ^ 32)) ≡ b % 2 ^ 32

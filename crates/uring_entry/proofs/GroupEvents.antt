@@ -97,9 +97,6 @@ pub is_last_cut_last : (r : Requests) (k : ℕ) → suc k ≡ length r.accepted
     → is_last (with_cut r) k ≡ true
 is_last_cut_last r k e = or_right _ _ (added_same (λ cut. cut == k + 1) r.cuts (length r.accepted) (eq-eqb _ _ (omega arith)))
 
-is_last_kept : (r : Requests) (k : ℕ) → is_last r k ≡ true → is_last (with_cut r) k ≡ true
-is_last_kept r k was = grind (arith, is_last_cut_last, is_last_cut)
-
 pub group_cut : (r : Requests) (from end : ℕ) → IsGroup r from end → IsGroup (with_cut r) from end
 group_cut r from end g = grind (arith, is_last_cut)
 

@@ -81,10 +81,6 @@ IsTold r n (Waits m since) =
     StillWaits r n × (is_doomed r n ≡ false) × (holder_of r n ≡ Some m) × (since ≡ since_of r n m)
 IsTold r n MayStart = StillWaits r n × (is_doomed r n ≡ false) × (holder_of r n ≡ None)
 
-waiting_told : (r : Requests) (n : ℕ) (o : Option ℕ) → StillWaits r n → is_doomed r n ≡ false
-    → holder_of r n ≡ o → IsTold r n (waiting_for r n o)
-waiting_told r n o s free e = grind arith
-
 -- the tests that are left, with what the next one gives
 abbrev from_doomed : Requests → ℕ → Bool → Why
 from_doomed r n doomed = if doomed then IsDoomed (doom_of r n) else waiting_for r n (holder_of r n)
@@ -97,18 +93,6 @@ from_ended r n ended = if ended then HasEnded else from_running r n (is_running 
 
 abbrev from_given : Requests → ℕ → Bool → Why
 from_given r n given = if not given then NeverAccepted else from_ended r n (has_ended r n)
-
-told_doomed : (r : Requests) (n : ℕ) (b : Bool) → StillWaits r n → is_doomed r n ≡ b
-    → IsTold r n (from_doomed r n b)
-told_doomed r n b s e = grind arith
-
-told_running : (r : Requests) (n : ℕ) (b : Bool) → n < length r.accepted → has_ended r n ≡ false
-    → is_running r n ≡ b → IsTold r n (from_running r n b)
-told_running r n b lt going e = grind arith
-
-told_ended : (r : Requests) (n : ℕ) (b : Bool) → n < length r.accepted → has_ended r n ≡ b
-    → IsTold r n (from_ended r n b)
-told_ended r n b lt e = grind arith
 
 told_given : (r : Requests) (n : ℕ) (b : Bool) → ltb n (length r.accepted) ≡ b
     → IsTold r n (from_given r n b)

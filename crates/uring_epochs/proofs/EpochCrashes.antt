@@ -1,23 +1,15 @@
 -- That what a crash leaves may be left, and that the next epoch goes on from it.
-use Rattle.std.proofs.Common.{◌≡◌, ℕ, zero, suc, ◌<◌, ◌≤◌, List, [], ◌∷◌, ◌++◌, length, get_or, length-append, inl, inr, Bool, cond, Option, Some, None, Result, Ok, Err, refl, sym, subst, ◌∙◌, ap, arith}
-use Rattle.uring_epochs.proofs.Common.{Answer, AreImages, AreLeft, Change, CrashMachine, Epoch, FileContents, FitsApart, FitsRun, History, IfOk, IsImage, IsImageBy, IsLeftAt, IsLeftBy, Log, Op, Requests, Setup, Step, Volume, begun, begun_of, begun_on, change_begun, change_by, change_ended, empty_files, file_at, file_of_bytes, finished, finished_of, first_files, get_or-append_right, get_or-eq_default, get_or_append_left, log_from, log_on, logged, logs_on, max_len, pos, shown_length, slice_get, volume_of, with_event, ℤ}
+use Rattle.std.proofs.Common.{◌≡◌, ℕ, zero, suc, ◌<◌, ◌≤◌, List, [], ◌∷◌, ◌++◌, length, get_or, length-append, inl, inr, Option, Some, None, Result, Ok, Err, refl, sym, subst, ◌∙◌, ap, arith}
+use Rattle.uring_epochs.proofs.Common.{Answer, AreImages, AreLeft, Change, CrashMachine, Epoch, FileContents, FitsApart, FitsRun, History, IfOk, IsImage, IsImageBy, IsLeftAt, IsLeftBy, Log, Op, Requests, Setup, Step, begun, begun_on, change_begun, change_by, change_ended, empty_files, file_at, file_of_bytes, finished, finished_of, first_files, get_or-append_right, get_or-eq_default, get_or_append_left, log_from, log_on, logged, logs_on, max_len, pos, shown_length, slice_get, volume_of, ℤ}
 use Rattle.std.specs.declared.alloc.AllocError.{AllocError}
 use Rattle.std.specs.Option.{option_map}
 use Rattle.std.proofs.lemmas.Option.{slice_get-map, slice_get_within, get_or_from_slice_get}
 use Rattle.uring_volume.proofs.Painting.{below_or_from}
-use Rattle.uring_volume.specs.declared.event.Event.{Event}
 use Rattle.uring_epochs.proofs.Noted.{map_same, first_many, first_empty, first_at, logs_at}
 
 -- a log keeps its unit and its first bytes
 abbrev pub Keeps : Log → Log → Type 0
 Keeps old new = (new.volume.unit ≡ old.volume.unit) × (new.volume.first ≡ old.volume.first)
-
-keeps_if : (b : Bool) (old new : Log) → Keeps old new → Keeps old (cond b new old)
-keeps_if b old new k = grind arith
-
-event_if : (b : Bool) (e : Event) (v : Volume)
-    → ((cond b (with_event e v) v).unit ≡ v.unit) × ((cond b (with_event e v) v).first ≡ v.first)
-event_if b e v = grind arith
 
 change_begun_keeps : (n : ℕ) (c : Change) (log : Log) → Keeps log (change_begun n c log)
 change_begun_keeps n c log = grind arith
@@ -30,10 +22,6 @@ begun_keeps n op log = change_begun_keeps n (change_by op (shown_length log.volu
 
 pub finished_keeps : (n : ℕ) (op : Op) (res : ℤ) (log : Log) → Keeps log (finished n op res log)
 finished_keeps n op res log = change_ended_keeps n (change_by op (shown_length log.volume)) res log
-
-begun_of_keeps : (n : ℕ) (op : Option Op) (log : Log) → Keeps log (begun_of n op log)
-begun_of_keeps n None log = (refl, refl)
-begun_of_keeps n (Some op) log = begun_keeps n op log
 
 finished_of_keeps : (n : ℕ) (op : Option Op) (res : ℤ) (log : Log) → Keeps log (finished_of n op res log)
 finished_of_keeps n None res log = (refl, refl)

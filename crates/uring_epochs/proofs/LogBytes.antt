@@ -1,5 +1,5 @@
 -- What one ended write more makes of what a volume shows.
-use Rattle.std.proofs.Common.{◌≡◌, ◌<◌, ◌≤◌, ◌+◌, ◌-◌, ◌==◌, ℕ, false, cond, max, List, [], ◌∷◌, ◌++◌, length, get_or, refl, arith}
+use Rattle.std.proofs.Common.{◌≡◌, ◌≤◌, ◌+◌, ◌-◌, ◌==◌, ℕ, false, cond, max, List, [], ◌∷◌, ◌++◌, length, get_or, refl, arith}
 use Rattle.uring_epochs.proofs.Common.{IsShown, Write, WritesOver, byte_over, end_of, ended, get_or-eq_default, is_under, length_over, overwritten}
 use Rattle.uring_volume.specs.Events.{History}
 use Rattle.uring_volume.proofs.Painting.{below_or_from}
@@ -19,10 +19,6 @@ longer_last len (m ∷ order) w = longer_last (max len (end_of m)) order w
 grows : (len : ℕ) (order : List Write) → len ≤ length_over len order
 grows len [] = omega arith
 grows len (w ∷ later) = omega (arith, grows (max len (end_of w)) later)
-
--- an offset under so many bytes lies before their end
-before_end : (len off k : ℕ) → cond (len == 0) 0 (off + len) ≤ k → off ≤ k → k < off + len → ⊥
-before_end len off k past from to = grind arith
 
 not_under : (m : Write) (k : ℕ) → end_of m ≤ k → is_under m k ≡ false
 not_under m k past = grind arith

@@ -1,7 +1,7 @@
 -- What an operation is on files, in one form: on none, or on one with a task. A new operation is a case of `cases`, `most_of` and `for_files`; what else holds of operations is told of that form, and names none.
 -- Stable: other crates may import all of it.
-use Rattle.std.proofs.Common.{◌≡◌, ℕ, ◌-◌, ◌^◌, ◌<◌, ◌≤◌, ℤ, pos, negsuc, neg_ℤ, Bool, true, false, not, ◌&&◌, cond, min, Option, Some, None, List, length, take, if◌then◌else◌, refl, sym, ap, inl, inr, ◌⊎◌, arith}
-use Rattle.uring_files.proofs.Common.{FailureChangesNothing, FileContents, IsForFiles, IsOutcome, Nothing, Op, Outcome, after, bytes_after, change_by, ended_with, file_asked, file_changed, file_of, int_eq, is_lengthening, is_past_end, is_too_long, length-set, on_file, option_map_or, overwritten, read_outcome, result_of, true≢false, with_changed, with_writes_synced, written}
+use Rattle.std.proofs.Common.{◌≡◌, ℕ, ◌-◌, ◌^◌, ◌<◌, ◌≤◌, ℤ, pos, negsuc, neg_ℤ, Bool, true, false, not, ◌&&◌, cond, min, Some, None, List, length, take, if◌then◌else◌, refl, sym, ap, inl, inr, ◌⊎◌, arith}
+use Rattle.uring_files.proofs.Common.{FailureChangesNothing, FileContents, IsOutcome, Nothing, Op, Outcome, after, bytes_after, change_by, ended_with, file_asked, file_changed, file_of, int_eq, is_lengthening, is_past_end, is_too_long, length-set, on_file, option_map_or, overwritten, read_outcome, result_of, true≢false, with_changed, with_writes_synced, written}
 use Rattle.std.proofs.Math.Nat.{min-le_left}
 use Rattle.uring_entry.specs.declared.errno.TheConstants.{EBADF, ECANCELED, EFBIG, ENOMEM}
 use Rattle.uring_entry.specs.declared.operation.Op.TheVariants.{Nop, Read, Write, Fsync, Cancel}
@@ -74,9 +74,6 @@ pub record Does (op : Op) (t : Task) : Type 0 where
 
 -- ---- a read
 
-never : (file : Option FileContents) → false ≡ option_map_or (λ f. false) file false
-never file = grind arith
-
 abbrev read_task : ℤ → ℕ → ℕ → Task
 read_task fd off len = record {
   fd = fd;
@@ -135,10 +132,6 @@ abbrev longer_of : ℕ → ℕ → List ℕ → Bool
 longer_of off len bytes =
     not (is_too_long off len) && is_past_end off len (record { bytes = bytes; writes = 0; synced = 0 })
 
-write_does : (fd : ℤ) (off len : ℕ) (bytes : List ℕ)
-    → Does (Write fd off len bytes) (write_task fd off len bytes)
-write_does fd off len bytes = grind arith
-
 write_is : (fd : ℤ) (off len : ℕ) (bytes : List ℕ) → IsTask (write_task fd off len bytes)
 write_is fd off len bytes = record {
   given = λ file. given_at (is_too_long off len) len;
@@ -160,10 +153,6 @@ sync_task fd = record {
   changes = λ res. int_eq res (pos 0);
   change = with_writes_synced;
 }
-
-synced_bytes : (good : Bool) (was : FileContents)
-    → was.bytes ≡ (cond good (with_writes_synced was) was).bytes
-synced_bytes good was = grind arith
 
 sync_does : (fd : ℤ) → Does (Fsync fd) (sync_task fd)
 sync_does fd = grind arith
@@ -187,18 +176,9 @@ cases (Fsync fd) = inr (sync_task fd, sync_does fd, sync_is fd)
 cases Nop = grind arith
 cases (Cancel target all) = grind arith
 
--- what can be asked of files: whatever is no cancel, and gives no great result
-pub for_files : (op : Op) → ((target : ℕ) (all : Bool) → op ≡ Cancel target all → ⊥) → most_of op ≤ 64
-    → IsForFiles op
-for_files op other small = grind arith
-
 -- ==== what follows, whichever operation it is
 
 -- an end that failed changes no file
-
-failed_by : (chosen : Bool) (files changed : List FileContents) → chosen ≡ false
-    → cond chosen changed files ≡ files
-failed_by chosen files changed e = grind arith
 
 pub failed : FailureChangesNothing
 failed files op below = grind arith
@@ -218,13 +198,6 @@ many_after files op res = grind (arith, many_changed)
 abbrev pub IsCalled : ℕ → ℤ → Type 0
 IsCalled most res = IsGiven most res ⊎ (res ≡ neg_ℤ EBADF)
 
-on_file_called : (file : Option FileContents) (most : ℕ) (ends : FileContents → Outcome)
-    → ((f : FileContents) → IsGiven most (ends f).res) → IsCalled most (on_file file ends).res
-on_file_called file most ends given = grind arith
-
-zero_called : (most : ℕ) → IsCalled most (pos 0)
-zero_called most = inl (inl (0, omega arith, refl))
-
 pub result_called : (files : List FileContents) (op : Op) → IsCalled (most_of op) (result_of files op).res
 result_called files op = grind arith
 
@@ -233,27 +206,11 @@ result_called files op = grind arith
 abbrev pub IsOther : ℤ → Type 0
 IsOther res = int_eq res (neg_ℤ ECANCELED) ≡ false
 
-called_other : (most : ℕ) (res : ℤ) → IsCalled most res → IsOther res
-called_other most res h = grind arith
-
 pub outcome_other : (files : List FileContents) (op : Op) (outcome : Outcome)
     → IsOutcome files op outcome → IsOther outcome.res
 outcome_other files op outcome h = grind arith
 
 -- No operation is called for to end with ENOMEM.
 
-called_granted : (most : ℕ) (res : ℤ) → IsCalled most res → res ≡ neg_ℤ ENOMEM → ⊥
-called_granted most res h is = grind arith
-
 pub result_granted : (files : List FileContents) (op : Op) → (result_of files op).res ≡ neg_ℤ ENOMEM → ⊥
 result_granted files op is = grind arith
-
--- What makes its file longer ends with a number of bytes.
-
-grown_on : (file : Option FileContents) (t : Task) → IsTask t
-    → option_map_or t.lengthens file false ≡ true → IsGrowth (on_file file t.ends)
-grown_on file t is e = grind arith
-
-pub growth : (files : List FileContents) (op : Op) → is_lengthening files op ≡ true
-    → IsGrowth (result_of files op)
-growth files op e = grind (arith, (cases op), true≢false)

@@ -1,11 +1,9 @@
 -- What a prepared entry asks of files, whichever operation it is.
 -- Stable: other crates may import what is pub.
-use Rattle.std.proofs.Common.{◌≡◌, ℕ, ℤ, ◌≤◌, ◌∙◌, sym, arith, Bool, true, false, Option, Some, None, if◌then◌else◌}
-use Rattle.uring_files.proofs.Common.{IsForFiles, file_asked, true≢false}
+use Rattle.std.proofs.Common.{◌≡◌, ℕ, ℤ, ◌≤◌, arith, Bool, true, false, Option, Some, None, if◌then◌else◌}
+use Rattle.uring_files.proofs.Common.{IsForFiles, file_asked}
 use Rattle.uring_entry.specs.Layout.{Sqe, opcode_of, len_of}
 use Rattle.uring_entry.specs.Preparation.{fault_of, operation_named, operation_of, is_cancel, is_served, is_transfer, is_on_file}
-use Rattle.uring_entry.proofs.Preparations.{cancel_asked}
-use Rattle.uring_entry.specs.declared.operation.Op.TheVariants.{Cancel}
 use Rattle.uring_entry.specs.declared.fault.Fault.{Fault}
 use Rattle.uring_files.proofs.OperationCases.{most_of}
 
@@ -26,10 +24,6 @@ is_short e none = grind (arith, not_first)
 -- no operation gives more than its entry's length
 most_named : (code : ℕ) (e : Sqe) → most_of (operation_named code e) ≤ len_of e
 most_named code e = grind arith
-
-no_cancel : (e : Sqe) → is_cancel e ≡ false → (target : ℕ) (all : Bool)
-    → operation_of e ≡ Cancel target all → ⊥
-no_cancel e other target all is = true≢false (sym (cancel_asked e target all is).0 ∙ other)
 
 -- an entry without a fault that is no cancel asks for what can be asked of files
 pub prepared : (e : Sqe) → fault_of e ≡ None → is_cancel e ≡ false → IsForFiles (operation_of e)

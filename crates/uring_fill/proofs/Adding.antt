@@ -1,5 +1,5 @@
 -- Events that are added to those that may come next.
-use Rattle.std.proofs.Common.{◌≡◌, ℕ, zero, suc, ◌+◌, ◌-◌, ◌<◌, ◌≤◌, ℤ, pos, Bool, true, false, if◌then◌else◌, slice_get, None, List, [], ◌∷◌, ◌++◌, length, drop, Option, Some, refl, sym, subst, ◌∙◌, ◌⊎◌, inl, inr, arith}
+use Rattle.std.proofs.Common.{◌≡◌, ℕ, zero, suc, ◌+◌, ◌-◌, ◌<◌, ◌≤◌, ℤ, pos, Bool, true, false, slice_get, None, List, [], ◌∷◌, ◌++◌, length, drop, Option, Some, refl, sym, subst, ◌∙◌, ◌⊎◌, inl, inr, arith}
 use Rattle.uring_fill.proofs.Common.{Adds, Answer, AreAllNext, AreNext, CalledForApart, Contains, Contains-append_left, Contains-push, Contains-push_cases, Core, Cqe, Event, FinishFits, HasEndsOf, History, IsErrorOf, IsIdle, IsLawfulApart, IsPart, QuietResult, Requests, Setup, Sqe, StandsAt, TellsNext, and_from, cases_Bool, cases_lt, completion_for, count_result, entry_of, entry_outstanding, is_asked, is_drain, is_hidden, is_issuable, is_outstanding, is_running, is_stale, neg_ℤ, no_bytes, posts, put_by_flush, requests_of, seen_in, with_count, with_error, with_none, world}
 use Rattle.std.proofs.lemmas.Option.{same_Some, none-some}
 use Rattle.uring_entry.specs.Success.{posts_completion}
@@ -248,10 +248,6 @@ ends_outstanding g seen h n next lawful there = record {
   issued = λ res bytes p. (there (issued_end g (world g h) n res bytes p.lawful.0).outstanding).issued res bytes p;
   finished = λ res bytes p. (there (running_outstanding g h n lawful (finish_runs (is_running (world g h).requests n) res bytes p.lawful.0))).finished res bytes p;
 }
-
-none_outstanding : (outstanding : Bool) (e : Sqe) → None ≡ (if outstanding then Some e else None)
-    → outstanding ≡ true → ⊥
-none_outstanding outstanding e none is = cc
 
 pub no_ends : (g : Setup) (seen : List Event) (h : History) (n : ℕ) (next : List Event)
     → IsLawfulApart g h → None ≡ entry_outstanding (world g h).requests n → HasEndsOf g seen h n next

@@ -1,6 +1,6 @@
 -- That a search covers all histories: `path_taken` when a path is gone on from, `path_dropped` when it isn't lawful, and `none_left` when none is left.
 use Rattle.std.proofs.Common.{◌≡◌, ℕ, ◌<◌, ◌≤◌, Bool, true, false, List, [], ◌∷◌, ◌++◌, length, map, refl, sym, ap, subst, ◌∙◌, ◌⊎◌, inl, inr, arith, append-nil}
-use Rattle.uring_fill.proofs.Common.{Contains, Contains-append_cases, Contains-append_left, Contains-append_right, Contains-push, Contains-push_cases, Event, GoesOn, HasLonger, History, IsFilling, IsLawfulApart, IsPart, IsReach, IsSearch, IsWhole, OneGoesOn, Setup, history_of, history_of_snoc, length-map, map-append, onto, paths_of, reverse, reverse-reverse, seen_in}
+use Rattle.uring_fill.proofs.Common.{Contains, Contains-append_cases, Contains-append_left, Contains-append_right, Contains-push, Contains-push_cases, Event, GoesOn, HasLonger, History, IsFilling, IsLawfulApart, IsPart, IsReach, IsSearch, IsWhole, OneGoesOn, Setup, history_of, history_of_snoc, length-map, onto, paths_of, reverse, reverse-reverse, seen_in}
 use Rattle.std.proofs.Math.ListN.{get_or-map}
 use Rattle.std.specs.declared.vec.Vec.{Vec}
 use Rattle.std.specs.declared.alloc.Global.{Global}
@@ -137,18 +137,6 @@ none_left g seen events place s = record {
     | inr one ↦ absurd (none_in g seen false (length (seen_in h)) one)
   ];
 }
-
--- a part that is whole is a filling
-pub whole_fills : (g : Setup) (seen : List Event) (h : History) → IsPart g seen h → IsWhole g seen h
-    → IsFilling g seen h
-whole_fills g seen h part whole = grind arith
-
--- Vectors.
-
-pub path_pushed : (old new : List (Vec Event Global)) (v : Vec Event Global) (path : List Event)
-    → new ≡ old ++ v ∷ [] → v.items ≡ path → paths_of new ≡ paths_of old ++ path ∷ []
-path_pushed old new v path is holds =
-    ap paths_of is ∙ map-append (λ (p : Vec Event Global). p.items) old (v ∷ []) ∙ ap (λ p. paths_of old ++ p ∷ []) holds
 
 -- A path is looked at on a core whose set-up is another's.
 

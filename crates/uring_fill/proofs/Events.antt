@@ -1,5 +1,5 @@
 -- Which events go on from a part, and what is so of those that do.
-use Rattle.std.proofs.Common.{◌≡◌, ℕ, ◌-◌, ◌≤◌, ℤ, pos, Bool, true, false, not, ◌&&◌, ◌||◌, cond, List, [], ◌∷◌, ◌++◌, length, Option, Some, None, if◌then◌else◌, refl, sym, ap, subst, ◌∙◌, arith, rules}
+use Rattle.std.proofs.Common.{◌≡◌, ℕ, ◌-◌, ◌≤◌, ℤ, pos, Bool, true, false, ◌||◌, cond, List, [], ◌∷◌, ◌++◌, length, Option, Some, None, if◌then◌else◌, refl, sym, ap, subst, ◌∙◌, arith, rules}
 use Rattle.uring_fill.proofs.Common.{Answer, Begins, CalledForApart, Completions, Core, Cqe, Event, FinishFits, FinishesApart, GivesAllowed, History, IsErrorOf, IsIdle, IsLawfulApart, IsPart, QuietResult, Requests, Setup, Sqe, StandsAt, TellsNext, World, cancel_result, completion_for, completions_in, doomed_result, drop, ends_doomed, entry_of, is_after_failure, is_drain, is_hidden, is_issuable, is_outstanding, is_running, is_some, is_stale, length-drop, may_start, neg_ℤ, no_bytes, or_parts, or_right, posts, put_by_flush, requests_of, seen_in, slice_get, targets_of, with_count, with_error, with_flushed, with_none, with_posted, world}
 use Rattle.std.proofs.lemmas.Bool.{false≢true}
 use Rattle.uring_entry.specs.Preparation.{is_faulty, is_cancel, is_cancel_all}
@@ -11,7 +11,7 @@ use Rattle.uring_linux.specs.LinuxRequests.{LinuxRequests}
 use Rattle.uring_linux.specs.LinuxRequests as kernel
 use Rattle.uring_entry.proofs.RequestLemmas.{one_success}
 use Rattle.uring_dispatch.proofs.Counting.{length_all_below, count_below_within}
-use Rattle.uring_core.specs.Events.{end_told_by, is_flush, is_store_cq_head}
+use Rattle.uring_core.specs.Events.{is_flush, is_store_cq_head}
 use Rattle.uring_core.specs.declared.step.Step.{Step}
 use Rattle.uring_core.specs.declared.step.Step.TheVariants as step
 use Rattle.uring_core.specs.declared.answer.Answer.TheVariants as answer
@@ -148,19 +148,11 @@ pub record EndsIssued (linux : Bool) (l : LinuxRequests) (n : ℕ) (res : ℤ) (
   pub none : bytes ≡ no_bytes
   pub by : IssueEnd linux l.requests n res
 
-goes_by : (outstanding running doomed ready : Bool) → outstanding ≡ true → running ≡ false
-    → (doomed || ready) ≡ true → (outstanding && not running && (doomed || ready)) ≡ true
-goes_by outstanding running doomed ready o r goes = grind arith
-
 -- what is to end as doomed, or may start, can be issued
 issuable_by : (linux : Bool) (l : LinuxRequests) (n : ℕ) → is_outstanding l.requests n ≡ true
     → is_running l.requests n ≡ false
     → (ends_doomed linux l.requests n || may_start linux l n) ≡ true → is_issuable linux l n ≡ true
 issuable_by linux l n outstanding idle goes = grind arith
-
-spared_by : (linux : Bool) (l : LinuxRequests) (n : ℕ) → ends_doomed linux l.requests n ≡ false
-    → may_start linux l n ≡ true → linux ≡ true → kernel.is_doomed l.requests n ≡ false
-spared_by linux l n spared ready is = grind arith
 
 ends_by : (g : Setup) (w : World) (n : ℕ) (res : ℤ) (bytes : List ℕ) (a : Answer) → Change g w (step.Issue n) a
     → a ≡ answer.Ended res bytes → EndsIssued g.linux (requests_of w) n res bytes
@@ -248,10 +240,6 @@ settled g ((step.Flush, a) ∷ h) lawful e = refl
 settled g ((step.StoreCqHead, a) ∷ h) lawful e = absurd cc
 settled g ((s, a) ∷ h) lawful e = settled_then g s a h lawful (settled g h lawful.1 e) refl refl
 
-nothing_put : (size : ℕ) (l : Completions) → IsSoundCompletions size l → l.seen_head ≡ l.head
-    → put_by_flush size l ≡ l.put
-nothing_put size l s same = grind arith
-
 flushed_same : (size : ℕ) (l : Completions) → IsSoundCompletions size l → l.seen_head ≡ l.head
     → with_flushed size l ≡ l
 flushed_same size l s same = grind arith
@@ -296,11 +284,6 @@ hidden_event g h (s, a) lawful hidden = absurd (false≢true hidden)
 no_end : (s : Step) (linux : Bool) (r : Requests) (a : Answer) → is_hidden s ≡ false
     → GivesAllowed linux r (s, a)
 no_end s linux r a e = grind arith
-
-ends_hidden : (s : Step) (a : Answer) (n : ℕ) (res : ℤ) (bytes : List ℕ)
-    → end_told_by (s, a) ≡ Some (record { number = n; res = res; bytes = bytes })
-    → is_hidden s ≡ false → ⊥
-ends_hidden s a n res bytes tells e = grind arith
 
 posted_kept : (g : Setup) (w : World) (s : Step) (a : Answer) (v : World) → CompletionMove g w s a v
     → is_hidden s ≡ false → v.completions.posted ≡ w.completions.posted

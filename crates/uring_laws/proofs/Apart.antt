@@ -1,30 +1,18 @@
 -- Operations that stay apart don't meet: `apart_dont_meet`. What one leaves of a file, the other finds as it was, and both orders leave the same bytes.
-use Rattle.std.proofs.Common.{◌≡◌, ◌≢◌, ℕ, zero, suc, ◌+◌, ◌-◌, ◌<◌, ◌≤◌, ◌==◌, min, ℤ, pos, Bool, true, false, not, ◌&&◌, cond, if◌then◌else◌, List, [], ◌∷◌, length, take, drop, get_or, Option, refl, sym, ap, arith, ◌⊎◌, inl, inr}
-use Rattle.uring_laws.proofs.Common.{ApartDontMeet, FileContents, Fsync, Op, Outcome, Read, Write, after, are_disjoint, are_on_others, cases_lt, cond-true, ended_with, file_asked, file_of, get_or-drop, int_eq, leb-true, length-drop, length-take, nat_le, nat_lt, on_file, option_map, option_map_or, or_cases, overwritten, padded, read_outcome, result_of, slice_set, stay_apart, stay_apart_on_one, true≢false, with_changed, with_writes_synced, written}
+use Rattle.std.proofs.Common.{◌≡◌, ℕ, zero, suc, ◌+◌, ◌-◌, ◌≤◌, ◌==◌, ℤ, pos, Bool, true, false, not, cond, List, [], ◌∷◌, length, take, drop, get_or, Option, refl, sym, ap, arith, ◌⊎◌, inl, inr}
+use Rattle.uring_laws.proofs.Common.{ApartDontMeet, FileContents, Fsync, Op, Outcome, Read, Write, after, are_disjoint, are_on_others, cases_lt, cond-true, ended_with, file_asked, file_of, get_or-drop, int_eq, leb-true, length-drop, length-take, on_file, option_map_or, or_cases, overwritten, read_outcome, result_of, slice_set, stay_apart, stay_apart_on_one, true≢false, with_changed, with_writes_synced, written}
 use Rattle.std.proofs.lemmas.Grind.{same_number_lists}
-use Rattle.uring_files.proofs.OperationCases.{Task, Does, cases}
+use Rattle.uring_files.proofs.OperationCases.{cases}
 use Rattle.uring_files.proofs.Overwrites.{is_written_over}
 use Rattle.uring_files.proofs.StandAlone.{changed_same, changed_other, others_stay, ends_apart}
 use Rattle.uring_files.specs.Laws.{IsWrittenOver}
 
 -- Bytes written over others.
 
--- whether byte k is among so many from an offset on
-abbrev among : (off len k : ℕ) → Bool
-among off len k = nat_le off k && nat_lt k (off + len)
-
 past_written : (old new : List ℕ) (off : ℕ) (now : List ℕ) (k : ℕ) → IsWrittenOver old new off now
     → off + length new ≤ k
     → get_or now k 0 ≡ get_or old k 0
 past_written old new off now k w high = grind arith
-
-among_tells : (off len k : ℕ) → among off len k ≡ true → (off ≤ k) × (k < off + len)
-among_tells off len k is = grind arith
-
--- of two tests at most one is passed, so that they may be asked in any order
-either_test : (p q : Bool) (x y z : ℕ) → (p ≡ true → q ≡ true → ⊥)
-    → (if p then x else if q then y else z) ≡ (if q then y else if p then x else z)
-either_test p q x y z apart = grind arith
 
 -- no bytes change nothing
 nothing_over : (old new : List ℕ) (off : ℕ) → length new ≡ 0 → overwritten old off new ≡ old
@@ -57,9 +45,6 @@ after_over : (old new : List ℕ) (off at : ℕ) → off + length new ≤ at
 after_over old new off at past =
     grind (arith, nothing_over, is_written_over, same_number_lists, length-drop, get_or-drop, past_written)
 
-abbrev read_as : ℕ → ℕ → List ℕ → Outcome
-read_as count n xs = record { res = pos (min count n); bytes = padded (take count xs) }
-
 read_after : (file : FileContents) (new : List ℕ) (off at count : ℕ) → off + length new ≤ at
     → read_outcome at count (written off new file) ≡ read_outcome at count file
 read_after file new off at count past = grind (arith, after_over)
@@ -91,11 +76,6 @@ chosen_either true true files fd other f g same = changed_either files fd other 
 chosen_either _ _ files fd other f g same = refl
 
 -- What an operation gives where another was carried out.
-
-as_before : (o : Option FileContents) (change : FileContents → FileContents) (outcome : FileContents → Outcome)
-    → ((file : FileContents) → outcome (change file) ≡ outcome file)
-    → on_file (option_map change o) outcome ≡ on_file o outcome
-as_before o change outcome same = grind arith
 
 found_as_before : (files : List FileContents) (own fd : ℤ) (change : FileContents → FileContents) (outcome : FileContents → Outcome)
     → (fd ≡ own → (file : FileContents) → outcome (change file) ≡ outcome file)
@@ -137,22 +117,10 @@ gives_same files d e res apart = grind (arith, gives_elsewhere, gives_on_one)
 
 -- Which files both orders leave.
 
-others_either : (asked other : Option ℤ) → others asked other ≡ true → others other asked ≡ true
-others_either asked other apart = grind arith
-
-on_one_either : (d e : Op) → stay_apart_on_one d e ≡ true → stay_apart_on_one e d ≡ true
-on_one_either d e a = grind arith
-
-apart_either : (d e : Op) → stay_apart d e ≡ true → stay_apart e d ≡ true
-apart_either d e apart = grind arith
-
 written_either : (file : FileContents) (a b : List ℕ) (o p len count : ℕ) → length a ≤ len
     → length b ≤ count → are_disjoint o len p count ≡ true
     → written p b (written o a file) ≡ written o a (written p b file)
 written_either file a b o p len count few_a few_b apart = grind (arith, over_either, or_cases)
-
-other_files : (d e : Op) (t u : Task) → Does d t → Does e u → are_on_others d e ≡ true → t.fd ≢ u.fd
-other_files d e t u does_d does_e apart = grind arith
 
 leaves_elsewhere : (files : List FileContents) (d e : Op) (x y : ℤ) → are_on_others d e ≡ true
     → after (after files d x) e y ≡ after (after files e y) d x

@@ -1,6 +1,6 @@
 -- How many completions were put into the ring, read off a history.
 use Rattle.std.proofs.Common.{◌≡◌, ℕ, ◌+◌, ◌-◌, ◌==◌, min, nat_lt, Bool, ◌&&◌, [], ◌∷◌, length, Some, None, is_some, if◌then◌else◌, cond, refl, ap₂, arith}
-use Rattle.uring_laws.proofs.Common.{Answer, Completions, Cqe, Event, History, IsLawfulApart, Setup, Step, World, before_last, completion_for, cond_both, entry_of, flushed_head, posted_count, posts, posts_told, put_count, stored_head, with_posted, with_told, world}
+use Rattle.uring_laws.proofs.Common.{Answer, Completions, Cqe, Event, History, IsLawfulApart, Setup, Step, World, before_last, completion_for, cond_both, entry_of, flushed_head, posted_count, posts, posts_told, put_count, stored_head, with_posted, world}
 use Rattle.uring_core.proofs.CompletionMoves.{CompletionMove, stays, ends, flushes, completion_move}
 use Rattle.uring_laws.proofs.DirectCompletions.{direct_completions}
 
@@ -30,11 +30,6 @@ put_direct g h s a v (flushes moved) f i =
 put_direct g h s a v _ f i = i
 
 -- The completions that the events told to be posted.
-
-posted_or_not : (size : ℕ) (l : Completions) (told_so : Bool) (c : Cqe)
-    → (cond told_so (with_posted size l c) l).posted
-    ≡ with_told l.posted (cond told_so (Some c) None)
-posted_or_not size l told_so c = grind arith
 
 posts_direct : (g : Setup) (h : History) (s : Step) (a : Answer) (v : World)
     → CompletionMove g (world g h) s a v → (world g h).completions.posted ≡ posts_told g h

@@ -1,6 +1,6 @@
 -- The submission ring's lists, read off a history.
-use Rattle.std.proofs.Common.{◌≡◌, ℕ, ◌+◌, ◌≤◌, Bool, true, false, ◌||◌, eqb, List, [], ◌∷◌, ◌++◌, length, map, count_by, Option, Some, None, unwrap_or, if◌then◌else◌, refl, subst, ap, ap₂, ◌∙◌, arith, append-nil, append_assoc, rules}
-use Rattle.uring_laws.proofs.Common.{Answer, Call, Event, History, IsLawfulApart, Setup, Sqe, Step, SubmissionMove, World, begins, call_counts, closes, closes_call, drops, entries_taken, fills, length_push, loaded_head, loads, ltb-false, map-append, open_call, open_count, open_taken, opened_by, opens_call, option_or, place_of, published_words, since_last, slot_content, sound_of, staged_words, stages, stays, stores, submission_move, taken_entries, taken_since, takes, takes_last, takes_position, world, zero_entry}
+use Rattle.std.proofs.Common.{◌≡◌, ℕ, ◌+◌, ◌≤◌, true, false, eqb, List, [], ◌∷◌, ◌++◌, length, map, count_by, Option, Some, None, if◌then◌else◌, refl, subst, ap, ap₂, ◌∙◌, arith, append-nil, append_assoc, rules}
+use Rattle.uring_laws.proofs.Common.{Answer, Call, Event, History, IsLawfulApart, Setup, Sqe, Step, SubmissionMove, World, begins, call_counts, closes, closes_call, drops, entries_taken, fills, length_push, loaded_head, loads, ltb-false, map-append, open_call, open_count, open_taken, opened_by, opens_call, place_of, published_words, since_last, slot_content, sound_of, staged_words, stages, stays, stores, submission_move, taken_entries, taken_since, takes, takes_last, takes_position, world}
 use Rattle.uring_core.proofs.SoundRings.{IsSoundSubmission, open_count as positions_open}
 use Rattle.uring_laws.proofs.TakenPlaces.{takes_places}
 use Rattle.uring_laws.proofs.Telling.{count_more, count_same}
@@ -25,38 +25,10 @@ pub record DirectSubmission (g : Setup) (h : History) (w : World) : Type 0 where
   pub seen : w.submission.seen_head ≡ loaded_head h
   pub opened : IsOpened g h w.submission.call
 
--- an event after which a call stops takes a position
-takes_last_takes : (g : Setup) (before : List Sqe) (e : Event) → takes_position e ≡ false
-    → takes_last g before e ≡ false
-takes_last_takes g before e idle = grind arith
-
 -- what an event leaves of the call that was opened last, if it opens none and takes no position
 record SameOpened (g : Setup) (h : History) (e : Event) : Type 0 where
   taken : taken_since h ≡ taken_since (e ∷ h)
   count : open_count g h ≡ open_count g (e ∷ h)
-
-same_opened : (g : Setup) (h : History) (e : Event) → opens_call e ≡ false → opened_by e ≡ None
-    → takes_position e ≡ false → SameOpened g h e
-same_opened g h e other none idle =
-    let same = count_same takes_position e (since_last opens_call h) idle in
-    let goes_on = takes_last_takes g (entries_taken h) e idle in
-    record { taken = rw (other, same); count = rw (other, none, goes_on, same) }
-
-still_opened : (g : Setup) (h : History) (e : Event) (call : Option Call) → SameOpened g h e
-    → IsOpened g h call → IsOpened g (e ∷ h) call
-still_opened g h e call same i = grind arith
-
--- how many positions the open call takes once it took one more, after which it may stop
-count_further : (stops had : Bool) (count before after last : ℕ)
-    → count ≡ (if had then before else last) → eqb before count ≡ false → before + 1 ≡ after
-    → (if stops then before + 1 else count) ≡ (if stops || had then after else last)
-count_further stops had count before after last so_far left more = grind arith
-
--- what a slot holds once one is filled
-fill_tells : (here : Bool) (entry : Sqe) (last : Option Sqe)
-    → unwrap_or (option_or (if here then Some entry else None) last) zero_entry
-    ≡ (if here then entry else unwrap_or last zero_entry)
-fill_tells here entry last = grind arith
 
 words_of_places : (size : ℕ) (content : ℕ → Sqe) (words : List ℕ)
     → map (λ p. p.word) (map (place_of size content) words) ≡ words

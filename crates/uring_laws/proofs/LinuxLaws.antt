@@ -1,8 +1,8 @@
 -- The laws of `linux.rt`: doomed requests, links, drains and cancels by Linux's rules.
-use Rattle.std.proofs.Common.{◌≡◌, ℕ, ◌<◌, ◌==◌, neg_ℤ, Bool, true, false, not, ◌&&◌, ◌||◌, [], ◌∷◌, ◌++◌, Option, Some, None, length, slice_get, count_by, refl, sym, subst, ◌∙◌, ◌⊎◌, inl, inr, arith}
-use Rattle.uring_laws.proofs.Common.{Answer, CancelledWereDoomed, CancelsDoomNobody, Change, DeferredDontStart, DoomedNeverRun, DoomedStayDoomed, DrainsHold, ECANCELED, Ending, HasHappened, History, IsIssued, IsLawfulApart, IsSilent, IsStart, LeastFreeCanGoOn, LeastFreeGoesOn, LinuxRequests, MembersGoInOrder, Move, Requests, Setup, Step, World, accepts, and_parts, and_right, both_ways, by_linux, change_of, count_none, drains, ends_cancel, ends_run, has_ended, has_started, history_happens, int_eq, is_outstanding, least_below_out, least_of, ltb-true, move_of, outstanding_tells, refuses, requests_of, sound_of, world}
+use Rattle.std.proofs.Common.{◌≡◌, ℕ, ◌<◌, ◌==◌, Bool, true, false, not, ◌&&◌, ◌||◌, [], ◌∷◌, ◌++◌, Option, Some, None, length, slice_get, count_by, refl, sym, subst, ◌∙◌, ◌⊎◌, inl, inr, arith}
+use Rattle.uring_laws.proofs.Common.{Answer, CancelledWereDoomed, CancelsDoomNobody, Change, DeferredDontStart, DoomedNeverRun, DoomedStayDoomed, DrainsHold, Ending, HasHappened, History, IsIssued, IsLawfulApart, IsStart, LeastFreeCanGoOn, LeastFreeGoesOn, LinuxRequests, MembersGoInOrder, Move, Requests, Setup, Step, World, accepts, and_parts, and_right, both_ways, by_linux, change_of, count_none, drains, ends_cancel, ends_run, has_ended, has_started, history_happens, is_outstanding, least_below_out, least_of, ltb-true, move_of, outstanding_tells, refuses, requests_of, sound_of, world}
 use Rattle.uring_laws.specs.LinuxLaws.{waits_for}
-use Rattle.uring_linux.specs.LinuxRequests.{is_doomed, doomed_result, cancel_result}
+use Rattle.uring_linux.specs.LinuxRequests.{is_doomed, doomed_result}
 use Rattle.uring_core.specs.declared.step.Step.TheVariants as step
 use Rattle.uring_linux.specs.Laws.{GoesOn}
 use Rattle.uring_linux.proofs.GoingOn.{goes_on_from}
@@ -46,17 +46,10 @@ stay_doomed g ((s, a) ∷ after) before n lawful within doomed =
     stays_by (requests_of (world (by_linux g) (after ++ before))) s a _ (move_of (by_linux g) s a (after ++ before) lawful) n (omega (arith, longer, within))
     (sound_of (by_linux g) (after ++ before) lawful.1).requests.cut_at_end (stay_doomed g after before n lawful.1 within doomed)
 
--- ECANCELED is no result of a cancel
-cancel_unlike : (r : Requests) (n : ℕ) → int_eq (cancel_result r n) (neg_ℤ ECANCELED) ≡ false
-cancel_unlike r n = grind arith
-
 pub were_doomed : (g : Setup) → CancelledWereDoomed (by_linux g)
 were_doomed g after before n bytes lawful = grind (arith, lawful_before, cancelled_doomed)
 
 -- Links.
-
-refused_not_issued : (n : ℕ) (a : Answer) → IsSilent (step.Issue n, a) → IsIssued a → ⊥
-refused_not_issued n a silent issued = grind arith
 
 -- what isn't refused was accepted, and all earlier members of its group have ended
 issue_goes_on : (g : Setup) (w : World) (n : ℕ) (a : Answer) → Change (by_linux g) w (step.Issue n) a

@@ -1,6 +1,6 @@
 -- The laws of doomed requests, links and drains, by the manual pages' rules; and what these and those of Linux share.
-use Rattle.std.proofs.Common.{◌≡◌, ℕ, ◌<◌, ◌==◌, ℤ, neg_ℤ, Bool, true, false, not, ◌&&◌, List, ◌∷◌, ◌++◌, Option, Some, length, slice_get, count_by, refl, sym, subst, ◌∙◌, ◌⊎◌, inl, inr, arith}
-use Rattle.uring_laws.proofs.Common.{Answer, Change, ECANCELED, Ending, History, IsEnded, IsLawfulApart, IsSilent, IsSoundManual, LinuxRequests, Requests, Setup, World, both_ways, by_manual, cancel_result, cancels, change_of, cond_both, count_none, count_result, count_some, doomed_result, dooms, entry_of, eq-eqb, has_ended, has_started, int_eq, is_cancel_all, is_doomed, list_any, refuses, requests_of, result_for, runs, sound_of, target_of, targets_of, times_ended, waited, waits_for, world}
+use Rattle.std.proofs.Common.{◌≡◌, ℕ, ◌<◌, ◌==◌, ℤ, neg_ℤ, Bool, true, false, not, ◌&&◌, List, ◌∷◌, ◌++◌, Some, length, slice_get, count_by, refl, sym, subst, ◌∙◌, ◌⊎◌, inl, inr, arith}
+use Rattle.uring_laws.proofs.Common.{Answer, Change, ECANCELED, Ending, History, IsEnded, IsLawfulApart, IsSilent, IsSoundManual, LinuxRequests, Requests, Setup, World, both_ways, by_manual, cancels, change_of, count_none, count_some, doomed_result, dooms, eq-eqb, has_ended, has_started, int_eq, is_doomed, list_any, refuses, requests_of, runs, sound_of, times_ended, waited, waits_for, world}
 use Rattle.uring_laws.specs.Laws.{DoomedNeverRun, IsStart}
 use Rattle.std.proofs.lemmas.Map.Keys.{any_passes_from_place}
 use Rattle.uring_rules.specs.Rules as by_rules
@@ -80,14 +80,6 @@ never_run g h lawful =
       never_run = λ n doomed. subst (λ xs. count_by (λ m. m == n) xs ≡ 0) (sym t.started) (count_none (λ m. m == n) (world (by_manual g) h).requests.started (unstarted (world (by_manual g) h).requests n s doomed));
       ends_so = λ k e at doomed. doomed_end (world (by_manual g) h).requests k e s (subst (λ xs. slice_get xs k ≡ Some e) t.ended at) doomed;
     }
-
--- ECANCELED is no result of a cancel
-one_unlike : (r : Requests) (target : Option ℕ)
-    → int_eq (result_for r target) (neg_ℤ ECANCELED) ≡ false
-one_unlike r target = grind arith
-
-cancel_unlike : (r : Requests) (n : ℕ) → int_eq (cancel_result r n) (neg_ℤ ECANCELED) ≡ false
-cancel_unlike r n = cond_both (is_cancel_all (entry_of r n)) (count_result (length (targets_of r n))) (result_for r (target_of r n)) (λ res. int_eq res (neg_ℤ ECANCELED) ≡ false) (λ _. refl) (λ _. one_unlike r (target_of r n))
 
 pub were_doomed : (g : Setup) (after before : History) (n : ℕ) (bytes : List ℕ)
     → IsLawfulApart (by_manual g) (after ++ (step.Issue n, answer.Ended (neg_ℤ ECANCELED) bytes) ∷ before)

@@ -1,12 +1,11 @@
 -- What why says, from what each case of it says: proofs of the laws on reasons.
-use Rattle.std.proofs.Common.{◌≡◌, ℕ, ◌<◌, ◌≤◌, length, Bool, true, false, not, ◌&&◌, ◌||◌, Option, Some, None, is_some, unwrap_or, refl, sym, ◌∙◌, ap, arith, inl, inr}
+use Rattle.std.proofs.Common.{◌≡◌, ℕ, ◌<◌, ◌≤◌, length, Bool, true, false, not, ◌&&◌, Option, Some, None, is_some, refl, sym, ◌∙◌, ap, arith, inl, inr}
 use Rattle.uring_laws.proofs.Common.{Answer, IsLeast, LinuxRequests, Requests, Setup, World, and_parts, both_ways, cancel_result, cases_lt, doom_of, doomed_result, entry_of, failed_member_of, fault_of, faulty_member_of, first_doom, has_ended, holder_of, holds_back, if◌then◌else◌, is_after_failure, is_cancel, is_cancelled, is_deferred, is_doomed, is_draining, is_failure_before, is_faulty_member, is_in_faulty_group, is_in_turn, is_issuable, is_joined, is_joined_inside, is_joined_yes, is_outstanding, is_ready, is_ready_inside, is_running, is_some_least_below, issue_answer, keeps_back, least_below, least_below_none, least_below_tells, no_bytes, not-true, requests_of, since_of, some_member, waiting_for, waits_for, why_of, ◌↔◌, ◌⊎◌}
 use Rattle.uring_entry.specs.declared.fault.Fault.{Fault}
 use Rattle.uring_entry.specs.declared.why.Why.{Why}
 use Rattle.uring_entry.specs.declared.why.Why.TheVariants.{NeverAccepted, HasEnded, Runs, IsDoomed, Waits, MayStart}
 use Rattle.uring_entry.specs.declared.why.Doom.{Doom}
 use Rattle.uring_entry.specs.declared.why.Since.{Since}
-use Rattle.uring_entry.specs.declared.why.Since.TheVariants.{Deferred}
 use Rattle.uring_entry.proofs.WhyLemmas.{StillWaits, IsTold, told, told_as, why_waiting}
 use Rattle.uring_linux.specs.LinuxRequests as kernel
 use Rattle.uring_linux.specs.LinuxWhy as kernel_why
@@ -16,9 +15,6 @@ use Rattle.uring_core.specs.declared.answer.Answer.TheVariants as answer
 use Rattle.uring_laws.specs.Reasons.{answer_told, AnswerAgrees, can_be_issued, IsUnstarted, CanStart, IsSince, IsWaiting, IsLeastOf, IsDoomOf, GoesOn}
 
 -- Standing.
-
-unstarted_told : (r : Requests) (n : ℕ) → StillWaits r n → IsUnstarted r n
-unstarted_told r n s = grind arith
 
 told_unstarted : (r : Requests) (n : ℕ) → IsUnstarted r n → StillWaits r n
 told_unstarted r n u = grind arith
@@ -33,15 +29,6 @@ ready_none r n e = ready_is r n ∙ ap (λ o. not (is_some o)) e
 
 none_ready : (r : Requests) (n : ℕ) → is_ready r n ≡ true → holder_of r n ≡ None
 none_ready r n ready = grind (arith, least_below_none, is_ready_inside)
-
--- what is told of n, by the tests that ask for it
-abbrev told_by : Requests → ℕ → (given ended running doomed : Bool) → Option ℕ → Why
-told_by r n given ended running doomed holder =
-    if not given then NeverAccepted else
-    if ended then HasEnded else
-    if running then Runs else
-    if doomed then IsDoomed (doom_of r n) else
-    waiting_for r n holder
 
 -- Who was never accepted, has ended or runs.
 
@@ -58,11 +45,6 @@ pub runs_said : (r : Requests) (n : ℕ)
 runs_said r n = grind arith
 
 -- What can be issued.
-
-issuable_by : (r : Requests) (n : ℕ) (given ended running doomed : Bool) (holder : Option ℕ)
-    → (given && not ended && not running && (doomed || not (is_some holder)))
-    ≡ can_be_issued (told_by r n given ended running doomed holder)
-issuable_by r n given ended running doomed holder = grind arith
 
 pub issuable_said : (r : Requests) (n : ℕ) → is_issuable r n ≡ can_be_issued (why_of r n)
 issuable_said r n = grind (arith, ready_is)
@@ -178,11 +160,6 @@ asked_by w n outstanding running doomed ready =
     if is_cancel (entry_of w.requests n) then answer.Ended (cancel_result w.requests n) no_bytes else
     answer.Run
 
-agrees : (w : World) (n : ℕ) (given ended running doomed : Bool) (holder : Option ℕ)
-    → asked_by w n (given && not ended) running doomed (not (is_some holder))
-    ≡ answer_told false w.requests n (told_by w.requests n given ended running doomed holder)
-agrees w n given ended running doomed holder = grind arith
-
 manual_agrees : (w : World) (n : ℕ)
     → asked_by w n (is_outstanding w.requests n) (is_running w.requests n) (is_doomed w.requests n) (is_ready w.requests n)
     ≡ answer_told false w.requests n (why_of w.requests n)
@@ -203,23 +180,6 @@ kernel_asked l n outstanding running turn =
     if not outstanding then answer.Unknown else
     if running then answer.Running else
     in_turn l.requests n (turn && kernel.is_doomed l.requests n) (turn && not (is_deferred l n))
-
-abbrev kernel_told : LinuxRequests → ℕ → (given ended running : Bool) → Option ℕ → Why
-kernel_told l n given ended running holder =
-    if not given then NeverAccepted else
-    if ended then HasEnded else
-    if running then Runs else
-    kept_back_by l n holder
-
-turn_agrees : (l : LinuxRequests) (n : ℕ) (doomed deferred : Bool)
-    → in_turn l.requests n doomed (not deferred)
-    ≡ answer_told true l.requests n (if doomed then IsDoomed (kernel_why.doom_of l.requests n) else if deferred then Waits (unwrap_or (least_free_of l) n) Deferred else MayStart)
-turn_agrees l n doomed deferred = grind arith
-
-kernel_agrees : (l : LinuxRequests) (n : ℕ) (given ended running : Bool) (holder : Option ℕ)
-    → kernel_asked l n (given && not ended) running (not (is_some holder))
-    ≡ answer_told true l.requests n (kernel_told l n given ended running holder)
-kernel_agrees l n given ended running holder = grind arith
 
 -- whom no earlier member of its group keeps back is in its turn
 turn_is : (r : Requests) (n : ℕ)

@@ -2,7 +2,7 @@
 -- Each from the answer that is called for, with `Stands` for what the definitions test; no history is needed.
 -- Stable: other crates may import what is pub.
 use Rattle.std.proofs.Common.{◌≡◌, ℕ, ◌+◌, ◌-◌, ◌<◌, ◌≤◌, Bool, false, List, [], ◌∷◌, ◌++◌, length, map, get_or, Option, Some, None, slice_get, if◌then◌else◌, refl, sym, ap, ap₂, ◌∙◌, arith, append_assoc, append-nil}
-use Rattle.uring_laws.proofs.Common.{All, All-head, All-tail, Answer, CallCloses, CallOpens, CalledForApart, FreeSlotIsFilled, IsItem, ItemsArePublished, Place, PositionIsTaken, Published, Setup, Sqe, Stands, Submission, TailPublishes, WordIsStaged, World, bad_word, call_length, ending, ending_of, ends_after, entry_answer, eq-eqb, happens, in_call, is_busy, is_full, item_of, le-ltb, length-append, length-map, lt-ltb, map-append, nat_le, ne_eqb, place_answer, place_of, slice_get-get_or, staged, sum_by_push, taken, taking, with_closed, with_entry, with_item, with_items}
+use Rattle.uring_laws.proofs.Common.{All, All-head, All-tail, Answer, CallCloses, CallOpens, CalledForApart, FreeSlotIsFilled, IsItem, ItemsArePublished, Place, PositionIsTaken, Published, Setup, Sqe, Stands, Submission, TailPublishes, WordIsStaged, World, bad_word, ends_after, entry_answer, eq-eqb, happens, in_call, is_busy, is_full, item_of, le-ltb, length-append, length-map, lt-ltb, map-append, nat_le, ne_eqb, place_answer, place_of, slice_get-get_or, staged, sum_by_push, taken, taking, with_entry, with_item, with_items}
 use Rattle.std.proofs.Math.ListN.{drop_of_length-le}
 use Rattle.uring_core.specs.declared.step.Step.TheVariants as step
 use Rattle.uring_core.specs.declared.answer.Answer.TheVariants as answer
@@ -96,15 +96,6 @@ items_published l size items none few good =
 
 -- Taking.
 
--- a call asked for positions that wait has as many
-length_asked : (l : Submission) (count asked : ℕ) → Stands l [] count → asked ≤ count
-    → call_length l asked ≡ asked
-length_asked l count asked s few = omega (arith, s.waiting)
-
-open_answer : (with_closed in_call : Bool) (rest : Answer) → with_closed ≡ false → in_call ≡ false
-    → (if with_closed then answer.Closed else (if in_call then answer.InCall else rest)) ≡ rest
-open_answer with_closed in_call rest e f = rw (e, f) refl
-
 pub call_opens : (g : Setup) → CallOpens g
 call_opens g w count asked a s is_open few called = grind arith
 
@@ -138,13 +129,6 @@ pub next_taken : (g : Setup) → g.stops ≡ false → g.linux ≡ false → (w 
 next_taken g goes manual w count asked done a s few low called =
     let one = position_taken g goes w count asked done a s few low called in
     (one.0, one.1 ∙ ap (λ b. in_call w (if b then done + 1 else asked) (done + 1)) (ends_none g _ manual))
-
-closes : (g : Setup) (w : World) (count : ℕ) (few : Bool) (accepted missed head : ℕ) (a : Answer)
-    → few ≡ false
-    → a ≡ (if few then answer.NotAll else answer.Taken accepted missed head)
-    → ending g (in_call w count count) a
-    ≡ ending_of g (in_call w count count) (Some (record { count = count; taken = count }))
-closes g w count few accepted missed head a all called = ap (ending g (in_call w count count)) (called ∙ ap (λ b. if b then answer.NotAll else answer.Taken accepted missed head) all)
 
 pub call_closes : (g : Setup) → CallCloses g
 call_closes g w count asked left ended loads s all called = grind (arith, sum_by_push)

@@ -1,6 +1,6 @@
 -- The laws of where submission calls end: from the open call as it is read off the history, and by induction over it.
 use Rattle.std.proofs.Common.{◌≡◌, ◌↔◌, ℕ, ◌+◌, ◌≤◌, ◌<◌, Bool, true, false, cond, eqb, nat_lt, List, [], ◌∷◌, ◌++◌, length, count_by, Option, Some, None, is_some, unwrap_or, slice_get, if◌then◌else◌, ◌⊎◌, inl, inr, refl, sym, subst, ap, ◌∙◌, arith, append-nil}
-use Rattle.uring_laws.proofs.Common.{Answer, Call, History, IsLawfulApart, Place, Setup, Sqe, Step, SubmissionMove, World, begins, cases_Bool, closes, drops, end_answer, end_answer_in, entry_answer, eqb-false, eqb-true, has_stopped, open_count, open_taken, opened_by, place_answer, slice_get-get_or, sound_of, stays, stops_at_word, submission_move, sum_by-cons, take_answer, take_answer_in, take_at, taken, taken_since, takes, told, world}
+use Rattle.uring_laws.proofs.Common.{Answer, Call, History, IsLawfulApart, Place, Setup, Step, SubmissionMove, World, begins, cases_Bool, closes, drops, end_answer, end_answer_in, eqb-false, eqb-true, has_stopped, open_count, open_taken, opened_by, place_answer, slice_get-get_or, sound_of, stays, stops_at_word, submission_move, sum_by-cons, take_answer, take_answer_in, take_at, taken, taken_since, takes, told, world}
 use Rattle.uring_laws.specs.Stopping.{EndsThere, OpenCallEndsThere, CallsTakeAll, drops_word}
 use Rattle.uring_core.specs.declared.step.Step.TheVariants as step
 use Rattle.uring_core.specs.declared.answer.Answer.TheVariants as answer
@@ -10,10 +10,6 @@ use Rattle.uring_laws.proofs.DirectSubmission.{IsOpened, direct_submission}
 use Rattle.uring_laws.proofs.Telling.{told_same}
 
 -- The open call.
-
--- what a place gives is no refusal
-given_no_more : (entry : Option Sqe) → entry_answer entry ≡ answer.NoMore → ⊥
-given_no_more entry e = grind arith
 
 -- a take gives no more exactly if all positions are taken
 no_more_at : (all : Bool) (taken count : ℕ) (place : Option Place) (p : Place)

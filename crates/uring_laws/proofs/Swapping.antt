@@ -1,7 +1,7 @@
 -- Starts that change places with starts and ends, by either's rules: `starts_change`, `start_then_end` and `end_then_start`.
 -- A start changes nothing that a definition reads but who runs; an end changes who has ended and failed, which counts for those alone that wait for it.
-use Rattle.std.proofs.Common.{◌≡◌, ◌≢◌, ℕ, ℤ, Bool, true, false, ◌&&◌, if◌then◌else◌, List, [], ◌∷◌, ◌++◌, sym, subst, ap, ap₂, ◌∙◌, append-nil, arith, rules}
-use Rattle.uring_laws.proofs.Common.{AreAlike, CalledFor, ChangePlaces, Drains, EndThenStart, Ends, EndsOn, Event, FileContents, History, IsLawful, IsOutcome, Outcome, Requests, Setup, StartThenEnd, StartsChange, Step, World, both_ways, choices_of, completion_for, doomed_fails, ends_doomed, entry_of, files_kept, files_of, happens, has_ended, is_cancel, is_outstanding, is_running, is_running_started_other, is_running_started_same, is_success, issue_answer, list_any, list_any_push, may_start, no_bytes, operation_of, requests_of, start_of, with_ended, with_posted, with_started, world}
+use Rattle.std.proofs.Common.{◌≡◌, ◌≢◌, ℕ, Bool, true, false, ◌&&◌, if◌then◌else◌, List, [], ◌∷◌, ◌++◌, sym, subst, ap, ap₂, ◌∙◌, append-nil, arith, rules}
+use Rattle.uring_laws.proofs.Common.{AreAlike, CalledFor, ChangePlaces, Drains, EndThenStart, Ends, Event, History, IsLawful, IsOutcome, Outcome, Requests, Setup, StartThenEnd, StartsChange, Step, World, both_ways, choices_of, completion_for, doomed_fails, ends_doomed, entry_of, files_kept, files_of, happens, has_ended, is_cancel, is_outstanding, is_running, is_running_started_other, is_running_started_same, is_success, issue_answer, list_any, list_any_push, may_start, no_bytes, operation_of, requests_of, start_of, with_ended, with_posted, with_started, world}
 use Rattle.uring_rules.specs.Rules.{doomed_result, with_issued_end}
 use Rattle.uring_entry.specs.Requests as manual
 use Rattle.uring_core.specs.declared.step.Step.TheVariants as step
@@ -17,21 +17,6 @@ pub record IsToEnd (linux : Bool) (r : Requests) (n : ℕ) : Type 0 where
   pub outstanding : is_outstanding r n ≡ true
   pub idle : is_running r n ≡ false
   pub doomed : ends_doomed linux r n ≡ true
-
-doom_called : (g : Setup) (w : World) (n : ℕ) → IsToEnd g.linux w.requests n
-    → answer.Ended (doomed_result g.linux w.requests n) no_bytes ≡ issue_answer g w n
-doom_called g w n c = rw (c.outstanding, c.idle, c.doomed)
-
-pub tells_end : (files : List FileContents) (r : Requests) (m : ℕ) (runs : Bool) (res : ℤ) (bytes : List ℕ)
-    → EndsOn files r m runs (answer.Ended res bytes)
-    → (runs ≡ true) × IsOutcome files (operation_of (entry_of r m)) (record { res = res; bytes = bytes })
-tells_end files r m runs res bytes e = grind arith
-
-ends_so : (files : List FileContents) (r : Requests) (m : ℕ) (runs : Bool) (res : ℤ) (bytes : List ℕ)
-    → runs ≡ true
-    → IsOutcome files (operation_of (entry_of r m)) (record { res = res; bytes = bytes })
-    → EndsOn files r m runs (answer.Ended res bytes)
-ends_so files r m runs res bytes is e = grind arith
 
 -- Worlds.
 

@@ -1,7 +1,7 @@
 -- What an event adds to what a history tells.
-use Rattle.std.proofs.Common.{◌≡◌, ◌+◌, Bool, true, false, cond, ◌∷◌, Option, None, count_by, ap, arith}
+use Rattle.std.proofs.Common.{◌≡◌, ◌+◌, Bool, true, false, ◌∷◌, Option, None, count_by, ap, arith}
 use Rattle.std.proofs.lemmas.Grind.{common_steps}
-use Rattle.uring_laws.proofs.Common.{Event, History, before_last, told, with_told}
+use Rattle.uring_laws.proofs.Common.{Event, History, told, with_told}
 
 -- a count of events, one event on
 pub count_more : (p : Event → Bool) (e : Event) (h : History) → p e ≡ true
@@ -16,7 +16,3 @@ count_same p e h fails = grind (arith, common_steps)
 pub told_same : {A : Type 0} (tells : Event → Option A) (e : Event) (h : History) → tells e ≡ None
     → told tells (e ∷ h) ≡ told tells h
 told_same tells e h none = ap (with_told (told tells h)) none
-
-pub before_same : (is_kind : Event → Bool) (e : Event) (h : History) → is_kind e ≡ false
-    → before_last is_kind (e ∷ h) ≡ before_last is_kind h
-before_same is_kind e h other = ap (λ b. cond b h (before_last is_kind h)) other

@@ -55,9 +55,6 @@ still_fewer true (g ∷ rest) k e = go g.drains e where
   go true f = or_right (is_among k g) (is_in_some rest k) f
   go false f = or_right (is_among k g) (is_in_some rest k) (drain_fewer rest k f)
 
-empty_is : (xs : List Deferred) → is_none xs ≡ true → xs ≡ []
-empty_is xs e = grind arith
-
 -- a ring that drained, and doesn't any more
 pub ring_off : (ring drains : Bool) (xs : List Deferred) → ring ≡ true
     → (ring && (drains || not (is_none xs))) ≡ false → (drains ≡ false) × (xs ≡ [])

@@ -24,10 +24,6 @@ least_within s r q h here = grind (arith, (first_told s r q h here))
 
 -- After a member that hasn't ended, no member is in turn.
 
-pub ended_passed : (r : Requests) (n k : ℕ) (g : Group) → IsMember r n g → n < k → k < g.least
-    → (is_outstanding r k && is_in_turn r k) ≡ false
-ended_passed r n k g m after lt = grind arith
-
 pub after_passed : (r : Requests) (n k : ℕ) (g : Group) → IsMember r n g → has_ended r n ≡ false → n < k
     → k < g.end → (is_outstanding r k && is_in_turn r k) ≡ false
 unfolding is_in_turn

@@ -140,10 +140,6 @@ pub gone_issuable : (s : Window) (d : KeptDrains) (b : Bool) (room : ℕ) (betwe
     → dispatch_of s d b room between ≡ x → ShowsRequests x l → n < s.first → is_issuable l n ≡ false
 gone_issuable s d b room between x l n e g lt = grind arith
 
--- who isn't outstanding, or runs, can't be issued
-pub busy_waits : (a b c : Bool) → (b && c) ≡ false → ((a && b) && c) ≡ false
-busy_waits a b c e = grind arith
-
 pub busy_issuable : (a b c : Bool) → (a && b) ≡ false → false ≡ (a && (b && c))
 busy_issuable a b c e = grind arith
 

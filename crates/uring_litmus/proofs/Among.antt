@@ -1,5 +1,5 @@
 -- Parts that stand among others, one part after the other.
-use Rattle.std.proofs.Common.{◌≡◌, ◌↔◌, ℕ, suc, ◌+◌, ◌-◌, ◌<◌, ◌≤◌, Bool, true, false, List, [], ◌∷◌, ◌++◌, length, take, drop, get_or, refl, sym, ap, subst, ◌∙◌, arith, inl, inr, add-one, drop-cons}
+use Rattle.std.proofs.Common.{◌≡◌, ◌↔◌, ℕ, ◌+◌, ◌-◌, ◌<◌, ◌≤◌, Bool, true, false, List, [], ◌∷◌, ◌++◌, length, take, drop, get_or, refl, sym, ap, subst, ◌∙◌, arith, inl, inr, drop-cons}
 use Rattle.uring_litmus.proofs.Common.{AreAmong, Contains, Contains-push_cases, Global, StandsSome, String, Vec, length-map, lines_in, map-append, nat_eq, slice_get_read, string_bytes, take_all, texts_of}
 use Rattle.std.proofs.Math.ListN.{drop_of_length-le}
 use Rattle.std.proofs.lemmas.Bool.{eq-eqb, eqb-true}
@@ -26,9 +26,7 @@ first_of e = cc
 met_down : (w : List ℕ) (wanted : List (List ℕ)) (p : List ℕ) (parts before after : List (List ℕ))
     → p ∷ parts ≡ before ++ w ∷ after → AreAmong wanted after → AreAmong wanted parts
 met_down w wanted p parts [] after e are = subst (λ l. AreAmong wanted l) (sym (rest_of e)) are
-met_down w wanted p parts (b ∷ before) after e are =
-    subst (λ l. AreAmong wanted l) (sym (rest_of e))
-    (after_all wanted before (w ∷ after) (among_after wanted w after are))
+met_down w wanted p parts (b ∷ before) after e are = grind (arith, rest_of, after_all, among_after)
 
 pub met : (w : List ℕ) (wanted : List (List ℕ)) (p : List ℕ) (parts : List (List ℕ)) → w ≡ p
     → AreAmong (w ∷ wanted) (p ∷ parts) ↔ AreAmong wanted parts
@@ -109,23 +107,13 @@ pub one_part : (parts : List (String Global)) (i : ℕ) (part : String Global) (
     → i < length parts → part ≡ get_or parts i part → A ↔ AreAmong wanted (texts_of (drop i parts))
     → ((after : List (List ℕ)) → AreAmong wanted (string_bytes part ∷ after) ↔ AreAmong wanted' after)
     → A ↔ AreAmong wanted' (texts_of (drop (i + 1) parts))
-one_part parts i part wanted wanted' A low is before step =
-    let cut : drop i parts ≡ part ∷ drop (i + 1) parts = drop-cons parts i part low ∙ (ap (λ x. x ∷ drop (suc i) parts) (sym is) ∙ ap (λ n. part ∷ drop n parts) (sym (add-one i))) in
-    let s = step (texts_of (drop (i + 1) parts)) in (
-      λ a. s.0 (subst (λ l. AreAmong wanted (texts_of l)) cut (before.0 a)),
-      λ b. before.1 (subst (λ l. AreAmong wanted (texts_of l)) (sym cut) (s.1 b)),
-    )
+one_part parts i part wanted wanted' A low is before step = grind (arith, drop-cons)
 
 -- none is left
 pub last_part : (parts wanted : List (String Global)) (i : ℕ) (A : Type 0) (r : Bool) → length parts ≤ i
     → r ≡ nat_eq (length wanted) 0 → A ↔ AreAmong (texts_of wanted) (texts_of (drop i parts))
     → (r ≡ true) ↔ A
-last_part parts wanted i A r past is both =
-    let none : drop i parts ≡ [] = drop_of_length-le parts past in
-    let many : length (texts_of wanted) ≡ length wanted = length-map wanted string_bytes in (
-      λ yes. both.1 (none_among (texts_of wanted) (texts_of (drop i parts)) (many ∙ eqb-true (length wanted) 0 (sym is ∙ yes))),
-      λ a. is ∙ eq-eqb (length wanted) 0 (sym many ∙ among_none (texts_of wanted) (subst (λ l. AreAmong (texts_of wanted) (texts_of l)) none (both.0 a))),
-    )
+last_part parts wanted i A r past is both = grind (arith, drop_of_length-le, length-map, none_among, eqb-true, eq-eqb, among_none)
 
 -- nothing more is wanted
 pub none_wanted : (wanted : List (String Global)) (parts : List (List ℕ)) (A : Type 0) → length wanted ≡ 0

@@ -1,18 +1,14 @@
 -- The texts of files, one more at a time.
-use Rattle.std.proofs.Common.{◌≡◌, ℕ, zero, suc, ◌+◌, ◌<◌, List, [], ◌∷◌, ◌++◌, length, take, get_or, Option, Some, None, pos, refl, sym, ap, ap₂, ◌∙◌, append_assoc, add-one, arith}
-use Rattle.uring_litmus.proofs.Common.{MatchOption, byte_of, file_of, file_text, files_texts, option_and_then, option_map, option_to_list, slice_get, slice_get-get_or, state_text, take_more}
+use Rattle.std.proofs.Common.{◌≡◌, ℕ, zero, suc, ◌+◌, ◌<◌, List, [], ◌∷◌, ◌++◌, length, take, get_or, Option, Some, None, pos, refl, sym, ap, ◌∙◌, append_assoc, add-one, arith}
+use Rattle.uring_litmus.proofs.Common.{MatchOption, byte_of, file_of, file_text, files_texts, option_map, option_to_list, slice_get, slice_get-get_or, state_text, take_more}
 use Rattle.uring_files.specs.Contents.{FileContents}
 use Rattle.uring_files.specs.declared.file.FileState.{FileState}
 use Rattle.uring_text.specs.Tokens.{hex_or_dash}
 
 files_append : (fd : ℕ) (xs : List FileContents) (file : FileContents)
     → files_texts fd (xs ++ file ∷ []) ≡ files_texts fd xs ++ file_text (fd + length xs) file ∷ []
-files_append fd [] file =
-    let same : fd ≡ fd + 0 = omega arith in
-    ap (λ n. file_text n file ∷ []) same
-files_append fd (x ∷ xs) file =
-    let same : fd + 1 + length xs ≡ fd + suc (length xs) = omega arith in
-    ap (λ l. file_text fd x ∷ l) (files_append (fd + 1) xs file ∙ ap (λ n. files_texts (fd + 1) xs ++ file_text n file ∷ []) same)
+files_append fd [] file = grind arith
+files_append fd (x ∷ xs) file = grind (arith, (files_append (fd + 1) xs file))
 
 taken_past : {X : Type 0} (xs : List X) (k : ℕ) → slice_get xs k ≡ None → take (suc k) xs ≡ take k xs
 taken_past [] zero none = refl
@@ -37,8 +33,7 @@ pub file_more : (files : List FileContents) (fd : ℕ) (o : Option FileContents)
     → slice_get files fd ≡ o → so ≡ before ++ files_texts 0 (take fd files)
     → MatchOption o (after ≡ so) (λ file. after ≡ so ++ file_text fd file ∷ [])
     → after ≡ before ++ files_texts 0 (take (fd + 1) files)
-file_more files fd None before so after none is same =
-    same ∙ is ∙ ap (λ l. before ++ files_texts 0 l) (sym (taken_past files fd none)) ∙ ap (λ n. before ++ files_texts 0 (take n files)) (sym (add-one fd))
+file_more files fd None before so after none is same = grind (arith, taken_past)
 file_more files fd (Some file) before so after some is more =
     let count : 0 + length (take fd files) ≡ fd = let n = taken_count files fd file some in omega arith in
     more ∙ ap (λ l. l ++ file_text fd file ∷ []) is ∙ append_assoc before (files_texts 0 (take fd files)) (file_text fd file ∷ [])
@@ -50,9 +45,7 @@ pub byte_more : (files : List FileContents) (fd : ℕ) (file : FileContents) (at
     → file_of files (pos fd) ≡ Some file → at < length file.bytes → before ≡ take at file.bytes
     → after ≡ before ++ option_to_list (byte_of files (pos fd) at) → after ≡ take (at + 1) file.bytes
 byte_more files fd file at before after is low so now =
-    let here : byte_of files (pos fd) at ≡ Some (get_or file.bytes at 0) = ap (option_and_then (λ (f : FileContents). slice_get f.bytes at)) is ∙ slice_get-get_or file.bytes at 0 low in
-    now ∙ ap (λ (l : List ℕ). l ++ option_to_list (byte_of files (pos fd) at)) so
-    ∙ ap (λ (o : Option ℕ). take at file.bytes ++ option_to_list o) here ∙ sym (take_more file.bytes at 0 low)
+    grind (arith, (get_or file.bytes at 0), (slice_get-get_or file.bytes at 0 low), (take_more file.bytes at 0 low))
 
 -- how a file stands
 abbrev pub state_of_file : FileContents → FileState
@@ -65,15 +58,13 @@ taken_whole (x ∷ xs) zero none = absurd cc
 taken_whole (x ∷ xs) (suc k) none = ap (λ l. x ∷ l) (taken_whole xs k none)
 
 none_at : (o : Option FileContents) → None ≡ option_map state_of_file o → o ≡ None
-none_at None none = refl
-none_at (Some file) none = absurd cc
+none_at o none = grind arith
 
 -- where there is no file, all were told
 pub all_taken : (files : List FileContents) (fd : ℕ) (before texts : List (List ℕ))
     → None ≡ option_map state_of_file (slice_get files fd) → texts ≡ before ++ files_texts 0 (take fd files)
     → texts ≡ before ++ files_texts 0 files
-all_taken files fd before texts none is =
-    is ∙ ap (λ (l : List FileContents). before ++ files_texts 0 l) (taken_whole files fd (none_at (slice_get files fd) none))
+all_taken files fd before texts none is = grind (arith, taken_whole)
 
 -- there is one
 pub one_file : (o : Option FileContents) (fd : ℕ) (s : FileState) (bytes text : List ℕ) (before after : List (List ℕ))
@@ -81,8 +72,4 @@ pub one_file : (o : Option FileContents) (fd : ℕ) (s : FileState) (bytes text 
     → ((file : FileContents) → o ≡ Some file → length file.bytes ≡ s.len → bytes ≡ file.bytes)
     → text ≡ state_text fd s ++ hex_or_dash bytes → after ≡ before ++ text ∷ []
     → MatchOption o (after ≡ before) (λ file. after ≡ before ++ file_text fd file ∷ [])
-one_file None fd s bytes text before after some are is now = absurd cc
-one_file (Some file) fd s bytes text before after some are is now =
-    let same : s ≡ state_of_file file = cc in
-    let len : length file.bytes ≡ s.len = ap (λ (x : FileState). x.len) (sym same) in
-    now ∙ ap (λ (t : List ℕ). before ++ t ∷ []) (is ∙ ap₂ (λ (x : FileState) (l : List ℕ). state_text fd x ++ hex_or_dash l) same (are file refl len))
+one_file o fd s bytes text before after some are is now = grind arith

@@ -1,6 +1,6 @@
 -- What is listed of calls, and shows what they may come to.
-use Rattle.std.proofs.Common.{◌≡◌, ℕ, zero, suc, Bool, List, [], ◌∷◌, ◌++◌, length, map, Option, Ok, sym, ap, subst, ◌∙◌, refl, arith, append_assoc}
-use Rattle.uring_litmus.proofs.Common.{AllZip, AreFound, AreLinesOf, Contains, Ending, Finds, Form, Global, IsLineOf, IsListOf, IsNoted, IsSortedOnce, ReadsCalls, ShowAll, String, Vec, accepted_of, codes, count_text, length-map, lines_text, lists_of, order_text, string_bytes, texts_of, told_count}
+use Rattle.std.proofs.Common.{◌≡◌, ℕ, zero, suc, Bool, List, [], ◌∷◌, ◌++◌, length, map, Option, Ok, arith, append_assoc}
+use Rattle.uring_litmus.proofs.Common.{AllZip, AreFound, AreLinesOf, Contains, Ending, Finds, Form, Global, IsLineOf, IsListOf, IsNoted, IsSortedOnce, ReadsCalls, ShowAll, String, Vec, accepted_of, codes, length-map, lines_text, lists_of, order_text, texts_of, told_count}
 use Rattle.uring_entry.specs.Setup.{Setup}
 use Rattle.uring_ports.specs.declared.item.Item.{Item}
 
@@ -10,8 +10,7 @@ of_line : (form : Form) (endings : List Ending) (lines : List (List ℕ)) → Ar
 of_line form [] [] are line (k, low, is) = absurd (omega arith)
 of_line form [] (l ∷ lines) are line has = absurd are
 of_line form (e ∷ endings) [] are line has = absurd are
-of_line form (e ∷ endings) (l ∷ lines) are line (zero, low, is) =
-    (e, (zero, omega arith, refl), subst (λ (x : List ℕ). IsLineOf form e x) is are.0)
+of_line form (e ∷ endings) (l ∷ lines) are line (zero, low, is) = grind arith
 of_line form (e ∷ endings) (l ∷ lines) are line (suc k, low, is) =
     let r = of_line form endings lines are.1 line (k, omega arith, is) in
     (r.0, (suc r.1.0, omega arith, r.1.2), r.2)
@@ -22,8 +21,7 @@ has_line : (form : Form) (endings : List Ending) (lines : List (List ℕ)) → A
 has_line form [] [] are e (k, low, is) = absurd (omega arith)
 has_line form [] (l ∷ lines) are e has = absurd are
 has_line form (f ∷ endings) [] are e has = absurd are
-has_line form (f ∷ endings) (l ∷ lines) are e (zero, low, is) =
-    (l, (zero, omega arith, refl), subst (λ (x : Ending). IsLineOf form x l) is are.0)
+has_line form (f ∷ endings) (l ∷ lines) are e (zero, low, is) = grind arith
 has_line form (f ∷ endings) (l ∷ lines) are e (suc k, low, is) =
     let r = has_line form endings lines are.1 e (k, omega arith, is) in
     (r.0, (suc r.1.0, omega arith, r.1.2), r.2)
@@ -41,25 +39,9 @@ pub list_text : (form : Form) (endings : List Ending) (is_all : Bool) (most : �
     → AllZip (IsNoted form.is_sorted (texts_of each) (map order_text endings)) (texts_of lines) (texts_of shown)
     → text ≡ lines_text (texts_of shown) ++ codes "outcomes " ++ told_count (length shown) is_all most
     → IsListOf form endings is_all most text
-list_text form endings is_all most each lines shown text are once noted is = record {
-  each = texts_of each;
-  show_each = are;
-  lines = texts_of lines;
-  sorted = once;
-  shown = texts_of shown;
-  noted = noted;
-  is = is ∙ append_assoc (lines_text (texts_of shown)) (codes "outcomes ") (told_count (length shown) is_all most)
-      ∙ ap (λ (n : ℕ). lines_text (texts_of shown) ++ count_text n is_all most) (sym (length-map shown string_bytes));
-}
+list_text form endings is_all most each lines shown text are once noted is = grind (arith, append_assoc, length-map)
 
 pub finds : (setup : Setup) (items : Vec (Vec Item Global) Global) (endings : List Ending) (is_all : Bool) (a a' : Option (List ℕ))
     → ReadsCalls setup (Ok items) a a'
     → AreFound setup (map accepted_of (lists_of items.items)) endings is_all → Finds setup endings is_all a a'
-finds setup items endings is_all a a' read found = record {
-  bytes = read.bytes;
-  consumed = read.consumed;
-  at_end = read.whole;
-  calls = lists_of items.items;
-  told = read.returned;
-  found = found;
-}
+finds setup items endings is_all a a' read found = grind arith

@@ -1,6 +1,6 @@
 -- The orders of the outcomes that have a line.
 use Rattle.std.proofs.Common.{◌≡◌, ◌↔◌, ℕ, ◌+◌, ◌<◌, List, [], ◌∷◌, ◌++◌, length, map, get_or, Some, refl, sym, ap, subst, ◌∙◌, arith, append-nil, inl, inr}
-use Rattle.uring_litmus.proofs.Common.{AreLinesOf, Contains, Contains-append_left, Contains-append_right, Contains-push_cases, CountsOrders, Ending, Form, Global, HasBoth, IsLineOf, IsSortedOnce, String, completion_parts, false, joined, length-map, option_map, order_text, slice_get, slice_get-map, slice_get_read, slice_get_within, string_bytes, texts_of, zero}
+use Rattle.uring_litmus.proofs.Common.{AreLinesOf, Contains, Contains-append_left, Contains-append_right, Contains-push_cases, CountsOrders, Ending, Form, Global, HasBoth, IsLineOf, IsSortedOnce, String, false, length-map, option_map, order_text, slice_get, slice_get-map, slice_get_read, slice_get_within, string_bytes, texts_of, zero}
 use Rattle.std.proofs.lemmas.Bool.{cases_lt}
 
 -- the same below a place
@@ -10,10 +10,7 @@ HasBelow each orders line i order =
 
 pub none_below : (each orders : List (List ℕ)) (line order : List ℕ) (own : List (List ℕ)) → own ≡ []
     → Contains own order ↔ HasBelow each orders line 0 order
-none_below each orders line order own none = (
-  λ has. absurd (let low = (subst (λ l. Contains l order) none has).1 in omega arith),
-  λ has. absurd (let low = has.1 in omega arith),
-)
+none_below each orders line order own none = grind arith
 
 pub same_text : {x y : List ℕ} → Some x ≡ Some y → x ≡ y
 same_text e = cc
@@ -39,13 +36,7 @@ pub passed_below : (each orders : List (List ℕ)) (line order : List ℕ) (i : 
     → (slice_get each i ≡ Some line → slice_get orders i ≡ Some order → ⊥)
     → Contains own order ↔ HasBelow each orders line i order
     → Contains own order ↔ HasBelow each orders line (i + 1) order
-passed_below each orders line order i own other was = (
-  λ has. (let b = was.0 has in (b.0, (let low = b.1 in omega arith), b.2, b.3)),
-  λ has. elim (cases_lt has.0 i) [
-    | inl low ↦ was.1 (has.0, low, has.2, has.3)
-    | inr high ↦ absurd (let below = has.1 in let same : has.0 ≡ i = omega arith in other (ap (slice_get each) (sym same) ∙ has.2) (ap (slice_get orders) (sym same) ∙ has.3))
-  ],
-)
+passed_below each orders line order i own other was = grind arith
 
 pub all_below : (each orders : List (List ℕ)) (line order : List ℕ) (i : ℕ) (own : List (List ℕ))
     → length each ≡ i → Contains own order ↔ HasBelow each orders line i order
@@ -73,16 +64,14 @@ abbrev pub order_form : Form
 order_form = record { is_sorted = false; has_files = false }
 
 order_is : (e : Ending) (line : List ℕ) → IsLineOf order_form e line → line ≡ order_text e
-order_is e line shows =
-    shows.is ∙ ap joined (shows.shown.are ∙ append-nil (completion_parts shows.shown.completions) ∙ ap completion_parts shows.shown.ordered)
+order_is e line shows = grind (arith, append-nil)
 
 pub orders_are : (endings : List Ending) (lines : List (List ℕ)) → AreLinesOf order_form endings lines
     → lines ≡ map order_text endings
 orders_are [] [] are = refl
 orders_are [] (line ∷ lines) are = absurd are
 orders_are (e ∷ endings) [] are = absurd are
-orders_are (e ∷ endings) (line ∷ lines) are =
-    ap (λ l. l ∷ lines) (order_is e line are.0) ∙ ap (λ l. order_text e ∷ l) (orders_are endings lines are.1)
+orders_are (e ∷ endings) (line ∷ lines) are = grind (arith, (order_is e line are.0), (orders_are endings lines are.1))
 
 -- the text at a place
 pub text_at : (each : List (String Global)) (i : ℕ) (text : String Global) → i < length each

@@ -1,9 +1,8 @@
 -- Verdicts on claims of what was found, and outcomes that are chosen among it.
 use Rattle.std.proofs.Common.{◌≡◌, ◌↔◌, ◌+◌, ◌<◌, ◌≤◌, ℕ, Bool, true, false, not, List, [], ◌∷◌, ◌++◌, length, map, take, get_or, Option, Some, None, Result, Ok, Err, if◌then◌else◌, refl, sym, ap, subst, ◌∙◌, inl, inr, arith}
-use Rattle.uring_litmus.proofs.Common.{Contains, Contains-push_cases, Ending, Finds, Form, Global, IsAgainst, IsLineOf, IsShown, IsSoOf, IsVerdict, Judges, MatchOption, ShowsSome, StandsSome, String, accepted_of, completion_parts, files_texts, is_so, map-append, parts_in, slice_get, slice_get_read, slice_get_within, string_bytes, take_all, texts_of}
+use Rattle.uring_litmus.proofs.Common.{Contains, Contains-push_cases, Ending, Finds, Form, Global, IsAgainst, IsLineOf, IsShown, IsSoOf, IsVerdict, Judges, MatchOption, ShowsSome, StandsSome, String, accepted_of, is_so, map-append, parts_in, slice_get, slice_get_read, slice_get_within, string_bytes, take_all, texts_of}
 use Rattle.uring_entry.specs.Setup.{Setup}
 use Rattle.uring_litmus.specs.declared.claims.Claim.{Claim}
-use Rattle.uring_litmus.specs.declared.claims.Claim.TheVariants as claims
 use Rattle.uring_litmus.specs.declared.judging.Judged.{Judged}
 use Rattle.uring_litmus.specs.declared.judging.Judged.TheVariants as judged
 use Rattle.uring_litmus.specs.declared.judging.Chosen.TheVariants as chosen
@@ -40,11 +39,7 @@ so_of_all claim lines endings i past so e has =
 pub against_at : (claim : Claim) (lines : List (List (List ℕ))) (endings : List Ending) (i : ℕ) (x : Ending)
     → i < length endings → x ≡ get_or endings i x → (IsSoOf claim lines x → ⊥)
     → IsAgainst claim lines endings i
-against_at claim lines endings i x low is other = record {
-  ending = x;
-  there = slice_get_read endings (length endings) i x refl low is;
-  against = other;
-}
+against_at claim lines endings i x low is other = grind (arith, slice_get_read)
 
 -- what is said of where one was found of which it isn't so
 abbrev pub IsSaid : Claim → List (List (List ℕ)) → List Ending → Option ℕ → Type 0
@@ -60,14 +55,7 @@ against_low claim lines endings found at is said =
 judges : (g : Setup) (claim : Claim) (lines : List (List (List ℕ))) (endings : List Ending) (is_all : Bool) (said : Judged) (a a' : Option (List ℕ))
     → (finding : Finds g endings is_all a a')
     → IsVerdict g (map accepted_of finding.calls) claim lines said → Judges g claim lines said a a'
-judges g claim lines endings is_all said a a' finding verdict = record {
-  bytes = finding.bytes;
-  consumed = finding.consumed;
-  at_end = finding.at_end;
-  calls = finding.calls;
-  told = finding.told;
-  verdict = verdict;
-}
+judges g claim lines endings is_all said a a' finding verdict = grind arith
 
 -- It fails of one of those that were found.
 pub fails : (g : Setup) (claim : Claim) (lines : List (List (List ℕ))) (endings : List Ending) (is_all : Bool) (found : Option ℕ) (at : ℕ) (e : Ending) (a a' : Option (List ℕ))
@@ -94,14 +82,7 @@ stands g claim lines endings true found count a a' finding is said many =
       once = finding.found.once;
       many = sym many;
     })
-stands g claim lines endings false found count a a' finding is said many =
-    judges g claim lines endings false (judged.Unknown count) a a' finding (record {
-      endings = endings;
-      right = finding.found.right;
-      once = finding.found.once;
-      so = subst (λ f. IsSaid claim lines endings f) is said;
-      many = sym many;
-    })
+stands g claim lines endings false found count a a' finding is said many = grind arith
 
 -- The first place of a line.
 
@@ -136,60 +117,27 @@ pub chooses : (form : Form) (setup : Setup) (number : ℕ) (endings : List Endin
     → Finds setup endings is_all a a' → found ≡ Ok at → IsPlaceOf form endings number found
     → slice_get endings at ≡ Some e → Chooses form setup number (chosen.Outcome e is_all) a a'
 chooses form setup number endings is_all found at e a a' finding is said there =
-    let place : IsPlaceOf form endings number (Ok at) = subst (λ f. IsPlaceOf form endings number f) is said in
-    let line : List ℕ = place.2.2.0 in
-    let x = zip_at (IsLineOf form) endings place.0 at line place.1 place.2.2.3 in
-    record {
-      endings = endings;
-      finding = finding;
-      lines = place.2.0;
-      show_all = all_shown form endings place.0 place.2.0 place.1 place.2.1;
-      choice = record {
-        counted = place.2.2.1;
-        line = line;
-        at = place.2.2.2;
-        there = at_place endings at e there;
-        shown = subst (λ y. IsLineOf form y line) (some_same (sym x.1 ∙ there)) x.2;
-      };
-    }
+    grind (arith, zip_at, all_shown, at_place, some_same)
 
 pub misses : (form : Form) (setup : Setup) (number : ℕ) (endings : List Ending) (is_all : Bool) (found : Result ℕ ℕ) (count : ℕ) (a a' : Option (List ℕ))
     → Finds setup endings is_all a a' → found ≡ Err count → IsPlaceOf form endings number found
     → Chooses form setup number (chosen.Missing count is_all) a a'
-misses form setup number endings is_all found count a a' finding is said =
-    let place : IsPlaceOf form endings number (Err count) = subst (λ f. IsPlaceOf form endings number f) is said in
-    record {
-      endings = endings;
-      finding = finding;
-      lines = place.2.0;
-      show_all = all_shown form endings place.0 place.2.0 place.1 place.2.1;
-      choice = place.2.2;
-    }
+misses form setup number endings is_all found count a a' finding is said = grind (arith, all_shown)
 
 -- all of an outcome
 whole_is : (e : Ending) (parts : List (List ℕ)) → IsShown (record { is_sorted = false; has_files = true }) e parts
     → parts ≡ parts_in e
-whole_is e parts shown =
-    shown.are ∙ ap (λ cs. completion_parts cs ++ files_texts 0 e.files) shown.ordered
+whole_is e parts shown = grind arith
 
 -- A claim is so of an outcome exactly if it is by whether that shows some of the lines.
 never_if : (b r : Bool) (S : Type 0) → r ≡ not b → (b ≡ true) ↔ S → (r ≡ true) ↔ (S → ⊥)
-never_if true r S is both = (
-  λ yes some. (let no : false ≡ true = sym is ∙ yes in cc),
-  λ none. absurd (none (both.0 refl)),
-)
-never_if false r S is both = (
-  λ yes some. (let no : false ≡ true = both.1 some in cc),
-  λ none. is,
-)
+never_if b r S is both = grind arith
 
 so_if : (claim : Claim) (lines : List (List (List ℕ))) (e : Ending) (b r : Bool) → r ≡ is_so claim b
     → (b ≡ true) ↔ ShowsSome lines e → (r ≡ true) ↔ IsSoOf claim lines e
-so_if claims.Never lines e b r is both = never_if b r (ShowsSome lines e) is both
-so_if claims.Always lines e b r is both = (λ yes. both.0 (sym is ∙ yes), λ some. is ∙ both.1 some)
+so_if claim lines e b r is both = grind arith
 
 pub so_by_parts : (claim : Claim) (lines : List (List (List ℕ))) (e : Ending) (parts : List (List ℕ)) (b r : Bool)
     → IsShown (record { is_sorted = false; has_files = true }) e parts → (b ≡ true) ↔ StandsSome lines parts
     → r ≡ is_so claim b → (r ≡ true) ↔ IsSoOf claim lines e
-so_by_parts claim lines e parts b r shown both is =
-    so_if claim lines e b r is (subst (λ l. (b ≡ true) ↔ StandsSome lines l) (whole_is e parts shown) both)
+so_by_parts claim lines e parts b r shown both is = grind arith

@@ -1,6 +1,6 @@
 -- By Linux's rules whatever was started comes before whatever is deferred: groups are deferred in their order, go on in that order, and no later group starts before them.
-use Rattle.std.proofs.Common.{◌≡◌, ℕ, suc, ◌+◌, ◌<◌, ◌≤◌, ℤ, length, Bool, true, false, not, ◌||◌, ◌==◌, List, [], ◌∷◌, ◌++◌, refl, sym, ◌∙◌, ap, subst, arith, inl, inr, length-append}
-use Rattle.uring_machine.proofs.Common.{LinuxRequests, Requests, added_other, after_going_on, and_parts, both_ways, cases_Bool, cases_eq, cases_lt, entry_of_accepted_at, has_started, if◌then◌else◌, is_alone, is_deferred, is_doomed, is_faulty_from, is_in_faulty_group, is_in_turn, is_issuable, is_last, is_linked, is_outstanding, ltb-false, ltb-true, nat_lt, ne_eqb, not-false, not-true, or_from, or_parts, with_accepted, with_cut, with_ended, with_group, with_last_entry}
+use Rattle.std.proofs.Common.{◌≡◌, ℕ, suc, ◌+◌, ◌<◌, ◌≤◌, ℤ, length, Bool, true, false, not, ◌||◌, List, [], ◌∷◌, ◌++◌, refl, sym, ◌∙◌, ap, arith, inl, inr, length-append}
+use Rattle.uring_machine.proofs.Common.{LinuxRequests, Requests, added_other, after_going_on, and_parts, both_ways, cases_eq, cases_lt, entry_of_accepted_at, has_started, if◌then◌else◌, is_alone, is_deferred, is_doomed, is_faulty_from, is_in_faulty_group, is_in_turn, is_issuable, is_last, is_linked, is_outstanding, ltb-false, ltb-true, nat_lt, not-false, not-true, or_from, or_parts, with_accepted, with_cut, with_ended, with_group, with_last_entry}
 use Rattle.uring_entry.specs.Layout.{Sqe}
 use Rattle.uring_entry.specs.Requests as manual
 use Rattle.uring_entry.proofs.GroupEvents.{is_last_cut}
@@ -90,10 +90,7 @@ grouped_ordered r d later g some known started = record {
   ring = g.ring;
   passed = λ n k lt. g.passed n k (let e = g.from in omega arith);
   known = λ n is. let e = g.from in let lt = known n is in omega arith;
-  started = λ n k is there. elim (cases_lt k d.from) [
-    | inl before ↦ started n k is (g.fewer k before there)
-    | inr past ↦ (let lt = known n is in omega arith)
-  ];
+  started = grind arith;
 }
 
 accepted_open : (l : LinuxRequests) (e : Sqe) → IsOrdered l → (k : ℕ) → l.drains.from ≤ k
@@ -123,10 +120,7 @@ accepted_ordered l e s o = go (is_linked e) refl where
 
   go : (b : Bool) → is_linked e ≡ b → IsOrdered (record { requests = r; drains = if b then d else with_group r d })
   go true linked = record {
-    amid = λ k le lt. elim (cases_lt k (length l.requests.accepted)) [
-      | inl before ↦ accepted_open l e o k le before
-      | inr past ↦ (let same : length l.requests.accepted ≡ k = omega (arith, past, lt, more) in subst (λ j. is_last r j ≡ false) same (new_open linked))
-    ];
+    amid = grind (arith, accepted_open, more, new_open);
     ring = ring;
     passed = accepted_passed l e s o;
     known = o.known;
@@ -199,14 +193,8 @@ start_ordered l n o closed can spared =
       amid = o.amid;
       ring = o.ring;
       passed = λ m k lt under there out. faulty_started l.requests n m ∙ o.passed m k lt under there out;
-      known = λ m is. elim (cases_eq n m) [
-        | inl same ↦ omega arith
-        | inr other ↦ o.known m (sym (added_other (λ j. j == m) l.requests.started n (ne_eqb n m other)) ∙ is)
-      ];
-      started = λ m k is there. elim (cases_eq n m) [
-        | inl same ↦ subst (λ j. j < k) same (start_before l n k o closed can spared there)
-        | inr other ↦ o.started m k (sym (added_other (λ j. j == m) l.requests.started n (ne_eqb n m other)) ∙ is) there
-      ];
+      known = grind (arith, added_other);
+      started = grind (arith, start_before, added_other);
     }
 
 end_ordered : (l : LinuxRequests) (n : ℕ) (res : ℤ) (bytes : List ℕ) → IsBetween l → IsOrdered l
@@ -218,10 +206,7 @@ end_ordered l n res bytes b o =
     record {
       amid = λ k le lt. absurd (omega (arith, le, lt, closed));
       ring = λ off. none_left alone l.drains.deferred (o.ring off);
-      passed = λ m k lt under there out. faulty_ended l.requests n res bytes m ∙ elim (cases_Bool (is_in_some l.drains.deferred m)) [
-        | inl here ↦ absurd (let before : m < k = still_before IsAny alone 0 l.drains.deferred l.drains.from m k (in_order l b.settled) here out there in omega arith)
-        | inr never ↦ o.passed m k lt under (still_fewer alone l.drains.deferred k there) never
-      ];
+      passed = grind (arith, faulty_ended, still_before, in_order, still_fewer);
       known = o.known;
       started = λ m k is there. o.started m k is (still_fewer alone l.drains.deferred k there);
     } where

@@ -1,6 +1,6 @@
 -- Where something is outstanding, the least of it runs, or something can be issued: by either's rules.
 use Rattle.std.proofs.Common.{◌≡◌, ℕ, ◌<◌, Bool, true, false, not, ◌&&◌, length, Some, is_some, refl, sym, ◌∙◌, ap, subst, arith, ◌⊎◌, inl, inr}
-use Rattle.uring_machine.proofs.Common.{History, IsLawfulApart, LinuxRequests, Setup, and_from, and_parts, both_ways, cases_eq, cases_lt, is_deferred, is_outstanding, is_running, least_of, least_of_goes_on, or_cases, requests_of, world}
+use Rattle.uring_machine.proofs.Common.{History, IsLawfulApart, LinuxRequests, Setup, is_deferred, is_outstanding, is_running, least_of, least_of_goes_on, or_cases, requests_of, world}
 use Rattle.uring_entry.proofs.BelowLemmas.{IsLeast, least_below_tells, is_some_least_below, some_below_some}
 use Rattle.uring_linux.specs.Happenings.{made_by}
 use Rattle.uring_linux.proofs.GoingOn.{goes_on_from}
@@ -35,15 +35,7 @@ by_linux_goes l n so e = subst (λ k. GoesOn true k n) so.made (go (subst (λ (k
       let least = least_below_tells (is_outstanding k.requests) (length k.requests.accepted) n is in
       elim on.goes [
         | inr can ↦ inr (issuable_next true k m free.below can)
-        | inl running ↦
-            let out : is_deferred k n ≡ false = runs_first k n m (all_ordered so.happened so.may so.spared) least free.below running in
-            elim (cases_eq m n) [
-              | inl same ↦ inl (subst (λ j. is_running k.requests j ≡ true) same running)
-              | inr other ↦ elim (cases_lt m n) [
-                | inl under ↦ absurd (both_ways _ (least.before m under) (and_parts _ _ free.holds).0)
-                | inr past ↦ absurd (both_ways _ (free.before n (omega (arith, past, other))) (and_from _ _ least.holds (ap not out)))
-              ]
-            ]
+        | inl running ↦ grind (arith, runs_first, all_ordered)
       ]
 
 by_manual_goes : (l : LinuxRequests) (n : ℕ) → least_of l.requests ≡ Some n → GoesOn false l n

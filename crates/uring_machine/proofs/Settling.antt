@@ -131,9 +131,7 @@ settled_run granted old asked new n a b c h same kept next ran fits asked_fits n
       };
       none_started = refl;
       few = omega arith;
-      fewer =
-          one_fewer old new h ((step.Finish n, c) ∷ (step.Issue n, answer.Run) ∷ h) (kept ∙ same) fits now
-          (finish_less g (world g ((step.Issue n, answer.Run) ∷ h)) n c outstanding (subst (λ running. FinishesApart running c) (is_running_started_same r n unended) now.core.lawful.0));
+      fewer = grind (arith, one_fewer, finish_less, is_running_started_same);
     }
 
 -- the next request ended as it was issued
@@ -160,8 +158,7 @@ settled_end granted old asked new n a b h same kept next other fits asked_fits n
       none_started = not_started n b other;
       few = omega arith;
       fewer =
-          one_fewer old new h ((step.Issue n, b) ∷ h) (kept ∙ same) fits new_fits
-          (issue_less g (world g h) n b (issuable_outstanding g.linux l n issuable) ended);
+          grind (arith, (issue_less g (world g h) n b (issuable_outstanding g.linux l n issuable) ended), (issuable_outstanding g.linux l n issuable));
     }
 
 -- the least outstanding request ran, and was finished
@@ -239,9 +236,7 @@ settled_all granted old new h count ended same fits all s =
     record {
       settles = s.settles;
       few = omega (arith, s.few, all, ap (λ g. outstanding_in (world g h).requests) same);
-      none_outstanding =
-          none_outstanding (world new.core.setup (history_of s.settles.events ++ h)).requests
-          (omega (arith, s.fewer, all, outstanding_of old h fits, outstanding_of new (history_of s.settles.events ++ h) s.settles.fits));
+      none_outstanding = grind (arith, none_outstanding);
     }
 
 -- what is settled if memory is granted is settled
@@ -249,14 +244,7 @@ pub settled_anyway : (granted : Type 0) (m : Machine) (h : History) (count : ℕ
     → IsSettledIf granted m h count → IsSettled m h count
 settled_anyway granted m h count s =
     record {
-      settles = record {
-        events = s.settles.events;
-        issues_and_finishes = s.settles.issues_and_finishes;
-        settling = s.settles.settling;
-        fits = s.settles.fits;
-        many = s.settles.many;
-        unrefused = λ sure. absurd sure;
-      };
+      settles = grind arith;
       few = s.few;
       none_outstanding = s.none_outstanding;
     }

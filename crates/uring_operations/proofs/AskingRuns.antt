@@ -1,9 +1,7 @@
 -- The laws of what is asked of open files, and taken back.
-use Rattle.std.proofs.Common.{◌≡◌, ℕ, ◌+◌, ◌^◌, ◌<◌, Bool, true, false, not, ◌&&◌, ◌||◌, ◌==◌, nat_lt, Option, Some, None, refl, sym, ap, ◌∙◌, if◌then◌else◌, arith}
+use Rattle.std.proofs.Common.{◌≡◌, ℕ, ◌+◌, ◌^◌, ◌<◌, Bool, true, false, not, ◌&&◌, ◌||◌, ◌==◌, nat_lt, Option, Some, None, ap, ◌∙◌, if◌then◌else◌, arith}
 use Rattle.std.specs.Int.RustNames.{bit_and, bit_or}
-use Rattle.std.proofs.lemmas.Bool.{eqb-true, false≢true}
 use Rattle.std.proofs.lemmas.Nat.{and_comm, and_or_self, or_disjoint, or_lt, and-not}
-use Rattle.uring_operations.specs.Entries.Needs.{is_of_sockets}
 use Rattle.uring_operations.specs.Files.Asking.{CallsNeverSleep, TakesBackWhatItAsked, flags_after}
 
 -- a bit that is set and cleared again leaves the others
@@ -21,9 +19,7 @@ is_set : (flags : ℕ) → (bit_and (bit_or flags 2048) 2048 == 0) ≡ false
 is_set flags = ap (λ bits. bits == 0) (and_or_self 2048 flags)
 
 after : (flags : ℕ) → flags < 2 ^ 32 → bit_and flags 2048 ≡ 0 → flags_after true true (bit_or flags 2048) ≡ Some flags
-after flags below none =
-    ap (λ bits. if not bits then Some (bit_and (bit_or flags 2048) 4294965247) else None) (is_set flags)
-    ∙ ap (λ n. Some n) (back flags below none)
+after flags below none = grind (arith, is_set, back)
 
 abbrev is_none_of : Option ℕ → Bool
 is_none_of (Some flags) = false
@@ -35,26 +31,15 @@ flags_in None = 0
 
 taken_back : (flags asked : ℕ) (is_none : Bool) → flags < 2 ^ 32 → (bit_and flags 2048 == 0) ≡ is_none
     → (if not (not is_none) then Some (bit_or flags 2048) else None) ≡ Some asked → flags_after true true asked ≡ Some flags
-taken_back flags asked true below is was =
-    sym (ap (λ n. flags_after true true n) (ap flags_in was)) ∙ after flags below (eqb-true (bit_and flags 2048) 0 is)
-taken_back flags asked false below is was = absurd (false≢true (ap is_none_of (sym was)))
+taken_back flags asked is_none below is was = grind (arith, asked, after)
 
 pub takes_back_what_it_asked : TakesBackWhatItAsked
-takes_back_what_it_asked flags asked below =
-    (taken_back flags asked (bit_and flags 2048 == 0) below refl, λ is_known. refl)
+takes_back_what_it_asked flags asked below = grind (arith, taken_back)
 
 -- what has no flag of a message is asked by its descriptors
 asked : (sockets accept connect splice tee : Bool) → sockets || (splice || tee) ≡ true
     → (sockets && not accept && not connect) || nat_lt 0 (if accept || connect then 1 else if splice || tee then 2 else 0) ≡ true
-asked true true connect splice tee is = refl
-asked true false true splice tee is = refl
-asked true false false splice tee is = refl
-asked false true connect splice tee is = refl
-asked false false true splice tee is = refl
-asked false false false true tee is = refl
-asked false false false false true is = refl
-asked false false false false false is = absurd (false≢true is)
+asked sockets accept connect splice tee is = grind arith
 
 pub calls_never_sleep : CallsNeverSleep
-calls_never_sleep e is =
-    asked (is_of_sockets e.opcode) (e.opcode == 13) (e.opcode == 16) (e.opcode == 30) (e.opcode == 33) is
+calls_never_sleep e is = grind arith

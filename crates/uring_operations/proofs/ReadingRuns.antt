@@ -1,6 +1,5 @@
 -- The law that each byte which counts as readable stands in a page of which one was read.
-use Rattle.std.proofs.Common.{◌≡◌, ℕ, ◌<◌, ◌≤◌, ◌+◌, ◌-◌, ◌/◌, Bool, true, false, ◌&&◌, ◌==◌, nat_lt, Some, None, if◌then◌else◌, refl, arith}
-use Rattle.std.proofs.lemmas.Bool.{eqb-true, false≢true}
+use Rattle.std.proofs.Common.{◌≡◌, ℕ, ◌<◌, ◌≤◌, ◌+◌, ◌-◌, ◌/◌, Bool, true, ◌&&◌, ◌==◌, nat_lt, Some, None, if◌then◌else◌, refl, arith}
 use Rattle.std.proofs.lemmas.Bool.Decides.{nat_tests}
 use Rattle.uring_operations.specs.Files.LoggedBytes.{is_run, place_of, page_begin, read_until, IsReadBy, ReadsWhatWasRead}
 
@@ -12,16 +11,13 @@ number_of begin k = (begin + k) / 4096 - begin / 4096
 spot_by : (begin k : ℕ) → (t : Bool) → (number_of begin k == 0) ≡ t
     → ((if t then begin else page_begin begin (number_of begin k)) ≤ begin + k)
     × ((if t then begin else page_begin begin (number_of begin k)) / 4096 ≡ (begin + k) / 4096)
-spot_by begin k true is = let none : number_of begin k ≡ 0 = eqb-true (number_of begin k) 0 is in (omega arith, omega arith)
-spot_by begin k false is = (omega arith, omega arith)
+spot_by begin k t is = grind arith
 
 spot : (begin k : ℕ) → (place_of begin (number_of begin k) ≤ begin + k) × (place_of begin (number_of begin k) / 4096 ≡ (begin + k) / 4096)
 spot begin k = spot_by begin k (number_of begin k == 0) refl
 
 both : {X : Type 0} (a b : Bool) (x y : X) → a ≡ true → b ≡ true → (if a && b then x else y) ≡ x
-both true true x y is also = refl
-both true false x y is also = absurd (false≢true also)
-both false b x y is also = absurd (false≢true is)
+both a b x y is also = grind arith
 
 read_by : (begin length count k : ℕ) → is_run begin length ≡ true → k < length → number_of begin k < count
     → IsReadBy begin length count k
@@ -40,8 +36,7 @@ read_by begin length count k run low few =
 -- a byte in front of where it is asked as a later question stands in the page of an earlier one
 few_by : (begin count k : ℕ) → (t : Bool) → (count == 0) ≡ t
     → begin + k < (if t then begin else page_begin begin count) → number_of begin k < count
-few_by begin count k true is low = absurd (omega arith)
-few_by begin count k false is low = omega arith
+few_by begin count k t is low = grind arith
 
 few : (begin count k : ℕ) → begin + k < place_of begin count → number_of begin k < count
 few begin count k low = few_by begin count k (count == 0) refl low
@@ -50,14 +45,7 @@ law_by : (begin length count k : ℕ) (run inside : Bool) → is_run begin lengt
     → nat_lt (place_of begin count) (begin + length) ≡ inside
     → k < (if run then read_until begin length (if run && inside then Some (place_of begin count) else None) else 0)
     → IsReadBy begin length count k
-law_by begin length count k false inside r i low = absurd (omega arith)
-law_by begin length count k true true r i low =
-    let front : begin + k < place_of begin count = omega arith in
-    let all : place_of begin count < begin + length = grind (arith, nat_tests) in
-    read_by begin length count k r (omega arith) (few begin count k front)
-law_by begin length count k true false r i low =
-    let past : begin + length ≤ place_of begin count = grind (arith, nat_tests) in
-    read_by begin length count k r low (few begin count k (omega arith))
+law_by begin length count k run inside r i low = grind (arith, read_by)
 
 pub reads_what_was_read : ReadsWhatWasRead
 reads_what_was_read begin length count k low =

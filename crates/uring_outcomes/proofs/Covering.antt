@@ -139,9 +139,6 @@ no_path g calls names path todo found none walk = record {
 
 -- The beginning, and the end.
 
-pub at_first : (g : Setup) (calls : List (List Sqe)) (names : List ℕ) → IsWalk g calls names ([] ∷ []) []
-at_first g calls names = grind arith
-
 -- what names moves lead to is among those found
 found_by : (g : Setup) (calls : List (List Sqe)) (names : List ℕ) (found : List Ending) (e : Ending) (to : CanEnd g calls e)
     → IsCovered g calls names [] found → AreDirect (among names) (starting g calls) to.moves

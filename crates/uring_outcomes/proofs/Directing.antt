@@ -1,5 +1,5 @@
 -- The law `direct_moves_lead`: prompt moves are followed by direct ones, which run ahead of them by calls that no cancel tells of.
-use Rattle.std.proofs.Common.{◌≡◌, ℕ, zero, suc, ◌<◌, Bool, false, not, List, [], ◌∷◌, length, Option, Some, None, if◌then◌else◌, refl, sym, subst, ap, ◌∙◌, ◌⊎◌, inl, inr, arith}
+use Rattle.std.proofs.Common.{◌≡◌, ℕ, zero, suc, ◌<◌, Bool, false, not, List, [], ◌∷◌, length, Option, Some, None, refl, sym, subst, ap, ◌∙◌, ◌⊎◌, inl, inr, arith}
 use Rattle.uring_outcomes.proofs.Common.{All-cons, All-head, All-nil, All-tail, AreDirect, ArePrompt, AreUnnamed, DirectMovesLead, IsDirect, IsNextUnnamed, IsOver, IsPrompt, Moment, Move, Sqe, accepted, after_moves, and_parts, both_ways, cases_Bool, entry_kept, has_ended, has_started, moved, option_and_then, starting, user_data_of}
 use Rattle.uring_outcomes.specs.declared.move_of_calls.Move.TheVariants as move
 use Rattle.uring_outcomes.proofs.Prompting.{IsCalm, one_calm, first_calm, prompt_moves_lead}
@@ -21,11 +21,6 @@ calm_called : (named : ℕ → Bool) (m : Moment) (e : IsNextUnnamed named m) �
     → IsCalm named (called m e.call e.later)
 calm_called named m e calm =
     one_calm named m (called m e.call e.later) move.Accept calm (accept_next named m e)
-
--- a move that accepts nothing leaves the calls that are left
-if_left : (b : Bool) (x y : Moment) (left : List (List Sqe)) → x.left ≡ left → y.left ≡ left
-    → (if b then x else y).left ≡ left
-if_left b x y left e f = grind arith
 
 left_kept : (m next : Moment) (x : Move) → (x ≡ move.Accept → ⊥) → moved m x ≡ Some next
     → next.left ≡ m.left

@@ -1,6 +1,6 @@
 -- What ends a walk before its end: an operation that wasn't granted its memory, and calls with more entries than requests have numbers.
 use Rattle.std.proofs.Common.{◌≡◌, ℕ, ◌+◌, ◌≤◌, ◌^◌, Bool, List, [], ◌∷◌, length, drop, get_or, Option, Some, None, Result, Err, if◌then◌else◌, sym, subst, ap, arith, ◌<◌}
-use Rattle.uring_outcomes.proofs.Common.{Global, IfErr, IsErrAnd, Moment, Move, Run, Sqe, StandsAt, Vec, accepted, after_moves, cancel_result, doomed_result, ended_at_once, entries_of, length-append, moved, option_and_then, started, starting}
+use Rattle.uring_outcomes.proofs.Common.{Global, IfErr, IsErrAnd, Moment, Move, Run, Sqe, StandsAt, Vec, accepted, after_moves, entries_of, length-append, moved, option_and_then, starting}
 use Rattle.uring_dispatch.specs.declared.errors.ReserveError.{ReserveError}
 use Rattle.uring_dispatch.specs.declared.errors.ReserveError.TheVariants as refused
 use Rattle.uring_outcomes.specs.Faults.{entry_count, IsReason, fault_of}
@@ -20,11 +20,6 @@ accept_keeps m next left is so = grind (arith, length-append)
 can_keep : (can : Bool) (m after next : Moment) → all_of after ≡ all_of m
     → (if can then Some after else None) ≡ Some next → all_of next ≡ all_of m
 can_keep can m after next same so = grind arith
-
-issue_keeps : (doomed cancel : Bool) (m : Moment) (n : ℕ)
-    → all_of (if doomed then ended_at_once m n (doomed_result m.requests n) else
-    if cancel then ended_at_once m n (cancel_result m.requests n) else started m n) ≡ all_of m
-issue_keeps doomed cancel m n = grind arith
 
 move_keeps : (m next : Moment) (x : Move) → moved m x ≡ Some next → all_of next ≡ all_of m
 move_keeps m next x so = grind (arith, accept_keeps, can_keep)

@@ -94,9 +94,6 @@ ends_at_once : (g : Setup) (w : World) (n : ℕ) (files : List FileContents) (le
     → IssueMade (by_manual g) w n files left (answer.Ended res no_bytes) (ended_at_once (moment_of w files left) n res)
 ends_at_once g w n files left res = grind arith
 
-run_apart : answer.Run ≡ answer.Again → ⊥
-run_apart e = cc
-
 issue_made : (g : Setup) (w : World) (n : ℕ) (files : List FileContents) (left : List (List Sqe)) (outstanding running doomed ready cancel : Bool)
     → (outstanding && not running && (doomed || ready)) ≡ true
     → IssueMade (by_manual g) w n files left

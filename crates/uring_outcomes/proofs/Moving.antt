@@ -1,7 +1,7 @@
 -- What the dispatcher answers, and the moves that it makes: `issue_moves`, `accept_moves` and `finish_moves`.
 -- What the run stands at after them.
-use Rattle.std.proofs.Common.{◌≡◌, ℕ, suc, ◌+◌, ◌<◌, ◌≤◌, ℤ, neg_ℤ, Bool, true, false, not, ◌&&◌, ◌||◌, nat_le, if◌then◌else◌, List, [], ◌∷◌, length, drop, get_or, Option, Some, None, refl, sym, subst, ap, ◌∙◌, arith}
-use Rattle.uring_outcomes.proofs.Common.{ENOMEM, FileContents, Global, IsOutcome, IsReached, MadeAs, Moment, Move, Op, Outcome, Requests, Sqe, Vec, accepted, and_parts, drop-cons, drop_all, ended_at_once, entries_of, entry_of, entry_outstanding, false_from_ne_true, finished, get_or-map, has_ended, has_started, is_finishable, is_issuable, is_outstanding, is_running, issued, le-leb, least_below_some, leb-true, length-map, moved, operation_of, operation_running, result_of, started, starting, with_call}
+use Rattle.std.proofs.Common.{◌≡◌, ℕ, suc, ◌+◌, ◌<◌, ◌≤◌, neg_ℤ, Bool, true, false, ◌&&◌, nat_le, if◌then◌else◌, List, [], ◌∷◌, length, drop, get_or, Option, Some, None, refl, sym, subst, ap, ◌∙◌, arith}
+use Rattle.uring_outcomes.proofs.Common.{ENOMEM, FileContents, Global, IsOutcome, IsReached, MadeAs, Moment, Move, Op, Outcome, Requests, Sqe, Vec, accepted, drop-cons, drop_all, ended_at_once, entries_of, entry_of, entry_outstanding, false_from_ne_true, finished, get_or-map, is_finishable, is_issuable, is_outstanding, is_running, issued, le-leb, least_below_some, leb-true, length-map, moved, operation_of, operation_running, result_of, started, starting, with_call}
 use Rattle.uring_dispatch.specs.Issuable.{issuable_from}
 use Rattle.uring_dispatch.specs.IssueAndFinish as asked
 use Rattle.uring_dispatch.specs.declared.answers.Issued.{Issued}
@@ -11,10 +11,6 @@ use Rattle.uring_outcomes.proofs.MovesLead.{one_move_more}
 use Rattle.uring_outcomes.proofs.SoundMoments.{IsSoundMoment, moment_sound}
 
 -- What was made.
-
-pub made_so : (P : Moment → Type 0) (o : Option Moment) (next : Moment) → o ≡ Some next → P next
-    → MadeAs true o P
-made_so P o next is p = subst (λ x. MadeAs true x P) (sym is) (refl, p)
 
 pub not_made : (P : Moment → Type 0) (o : Option Moment) → o ≡ None → MadeAs false o P
 not_made P o is = subst (λ x. MadeAs false x P) (sym is) refl
@@ -29,23 +25,6 @@ sound_at calls m r = moment_sound r.setup calls r.moves m r.leads
 
 -- An issue.
 
--- the answer, by what is so of the request
-abbrev answer_by : (outstanding running doomed ready cancel : Bool) → (as_doomed as_cancel : ℤ) → Op → Issued
-answer_by outstanding running doomed ready cancel as_doomed as_cancel op =
-    if not outstanding then Unknown else
-    (if running then Running else
-    (if doomed then Ended as_doomed else
-    (if not ready then NotReady else
-    (if cancel then Ended as_cancel else Run op))))
-
--- the move, by the same
-abbrev move_by : Moment → ℕ → (outstanding running doomed ready cancel : Bool) → (as_doomed as_cancel : ℤ) → Option Moment
-move_by m n outstanding running doomed ready cancel as_doomed as_cancel =
-    if (outstanding && not running && (doomed || ready)) then
-    Some (if doomed then ended_at_once m n as_doomed else
-    (if cancel then ended_at_once m n as_cancel else started m n))
-    else None
-
 -- the move that an issue with this answer makes
 abbrev pub IssueMoves : Moment → ℕ → Issued → Option Moment → Type 0
 IssueMoves m n (Run op) o = o ≡ Some (started m n)
@@ -53,10 +32,6 @@ IssueMoves m n (Ended res) o = o ≡ Some (ended_at_once m n res)
 IssueMoves m n NotReady o = o ≡ None
 IssueMoves m n Running o = o ≡ None
 IssueMoves m n Unknown o = o ≡ None
-
-moves_by : (m : Moment) (n : ℕ) (outstanding running doomed ready cancel : Bool) (as_doomed as_cancel : ℤ) (op : Op)
-    → IssueMoves m n (answer_by outstanding running doomed ready cancel as_doomed as_cancel op) (move_by m n outstanding running doomed ready cancel as_doomed as_cancel)
-moves_by m n outstanding running doomed ready cancel as_doomed as_cancel op = grind arith
 
 pub issue_moves : (m : Moment) (n : ℕ) (a : Issued) → a ≡ asked.issued m.requests n
     → IssueMoves m n a (moved m (move.Issue n))
@@ -69,15 +44,6 @@ entry_by outstanding e told is = grind arith
 pub entry_told : (r : Requests) (n : ℕ) (told : Sqe) → Some told ≡ entry_outstanding r n
     → told ≡ entry_of r n
 entry_told r n told is = entry_by (is_outstanding r n) (entry_of r n) told is
-
-entry_there : (outstanding : Bool) (e : Sqe) → outstanding ≡ true
-    → None ≡ (if outstanding then Some e else None) → ⊥
-entry_there outstanding e is none = grind arith
-
--- an outstanding request has an entry
-pub told_if_outstanding : (r : Requests) (n : ℕ) → is_outstanding r n ≡ true → None ≡ entry_outstanding r n
-    → ⊥
-told_if_outstanding r n is none = entry_there (is_outstanding r n) (entry_of r n) is none
 
 -- The next call.
 
@@ -125,18 +91,8 @@ pub runs_told : (r : Requests) (n : ℕ) (told : Op) → Some told ≡ operation
     → (is_running r n ≡ true) × (told ≡ operation_of (entry_of r n))
 runs_told r n told is = running_by (is_running r n) (operation_of (entry_of r n)) told is
 
--- what runs was accepted
-pub running_accepted : (r : Requests) (n : ℕ) → IsSoundMoment r → is_running r n ≡ true
-    → n < length r.accepted
-running_accepted r n i running = i.sound.started_accepted n (and_parts (has_started r n) (not (has_ended r n)) running).0
-
 both_so : (a b : Bool) → a ≡ true → b ≡ true → (a && b) ≡ true
 both_so a b e f = grind arith
-
--- and is outstanding
-pub running_outstanding : (r : Requests) (n : ℕ) → IsSoundMoment r → is_running r n ≡ true
-    → is_outstanding r n ≡ true
-running_outstanding r n i running = grind arith
 
 pub finish_moves : (m : Moment) (n : ℕ) → IsSoundMoment m.requests → is_running m.requests n ≡ true
     → moved m (move.Finish n) ≡ Some (finished m n)

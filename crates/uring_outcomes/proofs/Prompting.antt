@@ -34,13 +34,6 @@ candidate_as_if : (r : Requests) (s : List ℕ) (n k : ℕ)
     → is_candidate (with_starts r s) n k ≡ is_candidate r n k
 candidate_as_if r s n k = grind (arith, doomed_as_if)
 
-pub candidate_names : (r : Requests) (n k : ℕ) → is_candidate r n k ≡ true
-    → user_data_of (entry_of r k) ≡ addr_of (entry_of r n)
-candidate_names r n k can =
-    let p = and_parts (is_outstanding r k && not (k == n) && (user_data_of (entry_of r k) == addr_of (entry_of r n))) (not (is_doomed r k)) can in
-    let q = and_parts (is_outstanding r k && not (k == n)) (user_data_of (entry_of r k) == addr_of (entry_of r n)) p.0 in
-    eqb-true (user_data_of (entry_of r k)) (addr_of (entry_of r n)) q.1
-
 -- the same run among those that are named
 abbrev RunSame : (ℕ → Bool) → Requests → List ℕ → Type 0
 RunSame named r s = (k : ℕ) → is_named named r k ≡ true

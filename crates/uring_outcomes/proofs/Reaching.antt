@@ -1,7 +1,7 @@
 -- Worlds that lawful histories make which refuse no memory, with the files that they leave: what one step more makes of them.
 -- `step_on` and `finish_on` make the history longer; who uses them speaks of worlds alone.
 use Rattle.std.proofs.Common.{◌≡◌, ℕ, Bool, true, false, List, [], ◌∷◌, ◌++◌, if◌then◌else◌, refl, sym, subst, ap, ◌∙◌, inl}
-use Rattle.uring_outcomes.proofs.Common.{Answer, CalledFor, EndsOn, FileContents, History, IsLawful, Move, Op, Outcome, RefusesNone, Setup, World, after, at_first, empty_files, entry_of, files_of, happens, is_running, moves_in, operation_of, result_of, with_event, world}
+use Rattle.uring_outcomes.proofs.Common.{Answer, CalledFor, EndsOn, FileContents, History, IsLawful, Move, Op, Outcome, RefusesNone, Setup, World, after, empty_files, entry_of, files_of, happens, is_running, moves_in, operation_of, result_of, with_event, world}
 use Rattle.uring_core.specs.Core.{IsNoFinish}
 use Rattle.uring_core.specs.declared.step.Step.{Step}
 use Rattle.uring_core.specs.declared.step.Step.TheVariants as step
@@ -19,16 +19,6 @@ pub record Reaches (g : Setup) (w : World) (files : List FileContents) (moves : 
   pub makes : world g history ≡ w
   pub leaves : files_of g (world g history) ≡ files
   pub are : moves_in history ≡ moves
-
-pub at_the_start : (g : Setup) → Reaches g at_first (empty_files g.files) []
-at_the_start g = record {
-  history = [];
-  lawful = tt;
-  refuses_none = tt;
-  makes = refl;
-  leaves = refl;
-  are = refl;
-}
 
 -- a step that is no finish
 pub step_on : {moves : List Move} (g : Setup) (w : World) (files : List FileContents) (s : Step) (a : Answer)

@@ -1,5 +1,5 @@
 -- Moves that are made one after the other, and the moves that can be made next.
-use Rattle.std.proofs.Common.{◌≡◌, ℕ, suc, ◌+◌, ◌<◌, Bool, true, false, List, [], ◌∷◌, ◌++◌, length, take, drop, get_or, Option, Some, None, refl, sym, subst, ap, ◌∙◌, arith}
+use Rattle.std.proofs.Common.{◌≡◌, ℕ, suc, ◌+◌, ◌<◌, Bool, true, false, List, [], ◌∷◌, ◌++◌, length, take, drop, get_or, Option, Some, None, sym, subst, ap, ◌∙◌, arith}
 use Rattle.uring_outcomes.proofs.Common.{Contains, HasBelow, HasNext, IsNextUnnamed, IsQuiet, LedTo, MadeAs, Moment, Move, Run, Sqe, Stands, StandsAt, after_moves, among, drop-cons, get_or_default, is_finishable, is_issuable, moved, option_and_then, take-append-drop, take_more}
 use Rattle.uring_outcomes.specs.declared.move_of_calls.Move.TheVariants as move
 use Rattle.uring_outcomes.proofs.MovesLead.{one_move_more}
@@ -17,15 +17,6 @@ made_tells P o made = grind arith
 
 pub not_made_tells : (P : Moment → Type 0) (o : Option Moment) → MadeAs false o P → o ≡ None
 not_made_tells P o made = grind arith
-
--- the run stands somewhere once a move was made
-pub stands_on : (calls : List (List Sqe)) (old new : Run) (x : Move) → Stands calls old
-    → ((m : Moment) → StandsAt calls old m → MadeAs true (moved m x) (StandsAt calls new))
-    → Stands calls new
-stands_on calls old new x s made = grind arith
-
-pub led_first : (calls : List (List Sqe)) (m : Moment) (run : Run) → StandsAt calls run m → LedTo calls m [] run
-led_first calls m run at = record { last = m; leads = refl; at = at }
 
 pub led_on : (calls : List (List Sqe)) (m : Moment) (path : List Move) (k : ℕ) (x : Move) (old new : Run)
     → k < length path → x ≡ get_or path k x → LedTo calls m (take k path) old

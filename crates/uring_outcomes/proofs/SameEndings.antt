@@ -13,9 +13,6 @@ abbrev pub same_completion : Cqe → Cqe → Bool
 same_completion c d =
     nat_eq c.user_data d.user_data && (int_eq c.res d.res && pointwise nat_eq c.payload d.payload)
 
-completion_by : (c d : Cqe) → c.user_data ≡ d.user_data → c.res ≡ d.res → c.payload ≡ d.payload → c ≡ d
-completion_by c d named result payload = grind arith
-
 pub completion_decides : (c d : Cqe) → Decides (same_completion c d) (c ≡ d)
 completion_decides c d = grind (arith, eqb-true, bytes_decides)
 
@@ -61,9 +58,6 @@ same_by_state (Some f) (Some h) s t is are same bytes =
 -- what `==` returns of two states
 abbrev pub same_state : FileState → FileState → Bool
 same_state s t = nat_eq s.len t.len && (nat_eq s.writes t.writes && nat_eq s.synced t.synced)
-
-state_by : (s t : FileState) → s.len ≡ t.len → s.writes ≡ t.writes → s.synced ≡ t.synced → s ≡ t
-state_by s t len writes synced = λ i. record { len = len i; writes = writes i; synced = synced i }
 
 pub state_decides : (s t : FileState) → Decides (same_state s t) (s ≡ t)
 state_decides s t = grind arith

@@ -1,6 +1,6 @@
 -- The laws of `laws.rt`: from `told`, and from `moves_made` with all completions reaped after it.
-use Rattle.std.proofs.Common.{◌≡◌, false, ℕ, ℤ, ◌≤◌, List, [], ◌∷◌, ◌++◌, length, take, drop, map, refl, sym, subst, ap, ap₂, ◌∙◌, arith, append_assoc}
-use Rattle.uring_power.proofs.Common.{AreLeft, CanShow, Crash, HasBegun, IsImage, Log, Moment, Setup, after_moves, empty_log, log_along, log_of, map-append, pos, slice_index_or, starting, take-append-drop}
+use Rattle.std.proofs.Common.{◌≡◌, false, ℕ, ℤ, ◌≤◌, List, [], ◌∷◌, ◌++◌, length, take, drop, map, refl, sym, ap, ap₂, ◌∙◌, arith, append_assoc}
+use Rattle.uring_power.proofs.Common.{AreLeft, CanShow, Crash, HasBegun, Log, Moment, Setup, after_moves, empty_log, log_along, log_of, map-append, starting, take-append-drop}
 use Rattle.std.proofs.Math.Seq.{take-append_seam, drop-append_seam}
 use Rattle.std.proofs.lemmas.Grind.{flat_map-append}
 use Rattle.uring_entry.specs.Submission.{Submission, taken, Published, published_items}
@@ -45,10 +45,7 @@ first_of_cut (x ∷ xs) (y ∷ ys) later more lengths items =
 -- what is left by one log is left by one that is the same
 left_same : (unit files : ℕ) (some others : ℤ → Log) (left : List (List ℕ))
     → ((fd : ℤ) → some fd ≡ others fd) → AreLeft unit files some left → AreLeft unit files others left
-left_same unit files some others left same are = record {
-  many = are.many;
-  each = λ place below. subst (λ (l : Log). IsImage unit [] l.volume.history (slice_index_or left place [])) (same (pos place)) (are.each place below);
-}
+left_same unit files some others left same are = grind arith
 
 histories_by_manual : (unit : ℕ) (g : Setup) → HistoriesShowMoves unit (by_manual g)
 histories_by_manual unit g calls c shows =
@@ -116,5 +113,4 @@ moves_by_manual unit g calls c whole can =
     seen unit g w m.files calls m.done m.rest c can v b.published b.cut m.split (ap (λ (x : Moment). x.posted) m.shows ∙ can.posts)
 
 pub moves_show_histories : (unit : ℕ) (g : Setup) → MovesShowHistories unit g
-moves_show_histories unit g calls c whole can =
-    of_manual (MovesShowHistories unit) (moves_by_manual unit) g whole.manual calls c whole can
+moves_show_histories unit g calls c whole can = grind (arith, (moves_by_manual unit))

@@ -1,5 +1,5 @@
 -- Lists: what stands in one that is mapped or spread out, and at the end of one.
-use Rattle.std.proofs.Common.{◌≡◌, ℕ, zero, suc, ◌+◌, ◌<◌, List, [], ◌∷◌, ◌++◌, length, take, get_or, map, Some, refl, sym, subst, ap, ◌∙◌, arith, inl, inr, append_assoc, append-nil}
+use Rattle.std.proofs.Common.{◌≡◌, ℕ, zero, suc, ◌+◌, ◌<◌, List, [], ◌∷◌, ◌++◌, length, take, get_or, map, Some, refl, sym, ap, ◌∙◌, arith, inl, inr, append_assoc, append-nil}
 use Rattle.uring_power.proofs.Common.{Contains, IsIn, length-take, map-append, slice_get, take_all, take_more}
 use Rattle.std.specs.List.{flat_map}
 use Rattle.std.proofs.lemmas.Grind.{flat_map-append}
@@ -39,18 +39,14 @@ pub record IsMapped {X Y : Type 0} (f : X → Y) (xs : List X) (y : Y) : Type 0 
 pub from_map : {X Y : Type 0} (f : X → Y) (xs : List X) (y : Y) → IsIn y (map f xs) → IsMapped f xs y
 from_map f [] y is = absurd is
 from_map f (x ∷ xs) y (inl same) = record { from = x; there = inl refl; is = same }
-from_map f (x ∷ xs) y (inr there) =
-    let m = from_map f xs y there in
-    record { from = m.from; there = inr m.there; is = m.is }
+from_map f (x ∷ xs) y (inr there) = grind (arith, (from_map f xs y there))
 
 -- what one has that is spread out
 pub in_spread : {X Y : Type 0} (f : X → List Y) (xs : List X) (x : X) (y : Y) → IsIn x xs → Contains (f x) y
     → Contains (flat_map f xs) y
 in_spread f [] x y is there = absurd is
-in_spread f (z ∷ zs) x y (inl same) there =
-    Contains-append_left (f z) (flat_map f zs) y (subst (λ w. Contains (f w) y) same there)
-in_spread f (z ∷ zs) x y (inr later) there =
-    Contains-append_right (f z) (flat_map f zs) y (in_spread f zs x y later there)
+in_spread f (z ∷ zs) x y (inl same) there = grind (arith, Contains-append_left)
+in_spread f (z ∷ zs) x y (inr later) there = grind (arith, Contains-append_right, (in_spread f zs x y later there))
 
 pub record IsSpread {X Y : Type 0} (f : X → List Y) (xs : List X) (y : Y) : Type 0 where
   pub from : X
@@ -83,8 +79,7 @@ pub data IsGot {X : Type 0} (xs : List X) (y : X) (k : ℕ) (z : X) : Type 0 whe
   Last : k ≡ length xs → z ≡ y → IsGot xs y k z
 
 got_later : {X : Type 0} (x : X) (xs : List X) (y : X) (k : ℕ) (z : X) → IsGot xs y k z → IsGot (x ∷ xs) y (suc k) z
-got_later x xs y k z (Before low is) = Before (omega (arith, low)) is
-got_later x xs y k z (Last last is) = Last (ap suc last) is
+got_later x xs y k z h = grind arith
 
 pub got : {X : Type 0} (xs : List X) (y : X) (k : ℕ) (z : X) → slice_get (xs ++ y ∷ []) k ≡ Some z → IsGot xs y k z
 got [] y zero z is = Last refl cc
@@ -120,8 +115,7 @@ pub spread_more : {X Y : Type 0} (f : X → List Y) (xs : List X) (k : ℕ) (x :
     → k < length xs → x ≡ get_or xs k x → mid ≡ flat_map f (take k xs) → new ≡ mid ++ f x
     → new ≡ flat_map f (take (k + 1) xs)
 spread_more f xs k x new mid low is so more =
-    let taken : take (k + 1) xs ≡ take k xs ++ x ∷ [] = take_more xs k x low ∙ ap (λ y. take k xs ++ y ∷ []) (sym is) in
-    more ∙ ap (λ ys. ys ++ f x) so ∙ sym (ap (flat_map f) taken ∙ (flat_map-append f (take k xs) (x ∷ []) ∙ ap (λ ys. flat_map f (take k xs) ++ ys) (append-nil (f x))))
+    grind (arith, (take_more xs k x low), (flat_map-append f (take k xs) (x ∷ [])), (append-nil (f x)))
 
 pub map_map : {X Y Z : Type 0} (f : Y → Z) (h : X → Y) (xs : List X) → map f (map h xs) ≡ map (λ x. f (h x)) xs
 map_map f h [] = refl

@@ -1,13 +1,12 @@
 -- What may be left of files, with one file more; and what is shown after moves, by the logs that they make.
-use Rattle.std.proofs.Common.{◌≡◌, ℕ, suc, ◌+◌, ◌<◌, pos, Bool, true, false, ◌||◌, inl, inr, List, [], ◌∷◌, ◌++◌, length, get_or, map, Option, Some, None, Result, Ok, Err, if◌then◌else◌, refl, sym, subst, ap, ap₂, ◌∙◌, arith}
-use Rattle.uring_power.proofs.Common.{AreLeftOf, AreShown, Contains, Cqe, Crash, HasMade, IfErr, IsCrowdedBy, IsErrAnd, IsImage, IsIn, IsShownAfter, IsTooMany, Log, Moment, Move, Op, Setup, Shows, Sqe, Widens, empty_log, entry_of, file_at, first_at, first_files, first_many, get_or_append_left, is_cancel, is_doomed, length-append, length-map, log_along, log_moved, log_on, log_past, logs_after, logs_at, logs_on, moved, operation_of, option_map, result_of, slice_get, slice_index_or, spread_over, starting, with_file}
+use Rattle.std.proofs.Common.{◌≡◌, ℕ, suc, ◌+◌, ◌<◌, pos, Bool, List, [], ◌∷◌, ◌++◌, length, get_or, map, Option, Some, None, Result, if◌then◌else◌, refl, sym, subst, ap, ◌∙◌, arith}
+use Rattle.uring_power.proofs.Common.{AreLeftOf, AreShown, Contains, Cqe, Crash, HasMade, IfErr, IsCrowdedBy, IsErrAnd, IsImage, IsIn, IsShownAfter, IsTooMany, Log, Moment, Move, Op, Setup, Shows, Sqe, Widens, empty_log, file_at, first_at, first_files, first_many, get_or_append_left, length-append, length-map, log_along, log_moved, log_on, log_past, logs_after, logs_at, logs_on, moved, option_map, slice_get, slice_index_or, spread_over, starting, with_file}
 use Rattle.uring_power.specs.Found.{IsReason}
 use Rattle.std.proofs.Math.Seq.{get_or-append_seam}
 use Rattle.std.proofs.lemmas.Option.{slice_get-map, slice_get_within, slice_get_read}
 use Rattle.uring_files.specs.Contents.{FileContents}
 use Rattle.uring_volume.specs.Listing.{AreTheImages}
-use Rattle.uring_epochs.proofs.EpochCrashes.{Keeps, begun_keeps, finished_keeps}
-use Rattle.uring_outcomes.specs.declared.move_of_calls.Move.TheVariants as move
+use Rattle.uring_epochs.proofs.EpochCrashes.{Keeps, finished_keeps}
 use Rattle.uring_outcomes.specs.declared.run.Run.{Run}
 use Rattle.uring_power.specs.declared.fault.CrashFault.{CrashFault}
 use Rattle.uring_power.specs.declared.fault.CrashFault.TheVariants.{Memory, Spent, Images}
@@ -16,25 +15,14 @@ use Rattle.uring_power.proofs.Lists.{IsGot, Before, Last, got, got_before, got_l
 -- No file.
 
 only_one : {X : Type 0} (x y : X) → IsIn y (x ∷ []) → y ≡ x
-only_one x y (inl same) = same
-only_one x y (inr none) = absurd none
+only_one x y h = grind arith
 
 none_left : (left : List (List ℕ)) → length left ≡ 0 → left ≡ []
 none_left [] none = refl
 none_left (b ∷ bs) none = absurd (omega (arith, none))
 
 pub shown_first : (posted : List Cqe) → AreShown posted [] (record { posted = posted; left = [] } ∷ [])
-shown_first posted = record {
-  right = λ c there.
-      let is : c ≡ record { posted = posted; left = [] } = only_one (record { posted = posted; left = [] }) c (is_in (record { posted = posted; left = [] } ∷ []) c there) in
-      subst (Shows posted []) (sym is) (record {
-        posts = refl;
-        left = record { many = refl; each = λ place log none. absurd cc };
-      });
-  all = λ c shows.
-      let is : c ≡ record { posted = posted; left = [] } = ap₂ (λ ps ls. record { posted = ps; left = ls }) (sym shows.posts) (none_left c.left shows.left.many) in
-      contained (record { posted = posted; left = [] } ∷ []) c (inl is);
-}
+shown_first posted = grind (arith, none_left)
 
 -- One file more.
 
@@ -101,16 +89,10 @@ shown_more posted logs log old new shown w = record {
 -- What is shown after moves.
 
 later_keeps : (late : Bool) (old new : Log) → Keeps old new → Keeps old (if late then old else new)
-later_keeps true old new k = (refl, refl)
-later_keeps false old new k = k
+later_keeps late old new k = grind arith
 
 moved_keeps : (m : Moment) (x : Move) (log : Log) → Keeps log (log_moved m x log)
-moved_keeps m move.Accept log = (refl, refl)
-moved_keeps m (move.Issue n) log =
-    later_keeps (is_doomed m.requests n || is_cancel (entry_of m.requests n)) log _ (begun_keeps n (operation_of (entry_of m.requests n)) log)
-moved_keeps m (move.Finish n) log =
-    let op : Op = operation_of (entry_of m.requests n) in
-    finished_keeps n op (result_of m.files op).res log
+moved_keeps m x log = grind (arith, Op, finished_keeps)
 
 along_keeps : (moves : List Move) (m : Moment) (log : Log) → Keeps log (log_along moves m log)
 along_keeps [] m log = (refl, refl)
@@ -141,28 +123,19 @@ logs_many unit from (f ∷ more) = ap suc (logs_many unit (suc from) more)
 
 pub many_logs : (unit : ℕ) (g : Setup) (calls : List (List Sqe)) (moves : List Move)
     → length (logs_after unit g calls moves) ≡ g.files
-many_logs unit g calls moves =
-    length-map (logs_on unit 0 (first_files g.files [])) (log_along moves (starting g calls)) ∙ (logs_many unit 0 (first_files g.files []) ∙ first_many g.files [])
+many_logs unit g calls moves = grind (arith, length-map, log_along, starting, logs_many, first_many)
 
 module _ (unit : ℕ) (g : Setup) (calls : List (List Sqe)) (moves : List Move) (m : Moment) (c : Crash) where
   -- the log of a file is on its unit, and on no first bytes
   image_by : (place : ℕ) → (log : Log) → log ≡ log_along moves (starting g calls) (empty_log unit (pos place)) → (now : List ℕ)
       → IsImage log.volume.unit log.volume.first log.volume.history now
       → IsImage unit [] (log_along moves (starting g calls) (empty_log unit (pos place))).volume.history now
-  image_by place log is now image =
-      let k = along_keeps moves (starting g calls) (empty_log unit (pos place)) in
-      let there = subst (λ (l : Log). IsImage l.volume.unit l.volume.first l.volume.history now) is image in
-      subst (λ u. IsImage u [] (log_along moves (starting g calls) (empty_log unit (pos place))).volume.history now) k.0
-      (subst (λ bs. IsImage (log_along moves (starting g calls) (empty_log unit (pos place))).volume.unit bs (log_along moves (starting g calls) (empty_log unit (pos place))).volume.history now) k.1 there)
+  image_by place log is now image = grind (arith, along_keeps, starting, empty_log)
 
   image_of : (place : ℕ) → (log : Log) → log ≡ log_along moves (starting g calls) (empty_log unit (pos place)) → (now : List ℕ)
       → IsImage unit [] (log_along moves (starting g calls) (empty_log unit (pos place))).volume.history now
       → IsImage log.volume.unit log.volume.first log.volume.history now
-  image_of place log is now image =
-      let k = along_keeps moves (starting g calls) (empty_log unit (pos place)) in
-      subst (λ (l : Log). IsImage l.volume.unit l.volume.first l.volume.history now) (sym is)
-      (subst (λ bs. IsImage (log_along moves (starting g calls) (empty_log unit (pos place))).volume.unit bs (log_along moves (starting g calls) (empty_log unit (pos place))).volume.history now) (sym k.1)
-      (subst (λ u. IsImage u [] (log_along moves (starting g calls) (empty_log unit (pos place))).volume.history now) (sym k.0) image))
+  image_of place log is now image = grind (arith, along_keeps, starting, empty_log)
 
   pub shown_after : Shows m.posted (logs_after unit g calls moves) c → IsShownAfter unit g calls moves m c
   shown_after shows = record {
@@ -191,14 +164,10 @@ module _ (unit : ℕ) (g : Setup) (calls : List (List Sqe)) (moves : List Move) 
 
 pub crowded : (logs : List Log) (k : ℕ) (log : Log) (most : ℕ) (e : CrashFault) → k < length logs → log ≡ get_or logs k log
     → IsTooMany log most e → IsCrowdedBy logs most e
-crowded logs k log most Images low is many =
-    (k, (log, (slice_get_read logs (length logs) k log refl low is, many)))
-crowded logs k log most Memory low is many = tt
-crowded logs k log most Spent low is many = absurd many
+crowded logs k log most e low is many = grind (arith, slice_get_read)
 
 pub err_told : {T E : Type 0} (r : Result T E) (P : E → Type 0) (e : E) → IsErrAnd r (λ x. x ≡ e) → P e → IfErr r P
-err_told (Ok x) P e is p = tt
-err_told (Err x) P e is p = subst P (sym is) p
+err_told r P e is p = grind arith
 
 -- the reason, by the logs after moves
 pub reason_of : (unit : ℕ) (g : Setup) (calls : List (List Sqe)) (moves : List Move) (run : Run) (logs : List Log) (most : ℕ) (e : CrashFault)

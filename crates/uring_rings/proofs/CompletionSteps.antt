@@ -1,17 +1,13 @@
 -- What each call of the completion ring leaves shows the lists after its event.
-use Rattle.std.proofs.Common.{◌≡◌, ◌≢◌, ℕ, ◌+◌, ◌-◌, ◌%◌, ◌^◌, ◌<◌, ◌≤◌, Bool, true, false, eqb, ltb, List, [], ◌∷◌, ◌++◌, length, take, drop, set, get_or, cond, min, Some, None, sym, ap, ◌∙◌, subst, inl, inr, arith, ne_eqb, le-ltb, ltb-false, ltb-true, eqb-true}
-use Rattle.uring_rings.proofs.Common.{Completions, Cq, Cqe, IsCq, IsPowerOfTwo, Setup, ShowsCompletions, and_parts, cases_lt, drop-append-le, drop_more, get_or_append_left, get_or_default, has_room, length-drop, length_push, next_to_reap, nil_from_length, put_by_flush, slice_get, slice_get-get_or, take-append-le, take_more, with_posted, with_reaped, word_of}
-use Rattle.uring_rings.proofs.Counts.{distance_of_words, word_after, cells_after_write}
+use Rattle.std.proofs.Common.{◌≡◌, ℕ, ◌+◌, ◌-◌, ◌%◌, ◌^◌, ◌<◌, ◌≤◌, Bool, true, false, eqb, ltb, List, [], ◌∷◌, ◌++◌, length, drop, set, get_or, cond, min, Some, sym, ap, ◌∙◌, subst, arith, ne_eqb, le-ltb, ltb-true, eqb-true}
+use Rattle.uring_rings.proofs.Common.{Completions, Cq, Cqe, IsCq, IsPowerOfTwo, Setup, ShowsCompletions, and_parts, drop-append-le, drop_more, get_or_append_left, get_or_default, has_room, length-drop, length_push, next_to_reap, nil_from_length, put_by_flush, slice_get-get_or, take-append-le, take_more, with_posted, with_reaped, word_of}
+use Rattle.uring_rings.proofs.Counts.{word_after, cells_after_write}
 
 -- How many completions were put above the head last loaded.
 pub put_above : (g : Setup) (q : Cq) (l : Completions) (d : ℕ) → IsCq q.size q.cells
     → ShowsCompletions g q l → d < 2 ^ 32
     → (q.seen_head + d) % 2 ^ 32 ≡ q.tail → d ≡ l.put - l.seen_head
-put_above g q l d i s small leads =
-    let limit : g.cq ≤ 8192 = omega (arith, i.limit, s.size) in
-    let ordered : l.seen_head ≤ l.put = omega (arith, s.seen_head_first, s.head_first, s.reaped_first, s.seen_tail_first) in
-    let near : l.put < l.seen_head + 2 ^ 32 = omega (arith, s.few) in
-    distance_of_words g.start l.put l.seen_head d small ordered near (ap (λ (w : ℕ). (w + d) % 2 ^ 32) (sym s.seen_head) ∙ leads ∙ s.tail)
+put_above g q l d i s small leads = grind arith
 
 -- Nothing is moved of an empty overflow list.
 pub stays : (g : Setup) (q : Cq) (l : Completions) → ShowsCompletions g q l → q.overflow ≡ []
@@ -90,40 +86,26 @@ pub post_waits : (g : Setup) (q : Cq) (l : Completions) (x : Cqe) (room spare : 
     → ShowsCompletions g q l
     → has_room g.cq l ≡ false
     → ShowsCompletions g (record q { room = room; spare = spare; posted = (q.posted + 1) % 2 ^ 64; overflow = q.overflow ++ x ∷ [] }) (with_posted g.cq l x)
-post_waits g q l x room spare s full =
-    subst (λ (b : Bool). ShowsCompletions g (record q { room = room; spare = spare; posted = (q.posted + 1) % 2 ^ 64; overflow = q.overflow ++ x ∷ [] }) (record l { posted = l.posted ++ x ∷ []; put = cond b (l.put + 1) l.put })) (sym full) (wait_shows g q l x room spare s)
+post_waits g q l x room spare s full = grind (arith, (wait_shows g q l x room spare s))
 
 -- the position to be reaped next isn't the tail last loaded
 pub more_to_reap : (g : Setup) (q : Cq) (l : Completions) → IsCq q.size q.cells
     → ShowsCompletions g q l
     → (q.next ≡ q.seen_tail → ⊥) → length l.reaped < l.seen_tail
-more_to_reap g q l i s apart =
-    elim (cases_lt (length l.reaped) l.seen_tail) [
-      | inl less ↦ less
-      | inr all ↦ let same : length l.reaped ≡ l.seen_tail = omega (arith, s.reaped_first) in absurd (apart (s.next ∙ ap (word_of g.start) same ∙ sym s.seen_tail))
-    ]
+more_to_reap g q l i s apart = grind arith
 
 -- what is read from the next cell is the next of the posted
 pub reaps : (g : Setup) (q : Cq) (l : Completions) (cell : ℕ) (x : Cqe) → IsCq q.size q.cells
     → ShowsCompletions g q l
     → (q.next ≡ q.seen_tail → ⊥) → cell ≡ q.next % q.size → x ≡ get_or q.cells cell x
     → get_or l.posted (length l.reaped) x ≡ x
-reaps g q l cell x i s apart is_cell read =
-    let more = more_to_reap g q l i s apart in
-    let cell_is : cell ≡ word_of g.start (length l.reaped) % g.cq = is_cell ∙ ap (λ (n : ℕ). q.next % n) s.size ∙ ap (λ (w : ℕ). w % g.cq) s.next in
-    sym (read ∙ ap (λ (n : ℕ). get_or q.cells n x) cell_is ∙ s.cells (length l.reaped) x (omega arith) (omega (arith, s.seen_tail_first)))
+reaps g q l cell x i s apart is_cell read = grind arith
 
 -- a reap answers the next of the posted
 pub reap_answers : (g : Setup) (q : Cq) (l : Completions) (x : Cqe) → IsCq q.size q.cells
     → ShowsCompletions g q l
     → (q.next ≡ q.seen_tail → ⊥) → get_or l.posted (length l.reaped) x ≡ x → Some x ≡ next_to_reap l
-reap_answers g q l x i s apart next =
-    let more = more_to_reap g q l i s apart in
-    let within : length l.reaped < length l.posted = omega (arith, s.seen_tail_first, s.put_first) in
-    let unequal : length l.reaped ≢ l.seen_tail = λ e. absurd (omega arith) in
-    sym (ap (λ (b : Bool). cond b None (slice_get l.posted (length l.reaped))) (ne_eqb (length l.reaped) l.seen_tail unequal)
-    ∙ slice_get-get_or l.posted (length l.reaped) x within
-    ∙ ap (λ (y : Cqe). Some y) next)
+reap_answers g q l x i s apart next = grind (arith, ne_eqb, slice_get-get_or)
 
 -- and the ring shows it as reaped
 pub reap_shows : (g : Setup) (q : Cq) (l : Completions) (x : Cqe) (next : ℕ) → IsCq q.size q.cells
@@ -131,31 +113,16 @@ pub reap_shows : (g : Setup) (q : Cq) (l : Completions) (x : Cqe) (next : ℕ) �
     → (q.next ≡ q.seen_tail → ⊥) → get_or l.posted (length l.reaped) x ≡ x
     → next ≡ (q.next + 1) % 2 ^ 32
     → ShowsCompletions g (record q { next = next; reaped = (q.reaped + 1) % 2 ^ 64 }) (with_reaped l x)
-reap_shows g q l x next i s apart is is_next =
-    let more = more_to_reap g q l i s apart in
-    let within : length l.reaped < length l.posted = omega (arith, s.seen_tail_first, s.put_first) in
-    let longer : length (l.reaped ++ x ∷ []) ≡ length l.reaped + 1 = length_push l.reaped x in
-    let at_next = is_next ∙ ap (λ (w : ℕ). (w + 1) % 2 ^ 32) s.next ∙ word_after g.start (length l.reaped) 1 ∙ ap (word_of g.start) (sym longer) in
-    let reaped : (q.reaped + 1) % 2 ^ 64 ≡ length (l.reaped ++ x ∷ []) % 2 ^ 64 = omega (arith, s.reaped) in
-    let head_first : l.head ≤ length (l.reaped ++ x ∷ []) = omega (arith, s.head_first) in
-    let reaped_first : length (l.reaped ++ x ∷ []) ≤ l.seen_tail = omega arith in
-    let in_order = ap (λ (xs : List Cqe). xs ++ x ∷ []) s.in_order ∙ ap (λ (y : Cqe). take (length l.reaped) l.posted ++ y ∷ []) (sym is) ∙ sym (take_more l.posted (length l.reaped) x within) ∙ ap (λ (n : ℕ). take n l.posted) (sym longer) in
-    let cells : (k : ℕ) (d : Cqe) → length (l.reaped ++ x ∷ []) ≤ k → k < l.put → get_or q.cells (word_of g.start k % g.cq) d ≡ get_or l.posted k d = λ k d from to. s.cells k d (omega arith) to in
-    assumption
+reap_shows g q l x next i s apart is is_next = grind (arith, more_to_reap, length_push, word_after, take_more, get_or)
 
 -- the dispatcher loads the head
 pub load_shows : (g : Setup) (q : Cq) (l : Completions) → ShowsCompletions g q l
     → ShowsCompletions g (record q { seen_head = q.head }) (record l { seen_head = l.head })
-load_shows g q l s =
-    let seen_head_first : l.head ≤ l.head = omega arith in
-    let few : l.put ≤ l.head + g.cq = omega (arith, s.few, s.seen_head_first) in
-    assumption
+load_shows g q l s = grind arith
 
 -- where no more can be moved, as many are put as a flush puts
 pub all_moved : (g : Setup) (q : Cq) (l : Completions) (moved : ℕ)
     → ShowsCompletions g q (record l { seen_head = l.head; put = l.put + moved })
     → false ≡ ltb (l.put + moved) (min (length l.posted) (l.head + g.cq))
     → l.put + moved ≡ put_by_flush g.cq l
-all_moved g q l moved s through =
-    let over = ltb-false (l.put + moved) (min (length l.posted) (l.head + g.cq)) (sym through) in
-    omega (arith, s.put_first, s.few)
+all_moved g q l moved s through = grind arith

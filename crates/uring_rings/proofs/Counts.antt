@@ -1,9 +1,9 @@
 -- Index words and the counts that they stand for, over plain numbers: two counts less than 2 ^ 32 apart with one word are one, and the cell of a count.
 -- By arithmetic on remainders alone: nothing here knows of a ring.
 -- Stable: rings as shared words are to cite these lemmas too.
-use Rattle.std.proofs.Common.{◌≡◌, ◌≢◌, List, length, set, get_or, ℕ, ◌+◌, ◌-◌, ◌*◌, ◌/◌, ◌%◌, ◌^◌, ◌<◌, ◌≤◌, sym, ap, ◌∙◌, subst, ⊎_elim, arith}
-use Rattle.uring_rings.proofs.Common.{IsPowerOfTwo, cases_eq, cases_lt, cases_order, get_or-set_other}
-use Rattle.std.proofs.lemmas.Nat.{and_mask, pow_below, mod_below, div-add-mod'}
+use Rattle.std.proofs.Common.{◌≡◌, List, length, set, get_or, ℕ, ◌+◌, ◌-◌, ◌*◌, ◌%◌, ◌^◌, ◌<◌, ◌≤◌, sym, subst, ⊎_elim, arith}
+use Rattle.uring_rings.proofs.Common.{IsPowerOfTwo, cases_lt, get_or-set_other}
+use Rattle.std.proofs.lemmas.Nat.{and_mask, pow_below, mod_below}
 use Rattle.std.proofs.lemmas.Grind.{get_or-set_at}
 use Rattle.std.proofs.Math.Pow.{mod-mod-pow}
 use Rattle.std.specs.Int.RustNames.{bit_and}
@@ -23,20 +23,11 @@ quotients_in_order n p q less = grind arith
 
 -- Numbers less than n apart have one remainder only where they are equal.
 pub same_remainder : (n a b : ℕ) → 0 < n → a ≤ b → b < a + n → a % n ≡ b % n → a ≡ b
-same_remainder n a b some ordered near same =
-    let left : a / n * n + a % n ≡ a = div-add-mod' a n in
-    let right : b / n * n + b % n ≡ b = div-add-mod' b n in
-    ⊎_elim
-    (λ (e : a / n ≡ b / n). let f : a / n * n ≡ b / n * n = ap (λ q. q * n) e in omega arith)
-    (⊎_elim
-    (λ (l : a / n < b / n). let f = quotients_in_order n (a / n) (b / n) l in omega arith)
-    (λ (l : b / n < a / n). let f = quotients_in_order n (b / n) (a / n) l in omega arith))
-    (cases_order (a / n) (b / n))
+same_remainder n a b some ordered near same = grind arith
 
 -- In a ring whose size is a power of two, up to 2 ^ 32, the cell of a count's word is the count's own.
 pub cell_of_word : (j k x : ℕ) → j + k ≡ 32 → x % 2 ^ 32 % 2 ^ k ≡ x % 2 ^ k
-cell_of_word j k x whole =
-    subst (λ (w : ℕ). x % 2 ^ w % 2 ^ k ≡ x % 2 ^ k) whole (mod-mod-pow x j k)
+cell_of_word j k x whole = grind (arith, (mod-mod-pow x j k))
 
 -- the mask of a power of two, which is one less, keeps the remainder
 pub cell_by_mask : (x size : ℕ) → IsPowerOfTwo size → bit_and x (size - 1) ≡ x % size
@@ -58,15 +49,7 @@ cell_of_count n s k (e, is) fits =
 -- Counts less than the size apart have one cell only where they are equal.
 pub same_cell : (n s j k : ℕ) → IsPowerOfTwo n → n ≤ 2 ^ 32 → j ≤ k → k < j + n
     → (s + j) % 2 ^ 32 % n ≡ (s + k) % 2 ^ 32 % n → j ≡ k
-same_cell n s j k power fits ordered near same =
-    let some : 0 < n = omega arith in
-    let left = cell_of_count n s j power fits in
-    let right = cell_of_count n s k power fits in
-    let one : (s + j) % n ≡ (s + k) % n = sym left ∙ same ∙ right in
-    let lower : s + j ≤ s + k = omega arith in
-    let upper : s + k < s + j + n = omega arith in
-    let equal : s + j ≡ s + k = same_remainder n (s + j) (s + k) some lower upper one in
-    omega arith
+same_cell n s j k power fits ordered near same = grind (arith, cell_of_count, same_remainder)
 
 -- A write to the cell of the next count leaves the cells of the counts before it, as many as the ring has.
 pub cells_after_write : {A : Type 0} (array : List A) (value_at : ℕ → A) (d x : A) (start size low tail cell : ℕ)
@@ -76,16 +59,4 @@ pub cells_after_write : {A : Type 0} (array : List A) (value_at : ℕ → A) (d 
     → (k : ℕ) → low ≤ k
     → k < tail + 1 → get_or (set array cell x) ((start + k) % 2 ^ 32 % size) d ≡ value_at k
 cells_after_write {A} array value_at d x start size low tail cell power fits len ordered near is_cell is_value held k from to =
-    let some : 0 < size = omega arith in
-    let within : cell < length array = rw (len, is_cell) (mod_below _ size some) in
-    ⊎_elim
-    (λ (here : k ≡ tail).
-    let at : (start + k) % 2 ^ 32 % size ≡ cell = ap (λ (n : ℕ). (start + n) % 2 ^ 32 % size) here ∙ sym is_cell in
-    get_or-set_at array cell ((start + k) % 2 ^ 32 % size) x d at within ∙ is_value ∙ ap value_at (sym here))
-    (λ (there : k ≡ tail → ⊥).
-    let before : k ≤ tail = omega arith in
-    let close : tail < k + size = omega arith in
-    let less : k < tail = omega arith in
-    let apart : (start + k) % 2 ^ 32 % size ≢ cell = λ e. there (same_cell size start k tail power fits before close (e ∙ is_cell)) in
-    get_or-set_other array cell ((start + k) % 2 ^ 32 % size) x d apart ∙ held k from less)
-    (cases_eq k tail)
+    grind (arith, mod_below, get_or-set_at, same_cell, get_or-set_other)

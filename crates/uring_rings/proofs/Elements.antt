@@ -1,7 +1,7 @@
 -- Elements of lists, by their places: of two lists joined, and of an array read at a word's cell.
 -- By induction over the list: nothing here knows of a ring.
 -- Stable: rings as shared words are to cite these lemmas too.
-use Rattle.std.proofs.Common.{◌≡◌, ℕ, ◌-◌, ◌%◌, ◌<◌, ◌≤◌, List, [], ◌∷◌, ◌++◌, length, get_or, zero, suc, refl, sym, ap, ◌∙◌, arith}
+use Rattle.std.proofs.Common.{◌≡◌, ℕ, ◌-◌, ◌%◌, ◌<◌, ◌≤◌, List, [], ◌∷◌, ◌++◌, length, get_or, zero, suc, refl, ap, ◌∙◌, arith}
 use Rattle.uring_rings.proofs.Common.{get_or_read, slice_get}
 
 pub slice_get_append_left : {A : Type 0} (xs ys : List A) (k : ℕ) → k < length xs
@@ -23,7 +23,4 @@ slice_get_append_right (x ∷ xs) ys (suc k) past =
 pub read_cell : (array : List ℕ) (cell word n size x : ℕ) → x ≡ get_or array cell x
     → cell ≡ word % n → cell < n → n ≡ size
     → length array ≡ size → get_or array (word % size) 0 ≡ x
-read_cell array cell word n size x read is_cell below same cells =
-    let within : cell < length array = omega arith in
-    let at : word % size ≡ cell = ap (λ (m : ℕ). word % m) (sym same) ∙ sym is_cell in
-    ap (λ (i : ℕ). get_or array i 0) at ∙ sym (get_or_read array cell x within read 0)
+read_cell array cell word n size x read is_cell below same cells = grind (arith, get_or_read)

@@ -8,8 +8,7 @@ use Rattle.std.specs.Prelude.{is_none}
 
 one_more : (o : Option Sqe) (xs : List Sqe) (m n : ℕ) → length xs + m ≡ n
     → length (cons_option o xs) + (cond (is_none o) 1 0 + m) ≡ suc n
-one_more None xs m n e = omega arith
-one_more (Some x) xs m n e = omega arith
+one_more o xs m n e = grind arith
 
 -- each place has an entry, or its word is dropped
 pub entries_and_dropped : (places : List Place)

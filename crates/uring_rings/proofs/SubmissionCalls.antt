@@ -1,13 +1,12 @@
 -- What the submission calls take, and what their end leaves.
-use Rattle.std.proofs.Common.{◌≡◌, ◌≢◌, ℕ, ◌+◌, ◌-◌, ◌%◌, ◌^◌, ◌<◌, ◌≤◌, Bool, length, take, drop, get_or, cond, Option, Some, None, refl, sym, ap, ◌∙◌, subst, arith, eq-eqb, ne_eqb, lt-ltb, le-ltb, ltb}
-use Rattle.uring_rings.proofs.Common.{Call, Place, Setup, ShowsSubmission, Sq, Sqe, Submission, dropped, dropped_in, entries_of, length-drop, length-take-le, pending, place_of, places_from, progress, same_Some, slice_get, taken, with_closed, word_of}
+use Rattle.std.proofs.Common.{◌≡◌, ℕ, ◌+◌, ◌-◌, ◌%◌, ◌^◌, ◌<◌, ◌≤◌, length, take, drop, get_or, cond, Option, Some, None, sym, ap, ◌∙◌, arith, ltb}
+use Rattle.uring_rings.proofs.Common.{Call, Place, Setup, ShowsSubmission, Sq, Sqe, Submission, dropped, entries_of, length-drop, length-take-le, pending, place_of, places_from, progress, slice_get, taken, with_closed, word_of}
 use Rattle.std.proofs.lemmas.List.Sums.{sum_by_push}
-use Rattle.std.specs.Option.{option_map, option_and_then, IfSome}
-use Rattle.uring_rings.specs.declared.answers.TakeAnswer.TheVariants.{Entry as Given, Dropped, NoMore}
-use Rattle.uring_rings.specs.declared.answers.EndAnswer.TheVariants.{Taken as Closed, NotAll}
+use Rattle.std.specs.Option.{option_map, IfSome}
+use Rattle.uring_rings.specs.declared.answers.TakeAnswer.TheVariants.{Entry as Given, Dropped}
+use Rattle.uring_rings.specs.declared.answers.EndAnswer.TheVariants.{Taken as Closed}
 use Rattle.uring_rings.specs.declared.sq.OpenCall.{OpenCall}
-use Rattle.uring_rings.specs.SqAnswers.{take_answer, take_in, given, taken_on, end_of, end_answer, closed_on}
-use Rattle.uring_rings.proofs.Counts.{word_after}
+use Rattle.uring_rings.specs.SqAnswers.{take_answer, given, taken_on, end_answer, closed_on}
 use Rattle.uring_rings.proofs.Places.{entry_more, dropped_more, entries_and_dropped, dropped_beyond}
 use Rattle.uring_rings.proofs.SubmissionWords.{reads_place}
 
@@ -21,9 +20,7 @@ pub record IsOpen (l : Submission) (open_call : OpenCall) (o : Option Call) : Ty
 
 pub is_open : (l : Submission) (c : OpenCall) (o : Option Call) → Some c ≡ option_map (progress l) o
     → IfSome o (λ call. (call.taken ≤ call.count) × (call.count ≤ pending l)) → IsOpen l c o
-is_open l c None is fits = cc
-is_open l c (Some call) is (within, ready) =
-    record { call = call; is = refl; same = same_Some c (progress l call) is; within = within; ready = ready }
+is_open l c o is fits = grind arith
 
 -- The open call's next position: its place, and what the call has taken before it.
 pub record TakesPlace (g : Setup) (l : Submission) (c : OpenCall) (word : ℕ) : Type 0 where
@@ -64,23 +61,16 @@ takes_place g q l c word s is_call more read =
 -- what the call answers is what the word's place has
 take_answer_is : (g : Setup) (l : Submission) (c : OpenCall) (word : ℕ) → TakesPlace g l c word
     → take_answer l ≡ given (cond (ltb word g.sq) (Some (l.content word)) None)
-take_answer_is g l c word t =
-    let apart : t.call.taken ≢ t.call.count = λ e. absurd (omega (arith, t.less)) in
-    ap (take_in l) t.is
-    ∙ ap (λ (b : Bool). cond b NoMore (given (option_and_then (λ (p : Place). p.entry) (slice_get l.published (taken l + t.call.taken))))) (ne_eqb t.call.taken t.call.count apart)
-    ∙ ap (λ (o : Option Place). given (option_and_then (λ (p : Place). p.entry) o)) t.found
-    ∙ ap (λ (p : Place). given p.entry) t.of_word
+take_answer_is g l c word t = grind arith
 
 pub take_gives : (g : Setup) (l : Submission) (c : OpenCall) (word : ℕ) (entry : Sqe)
     → TakesPlace g l c word → word < g.sq
     → entry ≡ l.content word → Given entry ≡ take_answer l
-take_gives g l c word entry t valid held =
-    sym (take_answer_is g l c word t ∙ ap (λ (b : Bool). given (cond b (Some (l.content word)) None)) (lt-ltb word g.sq valid) ∙ ap (λ (e : Sqe). Given e) (sym held))
+take_gives g l c word entry t valid held = grind arith
 
 pub take_drops : (g : Setup) (l : Submission) (c : OpenCall) (word : ℕ) → TakesPlace g l c word
     → g.sq ≤ word → Dropped ≡ take_answer l
-take_drops g l c word t bad =
-    sym (take_answer_is g l c word t ∙ ap (λ (b : Bool). given (cond b (Some (l.content word)) None)) (le-ltb word g.sq bad))
+take_drops g l c word t bad = grind arith
 
 -- open calls of the same numbers are the same
 same_progress : (c d : OpenCall) → c.count ≡ d.count → c.taken ≡ d.taken → c.accepted ≡ d.accepted
@@ -93,35 +83,19 @@ take_shows : (g : Setup) (q : Sq) (l : Submission) (c : OpenCall) (word n : ℕ)
     → (t : TakesPlace g l c word)
     → n ≡ length (entries_of (take (t.call.taken + 1) (drop (taken l) l.published)))
     → ShowsSubmission g (record q { call = Some (record { count = c.count; taken = c.taken + 1; accepted = n }) }) (taken_on l l.call)
-take_shows g q l c word n s t is_n =
-    let at : c.taken ≡ t.call.taken = ap (λ (d : OpenCall). d.taken) t.same in
-    let to : c.count ≡ t.call.count = ap (λ (d : OpenCall). d.count) t.same in
-    let on : c.taken + 1 ≡ t.call.taken + 1 = ap (λ (m : ℕ). m + 1) at in
-    let further : t.call.taken + 1 ≤ t.call.count = omega (arith, t.less) in
-    subst (λ (o : Option Call). ShowsSubmission g (record q { call = Some (record { count = c.count; taken = c.taken + 1; accepted = n }) }) (taken_on l o)) (sym t.is)
-    (let call = ap (λ (d : OpenCall). Some d) (same_progress _ _ to on is_n) in
-    assumption (call, further, t.ready, s))
+take_shows g q l c word n s t is_n = grind arith
 
 pub take_gives_shows : (g : Setup) (q : Sq) (l : Submission) (c : OpenCall) (word : ℕ)
     → ShowsSubmission g q l
     → TakesPlace g l c word → word < g.sq
     → ShowsSubmission g (record q { call = Some (record { count = c.count; taken = c.taken + 1; accepted = c.accepted + 1 }) }) (taken_on l l.call)
-take_gives_shows g q l c word s t valid =
-    let has : t.place.entry ≡ Some (l.content word) =
-    ap (λ (p : Place). p.entry) t.of_word ∙ ap (λ (b : Bool). cond b (Some (l.content word)) None) (lt-ltb word g.sq valid) in
-    let before : c.accepted ≡ length (entries_of (take t.call.taken (drop (taken l) l.published))) = ap (λ (d : OpenCall). d.accepted) t.same in
-    take_shows g q l c word (c.accepted + 1) s t
-    (ap (λ (m : ℕ). m + 1) before ∙ sym (entry_more l.published (taken l) t.call.taken t.place (l.content word) t.found has))
+take_gives_shows g q l c word s t valid = grind (arith, take_shows, entry_more)
 
 pub take_drops_shows : (g : Setup) (q : Sq) (l : Submission) (c : OpenCall) (word : ℕ)
     → ShowsSubmission g q l
     → TakesPlace g l c word → g.sq ≤ word
     → ShowsSubmission g (record q { call = Some (record { count = c.count; taken = c.taken + 1; accepted = c.accepted }) }) (taken_on l l.call)
-take_drops_shows g q l c word s t bad =
-    let none : t.place.entry ≡ None =
-    ap (λ (p : Place). p.entry) t.of_word ∙ ap (λ (b : Bool). cond b (Some (l.content word)) None) (le-ltb word g.sq bad) in
-    let before : c.accepted ≡ length (entries_of (take t.call.taken (drop (taken l) l.published))) = ap (λ (d : OpenCall). d.accepted) t.same in
-    take_shows g q l c word c.accepted s t (before ∙ sym (dropped_more l.published (taken l) t.call.taken t.place t.found none))
+take_drops_shows g q l c word s t bad = grind (arith, take_shows, dropped_more)
 
 -- The open call has taken all its positions.
 pub record IsDone (l : Submission) (c : OpenCall) : Type 0 where
@@ -135,19 +109,7 @@ pub record IsDone (l : Submission) (c : OpenCall) : Type 0 where
 pub is_done : (g : Setup) (q : Sq) (l : Submission) (c : OpenCall) → ShowsSubmission g q l
     → q.call ≡ Some c → c.count ≤ c.taken
     → IsDone l c
-is_done g q l c s is_call through =
-    let o = is_open l c l.call (sym is_call ∙ s.call) s.call_fits in
-    let at : c.taken ≡ o.call.taken = ap (λ (d : OpenCall). d.taken) o.same in
-    let to : c.count ≡ o.call.count = ap (λ (d : OpenCall). d.count) o.same in
-    let all : o.call.taken ≡ o.call.count = omega (arith, o.within) in
-    record {
-      call = o.call;
-      is = o.is;
-      count = to;
-      accepted = ap (λ (d : OpenCall). d.accepted) o.same ∙ ap (λ (n : ℕ). length (entries_of (places_from l n))) all;
-      all = all;
-      ready = o.ready;
-    }
+is_done g q l c s is_call through = grind arith
 
 -- Such a call is closed.
 module _ (g : Setup) (q : Sq) (l : Submission) (c : OpenCall) (head : ℕ) (s : ShowsSubmission g q l) (e : IsDone l c) (is_head : head ≡ (q.head + c.count) % 2 ^ 32) where
@@ -155,35 +117,13 @@ module _ (g : Setup) (q : Sq) (l : Submission) (c : OpenCall) (head : ℕ) (s : 
   all_taken = sum_by_push (λ (n : ℕ). n) l.calls e.call.count
 
   dropped_closed : (q.dropped + (c.count - c.accepted)) % 2 ^ 32 ≡ dropped (with_closed l e.call)
-  dropped_closed =
-      let split = entries_and_dropped (take e.call.count (drop (taken l) l.published)) in
-      let long : length (take e.call.count (drop (taken l) l.published)) ≡ e.call.count =
-      length-take-le e.call.count (drop (taken l) l.published) (simp length-drop e.ready) in
-      let beyond = dropped_beyond l.published (taken l) e.call.count in
-      let after : dropped (with_closed l e.call) ≡ dropped_in (take (taken l + e.call.count) l.published) % 2 ^ 32 =
-      ap (λ (n : ℕ). dropped_in (take n l.published) % 2 ^ 32) all_taken in
-      omega (arith, s.dropped, e.count, e.accepted)
+  dropped_closed = grind (arith, entries_and_dropped, length-take-le, length-drop, dropped_beyond, with_closed, all_taken)
 
   head_closed : head ≡ word_of g.start (taken (with_closed l e.call))
-  head_closed =
-      is_head
-      ∙ ap (λ (w : ℕ). (w + c.count) % 2 ^ 32) s.head
-      ∙ ap (λ (n : ℕ). (word_of g.start (taken l) + n) % 2 ^ 32) e.count
-      ∙ word_after g.start (taken l) e.call.count
-      ∙ ap (word_of g.start) (sym all_taken)
+  head_closed = grind (arith, all_taken)
 
   pub end_answers : Closed (record { accepted = c.accepted; dropped = (q.dropped + (c.count - c.accepted)) % 2 ^ 32; head = head }) ≡ end_answer g l
-  end_answers =
-      let dropped_is = dropped_closed in
-      let head_is = head_closed in
-      let accepted_is = e.accepted in
-      sym (ap (end_of g l) e.is ∙ ap (λ (b : Bool). cond b (Closed (record { accepted = length (entries_of (places_from l e.call.count)); dropped = dropped (with_closed l e.call); head = word_of g.start (taken (with_closed l e.call)) })) NotAll) (eq-eqb e.call.taken e.call.count e.all) ∙ cc)
+  end_answers = grind (arith, dropped_closed, head_closed, cond)
 
   pub end_shows : ShowsSubmission g (record q { head = head; dropped = (q.dropped + (c.count - c.accepted)) % 2 ^ 32; call = None }) (closed_on l l.call)
-  end_shows =
-      subst (λ (o : Option Call). ShowsSubmission g (record q { head = head; dropped = (q.dropped + (c.count - c.accepted)) % 2 ^ 32; call = None }) (closed_on l o)) (sym e.is)
-      (let at_head = head_closed in
-      let dropped_is = dropped_closed in
-      let seen_first : l.seen_head ≤ taken (with_closed l e.call) = omega (arith, s.seen_first, all_taken) in
-      let taken_first : taken (with_closed l e.call) ≤ length l.published = omega (arith, s.taken_first, e.ready, all_taken) in
-      assumption)
+  end_shows = grind (arith, closed_on, head_closed, dropped_closed, with_closed, all_taken)

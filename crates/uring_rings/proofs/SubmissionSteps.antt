@@ -1,6 +1,6 @@
 -- What each call of the submission ring leaves shows the lists after its event.
-use Rattle.std.proofs.Common.{◌≡◌, ◌≢◌, ℕ, ◌+◌, ◌-◌, ◌%◌, ◌^◌, ◌<◌, ◌≤◌, false, eqb, List, [], ◌∷◌, ◌++◌, length, take, drop, map, set, get_or, cond, Option, Some, None, zero, suc, refl, sym, ap, ◌∙◌, subst, ⊎_elim, arith, eq-eqb, ne_eqb}
-use Rattle.uring_rings.proofs.Common.{Call, IsPowerOfTwo, IsSq, Place, Setup, ShowsSubmission, Sq, Sqe, Submission, cases_eq, cases_lt, drop-append-le, dropped_in, entries_of, get_or-set_other, get_or_append_left, get_or_from_slice_get, get_or_push, is_busy, length-append, length-drop, length-map, length-set, pending, place_of, places_from, progress, same_Some, slice_get, slice_get-get_or, staged, take-append-le, taken, with_filled, with_published, with_staged, word_of, words}
+use Rattle.std.proofs.Common.{◌≡◌, ◌≢◌, ℕ, ◌+◌, ◌-◌, ◌%◌, ◌^◌, ◌<◌, ◌≤◌, false, eqb, List, [], ◌∷◌, ◌++◌, length, map, set, get_or, cond, Option, Some, zero, suc, refl, sym, ap, ◌∙◌, subst, ⊎_elim, arith, eq-eqb, ne_eqb}
+use Rattle.uring_rings.proofs.Common.{Call, IsPowerOfTwo, IsSq, Place, Setup, ShowsSubmission, Sq, Sqe, Submission, cases_eq, drop-append-le, dropped_in, get_or-set_other, get_or_append_left, get_or_from_slice_get, get_or_push, is_busy, length-append, length-drop, length-map, length-set, pending, place_of, progress, slice_get, slice_get-get_or, staged, take-append-le, taken, with_filled, with_published, with_staged, word_of, words}
 use Rattle.std.proofs.lemmas.Grind.{get_or-set_at}
 use Rattle.std.specs.Option.{option_map, IfSome}
 use Rattle.uring_rings.proofs.Elements.{slice_get_append_left, slice_get_append_right}
@@ -64,44 +64,26 @@ pub fill_shows : (g : Setup) (q : Sq) (l : Submission) (slot : ℕ) (entry : Sqe
     → IsSq q.size q.table q.array q.call
     → ShowsSubmission g q l → slot < q.size → is_busy l slot ≡ false
     → ShowsSubmission g (record q { table = set q.table slot entry }) (with_filled l slot entry)
-fill_shows g q l slot entry i s below free =
-    let within : slot < length q.table = omega (arith, i.slots) in
-    let slots : (n : ℕ) → n < g.sq → slice_get (set q.table slot entry) n ≡ Some (cond (eqb n slot) entry (l.content n)) =
-    λ n to. slot_after_fill q.table l.content slot n entry within (s.slots n to) (omega (arith, i.slots, s.size)) in
-    let places : (k : ℕ) (p : Place) → l.seen_head ≤ k → slice_get l.published k ≡ Some p → p ≡ place_of g.sq (with_filled l slot entry).content p.word =
-    λ k p from found. s.places k p from found ∙ place_kept g.sq l.content slot entry p.word (not_named l slot k p free from found) in
-    assumption
+fill_shows g q l slot entry i s below free = grind (arith, cond, slot_after_fill, with_filled, place_kept, not_named)
 
 -- publishing leaves what an open call took
 progress_kept : (size : ℕ) (l : Submission) (o : Option Call)
     → IfSome o (λ call. (call.taken ≤ call.count) × (call.count ≤ pending l))
     → taken l ≤ length l.published
     → option_map (progress l) o ≡ option_map (progress (with_published size l)) o
-progress_kept size l None fits first = refl
-progress_kept size l (Some call) (within, ready) first =
-    let xs : List Place = map (place_of size l.content) l.fresh in
-    let before : call.taken ≤ length (drop (taken l) l.published) = simp length-drop (omega arith) in
-    let same : places_from l call.taken ≡ places_from (with_published size l) call.taken =
-    sym (ap (λ (ps : List Place). take call.taken ps) (drop-append-le (taken l) l.published xs first)
-    ∙ take-append-le call.taken (drop (taken l) l.published) xs before) in
-    ap (λ (ps : List Place). Some (record { count = call.count; taken = call.taken; accepted = length (entries_of ps) })) same
+progress_kept size l o fits first = grind (arith, map, length-drop, with_published, drop-append-le, take-append-le)
 
 -- publishing leaves an open call's positions published
 fits_kept : (size : ℕ) (l : Submission) (o : Option Call)
     → IfSome o (λ call. (call.taken ≤ call.count) × (call.count ≤ pending l))
     → IfSome o (λ call. (call.taken ≤ call.count) × (call.count ≤ pending (with_published size l)))
-fits_kept size l None fits = fits
-fits_kept size l (Some call) (within, ready) =
-    let grown = length-append l.published (map (place_of size l.content) l.fresh) in
-    (within, omega arith)
+fits_kept size l o fits = grind (arith, length-append)
 
 -- a place made of a word is the word's
 placed_by : (size : ℕ) (content : ℕ → Sqe) (ws : List ℕ) (k : ℕ) (p : Place)
     → slice_get (map (place_of size content) ws) k ≡ Some p → p ≡ place_of size content p.word
 placed_by size content [] k p found = cc
-placed_by size content (w ∷ ws) zero p found =
-    let is : place_of size content w ≡ p = same_Some (place_of size content w) p found in
-    subst (λ (q : Place). q ≡ place_of size content q.word) is refl
+placed_by size content (w ∷ ws) zero p found = grind arith
 placed_by size content (w ∷ ws) (suc k) p found = placed_by size content ws k p found
 
 -- what holds of the places of two lists holds of those of both together
@@ -109,11 +91,7 @@ placed_both : (P : Place → Type 0) (xs ys : List Place) (low : ℕ)
     → ((k : ℕ) (p : Place) → low ≤ k → slice_get xs k ≡ Some p → P p)
     → ((k : ℕ) (p : Place) → slice_get ys k ≡ Some p → P p)
     → (k : ℕ) (p : Place) → low ≤ k → slice_get (xs ++ ys) k ≡ Some p → P p
-placed_both P xs ys low first second k p from found =
-    ⊎_elim
-    (λ (l : k < length xs). first k p from (sym (slice_get_append_left xs ys k l) ∙ found))
-    (λ (r : length xs ≤ k). second (k - length xs) p (sym (slice_get_append_right xs ys k r) ∙ found))
-    (cases_lt k (length xs))
+placed_both P xs ys low first second k p from found = grind (arith, slice_get_append_left, slice_get_append_right)
 
 -- everything staged is published
 pub store_shows : (g : Setup) (q : Sq) (l : Submission) → ShowsSubmission g q l

@@ -2,7 +2,7 @@
 use Rattle.std.proofs.Common.{◌≡◌, ◌≢◌, ℕ, ◌+◌, ◌-◌, ◌%◌, ◌^◌, ◌<◌, ◌≤◌, true, false, eqb, List, [], ◌∷◌, ◌++◌, length, drop, map, get_or, Some, None, refl, sym, ap, ◌∙◌, arith, eq-eqb, ne_eqb}
 use Rattle.uring_rings.proofs.Common.{IsSq, Place, Setup, ShowsSubmission, Sq, Sqe, Submission, append-nil, append_assoc, false≢true, get_or-drop, get_or-map, get_or_append_left, get_or_from_slice_get, is_busy, length-append, length-drop, length-map, map-append, place_of, slice_get, slice_get-get_or, slice_get_within, staged, with_published, with_staged, word_of, words}
 use Rattle.std.proofs.lemmas.List.Folds.{list_any_at, list_any_none}
-use Rattle.uring_rings.proofs.Counts.{word_after, distance_of_words}
+use Rattle.uring_rings.proofs.Counts.{word_after}
 
 -- there are as many words as staged positions
 pub length_words : (l : Submission) → length (words l) ≡ staged l
@@ -27,15 +27,13 @@ place_at l k within =
 
 -- one more word is staged
 pub words_indexed : (l : Submission) (word : ℕ) → words (with_staged l word) ≡ words l ++ word ∷ []
-words_indexed l word =
-    sym (append_assoc (map (λ (q : Place). q.word) l.published) l.fresh (word ∷ []))
+words_indexed l word = grind (arith, append_assoc)
 
 -- a place keeps its word
 words_of_places : (size : ℕ) (content : ℕ → Sqe) (ws : List ℕ)
     → map (λ (q : Place). q.word) (map (place_of size content) ws) ≡ ws
 words_of_places size content [] = refl
-words_of_places size content (w ∷ ws) =
-    ap (λ (vs : List ℕ). w ∷ vs) (words_of_places size content ws)
+words_of_places size content (w ∷ ws) = grind (arith, (words_of_places size content ws))
 
 -- publishing changes no word
 pub words_stored : (size : ℕ) (l : Submission) → words (with_published size l) ≡ words l
@@ -71,10 +69,7 @@ reads_place g q l count word k s is_word seen within =
 pub published_above : (g : Setup) (q : Sq) (l : Submission) (d : ℕ) → ShowsSubmission g q l
     → g.sq ≤ 4096 → d < 2 ^ 32
     → (q.seen_head + d) % 2 ^ 32 ≡ q.published → d ≡ length l.published - l.seen_head
-published_above g q l d s limit small leads =
-    let ordered : l.seen_head ≤ length l.published = omega (arith, s.seen_first, s.taken_first) in
-    let near : length l.published < l.seen_head + 2 ^ 32 = omega (arith, s.few) in
-    distance_of_words g.start (length l.published) l.seen_head d small ordered near (ap (λ (w : ℕ). (w + d) % 2 ^ 32) (sym s.seen_head) ∙ leads ∙ s.published)
+published_above g q l d s limit small leads = grind arith
 
 -- a place above the head last loaded doesn't name a slot that isn't busy
 pub not_named : (l : Submission) (slot k : ℕ) (p : Place) → is_busy l slot ≡ false → l.seen_head ≤ k

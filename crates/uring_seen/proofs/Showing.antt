@@ -1,5 +1,5 @@
 -- What a step with the text of an answer shows.
-use Rattle.std.proofs.Common.{◌≡◌, ℕ, true, false, List, ◌∷◌, ◌<◌, ◌^◌, refl, sym, ap, subst, ◌∙◌, inl, inr, arith}
+use Rattle.std.proofs.Common.{◌≡◌, ℕ, true, false, List, ◌∷◌, refl, sym, ap, subst, ◌∙◌, inl, inr, arith}
 use Rattle.uring_seen.proofs.Common.{Answer, CalledForApart, Core, FitsApart, History, IsAnsweredAs, IsBare, IsFollowed, IsGuess, IsGuessed, IsNoFinish, IsSeenAs, IsShownIf, OrAgain, Setup, Sight, Step, World, begin_answer, is_hidden, is_submitting, submitted, text_of, world}
 use Rattle.uring_core.specs.declared.step.Step.TheVariants as step
 use Rattle.uring_core.specs.declared.answer.Answer.TheVariants as answer
@@ -9,10 +9,6 @@ use Rattle.uring_seen.proofs.Sides.{may_submitted}
 use Rattle.uring_seen.proofs.Texts.{number_once, completion_once}
 
 -- ---- steps to which one answer is called for, but for memory that is refused
-
--- that it was is the only answer of its text
-again_only : (b : Answer) → text_of b ≡ text_of answer.Again → b ≡ answer.Again
-again_only b same = grind arith
 
 answer_once : (g : Setup) (w : World) (s : Step) (a b : Answer) → IsNoFinish s → CalledForApart g w s a
     → CalledForApart g w s b → text_of b ≡ text_of a → b ≡ a
@@ -54,12 +50,6 @@ step_answered core h s a text sight.Wrong of no_again lasts fits other = λ b ca
     answer_other core.setup (world core.setup h) s a b text of no_again lasts other fits.lawful.0 called is
 step_answered core h s a text _ of no_again lasts fits none = absurd none
 
-submitting_seen : (s : Step) → is_submitting s ≡ true → is_hidden s ≡ false
-submitting_seen s of = grind arith
-
-submitting_bare : (s : Step) (a : Answer) → is_submitting s ≡ true → IsBare s a
-submitting_bare s a of = grind arith
-
 -- what is called for is what may be shown
 pub answered_seen : (core : Core) (seen : History) (s : Step) (text : List ℕ) (x : Sight) → is_submitting s ≡ true
     → IsAnsweredAs core (submitted seen) s text x → IsSeenAs core seen s text x
@@ -70,9 +60,6 @@ answered_seen core seen s text x of none = grind (arith, may_submitted)
 guess_called : (g : Setup) (w : World) (s : Step) (a : Answer) → IsGuessed s → CalledForApart g w s a
     → IsGuess s a
 guess_called g w s a of called = grind arith
-
-long : (n : ℕ) → n < 2 ^ 32 → n < 2 ^ 64
-long n p = omega arith
 
 -- two of the same text are the same
 pub guess_once : (s : Step) (a b : Answer) → IsGuess s a → IsGuess s b → text_of a ≡ text_of b

@@ -1,9 +1,9 @@
 -- Completions by their texts, with their bytes.
-use Rattle.std.proofs.Common.{◌≡◌, ℕ, zero, suc, ◌<◌, ◌≤◌, ◌+◌, List, [], ◌∷◌, ◌++◌, length, map, take, drop, replicate, ◌/◌, Option, Some, None, refl, sym, ap, subst, ◌∙◌, append_assoc, arith}
+use Rattle.std.proofs.Common.{◌≡◌, ℕ, zero, suc, ◌<◌, ◌≤◌, ◌+◌, List, [], ◌∷◌, ◌++◌, length, map, take, drop, replicate, ◌/◌, Option, Some, None, refl, sym, ap, subst, ◌∙◌, arith}
 use Rattle.std.specs.List.{AllByRecursion}
 use Rattle.uring_seen.proofs.Common.{AreBytes, CompletesTo, Cqe, HasText, IsPadded, MatchOption, append_cancel_left, blank_completion, bytes_eq-Decides, codes, false_from_ne_true, front_of, length-append, length-drop, no_bytes, same_Some, take-append-drop}
 use Rattle.uring_text.proofs.HexLaws.{data_again, data_found, hex_found}
-use Rattle.uring_text.specs.Completions.{before_others, completion_text, trimmed}
+use Rattle.uring_text.specs.Completions.{before_others, trimmed}
 use Rattle.uring_text.specs.Reading.{data_of, hex_of}
 use Rattle.uring_text.specs.Tokens.{hex_or_dash}
 
@@ -63,12 +63,6 @@ filled_sized bytes sized =
     grind (arith, (length-append bytes (drop (length bytes) no_bytes)), (length-drop (length bytes) no_bytes), (zeros_drop (length bytes) 64), joined_all)
 
 -- ---- texts
-
-text_front : (c : Cqe) → completion_text c ≡ front_of c ++ hex_or_dash (trimmed c.payload)
-text_front c = simp append_assoc refl
-
-front_same : (c e : Cqe) → blank_completion e ≡ blank_completion c → front_of e ≡ front_of c
-front_same c e same = ap front_of same
 
 has_front : (c e : Cqe) (text : List ℕ) → HasText c text e → text ≡ front_of c ++ hex_or_dash (trimmed e.payload)
 has_front c e text has = grind arith
@@ -143,7 +137,3 @@ pub completes_padded : (c d : Cqe) (text token room : List ℕ) → text ≡ fro
 completes_padded c d text token room is padded_so d_is =
     let by = padded_by (data_of token) room padded_so in
     completes_to c d text token by.0 room is by.1 by.2 d_is
-
--- a completion without bytes is as it is
-pub blank_own : (c : Cqe) → c.payload ≡ no_bytes → blank_completion c ≡ c
-blank_own c none = λ i. record { user_data = c.user_data; res = c.res; payload = sym none i }

@@ -1,6 +1,6 @@
 -- What a step with the text of an answer is, of a core that knows no bytes.
-use Rattle.std.proofs.Common.{◌≡◌, ℕ, ℤ, Bool, true, false, List, ◌∷◌, Option, Some, None, drop, refl, sym, ap, subst, ◌∙◌, arith}
-use Rattle.uring_seen.proofs.Common.{Answer, CompletesTo, Core, Cqe, Event, FinishesApart, FitsApart, HasNoBytes, HasText, History, IsAnsweredAs, IsCompleted, IsFile, IsFinishAnswer, IsFollowed, IsShownIf, IsSized, IsWrittenAs, Sight, Step, bare, blank_answer, blank_completion, is_running, no_bytes, text_of, world}
+use Rattle.std.proofs.Common.{◌≡◌, ℕ, ℤ, Bool, true, false, List, ◌∷◌, drop, refl, sym, ap, subst, ◌∙◌, arith}
+use Rattle.uring_seen.proofs.Common.{Answer, CompletesTo, Core, Cqe, Event, FinishesApart, FitsApart, HasNoBytes, HasText, History, IsAnsweredAs, IsCompleted, IsFile, IsFinishAnswer, IsFollowed, IsShownIf, IsSized, IsWrittenAs, Sight, Step, bare, blank_answer, is_running, no_bytes, text_of, world}
 use Rattle.uring_core.specs.declared.answer.Answer.TheVariants as answer
 use Rattle.uring_core.specs.declared.step.Step.TheVariants as step
 use Rattle.uring_seen.specs.declared.sight.Sight.TheVariants as sight
@@ -8,20 +8,11 @@ use Rattle.uring_seen.proofs.Texts.{signed_once}
 
 -- ---- steps to which what is called for has no bytes
 
-own_blank : (s : Step) (a : Answer) → HasNoBytes s → blank_answer s a ≡ a
-own_blank s a of = grind arith
-
-own_sized : (s : Step) (a : Answer) → HasNoBytes s → IsSized s a
-own_sized s a of = grind arith
-
 pub answered_written : (core : Core) (h : History) (s : Step) (text : List ℕ) (x : Sight) → HasNoBytes s
     → IsAnsweredAs core h s text x → IsWrittenAs core h s text x
 answered_written core h s text x of none = grind arith
 
 -- ---- Finish
-
-ended_other : (res : ℤ) (bytes : List ℕ) → text_of (answer.Ended res bytes) ≡ text_of answer.NotRunning → ⊥
-ended_other res bytes e = grind arith
 
 idle_is : (n : ℕ) (b : Answer) → blank_answer (step.Finish n) b ≡ answer.NotRunning → b ≡ answer.NotRunning
 idle_is n b e = grind arith
@@ -86,18 +77,6 @@ no_answer text idle ended (answer.Ended res bytes) of same small = ended res (sm
 no_answer text idle ended a of same small = absurd of
 
 -- ---- Reap
-
-abbrev completion_in : Answer → Option Cqe
-completion_in (answer.Reaped c) = Some c
-completion_in _ = None
-
-reaped_is : (b : Answer) (c : Cqe) → blank_answer step.Reap b ≡ answer.Reaped c
-    → (e : Cqe) × (b ≡ answer.Reaped e) × (blank_completion e ≡ c)
-reaped_is b c is = grind arith
-
-has_text : (b : Answer) (c e : Cqe) (text : List ℕ) → b ≡ answer.Reaped e → blank_completion e ≡ c → text_of b ≡ text
-    → IsSized step.Reap b → HasText c text e
-has_text b c e text is same text_is sized = grind arith
 
 pub reap_written : (core : Core) (h : History) (c : Cqe) (text : List ℕ) (x : Sight) → FitsApart core ((step.Reap, answer.Reaped c) ∷ h)
     → IsCompleted c text x → IsWrittenAs core h step.Reap text x

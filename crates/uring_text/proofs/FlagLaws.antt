@@ -1,6 +1,6 @@
 -- Flags are read of just the tokens that are their letters.
-use Rattle.std.proofs.Common.{◌≡◌, ◌≢◌, ℕ, ◌+◌, ◌<◌, Bool, true, false, cond, eqb, ◌||◌, List, [], ◌∷◌, length, Some, None, ap, ◌∙◌, arith, inl, inr}
-use Rattle.uring_text.proofs.Common.{AllByRecursion, AreFlags, NoneAgain, and_parts, bytes_eq, bytes_eq-Decides, eqb-false, eqb-true, flag_value, flags_of, letters_of, list_all, list_any, ne_eqb, or_cases, same_Some, sum_by}
+use Rattle.std.proofs.Common.{◌≡◌, ◌≢◌, ℕ, ◌+◌, ◌<◌, false, cond, eqb, List, [], ◌∷◌, length, Some, None, ap, ◌∙◌, arith}
+use Rattle.uring_text.proofs.Common.{AllByRecursion, AreFlags, NoneAgain, bytes_eq, bytes_eq-Decides, eqb-false, eqb-true, flag_value, flags_of, letters_of, ne_eqb, same_Some, sum_by}
 use Rattle.std.specs.Int.RustNames.{bit_and, bit_or}
 use Rattle.std.specs.Int.Bits.{and_zero_l}
 use Rattle.std.proofs.lemmas.List.Sums.{sum_by-cons}
@@ -9,22 +9,6 @@ use Rattle.uring_text.proofs.Options.{no_dash, test_some, unless_some}
 
 abbrev letters : List ℕ
 letters = 68 ∷ 76 ∷ 72 ∷ 65 ∷ 83 ∷ []
-
-letter_is : (b : ℕ) → 0 < flag_value b → list_any (eqb b) letters ≡ true
-letter_is b lt = grind arith
-
-passes : (p : ℕ → Bool) (xs : List ℕ) (x : ℕ) → list_all p xs ≡ true → list_any (eqb x) xs ≡ true
-    → p x ≡ true
-passes p [] x all there = absurd cc
-passes p (y ∷ ys) x all there =
-    elim (or_cases (eqb x y) _ there) [
-      | inl here ↦ ap p (eqb-true x y here) ∙ (and_parts _ _ all).0
-      | inr later ↦ passes p ys x (and_parts _ _ all).1 later
-    ]
-
--- two letters have no bit in common
-abbrev are_apart : ℕ → ℕ → Bool
-are_apart b c = eqb b c || eqb (bit_and (flag_value b) (flag_value c)) 0
 
 letters_apart : (b c : ℕ) → 0 < flag_value b → 0 < flag_value c → (c ≡ b → ⊥)
     → bit_and (flag_value b) (flag_value c) ≡ 0

@@ -17,13 +17,6 @@ at_below P zero v all lt = absurd (omega arith)
 at_below P (suc n) v all lt =
     elim (cases_eq v n) [ inl same ↦ subst P (sym same) all.0 | inr other ↦ at_below P n v all.1 (omega arith) ]
 
--- the digits, by their values
-letter_at : (w : ℕ) → w < 6 → slice_index lower_digits (10 + w) ≡ 97 + w
-letter_at w lt = at_below (λ w. slice_index lower_digits (10 + w) ≡ 97 + w) 6 w (assumption) lt
-
-figure_at : (w : ℕ) → w < 10 → slice_index lower_digits w ≡ 48 + w
-figure_at w lt = at_below (λ w. slice_index lower_digits w ≡ 48 + w) 10 w (assumption) lt
-
 no_capital : (v : ℕ) → v < 16 → is_capital (slice_index lower_digits v) ≡ false
 no_capital v lt = at_below (λ v. is_capital (slice_index lower_digits v) ≡ false) 16 v (assumption) lt
 

@@ -4,9 +4,6 @@ use Rattle.uring_text.proofs.Common.{AreBytes, Fits, Name, Parts, SayParts, kind
 use Rattle.uring_text.specs.declared.forms.Name.TheVariants as name
 use Rattle.uring_text.proofs.FormLaws.{parts_found}
 
-abbrev bytes_in : Parts → List ℕ
-bytes_in p = p.bytes
-
 pub data_said : (tokens : List (List ℕ)) (p : Parts) → SayParts (kinds_of name.Write) tokens p
     → AreBytes p.bytes 0 64
 data_said tokens p h = grind arith

@@ -8,9 +8,6 @@ pub trimmed_zero : (bytes : List ℕ) → trimmed (bytes ++ 0 ∷ []) ≡ trimme
 trimmed_zero [] = refl
 trimmed_zero (b ∷ bytes) = ap (before_others b) (trimmed_zero bytes)
 
-kept_before : (b : ℕ) (bytes : List ℕ) → 0 < length bytes → before_others b bytes ≡ b ∷ bytes
-kept_before b bytes h = grind arith
-
 alone : (b : ℕ) → (b ≡ 0 → ⊥) → before_others b [] ≡ b ∷ []
 alone b h = grind arith
 

@@ -14,11 +14,6 @@ use Rattle.uring_threads.specs.Store.{step_of, answer_of, event_of, events_of, I
 
 -- Stores that grow.
 
--- a step that was kept is the same
-pub step_stays : (s t : Store) (b : BriefStep) → Stays s t → IsStepWithin s b
-    → (step_of t b ≡ step_of s b) × IsStepWithin t b
-step_stays s t b stays within = grind arith
-
 -- an answer that was kept is the same
 pub answer_stays : (s t : Store) (b : BriefAnswer) → Stays s t → IsAnswerWithin s b
     → (answer_of t b ≡ answer_of s b) × IsAnswerWithin t b

@@ -10,11 +10,6 @@ pub end_posts : (g : Setup) (w : World) (n : ℕ) (res : ℤ) (bytes : List ℕ)
     × ((with_end_of g w n res bytes).head ≡ w.completions.head)
 end_posts g w n res bytes = grind arith
 
--- the requests that were accepted stay, by either's rules
-pub accepted_issued : (linux : Bool) (r : Requests) (n : ℕ) (res : ℤ)
-    → (with_issued_end linux r n res).accepted ≡ r.accepted
-accepted_issued linux r n res = grind arith
-
 pub posts_none : (w : World) → OnlyPosts w w
 posts_none w = record { submission = refl; accepted = refl; is_closed = refl; reaped = refl; head = refl }
 

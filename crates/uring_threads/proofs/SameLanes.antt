@@ -47,8 +47,3 @@ receives_then a b c p q = grind arith
 -- the same lanes hold as many jobs
 pub hold_stays : (old new : List WorkLanes) → AreSameLanes old new → HoldJobs old → HoldJobs new
 hold_stays old new same hold = grind arith
-
--- and as many results
-pub short_stays : (old new : List WorkLanes) → AreSameLanes old new → HoldResults old
-    → HoldResults new
-short_stays old new same short = grind arith

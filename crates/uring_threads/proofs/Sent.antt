@@ -88,13 +88,6 @@ pub done_is_of : (g : Setup) (h : History) → IsLawfulApart g h
 done_is_of g [] lawful = tt
 done_is_of g ((s, a) ∷ h) lawful = done_then g.linux (world g h) _ s a (done_in g h) (move_of g s a h lawful) (sound_of g h lawful.1).requests (done_is_of g h lawful.1)
 
--- what an Issue ends wasn't running
-issue_idle : (outstanding running doomed ready cancel : Bool) (as_doomed as_cancel res : ℤ) (bytes : List ℕ)
-    → answer.Ended res bytes
-    ≡ (if not outstanding then answer.Unknown else (if running then answer.Running else (if doomed then answer.Ended as_doomed no_bytes else (if not ready then answer.NotReady else (if cancel then answer.Ended as_cancel no_bytes else answer.Run)))))
-    → running ≡ false
-issue_idle outstanding running doomed ready cancel as_doomed as_cancel res bytes e = grind arith
-
 -- so it hadn't started
 not_started : (g : Setup) (w : World) (n : ℕ) (res : ℤ) (bytes : List ℕ)
     → answer.Ended res bytes ≡ issue_answer g w n → is_outstanding w.requests n ≡ true

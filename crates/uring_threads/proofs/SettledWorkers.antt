@@ -11,9 +11,6 @@ use Rattle.uring_threads.proofs.Carrying.{others_carried}
 
 -- Results taken in one after the other.
 
-pub takes_none : (a : Kept) → TakesAll a a []
-takes_none a = record { trace = sym (append-nil a.trace); setup = refl; room = omega arith }
-
 pub takes_then : (a b c : Kept) (first second : List JobResult) → TakesAll a b first
     → TakesAll b c second → TakesAll a c (first ++ second)
 takes_then a b c first second p q =

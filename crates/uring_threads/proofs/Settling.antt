@@ -28,11 +28,6 @@ first_are : (accepted : List Sqe) (js later : List Job) → AreJobsOf accepted (
 first_are accepted [] later all = tt
 first_are accepted (j ∷ js) later all = (all.0, first_are accepted js later all.1)
 
--- operations of the same request with the same outcome
-same_done : (accepted : List Sqe) (c d : Done) → c.op ≡ op_at accepted c.number
-    → d.op ≡ op_at accepted d.number → result_of c ≡ result_of d → c ≡ d
-same_done accepted c d c_op d_op same = grind arith
-
 -- one list begins another
 abbrev Begins : List Done → List Done → List JobResult → Type 0
 Begins first done waiting =

@@ -33,9 +33,6 @@ still a = record { trace = refl; room = omega arith; setup = refl }
 
 -- Tallies.
 
-tally_append : (es fs : List Event) → tally_of (es ++ fs) ≡ both (tally_of es) (tally_of fs)
-tally_append es fs = grind (arith, sum_by-append)
-
 -- nothing counted beside it changes no tally
 pub both_none : (t : Tally) → both t none_counted ≡ t
 both_none t = simp add-zero

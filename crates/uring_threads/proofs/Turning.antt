@@ -24,11 +24,6 @@ pub has_taken : (old : Kernel) (b : Kept) (pulled : Put) (reaped : List Cqe) (i 
     → HasTaken old b pulled reaped i n
 has_taken old b pulled reaped i n t p row tied once same none = grind (arith, (quiet_stays old.kept b _ p.appends refl refl))
 
--- a call that was given up stays so where no request was accepted
-given_up_stays : (w v : World) (i : Intake) → v.requests.accepted ≡ w.requests.accepted
-    → IsGivenUpAsSpent w i → IsGivenUpAsSpent v i
-given_up_stays w v i same given = grind arith
-
 -- what waits and what was pulled stay tied where the submission ring stays, and no request is accepted
 tied_stays : (a b : Kept) (pulled : Put) (i : Intake) → b.setup ≡ a.setup
     → (now b).submission ≡ (now a).submission

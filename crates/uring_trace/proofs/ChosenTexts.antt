@@ -1,10 +1,8 @@
 -- The text of whom a cancel of all chooses.
-use Rattle.std.proofs.Common.{◌≡◌, ℕ, ◌+◌, Bool, true, not, ◌&&◌, List, [], ◌∷◌, ◌++◌, Option, Some, None, refl, sym, ap, ◌∙◌, append_assoc, arith}
-use Rattle.uring_trace.proofs.Common.{Requests, Sqe, Why, addr_of, append-nil, codes, decimal, entry_of, entry_outstanding, has_ended, if◌then◌else◌, is_doomed, is_open, is_outstanding, is_running, is_target, length, nat_lt, said, spaced, targets_of, user_data_of, ◌==◌}
+use Rattle.std.proofs.Common.{◌≡◌, ℕ, ◌+◌, Bool, not, ◌&&◌, List, [], ◌∷◌, ◌++◌, Some, refl, sym, ap, ◌∙◌, append_assoc, arith}
+use Rattle.uring_trace.proofs.Common.{Requests, Sqe, Why, addr_of, append-nil, codes, decimal, entry_of, entry_outstanding, if◌then◌else◌, is_open, is_target, length, said, spaced, targets_of, user_data_of, ◌==◌}
 use Rattle.uring_entry.specs.Below.{all_below}
-use Rattle.uring_entry.specs.Why.{why_of, waiting_for, holder_of, doom_of}
-use Rattle.uring_entry.specs.declared.why.Why.TheVariants.{NeverAccepted, HasEnded, Runs, IsDoomed}
-use Rattle.uring_entry.specs.declared.why.Doom.{Doom}
+use Rattle.uring_entry.specs.Why.{why_of}
 
 -- ---- numbers after spaces
 
@@ -35,24 +33,6 @@ unfolding targets_of
 targets_all r n m text same is = is ∙ ap (λ (k : ℕ). said (all_below (is_target r n) k)) same
 
 -- ---- who is a target
-
-open_by : (accepted ended running doomed : Bool) (doom : Doom) (r : Requests) (m : ℕ) (holder : Option ℕ)
-    → accepted && not ended ≡ true
-    → is_open (if not accepted then NeverAccepted else if ended then HasEnded else if running then Runs else if doomed then IsDoomed doom else waiting_for r m holder)
-    ≡ not doomed && not running
-open_by accepted ended running doomed doom r m holder e = grind arith
-
--- an outstanding request stands open if it is neither doomed nor runs
-pub stands_open : (r : Requests) (m : ℕ) → is_outstanding r m ≡ true
-    → is_open (why_of r m) ≡ not (is_doomed r m) && not (is_running r m)
-stands_open r m e = open_by (nat_lt m (length r.accepted)) (has_ended r m) (is_running r m) (is_doomed r m) (doom_of r m) r m (holder_of r m) e
-
-told_entry : (b : Bool) (e x : Sqe) → (if b then Some e else None) ≡ Some x → (b ≡ true) × (e ≡ x)
-told_entry b e x is = grind arith
-
-bools : (a b doomed running : Bool)
-    → (a && b && (not doomed && not running)) ≡ ((true && a && b && not doomed) && not running)
-bools a b doomed running = grind arith
 
 -- a request with an entry is a target as its entry and its standing tell
 pub target_told : (r : Requests) (n m sought : ℕ) (found : Sqe) (why : Why) (is : Bool)

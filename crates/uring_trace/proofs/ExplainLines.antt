@@ -1,6 +1,6 @@
 -- What an explainer keeps, byte by byte and line by line.
 use Rattle.std.proofs.Common.{◌≡◌, ◌≢◌, ℕ, ◌+◌, ◌-◌, ◌^◌, min, Bool, true, false, List, [], ◌∷◌, ◌++◌, length, Option, Result, refl, sym, ap, subst, ◌∙◌, append_assoc, arith}
-use Rattle.uring_trace.proofs.Common.{AppendsLine, Asked, Bad, Explaining, Explains, ExplainsBeginning, ExplainsEnded, ExplainsWholeBy, Fits, History, IfOk, IsBad, IsGrantedTo, IsStep, KeptLine, Machine, Made, Remark, Saying, Step, Telling, TellsShown, TellsStep, Why, after_text, append-nil, bad_note, codes, ended, event_in, events_in, history_of, is_bad, joined, kept_of, line_number, lines_in, noted_of, option_to_list, told_of, with_event, with_last, world}
+use Rattle.uring_trace.proofs.Common.{AppendsLine, Asked, Bad, Explaining, Explains, ExplainsBeginning, ExplainsWholeBy, Fits, History, IfOk, IsBad, IsGrantedTo, IsStep, KeptLine, Machine, Made, Remark, Saying, Step, Telling, TellsShown, TellsStep, Why, after_text, append-nil, bad_note, codes, ended, event_in, events_in, history_of, is_bad, joined, kept_of, line_number, lines_in, noted_of, option_to_list, told_of, with_event, with_last, world}
 use Rattle.std.specs.List.{list_any}
 use Rattle.uring_entry.specs.Setup.{Setup}
 use Rattle.uring_core.specs.CalledFor.{IsLawful}
@@ -21,10 +21,6 @@ use Rattle.uring_trace.proofs.Sessions.{one_more, unrefused_more}
 pub if_ok_both : {T E : Type 0} (r : Result T E) (P Q R : T → Type 0) → ((x : T) → P x → Q x → R x)
     → IfOk r P → IfOk r Q → IfOk r R
 if_ok_both r P Q R f a b = grind arith
-
--- an answer and what is kept of its reason, with the end of the line
-four_parts : (i a b c : List ℕ) → i ++ a ++ b ++ c ≡ i ++ (a ++ (b ++ c))
-four_parts i a b c = simp append_assoc refl
 
 pub line_reasoned : (before one two three four : List ℕ) (answer : Answer) (why w : Option Why) (found f : Option Found) (kept : Option Reason) (chosen c : Option (List ℕ))
     → one ≡ before ++ text_of answer → two ≡ one ++ reason_text kept
@@ -188,11 +184,6 @@ pub explain_none : (telling : Telling) (m : Machine) (kept : KeptLine) (number :
     → Explaining telling m kept number bad bytes text notes → Ended telling m bad bytes text notes
 explain_none telling m kept number bad bytes text notes none h =
     ((h.sayings, lines_in h.sayings, h.line, h.explains, h.splits, sym (ap (with_last (lines_in h.sayings)) (none h.line h.keeps)), h.bad_lines), h.same, h.fits)
-
--- what an explainer holds, for the outcomes that end early
-pub explain_ended : (telling : Telling) (m : Machine) (kept : KeptLine) (number : ℕ) (bad : Bool) (bytes text notes : List ℕ)
-    → Explaining telling m kept number bad bytes text notes → ExplainsEnded telling bytes text notes
-explain_ended telling m kept number bad bytes text notes h = (h.sayings, h.line, h.explains, h.splits)
 
 pub explain_beginning : (telling : Telling) (m : Machine) (kept : KeptLine) (number : ℕ) (bad : Bool) (bytes text notes more : List ℕ)
     → Explaining telling m kept number bad bytes text notes

@@ -113,10 +113,6 @@ step_again tokens s h = one_again (name_of s) s refl tokens h
 none_some : (o : Option Step) (s : Step) → None ≡ o → Some s ≡ o → ⊥
 none_some o s r q = absurd (let no : None ≡ Some s = r ∙ sym q in cc)
 
-no_fill : (o : Option ℕ) (f : Option Form) (s : Step) → ReadsFill None o f → ReadsFill (Some s) o f
-    → ⊥
-no_fill o f s r q = grind arith
-
 no_more : (b : Bool) (o : Option ℕ) (f : Option Form) (other : Option Step) (s : Step)
     → MatchBool b (ReadsFill None o f) (None ≡ other)
     → MatchBool b (ReadsFill (Some s) o f) (Some s ≡ other) → ⊥

@@ -1,6 +1,6 @@
 -- A search through events for a write that can be folded.
-use Rattle.std.proofs.Common.{◌≡◌, ◌+◌, ◌<◌, ℕ, suc, Bool, true, false, List, [], ◌∷◌, length, get_or, take, reverse, arith}
-use Rattle.uring_volume.proofs.Common.{Event, History, IsFoldable, Write, WriteIssued, issued, list_any, list_any-append}
+use Rattle.std.proofs.Common.{◌≡◌, ◌+◌, ◌<◌, ℕ, Bool, true, false, List, [], ◌∷◌, length, get_or, take, reverse, arith}
+use Rattle.uring_volume.proofs.Common.{Event, Write, WriteIssued, issued, list_any, list_any-append}
 use Rattle.uring_volume.proofs.Steps.{at_event}
 use Rattle.uring_volume.proofs.Puts.{is_any}
 use Rattle.uring_volume.proofs.Folded.{issued_at}
@@ -18,8 +18,3 @@ pub some_issued : (p : Write → Bool) (es : List Event) (i : ℕ) (e : Event) (
     → i < length es → e ≡ get_or es i e → e ≡ WriteIssued w → p w ≡ true
     → list_any p (issued (reverse es)) ≡ true
 some_issued p es i e w within at is passed = grind (arith, is_any, issued_at)
-
--- no write of no events can be folded
-pub none_in_nothing : (h : History) (w : Write) → length h ≡ 0 → IsFoldable h w → ⊥
-none_in_nothing [] w none f = f.issued
-none_in_nothing (e ∷ earlier) w none f = let some : suc (length earlier) ≡ 0 = none in omega arith

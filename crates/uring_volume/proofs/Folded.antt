@@ -179,9 +179,6 @@ folded_one v w over sound f is = record {
 
 -- Several writes folded.
 
-pub folded_none : (v : Volume) → IsFoldedFrom v v
-folded_none v = grind arith
-
 kept_later : (later g h : History) → ((w : Write) → IsIn w (writes h) → IsIn w (writes g))
     → (w : Write) → IsIn w (writes (later ++ h)) → IsIn w (writes (later ++ g))
 kept_later [] g h f w among = f w among
@@ -247,10 +244,6 @@ issued_at (d ∷ es) (suc i) e w within at is = grind (arith, issued_first, (iss
 
 -- What a call that folds one write, or none, makes of a volume.
 
-abbrev is_true : Result Bool AllocError → Bool
-is_true (Ok b) = b
-is_true (Err e) = false
-
 filter_events_short : (p : Event → Bool) (es : List Event) → length (filter p es) ≤ length es
 filter_events_short p [] = omega arith
 filter_events_short p (e ∷ es) = grind (arith, (filter_events_short p es))
@@ -277,10 +270,6 @@ pub record IsResult (v : Volume) (r : Result Bool AllocError) (first : List ℕ)
   pub folded : r ≡ Ok true → IsOneFolded v.first first v.history h
   pub none : r ≡ Ok false → list_any (λ w. can_fold v.history w) (issued v.history) ≡ false
   pub kept : (r ≡ Ok true → ⊥) → (first ≡ v.first) × (h ≡ v.history)
-
-same_made : (v : Volume) (first : List ℕ) (h : History) → first ≡ v.first → h ≡ v.history
-    → v ≡ made_of first h v
-same_made v first h f past = ap (λ xs. made_of xs v.history v) (sym f) ∙ ap (λ g. made_of first g v) (sym past)
 
 held_by : (v : Volume) (r : Result Bool AllocError) (first : List ℕ) (h : History)
     (write_list sync_list : List ℕ) → IsHeld v write_list sync_list → IsResult v r first h

@@ -1,6 +1,6 @@
 -- What a volume's calls keep: each write has a number of its own, and the lists of what runs are those of the history.
-use Rattle.std.proofs.Common.{◌≡◌, ◌==◌, ◌<◌, ◌≤◌, ◌+◌, ℕ, Bool, true, not, ◌||◌, List, [], ◌∷◌, ◌++◌, ◌⊎◌, length, reverse, subst, ap, inl, inr, arith}
-use Rattle.uring_volume.proofs.Common.{Event, History, IsHeld, SyncEnded, SyncFailed, Volume, WriteEnded, both_ways, but, cases_Bool, cond-false, cond-true, elements_to_begin, false_from_ne_true, has_ended, is_one_of, length-reverse, list_any-append, or_left, or_right, with_event, with_sync, with_write}
+use Rattle.std.proofs.Common.{◌≡◌, ◌==◌, ◌<◌, ◌≤◌, ℕ, Bool, true, not, ◌||◌, List, [], ◌∷◌, ◌++◌, ◌⊎◌, length, subst, ap, inl, inr, arith}
+use Rattle.uring_volume.proofs.Common.{History, IsHeld, SyncEnded, SyncFailed, Volume, WriteEnded, both_ways, but, cases_Bool, cond-false, cond-true, false_from_ne_true, has_ended, is_one_of, list_any-append, or_left, or_right, with_event, with_sync, with_write}
 use Rattle.uring_volume.specs.declared.event.SyncRange.{SyncRange}
 
 pub or_either : (x y : Bool) → (x || y) ≡ true → (x ≡ true) ⊎ (y ≡ true)
@@ -112,9 +112,3 @@ pub held_sync_failure : (v : Volume) (s : ℕ) (write_list sync_list : List ℕ)
     → IsHeld v write_list sync_list
     → IsHeld (with_event (SyncFailed s) v) write_list (but s sync_list)
 held_sync_failure v s write_list sync_list held = grind arith
-
--- the elements that are asked for as a write or a sync begins, by a volume's lists
-pub room_for : (held now : Volume) (events : List Event) (write_list sync_list : List ℕ) (n : ℕ)
-    → held ≡ now → held.history ≡ reverse events → IsHeld held write_list sync_list
-    → elements_to_begin now ≤ n → length events + length write_list + length sync_list + 2 ≤ n
-room_for held now events write_list sync_list n same is h most = grind (arith, length-reverse)

@@ -1,21 +1,9 @@
 -- Bytes of a file that a write doesn't touch.
-use Rattle.std.proofs.Common.{◌≡◌, ◌<◌, ◌≤◌, ◌+◌, ◌*◌, ◌/◌, ℕ, false, List, ◌++◌, length, get_or, take, drop, ◌⊎◌, ap, ◌∙◌, arith}
-use Rattle.uring_volume.proofs.Common.{Write, add-mul, append-nil, div-eq_of_lt-le, drop_all, is_under, mul_comm, one-mul, take_all}
+use Rattle.std.proofs.Common.{◌≡◌, ◌<◌, ◌≤◌, ◌+◌, ◌*◌, ◌/◌, ℕ, List, ◌++◌, length, take, drop, ◌⊎◌, ap, ◌∙◌, arith}
+use Rattle.uring_volume.proofs.Common.{add-mul, append-nil, div-eq_of_lt-le, drop_all, mul_comm, one-mul, take_all}
 
 pub below_or_from : (k n : ℕ) → (k < n) ⊎ (n ≤ k)
 below_or_from k n = grind arith
-
--- past the end of a write, from its first byte on
-pub past : (w : Write) (k : ℕ) → w.off ≤ k → is_under w k ≡ false → w.off + length w.bytes ≤ k
-past w k from out = grind arith
-
--- bytes that are the same before one place and from another on
-pub unchanged : (now old : List ℕ) (start reached k : ℕ)
-    → ((j : ℕ) → j < start → get_or now j 0 ≡ get_or old j 0)
-    → ((j : ℕ) → reached ≤ j → get_or now j 0 ≡ get_or old j 0)
-    → (start ≤ k → reached ≤ k)
-    → get_or now k 0 ≡ get_or old k 0
-unchanged now old start reached k below rest outside = grind arith
 
 -- a byte of unit i
 pub in_unit : (u i k : ℕ) → u * i ≤ k → k < u * i + u → k / u ≡ i

@@ -1,6 +1,6 @@
 -- What holds of a result, by how the call ended.
 use Rattle.std.proofs.Common.{◌≡◌, true, false, refl}
-use Rattle.uring_volume.proofs.Common.{Err, IfOk, IsOk, Ok, OnOk, Result, both_ways}
+use Rattle.uring_volume.proofs.Common.{Err, IfOk, Ok, OnOk, Result, both_ways}
 use Rattle.std.specs.Result.{is_err}
 
 -- what holds if the call succeeded, when it did
@@ -13,8 +13,3 @@ pub on_value : {T E : Type 0} (r : Result T E) (P Q : T → Type 0) → ((x : T)
     → IfOk r P → IfOk r Q
 on_value (Ok x) P Q follows holds = follows x holds
 on_value (Err e) P Q follows holds = tt
-
--- a call that failed didn't succeed
-pub not_ok : {T E : Type 0} (r : Result T E) → is_err r ≡ true → IsOk r → ⊥
-not_ok (Ok x) failed ok = both_ways false refl failed
-not_ok (Err e) failed ok = both_ways false refl ok

@@ -1,6 +1,6 @@
 -- A search through a list, and loops over lists of references.
-use Rattle.std.proofs.Common.{◌≡◌, ◌+◌, ◌-◌, ◌*◌, ◌<◌, ◌≤◌, ℕ, zero, suc, min, max, Bool, true, false, ◌&&◌, cond, List, [], ◌∷◌, ◌++◌, length, map, get_or, take, drop, replicate, refl, sym, ap, ◌∙◌, inl, inr, arith}
-use Rattle.uring_volume.proofs.Common.{History, append_assoc, joined, OnOk, Result, Write, byte_over, bytes_from, bytes_over, cases_Bool, cond-false, drop_all, drop_more, end_of, ext_get_or, filter, fronts, get_or-drop, get_or-take, get_or_past, length-append, length-drop, length-replicate, length-take, length_over, list_any, list_any-append, map-append, mul-le-mul_left, or_from, or_left, pointwise, put_by, take_more, unit_contents}
+use Rattle.std.proofs.Common.{◌≡◌, ◌+◌, ◌-◌, ◌*◌, ◌<◌, ◌≤◌, ℕ, zero, suc, min, max, Bool, true, false, cond, List, [], ◌∷◌, ◌++◌, length, map, get_or, take, drop, replicate, refl, sym, ap, ◌∙◌, inl, inr, arith}
+use Rattle.uring_volume.proofs.Common.{History, append_assoc, joined, OnOk, Result, Write, byte_over, bytes_from, bytes_over, cases_Bool, cond-false, drop_all, drop_more, end_of, ext_get_or, filter, fronts, get_or-drop, get_or-take, get_or_past, length-append, length-drop, length-replicate, length-take, length_over, list_any, list_any-append, map-append, mul-le-mul_left, or_from, or_left, put_by, take_more, unit_contents}
 use Rattle.uring_volume.proofs.Painting.{below_or_from}
 use Rattle.uring_volume.proofs.Leaving.{padded}
 use Rattle.uring_volume.proofs.Files.{length_bytes_over, bytes_over_at, length_bytes_from, bytes_from_at, length_joined}
@@ -33,20 +33,6 @@ pub painted : (k : ℕ) (now old : List ℕ) (w : Write) → length now ≡ leng
 painted k now old w same done =
     ext_get_or 0 now (bytes_over k old w) (same ∙ sym (length_bytes_over k old w))
     (λ j within. done j (omega arith) ∙ sym (bytes_over_at k old w j (omega arith)))
-
--- two lists of references, from index i on
-pub pairs_from : {X Y : Type 0} (f : X → Y) (same : Y → Y → Bool) (xs ys : List X) (i : ℕ) (x y : X)
-    → i < length xs → length xs ≡ length ys → x ≡ get_or xs i x → y ≡ get_or ys i y
-    → pointwise same (map f (drop i xs)) (map f (drop i ys))
-    ≡ (same (f x) (f y) && pointwise same (map f (drop (i + 1) xs)) (map f (drop (i + 1) ys)))
-pairs_from f same xs ys i x y within long at_x at_y =
-    ap (λ zs. pointwise same (map f zs) (map f (drop i ys))) (drop_more xs i x within ∙ ap (λ z. z ∷ drop (i + 1) xs) (sym at_x))
-    ∙ ap (λ zs. pointwise same (map f (x ∷ drop (i + 1) xs)) (map f zs)) (drop_more ys i y (omega arith) ∙ ap (λ z. z ∷ drop (i + 1) ys) (sym at_y))
-
-pub pairs_end : {X Y : Type 0} (f : X → Y) (same : Y → Y → Bool) (xs ys : List X) (i : ℕ)
-    → length xs ≤ i → length xs ≡ length ys
-    → pointwise same (map f (drop i xs)) (map f (drop i ys)) ≡ true
-pairs_end f same xs ys i past long = grind (arith, drop_all)
 
 pub put_new : {X Y : Type 0} (f : X → Y) (same : Y → Y → Bool) (old new : List X) (x : X) (y : Y)
     → f x ≡ y → list_any (λ z. same z y) (map f old) ≡ false → new ≡ old ++ x ∷ []

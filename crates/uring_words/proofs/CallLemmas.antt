@@ -78,10 +78,6 @@ pub holds_close : (xs : List Position) → AreWhole xs → has_close_mark xs ≡
     → Holding (xs ++ position.Close ∷ []) (with_close (put_of xs))
 holds_close xs whole none = grind (arith, calls_append, append-nil, close_mark_append, whole_both)
 
-items_with_first : (x : Item) (calls : List (List Item))
-    → items_of_calls (with_first x calls) ≡ x ∷ items_of_calls calls
-items_with_first x calls = grind arith
-
 -- the items that positions hold are those of their calls
 items_calls_of : (b : Bool) (ps : List Position) → AreWholeFrom b ps
     → items_of ps ≡ items_of_calls (calls_of ps)

@@ -62,9 +62,6 @@ module _ {S : Type 0} (start size : ℕ) (power : IsPowerOfTwo size) (fits : siz
     abbrev back : List (ℕ × S)
     back = held_from start size count done
 
-    given : List (Option S)
-    given = with_given (with_given homes front) back
-
     pub give_valid : length done + length kept ≤ size → Valid homes (front ++ back) (changes (front ++ back) front)
     give_valid few = grind (arith, given_stand, stands_given, gives_all-valid, takes_all, taken_valid, given_both)
 

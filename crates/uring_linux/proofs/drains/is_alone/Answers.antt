@@ -1,5 +1,5 @@
 use Rattle.std.proofs.Common.{not, ◌&&◌, length, sym, ◌∙◌, ap, arith}
-use Rattle.uring_linux.proofs.Common.{and_from, and_left, has_ended, is_alone, is_in_some, some_below_none, some_below_some}
+use Rattle.uring_linux.proofs.Common.{and_from, has_ended, is_alone, is_in_some, some_below_none, some_below_some}
 use Rattle.uring_linux.proofs.drains.is_alone.Goals as goal
 
 pub returns-then-not-is_in_some : goal.returns-then-not-is_in_some

@@ -4,7 +4,7 @@ use Rattle.std.specs.Fmt.{decimal}
 use Rattle.std.proofs.lemmas.Result.{on_ok_weaker}
 use Rattle.uring_text.specs.Flaws.{found_text}
 use Rattle.uring_text.specs.Places.{place_text}
-use Rattle.uring_text.proofs.Common.{codes, column_after, drop-map, stop_text, string_bytes}
+use Rattle.uring_text.proofs.Common.{codes, drop-map, stop_text, string_bytes}
 use Rattle.uring_text.proofs.Cutting.{words}
 use Rattle.uring_text.proofs.flaw.push_flaw_in.Goals as goal
 

@@ -1,4 +1,4 @@
-use Rattle.std.proofs.Common.{◌++◌, ◌∷◌, [], ℕ, List, ap, ap₂, refl, arith, ◌∙◌}
+use Rattle.std.proofs.Common.{◌++◌, ℕ, List, ap, ap₂, refl, arith, ◌∙◌}
 use Rattle.uring_text.proofs.Common.{string_bytes}
 use Rattle.uring_text.proofs.Hexadecimal.{hex_more, hex_all}
 use Rattle.uring_text.proofs.growth.push_hex.Goals as goal

@@ -1,5 +1,4 @@
 use Rattle.std.proofs.Common.{◌+◌, ◌*◌, inl, inr, arith}
-use Rattle.uring_volume.proofs.Common.{false≢true}
 use Rattle.uring_volume.proofs.Painting.{below_or_from, in_unit}
 use Rattle.uring_volume.proofs.crash.leave_unit.Goals as goal
 

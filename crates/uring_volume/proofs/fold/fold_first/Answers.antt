@@ -1,6 +1,6 @@
 use Rattle.std.proofs.Common.{rules, ◌≡◌, true, not, reverse, subst, ap, ◌∙◌}
 use Rattle.std.proofs.lemmas.Fn.{filter_same}
-use Rattle.uring_volume.proofs.Common.{IsIn, can_fold, is_of_write, issued, without_write, false≢true}
+use Rattle.uring_volume.proofs.Common.{IsIn, can_fold, is_of_write, issued, without_write}
 use Rattle.uring_volume.proofs.Folded.{reverse_filter}
 use Rattle.uring_volume.proofs.fold.fold_first.Goals as goal
 

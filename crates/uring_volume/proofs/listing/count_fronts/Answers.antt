@@ -1,5 +1,5 @@
-use Rattle.std.proofs.Common.{rules, ◌≡◌, ◌-◌, ◌^◌, min, length, map, reverse, sym, ap, ◌∙◌, arith}
-use Rattle.uring_volume.proofs.Common.{fronts, length-map, false≢true}
+use Rattle.std.proofs.Common.{rules, ◌≡◌, ◌-◌, ◌^◌, length, map, reverse, sym, ◌∙◌}
+use Rattle.uring_volume.proofs.Common.{length-map}
 use Rattle.uring_volume.proofs.Seeking.{count_more}
 use Rattle.uring_volume.proofs.listing.count_fronts.Goals as goal
 

@@ -1,4 +1,4 @@
-use Rattle.std.proofs.Common.{List, ℕ, map, sym, ap, ◌∙◌}
+use Rattle.std.proofs.Common.{map, sym, ap, ◌∙◌}
 use Rattle.uring_volume.proofs.Common.{cond-true, list_any, nat_eq, pointwise, take_all, false≢true}
 use Rattle.uring_volume.proofs.Seeking.{none_more, one_is, put_new, on_ok}
 use Rattle.uring_volume.proofs.ways.put_bytes.Goals as goal

@@ -1,5 +1,5 @@
-use Rattle.std.proofs.Common.{◌&&◌, leb, sym, ◌∙◌, arith, below_more}
-use Rattle.uring_linux.proofs.Common.{and_from, and_left, and_right, first_member, le-leb, least_below_none, least_below_some, lt-leb, said}
+use Rattle.std.proofs.Common.{◌&&◌, leb, sym, ◌∙◌, arith}
+use Rattle.uring_linux.proofs.Common.{and_from, first_member, le-leb, least_below_none, least_below_some, said}
 use Rattle.uring_linux.proofs.window.Window.first_with.Goals as goal
 
 pub returns-then-passes-clause-first : goal.returns-then-passes-clause-first

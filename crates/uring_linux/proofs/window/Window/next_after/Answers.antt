@@ -1,5 +1,5 @@
 use Rattle.std.proofs.Common.{sym, ◌∙◌, arith}
-use Rattle.uring_linux.proofs.PassedOver.{ended_passed, after_passed}
+use Rattle.uring_linux.proofs.PassedOver.{after_passed}
 use Rattle.uring_linux.proofs.window.Window.next_after.Goals as goal
 
 pub returns-clause-skipped : goal.returns-clause-skipped

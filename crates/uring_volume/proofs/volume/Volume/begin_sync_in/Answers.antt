@@ -1,7 +1,7 @@
-use Rattle.std.proofs.Common.{◌≤◌, ◌+◌, length, ◌∷◌, ◌++◌, [], sym, ap, ◌∙◌, refl, reverse, arith}
-use Rattle.uring_volume.proofs.Common.{SyncIssued, Volume, with_sync}
-use Rattle.uring_volume.proofs.Numbers.{carried, held_sync, room_for}
-use Rattle.uring_volume.proofs.Results.{not_err, not_ok}
+use Rattle.std.proofs.Common.{◌∷◌, ◌++◌, [], sym, ap, ◌∙◌, refl, reverse, arith}
+use Rattle.uring_volume.proofs.Common.{SyncIssued, with_sync}
+use Rattle.uring_volume.proofs.Numbers.{carried, held_sync}
+use Rattle.uring_volume.proofs.Results.{not_err}
 use Rattle.uring_volume.proofs.Steps.{pushed}
 use Rattle.uring_volume.proofs.volume.Volume.begin_sync_in.Goals as goal
 

@@ -1,7 +1,7 @@
-use Rattle.std.proofs.Common.{◌≤◌, ◌+◌, length, ◌∷◌, ◌++◌, [], sym, ap, ◌∙◌, refl, reverse, arith}
-use Rattle.uring_volume.proofs.Common.{Volume, WriteIssued, with_write}
-use Rattle.uring_volume.proofs.Numbers.{carried, held_write, room_for}
-use Rattle.uring_volume.proofs.Results.{not_err, not_ok}
+use Rattle.std.proofs.Common.{◌∷◌, ◌++◌, [], sym, ap, ◌∙◌, refl, reverse, arith}
+use Rattle.uring_volume.proofs.Common.{WriteIssued, with_write}
+use Rattle.uring_volume.proofs.Numbers.{carried, held_write}
+use Rattle.uring_volume.proofs.Results.{not_err}
 use Rattle.uring_volume.proofs.Steps.{pushed}
 use Rattle.uring_volume.proofs.volume.Volume.begin_write_in.Goals as goal
 

@@ -1,7 +1,6 @@
-use Rattle.std.proofs.Common.{◌≡◌, length, subst, ap, sym, ◌∙◌, arith}
-use Rattle.uring_volume.proofs.Common.{IsSound, Ok, Volume, length-reverse}
-use Rattle.uring_volume.proofs.Folded.{folded_none, folded_more}
-use Rattle.uring_volume.proofs.FoldSearch.{none_in_nothing}
+use Rattle.std.proofs.Common.{subst, ap, ◌∙◌, arith}
+use Rattle.uring_volume.proofs.Common.{IsSound, Ok}
+use Rattle.uring_volume.proofs.Folded.{folded_more}
 use Rattle.uring_volume.proofs.volume.Volume.fold_in.Goals as goal
 
 pub returns-in_err-fold_one-clause-folded : goal.returns-in_err-fold_one-clause-folded

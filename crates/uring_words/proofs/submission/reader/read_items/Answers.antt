@@ -1,4 +1,4 @@
-use Rattle.std.proofs.Common.{◌≡◌, ◌+◌, ◌<◌, [], ◌∷◌, ◌++◌, List, length, take, arith, sym, ap, ◌∙◌, append_assoc, append-nil, ⊎_elim}
+use Rattle.std.proofs.Common.{◌≡◌, ◌<◌, [], ◌∷◌, ◌++◌, List, length, take, arith, sym, ap, ◌∙◌, append_assoc, append-nil, ⊎_elim}
 use Rattle.uring_words.proofs.Common.{Item, items_of, known_of}
 use Rattle.uring_words.proofs.Copying.{next_stands_first, one_read, read_items_more}
 use Rattle.uring_words.proofs.submission.reader.read_items.Goals.{in-Close, in-More2}
