@@ -1,116 +1,46 @@
 -- What a follower keeps, byte by byte and line by line.
-use Rattle.std.proofs.Common.{◌≡◌, ◌≢◌, ◌⊎◌, inl, inr, ℕ, ℤ, zero, suc, ◌+◌, ◌<◌, Bool, true, false, not, ◌||◌, List, [], ◌∷◌, ◌++◌, length, Some, None, refl, sym, ap, subst, ◌∙◌, append_assoc, arith}
+use Rattle.std.proofs.Common.{◌≡◌, ◌≢◌, ◌⊎◌, ℕ, ℤ, ◌+◌, ◌<◌, Bool, true, false, ◌||◌, List, [], ◌∷◌, ◌++◌, Some, refl, ap, subst, ◌∙◌, append_assoc, arith}
 use Rattle.uring_crash.proofs.Common.{Exchange, Followed, Following, History, ReadsLine, Setup, TookLines, Watch, Watches, append-nil, events_of, history_of, is_bad, lines_of}
 use Rattle.uring_core.specs.declared.answer.Answer.{Answer}
 use Rattle.uring_core.specs.declared.step.Step.{Step}
-use Rattle.uring_text.specs.Lines.{Splits}
 use Rattle.uring_text.specs.KeptLine.{KeptLine, kept_of}
 use Rattle.uring_text.specs.Remarks.{is_remark}
-use Rattle.uring_text.proofs.Splits.{split_more, split_end, last_some}
+use Rattle.uring_text.proofs.Splits.{split_more, split_end}
 use Rattle.uring_trace.specs.Spelling.{IsStep, IsBad}
 use Rattle.uring_trace.proofs.Sessions.{one_more}
 use Rattle.uring_crash.specs.FirstLines.{AreFirstLines}
 
 -- before the first byte
 none_taken : (most : ℕ) → TookLines most most [] [] []
-none_taken most = record {
-  taken = [];
-  passed = [];
-  all = refl;
-  splits = record { whole = refl; each = tt; unbroken = tt };
-  count = omega arith;
-  over = λ none. refl;
-  enough = inl refl;
-}
+none_taken most = grind arith
 
 -- while lines may come, nothing is passed over
 nothing_passed : (left : ℕ) (bytes taken passed : List ℕ) → 0 < left → bytes ≡ taken ++ passed
     → (passed ≡ []) ⊎ (left ≡ 0) → bytes ≡ taken
-nothing_passed left bytes taken passed more all (inl none) =
-    all ∙ ap (λ (l : List ℕ). taken ++ l) none ∙ append-nil taken
-nothing_passed left bytes taken passed more all (inr none) = absurd (omega (arith, more, none))
+nothing_passed left bytes taken passed more all h = grind (arith, append-nil)
 
 -- a byte more after the last line
 byte_passed : (most left : ℕ) (bytes : List ℕ) (lines : List (List ℕ)) (rest : List ℕ) (b : ℕ) → left ≡ 0
     → TookLines most left bytes lines rest → TookLines most left (bytes ++ b ∷ []) lines rest
-byte_passed most left bytes lines rest b none t = record {
-  taken = t.taken;
-  passed = t.passed ++ b ∷ [];
-  all = ap (λ (l : List ℕ). l ++ b ∷ []) t.all ∙ append_assoc t.taken t.passed (b ∷ []);
-  splits = t.splits;
-  count = t.count;
-  over = t.over;
-  enough = inr none;
-}
+byte_passed most left bytes lines rest b none t = grind (arith, append_assoc)
 
 -- a byte more of a line
 byte_taken : (most left : ℕ) (bytes : List ℕ) (lines : List (List ℕ)) (rest : List ℕ) (b : ℕ) → b ≢ 10 → 0 < left
     → TookLines most left bytes lines rest
     → TookLines most left (bytes ++ b ∷ []) lines (rest ++ b ∷ [])
-byte_taken most left bytes lines rest b ne more t = record {
-  taken = t.taken ++ b ∷ [];
-  passed = [];
-  all = ap (λ (l : List ℕ). l ++ b ∷ []) (nothing_passed left bytes t.taken t.passed more t.all t.enough) ∙ sym (append-nil (t.taken ++ b ∷ []));
-  splits = split_more t.taken lines rest b ne t.splits;
-  count = t.count;
-  over = λ none. absurd (omega (arith, more, none));
-  enough = inl refl;
-}
+byte_taken most left bytes lines rest b ne more t =
+    grind (arith, (nothing_passed left bytes t.taken t.passed more t.all t.enough), (append-nil (t.taken ++ b ∷ [])), (split_more t.taken lines rest b ne t.splits))
 
 -- the end of a line
 end_taken : (most left left' : ℕ) (bytes : List ℕ) (lines : List (List ℕ)) (rest : List ℕ) → left ≡ left' + 1
     → TookLines most left bytes lines rest
     → TookLines most left' (bytes ++ 10 ∷ []) (rest ∷ lines) []
-end_taken most left left' bytes lines rest one t =
-    let more : 0 < left = omega (arith, one) in
-    record {
-      taken = t.taken ++ 10 ∷ [];
-      passed = [];
-      all = ap (λ (l : List ℕ). l ++ 10 ∷ []) (nothing_passed left bytes t.taken t.passed more t.all t.enough) ∙ sym (append-nil (t.taken ++ 10 ∷ []));
-      splits = split_end t.taken lines rest t.splits;
-      count = omega (arith, one, t.count);
-      over = λ none. refl;
-      enough = inl refl;
-    }
-
--- all that was passed over stands after so many lines
-enough_of : (most left : ℕ) (passed last : List ℕ) (lines : List (List ℕ)) → last ≡ []
-    → length lines + left ≡ most → (passed ≡ []) ⊎ (left ≡ 0)
-    → (passed ≡ []) ⊎ ((length lines ≡ most) × (last ≡ []))
-enough_of most left passed last lines ends count (inl none) = inl none
-enough_of most left passed last lines ends count (inr none) =
-    inr (omega (arith, count, none), ends)
-
--- the lines are all, if the last one has its end
-first_ended : (most left : ℕ) (bytes : List ℕ) (lines : List (List ℕ)) (rest : List ℕ) → rest ≡ []
-    → TookLines most left bytes lines rest → AreFirstLines most bytes lines
-first_ended most left bytes lines rest none t = record {
-  taken = t.taken;
-  passed = t.passed;
-  all = t.all;
-  ended = lines;
-  last = [];
-  splits = subst (λ (l : List ℕ). Splits t.taken lines l) none t.splits;
-  are = refl;
-  few = omega (arith, t.count);
-  enough = enough_of most left t.passed [] lines refl t.count t.enough;
-}
+end_taken most left left' bytes lines rest one t = grind (arith, nothing_passed, append-nil, split_end)
 
 -- and if it has begun, it is one more
 first_begun : (most left : ℕ) (bytes : List ℕ) (lines : List (List ℕ)) (rest : List ℕ) → rest ≢ []
     → TookLines most left bytes lines rest → AreFirstLines most bytes (rest ∷ lines)
-first_begun most zero bytes lines rest some t = absurd (some (t.over refl))
-first_begun most (suc left) bytes lines rest some t = record {
-  taken = t.taken;
-  passed = [];
-  all = nothing_passed (suc left) bytes t.taken t.passed (omega arith) t.all t.enough ∙ sym (append-nil t.taken);
-  ended = lines;
-  last = rest;
-  splits = t.splits;
-  are = sym (last_some lines rest some);
-  few = omega (arith, t.count);
-  enough = inl refl;
-}
+first_begun most left bytes lines rest some t = grind arith
 
 -- What becomes of a line: a step, a remark, or a bad one.
 
@@ -122,21 +52,11 @@ line_made old new bad line s answer is made =
 
 pub line_remarked : (watch : Watch) (bad : Bool) (line : List ℕ) → IsBad line → is_remark line ≡ true
     → ReadsLine watch watch bad bad line
-line_remarked watch bad line none is = record {
-  event = None;
-  read = none;
-  now_bad = ap (λ (r : Bool). not r || bad) (sym is);
-  watches = λ unit setup fd h w. w;
-}
+line_remarked watch bad line none is = grind arith
 
 pub line_bad : (watch : Watch) (was_bad : Bool) (line : List ℕ) → IsBad line → is_remark line ≡ false
     → ReadsLine watch watch was_bad true line
-line_bad watch was_bad line none is = record {
-  event = None;
-  read = none;
-  now_bad = ap (λ (r : Bool). not r || was_bad) (sym is);
-  watches = λ unit setup fd h w. w;
-}
+line_bad watch was_bad line none is = grind arith
 
 -- nothing yet
 pub follows_none : (unit : ℕ) (setup : Setup) (fd : ℤ) (most : ℕ) (watch : Watch) (kept : KeptLine)
@@ -156,30 +76,14 @@ follows_none unit setup fd most watch kept keeps watches = record {
 pub follows_passed : (unit : ℕ) (setup : Setup) (fd : ℤ) (most : ℕ) (watch : Watch) (kept : KeptLine) (left : ℕ) (bad : Bool) (before : List ℕ) (b : ℕ)
     → left ≡ 0 → Following unit setup fd most watch kept left bad before
     → Following unit setup fd most watch kept left bad (before ++ b ∷ [])
-follows_passed unit setup fd most watch kept left bad before b none f = record {
-  exchanges = f.exchanges;
-  rest = f.rest;
-  took = byte_passed most left before (lines_of f.exchanges) f.rest b none f.took;
-  keeps = f.keeps;
-  each = f.each;
-  bad_lines = f.bad_lines;
-  watches = f.watches;
-}
+follows_passed unit setup fd most watch kept left bad before b none f = grind (arith, byte_passed)
 
 -- a byte of a line
 pub follows_byte : (unit : ℕ) (setup : Setup) (fd : ℤ) (most : ℕ) (watch : Watch) (kept kept' : KeptLine) (left : ℕ) (bad : Bool) (before : List ℕ) (b : ℕ)
     → b ≢ 10 → 0 < left → ((line : List ℕ) → kept ≡ kept_of line → kept' ≡ kept_of (line ++ b ∷ []))
     → Following unit setup fd most watch kept left bad before
     → Following unit setup fd most watch kept' left bad (before ++ b ∷ [])
-follows_byte unit setup fd most watch kept kept' left bad before b ne more keeps f = record {
-  exchanges = f.exchanges;
-  rest = f.rest ++ b ∷ [];
-  took = byte_taken most left before (lines_of f.exchanges) f.rest b ne more f.took;
-  keeps = keeps f.rest f.keeps;
-  each = f.each;
-  bad_lines = f.bad_lines;
-  watches = f.watches;
-}
+follows_byte unit setup fd most watch kept kept' left bad before b ne more keeps f = grind (arith, byte_taken)
 
 -- one exchange more
 watched_more : (unit : ℕ) (setup : Setup) (fd : ℤ) (old new : Watch) (was_bad bad : Bool) (line : List ℕ) (xs : List Exchange)
@@ -211,13 +115,7 @@ pub followed_none : (unit : ℕ) (setup : Setup) (fd : ℤ) (most : ℕ) (watch 
     → ((line : List ℕ) → kept ≡ kept_of line → line ≡ [])
     → Following unit setup fd most watch kept left bad bytes
     → Followed unit setup fd most watch bad bytes
-followed_none unit setup fd most watch kept left bad bytes none f = record {
-  exchanges = f.exchanges;
-  first = first_ended most left bytes (lines_of f.exchanges) f.rest (none f.rest f.keeps) f.took;
-  each = f.each;
-  bad_lines = f.bad_lines;
-  watches = f.watches;
-}
+followed_none unit setup fd most watch kept left bad bytes none f = grind arith
 
 -- and in a line
 pub followed_last : (unit : ℕ) (setup : Setup) (fd : ℤ) (most : ℕ) (watch watch' : Watch) (kept : KeptLine) (left : ℕ) (was_bad bad : Bool) (bytes : List ℕ)

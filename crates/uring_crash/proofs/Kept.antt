@@ -1,7 +1,7 @@
 -- What each image has.
-use Rattle.std.proofs.Common.{◌≡◌, ◌==◌, ◌<◌, ◌≤◌, ◌+◌, ◌-◌, ◌/◌, ◌⊎◌, inl, inr, ℕ, true, false, cond, List, [], ◌∷◌, length, refl, sym, subst, ap, ◌∙◌, arith}
+use Rattle.std.proofs.Common.{◌≡◌, ◌==◌, ◌<◌, ◌≤◌, ◌+◌, ◌-◌, ◌/◌, ◌⊎◌, inl, inr, ℕ, true, false, cond, List, [], ◌∷◌, length, refl, sym, ◌∙◌, arith}
 use Rattle.uring_crash.proofs.Common.{Holds, IsImage, IsIn, IsInOrder, UnitIsLeft, byte_over, end_of, is_on, is_safe_over, is_safe_up_to, is_under, issued, keeps_byte, lies_over, list_any, may_show_other, slice_index}
-use Rattle.std.proofs.lemmas.Bool.{cases_Bool, both_ways, cond-true, cond-false, and_parts, and_from, or_cases, not_from_false, not-true, eqb-true, eq-eqb, leb-true}
+use Rattle.std.proofs.lemmas.Bool.{cases_Bool, both_ways, cond-true, cond-false, and_parts, and_from, or_cases, not_from_false, not-true, eqb-true, leb-true}
 use Rattle.uring_volume.specs.Writes.{Write}
 use Rattle.uring_volume.specs.Events.{History, writes, is_before, is_safe}
 use Rattle.uring_volume.proofs.Chosen.{in_issued, of_issued}
@@ -30,26 +30,17 @@ byte_of w k = slice_index w.bytes (k - w.off)
 -- of those over a byte the head is the one, or it is a later one
 later_over : (k : ℕ) (w : Write) (later : List Write) → is_under w k ≡ false → Over k (w ∷ later)
     → Over k later
-later_over k w later none o = elim o.is_in [
-  | inl same ↦ absurd (both_ways (is_under w k) none (subst (λ (x : Write). is_under x k ≡ true) same o.under))
-  | inr more ↦ record { write = o.write; is_in = more; under = o.under }
-]
+later_over k w later none o = grind arith
 
 hidden_later : (h : History) (k : ℕ) (w : Write) (later : List Write) → Hides h k w.number (w ∷ later)
     → Over k later
-hidden_later h k w later o = elim o.is_in [
-  | inl same ↦ absurd (o.differs (ap (λ (x : Write). x.number) same))
-  | inr more ↦ record { write = o.write; is_in = more; under = o.under }
-]
+hidden_later h k w later o = grind arith
 
 -- what hides a later write isn't the head, which none that comes later is before
 still_hidden : (h : History) (k : ℕ) (w x : Write) (later : List Write)
     → ((m : Write) → IsIn m later → is_before h m.number w.number ≡ false)
     → IsIn x later → Hides h k x.number (w ∷ later) → Hides h k x.number later
-still_hidden h k w x later order among o = elim o.is_in [
-  | inl same ↦ absurd (both_ways (is_before h x.number w.number) (order x among) (subst (λ (y : Write). is_before h x.number y.number ≡ true) same o.before))
-  | inr more ↦ record { write = o.write; is_in = more; under = o.under; differs = o.differs; before = o.before }
-]
+still_hidden h k w x later order among o = grind arith
 
 either_later : (h : History) (k v : ℕ) (w x : Write) (later : List Write)
     → ((m : Write) → IsIn m later → is_before h m.number w.number ≡ false)
@@ -90,30 +81,12 @@ shows h k v byte (w ∷ later) o first each =
 some_over : (h : History) (u k : ℕ) (order : List Write) → 0 < u
     → ((w : Write) → IsIn w (writes h) → is_on u (k / u) w ≡ true → is_safe h w ≡ true → IsIn w order)
     → list_any (is_safe_over h k) (issued h) ≡ true → Over k order
-some_over h u k order positive safe is =
-    let found = any_is (is_safe_over h k) (issued h) is in
-    let parts = and_parts _ _ found.2 in
-    record {
-      write = found.0;
-      is_in = safe found.0 (of_issued h found.0 found.1) (on_from u found.0 k positive parts.0) parts.1;
-      under = parts.0;
-    }
+some_over h u k order positive safe is = grind (arith, any_is, of_issued)
 
 some_hides : (h : History) (u k n : ℕ) (order : List Write) → 0 < u
     → ((w : Write) → IsIn w (writes h) → is_on u (k / u) w ≡ true → is_safe h w ≡ true → IsIn w order)
     → list_any (lies_over h k n) (issued h) ≡ true → Hides h k n order
-some_hides h u k n order positive safe is =
-    let found = any_is (lies_over h k n) (issued h) is in
-    let parts = and_parts _ _ found.2 in
-    let others = and_parts _ _ parts.1 in
-    let last = and_parts _ _ others.1 in
-    record {
-      write = found.0;
-      is_in = safe found.0 (of_issued h found.0 found.1) (on_from u found.0 k positive parts.0) last.1;
-      under = parts.0;
-      differs = λ same. both_ways (found.0.number == n) (not-true (found.0.number == n) others.0) (eq-eqb found.0.number n same);
-      before = last.0;
-    }
+some_hides h u k n order positive safe is = grind (arith, any_is, of_issued, on_from)
 
 shown_or_hidden : (h : History) (u k v : ℕ) (order : List Write) (w : Write) → 0 < u
     → ((w : Write) → IsIn w (writes h) → is_on u (k / u) w ≡ true → is_safe h w ≡ true → IsIn w order)

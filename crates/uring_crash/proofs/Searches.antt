@@ -25,5 +25,4 @@ at_in f (x ∷ xs) (suc i) d within = inr (at_in f xs i d (omega (arith, within)
 -- what stands at i is in the list
 pub is_among : {X Y : Type 0} (f : X → Y) (xs : List X) (i : ℕ) (x : X) → i < length xs
     → x ≡ get_or xs i x → IsIn (f x) (map f xs)
-is_among f xs i x within at =
-    subst (λ z. IsIn (f z) (map f xs)) (sym at) (at_in f xs i x within)
+is_among f xs i x within at = grind (arith, (at_in f xs i x within))

@@ -75,12 +75,6 @@ step_told place after given s m new a words full put is told made = grind arith
 
 -- ---- a file is asked for
 
-is_none : {T : Type 0} (o : Option T) → is_some o ≡ false → o ≡ None
-is_none o other = grind arith
-
-copied_some : {T : Type 0} (o : Option (Bor T)) → is_some (option_copied o) ≡ is_some o
-copied_some o = grind arith
-
 -- what is said of the machine that was taken out
 pub lost_as : (m seen : CrashMachine) (is_lost told : Bool) → seen ≡ m → is_lost ≡ seen.is_lost → is_lost ≡ told → m.is_lost ≡ told
 lost_as m seen is_lost told same is so = sym (ap (λ (v : CrashMachine). v.is_lost) same) ∙ sym is ∙ so

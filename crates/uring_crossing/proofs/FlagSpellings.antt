@@ -5,10 +5,6 @@ use Rattle.std.specs.List.{AllByRecursion, filter}
 use Rattle.uring_text.specs.Tokens.{flag_value, NoneAgain, AreFlags}
 use Rattle.uring_crossing.specs.Traces.FlagLetters.{has_flag, letters_of, flags_text}
 
--- a letter that passes stands before the others that do
-filter_one : (p : ℕ → Bool) (x : ℕ) (xs : List ℕ) → filter p (x ∷ xs) ≡ named_if (p x) (x ∷ []) ++ filter p xs
-filter_one p x xs = grind arith
-
 -- what is appended in five parts
 pub five_parts : (old a b c d new u v w x y : List ℕ) → a ≡ old ++ u → b ≡ a ++ v → c ≡ b ++ w → d ≡ c ++ x
     → new ≡ d ++ y → new ≡ old ++ (u ++ (v ++ (w ++ (x ++ y))))

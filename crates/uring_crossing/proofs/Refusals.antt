@@ -1,5 +1,5 @@
 -- Which words tell that memory was refused.
-use Rattle.std.proofs.Common.{◌≡◌, ℕ, ◌≤◌, Bool, List, length, Option, Some, None, Result, Ok, Err, if◌then◌else◌, sym, ap, subst, arith}
+use Rattle.std.proofs.Common.{◌≡◌, ℕ, ◌≤◌, List, length, Option, Some, None, Result, Ok, Err, sym, ap, subst, arith}
 use Rattle.uring_crossing.proofs.Common.{Core, CrashMachine, Epoch, FitsApart, FitsRun, History, IfSome, IsErrOf, IsSomeAnd, Setup, Sqe, Step, SubmittedApart, TellsUnrefusedOn, elements_for, elements_for_call, submit_told, world}
 use Rattle.uring_entry.specs.Submission.{Call}
 use Rattle.uring_core.specs.World.{World}
@@ -48,11 +48,6 @@ pub crash_unrefused : (grants : ℕ → Type 0) (place now : Option CrashMachine
     → IsSomeAnd now (λ m. ((n : ℕ) → grants n) → (e : Epoch) (earlier : List Epoch) → FitsRun m e earlier → IsUnrefusedOn m.files (world m.core.setup e.history) s a)
     → ((n : ℕ) → grants n) → IsSomeAnd given (λ t. IsSomeAnd place (λ m. TellsUnrefusedOn t m words))
 crash_unrefused grants place now given s kept is a words told made all = grind arith
-
--- neither answer of an open call's End is Again
-no_kind : (is_left : Bool) (accepted dropped head : ℕ)
-    → kind_of (if is_left then answer.NotAll else answer.Taken accepted dropped head) ≡ 11 → ⊥
-no_kind is_left accepted dropped head is = grind arith
 
 -- no End is answered Again
 end_is_not_again : (g : Setup) (w : World) (call : Option Call) → kind_of (end_answer_in g w call) ≡ 11 → ⊥

@@ -1,11 +1,11 @@
 -- The step that is told at each place of a submission call is the one that stands there.
-use Rattle.std.proofs.Common.{◌≡◌, ℕ, zero, suc, ◌+◌, ◌-◌, ◌*◌, ◌/◌, ◌%◌, ◌^◌, ◌==◌, nat_lt, nat_le, Bool, false, cond, Option, Some, None, option_map, List, [], ◌∷◌, ◌++◌, length, map, slice_get, refl, sym, ap, ◌∙◌, arith}
+use Rattle.std.proofs.Common.{◌≡◌, ℕ, zero, suc, ◌+◌, ◌-◌, ◌*◌, ◌/◌, ◌%◌, ◌==◌, nat_lt, nat_le, Bool, false, cond, Option, Some, None, option_map, List, [], ◌∷◌, ◌++◌, length, map, slice_get, refl, sym, ap, ◌∙◌, arith}
 use Rattle.std.proofs.lemmas.Grind.{common_steps}
 use Rattle.uring_crossing.proofs.Common.{Event, Step}
 use Rattle.uring_core.specs.declared.answer.Answer.{Answer}
 use Rattle.uring_core.specs.declared.answer.Answer.TheVariants as answer
 use Rattle.uring_core.specs.declared.step.Step.TheVariants as step
-use Rattle.uring_crossing.specs.Traces.Traced.{put_steps, filled, put_event, take_or_close, taken_or_end, call_event, TellsEachStep}
+use Rattle.uring_crossing.specs.Traces.Traced.{put_steps, filled, put_event, take_or_close, call_event, TellsEachStep}
 use Rattle.uring_crossing.specs.declared.cores.whole_call_memory.EntryWords.{EntryWords}
 
 -- the step of an entry, whose slot is this: it is filled, or staged; or another one, if there is no such entry
@@ -16,10 +16,6 @@ fill slot (Some entry) = Some (step.Fill slot entry.words)
 abbrev pick : (is_within is_fill : Bool) → ℕ → Option EntryWords → Option Step → Option Step
 pick is_within is_fill slot entry other =
     cond is_within (cond is_fill (fill slot entry) (Some (step.Index slot))) other
-
-same : (w w' f f' : Bool) (s s' : ℕ) (e e' : Option EntryWords) (o o' : Option Step)
-    → w ≡ w' → f ≡ f' → s ≡ s' → e ≡ e' → o ≡ o' → pick w f s e o ≡ pick w' f' s' e' o'
-same w w' f f' s s' e e' o o' ww ff ss ee oo = grind arith
 
 -- the step of this place among those that put entries in from this slot on, and others after them
 abbrev at : ℕ → List EntryWords → List Step → ℕ → Option Step
@@ -45,13 +41,6 @@ takes_at (entry ∷ later) is_accepted end (suc j) = grind (arith, (takes_at lat
 -- what is after those that put entries in
 abbrev others : List EntryWords → List Step
 others entries = step.StoreTail ∷ step.Begin (length entries) ∷ (map (λ _. step.Take) entries ++ (step.End ∷ []))
-
--- the steps of a call, as far as its tests are known
-abbrev tested : (is_tail is_begin : Bool) → List EntryWords → (head accepted dropped after : ℕ) → ℕ → Option Step
-tested is_tail is_begin entries head accepted dropped after j =
-    option_map (λ e. e.0) (cond is_tail (Some (step.StoreTail, answer.Tail ((head + length entries) % 2 ^ 32)))
-    (cond is_begin (Some (step.Begin (length entries), answer.Call (length entries)))
-    (taken_or_end entries (answer.Taken accepted dropped after) j)))
 
 calls_at : (entries : List EntryWords) (head accepted dropped after k : ℕ)
     → option_map (λ e. e.0) (call_event entries head (answer.Taken accepted dropped after) k) ≡ slice_get (others entries) k

@@ -40,10 +40,6 @@ pub beyond_next : (barriers : List Barrier) (n : ℕ) → IsBeyond barriers n
     → IsBeyond barriers (n + 1)
 beyond_next barriers n all = grind (arith, list_all_weaker, ltb-true)
 
-pub beyond_push : (barriers : List Barrier) (n key : ℕ) → IsBeyond barriers n
-    → IsBeyond (barriers ++ record { number = n; key = key } ∷ []) (n + 1)
-beyond_push barriers n key all = grind (arith, list_all_push, beyond_next)
-
 pub sorted_push : (barriers : List Barrier) (n key : ℕ) → IsSorted barriers → IsBeyond barriers n
     → IsSorted (barriers ++ record { number = n; key = key } ∷ [])
 sorted_push [] n key sorted all = (refl, tt)
@@ -82,7 +78,7 @@ covered_with barriers o n key k d e = grind (arith, covered_push)
 
 pub beyond_with : (barriers : List Barrier) (o : Option ℕ) (n key : ℕ) → IsBeyond barriers n
     → IsBeyond (with_barrier barriers o n key) (n + 1)
-beyond_with barriers o n key e = grind (arith, beyond_push, beyond_next)
+beyond_with barriers o n key e = grind (arith, beyond_next, list_all_push)
 
 kept_drain : (old : Option Group) (n d : ℕ) (drains faulty : Bool) → drain_of old ≡ Some d
     → (with_member old n drains faulty).drain ≡ Some d

@@ -1,7 +1,6 @@
 -- The files of a history, and that they are some others by what is told of each.
-use Rattle.std.proofs.Common.{◌≡◌, ℕ, ◌<◌, ◌≤◌, pos, List, [], ◌∷◌, length, Option, Some, None, inl, inr, refl, ◌∙◌, arith}
-use Rattle.uring_histories.proofs.Common.{Ending, Requests, Setup, World, after, entry_of, file_of, files_after, files_of, length-replicate, same_by_descriptors, slice_get, state_of}
-use Rattle.std.specs.Option.{option_map}
+use Rattle.std.proofs.Common.{◌≡◌, ℕ, ◌<◌, ◌≤◌, pos, List, [], ◌∷◌, length, None, refl, ◌∙◌, arith}
+use Rattle.uring_histories.proofs.Common.{Ending, Requests, Setup, World, after, entry_of, file_of, files_after, files_of, length-replicate, same_by_descriptors, state_of}
 use Rattle.std.proofs.lemmas.Option.{slice_get_cases}
 use Rattle.uring_entry.specs.Preparation.{operation_of}
 use Rattle.uring_files.specs.Contents.{FileContents, empty_file, empty_files}
@@ -21,19 +20,8 @@ files_count g w = ends_count w.requests w.requests.ended (empty_files g.files) �
 pub same_files : (g : Setup) (w : World) (files : List FileContents) (i : ℕ) → g.files ≤ 64 → length files ≤ 64
     → 64 ≤ i → ((k : ℕ) → k < i → file_of (files_of g w) (pos k) ≡ file_of files (pos k))
     → files_of g w ≡ files
-same_files g w files i few few' all at =
-    let count : length (files_of g w) ≡ g.files = files_count g w in
-    same_by_descriptors (files_of g w) files (omega arith) few' (λ k low. at k (omega arith))
-
-none_there : {X Y : Type 0} (f : X → Y) (o : Option X) → option_map f o ≡ None → o ≡ None
-none_there f None none = refl
-none_there f (Some x) none = absurd cc
+same_files g w files i few few' all at = grind (arith, files_count, same_by_descriptors)
 
 -- there are at most 64, if there is no file of descriptor 64
 pub few_by : (files : List FileContents) → state_of files (pos 64) ≡ None → length files ≤ 64
-few_by files none =
-    let gone : slice_get files 64 ≡ None = none_there _ (slice_get files 64) none in
-    elim (slice_get_cases files 64).1 [
-      | inl at ↦ absurd (let is : slice_get files 64 ≡ Some at.0 = at.2 in cc)
-      | inr past ↦ past.0
-    ]
+few_by files none = grind (arith, slice_get_cases)

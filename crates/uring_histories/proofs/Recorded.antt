@@ -1,9 +1,8 @@
 -- Steps that are made and recorded, one after the other.
-use Rattle.std.proofs.Common.{◌≡◌, ◌+◌, ◌<◌, ℕ, zero, suc, Bool, true, false, List, [], ◌∷◌, ◌++◌, length, take, get_or, Some, if◌then◌else◌, refl, sym, subst, ap, ◌∙◌, arith, add-one, inl, inr}
+use Rattle.std.proofs.Common.{◌≡◌, ◌+◌, ◌<◌, ℕ, zero, suc, Bool, true, List, [], ◌∷◌, ◌++◌, length, take, get_or, Some, if◌then◌else◌, refl, sym, subst, ap, ◌∙◌, arith, add-one}
 use Rattle.uring_histories.proofs.Common.{CalledFor, EndsOn, Fits, HasMade, History, IsLawful, IsPlain, IsRecorded, IsUnrefused, Item, MadeAfter, Published, Requests, Setup, Step, World, all_published_as, bad_word, call_steps, entry_of, files_of, is_running, item_steps, length-map, length-take-le, map-append, neg_ℤ, published_as, result_of, steps_of_item, string_bytes, take_more, take_steps, with_entry, world}
 use Rattle.uring_entry.specs.declared.errno.TheConstants.{ENOMEM}
 use Rattle.uring_entry.specs.Preparation.{operation_of}
-use Rattle.uring_entry.specs.declared.operation.Outcome.{Outcome}
 use Rattle.uring_files.specs.Contents.{FileContents}
 use Rattle.uring_core.specs.declared.step.Step.TheVariants as step
 use Rattle.uring_core.specs.declared.answer.Answer.{Answer}
@@ -20,13 +19,7 @@ use Rattle.uring_histories.specs.declared.recording.Recording.{Recording}
 finish_of : (files : List FileContents) (r : Requests) (n : ℕ) (running : Bool) (a : Answer)
     → EndsOn files r n running a → ((bytes : List ℕ) → a ≡ answer.Ended (neg_ℤ ENOMEM) bytes → ⊥)
     → a ≡ (if running then answer.Ended (result_of files (operation_of (entry_of r n))).res (result_of files (operation_of (entry_of r n))).bytes else answer.NotRunning)
-finish_of files r n true (answer.Ended res bytes) ends some =
-    elim ends [
-      | inl is ↦ ap (λ (o : Outcome). answer.Ended o.res o.bytes) is
-      | inr lacks ↦ absurd (some bytes (ap (λ (o : Outcome). answer.Ended o.res bytes) lacks.1))
-    ]
-finish_of files r n true _ ends some = absurd ends
-finish_of files r n false a ends some = ends
+finish_of files r n running a ends some = grind arith
 
 pub unrefused_of : (g : Setup) (w : World) (s : Step) (a : Answer) → CalledFor g w s a → IsPlain a
     → ((bytes : List ℕ) → a ≡ answer.Ended (neg_ℤ ENOMEM) bytes → ⊥) → IsUnrefused g w s a
@@ -65,16 +58,11 @@ made_one g old new h s a line r spelt plain some setup fits called text =
 made_then : (g : Setup) (h h' h'' : History) (ss ts : List Step) → MadeAfter g h ss h'
     → MadeAfter g h' ts h'' → MadeAfter g h (ss ++ ts) h''
 made_then g h h' h'' [] ts first second = subst (λ k. MadeAfter g k ts h'') first second
-made_then g h h' h'' (s ∷ ss) ts first second =
-    (first.0, first.1, first.2, made_then g ((s, first.0) ∷ h) h' h'' ss ts first.3 second)
+made_then g h h' h'' (s ∷ ss) ts first second = grind (arith, (made_then g ((s, first.0) ∷ h) h' h'' ss ts first.3 second))
 
 pub made_after : (g : Setup) (t t' : Recording) (h : History) (ss ts : List Step) → (first : HasMade g t h ss)
     → HasMade g t' first.after ts → HasMade g t' h (ss ++ ts)
-made_after g t t' h ss ts first second = record {
-  after = second.after;
-  recorded = second.recorded;
-  made = made_then g h first.after second.after ss ts first.made second.made;
-}
+made_after g t t' h ss ts first second = grind (arith, made_then)
 
 pub same_made : (g : Setup) (t : Recording) (h : History) (ss ts : List Step) → ss ≡ ts
     → HasMade g t h ss → HasMade g t h ts
@@ -87,18 +75,13 @@ none_made g t h recorded = record { after = h; recorded = recorded; made = refl 
 
 one_item : (slot slot' : ℕ) (x : Published) → slot ≡ slot'
     → item_steps slot (x ∷ []) ≡ steps_of_item slot' x
-one_item slot slot' (with_entry entry) same = ap (λ n. step.Fill n entry ∷ step.Index n ∷ []) same
-one_item slot slot' (bad_word word) same = refl
+one_item slot slot' x same = grind arith
 
 item_more : (slot : ℕ) (xs : List Published) (x : Published)
     → item_steps slot (xs ++ x ∷ []) ≡ item_steps slot xs ++ steps_of_item (slot + length xs) x
 item_more slot [] x = one_item slot (slot + 0) x (omega arith)
-item_more slot (with_entry entry ∷ xs) x =
-    let same : slot + 1 + length xs ≡ slot + suc (length xs) = omega arith in
-    ap (λ l. step.Fill slot entry ∷ step.Index slot ∷ l) (item_more (slot + 1) xs x ∙ ap (λ n. item_steps (slot + 1) xs ++ steps_of_item n x) same)
-item_more slot (bad_word word ∷ xs) x =
-    let same : slot + 1 + length xs ≡ slot + suc (length xs) = omega arith in
-    ap (λ l. step.Index word ∷ l) (item_more (slot + 1) xs x ∙ ap (λ n. item_steps (slot + 1) xs ++ steps_of_item n x) same)
+item_more slot (with_entry entry ∷ xs) x = grind (arith, (item_more (slot + 1) xs x))
+item_more slot (bad_word word ∷ xs) x = grind (arith, (item_more (slot + 1) xs x))
 
 pub items_more : (items : List Item) (i : ℕ) (x : Item) → i < length items → x ≡ get_or items i x
     → item_steps 0 (all_published_as (take i items)) ++ steps_of_item i (published_as x)
@@ -123,5 +106,4 @@ steps_for items n =
 
 pub whole_call : (items : List Item) (n : ℕ) → length items ≡ n
     → steps_for (all_published_as items) n ≡ call_steps (all_published_as items)
-whole_call items n many =
-    ap (steps_for (all_published_as items)) (sym many ∙ sym (length-map items published_as))
+whole_call items n many = grind (arith, length-map)

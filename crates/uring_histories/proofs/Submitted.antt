@@ -1,9 +1,7 @@
 -- What the steps of calls, and the moves between them, make of a world.
 -- By the laws of single steps, with the answers that are called for, as in the proofs of moves.
-use Rattle.std.proofs.Common.{◌≡◌, ◌⊎◌, ◌+◌, ◌≤◌, ℕ, zero, suc, ℤ, Bool, true, false, List, [], ◌∷◌, ◌++◌, length, if◌then◌else◌, refl, sym, subst, ap, ◌∙◌, arith, inl, inr}
-use Rattle.uring_histories.proofs.Common.{Between, Cqe, GoesThrough, History, IsPlain, MadeAfter, Over, Published, Setup, ShowsOnly, Stands, Step, Submission, World, after_call, bad_word, beginning, call_steps, entry_of, filling, happens, in_call, item_steps, length_push, map-append, no_bytes, published_items, staging, take_steps, taking, with_end_of, with_entry, with_filled, with_item, with_items, with_published, with_staged, world}
-use Rattle.uring_entry.specs.Completions.{with_posted, completion_for}
-use Rattle.uring_rules.specs.Rules.{posts}
+use Rattle.std.proofs.Common.{◌≡◌, ◌⊎◌, ◌+◌, ◌≤◌, ℕ, zero, suc, false, List, [], ◌∷◌, ◌++◌, length, refl, sym, subst, ap, ◌∙◌, arith}
+use Rattle.uring_histories.proofs.Common.{Between, Cqe, GoesThrough, History, IsPlain, MadeAfter, Over, Published, Setup, ShowsOnly, Stands, Step, Submission, World, after_call, bad_word, beginning, call_steps, filling, happens, in_call, item_steps, length_push, map-append, published_items, staging, take_steps, taking, with_entry, with_filled, with_item, with_items, with_published, with_staged, world}
 use Rattle.uring_core.specs.StepAnswers.{CalledForApart, OrAgain}
 use Rattle.uring_core.specs.declared.step.Step.TheVariants as step
 use Rattle.uring_core.specs.declared.answer.Answer.{Answer}
@@ -15,9 +13,7 @@ use Rattle.uring_outcomes.proofs.ItemLists.{items_more}
 split_made : (g : Setup) (h after : History) (ss ts : List Step) → MadeAfter g h (ss ++ ts) after
     → (mid : History) × MadeAfter g h ss mid × MadeAfter g mid ts after
 split_made g h after [] ts made = (h, refl, made)
-split_made g h after (s ∷ ss) ts made =
-    let r = split_made g ((s, made.0) ∷ h) after ss ts made.3 in
-    (r.0, (made.0, made.1, made.2, r.1), r.2)
+split_made g h after (s ∷ ss) ts made = grind (arith, (split_made g ((s, made.0) ∷ h) after ss ts made.3))
 
 -- The items.
 
@@ -34,12 +30,7 @@ items_go_in : (g : Setup) (items : List Published) (h after : History) (w : Worl
     → world g h ≡ w → Stands w.submission words 0 → slot + length items ≤ g.sq
     → length words + length items ≤ g.sq → MadeAfter g h (item_steps slot items) after
     → ItemsIn w (world g after) words slot items
-items_go_in g [] h after w words slot at stands low few made = record {
-  is = ap (world g) made ∙ at;
-  staged_then = words;
-  many = omega arith;
-  stands = stands;
-}
+items_go_in g [] h after w words slot at stands low few made = grind arith
 items_go_in g (bad_word word ∷ later) h after w words slot at stands low few made =
     let a : Answer = made.0 in
     let one = word_staged g w words word a stands (omega arith) (subst (λ v. CalledForApart g v (step.Index word) a) at made.1) in
@@ -73,9 +64,7 @@ items_go_in g (with_entry entry ∷ later) h after w words slot at stands low fe
 takes_in : (g : Setup) → g.stops ≡ false → g.linux ≡ false → (w : World) (count k done : ℕ) (h after : History)
     → Stands w.submission [] count → done + k ≡ count → world g h ≡ in_call w count done
     → MadeAfter g h (take_steps k) after → world g after ≡ in_call w count count
-takes_in g goes manual w count zero done h after s many at made =
-    let all : done ≡ count = omega arith in
-    ap (world g) made ∙ (at ∙ ap (in_call w count) all)
+takes_in g goes manual w count zero done h after s many at made = grind arith
 takes_in g goes manual w count (suc k) done h after s many at made =
     let a : Answer = made.0 in
     let one = next_taken g goes manual w count count done a s (omega arith) (omega arith) (subst (λ v. CalledForApart g v step.Take a) at made.1) in
@@ -85,11 +74,7 @@ takes_in g goes manual w count (suc k) done h after s many at made =
 
 opens_so : (a : Answer) (n : ℕ) (P : Type 0) → IsPlain a → OrAgain (answer.Call n) a ⊎ ((a ≡ answer.Spent) × P)
     → a ≡ answer.Call n
-opens_so a n P plain opened =
-    elim opened [
-      | inl opens ↦ elim opens [ inl is ↦ is | inr again ↦ absurd (plain.0 again.0) ]
-      | inr spent ↦ absurd (plain.1 spent.0)
-    ]
+opens_so a n P plain opened = grind arith
 
 calls_keep : (l : Submission) (slot : ℕ) (items : List Published)
     → (with_items l slot items).calls ≡ l.calls
@@ -150,69 +135,16 @@ call_made g goes manual h after calls call b goes_in made =
 
 -- An issue and a finish.
 
-end_reaps_none : (g : Setup) (w : World) (n : ℕ) (res : ℤ) (bytes : List ℕ)
-    → (with_end_of g w n res bytes).reaped ≡ w.completions.reaped
-end_reaps_none g w n res bytes = by_test (posts g.linux w.requests n res) where
-  by_test : (post : Bool) → (if post then with_posted g.cq w.completions (completion_for (entry_of w.requests n) res bytes) else w.completions).reaped ≡ w.completions.reaped
-  by_test true = refl
-  by_test false = refl
-
 pub issue_between : (g : Setup) (w : World) (n : ℕ) (a : Answer) (calls : List (List Published))
     → Between w calls → Between (happens g w (step.Issue n) a) calls
-issue_between g w n answer.Run calls b = record {
-  stands = b.stands;
-  is_open = b.is_open;
-  published = b.published;
-  cut = b.cut;
-  none_reaped = b.none_reaped;
-}
-issue_between g w n (answer.Ended res bytes) calls b = record {
-  stands = b.stands;
-  is_open = b.is_open;
-  published = b.published;
-  cut = b.cut;
-  none_reaped = end_reaps_none g w n res no_bytes ∙ b.none_reaped;
-}
-issue_between g w n _ calls b = b
+issue_between g w n a calls b = grind arith
 
 pub finish_between : (g : Setup) (w : World) (n : ℕ) (a : Answer) (calls : List (List Published))
     → Between w calls → Between (happens g w (step.Finish n) a) calls
-finish_between g w n (answer.Ended res bytes) calls b = record {
-  stands = b.stands;
-  is_open = b.is_open;
-  published = b.published;
-  cut = b.cut;
-  none_reaped = end_reaps_none g w n res bytes ∙ b.none_reaped;
-}
-finish_between g w n _ calls b = b
+finish_between g w n a calls b = grind arith
 
 -- Steps that only show completions.
 
 pub over_still : (g : Setup) (w : World) (s : Step) (a : Answer) (calls : List (List Published)) (posted : List Cqe)
     → ShowsOnly s → Over w calls posted → Over (happens g w s a) calls posted
-over_still g w step.Flush a calls posted shows o = record {
-  published = o.published;
-  cut = o.cut;
-  none_outstanding = o.none_outstanding;
-  posts = o.posts;
-}
-over_still g w step.LoadCqTail a calls posted shows o = record {
-  published = o.published;
-  cut = o.cut;
-  none_outstanding = o.none_outstanding;
-  posts = o.posts;
-}
-over_still g w step.Reap (answer.Reaped c) calls posted shows o = record {
-  published = o.published;
-  cut = o.cut;
-  none_outstanding = o.none_outstanding;
-  posts = o.posts;
-}
-over_still g w step.Reap _ calls posted shows o = o
-over_still g w step.StoreCqHead a calls posted shows o = record {
-  published = o.published;
-  cut = o.cut;
-  none_outstanding = o.none_outstanding;
-  posts = o.posts;
-}
-over_still g w _ a calls posted shows o = absurd shows
+over_still g w s a calls posted shows o = grind arith

@@ -90,14 +90,10 @@ module _ (g : Setup) (v : World) (s c : List ℕ) (e : List Ending) (d : Drains)
       search (rules, end_same (requests_of v) s c e a n res bytes, posted_same n res bytes, drains_ended_same (requests_of v) s c e a g.linux d same n res)
   rings_then x b _ = by_rings g (happens g v x b) s c e d a same
 
-finished_files : (g : Setup) (v w : World) (n : ℕ) (a : Answer) → AreAlike g v w
-    → files_of g (happens g v (step.Finish n) a) ≡ files_of g (happens g w (step.Finish n) a)
-finished_files g v w n a al = search (rules, files_ended)
-
 files_then : (g : Setup) (h k : History) (s : Step) (a : Answer) → IsLawfulApart g ((s, a) ∷ h)
     → IsLawfulApart g ((s, a) ∷ k) → AreAlike g (world g h) (world g k)
     → files_of g (world g ((s, a) ∷ h)) ≡ files_of g (world g ((s, a) ∷ k))
-files_then g h k s a lawful other al = search (rules, finished_files, files_kept)
+files_then g h k s a lawful other al = search (rules, files_kept, files_ended)
 
 pub alike_then : (g : Setup) (h k : History) (s : Step) (a : Answer) → IsLawful g ((s, a) ∷ h)
     → IsLawful g ((s, a) ∷ k) → AreAlike g (world g h) (world g k)

@@ -1,6 +1,6 @@
 -- Operations that stay apart don't meet: `apart_dont_meet`. What one leaves of a file, the other finds as it was, and both orders leave the same bytes.
-use Rattle.std.proofs.Common.{◌≡◌, ℕ, zero, suc, ◌+◌, ◌-◌, ◌≤◌, ◌==◌, ℤ, pos, Bool, true, false, not, cond, List, [], ◌∷◌, length, take, drop, get_or, Option, refl, sym, ap, arith, ◌⊎◌, inl, inr}
-use Rattle.uring_laws.proofs.Common.{ApartDontMeet, FileContents, Fsync, Op, Outcome, Read, Write, after, are_disjoint, are_on_others, cases_lt, cond-true, ended_with, file_asked, file_of, get_or-drop, int_eq, leb-true, length-drop, length-take, on_file, option_map_or, or_cases, overwritten, read_outcome, result_of, slice_set, stay_apart, stay_apart_on_one, true≢false, with_changed, with_writes_synced, written}
+use Rattle.std.proofs.Common.{◌≡◌, ℕ, zero, suc, ◌+◌, ◌-◌, ◌≤◌, ℤ, pos, Bool, true, cond, List, [], ◌∷◌, length, take, drop, get_or, refl, sym, ap, arith, ◌⊎◌, inl, inr}
+use Rattle.uring_laws.proofs.Common.{ApartDontMeet, FileContents, Fsync, Op, Read, Write, after, are_disjoint, are_on_others, cases_lt, cond-true, ended_with, get_or-drop, int_eq, leb-true, length-drop, length-take, on_file, or_cases, overwritten, read_outcome, result_of, slice_set, stay_apart, stay_apart_on_one, true≢false, with_changed, with_writes_synced, written}
 use Rattle.std.proofs.lemmas.Grind.{same_number_lists}
 use Rattle.uring_files.proofs.OperationCases.{cases}
 use Rattle.uring_files.proofs.Overwrites.{is_written_over}
@@ -8,15 +8,6 @@ use Rattle.uring_files.proofs.StandAlone.{changed_same, changed_other, others_st
 use Rattle.uring_files.specs.Laws.{IsWrittenOver}
 
 -- Bytes written over others.
-
-past_written : (old new : List ℕ) (off : ℕ) (now : List ℕ) (k : ℕ) → IsWrittenOver old new off now
-    → off + length new ≤ k
-    → get_or now k 0 ≡ get_or old k 0
-past_written old new off now k w high = grind arith
-
--- no bytes change nothing
-nothing_over : (old new : List ℕ) (off : ℕ) → length new ≡ 0 → overwritten old off new ≡ old
-nothing_over old new off none = cond-true (length new == 0) old _ (ap (λ n. n == 0) none)
 
 -- bytes written over others, in both orders
 some_over : (old a b with_a with_b left right : List ℕ) (o p : ℕ) → IsWrittenOver old a o with_a
@@ -42,12 +33,7 @@ over_either old a b o p apart = elim (cases_lt 0 (length a)) [
 -- what lies after the bytes that were written
 after_over : (old new : List ℕ) (off at : ℕ) → off + length new ≤ at
     → (drop at (overwritten old off new) ≡ drop at old) × (length (overwritten old off new) - at ≡ length old - at)
-after_over old new off at past =
-    grind (arith, nothing_over, is_written_over, same_number_lists, length-drop, get_or-drop, past_written)
-
-read_after : (file : FileContents) (new : List ℕ) (off at count : ℕ) → off + length new ≤ at
-    → read_outcome at count (written off new file) ≡ read_outcome at count file
-read_after file new off at count past = grind (arith, after_over)
+after_over old new off at past = grind (arith, is_written_over, same_number_lists, length-drop, get_or-drop, cond-true)
 
 -- Files of which some are changed.
 
@@ -77,43 +63,19 @@ chosen_either _ _ files fd other f g same = refl
 
 -- What an operation gives where another was carried out.
 
-found_as_before : (files : List FileContents) (own fd : ℤ) (change : FileContents → FileContents) (outcome : FileContents → Outcome)
-    → (fd ≡ own → (file : FileContents) → outcome (change file) ≡ outcome file)
-    → on_file (file_of (with_changed files own change) fd) outcome ≡ on_file (file_of files fd) outcome
-found_as_before files own fd change outcome same = grind (arith, on_file, changed_same, changed_other)
-
-chosen_as_before : (chosen : Bool) (files : List FileContents) (own fd : ℤ) (change : FileContents → FileContents) (outcome : FileContents → Outcome)
-    → (fd ≡ own → (file : FileContents) → outcome (change file) ≡ outcome file)
-    → on_file (file_of (cond chosen (with_changed files own change) files) fd) outcome ≡ on_file (file_of files fd) outcome
-chosen_as_before chosen files own fd change outcome same = grind (arith, found_as_before)
-
 few : (len : ℕ) (bytes : List ℕ) → length (take len bytes) ≤ len
 few len bytes = omega (arith, length-take len bytes)
 
 -- On different files, whichever operations they are.
 
-abbrev others : Option ℤ → Option ℤ → Bool
-others asked other =
-    option_map_or (λ fd. not (option_map_or (int_eq fd) other false)) asked true
-
-not_on : (asked other : Option ℤ) (fd : ℤ) → others asked other ≡ true
-    → option_map_or (int_eq fd) other false ≡ true
-    → option_map_or (int_eq fd) asked false ≡ false
-not_on asked other fd apart on = grind arith
-
-gives_elsewhere : (files : List FileContents) (d e : Op) (res : ℤ) → are_on_others d e ≡ true
-    → result_of (after files d res) e ≡ result_of files e
-gives_elsewhere files d e res apart =
-    (ends_apart (after files d res) files e (λ fd on. others_stay files d res fd (not_on (file_asked d) (file_asked e) fd apart on))).0
-
 gives_on_one : (files : List FileContents) (d e : Op) (res : ℤ) → stay_apart_on_one d e ≡ true
     → result_of (after files d res) e ≡ result_of files e
 gives_on_one files d e res apart =
-    grind (arith, chosen_as_before, read_outcome, read_after, leb-true, few, ended_with, with_writes_synced, true≢false)
+    grind (arith, read_outcome, leb-true, few, ended_with, with_writes_synced, true≢false, after_over, on_file, changed_same, changed_other)
 
 gives_same : (files : List FileContents) (d e : Op) (res : ℤ) → stay_apart d e ≡ true
     → result_of (after files d res) e ≡ result_of files e
-gives_same files d e res apart = grind (arith, gives_elsewhere, gives_on_one)
+gives_same files d e res apart = grind (arith, gives_on_one, ends_apart, others_stay)
 
 -- Which files both orders leave.
 

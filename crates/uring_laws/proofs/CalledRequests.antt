@@ -1,6 +1,6 @@
 -- Who can start before a call accepts entries can start after it, and the other way round, by either's rules. By Linux's no group that was deferred goes on by a call: something else is outstanding then.
-use Rattle.std.proofs.Common.{◌≡◌, ℕ, ◌<◌, ◌≤◌, Bool, true, false, not, ◌&&◌, ◌||◌, nat_lt, if◌then◌else◌, List, [], ◌∷◌, length, sym, ap, ◌∙◌, arith, inl, inr, ◌+◌}
-use Rattle.uring_laws.proofs.Common.{Deferred, Drains, HasGoneOn, IsBetween, LinuxRequests, Requests, Sqe, after_going_on, and_parts, both_ways, cases_Bool, cond_both, deferred_with, doom_kept, ends_doomed, entry_kept, false_from_ne_true, has_ended, holds_back, in_pushed, is_alone, is_deferred, is_faulty_from, is_in_some, is_in_turn, is_linked, is_outstanding, is_ready, join_kept, keeps_back, length_push, longer, lt-ltb, may_start, member_kept, not-false, not-true, not_alone, pushed_old, some_below, some_below_in, some_below_same, still_fewer, waits_for, with_accepted, with_call, with_cut, with_deferred, with_entries, with_group, with_last_entry, with_ring}
+use Rattle.std.proofs.Common.{◌≡◌, ℕ, ◌<◌, ◌≤◌, Bool, true, false, not, ◌&&◌, nat_lt, List, [], ◌∷◌, length, sym, ap, ◌∙◌, arith, inl, inr, ◌+◌}
+use Rattle.uring_laws.proofs.Common.{Deferred, Drains, HasGoneOn, IsBetween, LinuxRequests, Requests, Sqe, and_parts, both_ways, cases_Bool, cond_both, doom_kept, ends_doomed, entry_kept, false_from_ne_true, has_ended, holds_back, in_pushed, is_alone, is_deferred, is_in_some, is_in_turn, is_linked, is_outstanding, is_ready, join_kept, keeps_back, length_push, longer, lt-ltb, may_start, member_kept, not-false, not-true, not_alone, pushed_old, some_below, some_below_in, some_below_same, still_fewer, waits_for, with_accepted, with_call, with_cut, with_entries, with_group, with_last_entry}
 use Rattle.uring_laws.proofs.Growth.{IsCut}
 use Rattle.uring_entry.specs.Requests as manual
 use Rattle.uring_rules.specs.RulesCalls.{called_by}
@@ -12,16 +12,6 @@ use Rattle.uring_laws.proofs.EndedRequests.{unmoved}
 
 -- after one group that is accepted: whoever was taken before it
 module _ (r : Requests) (d : Drains) where
-  -- the drains, whether the group was deferred or not
-  abbrev after_group : Bool → Drains
-  after_group plain =
-      if plain
-      then with_deferred d (length r.accepted) d.deferred
-      else with_ring (with_deferred d (length r.accepted) (after_going_on r (deferred_with d (length r.accepted)))) d.group
-
-  by_group : (P : Drains → Type 0) → P (after_group true) → P (after_group false) → P (with_group r d)
-  by_group P plain held = cond_both (not d.ring || is_faulty_from r d.from) _ _ P (λ _. plain) (λ _. held)
-
   group_fewer : (n : ℕ) → n < d.from → is_in_some (with_group r d).deferred n ≡ true → is_in_some d.deferred n ≡ true
   group_fewer n lt = grind (arith, in_pushed, still_fewer)
 
@@ -29,7 +19,7 @@ module _ (r : Requests) (d : Drains) where
   group_keeps : (k n : ℕ) → k < d.from → k < length r.accepted → has_ended r k ≡ false → is_in_some d.deferred k ≡ false
       → is_in_some d.deferred n ≡ true → is_in_some (with_group r d).deferred n ≡ true
   group_keeps k n lt accepted still out held =
-      grind (arith, false_from_ne_true, in_pushed, both_ways, by_group, unmoved, not_alone, pushed_old)
+      grind (arith, false_from_ne_true, in_pushed, both_ways, unmoved, not_alone, pushed_old, cond_both)
 
 -- n was taken with a group that was accepted
 record IsTaken (l : LinuxRequests) (n : ℕ) : Type 0 where

@@ -1,6 +1,6 @@
 -- Whom cancels chose, read off a history, by the manual pages' rules.
 use Rattle.std.proofs.Common.{◌≡◌, ℕ, ◌==◌, ℤ, true, false, List, [], ◌∷◌, ◌++◌, cond, refl, ap, ◌∙◌, ◌⊎◌, inl, inr, arith}
-use Rattle.uring_laws.proofs.Common.{Answer, Chose, Event, History, IsChosenIn, IsLawfulApart, Move, Requests, Setup, Step, World, all_success, any_both, by_manual, cancel_result, choices_of, chose, chosen_by, doomed_fails, ends_cancel, entry_of, is_cancel, is_cancelled, is_success, list_any, move_of, no_bytes, or_left, or_right, outstanding_tells, requests_of, target_there, with_issued_end, world}
+use Rattle.uring_laws.proofs.Common.{Answer, Chose, Event, History, IsChosenIn, IsLawfulApart, Move, Requests, Setup, Step, World, all_success, any_both, by_manual, cancel_result, chose, chosen_by, doomed_fails, ends_cancel, is_cancelled, move_of, no_bytes, or_left, or_right, outstanding_tells, requests_of, target_there, with_issued_end, world}
 use Rattle.uring_core.proofs.Moves.{ends_doomed}
 use Rattle.std.proofs.lemmas.List.Folds.{list_any-append}
 use Rattle.uring_core.specs.declared.step.Step.TheVariants as step
@@ -56,15 +56,9 @@ chosen_in g ((s, a) ∷ before) lawful m gone =
           }
     ]
 
--- the end of a cancel dooms whom it chose
-dooms_with : (r : Requests) (n : ℕ) (res : ℤ) (m : ℕ) → is_cancel (entry_of r n) ≡ true
-    → is_success (entry_of r n) res ≡ true → list_any (λ k. k == m) (choices_of r n) ≡ true
-    → is_cancelled (with_issued_end r n res) m ≡ true
-dooms_with r n res m cancel success there = grind (arith, list_any-append, or_right)
-
 dooms_now : (r : Requests) (n : ℕ) (res : ℤ) (m : ℕ) → Chose r n res m
     → is_cancelled (with_issued_end r n res) m ≡ true
-dooms_now r n res m h = grind (arith, dooms_with, cond, or_left, outstanding_tells, all_success, target_there)
+dooms_now r n res m h = grind (arith, cond, or_left, outstanding_tells, all_success, target_there, list_any-append, or_right)
 
 stays_chosen : (g : Setup) (after before : History) (n : ℕ) (res : ℤ) (m : ℕ) (bytes : List ℕ)
     → IsLawfulApart (by_manual g) (after ++ (step.Issue n, answer.Ended res bytes) ∷ before)

@@ -1,6 +1,6 @@
 -- What an end leaves of other requests, by either's rules: who can start, who is to end as doomed and who posts; and the drains that two ends leave, in either order.
 use Rattle.std.proofs.Common.{◌≡◌, ◌≢◌, ℕ, ◌<◌, ◌==◌, ℤ, Bool, true, false, not, ◌||◌, List, [], ◌∷◌, ◌++◌, length, refl, sym, ap, ◌∙◌, arith}
-use Rattle.uring_laws.proofs.Common.{Deferred, Drains, Ending, LinuxRequests, Requests, and_from, and_parts, and_right, both_ways, breaker_of, drains_ended, ends_doomed, failed_member_of, false_from_ne_true, faulty_ended, first_of, has_ended, has_ended_other, has_ended_same, is_alone, is_cancelled, is_doomed, is_in_faulty_group, is_in_some, is_in_turn, is_joined, is_outstanding, is_ready, is_ready_inside, is_ready_yes, is_running, least_below_same, list_any, list_any_push, may_start, no_bytes, not-true, not_alone, posts, some_below_none, some_member, still_deferred, still_fewer, waits_for, with_ended}
+use Rattle.uring_laws.proofs.Common.{Deferred, Drains, Ending, LinuxRequests, Requests, and_from, and_parts, and_right, both_ways, breaker_of, drains_ended, ends_doomed, false_from_ne_true, faulty_ended, first_of, has_ended, has_ended_other, has_ended_same, is_alone, is_cancelled, is_doomed, is_in_faulty_group, is_in_some, is_in_turn, is_joined, is_outstanding, is_ready, is_ready_inside, is_ready_yes, is_running, least_below_same, list_any, list_any_push, may_start, no_bytes, not-true, not_alone, posts, some_below_none, some_member, still_deferred, still_fewer, waits_for, with_ended}
 use Rattle.uring_laws.proofs.AlikeDrains.{going_same}
 use Rattle.uring_laws.proofs.LinuxSound.{IsFirst, after_end, failure_end, doom_ended, doom_stays, first_ended, turn_first, after_stays}
 use Rattle.uring_laws.proofs.StartedRequests.{CanStart}
@@ -55,15 +55,12 @@ module _ (r : Requests) (m : ℕ) (res : ℤ) (bytes : List ℕ) (n : ℕ) where
   pub ends_doomed_stays : (linux : Bool) → ends_doomed linux r n ≡ true → ends_doomed linux q n ≡ true
   ends_doomed_stays linux doomed = grind (arith, and_from, turn_end, doom_stays, stays_doomed)
 
-  failed_one_end : IsFirst r n → has_ended r m ≡ false → failed_member_of q n ≡ failed_member_of r n
-  failed_one_end first still = grind (arith, least_below_same, failure_end)
-
   first_one_end : first_of q n ≡ first_of r n
   unfolding first_of is_joined
   first_one_end = refl
 
   breaker_end : IsFirst r n → has_ended r m ≡ false → breaker_of q n ≡ breaker_of r n
-  breaker_end first still = grind (arith, faulty_ended, first_one_end, failed_one_end)
+  breaker_end first still = grind (arith, faulty_ended, first_one_end, least_below_same, failure_end)
 
   -- whether n posts isn't changed by the end of one that isn't before it in its group
   pub posts_end : (linux : Bool) → (linux ≡ true → IsFirst r n) → has_ended r m ≡ false → (other : ℤ)
@@ -73,23 +70,13 @@ module _ (r : Requests) (m : ℕ) (res : ℤ) (bytes : List ℕ) (n : ℕ) where
 -- Who can start beside an end.
 
 module _ (l : LinuxRequests) (m : ℕ) (res : ℤ) (bytes : List ℕ) (n : ℕ) (still : has_ended l.requests m ≡ false) where
-  spared_past : (linux : Bool) → ends_doomed linux l.requests n ≡ false → may_start linux l n ≡ true
-      → ends_doomed linux (with_ended l.requests m res bytes) n ≡ false
-  spared_past linux spared ready = grind (arith, and_right, doom_ended, turn_first, doomed_end, joined_not)
-
-  ready_past : (linux : Bool) → may_start linux l n ≡ true → may_start linux (with_end linux l m res bytes) n ≡ true
-  ready_past linux ready = grind (arith, and_from, turn_end, false_from_ne_true, both_ways, not-true, still_fewer, ready_end)
-
-  spared_ahead : (linux : Bool) → may_start linux l n ≡ true
-      → ends_doomed linux (with_ended l.requests m res bytes) n ≡ false → ends_doomed linux l.requests n ≡ false
-  spared_ahead linux ready spared = grind (arith, turn_end, doom_ended, turn_first, doomed_end, joined_not)
-
   -- a request that can start can do so after the end of another, and could before it if it might then
   pub start_past : (linux : Bool) → n ≢ m → CanStart linux l n → CanStart linux (with_end linux l m res bytes) n
-  start_past linux differ c = grind (arith, outstanding_end, spared_past, ready_past)
+  start_past linux differ c =
+      grind (arith, outstanding_end, and_right, doom_ended, turn_first, doomed_end, joined_not, and_from, turn_end, false_from_ne_true, both_ways, not-true, still_fewer, ready_end)
 
   pub start_ahead : (linux : Bool) → n ≢ m → may_start linux l n ≡ true → CanStart linux (with_end linux l m res bytes) n → CanStart linux l n
-  start_ahead linux differ ready c = grind (arith, outstanding_end, spared_ahead)
+  start_ahead linux differ ready c = grind (arith, outstanding_end, turn_end, doom_ended, turn_first, doomed_end, joined_not)
 
 pub not_ended : (r : Requests) (n : ℕ) → is_outstanding r n ≡ true → has_ended r n ≡ false
 not_ended r n out = grind arith

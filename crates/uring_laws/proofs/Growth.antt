@@ -2,7 +2,7 @@
 -- By `Move`, event by event (`event_grows`), and over a history by induction (`grows`).
 -- Stable: other crates may import `Grows` with its fields, as `same_entry`, and `event_grows`, `grows`, `lawful_before`.
 use Rattle.std.proofs.Common.{◌≡◌, ℕ, ◌<◌, ◌≤◌, ℤ, Bool, true, false, List, [], ◌∷◌, ◌++◌, length, refl, ◌∙◌, ◌⊎◌, inl, inr, arith, rules}
-use Rattle.uring_laws.proofs.Common.{Answer, History, IsChoice, IsLawfulApart, LinuxRequests, Move, Requests, Setup, Sqe, Step, accepts, choice_of, doom_kept, end_doom, end_join, ended_as, ends_cancel, ends_run, entry_kept, entry_of, is_cancelled, is_doomed, is_doomed_started, is_drain, is_draining, is_draining_started, is_joined, is_joined_started, join_kept, list_any, longer, member_kept, move_of, no_choice, requests_of, some_member, sound_of, starts, with_call, with_started, world}
+use Rattle.uring_laws.proofs.Common.{Answer, History, IsChoice, IsLawfulApart, LinuxRequests, Move, Requests, Setup, Sqe, Step, accepts, choice_of, doom_kept, end_doom, end_join, ended_as, ends_cancel, ends_run, entry_kept, entry_of, is_cancelled, is_doomed, is_doomed_started, is_drain, is_draining, is_draining_started, is_joined, is_joined_started, join_kept, list_any, longer, member_kept, move_of, no_choice, requests_of, some_member, sound_of, starts, with_call, world}
 use Rattle.uring_core.proofs.Moves.{stays, ends_doomed}
 use Rattle.uring_rules.specs.Rules.{doomed_result, cancel_result, with_issued_end}
 use Rattle.std.proofs.Common.{◌==◌}
@@ -22,9 +22,6 @@ same_grows r = search (rules, arith)
 
 pub then_grows : (r later last : Requests) → Grows r later → Grows later last → Grows r last
 then_grows r later last a b = grind arith
-
-start_grows : (r : Requests) (n : ℕ) → Grows r (with_started r n)
-start_grows r n = grind (arith, is_joined_started, is_draining_started, is_doomed_started)
 
 end_drain : (r : Requests) (n : ℕ) (res : ℤ) (bytes cancelled : List ℕ) (m : ℕ)
     → is_draining (ended_as r n res bytes cancelled) m ≡ is_draining r m
@@ -64,7 +61,8 @@ move_grows : (linux : Bool) (l : LinuxRequests) (s : Step) (a : Answer) (later :
     → Move linux l s a later → IsCut l.requests → Grows l.requests later
 move_grows linux l s a later (stays _ _ no_start no_end) cut = same_grows l.requests
 move_grows linux l s a later (accepts accepted missed head entries) cut = grind (arith, call_grows)
-move_grows linux l s a later (starts n outstanding idle spared ready no_cancel) cut = search (rules, start_grows)
+move_grows linux l s a later (starts n outstanding idle spared ready no_cancel) cut =
+    search (rules, is_joined_started, is_draining_started, is_doomed_started)
 move_grows linux l s a later (ends_doomed n outstanding) cut = doomed_grows linux l.requests n
 move_grows linux l s a later (ends_cancel n outstanding spared ready cancel) cut = search (rules, cancel_grows)
 move_grows linux l s a later (ends_run n res bytes running) cut = search (rules, end_grows, no_choice)

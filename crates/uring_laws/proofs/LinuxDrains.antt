@@ -12,9 +12,6 @@ use Rattle.uring_laws.proofs.LinuxKept.{HasDrain, Waits, KeepsGroups, accepted_k
 
 -- Whoever goes on waits for nobody that hasn't ended.
 
-still_off : (xs : List Deferred) → still_deferred false xs ≡ xs
-still_off xs = grind arith
-
 -- what hasn't ended is among these groups, if all that is outstanding is
 alone_in : (r : Requests) (xs : List Deferred) (m : ℕ) → is_alone r xs ≡ true → m < length r.accepted
     → has_ended r m ≡ false → is_in_some xs m ≡ true
@@ -83,7 +80,7 @@ module _ (r : Requests) (d : Drains) (i : IsAmid r d) where
   none_left : (alone : Bool) → is_alone r all ≡ alone → is_faulty_from r d.from ≡ false → d.group ≡ false → still_deferred alone all ≡ []
       → (m : ℕ) → m < length r.accepted → HasDrain r m → has_ended r m ≡ true
   none_left alone is fine still none m lt other =
-      grind (arith, still_off, pushed_new, true_from_ne_false, both_ways, left_calm, told_all, alone_in)
+      grind (arith, pushed_new, true_from_ne_false, both_ways, left_calm, told_all, alone_in)
 
   some_ring : RingDrains r (with_deferred d (length r.accepted) d.deferred)
   some_ring off m lt other = grind (arith, calm_new)

@@ -86,11 +86,6 @@ gone_calm r low (g ∷ rest) high n m t here gone there lt apart = go g.drains r
     )
   ]
 
--- If the last group isn't told to drain, and none stays deferred, none of them drains.
-none_drain : (r : Requests) (low : ℕ) (xs : List Deferred) (high k : ℕ) → AreTold r low xs high
-    → from_drain xs ≡ [] → is_in_some xs k ≡ true → drains r k ≡ false
-none_drain r low xs high k t none here = grind (arith, drain_calm)
-
 pub left_calm : (r : Requests) (low : ℕ) (xs : List Deferred) (g : Deferred) (high k : ℕ)
     → AreTold r low (xs ++ g ∷ []) high → g.drains ≡ false → still_deferred true (xs ++ g ∷ []) ≡ []
     → is_in_some (xs ++ g ∷ []) k ≡ true → drains r k ≡ false
@@ -105,4 +100,4 @@ left_calm r low (x ∷ rest) g high k t is none here = go x.drains refl none whe
 
   go : (b : Bool) → x.drains ≡ b → (if b then rest ++ g ∷ [] else from_drain (rest ++ g ∷ [])) ≡ [] → drains r k ≡ false
   go true told e = absurd (some rest e)
-  go false told e = grind (arith, calm, none_drain)
+  go false told e = grind (arith, calm, drain_calm)

@@ -1,6 +1,6 @@
 -- The laws of `linux.rt`: doomed requests, links, drains and cancels by Linux's rules.
-use Rattle.std.proofs.Common.{◌≡◌, ℕ, ◌<◌, ◌==◌, Bool, true, false, not, ◌&&◌, ◌||◌, [], ◌∷◌, ◌++◌, Option, Some, None, length, slice_get, count_by, refl, sym, subst, ◌∙◌, ◌⊎◌, inl, inr, arith}
-use Rattle.uring_laws.proofs.Common.{Answer, CancelledWereDoomed, CancelsDoomNobody, Change, DeferredDontStart, DoomedNeverRun, DoomedStayDoomed, DrainsHold, Ending, HasHappened, History, IsIssued, IsLawfulApart, IsStart, LeastFreeCanGoOn, LeastFreeGoesOn, LinuxRequests, MembersGoInOrder, Move, Requests, Setup, Step, World, accepts, and_parts, and_right, both_ways, by_linux, change_of, count_none, drains, ends_cancel, ends_run, has_ended, has_started, history_happens, is_outstanding, least_below_out, least_of, ltb-true, move_of, outstanding_tells, refuses, requests_of, sound_of, world}
+use Rattle.std.proofs.Common.{◌≡◌, ℕ, ◌<◌, ◌==◌, true, false, [], ◌∷◌, ◌++◌, Option, Some, None, length, slice_get, count_by, refl, sym, subst, ◌∙◌, inl, inr, arith}
+use Rattle.uring_laws.proofs.Common.{Answer, CancelledWereDoomed, CancelsDoomNobody, Change, DeferredDontStart, DoomedNeverRun, DoomedStayDoomed, DrainsHold, Ending, HasHappened, History, IsIssued, IsLawfulApart, IsStart, LeastFreeCanGoOn, LeastFreeGoesOn, LinuxRequests, MembersGoInOrder, Move, Requests, Setup, Step, World, accepts, and_parts, and_right, both_ways, by_linux, change_of, count_none, ends_cancel, ends_run, has_ended, has_started, history_happens, is_outstanding, least_below_out, least_of, ltb-true, move_of, outstanding_tells, refuses, requests_of, sound_of, world}
 use Rattle.uring_laws.specs.LinuxLaws.{waits_for}
 use Rattle.uring_linux.specs.LinuxRequests.{is_doomed, doomed_result}
 use Rattle.uring_core.specs.declared.step.Step.TheVariants as step
@@ -77,16 +77,10 @@ starting g w n a change start =
 pub not_deferred : (g : Setup) → DeferredDontStart (by_linux g)
 not_deferred g after before n a lawful start = grind (arith, lawful_before, starting)
 
--- what it waits for without being of its group
-waits_apart : (joined drains other right : Bool) → joined ≡ false
-    → ((joined || drains) || (other && not right)) ≡ true
-    → (drains ≡ true) ⊎ ((other ≡ true) × (right ≡ false))
-waits_apart joined drains other right e w = grind arith
-
 -- whatever happened, what may start waits for nobody that hasn't ended
 none_waited : (l : LinuxRequests) (n m : ℕ) → HasHappened l → n < length l.requests.accepted → m < n
     → Starts l n → waits_for l.requests n m ≡ true → has_ended l.requests m ≡ true
-none_waited l n m so lt under start w = grind (arith, turn_first, waits_apart, waits_for_none)
+none_waited l n m so lt under start w = grind (arith, turn_first, waits_for_none)
 
 pub drains_hold : (g : Setup) → DrainsHold (by_linux g)
 drains_hold g after before m n a lawful start lt waits =

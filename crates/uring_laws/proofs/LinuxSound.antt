@@ -140,11 +140,8 @@ module _ (r : Requests) (entries : List Sqe) (cut : IsCut r) where
   result_kept : (n : ℕ) → n < length r.accepted → doomed_result (with_call r entries) n ≡ doomed_result r n
   result_kept n below = grind (arith, entry_kept, refused_kept)
 
-  first_called : (n : ℕ) → n < length r.accepted → IsFirst r n → IsFirst (with_call r entries) n
-  first_called n below first k lt joined = first k lt (sym (join_kept r entries cut k n below) ∙ joined)
-
   pub call_linux : IsSoundRequests r → IsSoundLinux r → IsSoundLinux (with_call r entries)
-  call_linux i s = grind (arith, doom_called, first_called, result_kept)
+  call_linux i s = grind (arith, doom_called, result_kept, join_kept)
 
 -- What an answer tells.
 

@@ -24,9 +24,6 @@ ready_is : (r : Requests) (n : ℕ) → is_ready r n ≡ not (is_some (holder_of
 unfolding is_ready
 ready_is r n = ap not (sym (is_some_least_below (holds_back r n) n))
 
-ready_none : (r : Requests) (n : ℕ) → holder_of r n ≡ None → is_ready r n ≡ true
-ready_none r n e = ready_is r n ∙ ap (λ o. not (is_some o)) e
-
 none_ready : (r : Requests) (n : ℕ) → is_ready r n ≡ true → holder_of r n ≡ None
 none_ready r n ready = grind (arith, least_below_none, is_ready_inside)
 
@@ -50,7 +47,7 @@ pub issuable_said : (r : Requests) (n : ℕ) → is_issuable r n ≡ can_be_issu
 issuable_said r n = grind (arith, ready_is)
 
 pub may_start_said : (r : Requests) (n : ℕ) → why_of r n ≡ MayStart → CanStart r n
-may_start_said r n e = grind (arith, ready_none)
+may_start_said r n e = grind (arith, ready_is, is_some)
 
 pub said_may_start : (r : Requests) (n : ℕ) → CanStart r n → why_of r n ≡ MayStart
 said_may_start r n c = why_waiting r n (told_unstarted r n c.unstarted) c.free ∙ ap (waiting_for r n) (none_ready r n c.ready)

@@ -1,8 +1,8 @@
 -- Starts that change places with starts and ends, by either's rules: `starts_change`, `start_then_end` and `end_then_start`.
 -- A start changes nothing that a definition reads but who runs; an end changes who has ended and failed, which counts for those alone that wait for it.
 use Rattle.std.proofs.Common.{◌≡◌, ◌≢◌, ℕ, Bool, true, false, ◌&&◌, if◌then◌else◌, List, [], ◌∷◌, ◌++◌, sym, subst, ap, ap₂, ◌∙◌, append-nil, arith, rules}
-use Rattle.uring_laws.proofs.Common.{AreAlike, CalledFor, ChangePlaces, Drains, EndThenStart, Ends, Event, History, IsLawful, IsOutcome, Outcome, Requests, Setup, StartThenEnd, StartsChange, Step, World, both_ways, choices_of, completion_for, doomed_fails, ends_doomed, entry_of, files_kept, files_of, happens, has_ended, is_cancel, is_outstanding, is_running, is_running_started_other, is_running_started_same, is_success, issue_answer, list_any, list_any_push, may_start, no_bytes, operation_of, requests_of, start_of, with_ended, with_posted, with_started, world}
-use Rattle.uring_rules.specs.Rules.{doomed_result, with_issued_end}
+use Rattle.uring_laws.proofs.Common.{AreAlike, CalledFor, ChangePlaces, Drains, EndThenStart, Ends, Event, History, IsLawful, IsOutcome, Outcome, Requests, Setup, StartThenEnd, StartsChange, Step, World, both_ways, choices_of, completion_for, doomed_fails, ends_doomed, entry_of, files_kept, files_of, happens, has_ended, is_cancel, is_outstanding, is_running, is_running_started_other, is_running_started_same, is_success, issue_answer, list_any, list_any_push, may_start, no_bytes, operation_of, requests_of, start_of, with_posted, with_started, world}
+use Rattle.uring_rules.specs.Rules.{doomed_result}
 use Rattle.uring_entry.specs.Requests as manual
 use Rattle.uring_core.specs.declared.step.Step.TheVariants as step
 use Rattle.uring_core.specs.declared.answer.Answer.TheVariants as answer
@@ -85,18 +85,9 @@ none_chosen : (r : Requests) (m : ℕ)
     → (if is_cancel (entry_of r m) && is_success (entry_of r m) (manual.doomed_result r m) then choices_of r m else []) ≡ []
 none_chosen r m = grind (arith, doomed_fails)
 
-doomed_leaves : (linux : Bool) (r : Requests) (m : ℕ)
-    → with_issued_end linux r m (doomed_result linux r m) ≡ with_ended r m (doomed_result linux r m) no_bytes
-doomed_leaves linux r m = grind (arith, none_chosen, append-nil)
-
-doomed_makes : (g : Setup) (w : World) (m : ℕ)
-    → happens g w (step.Issue m) (answer.Ended (doomed_result g.linux w.requests m) no_bytes)
-    ≡ ended g w m (doom g.linux w.requests m)
-doomed_makes g w m = grind (arith, doomed_leaves)
-
 pub is_end : (g : Setup) (w : World) (runs : Bool) (n : ℕ) (x : Outcome) → MayEnd g w runs n x
     → IsEnd g w n x (end_step runs n)
-is_end g w runs n x may = grind (arith, doomed_makes)
+is_end g w runs n x may = grind (arith, none_chosen, append-nil)
 
 -- m may end after the start of n exactly if it could before it
 module _ (g : Setup) (w : World) (n m : ℕ) (x : Outcome) (differ : m ≢ n) (files : files_of g (begun w n) ≡ files_of g w) where

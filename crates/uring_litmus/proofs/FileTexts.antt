@@ -57,9 +57,6 @@ taken_whole [] (suc k) none = refl
 taken_whole (x ∷ xs) zero none = absurd cc
 taken_whole (x ∷ xs) (suc k) none = ap (λ l. x ∷ l) (taken_whole xs k none)
 
-none_at : (o : Option FileContents) → None ≡ option_map state_of_file o → o ≡ None
-none_at o none = grind arith
-
 -- where there is no file, all were told
 pub all_taken : (files : List FileContents) (fd : ℕ) (before texts : List (List ℕ))
     → None ≡ option_map state_of_file (slice_get files fd) → texts ≡ before ++ files_texts 0 (take fd files)

@@ -1,6 +1,6 @@
 -- Verdicts on claims of what was found, and outcomes that are chosen among it.
-use Rattle.std.proofs.Common.{◌≡◌, ◌↔◌, ◌+◌, ◌<◌, ◌≤◌, ℕ, Bool, true, false, not, List, [], ◌∷◌, ◌++◌, length, map, take, get_or, Option, Some, None, Result, Ok, Err, if◌then◌else◌, refl, sym, ap, subst, ◌∙◌, inl, inr, arith}
-use Rattle.uring_litmus.proofs.Common.{Contains, Contains-push_cases, Ending, Finds, Form, Global, IsAgainst, IsLineOf, IsShown, IsSoOf, IsVerdict, Judges, MatchOption, ShowsSome, StandsSome, String, accepted_of, is_so, map-append, parts_in, slice_get, slice_get_read, slice_get_within, string_bytes, take_all, texts_of}
+use Rattle.std.proofs.Common.{◌≡◌, ◌↔◌, ◌+◌, ◌<◌, ◌≤◌, ℕ, Bool, true, false, List, [], ◌∷◌, ◌++◌, length, map, take, get_or, Option, Some, None, Result, Ok, Err, if◌then◌else◌, refl, sym, ap, subst, ◌∙◌, inl, inr, arith}
+use Rattle.uring_litmus.proofs.Common.{Contains, Contains-push_cases, Ending, Finds, Form, Global, IsAgainst, IsLineOf, IsShown, IsSoOf, IsVerdict, Judges, MatchOption, StandsSome, String, accepted_of, is_so, map-append, slice_get, slice_get_read, slice_get_within, string_bytes, take_all, texts_of}
 use Rattle.uring_entry.specs.Setup.{Setup}
 use Rattle.uring_litmus.specs.declared.claims.Claim.{Claim}
 use Rattle.uring_litmus.specs.declared.judging.Judged.{Judged}
@@ -123,19 +123,6 @@ pub misses : (form : Form) (setup : Setup) (number : ℕ) (endings : List Ending
     → Finds setup endings is_all a a' → found ≡ Err count → IsPlaceOf form endings number found
     → Chooses form setup number (chosen.Missing count is_all) a a'
 misses form setup number endings is_all found count a a' finding is said = grind (arith, all_shown)
-
--- all of an outcome
-whole_is : (e : Ending) (parts : List (List ℕ)) → IsShown (record { is_sorted = false; has_files = true }) e parts
-    → parts ≡ parts_in e
-whole_is e parts shown = grind arith
-
--- A claim is so of an outcome exactly if it is by whether that shows some of the lines.
-never_if : (b r : Bool) (S : Type 0) → r ≡ not b → (b ≡ true) ↔ S → (r ≡ true) ↔ (S → ⊥)
-never_if b r S is both = grind arith
-
-so_if : (claim : Claim) (lines : List (List (List ℕ))) (e : Ending) (b r : Bool) → r ≡ is_so claim b
-    → (b ≡ true) ↔ ShowsSome lines e → (r ≡ true) ↔ IsSoOf claim lines e
-so_if claim lines e b r is both = grind arith
 
 pub so_by_parts : (claim : Claim) (lines : List (List (List ℕ))) (e : Ending) (parts : List (List ℕ)) (b r : Bool)
     → IsShown (record { is_sorted = false; has_files = true }) e parts → (b ≡ true) ↔ StandsSome lines parts

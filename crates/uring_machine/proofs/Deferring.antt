@@ -36,9 +36,6 @@ record IsGrouped (r : Requests) (d later : Drains) : Type 0 where
   pub passed : OnlyFaultyPass r (length r.accepted) later.deferred
   pub fewer : (k : ℕ) → k < d.from → is_in_some later.deferred k ≡ true → is_in_some d.deferred k ≡ true
 
-none_in : (n : ℕ) (xs : List Deferred) → xs ≡ [] → is_in_some xs n ≡ true → ⊥
-none_in n xs none e = let f : false ≡ true = sym (ap (λ ys. is_in_some ys n) none) ∙ e in cc
-
 group_ordered : (r : Requests) (d : Drains) → d.from < length r.accepted
     → ((k : ℕ) → d.from ≤ k → suc k < length r.accepted → is_last r k ≡ false)
     → InOrder IsAny 0 d.deferred d.from → (d.ring ≡ false → d.deferred ≡ [])

@@ -27,11 +27,6 @@ finish_less : (g : Setup) (w : World) (n : ℕ) (a : Answer) → is_outstanding 
     → IsEnded a → outstanding_in (finishing g w n a).requests + 1 ≡ outstanding_in w.requests
 finish_less g w n a outstanding ended = grind (arith, ended_less)
 
--- there is no next where none was answered
-next_none : (next : Option ℕ) (a : Answer) → a ≡ next_answer_of next
-    → ((k : ℕ) → a ≡ answer.Next k → ⊥) → next ≡ None
-next_none next a is other = grind arith
-
 -- an issue not answered Run started nothing
 not_started : (n : ℕ) (a : Answer) → (a ≡ answer.Run → ⊥) → started_by (step.Issue n, a) ≡ None
 not_started n a other = grind arith

@@ -1,9 +1,8 @@
 -- Sets of numbers as blocks: what is found at a place, and what a write of a block does to the set. `uring_dispatch` imports `holds_same` and `popped`.
-use Rattle.std.proofs.Common.{◌≡◌, ◌≢◌, ℕ, suc, ◌+◌, ◌-◌, ◌*◌, ◌/◌, ◌%◌, ◌^◌, ◌<◌, ◌≤◌, List, [], ◌∷◌, ◌++◌, length, get_or, set, Bool, true, false, eqb, bit_and, bit_or, refl, sym, ◌∙◌, ap, arith, inl, inr, w64, length-set, length-append, Option, Some}
-use Rattle.std.specs.Prelude.{if◌then◌else◌}
+use Rattle.std.proofs.Common.{◌≡◌, ◌≢◌, ℕ, ◌+◌, ◌-◌, ◌*◌, ◌/◌, ◌%◌, ◌^◌, ◌<◌, ◌≤◌, List, [], ◌∷◌, ◌++◌, length, get_or, set, Bool, true, false, eqb, bit_and, bit_or, refl, sym, ◌∙◌, ap, arith, inl, inr, w64, length-set, length-append, Option, Some}
 use Rattle.std.specs.Int.{bit_at, bit_not, trailing_zeros}
 use Rattle.std.specs.Option.{option_to_list}
-use Rattle.std.proofs.lemmas.Bool.{cases_lt, cases_eq, lt-ltb, le-ltb, eq-eqb, both_ways}
+use Rattle.std.proofs.lemmas.Bool.{cases_lt, cases_eq, eq-eqb, both_ways}
 use Rattle.std.proofs.lemmas.List.{get_or_past, get_or-set_same, get_or-set_other}
 use Rattle.std.proofs.lemmas.Nat.Bits.{bit_at-zero, bit_at_above, bit_at_set_same, bit_at_set_other, bit_at_clear_same, bit_at_clear_other, bit_at-trailing_zeros}
 use Rattle.std.proofs.lemmas.Nat.{shr-shr, shr_le}
@@ -13,76 +12,34 @@ use Rattle.uring_number_set.specs.NumberSet.{NumberSet, block_of, block_at, hold
 
 pub block_of_low : (first : ℕ) (blocks : List ℕ) (i : ℕ) → i < first → block_of first blocks i ≡ 0
 unfolding block_of
-block_of_low first blocks i lt =
-    ap (λ b. if b then 0 else get_or blocks (i - first) 0) (lt-ltb i first lt)
+block_of_low first blocks i lt = grind arith
 
 pub block_of_high : (first : ℕ) (blocks : List ℕ) (i : ℕ) → first ≤ i
     → block_of first blocks i ≡ get_or blocks (i - first) 0
 unfolding block_of
-block_of_high first blocks i le =
-    ap (λ b. if b then 0 else get_or blocks (i - first) 0) (le-ltb i first le)
+block_of_high first blocks i le = grind arith
 
 pub block_of_past : (first : ℕ) (blocks : List ℕ) (i : ℕ) → first + length blocks ≤ i
     → block_of first blocks i ≡ 0
-block_of_past first blocks i le =
-    block_of_high first blocks i (omega arith) ∙ get_or_past blocks (i - first) 0 (omega arith)
+block_of_past first blocks i le = grind (arith, block_of_high, get_or_past)
 
 -- a block that is added is zero, as what isn't kept
 pub block_of_push : (first : ℕ) (blocks : List ℕ) (i : ℕ)
     → block_of first (blocks ++ 0 ∷ []) i ≡ block_of first blocks i
 block_of_push first blocks i =
-    elim (cases_lt i first) [
-      | inl low ↦ block_of_low first _ i low ∙ sym (block_of_low first blocks i low)
-      | inr high ↦
-          block_of_high first (blocks ++ 0 ∷ []) i high
-          ∙ elim (cases_eq (i - first) (length blocks)) [
-            | inl same ↦
-                ap (λ k. get_or (blocks ++ 0 ∷ []) k 0) same ∙ get_or-append_seam blocks 0 [] 0
-                ∙ sym (get_or_past blocks (i - first) 0 (omega arith))
-            | inr other ↦
-                elim (cases_lt (i - first) (length blocks)) [
-                  | inl inside ↦ get_or-append blocks (0 ∷ []) 0 (i - first) inside
-                  | inr past ↦
-                      get_or_past (blocks ++ 0 ∷ []) (i - first) 0 (omega (arith, length-append blocks (0 ∷ [])))
-                      ∙ sym (get_or_past blocks (i - first) 0 past)
-                ]
-          ]
-          ∙ sym (block_of_high first blocks i high)
-    ]
+    grind (arith, (get_or-append_seam blocks 0), (length-append blocks (0 ∷ [])), block_of_low, block_of_high, get_or, get_or_past, get_or-append)
 
 pub block_of_pop : (first : ℕ) (blocks : List ℕ) (i : ℕ)
     → block_of (first + 1) blocks i ≡ block_of first (0 ∷ blocks) i
-block_of_pop first blocks i =
-    elim (cases_lt i first) [
-      | inl low ↦ block_of_low (first + 1) blocks i (omega arith) ∙ sym (block_of_low first (0 ∷ blocks) i low)
-      | inr high ↦
-          elim (cases_eq i first) [
-            | inl same ↦
-                let zeroth : i - first ≡ 0 = omega arith in
-                block_of_low (first + 1) blocks i (omega arith)
-                ∙ sym (block_of_high first (0 ∷ blocks) i high ∙ ap (λ k. get_or (0 ∷ blocks) k 0) zeroth)
-            | inr other ↦
-                let place : i - first ≡ suc (i - (first + 1)) = omega arith in
-                block_of_high (first + 1) blocks i (omega arith)
-                ∙ sym (block_of_high first (0 ∷ blocks) i high ∙ ap (λ k. get_or (0 ∷ blocks) k 0) place)
-          ]
-    ]
+block_of_pop first blocks i = grind (arith, block_of_low, block_of_high)
 
 block_of_set_here : (first : ℕ) (blocks : List ℕ) (i block : ℕ) → first ≤ i
     → i < first + length blocks → block_of first (set blocks (i - first) block) i ≡ block
-block_of_set_here first blocks i block le lt =
-    block_of_high first _ i le ∙ get_or-set_same blocks (i - first) block 0 (omega arith)
+block_of_set_here first blocks i block le lt = grind (arith, block_of_high, get_or-set_same)
 
 block_of_set_other : (first : ℕ) (blocks : List ℕ) (i k block : ℕ) → first ≤ i → k ≢ i
     → block_of first (set blocks (i - first) block) k ≡ block_of first blocks k
-block_of_set_other first blocks i k block le ne =
-    elim (cases_lt k first) [
-      | inl low ↦ block_of_low first _ k low ∙ sym (block_of_low first blocks k low)
-      | inr high ↦
-          block_of_high first (set blocks (i - first) block) k high
-          ∙ get_or-set_other blocks (i - first) (k - first) block 0 (λ e. ne (omega (arith, e)))
-          ∙ sym (block_of_high first blocks k high)
-    ]
+block_of_set_other first blocks i k block le ne = grind (arith, block_of_low, block_of_high, get_or-set_other)
 
 -- what is dropped from the front of a queue
 pub popped : {X : Type 0} (old new : List X) (r : Option X) (x y : X)
@@ -162,14 +119,7 @@ remove_puts s t n block c was first blocks limit =
 -- The lowest bit of a block that isn't zero is in the set.
 pub lowest_holds : (s : NumberSet) (place block : ℕ) → block ≡ block_at s place → 0 < block
     → block < 2 ^ 64 → holds s (64 * place + trailing_zeros w64 block) ≡ true
-lowest_holds s place block is some fits =
-    let t : ℕ = trailing_zeros w64 block in
-    let low = bit_at-trailing_zeros w64 block some fits in
-    let small : t < 64 = low.0 in
-    let at_place : (64 * place + t) / 64 ≡ place = omega arith in
-    let at_bit : (64 * place + t) % 64 ≡ t = omega arith in
-    holds_block s (64 * place + t) block (ap (block_at s) at_place ∙ sym is)
-    ∙ ap (λ i. eqb (bit_at block i) 1) at_bit ∙ eq-eqb _ 1 low.1
+lowest_holds s place block is some fits = grind (arith, (bit_at-trailing_zeros w64 block some fits), holds_block)
 
 -- The least number of a block, from one of its numbers on.
 
@@ -178,10 +128,7 @@ bit_at_shr : (block k i : ℕ) → bit_at (block / 2 ^ k) i ≡ bit_at block (k 
 bit_at_shr block k i = ap (λ b. b % 2) (shr-shr block k i)
 
 pub block_none : (block n : ℕ) → block / 2 ^ (n % 64) ≡ 0 → HasNoneFrom block n
-block_none block n zero k le same =
-    let place : k % 64 ≡ n % 64 + (k % 64 - n % 64) = omega arith in
-    ap (bit_at block) place ∙ sym (bit_at_shr block (n % 64) (k % 64 - n % 64))
-    ∙ ap (λ b. bit_at b (k % 64 - n % 64)) zero ∙ bit_at-zero (k % 64 - n % 64)
+block_none block n zero k le same = grind (arith, (bit_at_shr block (n % 64) (k % 64 - n % 64)))
 
 pub block_least : (block n : ℕ) → block < 2 ^ 64 → 0 < block / 2 ^ (n % 64)
     → IsLeastOf block n (n + trailing_zeros w64 (block / 2 ^ (n % 64)))
@@ -208,52 +155,22 @@ block_least block n fits some =
 -- The least number of the set from n on: it is in n's block, or else in the first block after it that isn't zero.
 pub least_within : (s : NumberSet) (n block m : ℕ) → block ≡ block_at s (n / 64)
     → IsLeastOf block n m → IsLeastFrom s n m
-least_within s n block m is l =
-    let same = l.same in
-    record {
-      from = l.from;
-      here = holds_block s m block (ap (block_at s) same ∙ sym is) ∙ eq-eqb _ 1 l.here;
-      before = λ k le lt.
-          let there : k / 64 ≡ n / 64 = omega arith in
-          holds_block s k block (ap (block_at s) there ∙ sym is) ∙ ap (λ b. eqb b 1) (l.before k le lt);
-    }
+least_within s n block m is l = grind (arith, holds_block)
 
 none_within : (s : NumberSet) (n block k : ℕ) → block ≡ block_at s (n / 64) → HasNoneFrom block n
     → n ≤ k → k / 64 ≡ n / 64 → holds s k ≡ false
-none_within s n block k is none le same =
-    holds_block s k block (ap (block_at s) same ∙ sym is) ∙ ap (λ b. eqb b 1) (none k le same)
+none_within s n block k is none le same = grind (arith, holds_block)
 
 pub none_from : (s : NumberSet) (n block : ℕ) → block ≡ block_at s (n / 64) → HasNoneFrom block n
     → ((i : ℕ) → n / 64 + 1 ≤ i → block_at s i ≡ 0) → (k : ℕ) → n ≤ k → holds s k ≡ false
-none_from s n block is none zeros k le =
-    elim (cases_eq (k / 64) (n / 64)) [
-      | inl same ↦ none_within s n block k is none le same
-      | inr other ↦ holds_zero s k (zeros (k / 64) (omega arith))
-    ]
+none_from s n block is none zeros k le = grind (arith, none_within)
 
 pub least_after : (s : NumberSet) (n block place found : ℕ) → block ≡ block_at s (n / 64)
     → HasNoneFrom block n → found ≡ block_at s place → 0 < found → found < 2 ^ 64
     → n / 64 + 1 ≤ place → ((i : ℕ) → n / 64 + 1 ≤ i → i < place → block_at s i ≡ 0)
     → IsLeastFrom s n (64 * place + trailing_zeros w64 found)
 least_after s n block place found is none at_place some fits after zeros =
-    let low = bit_at-trailing_zeros w64 found some fits in
-    let small : trailing_zeros w64 found < 64 = low.0 in
-    record {
-      from = omega arith;
-      here = lowest_holds s place found at_place some fits;
-      before = λ k le lt.
-          elim (cases_eq (k / 64) (n / 64)) [
-            | inl same ↦ none_within s n block k is none le same
-            | inr other ↦
-                elim (cases_lt (k / 64) place) [
-                  | inl lower ↦ holds_zero s k (zeros (k / 64) (omega arith) lower)
-                  | inr not_lower ↦
-                      let same : k / 64 ≡ place = omega arith in
-                      holds_block s k found (ap (block_at s) same ∙ sym at_place)
-                      ∙ ap (λ b. eqb b 1) (low.2 (k % 64) (omega arith))
-                ]
-          ];
-    }
+    grind (arith, (bit_at-trailing_zeros w64 found some fits), (lowest_holds s place found at_place some fits), none_within, holds_zero, holds_block)
 
 pub block_not_zero : (s : NumberSet) (n : ℕ) → holds s n ≡ true → block_at s (n / 64) ≢ 0
 block_not_zero s n e zero = both_ways _ (holds_zero s n zero) e

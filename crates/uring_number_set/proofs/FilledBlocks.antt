@@ -12,11 +12,7 @@ pub filled_some : (s f : NumberSet) (i : ℕ) → IsFilled s f → holds f i ≡
 filled_some s f i h e zero = both_ways _ (h.places i ∙ ap not (eq-eqb (block_at s i) 0 zero)) e
 
 pub filled_none : (s f : NumberSet) (i : ℕ) → IsFilled s f → holds f i ≡ false → block_at s i ≡ 0
-filled_none s f i h e =
-    elim (cases_eq (block_at s i) 0) [
-      | inl zero ↦ zero
-      | inr other ↦ absurd (both_ways _ e (h.places i ∙ ap not (ne_eqb (block_at s i) 0 other)))
-    ]
+filled_none s f i h e = grind arith
 
 -- a number is put into the set
 pub insert_filled : (s t f g : NumberSet) (n : ℕ) → IsFilled s f → Puts s t n true
@@ -93,13 +89,7 @@ remove_filled_some s t f n h p some was =
 pub same_filled : (s t f g : NumberSet) → IsFilled s f → IsSameSet s t → IsSameSet f g
     → start_of g ≤ t.first → t.first + length t.blocks ≤ stop_of g
     → stop_of g ≤ t.first + length t.blocks + 63 → t.first / 64 ≤ g.first → IsFilled t g
-same_filled s t f g h p q start stop few let_go = record {
-  places = λ i. holds_same f g q.same i ∙ h.places i ∙ ap (λ b. not (eqb b 0)) (sym (p.same i));
-  start = start;
-  stop = stop;
-  few = few;
-  let_go = let_go;
-}
+same_filled s t f g h p q start stop few let_go = grind (arith, holds_same)
 
 -- a number more is covered, and so is the place of its block, by no block more than that needs
 pub filled_few : (s t f g : NumberSet) (n : ℕ) → IsFilled s f → n < stop_of t
@@ -118,8 +108,7 @@ filled_few s t f g n h covered longer no_more =
 pub limit_puts : (s t : NumberSet) (n : ℕ) (now : Bool) (a b : ℕ) → Puts s t n now → b ≡ a
     → Puts (record s { limit = a }) (record t { limit = b }) n now
 unfolding holds
-limit_puts s t n now a b p same =
-    record { here = p.here; others = p.others; blocks = p.blocks; start = p.start; stop = p.stop; limit = same }
+limit_puts s t n now a b p same = grind arith
 
 pub limit_least : (s : NumberSet) (a n m : ℕ) → IsLeastFrom s n m
     → IsLeastFrom (record s { limit = a }) n m
@@ -128,8 +117,7 @@ limit_least s a n m l = record { from = l.from; here = l.here; before = l.before
 
 -- a number whose block is zero needn't be taken out
 pub zero_puts : (s : NumberSet) (n : ℕ) → block_at s (n / 64) ≡ 0 → Puts s s n false
-zero_puts s n zero =
-    record { here = holds_zero s n zero; others = λ k ne. refl; blocks = λ i ne. refl; start = refl; stop = refl; limit = refl }
+zero_puts s n zero = grind (arith, holds_zero)
 
 pub same_set : (s : NumberSet) → IsSameSet s s
 same_set s = record { same = λ i. refl; limit = omega arith }

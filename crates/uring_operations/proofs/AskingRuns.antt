@@ -1,5 +1,5 @@
 -- The laws of what is asked of open files, and taken back.
-use Rattle.std.proofs.Common.{◌≡◌, ℕ, ◌+◌, ◌^◌, ◌<◌, Bool, true, false, not, ◌&&◌, ◌||◌, ◌==◌, nat_lt, Option, Some, None, ap, ◌∙◌, if◌then◌else◌, arith}
+use Rattle.std.proofs.Common.{◌≡◌, ℕ, ◌+◌, ◌^◌, ◌<◌, Bool, true, false, not, ◌&&◌, ◌||◌, ◌==◌, nat_lt, Some, None, ap, ◌∙◌, if◌then◌else◌, arith}
 use Rattle.std.specs.Int.RustNames.{bit_and, bit_or}
 use Rattle.std.proofs.lemmas.Nat.{and_comm, and_or_self, or_disjoint, or_lt, and-not}
 use Rattle.uring_operations.specs.Files.Asking.{CallsNeverSleep, TakesBackWhatItAsked, flags_after}
@@ -20,14 +20,6 @@ is_set flags = ap (λ bits. bits == 0) (and_or_self 2048 flags)
 
 after : (flags : ℕ) → flags < 2 ^ 32 → bit_and flags 2048 ≡ 0 → flags_after true true (bit_or flags 2048) ≡ Some flags
 after flags below none = grind (arith, is_set, back)
-
-abbrev is_none_of : Option ℕ → Bool
-is_none_of (Some flags) = false
-is_none_of None = true
-
-abbrev flags_in : Option ℕ → ℕ
-flags_in (Some flags) = flags
-flags_in None = 0
 
 taken_back : (flags asked : ℕ) (is_none : Bool) → flags < 2 ^ 32 → (bit_and flags 2048 == 0) ≡ is_none
     → (if not (not is_none) then Some (bit_or flags 2048) else None) ≡ Some asked → flags_after true true asked ≡ Some flags

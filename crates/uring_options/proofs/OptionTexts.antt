@@ -14,7 +14,7 @@ use Rattle.clap.specs.declared.parser.matches.Found.{Found}
 use Rattle.clap.proofs.CallerReads.{signed_reads}
 use Rattle.clap.proofs.ValueTestLemmas.{accepts-Accepts}
 use Rattle.clap.proofs.WalkLemmas.{one_text-rows}
-use Rattle.uring_options.proofs.Walks.{Among, each_among, found_among, Each, IsRowOf, neither_fails}
+use Rattle.uring_options.proofs.Walks.{Among, each_among, found_among, Each, IsRowOf}
 
 -- ---- what clap's parser took
 
@@ -27,9 +27,7 @@ parsers_of id (a ∷ rules) =
 among_parsers : (id : Text) (rules : List Rule) (a : Rule) → Among a rules → bytes_eq a.id id ≡ true
     → Among (parser_of_value a.parser) (parsers_of id rules)
 among_parsers id [] a among named = absurd among
-among_parsers id (b ∷ rules) a (inl here) named =
-    let test : bytes_eq b.id id ≡ true = ap (λ (r : Rule). bytes_eq r.id id) here ∙ named in
-    rw test (inl (ap (λ (r : Rule). parser_of_value r.parser) here))
+among_parsers id (b ∷ rules) a (inl here) named = grind arith
 among_parsers id (b ∷ rules) a (inr later) named =
     go (bytes_eq b.id id) (among_parsers id rules a later named)
   where
@@ -37,14 +35,9 @@ among_parsers id (b ∷ rules) a (inr later) named =
     go true among = inr among
     go false among = among
 
-passes_test : {X : Type 0} (test : Bool) (x : X) → cond test [] (x ∷ []) ≡ [] → test ≡ true
-passes_test true x none = refl
-passes_test false x none = absurd cc
-
 first_passes : (ignore_case : Bool) (p : ValueParser) (t : Text) (rest : List Text)
     → values_kinds ignore_case p (t ∷ rest) ≡ [] → accepts ignore_case p t ≡ true
-first_passes ignore_case p t rest passes =
-    passes_test (accepts ignore_case p t) _ (neither_fails _ _ passes).0
+first_passes ignore_case p t rest passes = grind arith
 
 -- the rules have one of this option's name, with its parser
 abbrev pub parsers_for : List Rule → CommandOption → List ValueParser
@@ -66,8 +59,7 @@ option_taken rules rows option one each = row (find (λ r. bytes_eq r.id option.
         inr (t, ignore_case, rw (found, is, reading) refl, accepts-Accepts ignore_case (parser_for option.1) t (first_passes ignore_case (parser_for option.1) t vs passes))
 
     only : (p : ValueParser) → Among p (only_parser option) → p ≡ parser_for option.1
-    only p (inl is) = sym is
-    only p (inr none) = absurd none
+    only p h = grind arith
 
     row : (o : Option Row) → find (λ r. bytes_eq r.id option.0) rows ≡ o → TakesOption rows option
     row None found = inl (rw found refl)
@@ -83,8 +75,7 @@ pub options_taken : (rules : List Rule) (rows : List Row) (options : List Comman
     → Each (λ (o : CommandOption). parsers_for rules o ≡ only_parser o) options
     → Each (IsRowOf rules) rows → TakesOptions rows options
 options_taken rules rows [] fits each = tt
-options_taken rules rows (option ∷ rest) fits each =
-    (option_taken rules rows option fits.0 each, options_taken rules rows rest fits.1 each)
+options_taken rules rows (option ∷ rest) fits each = grind (arith, option_taken, (options_taken rules rows rest fits.1 each))
 
 -- ---- what clap's getters read of it
 

@@ -1,6 +1,6 @@
 -- When numbers are refused, and what else a command line can end with.
-use Rattle.std.proofs.Common.{◌≡◌, ◌∙◌, ◌*◌, ◌<◌, ◌≤◌, ◌^◌, ◌↔◌, ℕ, zero, suc, List, [], Option, Some, None, Result, Ok, Err, refl, sym, ap, subst, inl, inr, arith}
-use Rattle.uring_options.proofs.Common.{AnswersNamed, AreInRange, AskFor, AskForTooSmall, Gives, HasKind, IfErr, IfErr-weaker, IfOk, IsAmong, IsBadCq, IsErrAnd, IsErrOf, IsFaultOf, IsMemory, IsSetupOver, IsTooSmall, IsWithin, Kinds, Numbers, Row, Setup, Text, Writes, cases_lt, codes, command_rows, digits_value, subcommand_of, unwrap_or, uring, without_leading_plus}
+use Rattle.std.proofs.Common.{◌≡◌, ◌∙◌, ◌*◌, ◌<◌, ◌≤◌, ◌^◌, ◌↔◌, ℕ, zero, suc, List, [], Option, Some, None, Result, Ok, Err, refl, sym, subst, inl, inr, arith}
+use Rattle.uring_options.proofs.Common.{AnswersNamed, AreInRange, AskFor, AskForTooSmall, Gives, HasKind, IfErr, IfErr-weaker, IfOk, IsBadCq, IsErrAnd, IsErrOf, IsFaultOf, IsMemory, IsSetupOver, IsTooSmall, IsWithin, Kinds, Numbers, Row, Setup, Text, Writes, cases_lt, codes, command_rows, subcommand_of, unwrap_or, uring}
 use Rattle.std.specs.Int.{IsNextPowerOfTwo}
 use Rattle.std.proofs.Math.Nat.{pow-suc}
 use Rattle.clap.specs.Faults.{fault_of}
@@ -37,9 +37,7 @@ too_small n ranges bad =
     given p rounded None is within none = absurd none
     given p rounded (Some cq) is within (inl (inl low)) = absurd (omega arith)
     given p rounded (Some cq) is within (inl (inr high)) = absurd (omega arith)
-    given p rounded (Some cq) is within (inr smaller) =
-        let q = rounding 13 cq within.0 within.1 in
-        record { cq = cq; given = is; sq_size = p; sq_rounded = rounded; cq_size = q.0; cq_rounded = q.1; smaller = smaller q.0 q.1 }
+    given p rounded (Some cq) is within (inr smaller) = grind (arith, (rounding 13 cq within.0 within.1))
 
     sizes : ((p : ℕ) × IsNextPowerOfTwo (unwrap_or n.sq 4) p) → IsTooSmall n
     sizes p = given p.0 p.1 n.cq refl ranges.cq (bad p.0 p.1)
@@ -48,12 +46,7 @@ too_small n ranges bad =
 
 gives_once : (rows : List Row) (id : Text) (a b : Option ℕ) → Gives rows id a → Gives rows id b
     → a ≡ b
-gives_once rows id None None x y = refl
-gives_once rows id None (Some b) x y = let e : None ≡ Some y.0 = sym x ∙ y.1 in absurd cc
-gives_once rows id (Some a) None x y = let e : None ≡ Some x.0 = sym y ∙ x.1 in absurd cc
-gives_once rows id (Some a) (Some b) x y =
-    let text : x.0 ≡ y.0 = let e : Some x.0 ≡ Some y.0 = sym x.1 ∙ y.1 in cc in
-    ap (λ (k : ℕ). Some k) (x.2.value ∙ ap (λ (t : Text). digits_value 10 (without_leading_plus t)) text ∙ sym y.2.value)
+gives_once rows id a b x y = grind arith
 
 not_over : (words : List Text) (n : Numbers) (s : Setup) → Writes words n → IsSetupOver n s
     → AskForTooSmall words → ⊥
@@ -80,8 +73,7 @@ not_both words _ (n, writes, over) small = not_over words n _ writes over.1.0 sm
 
 -- words without a fault fail by memory alone
 memory_alone : (kinds : Kinds) (e : Error) → kinds ≡ [] → HasKind kinds e → kind_of e ≡ OutOfMemory
-memory_alone kinds e none (inl memory) = memory
-memory_alone kinds e none (inr among) = absurd (subst (λ ks. IsAmong (kind_of e) ks) none among)
+memory_alone kinds e none h = grind arith
 
 -- what a refusal shows
 abbrev pub IsRefusal : List Text → OptionsFault → Type 0
@@ -97,20 +89,15 @@ Outcome words r = IfOk r (AskFor words) × IfErr r (IsRefusal words)
 -- words without a fault, as their rows have an outcome
 pub words_answered : (words : List Text) (r : Result Options OptionsFault) → fault_of uring words ≡ []
     → AnswersNamed (subcommand_of uring words) r → Outcome words r
-words_answered words (Ok o) fine (n, gives, over) =
-    ((n, record { no_fault = fine; numbers = gives }, over), tt)
-words_answered words (Err e) fine (small, (n, gives, too)) =
-    (tt, subst (IsRefusal words) (sym small) (n, record { no_fault = fine; numbers = gives }, too))
+words_answered words r fine h = grind arith
 
 -- words that clap refuses
 pub words_refused : (words : List Text) (r : Result Options OptionsFault) (e : Error)
     → IsErrAnd r (λ f. f ≡ Words e) → HasKind (fault_of uring words) e → Outcome words r
-words_refused words (Ok o) e is kind = absurd is
-words_refused words (Err f) e is kind = (tt, subst (IsRefusal words) (sym is) kind)
+words_refused words r e is kind = grind arith
 
 fault_shown : (words : List Text) (e : OptionsFault) → IsRefusal words e → IsFaultOf words e
-fault_shown words Small shown = tt
-fault_shown words (Words e) shown = shown
+fault_shown words e shown = grind arith
 
 pub refusal_is_fault : (words : List Text) (r : Result Options OptionsFault) → Outcome words r
     → IfErr r (IsFaultOf words)

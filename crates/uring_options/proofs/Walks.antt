@@ -1,9 +1,9 @@
 -- What clap's walk over words without a fault leaves: each row has values that its option's parser took.
-use Rattle.std.proofs.Common.{◌≡◌, ◌∙◌, ◌&&◌, ◌||◌, ℕ, zero, suc, Bool, true, false, cond, List, [], ◌∷◌, ◌++◌, Option, Some, None, refl, sym, ap, subst, ◌⊎◌, inl, inr, append-nil, fold, is_some, length, drop, not, true≢false, arith}
-use Rattle.uring_options.proofs.Common.{Held, Kinds, Names, Outcome, Row, Rule, Shape, Step, Text, Waiting, Walk, action_fault, action_of, after_flag, after_step, and_parts, arg_by_id, arg_by_index, arg_by_long, arg_by_short, at_row, attached_value, bundle, bundle_fault, bundle_met, bundle_step, bundle_step_fault, default_fault, default_rows, defaults_fault, done, encode_utf8, find, flag_met, flag_word_fault, flags_fault, given_default_fault, has_long, has_row, has_short, is_empty, is_pending, level_fault, list_all, long_fault, long_met, long_or_other, more_values, ne_eqb, nothing_held, option, option_fault, option_met, option_word, or_else, other_fault, plain, plain_word, positional_fault, positional_held, react_fault, reacted, reading_by, request_kinds, rows_after, set_fault, settle_fault, settled, settled_rows, short_fault, short_met, short_or_plain, slice_get, step_fault, stray_fault, subcommand_met, subcommand_or_other, takes_several, takes_values, to_positional, trailing, turn_fault, use_fault, used, used_as, used_by_id, value, values_fault, values_or_missing, waits, walk, walk_fault, walk_from, walked, walked_from, with_default, with_values, without, word_fault, word_met}
+use Rattle.std.proofs.Common.{◌≡◌, ◌&&◌, ◌||◌, ℕ, zero, suc, Bool, true, false, cond, List, [], ◌∷◌, ◌++◌, Option, Some, None, refl, sym, ap, subst, ◌⊎◌, inl, inr, append-nil, fold, is_some, length, true≢false, arith}
+use Rattle.uring_options.proofs.Common.{Held, Kinds, Names, Outcome, Row, Rule, Shape, Step, Text, Waiting, Walk, action_fault, action_of, after_flag, after_step, and_parts, arg_by_id, arg_by_index, at_row, attached_value, bundle, bundle_fault, bundle_met, bundle_step, bundle_step_fault, default_fault, default_rows, defaults_fault, done, find, flag_met, flag_word_fault, flags_fault, given_default_fault, has_row, is_empty, level_fault, list_all, long_fault, long_met, long_or_other, ne_eqb, nothing_held, option, option_fault, option_met, option_word, or_else, other_fault, plain, plain_word, positional_fault, positional_held, react_fault, reacted, reading_by, request_kinds, rows_after, set_fault, settle_fault, settled, settled_rows, short_fault, short_met, short_or_plain, slice_get, step_fault, stray_fault, subcommand_or_other, takes_values, to_positional, turn_fault, use_fault, used, used_as, used_by_id, value, values_fault, waits, walk_fault, walked, walked_from, with_default, with_values, without, word_fault, word_met}
 use Rattle.std.specs.Option.{option_map_or}
 use Rattle.std.specs.Str.{bytes_eq, chars}
-use Rattle.clap.specs.Lexer.{long_of, short_of}
+use Rattle.clap.specs.Lexer.{short_of}
 use Rattle.clap.specs.declared.builder.action.ArgAction.{ArgAction}
 use Rattle.clap.specs.declared.builder.action.ArgAction.TheVariants as action
 use Rattle.clap.specs.declared.error.kind.ErrorKind.TheVariants as kind
@@ -14,8 +14,7 @@ use Rattle.clap.specs.declared.parser.matches.ValueSource.TheVariants as source
 
 -- the first of two steps has no fault, nor has the second
 pub neither_fails : (a b : Kinds) → or_else a b ≡ [] → (a ≡ []) × (b ≡ [])
-neither_fails [] b none = (refl, none)
-neither_fails (k ∷ ks) b none = absurd cc
+neither_fails a b none = grind arith
 
 -- ---- lists
 
@@ -85,8 +84,7 @@ at_no_row id change new (r ∷ rows) none = go (at_no_row id change new rows) (b
 
 no_repeat : (b : Bool) (ks : Kinds)
     → or_else (cond (b && true) (kind.ArgumentConflict ∷ []) []) ks ≡ [] → (b ≡ false) × (ks ≡ [])
-no_repeat true ks e = absurd cc
-no_repeat false ks e = (refl, e)
+no_repeat b ks e = grind arith
 
 -- ---- the walk of a command, whose options take values or none, each once, or ask for help
 
@@ -99,13 +97,10 @@ module _ (s : Shape) (plain_rules : list_all is_plain s.rules ≡ true) (once : 
   Keeps old fault new = Rows old → fault ≡ [] → Rows new
 
   in_turn : (a b : Kinds) (r t u : List Row) → Keeps r a t → Keeps t b u → Keeps r (or_else a b) u
-  in_turn a b r t u first second each passes =
-      let both = neither_fails a b passes in
-      second (first each both.0) both.1
+  in_turn a b r t u first second each passes = grind arith
 
   either : {X : Type 0} (f : X → List Row) (r : List Row) (b : Bool) (k l : Kinds) (x y : X) → Keeps r k (f x) → Keeps r l (f y) → Keeps r (cond b k l) (f (cond b x y))
-  either f r true k l x y first second = first
-  either f r false k l x y first second = second
+  either f r b k l x y first second = grind arith
 
   with_same : (r t u : List Row) (k : Kinds) → u ≡ t → Keeps r k t → Keeps r k u
   with_same r t u k same keeps each passes = subst Rows (sym same) (keeps each passes)
@@ -115,33 +110,22 @@ module _ (s : Shape) (plain_rules : list_all is_plain s.rules ≡ true) (once : 
   -- values of a rule that has no row yet add one
   new_row : (a : Rule) (from : ValueSource) (values : List Text) (rows : List Row) → Among a s.rules → has_row a.id rows ≡ false → values_fault a values ≡ [] → Rows rows
       → Rows (with_values a.id (reading_by a) from values rows)
-  new_row a from values rows among none fits each =
-      let new : Row = record { id = a.id; values = values; count = None; source = Some from; reading = reading_by a } in
-      let row : IsRowOf s.rules new = record { rule = a; among = among; id = refl; reading = refl; values = fits } in
-      subst Rows (sym (at_no_row a.id (more_values from values) (new ∷ []) rows none)) (each_more (IsRowOf s.rules) rows new each row)
+  new_row a from values rows among none fits each = grind (arith, at_no_row, each_more)
 
   set_row : (a : Rule) (values : List Text) (rows : List Row) → Among a s.rules
       → Keeps rows (set_fault s.args_override_self a values rows) (with_values a.id (reading_by a) source.CommandLine values (without a.id rows))
-  set_row a values rows among each passes =
-      let both = no_repeat (has_row a.id rows) (values_fault a values) (rw once at passes) in
-      let same : without a.id rows ≡ rows = at_no_row a.id (λ _. []) [] rows both.0 ∙ append-nil rows in
-      subst (λ rs. Rows (with_values a.id (reading_by a) source.CommandLine values rs)) (sym same) (new_row a source.CommandLine values rows among both.0 both.1 each)
+  set_row a values rows among each passes = grind (arith, no_repeat, at_no_row, append-nil, with_values, new_row)
 
   used_row : (a : Rule) (x : ArgAction) (values : List Text) (rows : List Row) → Among a s.rules → sets_or_helps x ≡ true
       → Keeps rows (action_fault x s.args_override_self a values rows) (used_as x a.id (reading_by a) values rows)
-  used_row a action.Set values rows among sets = set_row a values rows among
-  used_row a action.SetTrue values rows among sets = set_row a values rows among
-  used_row a action.Help values rows among sets = λ each passes. absurd cc
-  used_row a _ values rows among sets = absurd (true≢false (sym sets))
+  used_row a x values rows among sets = grind (arith, set_row)
 
   use_row : (a : Rule) (values : List Text) (rows : List Row) → Among a s.rules → Keeps rows (use_fault s.args_override_self a values rows) (used a values rows)
-  use_row a values rows among each passes =
-      used_row a (action_of a) (values_or_missing a values) rows among (passes_among is_plain s.rules a plain_rules among) each (neither_fails _ _ passes).1
+  use_row a values rows among each passes = grind (arith, used_row, passes_among)
 
   use_found : (test : Rule → Bool) (values : List Text) (rows : List Row) (o : Option Rule) → find test s.rules ≡ o
       → Keeps rows (option_map_or (λ a. use_fault s.args_override_self a values rows) o []) (used_by_id o values rows)
-  use_found test values rows None found = λ each passes. each
-  use_found test values rows (Some a) found = use_row a values rows (found_among test s.rules a found).0
+  use_found test values rows o found = grind (arith, use_row, found_among)
 
   -- what was pending is used
   settled_row : (h : Held) → Keeps h.rows (settle_fault s.rules s.args_override_self h) (settled s.rules h).rows
@@ -152,9 +136,7 @@ module _ (s : Shape) (plain_rules : list_all is_plain s.rules ≡ true) (once : 
       go (Some p) = use_found (λ a. bytes_eq a.id p.0) p.1 h.rows (arg_by_id s.rules p.0) refl
 
   reacted_row : (a : Rule) (values : List Text) (h : Held) → Among a s.rules → Keeps h.rows (react_fault s.rules s.args_override_self a values h) (reacted s.rules a values h).rows
-  reacted_row a values h among =
-      in_turn (settle_fault s.rules s.args_override_self h) (use_fault s.args_override_self a values (settled s.rules h).rows) h.rows (settled s.rules h).rows (reacted s.rules a values h).rows
-      (settled_row h) (use_row a values (settled s.rules h).rows among)
+  reacted_row a values h among = grind (arith, settled_row, use_row)
 
   -- ---- a flag word
 
@@ -168,10 +150,7 @@ module _ (s : Shape) (plain_rules : list_all is_plain s.rules ≡ true) (once : 
   flag_row a (Some v) h among = λ each passes. each
 
   long_row : (test : Rule → Bool) (o : Option Rule) (v : Option Text) (h : Held) → find test s.rules ≡ o → Keeps h.rows (long_fault s.rules s.args_override_self o v h) (long_met s.rules o v h).0.rows
-  long_row test None v h found = λ each passes. each
-  long_row test (Some a) v h found =
-      let among = (found_among test s.rules a found).0 in
-      either (λ (m : Held × Outcome). m.0.rows) h.rows (takes_values a) _ _ (option_met s.rules a v h) (flag_met s.rules a v h) (option_row a v h among) (flag_row a v h among)
+  long_row test o v h found = grind (arith, found_among, either, option_row, flag_row)
 
   -- a flag of a bundle, where what comes after it keeps the rows
   short_row : (test : Rule → Bool) (o : Option Rule) (rest : Text) (h : Held) (go_on : Held → Held × Outcome) (go_on_fault : Held → Kinds) → find test s.rules ≡ o
@@ -188,11 +167,7 @@ module _ (s : Shape) (plain_rules : list_all is_plain s.rules ≡ true) (once : 
   step_row : (o : Option ℕ) (flags : Text) (skip : ℕ) (so_far : Outcome) (h : Held) (go_on : Text → ℕ → Outcome → Held → Held × Outcome) (go_on_fault : Text → ℕ → Held → Kinds)
       → ((f : Text) (n : ℕ) (x : Outcome) (g : Held) → Keeps g.rows (go_on_fault f n g) (go_on f n x g).0.rows)
       → Keeps h.rows (bundle_step_fault s.rules s.args_override_self o flags skip h go_on_fault) (bundle_step s.rules o flags skip so_far h go_on).0.rows
-  step_row None flags skip so_far h go_on go_on_fault later = λ each passes. each
-  step_row (Some x) flags zero so_far h go_on go_on_fault later =
-      let rest = drop (length (encode_utf8 x)) flags in
-      short_row (λ a. not (is_some a.index) && has_short a x) (arg_by_short s.rules x) rest h (go_on rest 0 done) (go_on_fault rest 0) refl (later rest 0 done)
-  step_row (Some x) flags (suc n) so_far h go_on go_on_fault later = later (drop (length (encode_utf8 x)) flags) n so_far h
+  step_row o flags skip so_far h go_on go_on_fault later = grind (arith, short_row)
 
   bundle_row : (k : ℕ) (flags : Text) (skip : ℕ) (so_far : Outcome) (h : Held) → Keeps h.rows (flags_fault s.rules s.args_override_self k flags skip h) (bundle_met s.rules k flags skip so_far h).0.rows
   unfolding bundle_met flags_fault
@@ -217,10 +192,7 @@ module _ (s : Shape) (plain_rules : list_all is_plain s.rules ≡ true) (once : 
 
   flag_word_row : (waiting : Waiting) (word : Text) (o : Option (Text × Option Text)) (h : Held)
       → Keeps h.rows (flag_word_fault s.rules s.args_override_self o word h) (long_or_other s.rules waiting word o h).0.rows
-  flag_word_row waiting word (Some p) h =
-      let met : Held × Outcome = long_met s.rules (arg_by_long s.rules p.0) p.1 h in
-      with_same h.rows met.0.rows (after_flag s.rules waiting word met.0 met.1).0.rows _ (after_row waiting word met.0 met.1)
-      (long_row (λ a. not (is_some a.index) && has_long a p.0) (arg_by_long s.rules p.0) p.1 h refl)
+  flag_word_row waiting word (Some p) h = grind (arith, long_row)
   flag_word_row waiting word None h = go (short_of word)
     where
       go : (o : Option Text) → Keeps h.rows (option_map_or (λ flags. bundle_fault s.rules s.args_override_self flags h) o []) (short_or_plain s.rules waiting word o h).0.rows
@@ -231,20 +203,15 @@ module _ (s : Shape) (plain_rules : list_all is_plain s.rules ≡ true) (once : 
           (bundle_row (length flags) flags h.skip plain (record h { skip = 0 }))
 
   other_row : (o : Option Text) (waiting : Waiting) (position : ℕ) (word : Text) (h : Held) → Keeps h.rows (other_fault s o word h) (subcommand_or_other s.rules o waiting position word h).0.rows
-  other_row (Some name) waiting position word h = λ each passes. each
-  other_row None waiting position word h =
-      either (λ (m : Held × Step). m.0.rows) h.rows (bytes_eq word (45 ∷ 45 ∷ [])) _ _ (h, trailing position) (long_or_other s.rules waiting word (long_of word) h) (λ each passes. each)
-      (flag_word_row waiting word (long_of word) h)
+  other_row o waiting position word h = grind (arith, flag_word_row)
 
   word_row : (names : Names) (is_trailing : Bool) (waiting : Waiting) (position : ℕ) (word : Text) (h : Held)
       → Keeps h.rows (word_fault s names is_trailing waiting word h) (word_met s.rules names is_trailing waiting position word h).0.rows
-  word_row names true waiting position word h = λ each passes. each
-  word_row names false waiting position word h = other_row (subcommand_met names waiting word) waiting position word h
+  word_row names is_trailing waiting position word h = grind (arith, other_row)
 
   -- a word that goes to a positional ends what was pending
   positional_row : (a : Rule) (word : Text) (h : Held) → Keeps h.rows (positional_fault s.rules s.args_override_self a h) (positional_held s.rules a word h).rows
-  positional_row a word h =
-      either (λ (g : Held). g.rows) h.rows (is_pending a h.pending && takes_several a) _ _ h (settled s.rules h) (λ each passes. each) (settled_row h)
+  positional_row a word h = grind (arith, settled_row)
 
   step_taken_row : (word : Text) (w : Walk) (h : Held) (step : Step) → Keeps h.rows (step_fault s w.position h step) (after_step s.rules word w h step).held.rows
   step_taken_row word w h value = go (arg_by_index s.rules w.position)
@@ -262,8 +229,7 @@ module _ (s : Shape) (plain_rules : list_all is_plain s.rules ≡ true) (once : 
       met = word_met s.rules names w.is_trailing w.waiting w.position word w.held
 
       go : (o : Option (Text × List Text)) → Keeps w.held.rows (cond (is_some o) [] (or_else (word_fault s names w.is_trailing w.waiting word w.held) (step_fault s w.position met.0 met.1))) (walked_from s.rules names o w word).held.rows
-      go (Some p) = λ each passes. each
-      go None = in_turn _ _ w.held.rows met.0.rows _ (word_row names w.is_trailing w.waiting w.position word w.held) (step_taken_row word w met.0 met.1)
+      go o = grind (arith, in_turn, word_row, step_taken_row)
 
   walk_row : (names : Names) (w : Walk) (words : List Text) → Keeps w.held.rows (walk_fault s names w words) (fold (walked s.rules names) w words).held.rows
   unfolding walk_fault
@@ -291,9 +257,4 @@ module _ (s : Shape) (plain_rules : list_all is_plain s.rules ≡ true) (once : 
 
   -- words without a fault leave rows of the rules
   pub rows_of_rules : (words : List Text) → level_fault s [] nothing_held words false [] ≡ [] → Each (IsRowOf s.rules) (rows_after s.rules [] words)
-  rows_of_rules words =
-      let end : Held = (walk s.rules [] nothing_held words).held in
-      let last : List Row = rows_after s.rules [] words in
-      in_turn _ _ [] end.rows last (walk_row [] (walk_from nothing_held) words)
-      (in_turn _ _ end.rows (settled s.rules end).rows last (settled_row end)
-      (in_turn _ _ (settled s.rules end).rows last last (defaults_rows s.rules (settled s.rules end).rows (λ a there. there)) (λ each passes. each))) tt
+  rows_of_rules words = grind (arith, in_turn, walk_row, settled, settled_row, defaults_rows)

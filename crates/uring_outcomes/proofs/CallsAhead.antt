@@ -1,6 +1,6 @@
 -- A call that is accepted before another move is made: the move can be made as well, and leads to the same, if no cancel names an entry of the call.
 use Rattle.std.proofs.Common.{◌≡◌, ℕ, zero, suc, ◌<◌, ◌≤◌, ℤ, Bool, true, false, not, ◌&&◌, nat_lt, List, [], ◌∷◌, ◌++◌, length, Option, Some, if◌then◌else◌, refl, sym, ap, ap₂, ◌∙◌, inl, inr, arith, append-nil}
-use Rattle.uring_outcomes.proofs.Common.{AreUnnamed, Moment, Requests, Sqe, addr_of, and_parts, both_ways, cancel_result, cases_lt, chosen_by, cond-false, cond-true, doom_kept, ended_at_once, entry_kept, entry_of, false_from_ne_true, finished, get_or-append_right, is_cancel, is_candidate, is_doomed, is_finishable, is_running, is_target, issued, least_below_same, length-append, longer, lt-ltb, ltb-true, moved, result_for, target_of, targets_of, with_call}
+use Rattle.uring_outcomes.proofs.Common.{AreUnnamed, Moment, Requests, Sqe, addr_of, and_parts, both_ways, cancel_result, cases_lt, chosen_by, cond-false, cond-true, doom_kept, ended_at_once, entry_kept, entry_of, false_from_ne_true, finished, get_or-append_right, is_cancel, is_candidate, is_doomed, is_finishable, is_running, is_target, issued, least_below_same, length-append, longer, lt-ltb, ltb-true, moved, target_of, targets_of, with_call}
 use Rattle.uring_laws.proofs.Growth.{IsCut}
 use Rattle.uring_entry.specs.Below.{least_below, all_below, found_or}
 use Rattle.uring_outcomes.specs.declared.move_of_calls.Move.TheVariants as move
@@ -35,10 +35,6 @@ all_between p n (suc m) le h =
       | inr high ↦ let same : suc m ≡ n = omega arith in ap (all_below p) same
     ]
 
-result_same : (r : Requests) (call : List Sqe) (o : Option ℕ)
-    → result_for (with_call r call) o ≡ result_for r o
-result_same r call o = grind arith
-
 -- What a call leaves as it was.
 
 module _ (named : ℕ → Bool) (r : Requests) (call : List Sqe) (cut : IsCut r) (unnamed : AreUnnamed named call) where
@@ -69,7 +65,7 @@ module _ (named : ℕ → Bool) (r : Requests) (call : List Sqe) (cut : IsCut r)
 
   pub result_kept : (n : ℕ) → named (addr_of (entry_of r n)) ≡ true → n < length r.accepted
       → cancel_result (with_call r call) n ≡ cancel_result r n
-  result_kept n names low = grind (arith, entry_kept, targets_kept, target_kept, result_same)
+  result_kept n names low = grind (arith, entry_kept, targets_kept, target_kept)
 
   chosen_kept : (n : ℕ) (res : ℤ) → (is_cancel (entry_of r n) ≡ true → named (addr_of (entry_of r n)) ≡ true)
       → n < length r.accepted → chosen_by (with_call r call) n res ≡ chosen_by r n res

@@ -1,6 +1,6 @@
 -- What ends a walk before its end: an operation that wasn't granted its memory, and calls with more entries than requests have numbers.
-use Rattle.std.proofs.Common.{◌≡◌, ℕ, ◌+◌, ◌≤◌, ◌^◌, Bool, List, [], ◌∷◌, length, drop, get_or, Option, Some, None, Result, Err, if◌then◌else◌, sym, subst, ap, arith, ◌<◌}
-use Rattle.uring_outcomes.proofs.Common.{Global, IfErr, IsErrAnd, Moment, Move, Run, Sqe, StandsAt, Vec, accepted, after_moves, entries_of, length-append, moved, option_and_then, starting}
+use Rattle.std.proofs.Common.{◌≡◌, ℕ, ◌+◌, ◌≤◌, ◌^◌, List, [], ◌∷◌, length, drop, get_or, Option, Some, Result, Err, sym, subst, ap, arith, ◌<◌}
+use Rattle.uring_outcomes.proofs.Common.{Global, IfErr, IsErrAnd, Moment, Move, Run, Sqe, StandsAt, Vec, after_moves, entries_of, length-append, moved, option_and_then, starting}
 use Rattle.uring_dispatch.specs.declared.errors.ReserveError.{ReserveError}
 use Rattle.uring_dispatch.specs.declared.errors.ReserveError.TheVariants as refused
 use Rattle.uring_outcomes.specs.Faults.{entry_count, IsReason, fault_of}
@@ -13,16 +13,8 @@ use Rattle.uring_outcomes.proofs.Moving.{next_left}
 abbrev all_of : Moment → ℕ
 all_of m = length m.requests.accepted + entry_count m.left
 
-accept_keeps : (m next : Moment) (left : List (List Sqe)) → m.left ≡ left → accepted m left ≡ Some next
-    → all_of next ≡ all_of m
-accept_keeps m next left is so = grind (arith, length-append)
-
-can_keep : (can : Bool) (m after next : Moment) → all_of after ≡ all_of m
-    → (if can then Some after else None) ≡ Some next → all_of next ≡ all_of m
-can_keep can m after next same so = grind arith
-
 move_keeps : (m next : Moment) (x : Move) → moved m x ≡ Some next → all_of next ≡ all_of m
-move_keeps m next x so = grind (arith, accept_keeps, can_keep)
+move_keeps m next x so = grind (arith, length-append)
 
 first_then : (first : Option Moment) (m last : Moment) (later : List Move)
     → ((y : Moment) → first ≡ Some y → all_of y ≡ all_of m)

@@ -1,14 +1,10 @@
 -- Moves change neither the number of files nor, so, that there are few.
-use Rattle.std.proofs.Common.{◌≡◌, ℕ, ◌≤◌, ℤ, Bool, List, [], ◌∷◌, length, Option, Some, None, if◌then◌else◌, refl, sym, ap, ◌∙◌, arith}
-use Rattle.uring_outcomes.proofs.Common.{IsReached, Moment, Move, Sqe, after_moves, empty_file, ended_at_once, length-replicate, moved, option_and_then, started, starting, unwrap_or}
+use Rattle.std.proofs.Common.{◌≡◌, ◌≤◌, List, [], ◌∷◌, length, Option, Some, None, refl, sym, ap, ◌∙◌, arith}
+use Rattle.uring_outcomes.proofs.Common.{IsReached, Moment, Move, Sqe, after_moves, empty_file, length-replicate, moved, option_and_then, starting, unwrap_or}
 use Rattle.uring_files.proofs.OperationCases.{many_after}
 
-issue_count : (m : Moment) (n : ℕ) (doomed cancel : Bool) (as_doomed as_cancel : ℤ)
-    → length (if doomed then ended_at_once m n as_doomed else (if cancel then ended_at_once m n as_cancel else started m n)).files ≡ length m.files
-issue_count m n doomed cancel as_doomed as_cancel = grind arith
-
 one_count : (m next : Moment) (x : Move) → moved m x ≡ Some next → length next.files ≡ length m.files
-one_count m next x e = grind (arith, issue_count, many_after)
+one_count m next x e = grind (arith, many_after)
 
 count_on : (moves : List Move) (m last : Moment) → after_moves m moves ≡ Some last
     → length last.files ≡ length m.files

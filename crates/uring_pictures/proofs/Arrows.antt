@@ -1,5 +1,5 @@
 -- The parts of a graph, one by one.
-use Rattle.std.proofs.Common.{◌≡◌, ℕ, suc, ◌+◌, List, ◌++◌, Bool, not, ◌||◌, Option, Some, None, refl, ap, sym, ◌∙◌, append_assoc, arith}
+use Rattle.std.proofs.Common.{◌≡◌, ℕ, suc, ◌+◌, List, ◌++◌, Bool, not, ◌||◌, Option, Some, None, refl, ap, ◌∙◌, append_assoc, arith}
 use Rattle.uring_pictures.proofs.Common.{Requests, Sqe, arrows_below, arrows_text, call_of, codes, entry_outstanding, first_of, if◌then◌else◌, in_chain, is_chained, is_last, is_some, line_text, member_before, node_text, placed_text, row_text}
 use Rattle.std.specs.Prelude.{nat_lt}
 use Rattle.uring_linux.specs.LinuxRequests.{LinuxRequests}
@@ -9,15 +9,13 @@ use Rattle.uring_entry.specs.declared.why.Why.{Why}
 -- what stands in a cluster, whose beginning has five parts, and in two
 pub framed : (old so on new p q r s t part end : List ℕ) → so ≡ old ++ (p ++ (q ++ (r ++ (s ++ t))))
     → on ≡ so ++ part → new ≡ on ++ end → new ≡ old ++ (p ++ q ++ r ++ s ++ t ++ part ++ end)
-framed old so on new p q r s t part end a b is =
-    is ∙ ap (λ (l : List ℕ). l ++ end) (b ∙ ap (λ (l : List ℕ). l ++ part) a) ∙ simp append_assoc refl
+framed old so on new p q r s t part end a b is = grind (arith, append_assoc)
 
 pub framed_twice : (old so on new p q r s t u v w x y part end last : List ℕ)
     → so ≡ old ++ (p ++ (q ++ (r ++ (s ++ (t ++ (u ++ (v ++ (w ++ (x ++ y))))))))) → on ≡ so ++ part
     → new ≡ on ++ (end ++ last)
     → new ≡ old ++ (p ++ q ++ r ++ s ++ t ++ (u ++ v ++ w ++ x ++ y ++ part ++ end) ++ last)
-framed_twice old so on new p q r s t u v w x y part end last a b is =
-    is ∙ ap (λ (l : List ℕ). l ++ (end ++ last)) (b ∙ ap (λ (l : List ℕ). l ++ part) a) ∙ simp append_assoc refl
+framed_twice old so on new p q r s t u v w x y part end last a b is = grind (arith, append_assoc)
 
 -- the parts of a node: its label and the flags of that are parts of their own
 pub node_parts : (a b c d e f g p q r s t h i j k l : List ℕ)
@@ -27,35 +25,24 @@ node_parts a b c d e f g p q r s t h i j k l = simp append_assoc refl
 -- one part more
 pub part_more : (f : ℕ → List ℕ) (part : List ℕ) (n : ℕ) (front so after : List ℕ) → so ≡ front ++ f n
     → after ≡ so ++ part → f (suc n) ≡ f n ++ part → after ≡ front ++ f (n + 1)
-part_more f part n front so after a b is =
-    let next : suc n ≡ n + 1 = omega arith in
-    b ∙ ap (λ (l : List ℕ). l ++ part) a ∙ append_assoc front (f n) part ∙ ap (λ (l : List ℕ). front ++ l) (sym is) ∙ ap (λ (k : ℕ). front ++ f k) next
+part_more f part n front so after a b is = grind (arith, append_assoc)
 
 -- the first member of the next request's chain
 pub first_next : (r : Requests) (n : ℕ) (last : Bool) (first : ℕ) → last ≡ is_last r n → first ≡ first_of r n
     → (if last then n + 1 else first) ≡ first_of r (n + 1)
-first_next r n last first is same =
-    let next : suc n ≡ n + 1 = omega arith in
-    ap (λ (b : Bool). if b then n + 1 else first) is ∙ ap (λ (k : ℕ). if is_last r n then n + 1 else k) same ∙ ap (λ (k : ℕ). if is_last r n then k else first_of r n) (sym next) ∙ ap (first_of r) next
+first_next r n last first is same = grind arith
 
 -- the outstanding member before the next request
 pub before_next : (r : Requests) (n : ℕ) (last some : Bool) (before : Option ℕ) → last ≡ is_last r n
     → some ≡ is_some (entry_outstanding r n) → before ≡ member_before r n
     → (if last then None else if some then Some n else before) ≡ member_before r (n + 1)
-before_next r n last some before is has same =
-    let next : suc n ≡ n + 1 = omega arith in
-    ap (λ (b : Bool). if b then None else if some then Some n else before) is
-    ∙ ap (λ (b : Bool). if is_last r n then None else if b then Some n else before) has
-    ∙ ap (λ (o : Option ℕ). if is_last r n then None else if is_some (entry_outstanding r n) then Some n else o) same
-    ∙ ap (member_before r) next
+before_next r n last some before is has same = grind arith
 
 -- the parts of a graph together
 pub whole_graph : (front one two three four nodes arrows : List ℕ) → one ≡ front ++ codes "digraph requests {\n"
     → two ≡ one ++ nodes → three ≡ two ++ arrows → four ≡ three ++ codes "}\n"
     → four ≡ front ++ (codes "digraph requests {\n" ++ nodes ++ arrows ++ codes "}\n")
-whole_graph front one two three four nodes arrows a b c d =
-    d ∙ ap (λ (l : List ℕ). l ++ codes "}\n") (c ∙ ap (λ (l : List ℕ). l ++ arrows) (b ∙ ap (λ (l : List ℕ). l ++ nodes) a))
-    ∙ simp append_assoc refl
+whole_graph front one two three four nodes arrows a b c d = grind (arith, append_assoc)
 
 -- the line of a request, by what is asked of it
 pub row_placed : (linux : Bool) (l : LinuxRequests) (n : ℕ) (e : Sqe) (call first : ℕ) (last : Bool) (why : Why) (before after : List ℕ)

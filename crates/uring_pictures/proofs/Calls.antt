@@ -1,17 +1,16 @@
 -- What a step makes of the entries and cuts that are kept.
-use Rattle.std.proofs.Common.{◌≡◌, ℕ, ℤ, ◌+◌, ◌<◌, ◌≤◌, Bool, true, false, not, ◌&&◌, List, [], ◌∷◌, ◌++◌, length, take, Option, Some, None, refl, sym, ap, subst, ◌∙◌, arith}
-use Rattle.uring_pictures.proofs.Common.{Accepted, Event, HasAll, History, IsLawfulApart, Keeping, Keeps, MakesStep, Requests, Setup, Sqe, entry_of, entry_outstanding, has_ended, if◌then◌else◌, is_outstanding, length-append, lt-ltb, requests_at, take-append-le, take_all, take_more, with_call, world, zero_entry}
+use Rattle.std.proofs.Common.{◌≡◌, ℕ, ◌+◌, ◌<◌, ◌≤◌, Bool, false, List, [], ◌∷◌, ◌++◌, length, take, Option, Some, None, refl, sym, ap, subst, ◌∙◌, arith}
+use Rattle.uring_pictures.proofs.Common.{Accepted, Event, HasAll, History, IsLawfulApart, Keeping, Keeps, MakesStep, Requests, Setup, Sqe, entry_of, entry_outstanding, has_ended, length-append, requests_at, take-append-le, take_all, take_more, with_call, world}
 use Rattle.std.specs.Option.{option_to_list}
 use Rattle.uring_entry.specs.Submission.{Call, entries_from}
 use Rattle.uring_linux.specs.LinuxRequests.{LinuxRequests}
-use Rattle.uring_rules.specs.Rules.{with_issued_end}
 use Rattle.uring_core.specs.World.{World, requests_of, ending, ending_of}
 use Rattle.uring_core.specs.StepAnswers.{end_answer_in}
 use Rattle.uring_core.specs.declared.step.Step.{Step}
 use Rattle.uring_core.specs.declared.step.Step.TheVariants as step
 use Rattle.uring_core.specs.declared.answer.Answer.{Answer}
 use Rattle.uring_core.specs.declared.answer.Answer.TheVariants as answer
-use Rattle.uring_core.proofs.Moves.{Move, stays, accepts, starts, ends_doomed, ends_cancel, ends_run, move_of}
+use Rattle.uring_core.proofs.Moves.{Move, move_of}
 use Rattle.uring_core.proofs.Sound.{sound_of}
 use Rattle.uring_core.proofs.SoundRequests.{IsSoundRequests}
 use Rattle.uring_machine.specs.Machine.{Machine, Fits}
@@ -34,20 +33,9 @@ AddsCut old new = (h : History) → Fits new.machine h
 abbrev HasSameLists : Requests → Requests → Type 0
 HasSameLists r q = (r.accepted ≡ q.accepted) × (r.cuts ≡ q.cuts)
 
--- an end as it is issued leaves both
-issued_lists : (linux : Bool) (r : Requests) (n : ℕ) (res : ℤ) → HasSameLists r (with_issued_end linux r n res)
-issued_lists true r n res = (refl, refl)
-issued_lists false r n res = (refl, refl)
-
 same_lists : (linux : Bool) (l : LinuxRequests) (s : Step) (a : Answer) (q : Requests) → Move linux l s a q
     → ClosesNone s a → HasSameLists l.requests q
-same_lists linux l s a q (stays _ _ no_start no_end) none = (refl, refl)
-same_lists linux l s a q (accepts accepted missed head entries) none =
-    absurd (none accepted missed head refl refl)
-same_lists linux l s a q (starts n outstanding idle spared ready no_cancel) none = (refl, refl)
-same_lists linux l s a q (ends_doomed n outstanding) none = issued_lists linux l.requests n _
-same_lists linux l s a q (ends_cancel n outstanding spared ready cancel) none = issued_lists linux l.requests n _
-same_lists linux l s a q (ends_run n res bytes running) none = (refl, refl)
+same_lists linux l s a q h none = grind arith
 
 -- a step by which no call closes
 keeps_step : (m m' : Machine) (entries : List Sqe) (cuts : List ℕ) (s : Step) (a : Answer) (h : History)
@@ -75,15 +63,12 @@ closed_by g w (Some call) accepted missed head opened is =
 closed : (g : Setup) (h : History) (accepted missed head : ℕ)
     → IsLawfulApart g ((step.End, answer.Taken accepted missed head) ∷ h)
     → (entries : List Sqe) × ((world g ((step.End, answer.Taken accepted missed head) ∷ h)).requests ≡ with_call (world g h).requests entries)
-closed g h accepted missed head lawful =
-    closed_by g (world g h) (world g h).submission.call accepted missed head refl lawful.0
+closed g h accepted missed head lawful = grind (arith, closed_by)
 
 -- what wasn't accepted hasn't ended
 unended_by : (r : Requests) (n : ℕ) (ended : Bool) → IsSoundRequests r → length r.accepted ≤ n
     → has_ended r n ≡ ended → has_ended r n ≡ false
-unended_by r n false sound beyond is = is
-unended_by r n true sound beyond is =
-    let within : n < length r.accepted = sound.ended_accepted n is in absurd (omega (arith, within, beyond))
+unended_by r n ended sound beyond is = grind arith
 
 -- the entries that are kept, seen from the requests after the call
 has_all : (r : Requests) (more : List Sqe) → IsSoundRequests r → HasAll r.accepted (with_call r more)
@@ -144,13 +129,9 @@ step_made old new s a same fits kept marked none = record {
 
 outstanding_entry : (r : Requests) (n : ℕ) → n < length r.accepted → has_ended r n ≡ false
     → entry_outstanding r n ≡ Some (entry_of r n)
-outstanding_entry r n within opened =
-    let out : is_outstanding r n ≡ true = ap (λ b. b && not (has_ended r n)) (lt-ltb n (length r.accepted) within) ∙ ap (λ b. not b) opened in
-    ap (λ b. if b then Some (entry_of r n) else None) out
+outstanding_entry r n within opened = grind arith
 
 pub entry_added : (r : Requests) (n : ℕ) (so after : List Sqe) (found : Option Sqe)
     → so ≡ take n r.accepted → after ≡ so ++ option_to_list found → found ≡ entry_outstanding r n
     → n < length r.accepted → has_ended r n ≡ false → after ≡ take (n + 1) r.accepted
-entry_added r n so after found front is has within opened =
-    is ∙ ap (λ (o : Option Sqe). so ++ option_to_list o) (has ∙ outstanding_entry r n within opened)
-    ∙ ap (λ (l : List Sqe). l ++ entry_of r n ∷ []) front ∙ sym (take_more r.accepted n zero_entry within)
+entry_added r n so after found front is has within opened = grind (arith, outstanding_entry, take_more)

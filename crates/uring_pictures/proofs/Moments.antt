@@ -1,8 +1,7 @@
 -- What a moment keeps, byte by byte and line by line.
 use Rattle.std.proofs.Common.{◌≡◌, ◌≢◌, ℕ, ◌+◌, ◌-◌, ◌^◌, min, true, false, List, [], ◌∷◌, ◌++◌, length, Option, Some, None, refl, sym, ap, subst, ◌∙◌, arith}
-use Rattle.uring_pictures.proofs.Common.{Accepted, Followed, Following, History, Keeps, MakesStep, ReadsLine, Setup, does_count, history_of, if◌then◌else◌, up_to}
+use Rattle.uring_pictures.proofs.Common.{Accepted, Followed, Following, History, Keeps, MakesStep, ReadsLine, Setup, does_count, history_of, up_to}
 use Rattle.uring_core.specs.declared.step.Step.{Step}
-use Rattle.uring_text.specs.Lines.{with_last}
 use Rattle.uring_text.specs.KeptLine.{KeptLine, kept_of}
 use Rattle.uring_text.proofs.Splits.{split_more, split_end, last_some}
 use Rattle.uring_trace.specs.Spelling.{IsStep, IsBad}
@@ -23,47 +22,19 @@ line_passed a line none = record { event = None; read = none; same = refl; keeps
 -- nothing yet
 pub follows_none : (at : Option ℕ) (setup : Setup) (a : Accepted) (kept : KeptLine) → kept ≡ kept_of []
     → a.machine.core.setup ≡ setup → Keeps a [] → Following at setup a kept 1 []
-follows_none at setup a kept empty same keeps = record {
-  lines = [];
-  rest = [];
-  splits = record { whole = refl; each = tt; unbroken = tt };
-  keeps_line = empty;
-  numbered = omega arith;
-  exchanges = [];
-  taken = refl;
-  each = tt;
-  same = same;
-  keeps = keeps;
-}
+follows_none at setup a kept empty same keeps = grind arith
 
 -- a byte of a line
 pub follows_byte : (at : Option ℕ) (setup : Setup) (a : Accepted) (kept kept' : KeptLine) (number : ℕ) (before : List ℕ) (b : ℕ)
     → b ≢ 10 → ((line : List ℕ) → kept ≡ kept_of line → kept' ≡ kept_of (line ++ b ∷ []))
     → Following at setup a kept number before
     → Following at setup a kept' number (before ++ b ∷ [])
-follows_byte at setup a kept kept' number before b ne more f = record {
-  lines = f.lines;
-  rest = f.rest ++ b ∷ [];
-  splits = split_more before f.lines f.rest b ne f.splits;
-  keeps_line = more f.rest f.keeps_line;
-  numbered = f.numbered;
-  exchanges = f.exchanges;
-  taken = f.taken;
-  each = f.each;
-  same = f.same;
-  keeps = f.keeps;
-}
+follows_byte at setup a kept kept' number before b ne more f = grind (arith, (split_more before f.lines f.rest b ne f.splits))
 
 -- a line that counts, and one that doesn't
 counted : (at : Option ℕ) (line : List ℕ) (lines : List (List ℕ)) (number : ℕ) → number ≡ line_number (length lines)
     → does_count at number ≡ true → up_to at (line ∷ lines) ≡ line ∷ up_to at lines
-counted at line lines number is counts =
-    ap (λ b. if b then line ∷ up_to at lines else up_to at lines) (ap (does_count at) (sym is) ∙ counts)
-
-passed : (at : Option ℕ) (line : List ℕ) (lines : List (List ℕ)) (number : ℕ) → number ≡ line_number (length lines)
-    → does_count at number ≡ false → up_to at (line ∷ lines) ≡ up_to at lines
-passed at line lines number is counts =
-    ap (λ b. if b then line ∷ up_to at lines else up_to at lines) (ap (does_count at) (sym is) ∙ counts)
+counted at line lines number is counts = grind arith
 
 -- one exchange more
 kept_more : (a a' : Accepted) (line : List ℕ) (xs : List Exchange) (r : ReadsLine a a' line)
@@ -102,33 +73,14 @@ pub follows_passed : (at : Option ℕ) (setup : Setup) (a : Accepted) (kept kept
     → does_count at number ≡ false → kept' ≡ kept_of [] → number' ≡ min (number + 1) (2 ^ 64 - 1)
     → Following at setup a kept number before
     → Following at setup a kept' number' (before ++ 10 ∷ [])
-follows_passed at setup a kept kept' number number' before counts empty next f = record {
-  lines = f.rest ∷ f.lines;
-  rest = [];
-  splits = split_end before f.lines f.rest f.splits;
-  keeps_line = empty;
-  numbered = next_number f.lines f.rest number number' f.numbered next;
-  exchanges = f.exchanges;
-  taken = f.taken ∙ sym (passed at f.rest f.lines number f.numbered counts);
-  each = f.each;
-  same = f.same;
-  keeps = f.keeps;
-}
+follows_passed at setup a kept kept' number number' before counts empty next f =
+    grind (arith, (split_end before f.lines f.rest f.splits), (next_number f.lines f.rest number number' f.numbered next))
 
 -- the end of the input, after the end of a line
 pub followed_none : (at : Option ℕ) (setup : Setup) (a : Accepted) (kept : KeptLine) (number : ℕ) (bytes : List ℕ)
     → ((line : List ℕ) → kept ≡ kept_of line → line ≡ [])
     → Following at setup a kept number bytes → Followed at setup a bytes
-followed_none at setup a kept number bytes none f = record {
-  lines = f.lines;
-  rest = f.rest;
-  splits = f.splits;
-  exchanges = f.exchanges;
-  taken = f.taken ∙ ap (λ (l : List ℕ). up_to at (with_last f.lines l)) (sym (none f.rest f.keeps_line));
-  each = f.each;
-  same = f.same;
-  keeps = f.keeps;
-}
+followed_none at setup a kept number bytes none f = grind arith
 
 -- in a line that counts
 pub followed_last : (at : Option ℕ) (setup : Setup) (a a' : Accepted) (kept : KeptLine) (number : ℕ) (bytes : List ℕ)
@@ -152,13 +104,4 @@ followed_last at setup a a' kept number bytes some counts reads f =
 pub followed_passed : (at : Option ℕ) (setup : Setup) (a : Accepted) (kept : KeptLine) (number : ℕ) (bytes : List ℕ)
     → ((line : List ℕ) → kept ≡ kept_of line → line ≢ []) → does_count at number ≡ false
     → Following at setup a kept number bytes → Followed at setup a bytes
-followed_passed at setup a kept number bytes some counts f = record {
-  lines = f.lines;
-  rest = f.rest;
-  splits = f.splits;
-  exchanges = f.exchanges;
-  taken = f.taken ∙ sym (ap (up_to at) (last_some f.lines f.rest (some f.rest f.keeps_line)) ∙ passed at f.rest f.lines number f.numbered counts);
-  each = f.each;
-  same = f.same;
-  keeps = f.keeps;
-}
+followed_passed at setup a kept number bytes some counts f = grind arith

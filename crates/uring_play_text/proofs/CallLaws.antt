@@ -9,14 +9,6 @@ onto_last x [] = []
 onto_last x (part ∷ []) = (part ++ x ∷ []) ∷ []
 onto_last x (part ∷ next ∷ parts) = part ∷ onto_last x (next ∷ parts)
 
-first_append : {X : Type 0} (x : X) (parts more : List (List X)) → 0 < length parts
-    → onto_first x (parts ++ more) ≡ onto_first x parts ++ more
-first_append x parts more lt = grind arith
-
-first_last : {X : Type 0} (x y : X) (parts : List (List X)) → 0 < length parts
-    → onto_first x (onto_last y parts) ≡ onto_last y (onto_first x parts)
-first_last x y parts lt = grind arith
-
 pub last_is : {X : Type 0} (x : X) (ended : List (List X)) (last : List X)
     → onto_last x (ended ++ last ∷ []) ≡ ended ++ (last ++ x ∷ []) ∷ []
 last_is x [] last = refl
@@ -36,9 +28,6 @@ module _ {X : Type 0} (p : X → Bool) where
   split_yes [] x e = slice_split-cons_yes p x [] e
   split_yes (y ∷ xs) x e = ap (λ (l : List (List X)). cond (p y) ([] ∷ l) (onto_first y l)) (split_yes xs x e) ∙ yes_of (p y) y (slice_split p xs) (some_part xs)
 
-  nil_last : (x : X) (parts : List (List X)) → 0 < length parts → [] ∷ onto_last x parts ≡ onto_last x ([] ∷ parts)
-  nil_last x parts lt = grind arith
-
   no_of : (b : Bool) (x y : X) (parts : List (List X)) → 0 < length parts → cond b ([] ∷ onto_last x parts) (onto_first y (onto_last x parts)) ≡ onto_last x (cond b ([] ∷ parts) (onto_first y parts))
   no_of b x y parts lt = grind arith
 
@@ -49,9 +38,6 @@ module _ {X : Type 0} (p : X → Bool) where
   split_no (y ∷ xs) x e = ap (λ (l : List (List X)). cond (p y) ([] ∷ l) (onto_first y l)) (split_no xs x e) ∙ no_of (p y) x y (slice_split p xs) (some_part xs)
 
 -- ---- calls
-
-no_items : (size : ℕ) (items : List Item) → AreItemLines size [] items → one_call items ≡ []
-no_items size items h = grind arith
 
 some_items : (size : ℕ) (line : List ℕ) (lines : List (List ℕ)) (items : List Item)
     → IsCall size (line ∷ lines) items → AreCalls size ((line ∷ lines) ∷ []) (one_call items)

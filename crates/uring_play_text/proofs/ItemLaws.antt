@@ -2,7 +2,6 @@
 use Rattle.std.proofs.Common.{◌≡◌, ℕ, ◌<◌, ◌≤◌, ◌^◌, false, List, [], ◌∷◌, length, arith}
 use mathlib.Core.List.{head-eq_of_cons-eq, tail-eq_of_cons-eq}
 use Rattle.uring_play_text.proofs.Common.{IsItemLine, IsNoBadWord, IsNoItem, Item, SpellsItem, Sqe, codes, is_blank, ne_eqb}
-use Rattle.std.specs.Str.{bytes_eq}
 use Rattle.uring_text.specs.Tokens.{tokens_of}
 use Rattle.uring_text.specs.Spelling.{SpellsNumber}
 use Rattle.uring_text.specs.Forms.{name_text, SpellsEntry}
@@ -10,9 +9,6 @@ use Rattle.uring_text.specs.declared.forms.Name.{Name}
 use Rattle.uring_text.proofs.Spellings.{number_once, spelled_once}
 
 -- no form is named so
-
-other_name : (n : Name) → bytes_eq (codes "bad") (name_text n) ≡ false
-other_name n = grind arith
 
 no_form : (n : Name) (rest tokens : List (List ℕ)) → codes "bad" ∷ rest ≡ name_text n ∷ tokens → ⊥
 no_form n rest tokens e = grind arith
@@ -46,12 +42,6 @@ pub item_line : (size : ℕ) (text line : List ℕ) (tokens : List (List ℕ)) (
 item_line size text line tokens i same short are h = grind arith
 
 -- an empty line is no item
-
-some_name : (n : Name) → bytes_eq [] (name_text n) ≡ false
-some_name n = grind arith
-
-no_name : (n : Name) (tokens : List (List ℕ)) → [] ∷ [] ≡ name_text n ∷ tokens → ⊥
-no_name n tokens e = grind arith
 
 empty_spells : (size : ℕ) (i : Item) → SpellsItem size ([] ∷ []) i → ⊥
 empty_spells size i h = grind arith

@@ -1,5 +1,5 @@
 -- What a script gathers, line by line.
-use Rattle.std.proofs.Common.{◌≡◌, ◌≢◌, ℕ, ◌+◌, ◌<◌, ◌≤◌, List, [], ◌∷◌, ◌++◌, length, Option, Some, None, Result, Ok, Err, refl, sym, ap, subst, ◌∙◌, append_assoc, arith, length-append, inl, inr}
+use Rattle.std.proofs.Common.{◌≡◌, ◌≢◌, ℕ, ◌+◌, ◌<◌, ◌≤◌, List, [], ◌∷◌, ◌++◌, length, Option, Some, None, Result, Err, refl, sym, ap, subst, ◌∙◌, append_assoc, arith, length-append, inl, inr}
 use Rattle.uring_play_text.proofs.Common.{Adds, AreCalls, EndsCall, Gathers, Goes, IsAt, IsBadFirst, IsBadLine, IsItemLine, IsLongFirst, IsSome, Item, PlayFault, Reaches, SpellsCalls, Tells, is_blank, last_block, lists_of, one_call, open_block}
 use Rattle.std.specs.declared.vec.Vec.{Vec}
 use Rattle.std.specs.declared.alloc.Global.{Global}
@@ -139,11 +139,6 @@ pub ended : (old new : Script) → EndsCall old new → new.fault ≡ None
     → (size : ℕ) (lines : List (List ℕ)) → Gathers size lines old
     → SpellsCalls size lines (lists_of new.calls.items)
 ended old new e none size lines h = grind (arith, so_far)
-
--- what a faulty line tells, and nothing of an outcome without a fault
-abbrev FaultTold : ℕ → List (List ℕ) → Result (Vec (Vec Item Global) Global) PlayFault → Type 0
-FaultTold size lines (Ok calls) = Unit {0}
-FaultTold size lines (Err f) = Tells size lines (Err f)
 
 abbrev IsNotMemory : Result (Vec (Vec Item Global) Global) PlayFault → Type 0
 IsNotMemory result = result ≢ Err fault.Memory

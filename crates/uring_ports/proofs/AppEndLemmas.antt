@@ -6,7 +6,6 @@ use Rattle.std.proofs.lemmas.List.Elements.{All-get_or}
 use Rattle.uring_entry.specs.Submission.{IsItem}
 use Rattle.uring_ports.specs.declared.item.Item.{Item}
 use Rattle.uring_ports.specs.declared.refusals.SubmitRefusal.{SubmitRefusal}
-use Rattle.uring_ports.specs.declared.refusals.SubmitRefusal.TheVariants as submit
 use Rattle.uring_ports.specs.AppEnd.{AppEnd, IsAmiss, RefusesCall}
 use Rattle.uring_ports.specs.Items.{AreItems, published_as, all_published_as}
 
@@ -27,8 +26,4 @@ all_items size items i all are_items =
 -- what is wrong with a call by itself refuses it at an open end
 pub amiss_refuses : (a : AppEnd) (items : List Item) (refusal : SubmitRefusal)
     → a.submitted.closed ≡ false → IsAmiss a.sizes.sq items refusal → RefusesCall a items refusal
-amiss_refuses a items submit.Closed open' amiss = absurd amiss
-amiss_refuses a items submit.Empty open' amiss = (open', amiss)
-amiss_refuses a items submit.TooLong open' amiss = (open', amiss)
-amiss_refuses a items submit.NotBad open' amiss = (open', amiss)
-amiss_refuses a items submit.Full open' amiss = absurd amiss
+amiss_refuses a items refusal h amiss = grind arith

@@ -1,5 +1,5 @@
 -- One message more on the lane of calls, at either end, and a whole call or the close mark taken.
-use Rattle.std.proofs.Common.{◌≡◌, ℕ, suc, ◌+◌, ◌-◌, ◌<◌, ◌≤◌, true, false, List, [], ◌∷◌, ◌++◌, length, get_or, take, sym, ◌∙◌, ap, arith, append_assoc, append-nil, if◌then◌else◌, zero-add}
+use Rattle.std.proofs.Common.{◌≡◌, ℕ, suc, ◌+◌, ◌-◌, ◌<◌, ◌≤◌, true, false, List, [], ◌∷◌, ◌++◌, length, get_or, take, sym, ◌∙◌, ap, arith, append_assoc, append-nil, if◌then◌else◌}
 use Rattle.std.proofs.lemmas.List.{take_all, take_more}
 use mathlib.Core.List.{IsPrefix}
 use Rattle.uring_ports.specs.declared.item.Item.{Item}
@@ -7,14 +7,13 @@ use Rattle.uring_ports.specs.declared.message.Message.{Message}
 use Rattle.uring_ports.specs.Messages.{item_before, items_before, has_close_mark, items_of, put_of, AreWhole, owed, MayFollow}
 use Rattle.uring_ports.specs.Ports.{with_call, with_close}
 use Rattle.uring_ports.proofs.MessageLemmas.{items_before_snoc}
-use Rattle.uring_ports.proofs.MessageSteps.{Sent, sends_call, sends_close, item_may_follow, next_item, next_close, owed_snoc}
+use Rattle.uring_ports.proofs.MessageSteps.{Sent, sends_call, sends_close, item_may_follow, next_item, owed_snoc}
 
 -- the next item of a call may be sent
 pub may_send : (ms past : List Message) (items : List Item) (i n : ℕ) (x : Item)
     → has_close_mark ms ≡ false → owed ms ≡ 0 → length items - i ≡ suc n
     → past ≡ ms ++ items_before (length items - i) (take i items) → MayFollow past (item_before n x)
-may_send ms past items i n x open' none left is =
-    let is' = rw left at is in rw is' (item_may_follow ms n (take i items) x open' none)
+may_send ms past items i n x open' none left is = grind (arith, (item_may_follow ms n (take i items) x open' none))
 
 -- and then one item more is sent
 pub sends_item : (ms past : List Message) (items : List Item) (i n : ℕ) (x : Item)
@@ -22,15 +21,7 @@ pub sends_item : (ms past : List Message) (items : List Item) (i n : ℕ) (x : I
     → past ≡ ms ++ items_before (length items - i) (take i items)
     → past ++ item_before n x ∷ []
     ≡ ms ++ items_before (length items - (i + 1)) (take (i + 1) items)
-sends_item ms past items i n x below at left is =
-    let is' = rw left at is in
-    let next : length items - (i + 1) ≡ n = omega arith in
-    let taken : take (i + 1) items ≡ take i items ++ x ∷ [] = take_more items i x below ∙ ap (λ y. take i items ++ y ∷ []) (sym at) in
-    ap (λ l. l ++ item_before n x ∷ []) is'
-    ∙ append_assoc ms (items_before (suc n) (take i items)) (item_before n x ∷ [])
-    ∙ ap (λ l. ms ++ l) (items_before_snoc n (take i items) x)
-    ∙ ap (λ l. ms ++ items_before n l) (sym taken)
-    ∙ ap (λ k. ms ++ items_before k (take (i + 1) items)) (sym next)
+sends_item ms past items i n x below at left is = grind (arith, take_more, item_before, append_assoc, items_before_snoc)
 
 -- and in the end all of them
 pub sends_all : (ms past : List Message) (items : List Item) (i : ℕ) → AreWhole ms
@@ -45,12 +36,7 @@ sends_all ms past items i are_whole open' some all is =
 pub takes_item : (before past : List Message) (items : List Item) (left n : ℕ) (m : Message)
     → left ≡ suc n → owed past ≡ left → MayFollow past m → past ≡ before ++ items_before left items
     → past ++ m ∷ [] ≡ before ++ items_before n (items ++ m.item ∷ [])
-takes_item before past items left n m more owes may is =
-    let is' = rw more at is in
-    ap (λ x. past ++ x ∷ []) (next_item past m n (owes ∙ more) may)
-    ∙ ap (λ l. l ++ item_before n m.item ∷ []) is'
-    ∙ append_assoc before (items_before (suc n) items) (item_before n m.item ∷ [])
-    ∙ ap (λ l. before ++ l) (items_before_snoc n items m.item)
+takes_item before past items left n m more owes may is = grind (arith, append_assoc, items_before_snoc)
 
 -- and one item less is owed
 pub owes_less : (past : List Message) (n : ℕ) (m : Message) → owed past ≡ suc n → MayFollow past m
@@ -65,15 +51,12 @@ same_head known rest seen taken prefix popped = cc (prefix.1, popped)
 -- the first item of a call is taken
 pub takes_first : (past : List Message) (m : Message) (items : List Item) → m.closes ≡ false
     → items ≡ m.item ∷ [] → past ++ m ∷ [] ≡ past ++ items_before m.left items
-takes_first past m items goes_on is =
-    let item : m ≡ item_before m.left m.item = ap (λ b. record { item = m.item; left = m.left; closes = b }) goes_on in
-    rw (is, zero-add) (ap (λ x. past ++ x ∷ []) item)
+takes_first past m items goes_on is = grind arith
 
 -- the close mark is taken
 pub takes_close : (ms after : List Message) (m : Message) → AreWhole ms → MayFollow ms m
     → m.closes ≡ true → after ≡ ms ++ m ∷ [] → Sent after (with_close (put_of ms))
-takes_close ms after m are_whole may closes is =
-    rw (is, next_close ms m are_whole may closes) (sends_close ms are_whole may.0)
+takes_close ms after m are_whole may closes is = grind (arith, sends_close)
 
 -- a whole call is taken
 pub takes_call : (ms after : List Message) (items : List Item) → AreWhole ms

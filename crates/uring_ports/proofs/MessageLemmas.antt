@@ -1,5 +1,5 @@
 -- What messages were sent for is what they are the messages of.
-use Rattle.std.proofs.Common.{◌≡◌, ℕ, zero, suc, ◌+◌, Bool, true, false, List, [], ◌∷◌, ◌++◌, length, if◌then◌else◌, refl, sym, ◌∙◌, ap, arith, append_assoc, add-zero, zero-add, length-append, append-nil}
+use Rattle.std.proofs.Common.{◌≡◌, ℕ, suc, ◌+◌, Bool, List, [], ◌∷◌, ◌++◌, length, if◌then◌else◌, refl, sym, ◌∙◌, ap, arith, append_assoc, add-zero, zero-add, length-append, append-nil}
 use Rattle.uring_ports.specs.declared.item.Item.{Item}
 use Rattle.uring_ports.specs.declared.message.Message.{Message}
 use Rattle.uring_ports.specs.Ports.{Put, places_of, items_of_calls}
@@ -13,19 +13,15 @@ AreSome ((x ∷ xs) ∷ calls) = AreSome calls
 
 pub some_with_first : (x : Item) (calls : List (List Item)) → AreSome calls
     → AreSome (with_first x calls)
-some_with_first x [] some = tt
-some_with_first x ([] ∷ calls) some = absurd some
-some_with_first x ((y ∷ ys) ∷ calls) some = some
+some_with_first x calls some = grind arith
 
 some_with_item : (left : ℕ) (x : Item) (calls : List (List Item)) → AreSome calls
     → AreSome (with_item left x calls)
-some_with_item zero x calls some = some
-some_with_item (suc left) x calls some = some_with_first x calls some
+some_with_item left x calls some = grind arith
 
 if_some : (b : Bool) (xs ys : List (List Item)) → AreSome xs → AreSome ys
     → AreSome (if b then xs else ys)
-if_some true xs ys p q = p
-if_some false xs ys p q = q
+if_some b xs ys p q = grind arith
 
 pub some_calls_of : (ms : List Message) → AreSome (calls_of ms)
 some_calls_of [] = tt
@@ -60,8 +56,7 @@ close_mark_calls (call ∷ calls) rest = rw append_assoc (close_mark_call 0 call
 put_of_closing : (calls : List (List Item)) (closed : Bool) → AreSome calls
     → put_of (messages_of_calls calls ++ (if closed then close_mark ∷ [] else []))
     ≡ record { calls = calls; closed = closed }
-put_of_closing calls true some = ap (λ cs. record { calls = cs; closed = has_close_mark (messages_of_calls calls ++ close_mark ∷ []) }) (calls_of_calls calls (close_mark ∷ []) some ∙ append-nil calls) ∙ ap (λ b. record { calls = calls; closed = b }) (close_mark_calls calls (close_mark ∷ []))
-put_of_closing calls false some = ap (λ cs. record { calls = cs; closed = has_close_mark (messages_of_calls calls ++ []) }) (calls_of_calls calls [] some ∙ append-nil calls) ∙ ap (λ b. record { calls = calls; closed = b }) (close_mark_calls calls [])
+put_of_closing calls closed some = grind (arith, close_mark, calls_of_calls, append-nil, close_mark_calls)
 
 -- messages of something were sent for just that
 pub stands : (ms : List Message) (p : Put) → AreSome p.calls → ms ≡ messages_of p → put_of ms ≡ p
@@ -82,12 +77,10 @@ length_messages_of_calls (call ∷ calls) = rw (length-append (items_before 0 ca
 
 length_closing : (closed : Bool)
     → length {A = Message} (if closed then close_mark ∷ [] else []) ≡ (if closed then 1 else 0)
-length_closing true = refl
-length_closing false = refl
+length_closing closed = grind arith
 
 pub length_messages_of : (p : Put) → length (messages_of p) ≡ places_of p
-length_messages_of p =
-    rw length-append (rw (length_messages_of_calls p.calls, length_closing p.closed) refl)
+length_messages_of p = grind (arith, length-append, length_messages_of_calls)
 
 pub items_before_snoc : (left : ℕ) (xs : List Item) (x : Item)
     → items_before (suc left) xs ++ item_before left x ∷ [] ≡ items_before left (xs ++ x ∷ [])

@@ -1,5 +1,5 @@
 -- What a message more, a call more and a close mark do to what messages were sent for, and what is left of it.
-use Rattle.std.proofs.Common.{◌≡◌, ℕ, zero, suc, ◌<◌, Bool, true, false, ◌||◌, List, [], ◌∷◌, ◌++◌, length, if◌then◌else◌, refl, sym, ◌∙◌, ap, arith, append_assoc, append-nil}
+use Rattle.std.proofs.Common.{◌≡◌, ℕ, suc, ◌<◌, Bool, true, false, ◌||◌, List, [], ◌∷◌, ◌++◌, length, if◌then◌else◌, refl, sym, ◌∙◌, ap, arith, append_assoc, append-nil}
 use Rattle.std.proofs.Math.Bool.{or_assoc}
 use Rattle.std.proofs.lemmas.Grind.{flat_map-append}
 use Rattle.std.proofs.lemmas.List.{append_cancel_left}
@@ -29,8 +29,7 @@ pub places : (ms : List Message) → AreWhole ms → places_of (put_of ms) ≡ l
 places ms are_whole = sym (length_messages_of (put_of ms)) ∙ ap length are_whole
 
 one_some : (items : List Item) → 0 < length items → AreSome (items ∷ [])
-one_some [] some = absurd (omega arith)
-one_some (x ∷ xs) some = tt
+one_some items some = grind arith
 
 -- these messages are whole, and were sent for this
 pub record Sent (ms : List Message) (p : Put) : Type 0 where
@@ -40,12 +39,7 @@ pub record Sent (ms : List Message) (p : Put) : Type 0 where
 messages_with_call : (ms : List Message) (items : List Item) → AreWhole ms
     → has_close_mark ms ≡ false
     → ms ++ items_before 0 items ≡ messages_of (with_call (put_of ms) items)
-messages_with_call ms items are_whole open' =
-    ap (λ l. l ++ items_before 0 items) (open_calls ms are_whole open')
-    ∙ ap (λ l. messages_of_calls (calls_of ms) ++ l) (sym (append-nil (items_before 0 items)))
-    ∙ sym (flat_map-append (items_before 0) (calls_of ms) (items ∷ []))
-    ∙ sym (append-nil (messages_of_calls (calls_of ms ++ items ∷ [])))
-    ∙ ap (λ b. messages_of_calls (calls_of ms ++ items ∷ []) ++ (if b then close_mark ∷ [] else [])) (sym open')
+messages_with_call ms items are_whole open' = grind (arith, open_calls, append-nil, flat_map-append, close_mark)
 
 -- a call more
 pub sends_call : (ms : List Message) (items : List Item) → AreWhole ms → has_close_mark ms ≡ false
@@ -84,8 +78,7 @@ continues ms left (y ∷ ys) x none = rw (owed_from_append 0 ms (items_before (s
 pub item_may_follow : (ms : List Message) (left : ℕ) (xs : List Item) (x : Item)
     → has_close_mark ms ≡ false → owed ms ≡ 0
     → MayFollow (ms ++ items_before (suc left) xs) (item_before left x)
-item_may_follow ms left xs x open' none =
-    (no_mark ms (suc left) xs open', continues ms left xs x none)
+item_may_follow ms left xs x open' none = grind (arith, no_mark, continues)
 
 -- after whole messages with no close mark, the close mark may follow
 pub close_may_follow : (ms : List Message) → AreWhole ms → has_close_mark ms ≡ false
@@ -104,80 +97,55 @@ next_item ms m left more may = rw more at may.1
 -- after whole messages with no close mark, a message that closes is the close mark
 pub next_close : (ms : List Message) (m : Message) → AreWhole ms → MayFollow ms m → m.closes ≡ true
     → m ≡ close_mark
-next_close ms m are_whole may closes =
-    let c = rw (nothing_owed ms are_whole may.0) at may.1 in c closes
+next_close ms m are_whole may closes = grind arith
 
 items_with_item : (left : ℕ) (x : Item) (calls : List (List Item))
     → items_of_calls (with_item left x calls) ≡ x ∷ items_of_calls calls
-items_with_item zero x calls = refl
-items_with_item (suc left) x [] = refl
-items_with_item (suc left) x (call ∷ calls) = refl
+items_with_item left x calls = grind arith
 
 items_if : (b : Bool) (x : Item) (left : ℕ) (calls : List (List Item)) (xs : List Item)
     → xs ≡ items_of_calls calls
     → (if b then [] else x ∷ xs) ≡ items_of_calls (if b then [] else with_item left x calls)
-items_if true x left calls xs is = refl
-items_if false x left calls xs is = ap (λ l. x ∷ l) is ∙ sym (items_with_item left x calls)
+items_if b x left calls xs is = grind arith
 
 -- the items that messages were sent for are those of the calls that they were sent for
 pub items_calls_of : (ms : List Message) → items_of ms ≡ items_of_calls (calls_of ms)
 items_calls_of [] = refl
-items_calls_of (m ∷ ms) =
-    items_if m.closes m.item m.left (calls_of ms) (items_of ms) (items_calls_of ms)
+items_calls_of (m ∷ ms) = grind (arith, (items_calls_of ms))
 
 calls_of_closed : (past known : List Message) → AreWhole past → has_close_mark past ≡ true
     → calls_of (past ++ known) ≡ calls_of past
 calls_of_closed past known past_whole closed =
-    ap (λ l. calls_of (l ++ known)) (closed_calls past past_whole closed)
-    ∙ ap calls_of (append_assoc (messages_of_calls (calls_of past)) (close_mark ∷ []) known)
-    ∙ calls_of_calls (calls_of past) (close_mark ∷ known) (some_calls_of past)
-    ∙ append-nil (calls_of past)
+    grind (arith, closed_calls, append_assoc, close_mark, calls_of_calls, some_calls_of, append-nil)
 
 same_closed : (past all : List Message) → AreWhole past → AreWhole all → has_close_mark past ≡ true
     → has_close_mark all ≡ true → calls_of all ≡ calls_of past → all ≡ past
-same_closed past all past_whole all_whole past_closed all_closed calls =
-    closed_calls all all_whole all_closed
-    ∙ ap (λ l. messages_of_calls l ++ close_mark ∷ []) calls
-    ∙ sym (closed_calls past past_whole past_closed)
+same_closed past all past_whole all_whole past_closed all_closed calls = grind arith
 
 mark_stays : (past known : List Message) → has_close_mark past ≡ true
     → has_close_mark (past ++ known) ≡ true
-mark_stays past known closed =
-    close_mark_append past known ∙ ap (λ b. b || has_close_mark known) closed
+mark_stays past known closed = grind (arith, close_mark_append)
 
 -- nothing follows a close mark
 pub nothing_after : (past known : List Message) → AreWhole past → AreWhole (past ++ known)
     → has_close_mark past ≡ true → known ≡ []
 nothing_after past known past_whole all_whole closed =
-    let same = same_closed past (past ++ known) past_whole all_whole closed (mark_stays past known closed) (calls_of_closed past known past_whole closed) in
-    append_cancel_left past known [] (same ∙ sym (append-nil past))
+    grind (arith, (mark_stays past known closed), (calls_of_closed past known past_whole closed), (append_cancel_left past known), (append-nil past), same_closed)
 
 leaves_open : (past known : List Message) → AreWhole past → has_close_mark past ≡ false
     → LeavesItems (put_of (past ++ known)) (put_of past) (items_of known)
-leaves_open past known past_whole open' = record {
-  rest = calls_of known;
-  calls = sym (ap (λ l. calls_of (l ++ known)) (open_calls past past_whole open') ∙ calls_of_calls (calls_of past) known (some_calls_of past));
-  items = items_calls_of known;
-  closed = λ e. absurd (false≢true (sym open' ∙ e));
-}
+leaves_open past known past_whole open' = grind (arith, open_calls, calls_of_calls, some_calls_of, items_calls_of, false≢true)
 
 leaves_closed : (past known : List Message) → AreWhole past → AreWhole (past ++ known)
     → has_close_mark past ≡ true
     → LeavesItems (put_of (past ++ known)) (put_of past) (items_of known)
-leaves_closed past known past_whole all_whole closed = record {
-  rest = [];
-  calls = append-nil (calls_of past) ∙ sym (calls_of_closed past known past_whole closed);
-  items = ap items_of (nothing_after past known past_whole all_whole closed);
-  closed = λ e. (mark_stays past known closed, refl);
-}
+leaves_closed past known past_whole all_whole closed = grind (arith, append-nil, calls_of_closed, nothing_after, mark_stays)
 
 by_mark : (past known : List Message) (b : Bool) → AreWhole past → AreWhole (past ++ known)
     → has_close_mark past ≡ b → LeavesItems (put_of (past ++ known)) (put_of past) (items_of known)
-by_mark past known true past_whole all_whole is = leaves_closed past known past_whole all_whole is
-by_mark past known false past_whole all_whole is = leaves_open past known past_whole is
+by_mark past known b past_whole all_whole is = grind (arith, leaves_closed, leaves_open)
 
 -- what is left of all after a beginning of it, both whole
 pub leaves : (past known all : List Message) → AreWhole past → AreWhole all → past ++ known ≡ all
     → LeavesItems (put_of all) (put_of past) (items_of known)
-leaves past known all past_whole all_whole is =
-    rw (← is) (by_mark past known (has_close_mark past) past_whole (rw is all_whole) refl)
+leaves past known all past_whole all_whole is = grind (arith, by_mark)

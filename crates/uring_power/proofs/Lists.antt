@@ -58,9 +58,7 @@ from_spread f [] y there = absurd (none_there y there)
 from_spread f (x ∷ xs) y there =
     elim (Contains-append_cases (f x) (flat_map f xs) y there) [
       | inl here ↦ record { from = x; there = inl refl; has = here }
-      | inr later ↦
-          let s = from_spread f xs y later in
-          record { from = s.from; there = inr s.there; has = s.has }
+      | inr later ↦ grind (arith, (from_spread f xs y later))
     ]
 
 -- what stands at a place, with one more at the end

@@ -1,6 +1,6 @@
 -- What may be left of files, with one file more; and what is shown after moves, by the logs that they make.
-use Rattle.std.proofs.Common.{◌≡◌, ℕ, suc, ◌+◌, ◌<◌, pos, Bool, List, [], ◌∷◌, ◌++◌, length, get_or, map, Option, Some, None, Result, if◌then◌else◌, refl, sym, subst, ap, ◌∙◌, arith}
-use Rattle.uring_power.proofs.Common.{AreLeftOf, AreShown, Contains, Cqe, Crash, HasMade, IfErr, IsCrowdedBy, IsErrAnd, IsImage, IsIn, IsShownAfter, IsTooMany, Log, Moment, Move, Op, Setup, Shows, Sqe, Widens, empty_log, file_at, first_at, first_files, first_many, get_or_append_left, length-append, length-map, log_along, log_moved, log_on, log_past, logs_after, logs_at, logs_on, moved, option_map, slice_get, slice_index_or, spread_over, starting, with_file}
+use Rattle.std.proofs.Common.{◌≡◌, ℕ, suc, ◌+◌, ◌<◌, pos, List, [], ◌∷◌, ◌++◌, length, get_or, map, Option, Some, None, Result, refl, sym, subst, ap, ◌∙◌, arith}
+use Rattle.uring_power.proofs.Common.{AreLeftOf, AreShown, Contains, Cqe, Crash, HasMade, IfErr, IsCrowdedBy, IsErrAnd, IsImage, IsShownAfter, IsTooMany, Log, Moment, Move, Op, Setup, Shows, Sqe, Widens, empty_log, file_at, first_at, first_files, first_many, get_or_append_left, length-append, length-map, log_along, log_moved, log_on, log_past, logs_after, logs_at, logs_on, moved, option_map, slice_get, slice_index_or, spread_over, starting, with_file}
 use Rattle.uring_power.specs.Found.{IsReason}
 use Rattle.std.proofs.Math.Seq.{get_or-append_seam}
 use Rattle.std.proofs.lemmas.Option.{slice_get-map, slice_get_within, slice_get_read}
@@ -13,9 +13,6 @@ use Rattle.uring_power.specs.declared.fault.CrashFault.TheVariants.{Memory, Spen
 use Rattle.uring_power.proofs.Lists.{IsGot, Before, Last, got, got_before, got_last, HasLast, has_last, contained, is_in, in_map, from_map, in_spread, from_spread}
 
 -- No file.
-
-only_one : {X : Type 0} (x y : X) → IsIn y (x ∷ []) → y ≡ x
-only_one x y h = grind arith
 
 none_left : (left : List (List ℕ)) → length left ≡ 0 → left ≡ []
 none_left [] none = refl
@@ -87,9 +84,6 @@ shown_more posted logs log old new shown w = record {
       (subst (Contains (map (with_file before) w.images)) (sym is) (contained (map (with_file before) w.images) (with_file before l.last) (in_map (with_file before) w.images l.last image)))
 
 -- What is shown after moves.
-
-later_keeps : (late : Bool) (old new : Log) → Keeps old new → Keeps old (if late then old else new)
-later_keeps late old new k = grind arith
 
 moved_keeps : (m : Moment) (x : Move) (log : Log) → Keeps log (log_moved m x log)
 moved_keeps m x log = grind (arith, Op, finished_keeps)

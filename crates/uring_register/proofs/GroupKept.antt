@@ -1,5 +1,5 @@
 -- What is kept of a group whose first buffers are gone.
-use Rattle.std.proofs.Common.{◌≡◌, ℕ, ◌+◌, ◌-◌, ◌^◌, ◌%◌, ◌<◌, ◌≤◌, slice_index_or, List, ◌∷◌, ◌∙◌, sym, ap, arith}
+use Rattle.std.proofs.Common.{◌≡◌, ℕ, ◌+◌, ◌-◌, ◌<◌, ◌≤◌, slice_index_or, List, ◌∷◌, ◌∙◌, ap, arith}
 use Rattle.uring_register.specs.declared.buffers.group.Group.{Group}
 use Rattle.uring_register.specs.declared.buffers.group.Buffer.{Buffer}
 use Rattle.uring_register.specs.Buffers.Provided.{Change, KeepsGroup, is_there, entries, taken, gone, provided, nth, nothing}
@@ -25,12 +25,4 @@ pub record Drops (next : Change) (log : List Change) (n : ℕ) : Type 0 where
 pub dropped : (next : Change) (log : List Change) (g : Group) (rows : List Buffer) (n : ℕ)
     → KeepsGroup log g rows → n ≤ g.count → Drops next log n
     → KeepsGroup (next ∷ log) (record g { first = g.first + n; count = g.count - n }) rows
-dropped next log g rows n keeps low drops = record {
-  there = keeps.there ∙ sym drops.there;
-  entries = keeps.entries ∙ sym drops.entries;
-  head = keeps.head ∙ ap (λ t. t % 2 ^ 16) (sym drops.head);
-  count = omega (arith, keeps.count, drops.more, drops.provided, low);
-  within = omega (arith, keeps.within, low);
-  buffers =
-      λ i less. next_rows log g rows n i keeps less ∙ ap (λ m. nth log (m + i)) (sym drops.more) ∙ sym (drops.same (gone (next ∷ log) + i));
-}
+dropped next log g rows n keeps low drops = grind (arith, next_rows)

@@ -1,5 +1,5 @@
 -- The laws of provided buffers.
-use Rattle.std.proofs.Common.{◌≡◌, ℕ, ◌+◌, ◌-◌, ◌%◌, ◌^◌, ◌<◌, ◌≤◌, inl, inr, refl, List, [], ◌∷◌, ◌++◌, ◌∙◌, sym, subst, arith}
+use Rattle.std.proofs.Common.{◌≡◌, ℕ, ◌-◌, ◌<◌, ◌≤◌, inl, inr, refl, List, [], ◌∷◌, ◌++◌, ◌∙◌, sym, subst, arith}
 use Rattle.std.proofs.lemmas.Bool.{cases_lt}
 use Rattle.std.proofs.Math.Pow.{mod-mod-pow}
 use Rattle.uring_register.specs.Buffers.Provided.{Change, Provided, Removed, Took, Registered, Unregistered, provided, gone, nth}
@@ -14,38 +14,20 @@ takes_no_more (Registered count ∷ earlier) = takes_no_more earlier
 takes_no_more (Unregistered ∷ earlier) = takes_no_more earlier
 
 grows : (next : Change) (log : List Change) → gone log ≤ gone (next ∷ log)
-grows (Provided asked) log = omega arith
-grows (Removed count) log = omega arith
-grows Took log = grind arith
-grows (Registered count) log = omega arith
-grows Unregistered log = omega arith
+grows next log = grind arith
 
 pub takes_in_order : TakesInOrder
 takes_in_order [] log list some = grind (arith, list, some)
-takes_in_order (next ∷ later) log list some =
-    let before = takes_in_order later log list some in
-    let more = grows next (later ++ Took ∷ log) in
-    omega (arith, before, more)
+takes_in_order (next ∷ later) log list some = grind (arith, (takes_in_order later log list some))
 
 pub takes_cells_in_turn : TakesCellsInTurn
-takes_cells_in_turn k n fits =
-    let whole : (16 - k) + k ≡ 16 = omega arith in
-    let P : ℕ → Type 0 = λ w. n % 2 ^ w % 2 ^ k ≡ n % 2 ^ k in
-    subst P whole (mod-mod-pow n (16 - k) k)
+takes_cells_in_turn k n fits = grind (arith, (mod-mod-pow n (16 - k) k))
 
 provided_grows : (next : Change) (log : List Change) → provided log ≤ provided (next ∷ log)
-provided_grows (Provided asked) log = omega arith
-provided_grows (Removed count) log = omega arith
-provided_grows Took log = omega arith
-provided_grows (Registered count) log = omega arith
-provided_grows Unregistered log = omega arith
+provided_grows next log = grind arith
 
 stays : (next : Change) (log : List Change) (n : ℕ) → n < provided log → nth (next ∷ log) n ≡ nth log n
-stays (Provided asked) log n low = grind (arith, low)
-stays (Removed count) log n low = refl
-stays Took log n low = refl
-stays (Registered count) log n low = refl
-stays Unregistered log n low = refl
+stays next log n low = grind arith
 
 all_stay : (later log : List Change) (n : ℕ) → n < provided log
     → (n < provided (later ++ log)) × (nth (later ++ log) n ≡ nth log n)

@@ -1,12 +1,12 @@
 -- A line of the list of memory is read as it is written.
-use Rattle.std.proofs.Common.{◌≡◌, ℕ, zero, suc, ◌+◌, ◌≤◌, Bool, true, false, not, ◌==◌, nat_lt, List, [], ◌∷◌, ◌++◌, length, take, drop, refl, sym, ap, subst, ◌∙◌, inl, inr, append_assoc, arith}
+use Rattle.std.proofs.Common.{◌≡◌, ℕ, zero, suc, ◌+◌, ◌≤◌, Bool, true, false, not, ◌==◌, nat_lt, List, [], ◌∷◌, ◌++◌, length, take, drop, refl, sym, ap, ◌∙◌, append_assoc, arith}
 use Rattle.std.specs.Prelude.{slice_get, replicate}
 use Rattle.std.specs.List.{AllByRecursion, list_all, position_or_len, before_first, after_first}
 use Rattle.std.specs.Option.{unwrap_or}
-use Rattle.std.proofs.lemmas.Bool.{and_parts, cases_Bool, eqb-true}
+use Rattle.std.proofs.lemmas.Bool.{and_parts}
 use Rattle.std.proofs.lemmas.List.Elements.{All-from_recursion}
 use Rattle.std.proofs.lemmas.List.Splits.{slice_split_at}
-use Rattle.uring_register.specs.KernelLists.Texts.{digit_value, is_number, position_of, first_word, after_word, blanks_of, part_of}
+use Rattle.uring_register.specs.KernelLists.Texts.{digit_value, is_number, first_word, after_word, blanks_of, part_of}
 use Rattle.uring_register.specs.KernelLists.Mapped.{Fields, AreFields, IsReadSo, begins_with, line_of}
 
 abbrev HasNo : (byte : ℕ) → List ℕ → Type 0
@@ -17,9 +17,7 @@ HasNo byte text = AllByRecursion (λ other. (other == byte) ≡ false) text
 first_at : (p : ℕ → Bool) (xs : List ℕ) (y : ℕ) (ys : List ℕ) → AllByRecursion (λ x. p x ≡ false) xs → p y ≡ true
     → position_or_len p (xs ++ y ∷ ys) ≡ length xs
 first_at p [] y ys none is = rw is refl
-first_at p (x ∷ xs) y ys none is =
-    let more : 1 + length xs ≡ length (x ∷ xs) = omega arith in
-    rw none.0 (ap (λ (n : ℕ). 1 + n) (first_at p xs y ys none.1 is) ∙ more)
+first_at p (x ∷ xs) y ys none is = grind (arith, (first_at p xs y ys none.1 is))
 
 take_front : (xs ys : List ℕ) → take (length xs) (xs ++ ys) ≡ xs
 take_front [] ys = refl
@@ -31,28 +29,22 @@ drop_front (x ∷ xs) ys = drop_front xs ys
 
 drop_past : (xs : List ℕ) (y : ℕ) (ys : List ℕ) → drop (length xs + 1) (xs ++ y ∷ ys) ≡ ys
 drop_past [] y ys = refl
-drop_past (x ∷ xs) y ys =
-    let more : length (x ∷ xs) + 1 ≡ suc (length xs + 1) = omega arith in
-    ap (λ (n : ℕ). drop n (x ∷ (xs ++ y ∷ ys))) more ∙ drop_past xs y ys
+drop_past (x ∷ xs) y ys = grind (arith, (drop_past xs y ys))
 
 before_byte : (byte : ℕ) (xs ys : List ℕ) → HasNo byte xs → (byte == byte) ≡ true
     → before_first (λ other. other == byte) (xs ++ byte ∷ ys) ≡ xs
-before_byte byte xs ys none is =
-    ap (λ (n : ℕ). take n (xs ++ byte ∷ ys)) (first_at (λ other. other == byte) xs byte ys none is) ∙ take_front xs (byte ∷ ys)
+before_byte byte xs ys none is = grind (arith, first_at, take_front)
 
 after_byte : (byte : ℕ) (xs ys : List ℕ) → HasNo byte xs → (byte == byte) ≡ true
     → after_first (λ other. other == byte) (xs ++ byte ∷ ys) ≡ ys
-after_byte byte xs ys none is =
-    ap (λ (n : ℕ). drop (n + 1) (xs ++ byte ∷ ys)) (first_at (λ other. other == byte) xs byte ys none is) ∙ drop_past xs byte ys
+after_byte byte xs ys none is = grind (arith, first_at, drop_past)
 
 -- ---- words
 
 blanks_before : (n : ℕ) (text : List ℕ) → begins_with 32 text ≡ false → blanks_of (replicate n 32 ++ text) ≡ n
 blanks_before zero [] not_blank = refl
 blanks_before zero (x ∷ text) not_blank = rw not_blank refl
-blanks_before (suc n) text not_blank =
-    let more : 1 + n ≡ suc n = omega arith in
-    ap (λ (k : ℕ). 1 + k) (blanks_before n text not_blank) ∙ more
+blanks_before (suc n) text not_blank = grind (arith, (blanks_before n text not_blank))
 
 drop_blanks : (n : ℕ) (text : List ℕ) → drop n (replicate n 32 ++ text) ≡ text
 drop_blanks zero text = refl
@@ -64,21 +56,13 @@ word_first word rest none = before_byte 32 word rest none refl
 word_after : (word : List ℕ) (n : ℕ) (text : List ℕ) → HasNo 32 word → begins_with 32 text ≡ false
     → after_word (word ++ 32 ∷ (replicate n 32 ++ text)) ≡ text
 word_after word n text none not_blank =
-    let line = word ++ 32 ∷ (replicate n 32 ++ text) in
-    let rest : drop (position_of 32 line) line ≡ replicate (suc n) 32 ++ text = ap (λ (k : ℕ). drop k line) (first_at (λ other. other == 32) word 32 (replicate n 32 ++ text) none refl) ∙ drop_front word (32 ∷ (replicate n 32 ++ text)) in
-    ap (λ (r : List ℕ). drop (blanks_of r) r) rest
-    ∙ ap (λ (k : ℕ). drop k (replicate (suc n) 32 ++ text)) (blanks_before (suc n) text not_blank)
-    ∙ drop_blanks (suc n) text
+    grind (arith, (drop_front word (32 ∷ (replicate n 32 ++ text))), (blanks_before (suc n) text not_blank), (drop_blanks (suc n) text), first_at)
 
 -- ---- numbers
 
 no_such_digit : (base byte : ℕ) (digit : ℕ) → base ≤ digit_value byte → nat_lt (digit_value digit) base ≡ true
     → (digit == byte) ≡ false
-no_such_digit base byte digit le lt =
-    elim (cases_Bool (digit == byte)) [
-      | inl same ↦ let so : nat_lt (digit_value byte) base ≡ true = subst (λ (d : ℕ). nat_lt (digit_value d) base ≡ true) (eqb-true digit byte same) lt in absurd (grind (arith, so, le))
-      | inr other ↦ other
-    ]
+no_such_digit base byte digit le lt = grind arith
 
 no_byte_of : (base byte : ℕ) (digits : List ℕ) → base ≤ digit_value byte
     → list_all (λ digit. nat_lt (digit_value digit) base) digits ≡ true → HasNo byte digits

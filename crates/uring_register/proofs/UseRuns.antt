@@ -1,37 +1,22 @@
 -- The laws of registered files and buffers.
-use Rattle.std.proofs.Common.{◌≡◌, Bool, true, false, not, ◌↔◌, List, [], ◌∷◌, ◌++◌, if◌then◌else◌, refl, arith}
+use Rattle.std.proofs.Common.{◌≡◌, Bool, true, false, not, ◌↔◌, List, [], ◌∷◌, ◌++◌, if◌then◌else◌, arith}
 use Rattle.uring_register.specs.declared.tables.uses.Ending.TheVariants.{Stays, Goes, Tells}
-use Rattle.uring_register.specs.Tables.Uses.{Use, Put, Lost, Taken, Given, Dropped, is_had, is_gone, is_told}
+use Rattle.uring_register.specs.Tables.Uses.{Use, is_had, is_gone, is_told}
 use Rattle.uring_register.specs.Tables.UseLaws.{IsUsing, IsGoneOnce, EndsAsItIs}
 
 -- nothing happens to what no one has any more
 last : (next : Use) (log : List Use) → IsUsing (next ∷ log) → is_gone log ≡ true → ⊥
-last Put [] run gone = grind (arith, gone)
-last Put (e ∷ log) run gone = grind (arith, gone, run.1)
-last Taken [] run gone = grind (arith, gone)
-last Taken (e ∷ log) run gone = grind (arith, gone, run.1)
-last Lost [] run gone = grind (arith, gone)
-last Lost (e ∷ log) run gone = grind (arith, gone, run.1)
-last Given [] run gone = grind (arith, gone)
-last Given (e ∷ log) run gone = grind (arith, gone, run.1)
-last Dropped [] run gone = grind (arith, gone)
-last Dropped (e ∷ log) run gone = grind (arith, gone, run.1)
+last next log run gone = grind arith
 
 -- what a run has after so much is a run
 earlier_runs : (next : Use) (log : List Use) → IsUsing (next ∷ log) → IsUsing log
-earlier_runs Put log run = run.0
-earlier_runs Taken log run = run.0
-earlier_runs Lost log run = run.0
-earlier_runs Given log run = run.0
-earlier_runs Dropped log run = run.0
+earlier_runs next log run = grind arith
 
 -- what becomes of it, by whether one has it and whether its tag is to be told
 ends : (had told : Bool)
     → (((if had then Stays else if told then Tells else Goes) ≡ Stays) ↔ (not had ≡ false))
     × (((if had then Stays else if told then Tells else Goes) ≡ Tells) ↔ ((not had ≡ true) × (told ≡ true)))
-ends true told = ((λ _. refl, λ _. refl), (λ e. cc, λ x. cc))
-ends false true = ((λ e. cc, λ e. cc), (λ _. (refl, refl), λ _. refl))
-ends false false = ((λ e. cc, λ e. cc), (λ e. cc, λ x. cc))
+ends had told = grind arith
 
 pub ends_as_it_is : EndsAsItIs
 ends_as_it_is has_tag last log = ends (is_had (last ∷ log)) (is_told has_tag (last ∷ log))

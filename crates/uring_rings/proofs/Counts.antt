@@ -1,7 +1,7 @@
 -- Index words and the counts that they stand for, over plain numbers: two counts less than 2 ^ 32 apart with one word are one, and the cell of a count.
 -- By arithmetic on remainders alone: nothing here knows of a ring.
 -- Stable: rings as shared words are to cite these lemmas too.
-use Rattle.std.proofs.Common.{◌≡◌, List, length, set, get_or, ℕ, ◌+◌, ◌-◌, ◌*◌, ◌%◌, ◌^◌, ◌<◌, ◌≤◌, sym, subst, ⊎_elim, arith}
+use Rattle.std.proofs.Common.{◌≡◌, List, length, set, get_or, ℕ, ◌+◌, ◌-◌, ◌%◌, ◌^◌, ◌<◌, ◌≤◌, sym, subst, ⊎_elim, arith}
 use Rattle.uring_rings.proofs.Common.{IsPowerOfTwo, cases_lt, get_or-set_other}
 use Rattle.std.proofs.lemmas.Nat.{and_mask, pow_below, mod_below}
 use Rattle.std.proofs.lemmas.Grind.{get_or-set_at}
@@ -16,10 +16,6 @@ distance_of_words s a b d small ordered near leads = omega arith
 -- A word goes on as its count does.
 pub word_after : (s k n : ℕ) → ((s + k) % 2 ^ 32 + n) % 2 ^ 32 ≡ (s + (k + n)) % 2 ^ 32
 word_after s k n = omega arith
-
--- a quotient that is greater makes a number greater by n at least
-quotients_in_order : (n p q : ℕ) → p < q → p * n + n ≤ q * n
-quotients_in_order n p q less = grind arith
 
 -- Numbers less than n apart have one remainder only where they are equal.
 pub same_remainder : (n a b : ℕ) → 0 < n → a ≤ b → b < a + n → a % n ≡ b % n → a ≡ b

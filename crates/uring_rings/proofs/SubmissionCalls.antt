@@ -1,12 +1,12 @@
 -- What the submission calls take, and what their end leaves.
-use Rattle.std.proofs.Common.{◌≡◌, ℕ, ◌+◌, ◌-◌, ◌%◌, ◌^◌, ◌<◌, ◌≤◌, length, take, drop, get_or, cond, Option, Some, None, sym, ap, ◌∙◌, arith, ltb}
+use Rattle.std.proofs.Common.{◌≡◌, ℕ, ◌+◌, ◌-◌, ◌%◌, ◌^◌, ◌<◌, ◌≤◌, length, take, drop, get_or, cond, Option, Some, None, sym, ap, ◌∙◌, arith}
 use Rattle.uring_rings.proofs.Common.{Call, Place, Setup, ShowsSubmission, Sq, Sqe, Submission, dropped, entries_of, length-drop, length-take-le, pending, place_of, places_from, progress, slice_get, taken, with_closed, word_of}
 use Rattle.std.proofs.lemmas.List.Sums.{sum_by_push}
 use Rattle.std.specs.Option.{option_map, IfSome}
 use Rattle.uring_rings.specs.declared.answers.TakeAnswer.TheVariants.{Entry as Given, Dropped}
 use Rattle.uring_rings.specs.declared.answers.EndAnswer.TheVariants.{Taken as Closed}
 use Rattle.uring_rings.specs.declared.sq.OpenCall.{OpenCall}
-use Rattle.uring_rings.specs.SqAnswers.{take_answer, given, taken_on, end_answer, closed_on}
+use Rattle.uring_rings.specs.SqAnswers.{take_answer, taken_on, end_answer, closed_on}
 use Rattle.uring_rings.proofs.Places.{entry_more, dropped_more, entries_and_dropped, dropped_beyond}
 use Rattle.uring_rings.proofs.SubmissionWords.{reads_place}
 
@@ -58,11 +58,6 @@ takes_place g q l c word s is_call more read =
       of_word = s.places (taken l + o.call.taken) r.place from r.found ∙ ap (place_of g.sq l.content) named;
     }
 
--- what the call answers is what the word's place has
-take_answer_is : (g : Setup) (l : Submission) (c : OpenCall) (word : ℕ) → TakesPlace g l c word
-    → take_answer l ≡ given (cond (ltb word g.sq) (Some (l.content word)) None)
-take_answer_is g l c word t = grind arith
-
 pub take_gives : (g : Setup) (l : Submission) (c : OpenCall) (word : ℕ) (entry : Sqe)
     → TakesPlace g l c word → word < g.sq
     → entry ≡ l.content word → Given entry ≡ take_answer l
@@ -71,11 +66,6 @@ take_gives g l c word entry t valid held = grind arith
 pub take_drops : (g : Setup) (l : Submission) (c : OpenCall) (word : ℕ) → TakesPlace g l c word
     → g.sq ≤ word → Dropped ≡ take_answer l
 take_drops g l c word t bad = grind arith
-
--- open calls of the same numbers are the same
-same_progress : (c d : OpenCall) → c.count ≡ d.count → c.taken ≡ d.taken → c.accepted ≡ d.accepted
-    → c ≡ d
-same_progress c d to at of = λ i. record { count = to i; taken = at i; accepted = of i }
 
 -- the call goes on by one position
 take_shows : (g : Setup) (q : Sq) (l : Submission) (c : OpenCall) (word n : ℕ)

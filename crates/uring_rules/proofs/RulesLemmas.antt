@@ -1,11 +1,11 @@
 -- What is so by the manual pages' rules and by Linux's. Other crates may import all of it.
 use Rattle.std.proofs.Common.{◌≡◌, ℕ, ◌<◌, ℤ, pos, neg_ℤ, Bool, true, false, not, ◌&&◌, ◌||◌, inl, inr, length, Option, Some, None, refl, ◌∙◌, rules}
-use Rattle.std.specs.Prelude.{if◌then◌else◌, is_some}
+use Rattle.std.specs.Prelude.{if◌then◌else◌}
 use Rattle.std.proofs.lemmas.Bool.{and_parts, false_from_ne_true, both_ways, ltb-true}
 use Rattle.uring_entry.specs.declared.errno.TheConstants.{ENOENT, EINVAL, EOPNOTSUPP, EALREADY, ECANCELED}
 use Rattle.uring_entry.specs.declared.operation.Op.{Op}
 use Rattle.uring_entry.specs.Preparation.{is_faulty, is_cancel, operation_of}
-use Rattle.uring_entry.specs.Requests.{Requests, entry_of, is_outstanding, is_running, target_of, result_for}
+use Rattle.uring_entry.specs.Requests.{Requests, entry_of, is_outstanding, is_running, result_for}
 use Rattle.uring_entry.proofs.RequestLemmas.{is_doomed_own_fault}
 use Rattle.uring_dispatch.specs.declared.answers.Posts.{Posts}
 use Rattle.uring_linux.specs.LinuxRequests as linux
@@ -41,17 +41,11 @@ runs_cases true true doomed free cancel doom result first second op mine e = abs
 runs_cases true false true free cancel doom result first second op mine e = absurd cc
 runs_cases true false false false cancel doom result first second op mine e = absurd cc
 runs_cases true false false true true doom result first second op mine e = absurd cc
-runs_cases true false false true false doom result first second op mine e =
-    record { there = refl; idle = refl; spared = refl; ready = refl; other = refl }
+runs_cases true false false true false doom result first second op mine e = search rules
 
 pub run_tells : (is_linux : Bool) (l : LinuxRequests) (n : ℕ) (op : Op) → issued is_linux l n ≡ Run op
     → Starts is_linux l n
-run_tells is_linux l n op e =
-    let r = l.requests in
-    let s =
-    runs_cases (is_outstanding r n) (is_running r n) (ends_doomed is_linux r n) (may_start is_linux l n) (is_cancel (entry_of r n)) (doomed_result is_linux r n) (cancel_result is_linux r n)
-    (posts_of is_linux r n (doomed_result is_linux r n)) (posts_of is_linux r n (cancel_result is_linux r n)) op (operation_of (entry_of r n)) e in
-    record { outstanding = s.there; idle = s.idle; spared = s.spared; free = s.ready; other = s.other }
+run_tells is_linux l n op e = search rules
 
 -- what isn't to end as doomed in its turn, and is in its turn, isn't doomed
 spared_in_turn : (turn doomed deferred : Bool) → (turn && doomed) ≡ false
@@ -63,10 +57,8 @@ spared_in_turn false doomed deferred spared free = absurd (let f : false ≡ tru
 pub start_healthy : (is_linux : Bool) (l : LinuxRequests) (n : ℕ) → n < length l.requests.accepted
     → ends_doomed is_linux l.requests n ≡ false → may_start is_linux l n ≡ true
     → is_faulty (entry_of l.requests n) ≡ false
-start_healthy true l n within spared free =
-    healthy l.requests n within (spared_in_turn (is_in_turn l.requests n) (linux.is_doomed l.requests n) (is_deferred l n) spared free)
-start_healthy false l n within spared free =
-    false_from_ne_true _ (λ faulty. both_ways _ spared (is_doomed_own_fault l.requests n within faulty))
+start_healthy true l n within spared free = search (rules, healthy)
+start_healthy false l n within spared free = search (rules, false_from_ne_true, both_ways, is_doomed_own_fault)
 
 pub start_plain : (is_linux : Bool) (l : LinuxRequests) (n : ℕ) → Starts is_linux l n
     → IsPlain (entry_of l.requests n)
@@ -139,11 +131,5 @@ target_cases r None = inr (inl refl)
 target_cases r (Some m) = running_cases (is_running r m)
 
 pub cancel_tells : (is_linux : Bool) (r : Requests) (n : ℕ) → CancelEnds is_linux r n
-cancel_tells true r n = record {
-  one = λ e. rw e (found_cases (is_some (found_by r n)));
-  all = λ e. rw e (search rules);
-}
-cancel_tells false r n = record {
-  one = λ e. rw e (target_cases r (target_of r n));
-  all = λ e. rw e (search rules);
-}
+cancel_tells true r n = search rules
+cancel_tells false r n = search rules

@@ -1,7 +1,7 @@
 -- A failure in a chain, by either's rules.
-use Rattle.std.proofs.Common.{◌≡◌, ◌≢◌, ℕ, ◌+◌, ◌<◌, ◌≤◌, ℤ, negsuc, Bool, true, false, not, ◌&&◌, ◌==◌, nat_lt, List, ◌∷◌, length, if◌then◌else◌, refl, sym, subst, ◌∙◌, ap, arith, inl, inr}
-use Rattle.uring_uses.proofs.Common.{Answer, History, IsLawfulApart, IsNextInChain, Requests, Setup, World, and_from, and_left, and_parts, and_right, cases_Bool, cases_eq, ends_doomed, entry_of, has_ended, has_ended_other, has_ended_same, has_failed_same, is_after_failure, is_cancel, is_doomed_after, is_in_turn, is_joined, is_joined_inside, is_joined_yes, is_last, is_outstanding, is_running, is_running_ended_other, issue_answer, keeps_back, may_start, never_success, no_bytes, not-true, or_right, requests_of, with_ended, world}
-use Rattle.uring_rules.specs.Rules.{doomed_result, cancel_result}
+use Rattle.std.proofs.Common.{◌≡◌, ℕ, ◌+◌, ◌<◌, ◌≤◌, ℤ, negsuc, Bool, true, false, not, List, ◌∷◌, if◌then◌else◌, refl, sym, subst, ◌∙◌, ap, arith}
+use Rattle.uring_uses.proofs.Common.{Answer, History, IsLawfulApart, IsNextInChain, Requests, Setup, World, and_from, and_left, and_parts, and_right, ends_doomed, entry_of, has_ended, has_ended_other, has_ended_same, has_failed_same, is_after_failure, is_doomed_after, is_in_turn, is_joined_inside, is_joined_yes, is_last, is_running, is_running_ended_other, issue_answer, keeps_back, never_success, no_bytes, not-true, or_right, requests_of, with_ended, world}
+use Rattle.uring_rules.specs.Rules.{doomed_result}
 use Rattle.uring_entry.proofs.BelowLemmas.{some_below_none}
 use Rattle.uring_entry.proofs.EventLemmas.{is_joined_ended, is_after_failure_from}
 use Rattle.uring_core.specs.declared.step.Step.TheVariants as step
@@ -26,16 +26,8 @@ module _ (r : Requests) (n below : ℕ) (bytes : List ℕ) (next : IsNextInChain
 
   -- and it is in its turn, as whoever runs is
   keeps_none : IsFirst r n → (k : ℕ) → k < n + 1 → keeps_back (with_ended r n (negsuc below) bytes) (n + 1) k ≡ false
-  keeps_none first k lt = elim (cases_eq k n) [
-    | inl same ↦ and_right _ _ (ap not (subst (λ j. has_ended (with_ended r n (negsuc below) bytes) j ≡ true) (sym same) (has_ended_same r n (negsuc below) bytes)))
-    | inr other ↦ elim (cases_Bool (is_joined r k (n + 1))) [
-      | inl joined ↦
-          let before : k < n = omega (arith, lt, other) in
-          let same : is_joined r k n ≡ true = is_joined_yes r k n (λ j le low. is_joined_inside r k (n + 1) j joined le (omega (arith, low))) in
-          and_right _ _ (ap not (any_kept (λ x. x.number == k) r.ended _ (first k before same)))
-      | inr apart ↦ and_left _ _ (is_joined_ended r n (negsuc below) bytes k (n + 1) ∙ apart)
-    ]
-  ]
+  keeps_none first k lt =
+      grind (arith, and_right, has_ended_same, is_joined_yes, is_joined_inside, any_kept, and_left, is_joined_ended)
 
   next_turn : IsFirst r n → is_in_turn (with_ended r n (negsuc below) bytes) (n + 1) ≡ true
   unfolding is_in_turn
@@ -44,24 +36,19 @@ module _ (r : Requests) (n below : ℕ) (bytes : List ℕ) (next : IsNextInChain
   -- so it ends as doomed
   pub next_ends : (linux : Bool) → (linux ≡ true → IsFirst r n)
       → ends_doomed linux (with_ended r n (negsuc below) bytes) (n + 1) ≡ true
-  next_ends true first = and_from _ _ (next_turn (first refl)) (or_right _ _ next_after)
-  next_ends false first = is_doomed_after (with_ended r n (negsuc below) bytes) (n + 1) next_after
+  next_ends linux first = grind (arith, and_from, next_turn, or_right, next_after, is_doomed_after)
 
 -- whose failure it is makes no difference to the result
 same_result : (linux : Bool) (r : Requests) (n k : ℕ) (res : ℤ) (bytes : List ℕ)
     → doomed_result linux (with_ended r n res bytes) k ≡ doomed_result linux r k
-same_result true r n k res bytes = refl
-same_result false r n k res bytes = refl
+same_result linux r n k res bytes = grind arith
 
 doomed_ends : (outstanding running doomed ready cancel : Bool) (as_doomed as_cancel : ℤ)
     → outstanding ≡ true → running ≡ false
     → doomed ≡ true
     → (if not outstanding then answer.Unknown else (if running then answer.Running else (if doomed then answer.Ended as_doomed no_bytes else (if not ready then answer.NotReady else (if cancel then answer.Ended as_cancel no_bytes else answer.Run)))))
     ≡ answer.Ended as_doomed no_bytes
-doomed_ends false running doomed ready cancel x y o r d = cc
-doomed_ends true true doomed ready cancel x y o r d = cc
-doomed_ends true false false ready cancel x y o r d = cc
-doomed_ends true false true ready cancel x y o r d = refl
+doomed_ends outstanding running doomed ready cancel x y o r d = grind arith
 
 -- and its issue ends it
 next_cancelled : (g : Setup) (w after : World) (n below : ℕ) (bytes : List ℕ)
@@ -69,17 +56,7 @@ next_cancelled : (g : Setup) (w after : World) (n below : ℕ) (bytes : List ℕ
     → after.requests ≡ with_ended w.requests n (negsuc below) bytes
     → issue_answer g after (n + 1) ≡ answer.Ended (doomed_result g.linux w.requests (n + 1)) no_bytes
 next_cancelled g w after n below bytes next first is =
-    let r : Requests = w.requests in
-    let q : Requests = after.requests in
-    let e : Requests = with_ended r n (negsuc below) bytes in
-    let other : n + 1 ≢ n = λ same. omega (arith, same) in
-    let outstanding : is_outstanding e (n + 1) ≡ true = ap (λ b. nat_lt (n + 1) (length r.accepted) && not b) (has_ended_other r n (negsuc below) bytes (n + 1) other) ∙ next.waits in
-    let running : is_running e (n + 1) ≡ false = is_running_ended_other r n (negsuc below) bytes (n + 1) other ∙ next.unstarted in
-    let ends : ends_doomed g.linux e (n + 1) ≡ true = next_ends r n below bytes next g.linux first in
-    doomed_ends (is_outstanding q (n + 1)) (is_running q (n + 1)) (ends_doomed g.linux q (n + 1)) (may_start g.linux (requests_of after) (n + 1)) (is_cancel (entry_of q (n + 1))) (doomed_result g.linux q (n + 1)) (cancel_result g.linux q (n + 1))
-    (ap (λ (x : Requests). is_outstanding x (n + 1)) is ∙ outstanding) (ap (λ (x : Requests). is_running x (n + 1)) is ∙ running) (ap (λ (x : Requests). ends_doomed g.linux x (n + 1)) is ∙ ends)
-    ∙ ap (λ (x : Requests). answer.Ended (doomed_result g.linux x (n + 1)) no_bytes) is
-    ∙ ap (λ z. answer.Ended z no_bytes) (same_result g.linux r n (n + 1) (negsuc below) bytes)
+    grind (arith, has_ended_other, is_running_ended_other, next_ends, doomed_ends, requests_of, same_result)
 
 -- by Linux's rules whoever runs is in its turn
 runs_first : (g : Setup) (h : History) (n : ℕ) → IsLawfulApart g h

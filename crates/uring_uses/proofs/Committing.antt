@@ -1,11 +1,11 @@
 -- What a commit adds to a log: its record is kept, and what was kept before is.
-use Rattle.std.proofs.Common.{◌≡◌, ◌==◌, ◌<◌, ◌≤◌, ◌+◌, ℕ, Bool, true, false, not, ◌&&◌, ◌||◌, cond, List, [], ◌∷◌, ◌++◌, length, refl, sym, subst, ap, ◌∙◌, inl, inr, arith}
-use Rattle.uring_uses.proofs.Common.{and_from, and_left, and_parts, and_right, cond-true, eq-eqb, false_from_ne_true, leb-true, list_any, ltb-true, not_from_false, or_from, or_left, or_parts, or_right}
+use Rattle.std.proofs.Common.{◌≡◌, ◌==◌, ◌<◌, ◌≤◌, ◌+◌, ℕ, Bool, true, false, cond, List, [], ◌∷◌, ◌++◌, length, refl, sym, subst, ap, ◌∙◌, arith}
+use Rattle.uring_uses.proofs.Common.{and_right, cond-true, not_from_false, or_from, or_parts, or_right}
 use Rattle.std.proofs.lemmas.List.Folds.{list_any-append}
 use Rattle.uring_volume.specs.Writes.{Write}
 use Rattle.uring_volume.specs.declared.event.SyncRange.TheVariants.{Whole}
 use Rattle.uring_volume.specs.declared.event.Event.TheVariants.{WriteIssued, WriteEnded, SyncIssued, SyncEnded, SyncFailed}
-use Rattle.uring_volume.specs.Events.{History, has_ended, meets, is_before, is_covered, is_reached, is_given_up, is_safe}
+use Rattle.uring_volume.specs.Events.{History, has_ended, is_reached, is_given_up, is_safe}
 use Rattle.uring_volume.specs.Images.{is_under}
 use Rattle.uring_volume.specs.Laws.{IsKept}
 use Rattle.uring_volume.specs.Volume.{Volume, IsSound, is_one_of, running_writes, running_syncs, with_event, with_write, with_sync}
@@ -17,17 +17,13 @@ not_reached : (h : History) (s : ℕ) (w : Write) → has_ended h w.number ≡ f
     → is_reached h s w ≡ false
 not_reached [] s w none = refl
 not_reached (WriteEnded m ∷ earlier) s w none = not_reached earlier s w (or_parts (m == w.number) (has_ended earlier w.number) none).1
-not_reached (SyncIssued t range ∷ earlier) s w none =
-    or_from (t == s && has_ended earlier w.number && meets range w) (is_reached earlier s w)
-    (and_left (t == s && has_ended earlier w.number) (meets range w) (and_right (t == s) (has_ended earlier w.number) none))
-    (not_reached earlier s w none)
+not_reached (SyncIssued t range ∷ earlier) s w none = grind (arith, and_right, (not_reached earlier s w none))
 not_reached (e ∷ earlier) s w none = not_reached earlier s w none
 
 not_given_up : (h : History) (w : Write) → has_ended h w.number ≡ false → is_given_up h w ≡ false
 not_given_up [] w none = refl
 not_given_up (WriteEnded m ∷ earlier) w none = not_given_up earlier w (or_parts (m == w.number) (has_ended earlier w.number) none).1
-not_given_up (SyncFailed s ∷ earlier) w none =
-    or_from (is_reached earlier s w) (is_given_up earlier w) (not_reached earlier s w none) (not_given_up earlier w none)
+not_given_up (SyncFailed s ∷ earlier) w none = grind (arith, or_from, not_reached, (not_given_up earlier w none))
 not_given_up (e ∷ earlier) w none = not_given_up earlier w none
 
 -- the history of a log with a record more
@@ -36,63 +32,27 @@ with_record h w s = SyncEnded s ∷ SyncIssued s Whole ∷ WriteEnded w.number �
 
 record_is_safe : (h : History) (w : Write) (s : ℕ) → has_ended h w.number ≡ false
     → is_safe (with_record h w s) w ≡ true
-record_is_safe h w s none =
-    let same : (s == s) ≡ true = eq-eqb s s refl in
-    let ended : has_ended (WriteEnded w.number ∷ WriteIssued w ∷ h) w.number ≡ true = or_left (w.number == w.number) (has_ended h w.number) (eq-eqb w.number w.number refl) in
-    let covered : is_covered (SyncIssued s Whole ∷ WriteEnded w.number ∷ WriteIssued w ∷ h) s w ≡ true =
-    or_left (s == s && has_ended (WriteEnded w.number ∷ WriteIssued w ∷ h) w.number && true) (is_covered h s w)
-    (and_from (s == s && has_ended (WriteEnded w.number ∷ WriteIssued w ∷ h) w.number) true (and_from (s == s) (has_ended (WriteEnded w.number ∷ WriteIssued w ∷ h) w.number) same ended) refl) in
-    or_left (is_covered (SyncIssued s Whole ∷ WriteEnded w.number ∷ WriteIssued w ∷ h) s w && not (is_given_up h w)) (is_safe h w)
-    (and_from (is_covered (SyncIssued s Whole ∷ WriteEnded w.number ∷ WriteIssued w ∷ h) s w) (not (is_given_up h w)) covered (not_from_false (is_given_up h w) (not_given_up h w none)))
+record_is_safe h w s none = grind (arith, not_from_false, not_given_up)
 
 -- a byte of a write lies before its end, and not before its offset
 under_parts : (w : Write) (k : ℕ) → is_under w k ≡ true
     → (w.off ≤ k) × (k < w.off + length w.bytes)
-under_parts w k under =
-    let parts = and_parts _ _ under in
-    (leb-true w.off k parts.0, ltb-true k (w.off + length w.bytes) parts.1)
+under_parts w k under = grind arith
 
 pub record_is_kept : (h : History) (w : Write) (s : ℕ) → has_ended h w.number ≡ false
     → EndsBy w.off h → IsKept (with_record h w s) w
-record_is_kept h w s none after = record {
-  issued = inl refl;
-  safe = record_is_safe h w s none;
-  last = λ m k among differs under over. elim among [
-    | inl same ↦ absurd (differs same)
-    | inr old ↦
-        let own = under_parts w k under in
-        let its = under_parts m k over in
-        let before : m.off + length m.bytes ≤ w.off = after m old in
-        absurd (omega (arith, own.0, its.1, before))
-  ];
-}
+record_is_kept h w s none after = grind (arith, record_is_safe)
 
 pub kept_stays : (h : History) (w : Write) (s : ℕ) (v : Write) → EndsBy w.off h → IsKept h v
     → IsKept (with_record h w s) v
-kept_stays h w s v after kept = record {
-  issued = inr kept.issued;
-  safe = or_right (is_covered (SyncIssued s Whole ∷ WriteEnded w.number ∷ WriteIssued w ∷ h) s v && not (is_given_up h v)) (is_safe h v) kept.safe;
-  last = λ m k among differs under over. elim among [
-    | inl same ↦
-        let own = under_parts v k under in
-        let its = under_parts w k (subst (λ (x : Write). is_under x k ≡ true) same over) in
-        let before : v.off + length v.bytes ≤ w.off = after v kept.issued in
-        absurd (omega (arith, own.1, its.0, before))
-    | inr old ↦ or_right (w.number == v.number && has_ended h m.number) (is_before h m.number v.number) (kept.last m k old differs under over)
-  ];
-}
+kept_stays h w s v after kept = grind arith
 
 pub ends_later : (h : History) (w : Write) (s : ℕ) → EndsBy w.off h
     → EndsBy (w.off + length w.bytes) (with_record h w s)
-ends_later h w s after = λ m among. elim among [
-  | inl same ↦ subst (λ (x : Write). x.off + length x.bytes ≤ w.off + length w.bytes) (sym same) (omega arith)
-  | inr old ↦ let before : m.off + length m.bytes ≤ w.off = after m old in omega arith
-]
+ends_later h w s after = grind arith
 
 just_begun : (n : ℕ) (ns : List ℕ) → is_one_of n (ns ++ n ∷ []) ≡ true
-just_begun n ns =
-    list_any-append (λ m. m == n) ns (n ∷ [])
-    ∙ or_right (list_any (λ m. m == n) ns) ((n == n) || false) (or_left (n == n) false (eq-eqb n n refl))
+just_begun n ns = grind (arith, list_any-append, or_right)
 
 -- What the calls of a commit made of a log.
 pub record IsCommitted (old new : Volume) (end : ℕ) (bytes : List ℕ) (n : ℕ) : Type 0 where
@@ -125,9 +85,7 @@ committed v v1 v2 v3 v4 end bytes n s ran synced e1 number r e2 e3 sync t e4 =
 
 -- a write of the next number hasn't ended
 next_is_open : (v : Volume) (n : ℕ) → IsSound v → n ≡ v.next → has_ended v.history n ≡ false
-next_is_open v n sound same = false_from_ne_true (has_ended v.history n) (λ is.
-    let below : n < v.next = sound.numbered.ended n is in
-    omega arith)
+next_is_open v n sound same = grind arith
 
 pub commit_keeps : (old new : Volume) (end : ℕ) (bytes : List ℕ) (n : ℕ) → IsSound old
     → EndsBy end old.history → IsCommitted old new end bytes n
@@ -139,10 +97,8 @@ commit_keeps old new end bytes n sound after made =
 pub commit_leaves : (old new : Volume) (end : ℕ) (bytes : List ℕ) (n : ℕ)
     → EndsBy end old.history → IsCommitted old new end bytes n
     → (w : Write) → IsKept old.history w → IsKept new.history w
-commit_leaves old new end bytes n after made w kept =
-    subst (λ h. IsKept h w) (sym made.history) (kept_stays old.history (record { number = n; off = end; bytes = bytes }) made.s w after kept)
+commit_leaves old new end bytes n after made w kept = grind arith
 
 pub commit_ends : (old new : Volume) (end : ℕ) (bytes : List ℕ) (n : ℕ) → EndsBy end old.history
     → IsCommitted old new end bytes n → EndsBy (end + length bytes) new.history
-commit_ends old new end bytes n after made =
-    subst (λ h. EndsBy (end + length bytes) h) (sym made.history) (ends_later old.history (record { number = n; off = end; bytes = bytes }) made.s after)
+commit_ends old new end bytes n after made = grind arith

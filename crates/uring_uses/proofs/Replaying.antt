@@ -1,11 +1,9 @@
 -- The same steps have the same answers, unless memory is refused.
-use Rattle.std.proofs.Common.{◌≡◌, ℕ, neg_ℤ, Bool, true, false, List, [], ◌∷◌, ◌++◌, length, ◌⊎◌, inl, inr, refl, sym, subst, ◌∙◌, ap, arith}
-use Rattle.uring_uses.proofs.Common.{Answer, Event, History, OrAgain, Requests, Setup, World, append-nil, begin_answer, history_of, is_running, list_any, or_left, or_right, world, zip}
-use Rattle.std.specs.Ordering.{int_eq}
-use Rattle.uring_entry.specs.declared.errno.TheConstants.{ENOMEM}
+use Rattle.std.proofs.Common.{◌≡◌, ℕ, Bool, true, false, List, [], ◌∷◌, ◌++◌, length, ◌⊎◌, inl, inr, refl, sym, subst, ◌∙◌, ap, arith}
+use Rattle.uring_uses.proofs.Common.{Answer, Event, History, OrAgain, Requests, Setup, World, append-nil, begin_answer, history_of, list_any, or_left, world, zip}
 use Rattle.uring_entry.specs.declared.operation.Outcome.{Outcome}
 use Rattle.uring_files.specs.Contents.{FileContents}
-use Rattle.uring_core.specs.CalledFor.{CalledFor, EndsOn, IsLawful, files_of}
+use Rattle.uring_core.specs.CalledFor.{CalledFor, EndsOn, IsLawful}
 use Rattle.uring_core.specs.declared.step.Step.{Step}
 use Rattle.uring_core.specs.declared.step.Step.TheVariants as step
 use Rattle.uring_core.specs.declared.answer.Answer.TheVariants as answer
@@ -30,20 +28,16 @@ finished_same : (files : List FileContents) (r : Requests) (n : ℕ) (running : 
     → EndsOn files r n running x
     → EndsOn files r n running y → AreSame x y
 finished_same files r n false x y p q = inl (p ∙ sym q)
-finished_same files r n true (answer.Ended res bytes) (answer.Ended other more) (inl p) (inl q) =
-    inl (ap ended (p ∙ sym q))
-finished_same files r n true (answer.Ended res bytes) (answer.Ended other more) (inl p) (inr q) =
-    inr (inr (ap (λ (o : Outcome). int_eq o.res (neg_ℤ ENOMEM)) q.1))
-finished_same files r n true (answer.Ended res bytes) (answer.Ended other more) (inr p) q =
-    inr (inl (ap (λ (o : Outcome). int_eq o.res (neg_ℤ ENOMEM)) p.1))
+finished_same files r n true (answer.Ended res bytes) (answer.Ended other more) (inl p) (inl q) = grind arith
+finished_same files r n true (answer.Ended res bytes) (answer.Ended other more) (inl p) (inr q) = grind arith
+finished_same files r n true (answer.Ended res bytes) (answer.Ended other more) (inr p) q = grind arith
 finished_same files r n true (answer.Ended res bytes) _ p q = absurd q
 finished_same files r n true _ y p q = absurd p
 
 called_same : (g : Setup) (w : World) (s : Step) (x y : Answer) → CalledFor g w s x
     → CalledFor g w s y → AreSame x y
 called_same g w (step.Begin count) x y p q = opened_same (begin_answer w count) x y p q
-called_same g w (step.Finish n) x y p q =
-    finished_same (files_of g w) w.requests n (is_running w.requests n) x y p q
+called_same g w (step.Finish n) x y p q = grind (arith, finished_same)
 called_same g w _ x y p q = inl (p ∙ sym q)
 
 lawful_before : (g : Setup) (h later : History) → IsLawful g (later ++ h) → IsLawful g h
@@ -59,11 +53,7 @@ first_before g h e events lawful = subst (λ k. IsLawful g k) (history_of_cons e
 -- one more answer, the same in both
 one_more : (x y : Answer) (xs ys : List Answer) → x ≡ y → AreReplays xs ys
     → AreReplays (x ∷ xs) (y ∷ ys)
-one_more x y xs ys same (inl rest) = inl (cc)
-one_more x y xs ys same (inr (inl refused)) =
-    inr (inl (or_right (is_out_of_memory x) (list_any is_out_of_memory xs) refused))
-one_more x y xs ys same (inr (inr refused)) =
-    inr (inr (or_right (is_out_of_memory y) (list_any is_out_of_memory ys) refused))
+one_more x y xs ys same h = grind arith
 
 -- the same steps after the same history
 replayed : (g : Setup) (h : History) (steps : List Step) (xs ys : List Answer)

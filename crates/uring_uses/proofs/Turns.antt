@@ -1,6 +1,6 @@
 -- What one turn of a simulation makes.
-use Rattle.std.proofs.Common.{◌≡◌, ℕ, ◌+◌, ◌≤◌, ℤ, Bool, true, false, List, [], ◌∷◌, ◌++◌, length, Option, Some, None, is_some, if◌then◌else◌, refl, sym, subst, ◌∙◌, ap, arith, ◌⊎◌, inl, inr, append_assoc}
-use Rattle.uring_uses.proofs.Common.{Answer, FinishesApart, HasRun, History, IsEnded, IsIdle, IsIssued, IsLawfulApart, LinuxRequests, NoneRuns, Requests, Setup, World, and_from, and_parts, both_ways, cases_eq, entry_of, has_ended, is_outstanding, is_running, is_running_ended_other, is_running_ended_same, is_running_started_other, is_running_started_same, issue_answer, least_of, next_answer_of, no_bytes, not-true, operation_of, operation_running, outstanding_in, requests_of, with_ended, with_issued_end, with_started, world}
+use Rattle.std.proofs.Common.{◌≡◌, ℕ, ◌+◌, ◌≤◌, ℤ, Bool, true, false, List, [], ◌∷◌, ◌++◌, length, Option, Some, None, is_some, refl, sym, subst, ◌∙◌, ap, arith, ◌⊎◌, inl, inr, append_assoc}
+use Rattle.uring_uses.proofs.Common.{Answer, HasRun, History, IsEnded, IsIdle, IsLawfulApart, LinuxRequests, NoneRuns, Requests, Setup, World, and_from, both_ways, cases_eq, has_ended, is_outstanding, is_running, is_running_ended_other, is_running_ended_same, is_running_started_other, is_running_started_same, issue_answer, least_of, next_answer_of, no_bytes, operation_running, outstanding_in, requests_of, with_ended, with_issued_end, with_started, world}
 use Rattle.std.proofs.lemmas.List.Folds.{list_all-append}
 use Rattle.uring_entry.proofs.BelowLemmas.{least_below_out}
 use Rattle.uring_rules.specs.Rules as by_rules
@@ -10,9 +10,8 @@ use Rattle.uring_machine.proofs.GoingOn.{least_goes_on}
 use Rattle.uring_core.specs.declared.step.Step.TheVariants as step
 use Rattle.uring_core.specs.declared.answer.Answer.TheVariants as answer
 use Rattle.uring_core.proofs.Outstanding.{ended_less, none_outstanding, count_below_zero}
-use Rattle.uring_core.proofs.ByRules.{issuable_tells}
 use Rattle.uring_core.proofs.Issuable.{next_tells}
-use Rattle.uring_core.proofs.Issuable.{issue_goes, issued_ends}
+use Rattle.uring_core.proofs.Issuable.{issue_goes}
 
 -- The next request.
 
@@ -34,8 +33,7 @@ some_next linux l a goes quiet some is other = by_least (least_of l.requests) re
         | inr next ↦ by_next (by_rules.next_of linux l) next is
       ]
   by_least None none =
-      let zero_of : outstanding_in l.requests ≡ 0 = count_below_zero (is_outstanding l.requests) (length l.requests.accepted) (least_below_out (is_outstanding l.requests) (length l.requests.accepted) none) in
-      omega (arith, some, zero_of)
+      grind (arith, (least_below_out (is_outstanding l.requests) (length l.requests.accepted) none), count_below_zero)
 
 -- The issue of the next request.
 
@@ -46,35 +44,27 @@ pub record IsWaiting (r : Requests) (n : ℕ) : Type 0 where
 
 pub issuable_waits : (linux : Bool) (l : LinuxRequests) (n : ℕ)
     → by_rules.is_issuable linux l n ≡ true → IsWaiting l.requests n
-issuable_waits linux l n issuable =
-    let c = issuable_tells linux l n issuable in
-    record { outstanding = c.outstanding; unended = not-true _ (and_parts _ _ c.outstanding).1; unstarted = c.idle }
+issuable_waits linux l n issuable = grind arith
 
 -- what is issued next and doesn't run, ends
 pub issue_ends : (g : Setup) (w : World) (n : ℕ) (a : Answer)
     → by_rules.is_issuable g.linux (requests_of w) n ≡ true
     → a ≡ issue_answer g w n → (a ≡ answer.Run → ⊥)
     → IsEnded a
-issue_ends g w n a issuable is other =
-    issued_ends a (subst IsIssued (sym is) (issue_goes g w n issuable)) other
+issue_ends g w n a issuable is other = grind (arith, issue_goes)
 
 -- Nothing runs afterwards.
 
 quiet_after_end : (r : Requests) (n : ℕ) (res : ℤ) (bytes : List ℕ)
     → ((k : ℕ) → is_running r k ≡ false) → (k : ℕ)
     → is_running (with_ended r n res bytes) k ≡ false
-quiet_after_end r n res bytes quiet k =
-    elim (cases_eq k n) [
-      | inl same ↦ subst (λ j. is_running (with_ended r n res bytes) j ≡ false) (sym same) (is_running_ended_same r n res bytes)
-      | inr other ↦ is_running_ended_other r n res bytes k other ∙ quiet k
-    ]
+quiet_after_end r n res bytes quiet k = grind (arith, is_running_ended_same, is_running_ended_other)
 
 -- an end as a request is issued, by either's rules
 quiet_after_issue : (linux : Bool) (r : Requests) (n : ℕ) (res : ℤ)
     → ((k : ℕ) → is_running r k ≡ false) → (k : ℕ)
     → is_running (with_issued_end linux r n res) k ≡ false
-quiet_after_issue true r n res quiet k = quiet_after_end r n res no_bytes quiet k
-quiet_after_issue false r n res quiet k = quiet_after_end r n res no_bytes quiet k
+quiet_after_issue linux r n res quiet k = grind (arith, quiet_after_end)
 
 less_after_issue : (linux : Bool) (r : Requests) (n : ℕ) (res : ℤ) → is_outstanding r n ≡ true
     → outstanding_in (with_issued_end linux r n res) + 1 ≡ outstanding_in r
@@ -130,8 +120,7 @@ turn_run p h n res bytes quiet outstanding fits =
 next_told : (old asked : Core) (h : History) (a : Answer) → asked.setup ≡ old.setup
     → FitsApart asked ((step.Next, a) ∷ h)
     → a ≡ next_answer_of (by_rules.next_of old.setup.linux (requests_of (world old.setup h)))
-next_told old asked h a same fits =
-    subst (λ (g : Setup). a ≡ next_answer_of (by_rules.next_of g.linux (requests_of (world g h)))) same fits.lawful.0
+next_told old asked h a same fits = grind arith
 
 -- Next is answered
 pub turn_goes_on : (old asked : Core) (h : History) (a : Answer) → asked.setup ≡ old.setup
@@ -176,50 +165,28 @@ pub turn_start : (old asked new : Core) (h : History) (n : ℕ) (a b : Answer)
     → a ≡ answer.Next n → b ≡ answer.Run → NoneRuns (world old.setup h)
     → FitsApart asked ((step.Next, a) ∷ h) → FitsApart new ((step.Issue n, b) ∷ h)
     → IsStarted new h n
-turn_start old asked new h n a b same kept named ran quiet asked_fits fits =
-    let issuable : IsNext new.setup h n = subst (λ g. IsNext g h n) (sym (kept ∙ same)) (named_waits old asked h n a same named asked_fits) in
-    let waits = issuable_waits new.setup.linux (requests_of (world new.setup h)) n issuable in
-    record {
-      waits = waits;
-      quiet = subst (λ g. NoneRuns (world g h)) (sym (kept ∙ same)) quiet;
-      runs = is_running_started_same (world new.setup h).requests n waits.unended;
-      fits = subst (λ d. FitsApart new ((step.Issue n, d) ∷ h)) ran fits;
-    }
+turn_start old asked new h n a b same kept named ran quiet asked_fits fits = grind (arith, requests_of, is_running_started_same)
 
 -- so it has an operation
 pub turn_operation : (p : Core) (h : History) (n : ℕ) → IsStarted p h n
     → None ≡ operation_running (world p.setup ((step.Issue n, answer.Run) ∷ h)).requests n → ⊥
-turn_operation p h n started none = by_running (is_running (world p.setup ((step.Issue n, answer.Run) ∷ h)).requests n) started.runs none where
-  by_running : (running : Bool) → running ≡ true → None ≡ (if running then Some (operation_of (entry_of (world p.setup ((step.Issue n, answer.Run) ∷ h)).requests n)) else None) → ⊥
-  by_running true is f = cc
-  by_running false is f = cc
+turn_operation p h n started none = grind arith
 
 -- and is finished
 finish_ended : (p : Core) (h : History) (n : ℕ) (d : Answer)
     → IsWaiting (world p.setup h).requests n → NoneRuns (world p.setup h)
     → IsEnded d → FitsApart p ((step.Finish n, d) ∷ (step.Issue n, answer.Run) ∷ h) → HasRun p h 1
-finish_ended p h n (answer.Ended res bytes) waits quiet ended fits =
-    turn_run p h n res bytes quiet waits.outstanding fits
-finish_ended p h n _ waits quiet ended fits = absurd ended
+finish_ended p h n d waits quiet ended fits = grind (arith, turn_run)
 
 pub turn_finish : (ran new : Core) (h : History) (n : ℕ) (d : Answer) → new.setup ≡ ran.setup
     → IsStarted ran h n
     → FitsApart new ((step.Finish n, d) ∷ (step.Issue n, answer.Run) ∷ h) → HasRun new h 1
-turn_finish ran new h n d same started fits =
-    let waits : IsWaiting (world new.setup h).requests n = subst (λ g. IsWaiting (world g h).requests n) (sym same) started.waits in
-    let runs : is_running (world new.setup ((step.Issue n, answer.Run) ∷ h)).requests n ≡ true = subst (λ g. is_running (world g ((step.Issue n, answer.Run) ∷ h)).requests n ≡ true) (sym same) started.runs in
-    finish_ended new h n d waits (subst (λ g. NoneRuns (world g h)) (sym same) started.quiet) (subst (λ running. FinishesApart running d) runs fits.lawful.0) fits
+turn_finish ran new h n d same started fits = grind (arith, finish_ended)
 
 -- Many turns.
 
 pub run_none : (p : Core) (h : History) → NoneRuns (world p.setup h) → FitsApart p h → HasRun p h 0
-run_none p h quiet fits = record {
-  events = [];
-  issues_and_finishes = refl;
-  fits = fits;
-  quiet = quiet;
-  fewer = omega arith;
-}
+run_none p h quiet fits = grind arith
 
 pub run_more : (old new : Core) (h : History) (ended : ℕ) → new.setup ≡ old.setup
     → (before : HasRun old h ended)
@@ -236,10 +203,4 @@ run_more old new h ended same before last =
 
 pub run_all : (p : Core) (h : History) (ended : ℕ)
     → ended ≡ outstanding_in (world p.setup h).requests → HasRun p h ended → IsIdle p h
-run_all p h ended all run =
-    record {
-      events = run.events;
-      issues_and_finishes = run.issues_and_finishes;
-      fits = run.fits;
-      none_outstanding = none_outstanding (world p.setup (run.events ++ h)).requests (omega (arith, run.fewer, all));
-    }
+run_all p h ended all run = grind (arith, none_outstanding)

@@ -1,5 +1,5 @@
 -- One worker more after fresh ones, in order.
-use Rattle.std.proofs.Common.{◌≡◌, ℕ, ◌<◌, List, [], ◌∷◌, ◌++◌, length, get_or, ◌≤◌, inl, inr, refl, sym, subst, ap, ◌∙◌, arith, ◌+◌}
+use Rattle.std.proofs.Common.{◌≡◌, ℕ, ◌<◌, List, [], ◌∷◌, ◌++◌, length, get_or, ◌≤◌, inl, inr, sym, subst, ap, ◌∙◌, arith, ◌+◌}
 use Rattle.std.proofs.Math.Seq.{get_or-append_seam}
 use Rattle.std.proofs.lemmas.Bool.{cases_lt}
 use Rattle.std.proofs.lemmas.List.{get_or_append_left, length-append, length-replicate}
@@ -11,12 +11,7 @@ use Rattle.uring_workers.specs.Worker.{Worker}
 use Rattle.uring_workers.specs.declared.work_lanes.WorkLanes.{WorkLanes}
 
 pub none_opened : (files : ℕ) → AreOpened files [] []
-none_opened files = record {
-  pairs = record { many = refl; pairing = λ k d e low. absurd (omega arith); short = λ k d low. absurd (omega arith); have = λ k e low. absurd (omega arith) };
-  none_carried = λ k d low. absurd (omega arith);
-  hold = λ k d low. absurd (omega arith);
-  fresh = λ k e low. absurd (omega arith);
-}
+none_opened files = grind arith
 
 -- empty files, by how many there are
 pub all_empty : (files : List FileContents) (count : ℕ) → files ≡ empty_files count

@@ -20,6 +20,3 @@ loop-count-preserved g c = (
   c.collect_one.ensures.taken,
   collects_more (results_seen c.collect_one.new.lanes) c.in_ok-collect_one.field-0 (search rules) c.loop-count.invariant.4 c.in_ok-collect_one.ensures.ok,
 )
-
-pub returns-in_err-collect_one-clause-granted : goal.returns-in_err-collect_one-clause-granted
-returns-in_err-collect_one-clause-granted g c = λ all. absurd (false≢true (c.in_err-collect_one.ensures.granted all))

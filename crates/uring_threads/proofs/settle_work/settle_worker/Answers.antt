@@ -3,18 +3,6 @@ use Rattle.uring_threads.proofs.Common.{jobs_of, jobs_sent, results_of, results_
 use Rattle.uring_threads.proofs.SettledWorkers.{settled_at}
 use Rattle.uring_threads.proofs.settle_work.settle_worker.Goals as goal
 
-pub take_waiting-requires-clause-work : goal.take_waiting-requires-clause-work
-take_waiting-requires-clause-work g c =
-    let seen = c.see_all.ensures in
-    let carried = c.requires.carried in
-    let waiting = results_seen c.see_all.new.lanes in (
-      carried.0,
-      carried.1,
-      c.see_all.new.self.done,
-      c.see_all.new.self.seen,
-      record { jobs = seen.jobs ∙ seen.dispatcher.0 ∙ carried.2.jobs; results = ap (λ rs. rs ++ waiting) (sym carried.2.results ∙ sym seen.dispatcher.1) ∙ seen.results },
-    )
-
 pub returns-clause-settled : goal.returns-clause-settled
 returns-clause-settled g c = λ workers k carried.
     let seen = c.see_all.ensures in

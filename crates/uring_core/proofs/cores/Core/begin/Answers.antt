@@ -5,14 +5,6 @@ use Rattle.uring_core.proofs.CoreSteps.{core_after}
 use Rattle.uring_core.proofs.CoreCalls.{opens_within, opens_with, again_goes, call_goes, on_success, not_refused, on_failure}
 use Rattle.uring_core.proofs.cores.Core.begin.Goals as goal
 
-pub overflow_add-ends : goal.overflow_add-ends
-overflow_add-ends g c =
-    let f = c.self.invariant.1.2 in
-    let numbers = f.shows.numbers in
-    let posts = f.shows.posts in
-    let outstanding = c.outstanding.ensures.value in
-    omega arith
-
 pub unreachable-requires : goal.unreachable-requires
 unreachable-requires g c =
     let told = rw (← c.self.view_is) at c.in-Call.ensures in

@@ -3,6 +3,3 @@ use Rattle.uring_enter.proofs.call.signals.signal_laws.Goals as goal
 
 pub returns-clause-sleeps_blocked : goal.returns-clause-sleeps_blocked
 returns-clause-sleeps_blocked c = sleeps_blocked
-
-pub returns-clause-reads_files_open : goal.returns-clause-reads_files_open
-returns-clause-reads_files_open c = reads_files_open

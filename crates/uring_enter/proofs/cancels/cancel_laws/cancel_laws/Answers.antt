@@ -4,9 +4,6 @@ use Rattle.uring_enter.proofs.cancels.cancel_laws.cancel_laws.Goals as goal
 pub returns-clause-cancels_what_fits : goal.returns-clause-cancels_what_fits
 returns-clause-cancels_what_fits c = cancels_what_fits
 
-pub returns-clause-cancels_all_that_fit : goal.returns-clause-cancels_all_that_fit
-returns-clause-cancels_all_that_fit c = cancels_all_that_fit
-
 pub returns-clause-cancels_the_first : goal.returns-clause-cancels_the_first
 returns-clause-cancels_the_first c = cancels_the_first
 
@@ -19,17 +16,5 @@ returns-clause-asks_wait_where_it_matters c = asks_wait_where_it_matters
 pub returns-clause-finds_first_that_wait : goal.returns-clause-finds_first_that_wait
 returns-clause-finds_first_that_wait c = finds_first_that_wait
 
-pub returns-clause-asks_file_where_it_matters : goal.returns-clause-asks_file_where_it_matters
-returns-clause-asks_file_where_it_matters c = asks_file_where_it_matters
-
 pub returns-clause-passes_over_linked : goal.returns-clause-passes_over_linked
 returns-clause-passes_over_linked c = passes_over_linked
-
-pub returns-clause-passes_over_others : goal.returns-clause-passes_over_others
-returns-clause-passes_over_others c = passes_over_others
-
-pub returns-clause-search_passes_over_others : goal.returns-clause-search_passes_over_others
-returns-clause-search_passes_over_others c = search_passes_over_others
-
-pub returns-clause-search_passes_over_waiting : goal.returns-clause-search_passes_over_waiting
-returns-clause-search_passes_over_waiting c = search_passes_over_waiting

@@ -1,11 +1,5 @@
 use Rattle.uring_enter.proofs.DueRuns.{looks_at_each_due, looks_before, looks_at_none_again}
 use Rattle.uring_enter.proofs.going_on.due.due_laws.Goals as goal
 
-pub returns-clause-looks_at_each_due : goal.returns-clause-looks_at_each_due
-returns-clause-looks_at_each_due c = looks_at_each_due
-
-pub returns-clause-looks_before : goal.returns-clause-looks_before
-returns-clause-looks_before c = looks_before
-
 pub returns-clause-looks_at_none_again : goal.returns-clause-looks_at_none_again
 returns-clause-looks_at_none_again c = looks_at_none_again

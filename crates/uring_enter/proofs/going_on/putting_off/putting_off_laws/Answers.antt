@@ -3,6 +3,3 @@ use Rattle.uring_enter.proofs.going_on.putting_off.putting_off_laws.Goals as goa
 
 pub returns-clause-nothing_overtakes : goal.returns-clause-nothing_overtakes
 returns-clause-nothing_overtakes c = nothing_overtakes
-
-pub returns-clause-ends_after_a_try : goal.returns-clause-ends_after_a_try
-returns-clause-ends_after_a_try c = ends_after_a_try

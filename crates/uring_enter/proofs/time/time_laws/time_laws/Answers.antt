@@ -1,9 +1,6 @@
 use Rattle.uring_enter.proofs.TimeoutRuns.{never_goes_back, ends_in_time, ends_once, ends_alone, runs_apart, passes_none_over}
 use Rattle.uring_enter.proofs.time.time_laws.time_laws.Goals as goal
 
-pub returns-clause-never_goes_back : goal.returns-clause-never_goes_back
-returns-clause-never_goes_back c = never_goes_back
-
 pub returns-clause-ends_in_time : goal.returns-clause-ends_in_time
 returns-clause-ends_in_time c = ends_in_time
 

@@ -6,9 +6,3 @@ use Rattle.uring_enter.proofs.time.timeout_rows.next_of.Goals as goal
 pub loop-i-preserved : goal.loop-i-preserved
 loop-i-preserved c =
     rw (c.nearer.ensures) (next_more c.args.rows.now c.loop-i.i c.row_at-row.result c.loop-i.next (omega arith) c.row_at-row.ensures c.loop-i.invariant)
-
-pub returns : goal.returns
-returns c =
-    let end : c.loop-i.i ≡ c.args.count = omega arith in
-    let P : ℕ → Type 0 = λ n. IsNextOf (take n c.args.rows.now) c.loop-i.next in
-    subst P end c.loop-i.invariant

@@ -1,4 +1,4 @@
-use Rattle.std.proofs.Common.{List, ℕ, ◌<◌, ◌+◌, [], ◌∷◌, ◌++◌, ◌∙◌, ap, append_assoc, get_or, subst, sym, length, take, ◌≡◌, arith}
+use Rattle.std.proofs.Common.{List, ℕ, ◌+◌, [], ◌∷◌, ◌++◌, ◌∙◌, ap, append_assoc, get_or, subst, sym, length, take, ◌≡◌, arith}
 use Rattle.std.proofs.Math.Seq.{take-length}
 use Rattle.uring_play_text.proofs.Common.{Has, take_more}
 use Rattle.uring_play_text.proofs.Readings.{given_of, took_byte, took_line}

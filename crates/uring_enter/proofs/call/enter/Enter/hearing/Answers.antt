@@ -7,8 +7,3 @@ returns-then-is_enough c a log keeps before =
     c.ended.ensures a log keeps
     ∙ sym (heard_enough a log c.args.sight (sym c.in-Other.is ∙ before)
     (sym (c.is_enough.ensures a log keeps) ∙ c.if-is_enough.true))
-
-pub returns-else-is_enough : goal.returns-else-is_enough
-returns-else-is_enough c a log keeps before =
-    sym (heard_too_few a log c.args.sight (sym c.in-Other.is ∙ before)
-    (sym (c.is_enough.ensures a log keeps) ∙ c.if-is_enough.false))

@@ -3,15 +3,6 @@ use Rattle.std.proofs.lemmas.List.{drop-take, length-drop}
 use Rattle.uring_enter.specs.Completions.Showing.{reaped}
 use Rattle.uring_enter.proofs.completions.showing.Shown.reap.Goals as goal
 
-pub returns-clause-counts : goal.returns-clause-counts
-returns-clause-counts c log keeps within = record {
-  head =
-      let is : c.after-self.result ≡ (reaped log + c.args.count) % 2 ^ 32 = omega (arith, c.after-self.ensures, keeps.head) in is;
-  shown = omega (arith, keeps.shown, within);
-  posted = omega (arith, keeps.posted, keeps.shown, keeps.ordered, within);
-  ordered = keeps.ordered;
-}
-
 pub returns-clause-rows : goal.returns-clause-rows
 returns-clause-rows c log rows keeps within =
     let n = c.args.count in
