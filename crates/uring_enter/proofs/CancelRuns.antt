@@ -1,16 +1,12 @@
 -- The laws of cancels.
-use Rattle.std.proofs.Common.{◌≡◌, ◌==◌, ℕ, ◌≤◌, max, nat_lt, Bool, true, false, not, ◌&&◌, ◌||◌, List, [], ◌∷◌, refl, arith, if◌then◌else◌}
+use Rattle.std.proofs.Common.{◌≡◌, ℕ, ◌≤◌, Bool, true, false, not, ◌&&◌, ◌||◌, List, [], ◌∷◌, refl, arith, if◌then◌else◌}
 use Rattle.uring_enter.specs.declared.cancels.cancel.Sought.{Sought}
 use Rattle.uring_enter.specs.declared.cancels.cancel.Outstanding.{Outstanding}
 use Rattle.uring_enter.specs.Cancels.Cancels.{is_of_all, is_open, finds_any, one_more, count_of}
-use Rattle.uring_enter.specs.Cancels.CancelLaws.{CancelsWhatFits, CancelsAllThatFit, CancelsTheFirst, AsksWhatMatters, AsksFileWhereItMatters, AsksWaitWhereItMatters, FindsFirstThatWait, PassesOverLinked, PassesOverOthers, SearchPassesOverOthers, SearchPassesOverWaiting}
-use Rattle.uring_enter.specs.Cancels.Ranks.{RanksAll, is_ranked}
+use Rattle.uring_enter.specs.Cancels.CancelLaws.{CancelsWhatFits, CancelsTheFirst, AsksWhatMatters, AsksWaitWhereItMatters, FindsFirstThatWait, PassesOverLinked}
 
 pub cancels_what_fits : CancelsWhatFits
 cancels_what_fits s earlier r is = grind arith
-
-pub cancels_all_that_fit : CancelsAllThatFit
-cancels_all_that_fit s earlier r one two three = grind arith
 
 -- what one cancel more counts, of one
 record IsOne (any : Bool) (count : ℕ) : Type 0 where
@@ -46,26 +42,5 @@ pub finds_first_that_wait : FindsFirstThatWait
 unfolding is_open
 finds_first_that_wait s earlier r one is = grind (arith, first_by)
 
-pub asks_file_where_it_matters : AsksFileWhereItMatters
-asks_file_where_it_matters s r compared same compared_else same_else is = grind arith
-
-pub passes_over_others : PassesOverOthers
-passes_over_others s earlier r one two = grind arith
-
-pub search_passes_over_others : SearchPassesOverOthers
-search_passes_over_others user_data earlier r is = grind arith
-
-pub search_passes_over_waiting : SearchPassesOverWaiting
-search_passes_over_waiting user_data earlier r is = grind arith
-
 pub passes_over_linked : PassesOverLinked
 passes_over_linked s earlier r is = grind arith
-
--- a rank is neither before the first nor after the last, whichever they are
-ranks_by : (ranked is_stream counts : Bool)
-    → ((if ranked then 0 else 2) ≤ max (if ranked then 0 else 2) (if is_stream then 0 else if counts then 1 else 2))
-    × (max (if ranked then 0 else 2) (if is_stream then 0 else if counts then 1 else 2) ≤ 2)
-ranks_by ranked is_stream counts = grind arith
-
-pub ranks_all : RanksAll
-ranks_all s linux code is_stream count = ranks_by (is_ranked s linux) is_stream (code == 11 && nat_lt 0 count)

@@ -1,8 +1,8 @@
 -- What is kept of the requests that are due holds each of them.
-use Rattle.std.proofs.Common.{◌≡◌, ℕ, ◌-◌, ◌≤◌, ◌<◌, Bool, true, false, not, ◌&&◌, ◌||◌, nat_le, nat_lt, List, [], ◌∷◌, ◌++◌, Some, None, sym, subst, ◌∙◌, inl, inr, arith, if◌then◌else◌}
+use Rattle.std.proofs.Common.{◌≡◌, ℕ, ◌-◌, ◌≤◌, ◌<◌, Bool, true, not, ◌&&◌, ◌||◌, nat_le, nat_lt, List, [], ◌∷◌, ◌++◌, Some, None, sym, subst, ◌∙◌, inl, inr, arith, if◌then◌else◌}
 use Rattle.uring_enter.proofs.Common.{and_parts, cases_Bool, false≢true, min}
 use Rattle.uring_enter.specs.declared.going_on.due.Due.{Due}
-use Rattle.uring_enter.specs.GoingOn.Due.{Happening, Noted, FoundBefore, KeepsDue, joined, cut, is_due, may_be_up_to, notes_up_to, IsIn, LooksAtEachDue, LooksAtNoneAgain, LooksBefore}
+use Rattle.uring_enter.specs.GoingOn.Due.{Happening, Noted, FoundBefore, KeepsDue, cut, may_be_up_to, notes_up_to, IsIn, LooksAtNoneAgain}
 
 or_second : (b c : Bool) → c ≡ true → (b || c) ≡ true
 or_second b c is = grind arith
@@ -10,20 +10,8 @@ or_second b c is = grind arith
 or_first : (b c : Bool) → b ≡ true → (b || c) ≡ true
 or_first b c is = grind arith
 
-pub noted : (log : List Happening) (d : Due) (n : ℕ) → KeepsDue log d → KeepsDue (Noted n ∷ log) (joined d n)
-noted log d n keeps = grind arith
-
 pub found : (log : List Happening) (d : Due) (end : ℕ) → KeepsDue log d → KeepsDue (FoundBefore end ∷ log) (cut d end)
 found log d end keeps = grind arith
-
-pub none_due : (log : List Happening) (d : Due) (number : ℕ) → KeepsDue log d → d.is_any ≡ false → is_due log number ≡ false
-none_due log d number keeps none = grind arith
-
-pub looks_at_each_due : LooksAtEachDue
-looks_at_each_due log d number end keeps is low = grind arith
-
-pub looks_before : LooksBefore
-looks_before d number end = grind arith
 
 up_to_by : (newer earlier : List Happening) (found number : ℕ) → number < found
     → may_be_up_to (newer ++ FoundBefore found ∷ earlier) number ≡ true → notes_up_to newer number ≡ true

@@ -1,7 +1,6 @@
 -- What comes next, after some replies.
 use Rattle.std.proofs.Common.{◌≡◌, ℕ, pos, Bool, true, false, List, [], ◌∷◌, refl}
 use Rattle.uring_enter.proofs.Common.{Asked, LeastOver, NotTaken, Reply, Sight, Taken, Woken, due, ended, going, hearing, is_enough, least_over}
-use Rattle.uring_enter.specs.declared.call.command.Command.TheVariants as command
 use Rattle.uring_enter.specs.declared.call.enter.Before.TheVariants.{Other}
 use Rattle.uring_enter.specs.Call.After.{before_of}
 
@@ -13,14 +12,6 @@ heard_enough a [] sight other enough = cc
 heard_enough a (Woken ∷ log) sight other enough = cc
 heard_enough a (LeastOver seen b ∷ log) sight other enough = cc
 heard_enough a (last ∷ log) sight other enough = rw enough refl
-
-pub heard_too_few : (a : Asked) (log : List Reply) (sight : Sight)
-    → Other ≡ before_of log → is_enough a log sight ≡ false
-    → hearing a log sight ≡ command.Sleep
-heard_too_few a [] sight other few = cc
-heard_too_few a (Woken ∷ log) sight other few = cc
-heard_too_few a (LeastOver seen b ∷ log) sight other few = cc
-heard_too_few a (last ∷ log) sight other few = rw few refl
 
 -- what comes once the entries are submitted
 pub due_taken : (a : Asked) (log : List Reply) (reply : Reply) (count : ℕ) (sight : Sight)

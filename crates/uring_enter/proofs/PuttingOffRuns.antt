@@ -4,7 +4,7 @@ use Rattle.std.proofs.lemmas.Bool.{false≢true}
 use Rattle.uring_enter.specs.declared.going_on.putting_off.Coming.TheVariants.{Submission, Posting, End}
 use Rattle.uring_enter.specs.declared.going_on.putting_off.Order.{Order}
 use Rattle.uring_enter.specs.declared.going_on.putting_off.Order.TheVariants.{Comes, PostsFirst, Waits}
-use Rattle.uring_enter.specs.GoingOn.PuttingOff.{PutOff, IsPosted, IsRefused, HasCome, is_put_off, is_refused, order_after, NothingOvertakes, EndsAfterATry}
+use Rattle.uring_enter.specs.GoingOn.PuttingOff.{PutOff, IsPosted, IsRefused, HasCome, is_put_off, is_refused, order_after, NothingOvertakes}
 
 abbrev is_now : Order → Bool
 is_now Comes = true
@@ -31,11 +31,3 @@ nothing_overtakes (HasCome Submission ∷ earlier) (run, comes) is =
     absurd (submitted (is_put_off earlier) (is_refused earlier) comes is)
 nothing_overtakes (HasCome Posting ∷ earlier) (run, comes) is =
     absurd (posted (is_put_off earlier) (is_refused earlier) comes is)
-
-ended : (put refused : Bool) → order_after End put refused ≡ Comes → put ≡ true → refused ≡ true
-ended true true comes is = refl
-ended true false comes is = absurd (false≢true (ap is_now comes))
-ended false refused comes is = absurd (false≢true is)
-
-pub ends_after_a_try : EndsAfterATry
-ends_after_a_try log (run, comes) is = ended (is_put_off log) (is_refused log) comes is

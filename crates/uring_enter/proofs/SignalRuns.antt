@@ -1,9 +1,8 @@
 -- A call sleeps only with signals blocked, and nothing but the read of a file is done with signals open.
 use Rattle.std.proofs.Common.{◌≡◌, Bool, true, false, not, ◌&&◌, ◌||◌, nat_lt, List, [], ◌∷◌, refl}
-use Rattle.uring_enter.proofs.Common.{Asked, Chosen, Endless, Failed, Heard, Interrupted, IsInVain, LeastOver, NotTaken, Reply, Stuck, Taken, TimedOut, WentOn, Woken, WrongHead, false≢true, has_taken_all, true≢false}
+use Rattle.uring_enter.proofs.Common.{Asked, Chosen, Endless, Failed, Heard, Interrupted, IsInVain, LeastOver, NotTaken, Reply, Stuck, Taken, TimedOut, WentOn, Woken, WrongHead, false≢true, has_taken_all}
 use Rattle.uring_enter.specs.declared.call.reply.Reply.TheVariants.{Passed}
-use Rattle.uring_enter.specs.declared.call.signals.Doing.TheVariants.{Looks, LooksUp, AsksNotToWait, CarriesOut}
-use Rattle.uring_enter.specs.Call.Signals.{blocks_at_begin, SleepsBlocked, ReadsFilesOpen}
+use Rattle.uring_enter.specs.Call.Signals.{blocks_at_begin, SleepsBlocked}
 use Rattle.uring_enter.proofs.Running.{sleeps_in_vain}
 
 -- a call that waits may sleep
@@ -48,11 +47,3 @@ blocked_in_vain q a (Passed ∷ log) is = absurd is
 
 pub sleeps_blocked : SleepsBlocked
 sleeps_blocked q a log run is = blocked_in_vain q a log (sleeps_in_vain a log run is)
-
-pub reads_files_open : ReadsFilesOpen
-reads_files_open Looks is = absurd (true≢false is)
-reads_files_open LooksUp is = absurd (true≢false is)
-reads_files_open AsksNotToWait is = absurd (true≢false is)
-reads_files_open (CarriesOut true false) is = refl
-reads_files_open (CarriesOut true true) is = absurd (true≢false is)
-reads_files_open (CarriesOut false s) is = absurd (true≢false is)

@@ -8,14 +8,11 @@ use Rattle.uring_enter.specs.declared.taking_up.taking.Submitting.{Submitting}
 use Rattle.uring_enter.specs.declared.taking_up.taking.Item.{Item}
 use Rattle.uring_enter.specs.declared.taking_up.taking.Onward.TheVariants.{Takes}
 use Rattle.uring_enter.specs.TakingUp.Takings.{most, ends, has_ended, cell_of, next_of}
-use Rattle.uring_enter.specs.TakingUp.TakingLaws.{TakesWhatIsPublished, TakesEachOnce, TakesNoneAfterAnEnd}
+use Rattle.uring_enter.specs.TakingUp.TakingLaws.{TakesEachOnce, TakesNoneAfterAnEnd}
 
 below_most : (a : Submitting) (taken : List Item) (cell : ℕ) → next_of a taken ≡ Takes cell
     → (has_ended a.submits_all taken ≡ false) × (length taken < most a) × (cell_of a taken ≡ cell)
 below_most a taken cell is = grind arith
-
-pub takes_what_is_published : TakesWhatIsPublished
-takes_what_is_published a taken cell is = grind arith
 
 ended_before : (all : Bool) (newer earlier : List Item) (item : Item) → has_ended all (newer ++ item ∷ earlier) ≡ false → ends all item ≡ false
 ended_before all [] earlier item none = grind arith

@@ -2,10 +2,7 @@
 use Rattle.std.proofs.Common.{◌≡◌, ℕ, ◌≤◌, ◌<◌, ◌-◌, ◌^◌, max, Bool, true, false, eqb, cond, length, get_or, List, [], ◌∷◌, ◌++◌, inl, inr, map, filter, refl, sym, ap, arith, ◌∙◌, if◌then◌else◌}
 use Rattle.uring_enter.proofs.Common.{All, All-cons, All-contains, All-contains_itself, All-filter, All-map, All-nil, All-push, All-weaker, AreApart, Changed, Clock, Contains, Contains-append_right, Contains-get_or, Contains-push_cases, Ended, Event, Passed, Posted, Slept, Started, Stopped, Timeout, ends_before, eqb-false, false≢true, filter_passes, get_or-map, is_other, later, length-map, ne_eqb, not_from_false, or_parts, running, started, time, with_expiry}
 use Rattle.uring_operations.specs.declared.entries.timeout.Start.{Start}
-use Rattle.uring_enter.specs.Time.TimeLaws.{IsRun, NeverGoesBack, WasGiven, EndsInTime, starts, EndsOnce, EndsAlone, RunsApart, is_virtual, PassesNoneOver}
-
-pub never_goes_back : NeverGoesBack
-never_goes_back log h = grind arith
+use Rattle.uring_enter.specs.Time.TimeLaws.{IsRun, WasGiven, EndsInTime, starts, EndsOnce, EndsAlone, RunsApart, is_virtual, PassesNoneOver}
 
 -- what a change of one time makes of what all were given
 given_by : (earlier : List Event) (number more : ℕ) (t : Timeout) (b : Bool) → eqb t.number number ≡ b

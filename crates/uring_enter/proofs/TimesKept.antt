@@ -2,8 +2,7 @@
 use Rattle.std.proofs.Common.{◌≡◌, ℕ, ◌≤◌, ◌<◌, ◌+◌, min, ℤ, Bool, true, false, ltb, length, take, set, List, [], ◌∷◌, ◌++◌, inl, inr, Option, Some, None, map, filter, refl, sym, ap, subst, arith, ◌∙◌, if◌then◌else◌}
 use Rattle.uring_enter.proofs.Common.{AreApart, Changed, EndsNone, Event, HasCounted, HasNone, IsDueOf, IsEarliest, IsNext, IsNextOf, IsRow, MatchOption, Timeout, cases_order, counted_found, due_of, earliest_of, ends_before, has_counted, is_other, is_over, later, leb-false, leb-true, outcome, outcome_at, posted, running, take_more_set, time, with_expiry}
 use Rattle.uring_enter.specs.declared.call.wait.WakeSources.{WakeSources}
-use Rattle.uring_enter.specs.declared.call.wait.Woken.{Woken}
-use Rattle.uring_enter.specs.Call.Waits.{has_any, IsWoken, IsPassing, IsPassingBy, woken_of, passing_of}
+use Rattle.uring_enter.specs.Call.Waits.{has_any, IsPassing, IsPassingBy, passing_of}
 
 -- whoever doesn't end before another is over no sooner
 pub no_sooner : (u t : Timeout) → ends_before u t ≡ false → t.expiry ≤ u.expiry
@@ -120,10 +119,6 @@ any_of count rows within = grind arith
 pub any_is : (log : List Event) (count : ℕ) (rows : List Timeout) → count ≤ length rows → take count rows ≡ running log
     → ltb 0 count ≡ has_any (running log)
 any_is log count rows within is = sym (any_of count rows within) ∙ ap has_any is
-
-pub woken_is : (log : List Event) (due : Option Timeout) (limit : Option ℕ) (now : ℕ) (result : Woken) → IsDueOf log due
-    → now ≡ time log → result ≡ woken_of due limit now → IsWoken log limit result
-woken_is log due limit now result is same made = grind arith
 
 passing_by : (log : List Event) (next : Option Timeout) (real streams : Bool) → IsNextOf (running log) next
     → IsPassingBy real streams log (if real then due_of (time log) next else (if streams then None else next))

@@ -11,14 +11,8 @@ use Rattle.uring_epochs.proofs.Noted.{map_same, first_many, first_empty, first_a
 abbrev pub Keeps : Log → Log → Type 0
 Keeps old new = (new.volume.unit ≡ old.volume.unit) × (new.volume.first ≡ old.volume.first)
 
-change_begun_keeps : (n : ℕ) (c : Change) (log : Log) → Keeps log (change_begun n c log)
-change_begun_keeps n c log = grind arith
-
 change_ended_keeps : (n : ℕ) (c : Change) (res : ℤ) (log : Log) → Keeps log (change_ended n c res log)
 change_ended_keeps n c res log = grind arith
-
-pub begun_keeps : (n : ℕ) (op : Op) (log : Log) → Keeps log (begun n op log)
-begun_keeps n op log = change_begun_keeps n (change_by op (shown_length log.volume)) log
 
 pub finished_keeps : (n : ℕ) (op : Op) (res : ℤ) (log : Log) → Keeps log (finished n op res log)
 finished_keeps n op res log = change_ended_keeps n (change_by op (shown_length log.volume)) res log

@@ -3,17 +3,13 @@ use Rattle.std.proofs.Common.{◌≡◌, ℕ, suc, ◌+◌, Bool, List, [], ◌�
 use Rattle.uring_ports.specs.declared.item.Item.{Item}
 use Rattle.uring_ports.specs.declared.message.Message.{Message}
 use Rattle.uring_ports.specs.Ports.{Put, places_of, items_of_calls}
-use Rattle.uring_ports.specs.Messages.{close_mark, item_before, items_before, messages_of_calls, messages_of, with_first, with_item, calls_of, has_close_mark, put_of, AreWhole, owed_from, owed}
+use Rattle.uring_ports.specs.Messages.{close_mark, item_before, items_before, messages_of_calls, messages_of, with_item, calls_of, has_close_mark, put_of, AreWhole, owed_from, owed}
 
 -- no call is empty
 abbrev pub AreSome : List (List Item) → Type 0
 AreSome [] = Unit {0}
 AreSome ([] ∷ calls) = ⊥
 AreSome ((x ∷ xs) ∷ calls) = AreSome calls
-
-pub some_with_first : (x : Item) (calls : List (List Item)) → AreSome calls
-    → AreSome (with_first x calls)
-some_with_first x calls some = grind arith
 
 some_with_item : (left : ℕ) (x : Item) (calls : List (List Item)) → AreSome calls
     → AreSome (with_item left x calls)
@@ -74,10 +70,6 @@ pub length_messages_of_calls : (calls : List (List Item))
     → length (messages_of_calls calls) ≡ length (items_of_calls calls)
 length_messages_of_calls [] = refl
 length_messages_of_calls (call ∷ calls) = rw (length-append (items_before 0 call) (messages_of_calls calls), length-append call (items_of_calls calls)) (rw (length_items_before 0 call, length_messages_of_calls calls) refl)
-
-length_closing : (closed : Bool)
-    → length {A = Message} (if closed then close_mark ∷ [] else []) ≡ (if closed then 1 else 0)
-length_closing closed = grind arith
 
 pub length_messages_of : (p : Put) → length (messages_of p) ≡ places_of p
 length_messages_of p = grind (arith, length-append, length_messages_of_calls)

@@ -7,7 +7,7 @@ use Rattle.std.proofs.lemmas.Bool.{false≢true}
 use Rattle.uring_ports.specs.declared.item.Item.{Item}
 use Rattle.uring_ports.specs.declared.message.Message.{Message}
 use Rattle.uring_ports.specs.Ports.{Put, with_call, with_close, items_of_calls, places_of, LeavesItems}
-use Rattle.uring_ports.specs.Messages.{close_mark, item_before, items_before, messages_of_calls, messages_of, with_item, calls_of, items_of, has_close_mark, put_of, AreWhole, owed, Continues, MayFollow}
+use Rattle.uring_ports.specs.Messages.{close_mark, item_before, items_before, messages_of_calls, messages_of, calls_of, items_of, has_close_mark, put_of, AreWhole, owed, Continues, MayFollow}
 use Rattle.uring_ports.proofs.MessageLemmas.{AreSome, some_calls_of, some_append, calls_of_calls, stands, whole, length_messages_of, owed_from_append, owed_from_items, owed_calls}
 
 -- whole messages with no close mark are those of their calls
@@ -93,20 +93,6 @@ owed_snoc ms m = owed_from_append 0 ms (m ∷ [])
 pub next_item : (ms : List Message) (m : Message) (left : ℕ) → owed ms ≡ suc left → MayFollow ms m
     → m ≡ item_before left m.item
 next_item ms m left more may = rw more at may.1
-
--- after whole messages with no close mark, a message that closes is the close mark
-pub next_close : (ms : List Message) (m : Message) → AreWhole ms → MayFollow ms m → m.closes ≡ true
-    → m ≡ close_mark
-next_close ms m are_whole may closes = grind arith
-
-items_with_item : (left : ℕ) (x : Item) (calls : List (List Item))
-    → items_of_calls (with_item left x calls) ≡ x ∷ items_of_calls calls
-items_with_item left x calls = grind arith
-
-items_if : (b : Bool) (x : Item) (left : ℕ) (calls : List (List Item)) (xs : List Item)
-    → xs ≡ items_of_calls calls
-    → (if b then [] else x ∷ xs) ≡ items_of_calls (if b then [] else with_item left x calls)
-items_if b x left calls xs is = grind arith
 
 -- the items that messages were sent for are those of the calls that they were sent for
 pub items_calls_of : (ms : List Message) → items_of ms ≡ items_of_calls (calls_of ms)

@@ -2,7 +2,7 @@
 use Rattle.std.proofs.Common.{◌≡◌, ℕ, ◌-◌, ◌<◌, ◌≤◌, inl, inr, refl, List, [], ◌∷◌, ◌++◌, ◌∙◌, sym, subst, arith}
 use Rattle.std.proofs.lemmas.Bool.{cases_lt}
 use Rattle.std.proofs.Math.Pow.{mod-mod-pow}
-use Rattle.uring_register.specs.Buffers.Provided.{Change, Provided, Removed, Took, Registered, Unregistered, provided, gone, nth}
+use Rattle.uring_register.specs.Buffers.Provided.{Change, Provided, Removed, Took, Registered, Unregistered, provided, nth}
 use Rattle.uring_register.specs.Buffers.ProvidedLaws.{IsProvided, GivesWhatWasProvided, KeepsWhatWasProvided, TakesNoMore, TakesInOrder, TakesCellsInTurn}
 
 pub takes_no_more : TakesNoMore
@@ -12,9 +12,6 @@ takes_no_more (Removed count ∷ earlier) = let before = takes_no_more earlier i
 takes_no_more (Took ∷ earlier) = let before = takes_no_more earlier in grind (arith, before)
 takes_no_more (Registered count ∷ earlier) = takes_no_more earlier
 takes_no_more (Unregistered ∷ earlier) = takes_no_more earlier
-
-grows : (next : Change) (log : List Change) → gone log ≤ gone (next ∷ log)
-grows next log = grind arith
 
 pub takes_in_order : TakesInOrder
 takes_in_order [] log list some = grind (arith, list, some)

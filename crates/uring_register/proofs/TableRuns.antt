@@ -1,15 +1,7 @@
 -- Which slot a file gets.
-use Rattle.std.proofs.Common.{◌≡◌, ℕ, ◌<◌, ◌≤◌, List, slice_index_or, ◌∙◌, arith}
+use Rattle.std.proofs.Common.{◌≡◌, ℕ, List, slice_index_or, arith}
 use Rattle.uring_register.specs.declared.tables.table.Table.{Table}
-use Rattle.uring_register.specs.Tables.Tables.{Filing, start_by, NoneIsFree, IsFirstFree, IsGiven, KeepsTable}
-
-none_by : (f g : ℕ → ℕ) (from end most : ℕ) → ((s : ℕ) → s < most → f s ≡ g s) → end ≤ most
-    → NoneIsFree f from end → NoneIsFree g from end
-none_by f g from end most same within none = λ s one two zero. none s one two (same s (omega (arith, two, within)) ∙ zero)
-
-first_by : (f g : ℕ → ℕ) (from end most slot : ℕ) → ((s : ℕ) → s < most → f s ≡ g s) → end ≤ most
-    → IsFirstFree f from end slot → IsFirstFree g from end slot
-first_by f g from end most slot same within found = grind arith
+use Rattle.uring_register.specs.Tables.Tables.{Filing, start_by, IsFirstFree, IsGiven, KeepsTable}
 
 -- what the slots hold is their words
 abbrev pub word : List ℕ → ℕ → ℕ

@@ -33,25 +33,9 @@ record Runs (outstanding running doomed free cancel : Bool) : Type 0 where
   ready : free ≡ true
   other : cancel ≡ false
 
-runs_cases : (outstanding running doomed free cancel : Bool) (doom result : ℤ) (first second : Posts) (op mine : Op)
-    → (if not outstanding then Unknown else if running then Running else if doomed then Ended doom first else if not free then NotReady else if cancel then Ended result second else Run mine) ≡ Run op
-    → Runs outstanding running doomed free cancel
-runs_cases false running doomed free cancel doom result first second op mine e = absurd cc
-runs_cases true true doomed free cancel doom result first second op mine e = absurd cc
-runs_cases true false true free cancel doom result first second op mine e = absurd cc
-runs_cases true false false false cancel doom result first second op mine e = absurd cc
-runs_cases true false false true true doom result first second op mine e = absurd cc
-runs_cases true false false true false doom result first second op mine e = search rules
-
 pub run_tells : (is_linux : Bool) (l : LinuxRequests) (n : ℕ) (op : Op) → issued is_linux l n ≡ Run op
     → Starts is_linux l n
 run_tells is_linux l n op e = search rules
-
--- what isn't to end as doomed in its turn, and is in its turn, isn't doomed
-spared_in_turn : (turn doomed deferred : Bool) → (turn && doomed) ≡ false
-    → (turn && not deferred) ≡ true → doomed ≡ false
-spared_in_turn true doomed deferred spared free = spared
-spared_in_turn false doomed deferred spared free = absurd (let f : false ≡ true = free in cc)
 
 -- what may start and doesn't end as doomed has no fault
 pub start_healthy : (is_linux : Bool) (l : LinuxRequests) (n : ℕ) → n < length l.requests.accepted
@@ -117,18 +101,6 @@ manual_doom false = inr (inr refl)
 pub doomed_fails : (is_linux : Bool) (r : Requests) (n : ℕ) → IsDoomedResult (doomed_result is_linux r n)
 doomed_fails true r n = linux_doom (is_refused_drain r n) (is_faulty (entry_of r n))
 doomed_fails false r n = manual_doom (is_faulty (entry_of r n))
-
-found_cases : (found : Bool) → IsCancelResult (if found then neg_ℤ EALREADY else neg_ℤ ENOENT)
-found_cases true = inr (inr refl)
-found_cases false = inr (inl refl)
-
-running_cases : (running : Bool) → IsCancelResult (if running then neg_ℤ EALREADY else pos 0)
-running_cases true = inr (inr refl)
-running_cases false = inl refl
-
-target_cases : (r : Requests) (target : Option ℕ) → IsCancelResult (result_for r target)
-target_cases r None = inr (inl refl)
-target_cases r (Some m) = running_cases (is_running r m)
 
 pub cancel_tells : (is_linux : Bool) (r : Requests) (n : ℕ) → CancelEnds is_linux r n
 cancel_tells true r n = search rules

@@ -3,7 +3,6 @@ use Rattle.std.proofs.Common.{◌≡◌, ℕ, ◌+◌, ◌<◌, ◌≤◌, List,
 use Rattle.uring_threads.proofs.Common.{AllByRecursion, Event, length-map, map-append, vec_capacity}
 use Rattle.uring_core.specs.declared.answer.Answer.TheVariants as answer
 use Rattle.uring_threads.specs.declared.brief.Brief.{Brief}
-use Rattle.uring_threads.specs.declared.brief.BriefStep.{BriefStep}
 use Rattle.uring_threads.specs.declared.brief.BriefAnswer.{BriefAnswer}
 use Rattle.uring_threads.specs.declared.brief.BriefAnswer.TheVariants as told
 use Rattle.uring_threads.specs.declared.store.Store.{Store}

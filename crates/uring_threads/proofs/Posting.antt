@@ -1,7 +1,7 @@
 -- What ends of requests and a delivery leave of the rings: ends leave them as they were, but for what is posted.
-use Rattle.std.proofs.Common.{◌≡◌, ℕ, ℤ, ◌+◌, ◌-◌, ◌≤◌, Bool, List, length, refl, ◌∙◌, sym, subst, ap, arith}
+use Rattle.std.proofs.Common.{◌≡◌, ℕ, ℤ, ◌+◌, ◌-◌, ◌≤◌, List, length, refl, ◌∙◌, sym, subst, ap, arith}
 use Rattle.std.specs.Prelude.{min}
-use Rattle.uring_threads.proofs.Common.{Answer, Appends, Cqe, DeliversMost, Grows, IsDelivered, IsUnmoved, KeepsAllBut, Kept, OnlyPosts, Requests, Setup, World, none_counted, now, on_completions, reaps_counted, with_end_of, with_flushed, with_head_stored, with_issued_end, with_reaped_all, with_tail_loaded}
+use Rattle.uring_threads.proofs.Common.{Answer, Appends, Cqe, DeliversMost, Grows, IsDelivered, IsUnmoved, KeepsAllBut, Kept, OnlyPosts, Setup, World, none_counted, now, on_completions, reaps_counted, with_end_of, with_flushed, with_head_stored, with_reaped_all, with_tail_loaded}
 use Rattle.uring_core.specs.declared.step.Step.TheVariants as step
 use Rattle.uring_threads.proofs.TraceSteps.{grown, unmoved_now, appends_one, appends_then, appends_after, both_none, none_both}
 

@@ -1,6 +1,6 @@
 -- Lanes that stay the same, as they are looked at and as jobs and results go through them.
 use Rattle.std.proofs.Common.{◌≡◌, ◌≢◌, ℕ, ◌<◌, List, length, get_or, refl, arith, inl, inr}
-use Rattle.uring_threads.proofs.Common.{AreSameLanes, HoldJobs, HoldResults, IsSent, Job, OnlyReceives, WorkLanes, cases_eq, get_or-set_other, get_or-set_same, get_or_default, length-set, set}
+use Rattle.uring_threads.proofs.Common.{AreSameLanes, HoldJobs, IsSent, Job, OnlyReceives, WorkLanes, cases_eq, get_or-set_other, get_or-set_same, get_or_default, length-set, set}
 
 -- what holds of one element that is set, and of each other as it was
 pub set_cases : {X : Type 0} (P : ℕ → X → Type 0) (xs : List X) (i : ℕ) (x : X) (k : ℕ) (d : X)

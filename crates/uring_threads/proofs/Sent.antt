@@ -1,8 +1,8 @@
 -- What a lawful history tells of jobs and of operations: a job was sent for each request that started, and an operation was carried out for each that started and ended.
 -- And of what is left at a place: of the jobs sent to it, those after the operations that were carried out are of the requests that run.
 -- By `Moves` and induction over the history, and by counting how often a number stands among what was sent, carried out and started.
-use Rattle.std.proofs.Common.{◌≡◌, ℕ, ◌<◌, ◌≤◌, ◌==◌, ℤ, List, [], ◌∷◌, ◌++◌, length, map, Bool, true, false, not, cond, None, if◌then◌else◌, refl, sym, subst, ◌∙◌, ap, arith, ◌≢◌, ◌+◌, ◌&&◌, append-nil}
-use Rattle.uring_threads.proofs.Common.{Answer, CalledForApart, Done, Ending, History, IsLawfulApart, Job, Op, Requests, Setup, Sqe, Step, World, and_parts, both_ways, done_at, done_by, done_in, entry_of, eq-eqb, eqb-true, false_from_ne_true, filter, has_ended, has_started, is_outstanding, is_running, issue_answer, job_in, jobs_at, jobs_in, jobs_of, length-append, list_any, map-append, no_bytes, not-true, operation_of, option_map, or_left, or_right, requests_of, slice_index_or, with_call, with_issued_end, with_told, world, zero_entry}
+use Rattle.std.proofs.Common.{◌≡◌, ℕ, ◌<◌, ◌≤◌, ◌==◌, ℤ, List, [], ◌∷◌, ◌++◌, length, map, Bool, true, false, not, cond, None, refl, sym, subst, ◌∙◌, ap, arith, ◌≢◌, ◌+◌, ◌&&◌, append-nil}
+use Rattle.uring_threads.proofs.Common.{Answer, CalledForApart, Done, Ending, History, IsLawfulApart, Job, Op, Requests, Setup, Sqe, Step, World, and_parts, both_ways, done_at, done_by, done_in, entry_of, eq-eqb, eqb-true, false_from_ne_true, filter, has_ended, has_started, is_outstanding, is_running, issue_answer, job_in, jobs_at, jobs_in, jobs_of, length-append, list_any, map-append, not-true, operation_of, option_map, or_left, or_right, requests_of, slice_index_or, with_call, with_issued_end, with_told, world, zero_entry}
 use Rattle.uring_linux.specs.LinuxRequests.{LinuxRequests}
 use Rattle.uring_core.specs.Events.{started_by, end_told_by}
 use Rattle.uring_core.specs.declared.answer.Answer.TheVariants as answer

@@ -1,6 +1,6 @@
 -- The parts of a turn put together: what went through the dispatcher's hands stays tied to its trace, and what they appended adds up.
 use Rattle.std.proofs.Common.{add-zero, zero-add, ◌≡◌, ℕ, List, refl, sym, subst, ap, ◌∙◌, arith, false, true}
-use Rattle.uring_threads.proofs.Common.{Appends, AreOfTurn, AreSameLanes, AreTies, ClosesOnce, Counts, Cqe, HasServed, HaveCarried, IfOk, IfOk-from_err, IfOk-weaker, Intake, IsDelivered, IsErr, IsGivenUpAsSpent, IsKernel, IsOk, IsUnmoved, KeepsAllBut, Kept, Kernel, OnErr, OnlyPosts, Put, Records, RecordsIntake, RecordsTurn, Repeats, Requests, Result, TakesFewResults, TakesIn, Tally, Tied, Turn, Turns, WorkLanes, World, delivery_row, false≢true, finishes_counted, issues_counted, length, next_in, now, reaps_counted}
+use Rattle.uring_threads.proofs.Common.{Appends, AreOfTurn, AreSameLanes, AreTies, ClosesOnce, Counts, Cqe, HasServed, HaveCarried, IfOk, IfOk-from_err, IfOk-weaker, Intake, IsDelivered, IsErr, IsKernel, IsOk, IsUnmoved, KeepsAllBut, Kept, Kernel, OnErr, OnlyPosts, Put, Records, RecordsIntake, RecordsTurn, Repeats, Requests, Result, TakesFewResults, TakesIn, Tally, Tied, Turn, Turns, WorkLanes, World, delivery_row, false≢true, finishes_counted, issues_counted, length, next_in, now, reaps_counted}
 use Rattle.uring_core.specs.declared.step.Step.TheVariants as step
 use Rattle.uring_threads.proofs.Carrying.{quiet_stays, carried_stays, next_is_none}
 use Rattle.uring_threads.proofs.Tying.{once_stays}

@@ -1,12 +1,11 @@
 -- What a commit adds to a log: its record is kept, and what was kept before is.
-use Rattle.std.proofs.Common.{◌≡◌, ◌==◌, ◌<◌, ◌≤◌, ◌+◌, ℕ, Bool, true, false, cond, List, [], ◌∷◌, ◌++◌, length, refl, sym, subst, ap, ◌∙◌, arith}
+use Rattle.std.proofs.Common.{◌≡◌, ◌==◌, ◌+◌, ℕ, Bool, true, false, cond, List, [], ◌∷◌, ◌++◌, length, refl, sym, subst, ap, ◌∙◌, arith}
 use Rattle.uring_uses.proofs.Common.{and_right, cond-true, not_from_false, or_from, or_parts, or_right}
 use Rattle.std.proofs.lemmas.List.Folds.{list_any-append}
 use Rattle.uring_volume.specs.Writes.{Write}
 use Rattle.uring_volume.specs.declared.event.SyncRange.TheVariants.{Whole}
 use Rattle.uring_volume.specs.declared.event.Event.TheVariants.{WriteIssued, WriteEnded, SyncIssued, SyncEnded, SyncFailed}
 use Rattle.uring_volume.specs.Events.{History, has_ended, is_reached, is_given_up, is_safe}
-use Rattle.uring_volume.specs.Images.{is_under}
 use Rattle.uring_volume.specs.Laws.{IsKept}
 use Rattle.uring_volume.specs.Volume.{Volume, IsSound, is_one_of, running_writes, running_syncs, with_event, with_write, with_sync}
 use Rattle.uring_uses.specs.Stores.{EndsBy}
@@ -34,22 +33,9 @@ record_is_safe : (h : History) (w : Write) (s : ℕ) → has_ended h w.number �
     → is_safe (with_record h w s) w ≡ true
 record_is_safe h w s none = grind (arith, not_from_false, not_given_up)
 
--- a byte of a write lies before its end, and not before its offset
-under_parts : (w : Write) (k : ℕ) → is_under w k ≡ true
-    → (w.off ≤ k) × (k < w.off + length w.bytes)
-under_parts w k under = grind arith
-
 pub record_is_kept : (h : History) (w : Write) (s : ℕ) → has_ended h w.number ≡ false
     → EndsBy w.off h → IsKept (with_record h w s) w
 record_is_kept h w s none after = grind (arith, record_is_safe)
-
-pub kept_stays : (h : History) (w : Write) (s : ℕ) (v : Write) → EndsBy w.off h → IsKept h v
-    → IsKept (with_record h w s) v
-kept_stays h w s v after kept = grind arith
-
-pub ends_later : (h : History) (w : Write) (s : ℕ) → EndsBy w.off h
-    → EndsBy (w.off + length w.bytes) (with_record h w s)
-ends_later h w s after = grind arith
 
 just_begun : (n : ℕ) (ns : List ℕ) → is_one_of n (ns ++ n ∷ []) ≡ true
 just_begun n ns = grind (arith, list_any-append, or_right)

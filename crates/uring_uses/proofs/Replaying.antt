@@ -1,7 +1,6 @@
 -- The same steps have the same answers, unless memory is refused.
 use Rattle.std.proofs.Common.{◌≡◌, ℕ, Bool, true, false, List, [], ◌∷◌, ◌++◌, length, ◌⊎◌, inl, inr, refl, sym, subst, ◌∙◌, ap, arith}
 use Rattle.uring_uses.proofs.Common.{Answer, Event, History, OrAgain, Requests, Setup, World, append-nil, begin_answer, history_of, list_any, or_left, world, zip}
-use Rattle.uring_entry.specs.declared.operation.Outcome.{Outcome}
 use Rattle.uring_files.specs.Contents.{FileContents}
 use Rattle.uring_core.specs.CalledFor.{CalledFor, EndsOn, IsLawful}
 use Rattle.uring_core.specs.declared.step.Step.{Step}
@@ -19,10 +18,6 @@ opened_same (answer.Call count) x y (inl p) (inl q) = inl (p ∙ sym q)
 opened_same (answer.Call count) x y (inl p) (inr q) = inr (inr (ap is_out_of_memory q.0))
 opened_same (answer.Call count) x y (inr p) q = inr (inl (ap is_out_of_memory p.0))
 opened_same _ x y p q = inl (p ∙ sym q)
-
--- how a finish ended, as an answer
-abbrev ended : Outcome → Answer
-ended outcome = answer.Ended outcome.res outcome.bytes
 
 finished_same : (files : List FileContents) (r : Requests) (n : ℕ) (running : Bool) (x y : Answer)
     → EndsOn files r n running x

@@ -1,4 +1,4 @@
-use Rattle.uring_enter.proofs.CancelRuns.{cancels_what_fits, cancels_all_that_fit, cancels_the_first, asks_what_matters, asks_wait_where_it_matters, finds_first_that_wait, asks_file_where_it_matters, passes_over_linked, passes_over_others, search_passes_over_others, search_passes_over_waiting}
+use Rattle.uring_enter.proofs.CancelRuns.{cancels_what_fits, cancels_the_first, asks_what_matters, asks_wait_where_it_matters, finds_first_that_wait, passes_over_linked}
 use Rattle.uring_enter.proofs.cancels.cancel_laws.cancel_laws.Goals as goal
 
 pub returns-clause-cancels_what_fits : goal.returns-clause-cancels_what_fits

@@ -1,4 +1,4 @@
-use Rattle.uring_enter.proofs.TakingRuns.{takes_what_is_published, takes_each_once, takes_none_after_an_end}
+use Rattle.uring_enter.proofs.TakingRuns.{takes_each_once, takes_none_after_an_end}
 use Rattle.uring_enter.proofs.taking_up.taking_laws.taking_laws.Goals as goal
 
 pub returns-clause-takes_each_once : goal.returns-clause-takes_each_once

@@ -1,4 +1,4 @@
-use Rattle.uring_enter.proofs.TimeoutRuns.{never_goes_back, ends_in_time, ends_once, ends_alone, runs_apart, passes_none_over}
+use Rattle.uring_enter.proofs.TimeoutRuns.{ends_in_time, ends_once, ends_alone, runs_apart, passes_none_over}
 use Rattle.uring_enter.proofs.time.time_laws.time_laws.Goals as goal
 
 pub returns-clause-ends_in_time : goal.returns-clause-ends_in_time

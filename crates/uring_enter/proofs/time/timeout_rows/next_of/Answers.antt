@@ -1,5 +1,4 @@
-use Rattle.std.proofs.Common.{◌≡◌, ℕ, take, subst, arith}
-use Rattle.uring_operations.specs.Entries.Timeouts.{IsNextOf}
+use Rattle.std.proofs.Common.{arith}
 use Rattle.uring_enter.proofs.TimeoutOrder.{next_more}
 use Rattle.uring_enter.proofs.time.timeout_rows.next_of.Goals as goal
 

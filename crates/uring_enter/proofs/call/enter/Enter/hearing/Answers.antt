@@ -1,5 +1,5 @@
 use Rattle.std.proofs.Common.{sym, ◌∙◌}
-use Rattle.uring_enter.proofs.Next.{heard_enough, heard_too_few}
+use Rattle.uring_enter.proofs.Next.{heard_enough}
 use Rattle.uring_enter.proofs.call.enter.Enter.hearing.Goals as goal
 
 pub returns-then-is_enough : goal.returns-then-is_enough

@@ -1,6 +1,5 @@
-use Rattle.std.proofs.Common.{◌≡◌, ◌+◌, ◌%◌, ◌^◌, take, drop, ap, sym, ◌∙◌, arith}
+use Rattle.std.proofs.Common.{◌≡◌, ◌+◌, take, drop, ap, sym, ◌∙◌, arith}
 use Rattle.std.proofs.lemmas.List.{drop-take, length-drop}
-use Rattle.uring_enter.specs.Completions.Showing.{reaped}
 use Rattle.uring_enter.proofs.completions.showing.Shown.reap.Goals as goal
 
 pub returns-clause-rows : goal.returns-clause-rows
