@@ -4,7 +4,7 @@ pub use Rattle.std.proofs.lemmas.List.{append-nil, length-map, map-append, take_
 pub use Rattle.std.proofs.lemmas.Result.{IfOk-weaker, on_ok_weaker}
 pub use Rattle.std.specs.Io.KnownBytes.{Appends, Consumes, IsAtEnd, Keeps}
 pub use Rattle.std.specs.List.{list_any}
-pub use Rattle.std.specs.Prelude.{IsTrue, OnOk, codes, slice_index, string_bytes}
+pub use Rattle.std.specs.Prelude.{IsTrue, codes, slice_index, string_bytes}
 pub use Rattle.uring_core.specs.Histories.{History, history_of, world}
 pub use Rattle.uring_crash.specs.Crashes.{Leaves, image_text, is_bad}
 pub use Rattle.uring_crash.specs.Following.{Followed, Following, Follows, HasFollowed, ReadsLine, TookLines}

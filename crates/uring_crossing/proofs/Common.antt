@@ -6,7 +6,7 @@ pub use Rattle.std.proofs.lemmas.Bool.{and_parts, both_ways, cases_Bool, eqb-fal
 pub use Rattle.std.proofs.lemmas.Int.{to_z-of_z}
 pub use Rattle.std.proofs.lemmas.List.{append-nil, append_assoc, drop_all, drop_min, length-drop, length-map, length-take, map-append, take_all, take_min}
 pub use Rattle.std.proofs.lemmas.Result.{IfOk-weaker, on_ok_weaker}
-pub use Rattle.std.specs.Prelude.{All, IfSome, IsErrOf, IsSome, IsSomeAnd, None, Option, Some, bit_and, codes, nat_lt, string_bytes, sum_by}
+pub use Rattle.std.specs.Prelude.{All, IfSome, IsErrOf, IsSome, IsSomeAnd, None, Option, Some, bit_and, codes, string_bytes, sum_by}
 pub use Rattle.std.specs.contracts.impls.GlobalAllocator.TheImpl.{dict, ghosts}
 pub use Rattle.std.specs.declared.alloc.Global.{Global}
 pub use Rattle.std.specs.declared.vec.Vec.{Vec}

@@ -1,9 +1,9 @@
 -- The names that several of these files cite, passed on from one place. Declares nothing.
 pub use Rattle.std.proofs.Math.Seq.{drop-cons}
-pub use Rattle.std.proofs.lemmas.Bool.{and_from, and_parts, both_ways, cases_Bool, cases_lt, eq-eqb, eqb-true, false_from_ne_true, le-leb, le-ltb, lt-ltb, not-false, not-true, or_parts, true≢false}
+pub use Rattle.std.proofs.lemmas.Bool.{and_from, and_parts, both_ways, cases_lt, eq-eqb, eqb-true, false_from_ne_true, le-leb, le-ltb, not-false, not-true, or_parts, true≢false}
 pub use Rattle.std.proofs.lemmas.List.{drop_all, ext_get_or, length-append, length-map, length-replicate, map-append, map-set, reverse-append, reverse-reverse, take-append-drop, take_all, take_more}
 pub use Rattle.std.proofs.lemmas.Option.{get_or_from_slice_get, same_Some, slice_get-get_or, slice_get-map, slice_get_past}
-pub use Rattle.std.specs.Option.{option_map, option_map_or}
+pub use Rattle.std.specs.Option.{option_map}
 pub use Rattle.std.specs.Prelude.{Contains, if◌then◌else◌, int_le, is_some, replicate, reverse, slice_get, slice_index_or, slice_set}
 pub use Rattle.uring_core.proofs.Changes.{Change, IsSilent, cancels, change_of, closes, dooms, drops, finishes, not_some, refuses, runs, takes}
 pub use Rattle.uring_core.proofs.Following.{history_of_append, history_of_cons, history_of_snoc}
@@ -34,7 +34,7 @@ pub use Rattle.uring_entry.specs.Requests.{Ending, Requests, chosen_by, entry_of
 pub use Rattle.uring_entry.specs.Setup.{Setup}
 pub use Rattle.uring_entry.specs.declared.operation.Op.{Op}
 pub use Rattle.uring_entry.specs.declared.operation.Outcome.{Outcome}
-pub use Rattle.uring_files.specs.Contents.{FileContents, empty_file, empty_files, file_of_bytes}
-pub use Rattle.uring_files.specs.Operations.{IsForFiles, IsOutcome, after, ended_with, file_of, is_lengthening, on_file, result_of, with_changed}
+pub use Rattle.uring_files.specs.Contents.{FileContents, empty_file, empty_files}
+pub use Rattle.uring_files.specs.Operations.{IsForFiles, IsOutcome, after, ended_with, file_of, is_lengthening, result_of, with_changed}
 pub use Rattle.uring_laws.proofs.Growth.{Grows, event_grows, lawful_before}
 pub use Rattle.uring_rules.specs.Rules.{cancel_result, doomed_result, drains_called, drains_ended, next_of, posts, with_issued_end}

@@ -1,5 +1,5 @@
 -- The names that several of these files cite, passed on from one place. Declares nothing.
-pub use Rattle.std.proofs.lemmas.Bool.{and_from, and_left, and_parts, cases_Bool, cases_lt, eq-eqb, le-leb, lt-leb, lt-ltb, not-false, not-true, or_left, or_parts, or_right}
+pub use Rattle.std.proofs.lemmas.Bool.{and_from, and_left, cases_Bool, cases_lt, eq-eqb, le-leb, lt-leb, not-false, not-true, or_parts, or_right}
 pub use Rattle.std.proofs.lemmas.Int.{to_z-of_z}
 pub use Rattle.std.proofs.lemmas.List.{length-drop, length-map, map-append, reverse-reverse, take-append-drop, take_all, take_more}
 pub use Rattle.std.proofs.lemmas.List.Elements.{Contains-append_cases, Contains-append_left, Contains-append_right, Contains-push, Contains-push_cases, filter_map-append}
@@ -13,7 +13,7 @@ pub use Rattle.uring_core.specs.World.{World, happens, requests_of}
 pub use Rattle.uring_core.specs.declared.answer.Answer.{Answer}
 pub use Rattle.uring_entry.specs.Completions.{Completions, completion_for, put_by_flush, with_flushed, with_posted}
 pub use Rattle.uring_entry.specs.Layout.{Cqe, Sqe}
-pub use Rattle.uring_entry.specs.Requests.{Ending, Requests, count_result, entry_of, entry_outstanding, has_ended, has_started, is_drain, is_outstanding, is_running, is_target, no_bytes, outstanding_in, result_for, target_of}
+pub use Rattle.uring_entry.specs.Requests.{Requests, count_result, entry_of, entry_outstanding, is_drain, is_outstanding, is_running, no_bytes, outstanding_in}
 unfoldable pub use Rattle.uring_entry.specs.Requests.{is_after_failure, targets_of}
 pub use Rattle.uring_entry.specs.Setup.{Setup}
 pub use Rattle.uring_fill.specs.Filling.{Begins, GiveAllowed, GivesAllowed, IsFilling, IsPart, completions_in, is_hidden, seen_in}

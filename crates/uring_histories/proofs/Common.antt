@@ -4,10 +4,10 @@ pub use Rattle.std.proofs.lemmas.Result.{on_ok_weaker}
 pub use Rattle.std.specs.Prelude.{neg_ℤ, slice_get, string_bytes}
 pub use Rattle.uring_core.specs.CalledFor.{CalledFor, EndsOn, IsLawful, files_after, files_of}
 pub use Rattle.uring_core.specs.Histories.{History, world}
-pub use Rattle.uring_core.specs.World.{World, beginning, filling, happens, staging, taking, with_end_of}
+pub use Rattle.uring_core.specs.World.{World, beginning, filling, happens, staging, taking}
 pub use Rattle.uring_core.specs.declared.step.Step.{Step}
 pub use Rattle.uring_entry.specs.Layout.{Cqe}
-pub use Rattle.uring_entry.specs.Requests.{Ending, Requests, entry_of, is_running, no_bytes, outstanding_in}
+pub use Rattle.uring_entry.specs.Requests.{Ending, Requests, entry_of, is_running, outstanding_in}
 pub use Rattle.uring_entry.specs.Setup.{Setup}
 pub use Rattle.uring_entry.specs.Submission.{Published, Submission, bad_word, dropped, published_items, with_entry, with_filled, with_published, with_staged}
 pub use Rattle.uring_files.specs.Operations.{after, byte_of, file_of, result_of, state_of}

@@ -1,6 +1,6 @@
 -- The names that several of these files cite, passed on from one place. Declares nothing.
-pub use Rattle.std.proofs.lemmas.Bool.{and_from, and_parts, both_ways, cases_Bool, cases_eq, cases_lt, false≢true, lt-ltb, ltb-false, ltb-true, ne_eqb, not-false, not-true, or_cases, or_from, or_parts, true≢false}
-pub use Rattle.std.proofs.lemmas.Result.{IfErr-weaker, IfOk-weaker, on_ok_weaker}
+pub use Rattle.std.proofs.lemmas.Bool.{and_from, and_parts, both_ways, cases_eq, cases_lt, false≢true, ltb-false, ltb-true, not-false, not-true, or_cases, or_from, or_parts, true≢false}
+pub use Rattle.std.proofs.lemmas.Result.{IfErr-weaker, on_ok_weaker}
 pub use Rattle.std.specs.Prelude.{Err, IfErr, IfOk, IsOk, MatchOption, Ok, OnOk, Result, if◌then◌else◌, nat_lt}
 pub use Rattle.uring_core.proofs.Following.{follow_next, history_of_append, history_of_cons, no_finish, zip_next}
 pub use Rattle.uring_core.specs.CalledFor.{CalledFor, EndsOn, IsLawful, files_of}

@@ -1,7 +1,7 @@
 -- The names that several of these files cite, passed on from one place. Declares nothing.
 pub use Rattle.std.proofs.lemmas.List.{get_or_append_left, length-append, length-map, length-take, map-append, take-append-drop, take_all, take_more, with_items_is}
 pub use Rattle.std.specs.Option.{option_and_then, option_map}
-pub use Rattle.std.specs.Prelude.{Contains, IfErr, IfOk, IfSome, IsErrAnd, is_some, pos, slice_get, slice_index_or, unwrap_or}
+pub use Rattle.std.specs.Prelude.{Contains, IfErr, IfOk, IfSome, IsErrAnd, is_some, slice_get, slice_index_or, unwrap_or}
 pub use Rattle.uring_entry.specs.Layout.{Cqe, Sqe}
 pub use Rattle.uring_entry.specs.Preparation.{is_cancel, operation_of}
 pub use Rattle.uring_entry.specs.Requests.{Requests, cancel_result, doomed_result, entry_of, has_ended, has_started, is_doomed, is_issuable, is_outstanding, is_ready, is_running, no_bytes, operation_running, with_issued_end, with_started}

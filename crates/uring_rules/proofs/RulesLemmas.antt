@@ -1,11 +1,11 @@
 -- What is so by the manual pages' rules and by Linux's. Other crates may import all of it.
-use Rattle.std.proofs.Common.{◌≡◌, ℕ, ◌<◌, ℤ, pos, neg_ℤ, Bool, true, false, not, ◌&&◌, ◌||◌, inl, inr, length, Option, Some, None, refl, ◌∙◌, rules}
+use Rattle.std.proofs.Common.{◌≡◌, ℕ, ◌<◌, ℤ, neg_ℤ, Bool, true, false, not, ◌&&◌, ◌||◌, inl, inr, length, refl, ◌∙◌, rules}
 use Rattle.std.specs.Prelude.{if◌then◌else◌}
 use Rattle.std.proofs.lemmas.Bool.{and_parts, false_from_ne_true, both_ways, ltb-true}
-use Rattle.uring_entry.specs.declared.errno.TheConstants.{ENOENT, EINVAL, EOPNOTSUPP, EALREADY, ECANCELED}
+use Rattle.uring_entry.specs.declared.errno.TheConstants.{EINVAL, EOPNOTSUPP, ECANCELED}
 use Rattle.uring_entry.specs.declared.operation.Op.{Op}
 use Rattle.uring_entry.specs.Preparation.{is_faulty, is_cancel, operation_of}
-use Rattle.uring_entry.specs.Requests.{Requests, entry_of, is_outstanding, is_running, result_for}
+use Rattle.uring_entry.specs.Requests.{Requests, entry_of, is_outstanding, is_running}
 use Rattle.uring_entry.proofs.RequestLemmas.{is_doomed_own_fault}
 use Rattle.uring_dispatch.specs.declared.answers.Posts.{Posts}
 use Rattle.uring_linux.specs.LinuxRequests as linux
@@ -14,7 +14,7 @@ use Rattle.uring_linux.proofs.Standings.{healthy}
 use Rattle.uring_rules.specs.declared.answers.Issued.TheVariants.{Run, Ended, NotReady, Running, Unknown}
 use Rattle.uring_rules.specs.Rules.{ends_doomed, may_start, doomed_result, cancel_result, is_issuable}
 use Rattle.uring_rules.specs.RulesIssues.{issued, posts_of}
-use Rattle.uring_rules.specs.RulesLaws.{is_refusal, IsPlain, IsDoomedResult, IsCancelResult, CancelEnds}
+use Rattle.uring_rules.specs.RulesLaws.{is_refusal, IsPlain, IsDoomedResult, CancelEnds}
 
 -- What an answer tells.
 

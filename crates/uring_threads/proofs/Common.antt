@@ -1,13 +1,13 @@
 -- The names that several of these files cite, passed on from one place. Declares nothing.
 pub use Rattle.std.proofs.Math.ListN.{drop_of_length-le, set}
-pub use Rattle.std.proofs.lemmas.Bool.{and_parts, both_ways, cases_Bool, cases_eq, cases_lt, cond-false, cond-true, eq-eqb, eqb-true, false_from_ne_true, false≢true, le-leb, lt-leb, lt-ltb, ltb-false, ltb-true, ne_eqb, not-true, or_cases, or_left, or_parts, or_right, true≢false}
+pub use Rattle.std.proofs.lemmas.Bool.{and_parts, both_ways, cases_Bool, cases_eq, cases_lt, cond-false, cond-true, eq-eqb, eqb-true, false_from_ne_true, false≢true, lt-ltb, not-true, or_cases, or_left, or_parts, or_right}
 pub use Rattle.std.proofs.lemmas.Grind.{common_steps, flat_map-append}
 pub use Rattle.std.proofs.lemmas.List.{append_cancel_left, drop_more, get_or-map, get_or-set_other, get_or-set_same, get_or_append_left, get_or_default, length-append, length-map, length-set, length-take-le, length_push, map-append, nil_from_length, replicate_more, take_all, take_more}
 pub use Rattle.std.proofs.lemmas.List.Sums.{count_by-le-length, length-filter, sum_by-append, sum_by-cons, sum_by_push}
 pub use Rattle.std.proofs.lemmas.Result.{IfOk-from_err, IfOk-weaker}
 pub use Rattle.std.specs.List.{AllByRecursion, filter, list_any}
 pub use Rattle.std.specs.Option.{option_and_then, option_map, option_map_or}
-pub use Rattle.std.specs.Prelude.{All, Bool, Err, IfOk, IsErr, IsOk, None, Ok, OnErr, Result, if◌then◌else◌, is_some, length, nat_lt, slice_get, slice_index_or, slice_set, vec_capacity, ◌+◌, ◌-◌, ◌^◌, ◌≡◌, ◌⊎◌}
+pub use Rattle.std.specs.Prelude.{All, Bool, Err, IfOk, IsErr, IsOk, None, Ok, OnErr, Result, if◌then◌else◌, is_some, length, slice_get, slice_index_or, slice_set, vec_capacity, ◌≡◌, ◌⊎◌}
 pub use Rattle.uring_core.proofs.Following.{history_of_append, history_of_cons, history_of_snoc}
 pub use Rattle.uring_core.specs.CalledFor.{IsLawful, files_of}
 pub use Rattle.uring_core.specs.Histories.{Event, History, IsLawfulApart, history_of, world}
@@ -17,8 +17,8 @@ pub use Rattle.uring_core.specs.declared.answer.Answer.{Answer}
 pub use Rattle.uring_core.specs.declared.step.Step.{Step}
 pub use Rattle.uring_entry.specs.Completions.{Completions, completion_for, unreaped, with_flushed, with_head_stored, with_posted, with_tail_loaded}
 pub use Rattle.uring_entry.specs.Layout.{Cqe, Sqe, zero_entry}
-pub use Rattle.uring_entry.specs.Preparation.{is_cancel, operation_of}
-pub use Rattle.uring_entry.specs.Requests.{Ending, Requests, entry_of, has_ended, has_started, is_outstanding, is_running, no_bytes, operation_running, with_call, with_ended}
+pub use Rattle.uring_entry.specs.Preparation.{operation_of}
+pub use Rattle.uring_entry.specs.Requests.{Ending, Requests, entry_of, has_ended, has_started, is_outstanding, is_running, operation_running, with_call, with_ended}
 pub use Rattle.uring_entry.specs.Setup.{IsWithinLimits, Setup}
 pub use Rattle.uring_entry.specs.Submission.{IsItem, Place, Published, Submission, bad_word, dropped, item_of, published_items, taken, with_entry, with_published}
 pub use Rattle.uring_entry.specs.declared.operation.Op.{Op}
@@ -31,7 +31,7 @@ pub use Rattle.uring_laws.specs.Standing.{Stands, after_call, ends_after, in_cal
 pub use Rattle.uring_ports.specs.Items.{AreItems, all_published_as, published_as}
 pub use Rattle.uring_ports.specs.Ports.{LeavesCompletions, LeavesItems, Pulls, Put, Sizes, items_of_calls, nothing_put, sizes_of, with_close}
 pub use Rattle.uring_ports.specs.declared.item.Item.{Item}
-pub use Rattle.uring_rules.specs.Rules.{cancel_result, doomed_result, is_issuable, may_start, next_of, posts, with_issued_end}
+pub use Rattle.uring_rules.specs.Rules.{is_issuable, next_of, posts, with_issued_end}
 pub use Rattle.uring_threads.specs.Calls.{AreBegun, calls_left, calls_of, ends_after_item, ends_of}
 unfoldable pub use Rattle.uring_threads.specs.Calls.{after_calls, calls_after, calls_row, refused_row}
 pub use Rattle.uring_threads.specs.Collected.{CanBeTaken, Collects, CollectsNext, CollectsSeen, NextStays, NoneComes, OthersStay, TakesAll, TakesSeen, Wait}
@@ -47,7 +47,7 @@ pub use Rattle.uring_threads.specs.Served.{DeliversMost, HasServed, HasTurned, P
 pub use Rattle.uring_threads.specs.Settled.{IsSettled, IsTakenIn, IsWork, NoneWaits, ResultsRun, Settles, Work, finish_of, waiting_of, with_taken_in}
 pub use Rattle.uring_threads.specs.SettledWorker.{AreSettled, HaveFiles, HaveLooked, HaveSeenAll, IsSettledAt, settled_work, works_of}
 pub use Rattle.uring_threads.specs.Taking.{HasBegun, HaveMade, IsFirst, TakesIn}
-pub use Rattle.uring_threads.specs.Tallies.{Appends, TakesFewResults, Tally, begins_call, both, calls_counted, close_counted, closes_ring, finishes_counted, is_refused, issues_counted, issues_request, items_counted, most_results, none_counted, reaps_completion, reaps_counted, results_taken_in, stages_item, starts_request, takes_result, tally_of}
+pub use Rattle.uring_threads.specs.Tallies.{Appends, TakesFewResults, Tally, both, calls_counted, close_counted, closes_ring, finishes_counted, is_refused, issues_counted, issues_request, items_counted, most_results, none_counted, reaps_counted, results_taken_in, starts_request, takes_result, tally_of}
 pub use Rattle.uring_threads.specs.Turns.{AreTies, ClosesOnce, Counts, IsDelivered, IsGivenUpAsSpent, Tied, awaits_memory, is_shut, waiting_in}
 pub use Rattle.uring_threads.specs.declared.intake.Intake.{Intake}
 pub use Rattle.uring_threads.specs.declared.turns.Turn.{Turn}

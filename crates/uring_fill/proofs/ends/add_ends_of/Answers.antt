@@ -8,14 +8,6 @@ pub returns-in_default-clause-all : goal.returns-in_default-clause-all
 returns-in_default-clause-all c = λ seen h at.
     no_ends c.args.core.now.setup seen h c.args.number c.args.next.now.items at.fits.lawful (sym c.in_default.is ∙ c.entry.ensures h at.fits)
 
-pub add_finishes-requires : goal.add_finishes-requires
-add_finishes-requires c = λ h fits.
-    entry_told (world c.args.core.now.setup h).requests c.args.number c.in-Some.entry (c.in-Some.ensures h fits)
-
-pub add_issues-requires-clause-entry : goal.add_issues-requires-clause-entry
-add_issues-requires-clause-entry c = λ h fits.
-    entry_told (world c.args.core.now.setup h).requests c.args.number c.in-Some.entry (c.in-Some.ensures h fits)
-
 pub returns-then-runs-clause-all : goal.returns-then-runs-clause-all
 returns-then-runs-clause-all c =
     IfOk-weaker c.add_finishes.result _ _

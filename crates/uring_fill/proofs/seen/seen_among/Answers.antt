@@ -4,11 +4,6 @@ use Rattle.uring_fill.proofs.Common.{Event, History, history_of, is_hidden, seen
 use Rattle.uring_fill.proofs.Seeing.{at_most_one, taken_next}
 use Rattle.uring_fill.proofs.seen.seen_among.Goals as goal
 
-pub overflow_add-count : goal.overflow_add-count
-overflow_add-count c =
-    let one : c.one_if_seen-count.result ≤ 1 = subst (λ n. n ≤ 1) (sym c.one_if_seen-count.ensures) (at_most_one _) in
-    omega arith
-
 seen_more : (hidden : Bool) (xs : List Event) (e : Event) → length (if hidden then xs else xs ++ e ∷ []) ≡ length xs + (if hidden then 0 else 1)
 seen_more true xs e = omega arith
 seen_more false xs e = length_push xs e
