@@ -161,7 +161,7 @@ in_lengths h len order l fits =
       | inr found ↦
           let w = found.0 in
           let less : length_over len (fewest_with h (issued h) found.0.number) ≤ length_over len order =
-              grind (arith, no_longer_of, of_filter, or_cases, goes_left, issued_apart, needed_left) in
+          grind (arith, no_longer_of, of_filter, or_cases, goes_left, issued_apart, needed_left) in
           let itself : IsIn found.0 (fewest_with h (issued h) found.0.number) = in_filter (λ x. goes_with h found.0.number x || is_needed h (issued h) x) found.0 (issued h) (fits.within found.0 found.1) (or_left (goes_with h found.0.number found.0) (is_needed h (issued h) found.0) (or_left (found.0.number == found.0.number) (is_before h found.0.number found.0.number) (eq-eqb found.0.number found.0.number refl))) in
           let reaches : end_of found.0 ≤ length_over len (fewest_with h (issued h) found.0.number) = end_within len found.0 (fewest_with h (issued h) found.0.number) itself in
           let equal : length_over len (fewest_with h (issued h) found.0.number) ≡ length_over len order = omega (arith, found.2) in

@@ -52,7 +52,7 @@ read_back u first h now w k positive kept image within =
     let whole : IsIn w image.len.order = image.len.left.safe w kept.issued refl kept.safe in
     let long : w.off + k < length now = omega (arith, image.len.len, end_at w k within, end_within (length first) w image.len.order whole) in
     let last : byte_over (slice_index first (w.off + k)) here.order (w.off + k) ≡ slice_index w.bytes (w.off + k - w.off) =
-        grind (arith, last_over) in
+    grind (arith, last_over) in
     let place : w.off + k - w.off ≡ k = omega arith in
     record {
       within = long;
