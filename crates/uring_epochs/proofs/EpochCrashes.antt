@@ -1,6 +1,6 @@
 -- That what a crash leaves may be left, and that the next epoch goes on from it.
 use Rattle.std.proofs.Common.{◌≡◌, ℕ, zero, suc, ◌<◌, ◌≤◌, List, [], ◌∷◌, ◌++◌, length, get_or, length-append, inl, inr, Option, Some, None, Result, Ok, Err, refl, sym, subst, ◌∙◌, ap, arith}
-use Rattle.uring_epochs.proofs.Common.{Answer, AreImages, AreLeft, Change, CrashMachine, Epoch, FileContents, FitsApart, FitsRun, History, IfOk, IsImage, IsImageBy, IsLeftAt, IsLeftBy, Log, Op, Requests, Setup, Step, begun, begun_on, change_begun, change_by, change_ended, empty_files, file_at, file_of_bytes, finished, finished_of, first_files, get_or-append_right, get_or-eq_default, get_or_append_left, log_from, log_on, logged, logs_on, max_len, pos, shown_length, slice_get, volume_of, ℤ}
+use Rattle.uring_epochs.proofs.Common.{Answer, AreImages, AreLeft, Change, CrashMachine, Epoch, FileContents, FitsApart, FitsRun, History, IfOk, IsImage, IsImageBy, IsLeftAt, IsLeftBy, Log, Op, Requests, Setup, Step, begun_on, change_by, change_ended, empty_files, file_at, file_of_bytes, finished, finished_of, first_files, get_or-append_right, get_or-eq_default, get_or_append_left, log_from, log_on, logged, logs_on, max_len, pos, shown_length, slice_get, volume_of, ℤ}
 use Rattle.std.specs.declared.alloc.AllocError.{AllocError}
 use Rattle.std.specs.Option.{option_map}
 use Rattle.std.proofs.lemmas.Option.{slice_get-map, slice_get_within, get_or_from_slice_get}
