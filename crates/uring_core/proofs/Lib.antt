@@ -19,7 +19,6 @@ pub mod SoundRings
 pub mod SoundRequests
 pub mod RequestEnds
 pub mod Groups
-pub mod Numbers
 pub mod Running
 pub mod FileHistory
 -- Recorded answers, and what settling asks:
@@ -29,7 +28,6 @@ pub mod SureAnswers
 pub mod Issuable
 pub mod WholeCalls
 pub mod Outstanding
-pub mod NoStops
 pub mod TakenEntries
 -- By Linux's rules:
 pub mod LinuxHistories

@@ -6,11 +6,7 @@ mod Commands
 mod Running
 mod Ending
 mod Returning
-mod PassageRuns
 mod TakingRuns
-mod StepRuns
-mod DutyRuns
-mod RingingRuns
 mod SignalRuns
 -- Time:
 mod TimeoutOrder
@@ -30,5 +26,3 @@ mod Counts
 mod LookoutRuns
 mod WaiterRuns
 mod JoiningRuns
-mod RivalRuns
-mod LeavingRuns

@@ -1,6 +1,5 @@
 mod Common
 pub mod DoneLemmas
-pub mod Effects
 pub mod OperationCases
 pub mod Changes
 pub mod Overwrites

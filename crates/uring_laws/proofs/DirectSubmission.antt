@@ -25,11 +25,6 @@ pub record DirectSubmission (g : Setup) (h : History) (w : World) : Type 0 where
   pub seen : w.submission.seen_head ≡ loaded_head h
   pub opened : IsOpened g h w.submission.call
 
--- what an event leaves of the call that was opened last, if it opens none and takes no position
-record SameOpened (g : Setup) (h : History) (e : Event) : Type 0 where
-  taken : taken_since h ≡ taken_since (e ∷ h)
-  count : open_count g h ≡ open_count g (e ∷ h)
-
 words_of_places : (size : ℕ) (content : ℕ → Sqe) (words : List ℕ)
     → map (λ p. p.word) (map (place_of size content) words) ≡ words
 words_of_places size content [] = refl

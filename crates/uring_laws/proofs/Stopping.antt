@@ -5,7 +5,6 @@ use Rattle.uring_laws.specs.Stopping.{EndsThere, OpenCallEndsThere, CallsTakeAll
 use Rattle.uring_core.specs.declared.step.Step.TheVariants as step
 use Rattle.uring_core.specs.declared.answer.Answer.TheVariants as answer
 use Rattle.uring_core.proofs.SoundRings.{open_count as positions_open}
-use Rattle.uring_core.proofs.NoStops.{word_goes_on}
 use Rattle.uring_laws.proofs.DirectSubmission.{IsOpened, direct_submission}
 use Rattle.uring_laws.proofs.Telling.{told_same}
 
@@ -87,7 +86,7 @@ word_passed : (g : Setup) (h : History) → (g.linux ≡ true → count_by drops
 word_passed g h none =
     elim (cases_Bool g.linux) [
       | inl linux ↦ absurd (omega (arith, none linux, sum_by-cons (λ e. cond (drops_word e) 1 0) (step.Take, answer.Dropped) h))
-      | inr manual ↦ word_goes_on g manual
+      | inr manual ↦ manual
     ]
 
 all_kept : (g : Setup) (h : History) (s : Step) (a : Answer) (v : World) → g.stops ≡ false

@@ -1,4 +1,3 @@
-mod TableRuns
 mod TableLaws
 mod UseRuns
 mod GroupRuns

@@ -26,13 +26,6 @@ pub record Starts (is_linux : Bool) (l : LinuxRequests) (n : ℕ) : Type 0 where
   pub free : may_start is_linux l n ≡ true
   pub other : is_cancel (entry_of l.requests n) ≡ false
 
-record Runs (outstanding running doomed free cancel : Bool) : Type 0 where
-  there : outstanding ≡ true
-  idle : running ≡ false
-  spared : doomed ≡ false
-  ready : free ≡ true
-  other : cancel ≡ false
-
 pub run_tells : (is_linux : Bool) (l : LinuxRequests) (n : ℕ) (op : Op) → issued is_linux l n ≡ Run op
     → Starts is_linux l n
 run_tells is_linux l n op e = search rules

@@ -1,8 +1,7 @@
 -- In the order in which they are best read.
 mod Common
--- Places and tables:
+-- Places:
 pub mod Standing
-pub mod Tables
 -- A table whose slots two sides hand to each other, whatever the rule:
 pub mod Seats
 pub mod SlotSeats

@@ -1,4 +1,4 @@
-use Rattle.uring_register.proofs.TableRuns.{given_first}
+use Rattle.uring_register.proofs.TableLaws.{given_first}
 use Rattle.uring_register.proofs.tables.table.Table.free_slot.Goals as goal
 
 pub returns-in-Some : goal.returns-in-Some

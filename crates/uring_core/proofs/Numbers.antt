@@ -1,1 +1,0 @@
--- How many requests a lawful history accepts.

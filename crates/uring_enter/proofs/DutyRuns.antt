@@ -1,1 +1,0 @@
--- The laws of what a call does besides, and in which order.

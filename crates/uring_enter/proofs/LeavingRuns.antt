@@ -1,1 +1,0 @@
--- The laws of what is left undone with a ring by a process that didn't make it.

@@ -1,1 +1,0 @@
--- The laws of what is done of a call besides its checks.

@@ -1,1 +1,0 @@
--- Where it isn't asked whether two descriptors are open on one file, no request has its event first.

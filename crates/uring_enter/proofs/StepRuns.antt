@@ -1,1 +1,0 @@
--- The laws of what is done of calls and messages, of visits, and of what a ring's descriptor polls for.

@@ -1,1 +1,0 @@
--- What bytes are put leave of a file, and when nothing is put.
