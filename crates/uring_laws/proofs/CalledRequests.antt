@@ -1,6 +1,6 @@
 -- Who can start before a call accepts entries can start after it, and the other way round, by either's rules. By Linux's no group that was deferred goes on by a call: something else is outstanding then.
-use Rattle.std.proofs.Common.{◌≡◌, ℕ, ◌<◌, ◌≤◌, Bool, true, false, not, ◌&&◌, nat_lt, List, [], ◌∷◌, length, sym, ap, ◌∙◌, arith, inl, inr, ◌+◌}
-use Rattle.uring_laws.proofs.Common.{Deferred, Drains, HasGoneOn, IsBetween, LinuxRequests, Requests, Sqe, and_parts, both_ways, cases_Bool, cond_both, doom_kept, ends_doomed, entry_kept, false_from_ne_true, has_ended, holds_back, in_pushed, is_alone, is_deferred, is_in_some, is_in_turn, is_linked, is_outstanding, is_ready, join_kept, keeps_back, length_push, longer, lt-ltb, may_start, member_kept, not-false, not-true, not_alone, pushed_old, some_below, some_below_in, some_below_same, still_fewer, waits_for, with_accepted, with_call, with_cut, with_entries, with_group, with_last_entry}
+use Rattle.std.proofs.Common.{◌≡◌, ℕ, ◌<◌, ◌≤◌, Bool, true, false, not, ◌&&◌, nat_lt, List, [], ◌∷◌, length, sym, ap, ◌∙◌, arith}
+use Rattle.uring_laws.proofs.Common.{HasGoneOn, IsBetween, LinuxRequests, Requests, Sqe, both_ways, cond_both, deferred_with, doom_kept, ends_doomed, entry_kept, false_from_ne_true, has_ended, holds_back, in_pushed, is_alone, is_deferred, is_in_some, is_in_turn, is_linked, is_outstanding, is_ready, join_kept, keeps_back, length_push, longer, lt-ltb, may_start, member_kept, not-false, not_alone, pushed_old, some_below_in, some_below_same, still_fewer, true_from_ne_false, waits_for, with_accepted, with_call, with_cut, with_entries, with_group, with_last_entry}
 use Rattle.uring_laws.proofs.Growth.{IsCut}
 use Rattle.uring_entry.specs.Requests as manual
 use Rattle.uring_rules.specs.RulesCalls.{called_by}
@@ -10,111 +10,53 @@ use Rattle.uring_laws.proofs.EndedRequests.{unmoved}
 
 -- Who is deferred after a call.
 
--- after one group that is accepted: whoever was taken before it
-module _ (r : Requests) (d : Drains) where
-  group_fewer : (n : ℕ) → n < d.from → is_in_some (with_group r d).deferred n ≡ true → is_in_some d.deferred n ≡ true
-  group_fewer n lt = grind (arith, in_pushed, still_fewer)
+-- what is so of q after l, between whose calls more is accepted
+record Follows (l q : LinuxRequests) : Type 0 where
+  low : length l.requests.accepted ≤ q.drains.from
+  high : q.drains.from ≤ length q.requests.accepted
+  ended : (k : ℕ) → has_ended q.requests k ≡ has_ended l.requests k
+  same : (n : ℕ) → n < length l.requests.accepted → is_deferred q n ≡ is_deferred l n
 
-  -- as long as something else is outstanding, nobody goes on
-  group_keeps : (k n : ℕ) → k < d.from → k < length r.accepted → has_ended r k ≡ false → is_in_some d.deferred k ≡ false
-      → is_in_some d.deferred n ≡ true → is_in_some (with_group r d).deferred n ≡ true
-  group_keeps k n lt accepted still out held =
-      grind (arith, false_from_ne_true, in_pushed, both_ways, unmoved, not_alone, pushed_old, cond_both)
-
--- n was taken with a group that was accepted
-record IsTaken (l : LinuxRequests) (n : ℕ) : Type 0 where
-  before : n < l.drains.from
-  within : l.drains.from ≤ length l.requests.accepted
-
--- one that is outstanding and not deferred
-record KeepsBack (l : LinuxRequests) (k : ℕ) : Type 0 where
-  taken : IsTaken l k
-  still : has_ended l.requests k ≡ false
-  free : is_deferred l k ≡ false
-
-module _ (l : LinuxRequests) (e : Sqe) where
-  abbrev longer_by : Requests
-  longer_by = manual.with_accepted l.requests e
-
-  abbrev with_last : Drains
-  with_last = with_last_entry longer_by (length l.requests.accepted) l.drains
-
-  -- what is so of the drains once the entry was accepted, whether another member follows or not
-  by_link : (P : Drains → Type 0) → P with_last → P (with_group longer_by with_last) → P (with_accepted l e).drains
-  by_link P more last = cond_both (is_linked e) _ _ P (λ _. more) (λ _. last)
-
-  more : length longer_by.accepted ≡ length l.requests.accepted + 1
-  more = length_push l.requests.accepted e
-
-  accepted_taken : (n : ℕ) → IsTaken l n → IsTaken (with_accepted l e) n
-  accepted_taken n t = grind (arith, by_link, more)
-
-  accepted_fewer : (n : ℕ) → IsTaken l n → is_deferred (with_accepted l e) n ≡ true → is_deferred l n ≡ true
-  accepted_fewer n t = by_link (λ d. is_in_some d.deferred n ≡ true → is_deferred l n ≡ true) (λ f. f) (group_fewer longer_by with_last n t.before)
-
-  accepted_keeps : (k n : ℕ) → KeepsBack l k → is_deferred l n ≡ true → is_deferred (with_accepted l e) n ≡ true
-  accepted_keeps k n b held =
-      let low : k < length longer_by.accepted = omega (arith, more, b.taken.before, b.taken.within) in
-      by_link (λ d. is_in_some d.deferred n ≡ true) held (group_keeps longer_by with_last k n b.taken.before low b.still b.free held)
-
-  accepted_back : (k : ℕ) → KeepsBack l k → KeepsBack (with_accepted l e) k
-  accepted_back k b = grind (arith, (accepted_taken k b.taken), both_ways, accepted_fewer)
-
-entries_taken : (xs : List Sqe) (l : LinuxRequests) (n : ℕ) → IsTaken l n → IsTaken (with_entries l xs) n
-entries_taken [] l n t = t
-entries_taken (x ∷ xs) l n t = entries_taken xs (with_accepted l x) n (accepted_taken l x n t)
-
-entries_fewer : (xs : List Sqe) (l : LinuxRequests) (n : ℕ) → IsTaken l n
-    → is_deferred (with_entries l xs) n ≡ true → is_deferred l n ≡ true
-entries_fewer [] l n t held = held
-entries_fewer (x ∷ xs) l n t held =
-    accepted_fewer l x n t (entries_fewer xs (with_accepted l x) n (accepted_taken l x n t) held)
-
-entries_keep : (xs : List Sqe) (l : LinuxRequests) (k n : ℕ) → KeepsBack l k → is_deferred l n ≡ true
-    → is_deferred (with_entries l xs) n ≡ true
-entries_keep [] l k n b held = held
-entries_keep (x ∷ xs) l k n b held =
-    entries_keep xs (with_accepted l x) k n (accepted_back l x k b) (accepted_keeps l x k n b held)
-
-entries_back : (xs : List Sqe) (l : LinuxRequests) (k : ℕ) → KeepsBack l k → KeepsBack (with_entries l xs) k
-entries_back [] l k b = b
-entries_back (x ∷ xs) l k b = entries_back xs (with_accepted l x) k (accepted_back l x k b)
-
-module _ (l : LinuxRequests) where
-  by_cut : (P : Drains → Type 0) → P (with_group (manual.with_cut l.requests) l.drains) → P l.drains → P (with_cut l).drains
-  by_cut P amid between_calls = cond_both (nat_lt l.drains.from (length l.requests.accepted)) _ _ P (λ _. amid) (λ _. between_calls)
-
-  cut_fewer : (n : ℕ) → IsTaken l n → is_in_some (with_cut l).drains.deferred n ≡ true → is_deferred l n ≡ true
-  cut_fewer n t = by_cut (λ d. is_in_some d.deferred n ≡ true → is_deferred l n ≡ true) (group_fewer (manual.with_cut l.requests) l.drains n t.before) (λ f. f)
-
-  cut_keeps : (k n : ℕ) → KeepsBack l k → is_deferred l n ≡ true → is_in_some (with_cut l).drains.deferred n ≡ true
-  cut_keeps k n b held =
-      let low : k < length l.requests.accepted = omega (arith, b.taken.before, b.taken.within) in
-      by_cut (λ d. is_in_some d.deferred n ≡ true) (group_keeps (manual.with_cut l.requests) l.drains k n b.taken.before low b.still b.free held) held
-
-someone : (r : Requests) (groups : List Deferred) → is_alone r groups ≡ false
-    → some_below (λ k. not (has_ended r k) && not (is_in_some groups k)) (length r.accepted) ≡ true
+-- not all that is outstanding is deferred, if it wasn't
+apart_still : (l q : LinuxRequests) → Follows l q → is_alone l.requests l.drains.deferred ≡ false
+    → is_alone q.requests (deferred_with q.drains (length q.requests.accepted)) ≡ false
 unfolding is_alone
-someone r groups e = not-false _ e
+apart_still l q f apart =
+    let found = some_below_in (λ k. not (has_ended l.requests k) && not (is_deferred l k)) (length l.requests.accepted) (not-false _ apart) in
+    grind (arith, found, not_alone, in_pushed, false_from_ne_true, both_ways)
+
+module _ (l : LinuxRequests) (gone : HasGoneOn l.requests l.drains.deferred) where
+  -- after one group that is accepted
+  group_same : (q : LinuxRequests) → Follows l q → (n : ℕ) → n < length l.requests.accepted
+      → is_in_some (with_group q.requests q.drains).deferred n ≡ is_deferred l n
+  group_same q f n lt = grind (arith, apart_still, unmoved, pushed_old, in_pushed, still_fewer, true_from_ne_false, both_ways)
+
+  group_follows : (q : LinuxRequests) → Follows l q → Follows l (record q { drains = with_group q.requests q.drains })
+  group_follows q f = grind (arith, group_same)
+
+  accepted_follows : (q : LinuxRequests) (e : Sqe) → Follows l q → Follows l (with_accepted q e)
+  accepted_follows q e f =
+      let r = manual.with_accepted q.requests e in
+      let p : LinuxRequests = record { requests = r; drains = with_last_entry r (length q.requests.accepted) q.drains } in
+      let more : Follows l p = grind (arith, length_push) in
+      cond_both (is_linked e) _ _ (λ d. Follows l (record p { drains = d })) (λ _. more) (λ _. group_follows p more)
+
+  entries_follow : (xs : List Sqe) (q : LinuxRequests) → Follows l q → Follows l (with_entries q xs)
+  entries_follow [] q f = f
+  entries_follow (x ∷ xs) q f = entries_follow xs (with_accepted q x) (accepted_follows q x f)
+
+  cut_follows : (q : LinuxRequests) → Follows l q → Follows l (with_cut q)
+  cut_follows q f =
+      let p : LinuxRequests = record q { requests = manual.with_cut q.requests } in
+      let more : Follows l p = assumption f in
+      cond_both (nat_lt q.drains.from (length q.requests.accepted)) _ _ (λ d. Follows l (record p { drains = d })) (λ _. group_follows p more) (λ _. more)
 
 -- between calls, who was accepted is deferred after a call exactly if it was before
 deferred_called : (l : LinuxRequests) (entries : List Sqe) (n : ℕ) → n < length l.requests.accepted → IsBetween l
     → is_in_some (with_cut (with_entries l entries)).drains.deferred n ≡ is_deferred l n
-deferred_called l entries n within b = elim (cases_Bool (is_deferred l n)) [
-  | inl held ↦ kept held b.settled.gone ∙ sym held
-  | inr out ↦
-      false_from_ne_true _ (λ e. both_ways _ out (entries_fewer entries l n (taken n within) (cut_fewer (with_entries l entries) n (entries_taken entries l n (taken n within)) e))) ∙ sym out
-] where
-  taken : (k : ℕ) → k < length l.requests.accepted → IsTaken l k
-  taken k lt = record { before = let up = b.closed in omega (arith, lt, up); within = b.settled.low }
-
-  kept : is_deferred l n ≡ true → HasGoneOn l.requests l.drains.deferred → is_in_some (with_cut (with_entries l entries)).drains.deferred n ≡ true
-  kept held (inl none) = absurd (both_ways (is_deferred l n) (ap (λ groups. is_in_some groups n) none) held)
-  kept held (inr apart) =
-      let found = some_below_in (λ k. not (has_ended l.requests k) && not (is_deferred l k)) (length l.requests.accepted) (someone l.requests l.drains.deferred apart) in
-      let p = and_parts (not (has_ended l.requests found.0)) (not (is_deferred l found.0)) found.2 in
-      let back : KeepsBack l found.0 = record { taken = taken found.0 found.1; still = not-true _ p.0; free = not-true _ p.1 } in
-      cut_keeps (with_entries l entries) found.0 n (entries_back entries l found.0 back) (entries_keep entries l found.0 n back held)
+deferred_called l entries n within b =
+    let f : Follows l l = grind arith in
+    (cut_follows l b.settled.gone (with_entries l entries) (entries_follow l b.settled.gone entries l f)).same n within
 
 -- Who can start.
 

@@ -1,14 +1,14 @@
 -- By Linux's rules what isn't deferred waits for no drain: whoever may start has nobody before it that a drain puts there. By what has happened, one submission call, start or end after the other.
-use Rattle.std.proofs.Common.{◌≡◌, ℕ, suc, ◌+◌, ◌-◌, ◌<◌, ◌≤◌, ℤ, min, max, length, Bool, true, false, not, ◌&&◌, ◌||◌, ◌==◌, List, [], ◌∷◌, refl, sym, ◌∙◌, ap, subst, arith, inl, inr, length-append, rules}
-use Rattle.uring_laws.proofs.Common.{Deferred, Drains, End, Happening, IsSettled, LinuxRequests, MayHaveHappened, Requests, Sqe, Start, accepted_settled, after_going_on, all_between, and_from, and_left, and_parts, and_right, both_ways, cases_Bool, cases_lt, deferred_with, drains, entry_of, entry_of_accepted_at, eq-eqb, false_from_ne_true, group_faulty, has_ended, has_fault, healthy_from, if◌then◌else◌, is_alone, is_deferred, is_drain, is_faulty_from, is_first, is_granted_drain, is_in_group, is_in_some, is_joined, is_joined_no, is_joined_yes, is_last, is_let_in, is_linked, is_owed_by, lt-ltb, ltb-true, made_by, may_take, nat_lt, ne_eqb, not-false, not-true, not_alone, or_from, or_left, or_parts, or_right, order_higher, order_push, order_still, owes_drain, pushed_new, pushed_old, ring_off, some_below_in, some_below_none, some_below_out, some_below_some, still_deferred, takes_drain, true_from_ne_false, with_accepted, with_cut, with_deferred, with_entries, with_group, with_last_entry, with_ring}
+use Rattle.std.proofs.Common.{◌≡◌, ℕ, suc, ◌+◌, ◌-◌, ◌<◌, ◌≤◌, ℤ, length, Bool, true, false, not, ◌&&◌, ◌||◌, ◌==◌, List, [], ◌∷◌, refl, sym, ◌∙◌, ap, subst, arith, inl, inr, length-append, rules}
+use Rattle.uring_laws.proofs.Common.{Deferred, Drains, End, Happening, IsSettled, LinuxRequests, MayHaveHappened, Requests, Sqe, Start, accepted_settled, after_going_on, all_between, and_from, and_parts, both_ways, cases_Bool, cases_lt, cond_both, deferred_with, drains, entry_of, entry_of_accepted_at, eq-eqb, false_from_ne_true, group_faulty, has_ended, has_fault, healthy_from, if◌then◌else◌, is_alone, is_deferred, is_drain, is_faulty_from, is_first, is_granted_drain, is_in_some, is_joined, is_joined_no, is_joined_yes, is_last, is_let_in, is_linked, is_owed_by, lt-ltb, ltb-true, made_by, may_take, nat_lt, ne_eqb, not-true, not_alone, or_from, or_left, or_parts, or_right, order_higher, order_push, order_still, owes_drain, pushed_new, pushed_old, ring_off, some_below_in, some_below_none, some_below_out, some_below_some, still_deferred, takes_drain, true_from_ne_false, with_accepted, with_cut, with_deferred, with_entries, with_group, with_last_entry, with_ring}
 use Rattle.uring_linux.specs.Happenings.{Call}
 use Rattle.uring_linux.specs.LinuxRequests.{is_in_faulty_group, with_ended}
 use Rattle.uring_entry.specs.Requests as manual
 use Rattle.uring_entry.proofs.GroupEvents.{is_last_cut, is_last_cut_last}
 use Rattle.uring_linux.proofs.WindowEvents.{last_accepted}
 use Rattle.uring_linux.proofs.Standings.{fine_let_in}
-use Rattle.uring_laws.proofs.LinuxGroups.{marks, IsTold, AreTold, gone_calm, left_calm}
-use Rattle.uring_laws.proofs.LinuxKept.{HasDrain, Waits, KeepsGroups, accepted_keeps, cut_keeps, started_keeps, ended_keeps, WaitForNone, RingDrains, IsOwed, Holds, IsDrained, more_waits, more_ring, more_told, more_begins, still_holds}
+use Rattle.uring_laws.proofs.LinuxGroups.{marks, IsTold, AreTold, calm, gone_calm, left_calm}
+use Rattle.uring_laws.proofs.LinuxKept.{HasDrain, Waits, KeepsGroups, accepted_keeps, cut_keeps, started_keeps, ended_keeps, WaitForNone, RingDrains, IsOwed, Holds, IsDrained, more_waits, more_ring, more_told, more_begins, still_holds, more_group, more_owed}
 
 -- Whoever goes on waits for nobody that hasn't ended.
 
@@ -35,36 +35,18 @@ record IsAmid (r : Requests) (d : Drains) : Type 0 where
   holds : Holds r d
 
 module _ (r : Requests) (d : Drains) (i : IsAmid r d) where
-  joined_new : (m n : ℕ) → d.from ≤ m → n < length r.accepted → is_joined r m n ≡ true
-  joined_new m n low high = is_joined_yes r m n (λ k le lt. i.one k (omega (arith, low, le)) (omega (arith, lt, high)))
-
-  right_new : (n k : ℕ) → d.from ≤ n → n < length r.accepted → d.from ≤ k → k < length r.accepted → is_in_faulty_group r n ≡ false → has_fault r k ≡ false
-  unfolding is_in_faulty_group
-  right_new n k low high under within right =
-      false_from_ne_true _ (λ fault. both_ways _ (some_below_out (λ m. is_in_group r m n && has_fault r m) (length r.accepted) right k within) (and_from _ _ (joined_new (min k n) (max k n) (omega (arith, low, under)) (omega (arith, high, within))) fault))
-
-  -- in a group without a fault that isn't told to drain nobody drains
-  calm_new : (n : ℕ) → d.group ≡ false → d.from ≤ n → n < length r.accepted → is_in_faulty_group r n ≡ false → drains r n ≡ false
-  calm_new n still low high right =
-      some_below_none (λ m. is_in_group r m n && marks r m) (length r.accepted)
-      (λ m lt. elim (cases_lt m d.from) [
-        | inl before ↦ and_left _ _ (is_joined_no r (min m n) (max m n) (d.from - 1) (omega (arith, before, low)) (omega (arith, before, low)) (i.holds.begins (d.from - 1) (omega (arith, before))))
-        | inr past ↦ and_right _ _ (i.holds.group still m past lt (right_new n m low high past lt right))
-      ])
-
   abbrev g : Deferred
   g = record { from = d.from; end = length r.accepted; drains = d.group }
 
-  told_new : is_faulty_from r d.from ≡ false → IsTold r g
-  told_new right = record {
-    begins = i.holds.begins;
-    ends = i.last;
-    one = i.one;
-    told = λ still k le lt. i.holds.group still k le lt (healthy_from r d.from right k le lt);
-  }
-
   abbrev all : List Deferred
   all = deferred_with d (length r.accepted)
+
+  told_new : is_faulty_from r d.from ≡ false → IsTold r g
+  told_new right = search (rules, i.holds.begins, i.last, i.one, i.holds.group, (healthy_from r d.from right))
+
+  -- in a group without a fault that isn't told to drain nobody drains
+  calm_new : (n : ℕ) → d.group ≡ false → d.from ≤ n → n < length r.accepted → is_in_faulty_group r n ≡ false → drains r n ≡ false
+  calm_new n still low high right = grind (arith, (calm r g n), told_new, group_faulty, i.one)
 
   told_all : is_faulty_from r d.from ≡ false → AreTold r 0 all (length r.accepted)
   told_all right = order_push (IsTold r) 0 d.deferred d.from g (omega arith) i.some (told_new right) i.holds.told
@@ -76,47 +58,27 @@ module _ (r : Requests) (d : Drains) (i : IsAmid r d) where
   held_waits fine n m lt under apart out right w =
       grind (arith, gone_ended, told_all, false_from_ne_true, both_ways, pushed_old, pushed_new)
 
-  -- if none stays deferred after a group that doesn't drain, what drains has ended
-  none_left : (alone : Bool) → is_alone r all ≡ alone → is_faulty_from r d.from ≡ false → d.group ≡ false → still_deferred alone all ≡ []
-      → (m : ℕ) → m < length r.accepted → HasDrain r m → has_ended r m ≡ true
-  none_left alone is fine still none m lt other =
-      grind (arith, pushed_new, true_from_ne_false, both_ways, left_calm, told_all, alone_in)
-
-  some_ring : RingDrains r (with_deferred d (length r.accepted) d.deferred)
+  some_ring : d.ring ≡ false → (m : ℕ) → m < length r.accepted → HasDrain r m → has_ended r m ≡ true
   some_ring off m lt other = grind (arith, calm_new)
 
+  -- if none stays deferred after a group that doesn't drain, what drains has ended
+  held_ring : is_faulty_from r d.from ≡ false → not d.ring ≡ false
+      → RingDrains r (with_ring (with_deferred d (length r.accepted) (after_going_on r all)) d.group)
+  held_ring fine rings off m lt other =
+      grind (arith, ring_off, pushed_new, true_from_ne_false, both_ways, left_calm, told_all, alone_in)
+
+  -- a group was accepted, and these are deferred now
+  drained_by : (xs : List Deferred) (ring : Bool) → AreTold r 0 xs (length r.accepted) → WaitForNone r (length r.accepted) xs
+      → (ring ≡ false → (m : ℕ) → m < length r.accepted → HasDrain r m → has_ended r m ≡ true)
+      → IsDrained r (record d { ring = ring; from = length r.accepted; group = false; deferred = xs })
+  drained_by xs ring told waits off = grind (arith, i.last, i.holds.owed)
+
   group_drained : IsDrained r (with_group r d)
-  group_drained = go (not d.ring || is_faulty_from r d.from) refl where
-    go : (b : Bool) → (not d.ring || is_faulty_from r d.from) ≡ b
-        → IsDrained r (if b then with_deferred d (length r.accepted) d.deferred else with_ring (with_deferred d (length r.accepted) (after_going_on r (deferred_with d (length r.accepted)))) d.group)
-    go true e = record {
-      low = omega arith;
-      amid = λ k le lt. absurd (omega (arith, le, lt));
-      holds = record {
-        begins = i.last;
-        told = let lt = i.some in order_higher (IsTold r) 0 d.deferred d.from (length r.accepted) (omega (arith, lt)) i.holds.told;
-        waits = some_waits true e;
-        ring = some_ring;
-        group = λ still k le lt. absurd (omega (arith, le, lt));
-        on = λ off. refl;
-        owed = i.holds.owed;
-      };
-    }
-    go false e =
-        let p = or_parts (not d.ring) (is_faulty_from r d.from) e in
-        record {
-          low = omega arith;
-          amid = λ k le lt. absurd (omega (arith, le, lt));
-          holds = record {
-            begins = i.last;
-            told = order_still (IsTold r) (is_alone r all) 0 all (length r.accepted) (told_all p.1);
-            waits = held_waits p.1;
-            ring = λ off m lt other. let q = ring_off d.ring d.group (after_going_on r all) (not-false _ p.0) off in none_left (is_alone r all) refl p.1 q.0 q.1 m lt other;
-            group = λ still k le lt. absurd (omega (arith, le, lt));
-            on = λ off. refl;
-            owed = i.holds.owed;
-          };
-        }
+  group_drained = cond_both (not d.ring || is_faulty_from r d.from) _ _ (IsDrained r)
+      (λ some. drained_by d.deferred d.ring (let lt = i.some in order_higher (IsTold r) 0 d.deferred d.from (length r.accepted) (omega (arith, lt)) i.holds.told) (some_waits true some) some_ring)
+      (λ none.
+          let p = or_parts (not d.ring) (is_faulty_from r d.from) none in
+          drained_by (after_going_on r all) _ (order_still (IsTold r) (is_alone r all) 0 all (length r.accepted) (told_all p.1)) (held_waits p.1) (held_ring p.1 p.0))
 
 -- An entry is accepted.
 
@@ -171,11 +133,9 @@ accepted_drained l e s i = go (is_linked e) refl where
   was_owed : takes_drain r last ≡ true → l.drains.owed ≡ true
   was_owed takes =
       let found = some_below_in (is_owed_by r last) last (and_parts (may_take r last) _ takes).1 in
-      let k : ℕ = found.0 in
-      let within : k < last = found.1 in
-      let parts = and_parts (owes_drain r k) _ found.2 in
-      i.holds.owed k within (sym (keeps.owe k within) ∙ parts.0)
-      (λ f past lt. sym (keeps.take f lt) ∙ and_right_no (nat_lt k f) (may_take r f) (lt-ltb k f past) (some_below_out (λ j. nat_lt k j && may_take r j) last (not-true _ parts.1) f lt))
+      let parts = and_parts (owes_drain r found.0) _ found.2 in
+      more_owed l.requests r l.drains keeps i.low i.holds found.0 found.1 parts.0
+      (λ f past lt. and_right_no (nat_lt found.0 f) (may_take r f) (lt-ltb found.0 f past) (some_below_out (λ j. nat_lt found.0 j && may_take r j) last (not-true _ parts.1) f lt))
 
   takes_none : (l.drains.owed && ((l.drains.from == last) && is_let_in r last)) ≡ false → takes_drain r last ≡ false
   takes_none none = grind (arith, was_owed, first_is)
@@ -185,7 +145,7 @@ accepted_drained l e s i = go (is_linked e) refl where
       let p = or_parts l.drains.group _ still in
       let q = or_parts (is_granted_drain r last) _ p.1 in
       elim (cases_lt k last) [
-        | inl before ↦ keeps.drain k before ∙ i.holds.group p.0 k le before (sym (keeps.faults.fault k before) ∙ fine)
+        | inl before ↦ more_group l.requests r l.drains keeps i.low i.holds p.0 k le before fine
         | inr past ↦
             let same : last ≡ k = omega (arith, past, lt, more) in
             subst (λ j. has_fault r j ≡ false → marks r j ≡ false) same
@@ -206,7 +166,7 @@ accepted_drained l e s i = go (is_linked e) refl where
       ])
     where
       still : k < last → l.drains.owed ≡ true
-      still before = i.holds.owed k before (sym (keeps.owe k before) ∙ owes) (λ f past low. sym (keeps.take f low) ∙ none f past (omega (arith, low, more)))
+      still before = more_owed l.requests r l.drains keeps i.low i.holds k before owes (λ f past low. none f past (omega (arith, low, more)))
 
       let_out : (l.drains.from == last) ≡ true → k < last → is_let_in r last ≡ false
       let_out first before = and_right_no (is_first r last) (is_let_in r last) (sym first_is ∙ first) (none last before (omega (arith, more)))

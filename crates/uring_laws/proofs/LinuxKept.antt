@@ -1,11 +1,11 @@
 -- Of groups that drain by Linux's rules: what is so of the requests whatever happened, and stays as more is accepted after them.
-use Rattle.std.proofs.Common.{◌≡◌, ℕ, suc, ◌-◌, ◌<◌, ◌≤◌, ℤ, min, max, length, true, false, not, ◌&&◌, List, refl, sym, ◌∙◌, ap, ap₂, arith, ◌⊎◌, inl, inr, rules}
-use Rattle.uring_laws.proofs.Common.{Deferred, Drains, FaultsKept, Requests, Sqe, accepted_faults, and_from, and_parts, any_kept, both_ways, cases_lt, cut_faults, drains, entry_of, has_ended, has_fault, is_drain, is_first, is_in_group, is_in_some, is_joined, is_joined_no, is_last, is_let_in, is_owed_by, is_past, joined_kept, may_take, nat_lt, order_kept, owes_drain, right_kept, some_below_in, some_below_same, some_below_some}
+use Rattle.std.proofs.Common.{◌≡◌, ℕ, suc, ◌<◌, ◌≤◌, ℤ, length, true, false, ◌&&◌, List, not, ap₂, ◌∙◌, sym, arith, ◌⊎◌, rules}
+use Rattle.uring_laws.proofs.Common.{Deferred, Drains, FaultsKept, Requests, Sqe, accepted_faults, and_left, any_kept, cut_faults, drains, entry_of, has_ended, has_fault, is_drain, is_first, is_in_group, is_in_some, is_joined, is_last, is_let_in, is_owed_by, is_past, joined_kept, may_take, nat_lt, order_kept, owes_drain, right_kept, some_below, some_below_between, some_below_same}
 use Rattle.uring_linux.specs.LinuxRequests.{is_in_faulty_group}
 use Rattle.uring_entry.specs.Requests as manual
-use Rattle.uring_entry.proofs.GroupEvents.{entry_same, is_last_cut}
+use Rattle.uring_entry.proofs.GroupEvents.{entry_same}
 use Rattle.uring_linux.proofs.WindowEvents.{refused_accepted, last_accepted, last_kept}
-use Rattle.uring_laws.proofs.LinuxGroups.{marks, IsTold, AreTold}
+use Rattle.uring_laws.proofs.LinuxGroups.{marks, IsTold, AreTold, parted}
 
 -- n's group drains, and has no fault
 pub record HasDrain (r : Requests) (n : ℕ) : Type 0 where
@@ -16,96 +16,53 @@ pub record HasDrain (r : Requests) (n : ℕ) : Type 0 where
 abbrev pub Waits : Requests → ℕ → ℕ → Type 0
 Waits r n m = (drains r n ≡ true) ⊎ HasDrain r m
 
+-- up to the end of a group that it isn't after, n's group drains if it does at all
+drains_to : (r : Requests) (n end : ℕ) → end ≤ length r.accepted → n < end → ((k : ℕ) → suc k ≡ end → is_last r k ≡ true)
+    → drains r n ≡ some_below (λ m. is_in_group r m n && marks r m) end
+drains_to r n end within lt ends =
+    some_below_between (λ m. is_in_group r m n && marks r m) end (length r.accepted) within (λ k le _. and_left _ _ (parted r k n end ends (omega (arith, lt)) (omega (arith, le))))
+
 -- Requests that more was accepted after.
 
 -- the same entries and groups below a bound, and all that had ended
 pub record KeepsGroups (r q : Requests) : Type 0 where
   pub faults : FaultsKept r q
   pub cut : (k : ℕ) → k < length r.accepted → is_last r k ≡ true → is_last q k ≡ true
-  pub drain : (k : ℕ) → k < length r.accepted → marks q k ≡ marks r k
-  pub take : (k : ℕ) → k < length r.accepted → may_take q k ≡ may_take r k
-  pub owe : (k : ℕ) → k < length r.accepted → owes_drain q k ≡ owes_drain r k
+  pub let_in : (k : ℕ) → k < length r.accepted → is_let_in q k ≡ is_let_in r k
+  pub drain : (k : ℕ) → k < length r.accepted → is_drain (entry_of q k) ≡ is_drain (entry_of r k)
   pub ended : (k : ℕ) → has_ended r k ≡ true → has_ended q k ≡ true
 
+-- then each request takes, owes and makes its group drain as it did
 module _ (r q : Requests) (same : KeepsGroups r q) where
-  -- a whole group, up to an end that was there before, drains only if it did
-  draining_kept : (n end : ℕ) → end ≤ length r.accepted → n < end → ((k : ℕ) → suc k ≡ end → is_last r k ≡ true) → drains q n ≡ true → drains r n ≡ true
-  draining_kept n end within lt ends e =
-      let found = some_below_in (λ m. is_in_group q m n && marks q m) (length q.accepted) e in
-      let m : ℕ = found.0 in
-      let parts = and_parts (is_in_group q m n) (marks q m) found.2 in
-      elim (cases_lt m end) [
-        | inl low ↦
-            some_below_some (λ j. is_in_group r j n && marks r j) (length r.accepted) m (omega (arith, low, within))
-            (and_from _ _ (sym (joined_kept r q same.faults (min m n) (max m n) (omega (arith, low, lt, within))) ∙ parts.0) (sym (same.drain m (omega (arith, low, within))) ∙ parts.1))
-        | inr past ↦
-            absurd (both_ways (is_in_group q m n) (is_joined_no q (min m n) (max m n) (end - 1) (omega (arith, past, lt)) (omega (arith, past, lt)) (same.cut (end - 1) (omega (arith, lt, within)) (ends (end - 1) (omega (arith, lt))))) parts.0)
-      ]
+  first_same : (k : ℕ) → k < length r.accepted → is_first q k ≡ is_first r k
+  first_same k lt = grind (arith, some_below_same, joined_kept r q same.faults)
+
+  take_same : (k : ℕ) → k < length r.accepted → may_take q k ≡ may_take r k
+  take_same k lt = grind (arith, first_same)
+
+  owe_same : (k : ℕ) → k < length r.accepted → owes_drain q k ≡ owes_drain r k
+  owe_same k lt = grind (arith, first_same)
+
+  owed_same : (n k : ℕ) → n < length r.accepted → k < n → is_owed_by q n k ≡ is_owed_by r n k
+  owed_same n k under lt = grind (arith, (owe_same k), (some_below_same (λ f. nat_lt k f && may_take q f) (λ f. nat_lt k f && may_take r f) n), take_same)
+
+  marks_same : (n : ℕ) → n < length r.accepted → marks q n ≡ marks r n
+  marks_same n lt = grind (arith, (some_below_same (is_owed_by q n) (is_owed_by r n) n (λ k low. owed_same n k lt low)), take_same)
 
   told_more : (g : Deferred) → g.from < g.end → g.end ≤ length r.accepted → IsTold r g → IsTold q g
-  told_more g some within is = grind arith
-
--- the same starts of groups, and the same drains and fresh entries up to n: then n takes, owes and makes its group drain as it did
-module _ (r q : Requests) (n : ℕ) (last : (k : ℕ) → k < n → is_last q k ≡ is_last r k)
-    (let_in : (k : ℕ) → k ≤ n → is_let_in q k ≡ is_let_in r k)
-    (drain : (k : ℕ) → k ≤ n → is_drain (entry_of q k) ≡ is_drain (entry_of r k)) where
-  joined_same : (m k : ℕ) → k ≤ n → is_joined q m k ≡ is_joined r m k
-  unfolding is_joined
-  joined_same m k le = grind (arith, some_below_same)
-
-  first_same : (k : ℕ) → k ≤ n → is_first q k ≡ is_first r k
-  first_same k le = ap not (some_below_same (λ j. is_joined q j k) (λ j. is_joined r j k) k (λ j low. joined_same j k le))
-
-  take_same : (k : ℕ) → k ≤ n → may_take q k ≡ may_take r k
-  take_same k le = ap₂ (λ x y. x && y) (first_same k le) (let_in k le)
-
-  owe_same : (k : ℕ) → k ≤ n → owes_drain q k ≡ owes_drain r k
-  owe_same k le = ap₂ (λ x y. x && not y) (ap₂ (λ x y. x && y) (drain k le) (let_in k le)) (first_same k le)
-
-  owed_same : (k : ℕ) → k < n → is_owed_by q n k ≡ is_owed_by r n k
-  owed_same k lt =
-      ap₂ (λ x y. x && not y) (owe_same k (omega (arith, lt)))
-      (some_below_same (λ f. nat_lt k f && may_take q f) (λ f. nat_lt k f && may_take r f) n (λ f low. ap (λ b. nat_lt k f && b) (take_same f (omega (arith, low)))))
-
-  marks_same : marks q n ≡ marks r n
-  marks_same = grind (arith, (some_below_same (is_owed_by q n) (is_owed_by r n) n owed_same), take_same)
-
-let_in_accepted : (r : Requests) (e : Sqe) (k : ℕ) → k < length r.accepted
-    → is_let_in (manual.with_accepted r e) k ≡ is_let_in r k
-let_in_accepted r e k lt = grind (arith, (entry_same r e is_past k lt), (refused_accepted r e k lt))
+  told_more g some within is = grind (arith, marks_same)
 
 pub accepted_keeps : (r : Requests) (e : Sqe) → KeepsGroups r (manual.with_accepted r e)
 accepted_keeps r e = record {
   faults = accepted_faults r e;
   cut = λ k lt is. last_accepted r e k lt ∙ is;
-  drain = λ k lt. marks_same r q k (last k lt) (let_in k lt) (drain k lt);
-  take = λ k lt. take_same r q k (last k lt) (let_in k lt) (drain k lt) k (omega arith);
-  owe = λ k lt. owe_same r q k (last k lt) (let_in k lt) (drain k lt) k (omega arith);
+  let_in = λ k lt. ap₂ (λ x y. x && not y) (entry_same r e is_past k lt) (refused_accepted r e k lt);
+  drain = entry_same r e is_drain;
   ended = λ k is. is;
-} where
-  q : Requests
-  q = manual.with_accepted r e
-
-  last : (n : ℕ) → n < length r.accepted → (k : ℕ) → k < n → is_last q k ≡ is_last r k
-  last n lt k low = last_accepted r e k (omega (arith, lt, low))
-
-  let_in : (n : ℕ) → n < length r.accepted → (k : ℕ) → k ≤ n → is_let_in q k ≡ is_let_in r k
-  let_in n lt k le = let_in_accepted r e k (omega (arith, lt, le))
-
-  drain : (n : ℕ) → n < length r.accepted → (k : ℕ) → k ≤ n → is_drain (entry_of q k) ≡ is_drain (entry_of r k)
-  drain n lt k le = entry_same r e is_drain k (omega (arith, lt, le))
+}
 
 pub cut_keeps : (r : Requests) → KeepsGroups r (manual.with_cut r)
-cut_keeps r = record {
-  faults = cut_faults r;
-  cut = λ k lt is. last_kept r k is;
-  drain = λ k lt. marks_same r (manual.with_cut r) k (last k lt) (λ j le. refl) (λ j le. refl);
-  take = λ k lt. take_same r (manual.with_cut r) k (last k lt) (λ j le. refl) (λ j le. refl) k (omega arith);
-  owe = λ k lt. owe_same r (manual.with_cut r) k (last k lt) (λ j le. refl) (λ j le. refl) k (omega arith);
-  ended = λ k is. is;
-} where
-  last : (n : ℕ) → n < length r.accepted → (k : ℕ) → k < n → is_last (manual.with_cut r) k ≡ is_last r k
-  last n lt k low = is_last_cut r k (λ e. absurd (omega (arith, e, lt, low)))
+cut_keeps r = grind (arith, cut_faults, last_kept)
 
 pub started_keeps : (r : Requests) (n : ℕ) → KeepsGroups r (manual.with_started r n)
 unfolding is_joined
@@ -148,24 +105,38 @@ pub record IsDrained (r : Requests) (d : Drains) : Type 0 where
 
 -- the same once more was accepted, of what stood before
 module _ (r q : Requests) (d : Drains) (same : KeepsGroups r q) (low : d.from ≤ length r.accepted) (i : Holds r d) where
+  pub more_begins : (k : ℕ) → suc k ≡ d.from → is_last q k ≡ true
+  more_begins k is = same.cut k (omega (arith, is, low)) (i.begins k is)
+
+  group_before : (m n : ℕ) → n < d.from → m < d.from → (is_in_group q m n && marks q m) ≡ (is_in_group r m n && marks r m)
+  group_before m n lt under = grind (arith, joined_kept r q same.faults, marks_same r q same)
+
+  -- a group that was there before drains exactly if it did
+  drains_before : (n : ℕ) → n < d.from → drains q n ≡ drains r n
+  drains_before n lt =
+      drains_to q n d.from (let more = same.faults.count in omega (arith, more, low)) lt more_begins
+      ∙ some_below_same (λ m. is_in_group q m n && marks q m) (λ m. is_in_group r m n && marks r m) d.from (λ m under. group_before m n lt under)
+      ∙ sym (drains_to r n d.from low lt i.begins)
+
   waits_before : (n m : ℕ) → n < d.from → m < n → Waits q n m → Waits r n m
-  waits_before n m lt under (inl drains) = inl (draining_kept r q same n d.from low lt i.begins drains)
-  waits_before n m lt under (inr other) =
-      inr (record { drains = draining_kept r q same m d.from low (omega (arith, lt, under)) i.begins other.drains; right = right_kept r q same.faults m (omega (arith, lt, under, low)) other.right })
+  waits_before n m lt under w = grind (arith, drains_before, right_kept)
 
   pub more_waits : WaitForNone q d.from d.deferred
   more_waits n m lt under apart out right w =
-      same.ended m (i.waits n m lt under (sym (joined_kept r q same.faults m n (omega (arith, lt, low))) ∙ apart) out (right_kept r q same.faults n (omega (arith, lt, low)) right) (waits_before n m lt under w))
+      grind (arith, (i.waits n m lt under), (waits_before n m lt under w), (joined_kept r q same.faults m n), (right_kept r q same.faults n), (same.ended m))
 
   pub more_ring : RingDrains q d
-  more_ring off m lt other = grind (arith, (draining_kept r q same m d.from low lt i.begins other.drains), right_kept)
+  more_ring off m lt other = grind (arith, drains_before, right_kept)
 
   pub more_told : AreTold q 0 d.deferred d.from
   more_told = order_kept (IsTold r) (IsTold q) 0 d.deferred d.from i.told (λ g there some within is. told_more r q same g some (omega (arith, within, low)) is)
 
-  pub more_begins : (k : ℕ) → suc k ≡ d.from → is_last q k ≡ true
-  more_begins k is = same.cut k (omega (arith, is, low)) (i.begins k is)
+  pub more_group : d.group ≡ false → (k : ℕ) → d.from ≤ k → k < length r.accepted → has_fault q k ≡ false → marks q k ≡ false
+  more_group still k le lt fine = grind (arith, (marks_same r q same k lt), (i.group still k le lt), same.faults.fault)
+
+  pub more_owed : (k : ℕ) → k < length r.accepted → owes_drain q k ≡ true → ((f : ℕ) → k < f → f < length r.accepted → may_take q f ≡ false) → d.owed ≡ true
+  more_owed k lt owes none = grind (arith, (i.owed k lt), (owe_same r q same k lt), (take_same r q same))
 
   -- and all of it, if no more was accepted
   pub still_holds : length q.accepted ≡ length r.accepted → Holds q d
-  still_holds many = grind (arith, more_begins, more_told, more_waits, more_ring)
+  still_holds many = search (rules, arith, more_begins, more_told, more_waits, more_ring, more_group, more_owed)
