@@ -1,6 +1,6 @@
 -- By Linux's rules what isn't deferred waits for no drain: whoever may start has nobody before it that a drain puts there. By what has happened, one submission call, start or end after the other.
-use Rattle.std.proofs.Common.{◌≡◌, ℕ, suc, ◌+◌, ◌-◌, ◌<◌, ◌≤◌, ℤ, length, Bool, true, false, not, ◌&&◌, ◌||◌, ◌==◌, List, [], ◌∷◌, refl, sym, ◌∙◌, ap, subst, arith, inl, inr, length-append, rules}
-use Rattle.uring_laws.proofs.Common.{Deferred, Drains, End, Happening, IsSettled, LinuxRequests, MayHaveHappened, Requests, Sqe, Start, accepted_settled, after_going_on, all_between, and_from, and_parts, both_ways, cases_Bool, cases_lt, cond_both, deferred_with, drains, entry_of, entry_of_accepted_at, eq-eqb, false_from_ne_true, group_faulty, has_ended, has_fault, healthy_from, if◌then◌else◌, is_alone, is_deferred, is_drain, is_faulty_from, is_first, is_granted_drain, is_in_some, is_joined, is_joined_no, is_joined_yes, is_last, is_let_in, is_linked, is_owed_by, lt-ltb, ltb-true, made_by, may_take, nat_lt, ne_eqb, not-true, not_alone, or_from, or_left, or_parts, or_right, order_higher, order_push, order_still, owes_drain, pushed_new, pushed_old, ring_off, some_below_in, some_below_none, some_below_out, some_below_some, still_deferred, takes_drain, true_from_ne_false, with_accepted, with_cut, with_deferred, with_entries, with_group, with_last_entry, with_ring}
+use Rattle.std.proofs.Common.{◌≡◌, ℕ, suc, ◌+◌, ◌<◌, ◌≤◌, ℤ, length, Bool, true, false, not, ◌&&◌, ◌||◌, ◌==◌, List, [], ◌∷◌, refl, arith, inl, inr, rules, subst}
+use Rattle.uring_laws.proofs.Common.{Deferred, Drains, End, Happening, IsSettled, LinuxRequests, MayHaveHappened, Requests, Sqe, Start, accepted_settled, after_going_on, all_between, and_parts, both_ways, cases_lt, cond_both, deferred_with, drains, entry_of_accepted_at, false_from_ne_true, group_faulty, has_ended, has_fault, healthy_from, is_alone, is_deferred, is_faulty_from, is_first, is_granted_drain, is_in_some, is_joined, is_joined_no, is_joined_yes, is_last, is_let_in, is_linked, is_owed_by, length_push, lt-ltb, ltb-true, made_by, may_take, nat_lt, not-true, not_alone, or_parts, order_higher, order_push, order_still, owes_drain, pushed_new, pushed_old, ring_off, some_below, some_below_in, some_below_none, some_below_out, some_below_some, takes_drain, true_from_ne_false, with_accepted, with_cut, with_deferred, with_entries, with_group, with_last_entry, with_ring}
 use Rattle.uring_linux.specs.Happenings.{Call}
 use Rattle.uring_linux.specs.LinuxRequests.{is_in_faulty_group, with_ended}
 use Rattle.uring_entry.specs.Requests as manual
@@ -17,14 +17,11 @@ alone_in : (r : Requests) (xs : List Deferred) (m : ℕ) → is_alone r xs ≡ t
     → has_ended r m ≡ false → is_in_some xs m ≡ true
 alone_in r xs m alone lt going = true_from_ne_false _ (λ out. both_ways _ (not_alone r xs m lt going out) alone)
 
-gone_ended : (r : Requests) (xs : List Deferred) (high n m : ℕ) (alone : Bool) → is_alone r xs ≡ alone
-    → AreTold r 0 xs high → m < length r.accepted → m < n → is_joined r m n ≡ false
-    → is_in_some xs n ≡ true → is_in_some (still_deferred alone xs) n ≡ false → Waits r n m
-    → has_ended r m ≡ true
-gone_ended r xs high n m false is told low lt apart here gone w = grind arith
-gone_ended r xs high n m true is told low lt apart here gone w = true_from_ne_false _ (λ going.
-    let c = gone_calm r 0 xs high n m told here gone (alone_in r xs m is low going) lt apart in
-    elim w [ inl drains ↦ both_ways _ c.0 drains | inr other ↦ both_ways _ c.1 other.drains ])
+-- as groups go on, whoever isn't deferred waits for nobody
+waits_on : (r : Requests) (xs : List Deferred) (high : ℕ) → high ≤ length r.accepted → AreTold r 0 xs high
+    → WaitForNone r high xs → WaitForNone r high (after_going_on r xs)
+waits_on r xs high low told waits n m lt under apart out right w =
+    grind (arith, waits, gone_calm, told, alone_in, true_from_ne_false, both_ways)
 
 -- A group is accepted.
 
@@ -54,9 +51,8 @@ module _ (r : Requests) (d : Drains) (i : IsAmid r d) where
   some_waits : (b : Bool) → (not d.ring || is_faulty_from r d.from) ≡ true → WaitForNone r (length r.accepted) d.deferred
   some_waits b e n m lt under apart out right w = grind (arith, both_ways, calm_new, group_faulty)
 
-  held_waits : is_faulty_from r d.from ≡ false → WaitForNone r (length r.accepted) (after_going_on r all)
-  held_waits fine n m lt under apart out right w =
-      grind (arith, gone_ended, told_all, false_from_ne_true, both_ways, pushed_old, pushed_new)
+  all_waits : WaitForNone r (length r.accepted) all
+  all_waits n m lt under apart out right w = grind (arith, (i.holds.waits n m), false_from_ne_true, both_ways, pushed_old, pushed_new)
 
   some_ring : d.ring ≡ false → (m : ℕ) → m < length r.accepted → HasDrain r m → has_ended r m ≡ true
   some_ring off m lt other = grind (arith, calm_new)
@@ -78,120 +74,86 @@ module _ (r : Requests) (d : Drains) (i : IsAmid r d) where
       (λ some. drained_by d.deferred d.ring (let lt = i.some in order_higher (IsTold r) 0 d.deferred d.from (length r.accepted) (omega (arith, lt)) i.holds.told) (some_waits true some) some_ring)
       (λ none.
           let p = or_parts (not d.ring) (is_faulty_from r d.from) none in
-          drained_by (after_going_on r all) _ (order_still (IsTold r) (is_alone r all) 0 all (length r.accepted) (told_all p.1)) (held_waits p.1) (held_ring p.1 p.0))
+          drained_by (after_going_on r all) _ (order_still (IsTold r) (is_alone r all) 0 all (length r.accepted) (told_all p.1)) (waits_on r all (length r.accepted) (omega arith) (told_all p.1) all_waits) (held_ring p.1 p.0))
 
 -- An entry is accepted.
 
--- if both don't hold and one does, the other doesn't
-and_right_no : (a b : Bool) → a ≡ true → (a && b) ≡ false → b ≡ false
-and_right_no a b is none = sym (ap (λ c. c && b) is) ∙ none
+-- whoever comes right after the end of a group is the first of the next
+first_after : (r : Requests) (k : ℕ) → is_first r (suc k) ≡ is_last r k
+first_after r k = grind (arith, some_below_none, some_below_some, is_joined_no, is_joined_yes)
 
-and_left_no : (a b : Bool) → (a && b) ≡ false → b ≡ true → a ≡ false
-and_left_no a b none is = false_from_ne_true a (λ so. both_ways (a && b) none (and_from a b so is))
+none_between : (p : ℕ → Bool) (n k f : ℕ) → some_below (λ j. nat_lt k j && p j) n ≡ false → k < f → f < n → p f ≡ false
+none_between p n k f none past lt = grind (arith, (some_below_out (λ j. nat_lt k j && p j) n none f lt), lt-ltb)
 
--- a drain is owed after an entry, if the entry owes one, or one was owed and it may not take that
-owed_on : (first was let_in granted : Bool) → (first ≡ false → (was || granted) ≡ true)
-    → (first ≡ true → (was && not let_in) ≡ true)
-    → (if first then was && not let_in else was || granted) ≡ true
-owed_on first was let_in granted off on = grind arith
+module _ (l : LinuxRequests) (e : Sqe) (s : IsSettled l) (i : IsDrained l.requests l.drains) where
+  abbrev q : Requests
+  q = manual.with_accepted l.requests e
 
-accepted_drained : (l : LinuxRequests) (e : Sqe) → IsSettled l → IsDrained l.requests l.drains
-    → IsDrained (with_accepted l e).requests (with_accepted l e).drains
-accepted_drained l e s i = go (is_linked e) refl where
-  r : Requests
-  r = manual.with_accepted l.requests e
-
-  last : ℕ
+  abbrev last : ℕ
   last = length l.requests.accepted
 
-  d : Drains
-  d = with_last_entry r last l.drains
+  abbrev next : Drains
+  next = with_last_entry q last l.drains
 
-  more : length r.accepted ≡ length l.requests.accepted + 1
-  more = length-append l.requests.accepted (e ∷ [])
+  more : length q.accepted ≡ last + 1
+  more = length_push l.requests.accepted e
 
-  keeps : KeepsGroups l.requests r
+  keeps : KeepsGroups l.requests q
   keeps = accepted_keeps l.requests e
 
-  ring : RingDrains r d
-  ring off = more_ring l.requests r l.drains keeps i.low i.holds (or_parts l.drains.ring _ off).0
-
   -- the entry is the first of its group exactly if a group was accepted right before it
-  first_is : (l.drains.from == last) ≡ is_first r last
-  first_is = elim (cases_lt l.drains.from last) [
-    | inl before ↦
-        ne_eqb l.drains.from last (λ same. omega (arith, before, same))
-        ∙ sym (ap not (some_below_some (λ k. is_joined r k last) last (last - 1) (omega (arith, before))
-        (is_joined_yes r (last - 1) last (λ k le lt. last_accepted l.requests e k lt ∙ i.amid k (omega (arith, before, le)) lt))))
-    | inr past ↦
-        (let low = i.low in eq-eqb l.drains.from last (omega (arith, low, past)))
-        ∙ sym (ap not (some_below_none (λ k. is_joined r k last) last
-        (λ k lt. is_joined_no r k last (last - 1) (omega (arith, lt)) (omega (arith, lt)) (keeps.cut (last - 1) (omega (arith, lt)) (i.holds.begins (last - 1) (let low = i.low in omega (arith, low, past, lt)))))))
-  ]
+  first_is : (l.drains.from == last) ≡ is_first q last
+  first_is = grind (arith, first_after, last_accepted, i.amid, i.holds.begins, i.low)
 
   -- a drain was owed that the entry takes
-  was_owed : takes_drain r last ≡ true → l.drains.owed ≡ true
+  was_owed : takes_drain q last ≡ true → l.drains.owed ≡ true
   was_owed takes =
-      let found = some_below_in (is_owed_by r last) last (and_parts (may_take r last) _ takes).1 in
-      let parts = and_parts (owes_drain r found.0) _ found.2 in
-      more_owed l.requests r l.drains keeps i.low i.holds found.0 found.1 parts.0
-      (λ f past lt. and_right_no (nat_lt found.0 f) (may_take r f) (lt-ltb found.0 f past) (some_below_out (λ j. nat_lt found.0 j && may_take r j) last (not-true _ parts.1) f lt))
+      let found = some_below_in (is_owed_by q last) last (and_parts (may_take q last) _ takes).1 in
+      more_owed l.requests q l.drains keeps i.low i.holds found.0 found.1 (and_parts (owes_drain q found.0) _ found.2).0 (λ f past lt. none_between (may_take q) last found.0 f (not-true _ (and_parts (owes_drain q found.0) _ found.2).1) past lt)
 
-  takes_none : (l.drains.owed && ((l.drains.from == last) && is_let_in r last)) ≡ false → takes_drain r last ≡ false
+  takes_none : (l.drains.owed && ((l.drains.from == last) && is_let_in q last)) ≡ false → takes_drain q last ≡ false
   takes_none none = grind (arith, was_owed, first_is)
 
-  group : d.group ≡ false → (k : ℕ) → d.from ≤ k → k < length r.accepted → has_fault r k ≡ false → marks r k ≡ false
-  group still k le lt fine =
-      let p = or_parts l.drains.group _ still in
-      let q = or_parts (is_granted_drain r last) _ p.1 in
-      elim (cases_lt k last) [
-        | inl before ↦ more_group l.requests r l.drains keeps i.low i.holds p.0 k le before fine
-        | inr past ↦
-            let same : last ≡ k = omega (arith, past, lt, more) in
-            subst (λ j. has_fault r j ≡ false → marks r j ≡ false) same
-            (λ right. or_from _ _ (and_left_no (is_drain (entry_of r last)) (is_let_in r last) q.0 (fine_let_in r last right)) (takes_none q.1)) fine
-      ]
+  group_last : next.group ≡ false → has_fault q last ≡ false → marks q last ≡ false
+  group_last still fine =
+      let p = or_parts (is_granted_drain q last) _ (or_parts l.drains.group _ still).1 in
+      grind (arith, takes_none, (fine_let_in q last fine), p)
 
-  owed : IsOwed r d
-  owed k lt owes none = owed_on (l.drains.from == last) l.drains.owed (is_let_in r last) (is_granted_drain r last)
-      (λ other. elim (cases_lt k last) [
-        | inl before ↦ or_left _ _ (still before)
-        | inr past ↦ (let same : k ≡ last = omega (arith, past, lt, more) in or_right l.drains.owed _ (and_parts (is_granted_drain r last) _ (subst (λ j. owes_drain r j ≡ true) same owes)).0)
-      ])
-      (λ first. elim (cases_lt k last) [
-        | inl before ↦ and_from _ _ (still before) (ap not (let_out first before))
-        | inr past ↦
-            let same : k ≡ last = omega (arith, past, lt, more) in
-            absurd (both_ways (is_first r last) (not-true _ (and_parts (is_granted_drain r last) _ (subst (λ j. owes_drain r j ≡ true) same owes)).1) (sym first_is ∙ first))
-      ])
-    where
-      still : k < last → l.drains.owed ≡ true
-      still before = more_owed l.requests r l.drains keeps i.low i.holds k before owes (λ f past low. none f past (omega (arith, low, more)))
+  group : next.group ≡ false → (k : ℕ) → next.from ≤ k → k < length q.accepted → has_fault q k ≡ false → marks q k ≡ false
+  group still k le lt fine = elim (cases_lt k last) [
+    | inl before ↦ more_group l.requests q l.drains keeps i.low i.holds (or_parts l.drains.group _ still).0 k le before fine
+    | inr past ↦ subst (λ j. has_fault q j ≡ false → marks q j ≡ false) (omega (arith, past, lt, more)) (group_last still) fine
+  ]
 
-      let_out : (l.drains.from == last) ≡ true → k < last → is_let_in r last ≡ false
-      let_out first before = and_right_no (is_first r last) (is_let_in r last) (sym first_is ∙ first) (none last before (omega (arith, more)))
+  owed_before : l.drains.owed ≡ true → may_take q last ≡ false → next.owed ≡ true
+  owed_before owed none = grind (arith, first_is)
 
-  on : d.ring ≡ false → d.group ≡ false
-  on off = let p = or_parts l.drains.ring _ off in or_from _ _ (i.holds.on p.0) p.1
+  owed_last : owes_drain q last ≡ true → next.owed ≡ true
+  owed_last owes = grind (arith, first_is, (and_parts (is_granted_drain q last) _ owes))
 
-  holds : Holds r d
-  holds = search (rules, more_begins, keeps, more_told, more_waits, ring, group, on, owed)
+  owed : IsOwed q next
+  owed k lt owes none = elim (cases_lt k last) [
+    | inl before ↦ owed_before (more_owed l.requests q l.drains keeps i.low i.holds k before owes (λ f past low. none f past (omega (arith, low, more)))) (none last before (omega (arith, more)))
+    | inr past ↦ owed_last (subst (λ j. owes_drain q j ≡ true) (omega (arith, past, lt, more)) owes)
+  ]
 
-  new_open : is_linked e ≡ true → is_last r last ≡ false
-  new_open linked = or_from _ _ (ap (λ x. not (is_linked x)) (entry_of_accepted_at l.requests e) ∙ ap not linked) (s.later last (omega arith)).cut
+  holds : Holds q next
+  holds =
+      let begins = more_begins l.requests q l.drains keeps i.low i.holds in
+      let told = more_told l.requests q l.drains keeps i.low i.holds in
+      let waits = more_waits l.requests q l.drains keeps i.low i.holds in
+      grind (arith, begins, told, waits, (more_ring l.requests q l.drains keeps i.low i.holds), group, owed, i.holds.on)
 
-  go : (b : Bool) → is_linked e ≡ b → IsDrained r (if b then d else with_group r d)
-  go true linked = record {
-    low = let low = i.low in omega (arith, low, more);
-    amid = grind (arith, last_accepted, more, new_open);
-    holds = holds;
-  }
-  go false free = group_drained r d (record {
-    some = let low = i.low in omega (arith, low, more);
-    one = λ k le lt. (let before : k < last = omega (arith, lt, more) in last_accepted l.requests e k before ∙ i.amid k le before);
-    last = λ k is. (let same : k ≡ last = omega (arith, is, more) in or_left _ _ (ap (λ n. not (is_linked (entry_of r n))) same ∙ ap (λ x. not (is_linked x)) (entry_of_accepted_at l.requests e) ∙ ap not free));
-    holds = holds;
-  })
+  new_open : is_linked e ≡ true → is_last q last ≡ false
+  new_open linked = grind (arith, (entry_of_accepted_at l.requests e), (s.later last))
+
+  new_last : is_linked e ≡ false → is_last q last ≡ true
+  new_last free = grind (arith, (entry_of_accepted_at l.requests e))
+
+  accepted_drained : IsDrained (with_accepted l e).requests (with_accepted l e).drains
+  accepted_drained = cond_both (is_linked e) _ _ (IsDrained q)
+      (λ linked. record { low = let low = i.low in omega (arith, low, more); amid = grind (arith, last_accepted, more, new_open); holds = holds })
+      (λ free. group_drained q next (record { some = let low = i.low in omega (arith, low, more); one = grind (arith, last_accepted, i.amid, more); last = grind (arith, new_last, more); holds = holds }))
 
 entries_drained : (l : LinuxRequests) (entries : List Sqe) → IsSettled l → IsDrained l.requests l.drains
     → IsDrained (with_entries l entries).requests (with_entries l entries).drains
@@ -203,21 +165,12 @@ entries_drained l (e ∷ rest) s i =
 
 cut_drained : (l : LinuxRequests) → IsDrained l.requests l.drains
     → IsDrained (with_cut l).requests (with_cut l).drains
-cut_drained l i = go (nat_lt l.drains.from (length l.requests.accepted)) refl where
-  r : Requests
-  r = manual.with_cut l.requests
-
-  holds : Holds r l.drains
-  holds = still_holds l.requests r l.drains (cut_keeps l.requests) i.low i.holds refl
-
-  go : (b : Bool) → nat_lt l.drains.from (length l.requests.accepted) ≡ b → IsDrained r (if b then with_group r l.drains else l.drains)
-  go true e = group_drained r l.drains (record {
-    some = ltb-true _ _ e;
-    one = λ k le lt. is_last_cut l.requests k (λ f. absurd (omega (arith, f, lt))) ∙ i.amid k le (omega (arith, lt));
-    last = λ k is. is_last_cut_last l.requests k is;
-    holds = holds;
-  })
-  go false e = grind (arith, holds)
+cut_drained l i =
+    let r = manual.with_cut l.requests in
+    let holds = still_holds l.requests r l.drains (cut_keeps l.requests) i.low i.holds refl in
+    cond_both (nat_lt l.drains.from (length l.requests.accepted)) _ _ (IsDrained r)
+    (λ amid. group_drained r l.drains (record { some = ltb-true _ _ amid; one = grind (arith, is_last_cut, i.amid); last = is_last_cut_last l.requests; holds = holds }))
+    (λ none. grind (arith, holds))
 
 -- A request starts or ends, between calls.
 
@@ -230,20 +183,11 @@ start_drained l n i =
 end_drained : (l : LinuxRequests) (n : ℕ) (res : ℤ) (bytes : List ℕ) → IsDrained l.requests l.drains
     → IsDrained (with_ended l n res bytes).requests (with_ended l n res bytes).drains
 end_drained l n res bytes i =
-    let q : Requests = manual.with_ended l.requests n res bytes in
-    let xs : List Deferred = l.drains.deferred in
-    let h : Holds q l.drains = still_holds l.requests q l.drains (ended_keeps l.requests n res bytes) i.low i.holds refl in
-    record {
-      low = i.low;
-      amid = i.amid;
-      holds =
-          let told = order_still (IsTold q) (is_alone q xs) 0 xs l.drains.from h.told in
-          let waits : WaitForNone q l.drains.from (still_deferred (is_alone q xs) xs) = λ k m lt under apart out right w. elim (cases_Bool (is_in_some xs k)) [
-            | inl here ↦ (let low = i.low in gone_ended q xs l.drains.from k m (is_alone q xs) refl h.told (omega (arith, lt, under, low)) under apart here out w)
-            | inr never ↦ h.waits k m lt under apart never right w
-          ] in
-          assumption (told, waits, h);
-    }
+    let q = manual.with_ended l.requests n res bytes in
+    let h = still_holds l.requests q l.drains (ended_keeps l.requests n res bytes) i.low i.holds refl in
+    let told = order_still (IsTold q) (is_alone q l.drains.deferred) 0 l.drains.deferred l.drains.from h.told in
+    let waits = waits_on q l.drains.deferred l.drains.from i.low h.told h.waits in
+    assumption (told, waits, h, i)
 
 -- Whatever happened.
 
