@@ -1,27 +1,22 @@
 -- By Linux's rules what isn't deferred waits for no drain: whoever may start has nobody before it that a drain puts there. By what has happened, one submission call, start or end after the other.
-use Rattle.std.proofs.Common.{◌≡◌, ℕ, suc, ◌+◌, ◌<◌, ◌≤◌, ℤ, length, Bool, true, false, not, ◌&&◌, ◌||◌, ◌==◌, List, [], ◌∷◌, refl, arith, inl, inr, rules, subst}
-use Rattle.uring_laws.proofs.Common.{Deferred, Drains, End, Happening, IsSettled, LinuxRequests, MayHaveHappened, Requests, Sqe, Start, accepted_settled, after_going_on, all_between, and_parts, both_ways, cases_lt, cond_both, deferred_with, drains, entry_of_accepted_at, false_from_ne_true, group_faulty, has_ended, has_fault, healthy_from, is_alone, is_deferred, is_faulty_from, is_first, is_granted_drain, is_in_some, is_joined, is_joined_no, is_joined_yes, is_last, is_let_in, is_linked, is_owed_by, length_push, lt-ltb, ltb-true, made_by, may_take, nat_lt, not-true, not_alone, or_parts, order_higher, order_push, order_still, owes_drain, pushed_new, pushed_old, ring_off, some_below, some_below_in, some_below_none, some_below_out, some_below_some, takes_drain, true_from_ne_false, with_accepted, with_cut, with_deferred, with_entries, with_group, with_last_entry, with_ring}
+use Rattle.std.proofs.Common.{◌≡◌, ℕ, suc, ◌+◌, ◌<◌, ◌≤◌, length, Bool, true, false, not, ◌&&◌, ◌||◌, ◌==◌, List, [], ◌∷◌, refl, arith, inl, inr, rules, subst, ap₂, ◌∙◌}
+use Rattle.uring_laws.proofs.Common.{Deferred, Drains, End, Happening, IsSettled, LinuxRequests, MayHaveHappened, Requests, Sqe, Start, accepted_faults, accepted_settled, after_going_on, all_between, and_parts, any_kept, both_ways, cases_lt, cond_both, cut_faults, deferred_with, drains, entry_of_accepted_at, false_from_ne_true, group_faulty, has_ended, has_fault, healthy_from, is_alone, is_deferred, is_drain, is_faulty_from, is_first, is_granted_drain, is_joined, is_joined_no, is_joined_yes, is_last, is_linked, is_owed_by, is_past, length_push, lt-ltb, ltb-true, made_by, may_take, nat_lt, not-true, not_alone, or_parts, order_higher, order_push, order_still, owes_drain, pushed_new, pushed_old, ring_off, some_below, some_below_in, some_below_none, some_below_out, some_below_some, takes_drain, true_from_ne_false, with_accepted, with_cut, with_deferred, with_entries, with_group, with_last_entry, with_ring}
 use Rattle.uring_linux.specs.Happenings.{Call}
 use Rattle.uring_linux.specs.LinuxRequests.{is_in_faulty_group, with_ended}
 use Rattle.uring_entry.specs.Requests as manual
-use Rattle.uring_entry.proofs.GroupEvents.{is_last_cut, is_last_cut_last}
-use Rattle.uring_linux.proofs.WindowEvents.{last_accepted}
+use Rattle.uring_entry.proofs.GroupEvents.{entry_same, is_last_cut, is_last_cut_last}
+use Rattle.uring_linux.proofs.WindowEvents.{last_accepted, last_kept, refused_accepted}
 use Rattle.uring_linux.proofs.Standings.{fine_let_in}
 use Rattle.uring_laws.proofs.LinuxGroups.{marks, IsTold, AreTold, calm, gone_calm, left_calm}
-use Rattle.uring_laws.proofs.LinuxKept.{HasDrain, Waits, KeepsGroups, accepted_keeps, cut_keeps, started_keeps, ended_keeps, WaitForNone, RingDrains, IsOwed, Holds, IsDrained, more_waits, more_ring, more_told, more_begins, still_holds, more_group, more_owed}
+use Rattle.uring_laws.proofs.LinuxKept.{HasDrain, Waits, KeepsGroups, WaitForNone, RingDrains, IsOwed, Holds, IsDrained, more_waits, more_ring, more_told, more_begins, still_holds, more_group, more_owed}
 
 -- Whoever goes on waits for nobody that hasn't ended.
-
--- what hasn't ended is among these groups, if all that is outstanding is
-alone_in : (r : Requests) (xs : List Deferred) (m : ℕ) → is_alone r xs ≡ true → m < length r.accepted
-    → has_ended r m ≡ false → is_in_some xs m ≡ true
-alone_in r xs m alone lt going = true_from_ne_false _ (λ out. both_ways _ (not_alone r xs m lt going out) alone)
 
 -- as groups go on, whoever isn't deferred waits for nobody
 waits_on : (r : Requests) (xs : List Deferred) (high : ℕ) → high ≤ length r.accepted → AreTold r 0 xs high
     → WaitForNone r high xs → WaitForNone r high (after_going_on r xs)
 waits_on r xs high low told waits n m lt under apart out right w =
-    grind (arith, waits, gone_calm, told, alone_in, true_from_ne_false, both_ways)
+    grind (arith, waits, gone_calm, told, not_alone, true_from_ne_false, both_ways)
 
 -- A group is accepted.
 
@@ -48,20 +43,17 @@ module _ (r : Requests) (d : Drains) (i : IsAmid r d) where
   told_all : is_faulty_from r d.from ≡ false → AreTold r 0 all (length r.accepted)
   told_all right = order_push (IsTold r) 0 d.deferred d.from g (omega arith) i.some (told_new right) i.holds.told
 
-  some_waits : (b : Bool) → (not d.ring || is_faulty_from r d.from) ≡ true → WaitForNone r (length r.accepted) d.deferred
-  some_waits b e n m lt under apart out right w = grind (arith, both_ways, calm_new, group_faulty)
+  some_waits : (not d.ring || is_faulty_from r d.from) ≡ true → WaitForNone r (length r.accepted) d.deferred
+  some_waits e n m lt under apart out right w = grind (arith, both_ways, calm_new, group_faulty)
 
   all_waits : WaitForNone r (length r.accepted) all
   all_waits n m lt under apart out right w = grind (arith, (i.holds.waits n m), false_from_ne_true, both_ways, pushed_old, pushed_new)
-
-  some_ring : d.ring ≡ false → (m : ℕ) → m < length r.accepted → HasDrain r m → has_ended r m ≡ true
-  some_ring off m lt other = grind (arith, calm_new)
 
   -- if none stays deferred after a group that doesn't drain, what drains has ended
   held_ring : is_faulty_from r d.from ≡ false → not d.ring ≡ false
       → RingDrains r (with_ring (with_deferred d (length r.accepted) (after_going_on r all)) d.group)
   held_ring fine rings off m lt other =
-      grind (arith, ring_off, pushed_new, true_from_ne_false, both_ways, left_calm, told_all, alone_in)
+      grind (arith, ring_off, pushed_new, true_from_ne_false, both_ways, left_calm, told_all, not_alone)
 
   -- a group was accepted, and these are deferred now
   drained_by : (xs : List Deferred) (ring : Bool) → AreTold r 0 xs (length r.accepted) → WaitForNone r (length r.accepted) xs
@@ -71,7 +63,7 @@ module _ (r : Requests) (d : Drains) (i : IsAmid r d) where
 
   group_drained : IsDrained r (with_group r d)
   group_drained = cond_both (not d.ring || is_faulty_from r d.from) _ _ (IsDrained r)
-      (λ some. drained_by d.deferred d.ring (let lt = i.some in order_higher (IsTold r) 0 d.deferred d.from (length r.accepted) (omega (arith, lt)) i.holds.told) (some_waits true some) some_ring)
+      (λ some. drained_by d.deferred d.ring (let lt = i.some in order_higher (IsTold r) 0 d.deferred d.from (length r.accepted) (omega (arith, lt)) i.holds.told) (some_waits some) (λ off m lt other. grind (arith, calm_new)))
       (λ none.
           let p = or_parts (not d.ring) (is_faulty_from r d.from) none in
           drained_by (after_going_on r all) _ (order_still (IsTold r) (is_alone r all) 0 all (length r.accepted) (told_all p.1)) (waits_on r all (length r.accepted) (omega arith) (told_all p.1) all_waits) (held_ring p.1 p.0))
@@ -99,7 +91,13 @@ module _ (l : LinuxRequests) (e : Sqe) (s : IsSettled l) (i : IsDrained l.reques
   more = length_push l.requests.accepted e
 
   keeps : KeepsGroups l.requests q
-  keeps = accepted_keeps l.requests e
+  keeps = record {
+    faults = accepted_faults l.requests e;
+    cut = λ k lt is. last_accepted l.requests e k lt ∙ is;
+    let_in = λ k lt. ap₂ (λ x y. x && not y) (entry_same l.requests e is_past k lt) (refused_accepted l.requests e k lt);
+    drain = entry_same l.requests e is_drain;
+    ended = λ k is. is;
+  }
 
   -- the entry is the first of its group exactly if a group was accepted right before it
   first_is : (l.drains.from == last) ≡ is_first q last
@@ -111,13 +109,10 @@ module _ (l : LinuxRequests) (e : Sqe) (s : IsSettled l) (i : IsDrained l.reques
       let found = some_below_in (is_owed_by q last) last (and_parts (may_take q last) _ takes).1 in
       more_owed l.requests q l.drains keeps i.low i.holds found.0 found.1 (and_parts (owes_drain q found.0) _ found.2).0 (λ f past lt. none_between (may_take q) last found.0 f (not-true _ (and_parts (owes_drain q found.0) _ found.2).1) past lt)
 
-  takes_none : (l.drains.owed && ((l.drains.from == last) && is_let_in q last)) ≡ false → takes_drain q last ≡ false
-  takes_none none = grind (arith, was_owed, first_is)
-
   group_last : next.group ≡ false → has_fault q last ≡ false → marks q last ≡ false
   group_last still fine =
       let p = or_parts (is_granted_drain q last) _ (or_parts l.drains.group _ still).1 in
-      grind (arith, takes_none, (fine_let_in q last fine), p)
+      grind (arith, was_owed, first_is, (fine_let_in q last fine), p)
 
   group : next.group ≡ false → (k : ℕ) → next.from ≤ k → k < length q.accepted → has_fault q k ≡ false → marks q k ≡ false
   group still k le lt fine = elim (cases_lt k last) [
@@ -144,16 +139,10 @@ module _ (l : LinuxRequests) (e : Sqe) (s : IsSettled l) (i : IsDrained l.reques
       let waits = more_waits l.requests q l.drains keeps i.low i.holds in
       grind (arith, begins, told, waits, (more_ring l.requests q l.drains keeps i.low i.holds), group, owed, i.holds.on)
 
-  new_open : is_linked e ≡ true → is_last q last ≡ false
-  new_open linked = grind (arith, (entry_of_accepted_at l.requests e), (s.later last))
-
-  new_last : is_linked e ≡ false → is_last q last ≡ true
-  new_last free = grind (arith, (entry_of_accepted_at l.requests e))
-
   accepted_drained : IsDrained (with_accepted l e).requests (with_accepted l e).drains
   accepted_drained = cond_both (is_linked e) _ _ (IsDrained q)
-      (λ linked. record { low = let low = i.low in omega (arith, low, more); amid = grind (arith, last_accepted, more, new_open); holds = holds })
-      (λ free. group_drained q next (record { some = let low = i.low in omega (arith, low, more); one = grind (arith, last_accepted, i.amid, more); last = grind (arith, new_last, more); holds = holds }))
+      (λ linked. record { low = let low = i.low in omega (arith, low, more); amid = grind (arith, last_accepted, more, entry_of_accepted_at, s.later); holds = holds })
+      (λ free. group_drained q next (record { some = let low = i.low in omega (arith, low, more); one = grind (arith, last_accepted, i.amid, more); last = grind (arith, entry_of_accepted_at, more); holds = holds }))
 
 entries_drained : (l : LinuxRequests) (entries : List Sqe) → IsSettled l → IsDrained l.requests l.drains
     → IsDrained (with_entries l entries).requests (with_entries l entries).drains
@@ -167,39 +156,30 @@ cut_drained : (l : LinuxRequests) → IsDrained l.requests l.drains
     → IsDrained (with_cut l).requests (with_cut l).drains
 cut_drained l i =
     let r = manual.with_cut l.requests in
-    let holds = still_holds l.requests r l.drains (cut_keeps l.requests) i.low i.holds refl in
+    let holds = still_holds l.requests r l.drains (grind (arith, cut_faults, last_kept)) i.low i.holds refl in
     cond_both (nat_lt l.drains.from (length l.requests.accepted)) _ _ (IsDrained r)
     (λ amid. group_drained r l.drains (record { some = ltb-true _ _ amid; one = grind (arith, is_last_cut, i.amid); last = is_last_cut_last l.requests; holds = holds }))
     (λ none. grind (arith, holds))
 
--- A request starts or ends, between calls.
-
-start_drained : (l : LinuxRequests) (n : ℕ) → IsDrained l.requests l.drains
-    → IsDrained (manual.with_started l.requests n) l.drains
-start_drained l n i =
-    let holds = still_holds l.requests (manual.with_started l.requests n) l.drains (started_keeps l.requests n) i.low i.holds refl in
-    assumption (holds, i)
-
-end_drained : (l : LinuxRequests) (n : ℕ) (res : ℤ) (bytes : List ℕ) → IsDrained l.requests l.drains
-    → IsDrained (with_ended l n res bytes).requests (with_ended l n res bytes).drains
-end_drained l n res bytes i =
-    let q = manual.with_ended l.requests n res bytes in
-    let h = still_holds l.requests q l.drains (ended_keeps l.requests n res bytes) i.low i.holds refl in
-    let told = order_still (IsTold q) (is_alone q l.drains.deferred) 0 l.drains.deferred l.drains.from h.told in
-    let waits = waits_on q l.drains.deferred l.drains.from i.low h.told h.waits in
-    assumption (told, waits, h, i)
-
 -- Whatever happened.
-
-nothing_drained : IsDrained manual.no_request (made_by []).drains
-nothing_drained = search (rules, arith)
 
 all_drained : (happened : List Happening) → MayHaveHappened happened
     → IsDrained (made_by happened).requests (made_by happened).drains
-all_drained [] may = nothing_drained
+all_drained [] may = search (rules, arith)
 all_drained (Call entries ∷ earlier) may = grind (arith, all_between, cut_drained, entries_drained, (all_drained earlier may.1))
-all_drained (Start n ∷ earlier) may = start_drained (made_by earlier) n (all_drained earlier may.1)
-all_drained (End n res bytes ∷ earlier) may = end_drained (made_by earlier) n res bytes (all_drained earlier may.1)
+all_drained (Start n ∷ earlier) may =
+    let l = made_by earlier in
+    let i = all_drained earlier may.1 in
+    let holds = still_holds l.requests (manual.with_started l.requests n) l.drains (search (rules, arith)) i.low i.holds refl in
+    assumption (holds, i)
+all_drained (End n res bytes ∷ earlier) may =
+    let l = made_by earlier in
+    let i = all_drained earlier may.1 in
+    let q = manual.with_ended l.requests n res bytes in
+    let h = still_holds l.requests q l.drains (grind (arith, any_kept)) i.low i.holds refl in
+    let told = order_still (IsTold q) (is_alone q l.drains.deferred) 0 l.drains.deferred l.drains.from h.told in
+    let waits = waits_on q l.drains.deferred l.drains.from i.low h.told h.waits in
+    assumption (told, waits, h, i)
 
 -- what isn't deferred, of a group without a fault, waits for nobody that hasn't ended
 pub waits_for_none : (happened : List Happening) → MayHaveHappened happened → (n m : ℕ)

@@ -1,10 +1,7 @@
 -- Of groups that drain by Linux's rules: what is so of the requests whatever happened, and stays as more is accepted after them.
-use Rattle.std.proofs.Common.{◌≡◌, ℕ, suc, ◌<◌, ◌≤◌, ℤ, length, true, false, ◌&&◌, List, not, ap₂, ◌∙◌, sym, arith, ◌⊎◌, rules}
-use Rattle.uring_laws.proofs.Common.{Deferred, Drains, FaultsKept, Requests, Sqe, accepted_faults, and_left, any_kept, cut_faults, drains, entry_of, has_ended, has_fault, is_drain, is_first, is_in_group, is_in_some, is_joined, is_last, is_let_in, is_owed_by, is_past, joined_kept, may_take, nat_lt, order_kept, owes_drain, right_kept, some_below, some_below_between, some_below_same}
+use Rattle.std.proofs.Common.{◌≡◌, ℕ, suc, ◌<◌, ◌≤◌, length, true, false, ◌&&◌, List, ◌∙◌, sym, arith, ◌⊎◌, rules}
+use Rattle.uring_laws.proofs.Common.{Deferred, Drains, FaultsKept, Requests, and_left, drains, entry_of, has_ended, has_fault, is_drain, is_first, is_in_group, is_in_some, is_joined, is_last, is_let_in, is_owed_by, joined_kept, may_take, nat_lt, order_kept, owes_drain, right_kept, some_below, some_below_between, some_below_same}
 use Rattle.uring_linux.specs.LinuxRequests.{is_in_faulty_group}
-use Rattle.uring_entry.specs.Requests as manual
-use Rattle.uring_entry.proofs.GroupEvents.{entry_same}
-use Rattle.uring_linux.proofs.WindowEvents.{refused_accepted, last_accepted, last_kept}
 use Rattle.uring_laws.proofs.LinuxGroups.{marks, IsTold, AreTold, parted}
 
 -- n's group drains, and has no fault
@@ -31,46 +28,6 @@ pub record KeepsGroups (r q : Requests) : Type 0 where
   pub let_in : (k : ℕ) → k < length r.accepted → is_let_in q k ≡ is_let_in r k
   pub drain : (k : ℕ) → k < length r.accepted → is_drain (entry_of q k) ≡ is_drain (entry_of r k)
   pub ended : (k : ℕ) → has_ended r k ≡ true → has_ended q k ≡ true
-
--- then each request takes, owes and makes its group drain as it did
-module _ (r q : Requests) (same : KeepsGroups r q) where
-  first_same : (k : ℕ) → k < length r.accepted → is_first q k ≡ is_first r k
-  first_same k lt = grind (arith, some_below_same, joined_kept r q same.faults)
-
-  take_same : (k : ℕ) → k < length r.accepted → may_take q k ≡ may_take r k
-  take_same k lt = grind (arith, first_same)
-
-  owe_same : (k : ℕ) → k < length r.accepted → owes_drain q k ≡ owes_drain r k
-  owe_same k lt = grind (arith, first_same)
-
-  owed_same : (n k : ℕ) → n < length r.accepted → k < n → is_owed_by q n k ≡ is_owed_by r n k
-  owed_same n k under lt = grind (arith, (owe_same k), (some_below_same (λ f. nat_lt k f && may_take q f) (λ f. nat_lt k f && may_take r f) n), take_same)
-
-  marks_same : (n : ℕ) → n < length r.accepted → marks q n ≡ marks r n
-  marks_same n lt = grind (arith, (some_below_same (is_owed_by q n) (is_owed_by r n) n (λ k low. owed_same n k lt low)), take_same)
-
-  told_more : (g : Deferred) → g.from < g.end → g.end ≤ length r.accepted → IsTold r g → IsTold q g
-  told_more g some within is = grind (arith, marks_same)
-
-pub accepted_keeps : (r : Requests) (e : Sqe) → KeepsGroups r (manual.with_accepted r e)
-accepted_keeps r e = record {
-  faults = accepted_faults r e;
-  cut = λ k lt is. last_accepted r e k lt ∙ is;
-  let_in = λ k lt. ap₂ (λ x y. x && not y) (entry_same r e is_past k lt) (refused_accepted r e k lt);
-  drain = entry_same r e is_drain;
-  ended = λ k is. is;
-}
-
-pub cut_keeps : (r : Requests) → KeepsGroups r (manual.with_cut r)
-cut_keeps r = grind (arith, cut_faults, last_kept)
-
-pub started_keeps : (r : Requests) (n : ℕ) → KeepsGroups r (manual.with_started r n)
-unfolding is_joined
-started_keeps r n = search (rules, arith)
-
-pub ended_keeps : (r : Requests) (n : ℕ) (res : ℤ) (bytes : List ℕ) → KeepsGroups r (manual.with_ended r n res bytes)
-unfolding is_joined
-ended_keeps r n res bytes = grind (arith, any_kept)
 
 -- What is so whatever happened.
 
@@ -105,11 +62,30 @@ pub record IsDrained (r : Requests) (d : Drains) : Type 0 where
 
 -- the same once more was accepted, of what stood before
 module _ (r q : Requests) (d : Drains) (same : KeepsGroups r q) (low : d.from ≤ length r.accepted) (i : Holds r d) where
+  -- each request takes, owes and makes its group drain as it did
+  first_same : (k : ℕ) → k < length r.accepted → is_first q k ≡ is_first r k
+  first_same k lt = grind (arith, some_below_same, joined_kept r q same.faults)
+
+  take_same : (k : ℕ) → k < length r.accepted → may_take q k ≡ may_take r k
+  take_same k lt = grind (arith, first_same)
+
+  owe_same : (k : ℕ) → k < length r.accepted → owes_drain q k ≡ owes_drain r k
+  owe_same k lt = grind (arith, first_same)
+
+  owed_same : (n k : ℕ) → n < length r.accepted → k < n → is_owed_by q n k ≡ is_owed_by r n k
+  owed_same n k under lt = grind (arith, (owe_same k), (some_below_same (λ f. nat_lt k f && may_take q f) (λ f. nat_lt k f && may_take r f) n), take_same)
+
+  marks_same : (n : ℕ) → n < length r.accepted → marks q n ≡ marks r n
+  marks_same n lt = grind (arith, (some_below_same (is_owed_by q n) (is_owed_by r n) n (λ k low. owed_same n k lt low)), take_same)
+
+  told_more : (g : Deferred) → g.from < g.end → g.end ≤ length r.accepted → IsTold r g → IsTold q g
+  told_more g some within is = grind (arith, marks_same)
+
   pub more_begins : (k : ℕ) → suc k ≡ d.from → is_last q k ≡ true
   more_begins k is = same.cut k (omega (arith, is, low)) (i.begins k is)
 
   group_before : (m n : ℕ) → n < d.from → m < d.from → (is_in_group q m n && marks q m) ≡ (is_in_group r m n && marks r m)
-  group_before m n lt under = grind (arith, joined_kept r q same.faults, marks_same r q same)
+  group_before m n lt under = grind (arith, joined_kept r q same.faults, marks_same)
 
   -- a group that was there before drains exactly if it did
   drains_before : (n : ℕ) → n < d.from → drains q n ≡ drains r n
@@ -129,13 +105,13 @@ module _ (r q : Requests) (d : Drains) (same : KeepsGroups r q) (low : d.from �
   more_ring off m lt other = grind (arith, drains_before, right_kept)
 
   pub more_told : AreTold q 0 d.deferred d.from
-  more_told = order_kept (IsTold r) (IsTold q) 0 d.deferred d.from i.told (λ g there some within is. told_more r q same g some (omega (arith, within, low)) is)
+  more_told = order_kept (IsTold r) (IsTold q) 0 d.deferred d.from i.told (λ g there some within is. told_more g some (omega (arith, within, low)) is)
 
   pub more_group : d.group ≡ false → (k : ℕ) → d.from ≤ k → k < length r.accepted → has_fault q k ≡ false → marks q k ≡ false
-  more_group still k le lt fine = grind (arith, (marks_same r q same k lt), (i.group still k le lt), same.faults.fault)
+  more_group still k le lt fine = grind (arith, (marks_same k lt), (i.group still k le lt), same.faults.fault)
 
   pub more_owed : (k : ℕ) → k < length r.accepted → owes_drain q k ≡ true → ((f : ℕ) → k < f → f < length r.accepted → may_take q f ≡ false) → d.owed ≡ true
-  more_owed k lt owes none = grind (arith, (i.owed k lt), (owe_same r q same k lt), (take_same r q same))
+  more_owed k lt owes none = grind (arith, (i.owed k lt), (owe_same k lt), (take_same))
 
   -- and all of it, if no more was accepted
   pub still_holds : length q.accepted ≡ length r.accepted → Holds q d
