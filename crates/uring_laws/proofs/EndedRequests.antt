@@ -1,7 +1,6 @@
 -- What an end leaves of other requests, by either's rules: who can start, who is to end as doomed and who posts; and the drains that two ends leave, in either order.
-use Rattle.std.proofs.Common.{◌≡◌, ◌≢◌, ℕ, ◌<◌, ◌==◌, ℤ, Bool, true, false, not, ◌||◌, List, [], ◌∷◌, ◌++◌, length, refl, sym, ap, ◌∙◌, arith}
-use Rattle.uring_laws.proofs.Common.{Deferred, Drains, Ending, LinuxRequests, Requests, and_from, and_parts, and_right, both_ways, breaker_of, drains_ended, ends_doomed, false_from_ne_true, faulty_ended, first_of, has_ended, has_ended_other, has_ended_same, is_alone, is_cancelled, is_doomed, is_in_faulty_group, is_in_some, is_in_turn, is_joined, is_outstanding, is_ready, is_ready_inside, is_ready_yes, is_running, least_below_same, list_any, list_any_push, may_start, no_bytes, not-true, not_alone, posts, some_below_none, some_member, still_deferred, still_fewer, waits_for, with_ended}
-use Rattle.uring_laws.proofs.AlikeDrains.{going_same}
+use Rattle.std.proofs.Common.{◌≡◌, ◌≢◌, ℕ, ◌<◌, ℤ, Bool, true, false, ◌||◌, List, length, refl, ap, ◌∙◌, arith}
+use Rattle.uring_laws.proofs.Common.{Deferred, LinuxRequests, Requests, and_from, and_right, both_ways, breaker_of, drains_ended, ends_doomed, false_from_ne_true, faulty_ended, first_of, has_ended, has_ended_other, has_ended_same, is_alone, is_cancelled, is_doomed, is_in_faulty_group, is_in_some, is_in_turn, is_joined, is_outstanding, is_ready, is_ready_inside, is_ready_yes, is_running, least_below_same, list_any_push, may_start, no_bytes, not-true, not_alone, posts, some_below_none, some_member, still_deferred, still_fewer, waits_for, with_ended}
 use Rattle.uring_laws.proofs.LinuxSound.{IsFirst, after_end, failure_end, doom_ended, doom_stays, first_ended, turn_first, after_stays}
 use Rattle.uring_laws.proofs.StartedRequests.{CanStart}
 
@@ -40,12 +39,9 @@ module _ (r : Requests) (m : ℕ) (res : ℤ) (bytes : List ℕ) (n : ℕ) where
 
   -- By Linux's rules.
 
-  turn_from : (p : Requests) → IsFirst p n → is_in_turn p n ≡ true
-  unfolding is_in_turn
-  turn_from p first = grind (arith, some_below_none)
-
   turn_end : is_in_turn r n ≡ true → is_in_turn q n ≡ true
-  turn_end turn = turn_from q (first_ended r m res bytes n (turn_first r n turn))
+  unfolding is_in_turn
+  turn_end turn = grind (arith, some_below_none, (first_ended r m res bytes n (turn_first r n turn)))
 
   -- By either's.
 
@@ -82,7 +78,7 @@ pub not_ended : (r : Requests) (n : ℕ) → is_outstanding r n ≡ true → has
 not_ended r n out = grind arith
 
 pub not_over : (r : Requests) (n : ℕ) → is_running r n ≡ true → has_ended r n ≡ false
-not_over r n running = not-true _ (and_parts _ (not (has_ended r n)) running).1
+not_over r n running = grind arith
 
 -- whoever is outstanding after an end isn't the one that ended
 pub other_than : (r : Requests) (m : ℕ) (res : ℤ) (bytes : List ℕ) (n : ℕ)
@@ -109,19 +105,14 @@ none_goes_on l m res n differ a =
     let r : Requests = with_ended l.requests m res no_bytes in
     ap (λ gs. record l.drains { deferred = gs }) (unmoved (is_alone r l.drains.deferred) l.drains.deferred (not_alone r l.drains.deferred n a.accepted (has_ended_other l.requests m res no_bytes n differ ∙ a.still) a.free))
 
-same_numbers : (ended : List Ending) (a b c d : Ending) (k : ℕ) → a.number ≡ d.number → b.number ≡ c.number
-    → list_any (λ e. e.number == k) ((ended ++ a ∷ []) ++ b ∷ []) ≡ list_any (λ e. e.number == k) ((ended ++ c ∷ []) ++ d ∷ [])
-same_numbers ended a b c d k one two = grind (arith, list_any_push)
+-- it doesn't matter which of two ended first
+alone_either : (r : Requests) (m n : ℕ) (x y : ℤ) (xs ys : List ℕ) (groups : List Deferred)
+    → is_alone (with_ended (with_ended r m x xs) n y no_bytes) groups ≡ is_alone (with_ended (with_ended r n y ys) m x no_bytes) groups
+unfolding is_alone
+alone_either r m n x y xs ys groups = simp (list_any_push, either_order)
 
 -- Two that are outstanding and not deferred end: the drains stand the same in either order.
 pub drains_either : (linux : Bool) (l : LinuxRequests) (m n : ℕ) (x y : ℤ) (xs ys : List ℕ) → n ≢ m
     → (linux ≡ true → IsApart l m) → (linux ≡ true → IsApart l n)
     → drains_ended linux (with_end linux l m x xs) n y ≡ drains_ended linux (with_end linux l n y ys) m x
-drains_either true l m n x y xs ys differ one two =
-    let r : Requests = l.requests in
-    let p : Requests = with_ended (with_ended r m x xs) n y no_bytes in
-    let q : Requests = with_ended (with_ended r n y ys) m x no_bytes in
-    ap (λ (d : Drains). drains_ended true (record { requests = with_ended r m x xs; drains = d }) n y) (none_goes_on l m x n differ (two refl))
-    ∙ ap (λ gs. record l.drains { deferred = gs }) (going_same q r.started r.cancelled p.ended (λ k. same_numbers r.ended (record { number = m; res = x; bytes = xs }) (record { number = n; res = y; bytes = no_bytes }) (record { number = n; res = y; bytes = ys }) (record { number = m; res = x; bytes = no_bytes }) k refl refl) l.drains.deferred)
-    ∙ sym (ap (λ (d : Drains). drains_ended true (record { requests = with_ended r n y ys; drains = d }) m x) (none_goes_on l n y m (λ e. differ (sym e)) (one refl)))
-drains_either false l m n x y xs ys differ one two = refl
+drains_either linux l m n x y xs ys differ one two = grind (arith, none_goes_on, alone_either)

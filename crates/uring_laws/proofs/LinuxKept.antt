@@ -66,17 +66,14 @@ module _ (r q : Requests) (d : Drains) (same : KeepsGroups r q) (low : d.from �
   first_same : (k : ℕ) → k < length r.accepted → is_first q k ≡ is_first r k
   first_same k lt = grind (arith, some_below_same, joined_kept r q same.faults)
 
-  take_same : (k : ℕ) → k < length r.accepted → may_take q k ≡ may_take r k
-  take_same k lt = grind (arith, first_same)
-
   owe_same : (k : ℕ) → k < length r.accepted → owes_drain q k ≡ owes_drain r k
   owe_same k lt = grind (arith, first_same)
 
   owed_same : (n k : ℕ) → n < length r.accepted → k < n → is_owed_by q n k ≡ is_owed_by r n k
-  owed_same n k under lt = grind (arith, (owe_same k), (some_below_same (λ f. nat_lt k f && may_take q f) (λ f. nat_lt k f && may_take r f) n), take_same)
+  owed_same n k under lt = grind (arith, (owe_same k), (some_below_same (λ f. nat_lt k f && may_take q f) (λ f. nat_lt k f && may_take r f) n), first_same)
 
   marks_same : (n : ℕ) → n < length r.accepted → marks q n ≡ marks r n
-  marks_same n lt = grind (arith, (some_below_same (is_owed_by q n) (is_owed_by r n) n (λ k low. owed_same n k lt low)), take_same)
+  marks_same n lt = grind (arith, (some_below_same (is_owed_by q n) (is_owed_by r n) n (λ k low. owed_same n k lt low)), first_same)
 
   told_more : (g : Deferred) → g.from < g.end → g.end ≤ length r.accepted → IsTold r g → IsTold q g
   told_more g some within is = grind (arith, marks_same)
@@ -94,12 +91,9 @@ module _ (r q : Requests) (d : Drains) (same : KeepsGroups r q) (low : d.from �
       ∙ some_below_same (λ m. is_in_group q m n && marks q m) (λ m. is_in_group r m n && marks r m) d.from (λ m under. group_before m n lt under)
       ∙ sym (drains_to r n d.from low lt i.begins)
 
-  waits_before : (n m : ℕ) → n < d.from → m < n → Waits q n m → Waits r n m
-  waits_before n m lt under w = grind (arith, drains_before, right_kept)
-
   pub more_waits : WaitForNone q d.from d.deferred
   more_waits n m lt under apart out right w =
-      grind (arith, (i.waits n m lt under), (waits_before n m lt under w), (joined_kept r q same.faults m n), (right_kept r q same.faults n), (same.ended m))
+      grind (arith, (i.waits n m lt under), (drains_before n), (drains_before m), (joined_kept r q same.faults m n), (right_kept r q same.faults), (same.ended m))
 
   pub more_ring : RingDrains q d
   more_ring off m lt other = grind (arith, drains_before, right_kept)
@@ -111,7 +105,7 @@ module _ (r q : Requests) (d : Drains) (same : KeepsGroups r q) (low : d.from �
   more_group still k le lt fine = grind (arith, (marks_same k lt), (i.group still k le lt), same.faults.fault)
 
   pub more_owed : (k : ℕ) → k < length r.accepted → owes_drain q k ≡ true → ((f : ℕ) → k < f → f < length r.accepted → may_take q f ≡ false) → d.owed ≡ true
-  more_owed k lt owes none = grind (arith, (i.owed k lt), (owe_same k lt), (take_same))
+  more_owed k lt owes none = grind (arith, (i.owed k lt), (owe_same k lt), first_same)
 
   -- and all of it, if no more was accepted
   pub still_holds : length q.accepted ≡ length r.accepted → Holds q d

@@ -1,7 +1,7 @@
 -- What holds of the requests of every lawful history by Linux's rules: whoever started or ended did so in its turn, so that it stays as doomed or spared as it was then.
 -- By `Change`, event by event, and over a history by induction (`linux_sound`).
-use Rattle.std.proofs.Common.{◌≡◌, ℕ, ◌+◌, ◌-◌, ◌==◌, ◌<◌, ◌≤◌, ℤ, min, max, List, [], ◌∷◌, length, Bool, true, false, not, ◌&&◌, ◌||◌, refl, sym, subst, ◌∙◌, ap, ap₂, arith}
-use Rattle.uring_laws.proofs.Common.{Answer, Change, Decides-int_eq, Ending, History, IsLawfulApart, IsSoundRequests, LinuxRequests, Requests, Setup, Sqe, Step, World, and_left, and_right, any_kept, any_looser, any_new, asks_to_drain, both_ways, by_linux, cancels, change_of, dooms, entry_kept, entry_of, eqb-true, false_from_ne_true, faulty_ended, finishes, happens, has_ended, has_failed_other, has_fault, has_skipped, has_started, int_eq, is_after_failure, is_after_failure_from, is_after_failure_tells, is_deferred, is_failure_before, is_faulty, is_in_group, is_in_turn, is_joined, is_joined_ended, is_joined_no, is_joined_started, is_last, is_refused_drain, is_success, join_kept, keeps_back, list_any, list_any_push, longer, no_request, not-true, not_from_true, or_from, outstanding_tells, refuses, requests_of, runs, some_below_between, some_below_out, some_below_same, sound_of, with_call, with_ended, with_started, world}
+use Rattle.std.proofs.Common.{◌≡◌, ℕ, ◌-◌, ◌==◌, ◌<◌, ◌≤◌, ℤ, min, max, List, [], ◌∷◌, length, Bool, true, false, not, ◌&&◌, refl, sym, subst, ◌∙◌, ap, arith}
+use Rattle.uring_laws.proofs.Common.{Answer, Change, Decides-int_eq, Ending, History, IsLawfulApart, IsSoundRequests, LinuxRequests, Requests, Setup, Sqe, Step, World, any_kept, any_looser, any_new, both_ways, by_linux, cancels, change_of, dooms, entry_kept, eqb-true, false_from_ne_true, faulty_ended, finishes, happens, has_ended, has_failed_other, has_fault, has_started, int_eq, is_after_failure, is_after_failure_from, is_after_failure_tells, is_deferred, is_failure_before, is_in_group, is_in_turn, is_joined, is_joined_ended, is_joined_no, is_joined_started, is_refused_drain, join_kept, keeps_back, list_any, list_any_push, longer, not-true, or_from, outstanding_tells, refuses, requests_of, runs, some_below_between, some_below_out, some_below_same, sound_of, with_call, with_ended, with_started, world}
 use Rattle.uring_core.proofs.Changes.{takes, drops, closes}
 use Rattle.uring_linux.specs.LinuxRequests.{is_in_faulty_group, is_doomed, doomed_result}
 use Rattle.uring_laws.proofs.Growth.{IsCut}
@@ -76,9 +76,7 @@ module _ (r : Requests) (n : ℕ) (res : ℤ) (bytes : List ℕ) where
   ends_first : has_ended r n ≡ false → res ≡ doomed_result r n
       → list_any (is_otherwise (with_ended r n res bytes) n) (with_ended r n res bytes).ended ≡ false
   ends_first still is =
-      list_any_push (is_otherwise r n) r.ended (record { number = n; res = res; bytes = bytes })
-      ∙ or_from _ _ (false_from_ne_true _ (λ some. both_ways _ still (any_looser (λ e. e.number == n) (λ e. not (int_eq e.res (doomed_result r n))) r.ended some)))
-      (and_right (n == n) _ (not_from_true _ ((Decides-int_eq res (doomed_result r n)).1 is)))
+      grind (arith, list_any_push, (any_looser (λ (e : Ending). e.number == n) (λ e. not (int_eq e.res (doomed_result r n))) r.ended), ((Decides-int_eq res (doomed_result r n)).1 is), or_from, false_from_ne_true)
 
   pub end_linux : has_ended r n ≡ false → IsFirst r n
       → (is_doomed r n ≡ true → res ≡ doomed_result r n) → IsSoundLinux r
@@ -95,8 +93,7 @@ module _ (r : Requests) (n : ℕ) (res : ℤ) (bytes : List ℕ) where
   pub after_stays : (m : ℕ) → is_after_failure r m ≡ true → is_after_failure (with_ended r n res bytes) m ≡ true
   after_stays m after =
       let t = is_after_failure_tells r m after in
-      let f = t.1 in
-      is_after_failure_from (with_ended r n res bytes) m t.0 (record { before = f.before; joined = is_joined_ended r n res bytes t.0 m ∙ f.joined; soft = f.soft; failed = any_kept (λ e. (e.number == t.0) && not (is_success (entry_of r t.0) e.res)) r.ended _ f.failed })
+      grind (arith, (is_after_failure_from (with_ended r n res bytes) m t.0), (is_joined_ended r n res bytes t.0 m), any_kept, t)
 
   pub doom_stays : (m : ℕ) → is_doomed r m ≡ true → is_doomed (with_ended r n res bytes) m ≡ true
   doom_stays m doomed = grind (arith, faulty_ended r n res bytes m, after_stays m, doomed)
@@ -104,30 +101,20 @@ module _ (r : Requests) (n : ℕ) (res : ℤ) (bytes : List ℕ) where
 -- A call accepts entries, and closes: what stands before it stays.
 
 module _ (r : Requests) (entries : List Sqe) (cut : IsCut r) where
-  last_before : (k : ℕ) → k + 1 ≡ length r.accepted → is_last (with_call r entries) k ≡ true
-  last_before k end = grind (arith, any_kept)
-
   -- what is accepted now is of no group before
   group_apart : (m n : ℕ) → length r.accepted ≤ m → n < length r.accepted → is_in_group (with_call r entries) m n ≡ false
-  group_apart m n le below =
-      is_joined_no (with_call r entries) (min m n) (max m n) (length r.accepted - 1) (omega (arith, le, below)) (omega (arith, le, below)) (last_before (length r.accepted - 1) (omega (arith, below)))
-
-  skipped_kept : (n : ℕ) → n < length r.accepted → has_skipped (with_call r entries) n ≡ has_skipped r n
-  skipped_kept n below = grind (arith, some_below_same, entry_kept)
+  group_apart m n le below = grind (arith, (is_joined_no (with_call r entries) (min m n) (max m n) (length r.accepted - 1)), any_kept)
 
   refused_kept : (n : ℕ) → n < length r.accepted → is_refused_drain (with_call r entries) n ≡ is_refused_drain r n
-  refused_kept n below = ap₂ (λ e b. asks_to_drain e && b) (entry_kept r entries cut n below) (skipped_kept n below)
+  refused_kept n below = grind (arith, some_below_same, entry_kept)
 
   fault_kept : (n : ℕ) → n < length r.accepted → has_fault (with_call r entries) n ≡ has_fault r n
-  fault_kept n below = ap₂ (λ e b. is_faulty e || b) (entry_kept r entries cut n below) (refused_kept n below)
+  fault_kept n below = grind (arith, entry_kept, refused_kept)
 
   faulty_kept : (n : ℕ) → n < length r.accepted → is_in_faulty_group (with_call r entries) n ≡ is_in_faulty_group r n
   unfolding is_in_faulty_group
   faulty_kept n below =
-      some_below_between (λ m. is_in_group (with_call r entries) m n && has_fault (with_call r entries) m) (length r.accepted) (length (with_call r entries).accepted) (longer r entries cut)
-      (λ k le lt. and_left _ _ (group_apart k n le below))
-      ∙ some_below_same (λ m. is_in_group (with_call r entries) m n && has_fault (with_call r entries) m) (λ m. is_in_group r m n && has_fault r m) (length r.accepted)
-      (λ k lt. ap₂ (λ x y. x && y) (join_kept r entries cut (min k n) (max k n) (omega (arith, lt, below))) (fault_kept k lt))
+      grind (arith, (some_below_between (λ m. is_in_group (with_call r entries) m n && has_fault (with_call r entries) m) (length r.accepted) (length (with_call r entries).accepted) (longer r entries cut)), group_apart, some_below_same, join_kept, fault_kept)
 
   after_kept : (n : ℕ) → n < length r.accepted → is_after_failure (with_call r entries) n ≡ is_after_failure r n
   unfolding is_after_failure
@@ -135,7 +122,7 @@ module _ (r : Requests) (entries : List Sqe) (cut : IsCut r) where
 
   pub doom_called : (n : ℕ) → n < length r.accepted
       → is_doomed (with_call r entries) n ≡ is_doomed r n
-  doom_called n below = ap₂ (λ x y. x || y) (faulty_kept n below) (after_kept n below)
+  doom_called n below = grind (arith, faulty_kept, after_kept)
 
   result_kept : (n : ℕ) → n < length r.accepted → doomed_result (with_call r entries) n ≡ doomed_result r n
   result_kept n below = grind (arith, entry_kept, refused_kept)
@@ -172,10 +159,7 @@ linux_kept g w s a (cancels n outstanding idle spared ready cancel) i sound =
 linux_kept g w s a (finishes n res bytes running) i sound = grind (arith, end_linux, not-true)
 linux_kept g w s a _ i sound = sound
 
-no_sound : IsSoundLinux no_request
-no_sound = grind arith
-
 pub linux_sound : (g : Setup) (h : History) → IsLawfulApart (by_linux g) h
     → IsSoundLinux (world (by_linux g) h).requests
-linux_sound g [] lawful = no_sound
+linux_sound g [] lawful = grind arith
 linux_sound g ((s, a) ∷ before) lawful = grind (arith, linux_kept, change_of, sound_of, (linux_sound g before lawful.1))

@@ -1,31 +1,20 @@
 -- What why says, from what each case of it says: proofs of the laws on reasons.
-use Rattle.std.proofs.Common.{◌≡◌, ℕ, ◌<◌, ◌≤◌, length, Bool, true, false, not, ◌&&◌, Option, Some, None, is_some, refl, sym, ◌∙◌, ap, arith, inl, inr}
-use Rattle.uring_laws.proofs.Common.{Answer, IsLeast, LinuxRequests, Requests, Setup, World, and_parts, both_ways, cancel_result, cases_lt, doom_of, doomed_result, entry_of, failed_member_of, fault_of, faulty_member_of, first_doom, has_ended, holder_of, holds_back, if◌then◌else◌, is_after_failure, is_cancel, is_cancelled, is_deferred, is_doomed, is_draining, is_failure_before, is_faulty_member, is_in_faulty_group, is_in_turn, is_issuable, is_joined, is_joined_inside, is_joined_yes, is_outstanding, is_ready, is_ready_inside, is_running, is_some_least_below, issue_answer, keeps_back, least_below, least_below_none, least_below_tells, no_bytes, not-true, requests_of, since_of, some_member, waiting_for, waits_for, why_of, ◌↔◌, ◌⊎◌}
+use Rattle.std.proofs.Common.{◌≡◌, ℕ, ◌<◌, ◌≤◌, length, Bool, true, false, not, Option, Some, None, is_some, refl, sym, ◌∙◌, ap, arith, inl, inr}
+use Rattle.uring_laws.proofs.Common.{IsLeast, Requests, both_ways, cases_lt, doom_of, entry_of, failed_member_of, fault_of, faulty_member_of, first_doom, has_ended, holder_of, holds_back, is_after_failure, is_cancelled, is_doomed, is_draining, is_failure_before, is_faulty_member, is_in_faulty_group, is_in_turn, is_issuable, is_joined, is_joined_inside, is_joined_yes, is_outstanding, is_ready, is_running, is_some_least_below, keeps_back, least_below, least_below_tells, since_of, some_member, waits_for, why_of, ◌↔◌, ◌⊎◌}
 use Rattle.uring_entry.specs.declared.fault.Fault.{Fault}
 use Rattle.uring_entry.specs.declared.why.Why.{Why}
 use Rattle.uring_entry.specs.declared.why.Why.TheVariants.{NeverAccepted, HasEnded, Runs, IsDoomed, Waits, MayStart}
 use Rattle.uring_entry.specs.declared.why.Doom.{Doom}
 use Rattle.uring_entry.specs.declared.why.Since.{Since}
-use Rattle.uring_entry.proofs.WhyLemmas.{StillWaits, IsTold, told, told_as, why_waiting}
-use Rattle.uring_linux.specs.LinuxRequests as kernel
-use Rattle.uring_linux.specs.LinuxWhy as kernel_why
-use Rattle.uring_linux.specs.LinuxWhy.{kept_back_by, least_free_of}
-use Rattle.uring_rules.specs.Rules as by_rules
-use Rattle.uring_core.specs.declared.answer.Answer.TheVariants as answer
-use Rattle.uring_laws.specs.Reasons.{answer_told, AnswerAgrees, can_be_issued, IsUnstarted, CanStart, IsSince, IsWaiting, IsLeastOf, IsDoomOf, GoesOn}
+use Rattle.uring_entry.proofs.WhyLemmas.{IsTold, told, told_as}
+use Rattle.uring_laws.specs.Reasons.{AnswerAgrees, can_be_issued, IsUnstarted, CanStart, IsSince, IsWaiting, IsLeastOf, IsDoomOf, GoesOn}
 
 -- Standing.
-
-told_unstarted : (r : Requests) (n : ℕ) → IsUnstarted r n → StillWaits r n
-told_unstarted r n u = grind arith
 
 -- whom nothing holds back is ready, and the other way round
 ready_is : (r : Requests) (n : ℕ) → is_ready r n ≡ not (is_some (holder_of r n))
 unfolding is_ready
 ready_is r n = ap not (sym (is_some_least_below (holds_back r n) n))
-
-none_ready : (r : Requests) (n : ℕ) → is_ready r n ≡ true → holder_of r n ≡ None
-none_ready r n ready = grind (arith, least_below_none, is_ready_inside)
 
 -- Who was never accepted, has ended or runs.
 
@@ -50,7 +39,7 @@ pub may_start_said : (r : Requests) (n : ℕ) → why_of r n ≡ MayStart → Ca
 may_start_said r n e = grind (arith, ready_is, is_some)
 
 pub said_may_start : (r : Requests) (n : ℕ) → CanStart r n → why_of r n ≡ MayStart
-said_may_start r n c = why_waiting r n (told_unstarted r n c.unstarted) c.free ∙ ap (waiting_for r n) (none_ready r n c.ready)
+said_may_start r n c = grind (arith, ready_is, is_some)
 
 -- What it waits for.
 
@@ -111,7 +100,7 @@ stands r m given going = by_why (why_of r m) refl (told r m) where
 
 -- whoever holds another back hasn't ended
 holder_going : (r : Requests) (n m : ℕ) → holds_back r n m ≡ true → has_ended r m ≡ false
-holder_going r n m holds = not-true _ (and_parts (not (has_ended r m)) (waits_for r n m) holds).0
+holder_going r n m holds = grind arith
 
 free_parts : (r : Requests) (n m : ℕ) → has_ended r m ≡ false → holds_back r n m ≡ false
     → (is_joined r m n ≡ false) × (is_draining r m ≡ false) × (is_draining r n ≡ false)
@@ -146,37 +135,7 @@ two_steps r n m since e =
       | waits_on k other is b ↦ grind (arith, stands, holder_going, three_none)
     ]
 
--- The answer to an Issue, by the manual pages' rules.
-
-abbrev asked_by : World → ℕ → (outstanding running doomed ready : Bool) → Answer
-asked_by w n outstanding running doomed ready =
-    if not outstanding then answer.Unknown else
-    if running then answer.Running else
-    if doomed then answer.Ended (doomed_result w.requests n) no_bytes else
-    if not ready then answer.NotReady else
-    if is_cancel (entry_of w.requests n) then answer.Ended (cancel_result w.requests n) no_bytes else
-    answer.Run
-
-manual_agrees : (w : World) (n : ℕ)
-    → asked_by w n (is_outstanding w.requests n) (is_running w.requests n) (is_doomed w.requests n) (is_ready w.requests n)
-    ≡ answer_told false w.requests n (why_of w.requests n)
-manual_agrees w n = grind (arith, ready_is)
-
--- By Linux's rules.
-
--- the tests that are left in its turn, with what the next two give
-abbrev in_turn : Requests → ℕ → (doomed free : Bool) → Answer
-in_turn r n doomed free =
-    if doomed then answer.Ended (kernel.doomed_result r n) no_bytes else
-    if not free then answer.NotReady else
-    if is_cancel (entry_of r n) then answer.Ended (kernel.cancel_result r n) no_bytes else
-    answer.Run
-
-abbrev kernel_asked : LinuxRequests → ℕ → (outstanding running turn : Bool) → Answer
-kernel_asked l n outstanding running turn =
-    if not outstanding then answer.Unknown else
-    if running then answer.Running else
-    in_turn l.requests n (turn && kernel.is_doomed l.requests n) (turn && not (is_deferred l n))
+-- The answer to an Issue, by either's rules.
 
 -- whom no earlier member of its group keeps back is in its turn
 turn_is : (r : Requests) (n : ℕ)
@@ -184,18 +143,5 @@ turn_is : (r : Requests) (n : ℕ)
 unfolding is_in_turn
 turn_is r n = ap not (sym (is_some_least_below (keeps_back r n) n))
 
-linux_agrees : (l : LinuxRequests) (n : ℕ)
-    → kernel_asked l n (is_outstanding l.requests n) (is_running l.requests n) (is_in_turn l.requests n)
-    ≡ answer_told true l.requests n (kernel_why.why_of l n)
-linux_agrees l n = grind (arith, turn_is)
-
--- By either's.
-
-agrees_by : (linux : Bool) (g : Setup) (w : World) (n : ℕ)
-    → issue_answer (record g { linux = linux }) w n
-    ≡ answer_told linux w.requests n (by_rules.why_of linux (requests_of w) n)
-agrees_by true g w n = linux_agrees (requests_of w) n
-agrees_by false g w n = manual_agrees w n
-
 pub answer_agrees : AnswerAgrees
-answer_agrees g w n = agrees_by g.linux g w n
+answer_agrees g w n = grind (arith, turn_is, ready_is)

@@ -1,8 +1,7 @@
 -- The steps on the submission ring change places with those on requests and completions: `submission_then_rest` and `rest_then_submission`. Neither side reads what the other writes, by either's rules.
-use Rattle.std.proofs.Common.{◌≡◌, ℕ, ℤ, Bool, true, false, List, ◌∷◌, refl, sym, subst, ap, ◌∙◌}
-use Rattle.uring_laws.proofs.Common.{Answer, CalledFor, Change, ChangePlaces, Completions, Drains, Ending, History, IsLawful, IsOnRest, IsOnSubmission, Requests, RestThenSubmission, Setup, Step, Submission, SubmissionThenRest, World, cancels, change_of, dooms, drains_ended, happens, no_bytes, refuses, requests_of, with_end_of, world}
+use Rattle.std.proofs.Common.{◌≡◌, ℕ, ℤ, List, ◌∷◌, sym, subst, ap, ◌∙◌, arith}
+use Rattle.uring_laws.proofs.Common.{Answer, CalledFor, Change, ChangePlaces, History, IsLawful, IsOnRest, IsOnSubmission, RestThenSubmission, Setup, Step, Submission, SubmissionThenRest, World, cancels, change_of, dooms, happens, refuses, world}
 use Rattle.uring_core.proofs.Changes.{takes, drops}
-use Rattle.uring_rules.specs.Rules.{with_issued_end}
 use Rattle.uring_core.specs.declared.step.Step.TheVariants as step
 use Rattle.uring_core.specs.declared.answer.Answer.TheVariants as answer
 use Rattle.uring_laws.proofs.Swapping.{alike_same}
@@ -12,33 +11,20 @@ use Rattle.uring_laws.proofs.WholeLaws.{lawful_apart}
 abbrev submitted : World → Submission → World
 submitted w x = record w { submission = x }
 
--- what a step on requests and completions may change
-record Rest : Type 0 where
-  started : List ℕ
-  cancelled : List ℕ
-  ended : List Ending
-  drains : Drains
-  completions : Completions
-
-abbrev with_rest : World → Rest → World
-with_rest w x = record w { requests = record w.requests { started = x.started; cancelled = x.cancelled; ended = x.ended }; drains = x.drains; completions = x.completions }
-
-abbrev rest_of : World → Rest
-rest_of w = record { started = w.requests.started; cancelled = w.requests.cancelled; ended = w.requests.ended; drains = w.drains; completions = w.completions }
+-- the world w, with what a step on requests and completions may change as it is in v
+abbrev with_rest : World → World → World
+with_rest w v = record w { requests = record w.requests { started = v.requests.started; cancelled = v.requests.cancelled; ended = v.requests.ended }; drains = v.drains; completions = v.completions }
 
 -- Each side changes its own alone.
 
 -- it is the only one that changes, and whatever the rest is
 record OnSubmission (g : Setup) (w : World) (s : Step) (a : Answer) : Type 0 where
   alone : happens g w s a ≡ submitted w (happens g w s a).submission
-  beside : (x : Rest) → happens g (with_rest w x) s a ≡ with_rest (happens g w s a) x
+  beside : (v : World) → happens g (with_rest w v) s a ≡ with_rest (happens g w s a) v
 
 on_submission : (g : Setup) (w : World) (s : Step) (a : Answer) → Change g w s a → IsOnSubmission s
     → OnSubmission g w s a
-on_submission g w s a (refuses _ _ same silent) on = record {
-  alone = same w ∙ ap (λ (v : World). submitted w v.submission) (sym (same w));
-  beside = λ x. same (with_rest w x) ∙ ap (λ (v : World). with_rest v x) (sym (same w));
-}
+on_submission g w s a (refuses _ _ same silent) on = grind arith
 on_submission g w s a (takes entry call place opened left at valid) on =
     record { alone = rw opened; beside = λ x. rw opened }
 on_submission g w s a (drops call place opened left at invalid) on =
@@ -46,32 +32,19 @@ on_submission g w s a (drops call place opened left at invalid) on =
 on_submission g w s a _ on = search
 
 -- an end as a request is issued changes neither entries nor cuts, by either's rules
-issued_alone : (linux : Bool) (r : Requests) (n : ℕ) (res : ℤ)
-    → with_issued_end linux r n res
-    ≡ record r { started = (with_issued_end linux r n res).started; cancelled = (with_issued_end linux r n res).cancelled; ended = (with_issued_end linux r n res).ended }
-issued_alone true r n res = refl
-issued_alone false r n res = refl
-
 ends_alone : (g : Setup) (w : World) (n : ℕ) (res : ℤ) (bytes : List ℕ)
-    → happens g w (step.Issue n) (answer.Ended res bytes)
-    ≡ with_rest w (rest_of (happens g w (step.Issue n) (answer.Ended res bytes)))
-ends_alone g w n res bytes =
-    ap (λ (q : Requests). record w { requests = q; drains = drains_ended g.linux (requests_of w) n res; completions = with_end_of g w n res no_bytes }) (issued_alone g.linux w.requests n res)
+    → happens g w (step.Issue n) (answer.Ended res bytes) ≡ with_rest w (happens g w (step.Issue n) (answer.Ended res bytes))
+ends_alone g w n res bytes = grind arith
 
 -- the rest is all that changes, and whatever the submission ring is
 record OnRest (g : Setup) (w : World) (t : Step) (b : Answer) : Type 0 where
-  alone : happens g w t b ≡ with_rest w (rest_of (happens g w t b))
+  alone : happens g w t b ≡ with_rest w (happens g w t b)
   beside : (x : Submission) → happens g (submitted w x) t b ≡ submitted (happens g w t b) x
 
 on_rest : (g : Setup) (w : World) (t : Step) (b : Answer) → Change g w t b → IsOnRest t → OnRest g w t b
-on_rest g w t b (refuses _ _ same silent) on = record {
-  alone = same w ∙ ap (λ (v : World). with_rest w (rest_of v)) (sym (same w));
-  beside = λ x. same (submitted w x) ∙ ap (λ (v : World). submitted v x) (sym (same w));
-}
-on_rest g w t b (dooms n outstanding idle doomed) on =
-    record { alone = ends_alone g w n _ no_bytes; beside = λ x. refl }
-on_rest g w t b (cancels n outstanding idle spared ready cancel) on =
-    record { alone = ends_alone g w n _ no_bytes; beside = λ x. refl }
+on_rest g w t b (refuses _ _ same silent) on = grind arith
+on_rest g w t b (dooms n outstanding idle doomed) on = grind (arith, ends_alone)
+on_rest g w t b (cancels n outstanding idle spared ready cancel) on = grind (arith, ends_alone)
 on_rest g w t b _ on = search
 
 -- Answers.
@@ -80,7 +53,7 @@ on_rest g w t b _ on = search
 abbrev CalledAlike : Setup → World → World → Step → Answer → Type 0
 CalledAlike g v w s a = (CalledFor g v s a → CalledFor g w s a) × (CalledFor g w s a → CalledFor g v s a)
 
-sub_called : (g : Setup) (w : World) (x : Rest) (s : Step) (a : Answer) → IsOnSubmission s
+sub_called : (g : Setup) (w x : World) (s : Step) (a : Answer) → IsOnSubmission s
     → CalledAlike g w (with_rest w x) s a
 sub_called g w x (step.Issue n) a on = absurd on
 sub_called g w x _ a on = search
@@ -98,25 +71,15 @@ both_sides : (g : Setup) (h : History) (s t : Step) (a b : Answer) → IsOnSubmi
     → CalledFor g (world g h) s a → CalledFor g (world g h) t b → IsLawful g h → Sides g h s t a b
 both_sides g h s t a b on other one two lawful =
     let w : World = world g h in
-    let c : Change g w s a = change_of g w s a (lawful_apart g ((s, a) ∷ h) (one, lawful)).0 in
-    let d : Change g w t b = change_of g w t b (lawful_apart g ((t, b) ∷ h) (two, lawful)).0 in
-    let x : Submission = (happens g w s a).submission in
-    let y : Rest = rest_of (happens g w t b) in
-    let one_side : OnSubmission g w s a = on_submission g w s a c on in
-    let other_side : OnRest g w t b = on_rest g w t b d other in
-    let sub : happens g w s a ≡ submitted w x = one_side.alone in
-    let rest : happens g w t b ≡ with_rest w y = other_side.alone in
-    let left : world g ((t, b) ∷ (s, a) ∷ h) ≡ submitted (with_rest w y) x = ap (λ (v : World). happens g v t b) sub ∙ (other_side.beside x ∙ ap (λ (v : World). submitted v x) rest) in
-    let right : world g ((s, a) ∷ (t, b) ∷ h) ≡ submitted (with_rest w y) x = ap (λ (v : World). happens g v s a) rest ∙ (one_side.beside y ∙ ap (λ (v : World). with_rest v y) sub) in
+    let v : World = happens g w s a in
+    let u : World = happens g w t b in
+    let c = on_submission g w s a (change_of g w s a (lawful_apart g ((s, a) ∷ h) (one, lawful)).0) on in
+    let d = on_rest g w t b (change_of g w t b (lawful_apart g ((t, b) ∷ h) (two, lawful)).0) other in
+    let left : happens g v t b ≡ submitted (with_rest w u) v.submission = ap (λ (v : World). happens g v t b) c.alone ∙ (d.beside v.submission ∙ ap (λ (u : World). submitted u v.submission) d.alone) in
+    let right : happens g u s a ≡ submitted (with_rest w u) v.submission = ap (λ (u : World). happens g u s a) d.alone ∙ (c.beside u ∙ ap (λ (v : World). with_rest v u) c.alone) in
     record {
-      later = record {
-        lawful = (subst (λ v. CalledFor g v s a) (sym rest) ((sub_called g w y s a on).0 one), (two, lawful));
-        alike = alike_same g _ _ (left ∙ sym right);
-      };
-      earlier = record {
-        lawful = (subst (λ v. CalledFor g v t b) (sym sub) ((rest_called g w x t b other).0 two), (one, lawful));
-        alike = alike_same g _ _ (right ∙ sym left);
-      };
+      later = record { lawful = (subst (λ v. CalledFor g v s a) (sym d.alone) ((sub_called g w u s a on).0 one), (two, lawful)); alike = alike_same g _ _ (left ∙ sym right) };
+      earlier = record { lawful = (subst (λ v. CalledFor g v t b) (sym c.alone) ((rest_called g w v.submission t b other).0 two), (one, lawful)); alike = alike_same g _ _ (right ∙ sym left) };
     }
 
 pub submission_then_rest : (g : Setup) → SubmissionThenRest g
@@ -130,5 +93,5 @@ pub rest_then_submission : (g : Setup) → RestThenSubmission g
 rest_then_submission g h s t a b on other lawful =
     let w : World = world g h in
     let d : Change g w t b = change_of g w t b (lawful_apart g ((t, b) ∷ h) lawful.1).0 in
-    let one : CalledFor g w s a = (sub_called g w (rest_of (happens g w t b)) s a on).1 (subst (λ v. CalledFor g v s a) (on_rest g w t b d other).alone lawful.0) in
+    let one : CalledFor g w s a = (sub_called g w (happens g w t b) s a on).1 (subst (λ v. CalledFor g v s a) (on_rest g w t b d other).alone lawful.0) in
     (both_sides g h s t a b on other one lawful.1.0 lawful.1.1).earlier

@@ -1,8 +1,8 @@
 -- The laws of `calls.rt`: a ring that stands between calls refuses nothing that belongs to a whole call.
 -- Each from the answer that is called for, with `Stands` for what the definitions test; no history is needed.
 -- Stable: other crates may import what is pub.
-use Rattle.std.proofs.Common.{◌≡◌, ℕ, ◌+◌, ◌-◌, ◌<◌, ◌≤◌, Bool, false, List, [], ◌∷◌, ◌++◌, length, map, get_or, Option, Some, None, slice_get, if◌then◌else◌, refl, sym, ap, ap₂, ◌∙◌, arith, append_assoc, append-nil}
-use Rattle.uring_laws.proofs.Common.{All, All-head, All-tail, Answer, CallCloses, CallOpens, CalledForApart, FreeSlotIsFilled, IsItem, ItemsArePublished, Place, PositionIsTaken, Published, Setup, Sqe, Stands, Submission, TailPublishes, WordIsStaged, World, bad_word, ends_after, entry_answer, eq-eqb, happens, in_call, is_busy, is_full, item_of, le-ltb, length-append, length-map, lt-ltb, map-append, nat_le, ne_eqb, place_answer, place_of, slice_get-get_or, staged, sum_by_push, taken, taking, with_entry, with_item, with_items}
+use Rattle.std.proofs.Common.{◌≡◌, ℕ, ◌+◌, ◌<◌, ◌≤◌, false, List, [], ◌∷◌, ◌++◌, length, map, get_or, Option, Some, None, slice_get, if◌then◌else◌, refl, sym, ap, ap₂, ◌∙◌, arith, append_assoc, append-nil}
+use Rattle.uring_laws.proofs.Common.{All, All-head, All-tail, Answer, CallCloses, CallOpens, CalledForApart, FreeSlotIsFilled, IsItem, ItemsArePublished, Place, PositionIsTaken, Published, Setup, Sqe, Stands, Submission, TailPublishes, WordIsStaged, World, bad_word, ends_after, entry_answer, eq-eqb, happens, in_call, is_busy, is_full, item_of, le-ltb, length-append, length-map, lt-ltb, map-append, ne_eqb, place_answer, place_of, slice_get-get_or, sum_by_push, taken, taking, with_entry, with_item, with_items}
 use Rattle.std.proofs.Math.ListN.{drop_of_length-le}
 use Rattle.uring_core.specs.declared.step.Step.TheVariants as step
 use Rattle.uring_core.specs.declared.answer.Answer.TheVariants as answer
@@ -17,20 +17,13 @@ slots_free l words slot s = grind (arith, drop_of_length-le)
 -- the ring has room for further words
 pub room_left : (size : ℕ) (l : Submission) (words : List ℕ) → Stands l words 0
     → length words < size → is_full size l ≡ false
-room_left size l words s few = ne_eqb (staged l - l.seen_head) size (λ full. omega (arith, full, s.head, s.waiting, ap length s.fresh))
-
-fill_free : (slot size : ℕ) (busy : Bool) → slot < size → busy ≡ false
-    → (if nat_le size slot then answer.NoSlot else (if busy then answer.Busy else answer.Filled))
-    ≡ answer.Filled
-fill_free slot size busy low free = grind arith
+room_left size l words s few = grind (arith, (ap length s.fresh))
 
 pub slot_filled : (g : Setup) → FreeSlotIsFilled g
-slot_filled g w words slot entry a s low called =
-    (called ∙ fill_free slot g.sq _ low (slots_free w.submission words slot s), record { fresh = s.fresh; call = s.call; head = s.head; waiting = s.waiting })
+slot_filled g w words slot entry a s low called = grind (arith, slots_free)
 
 pub word_staged : (g : Setup) → WordIsStaged g
-word_staged g w words word a s few called =
-    (called ∙ ap (λ full. if full then answer.Full else answer.Staged) (room_left g.sq w.submission words s few), record { fresh = ap (λ xs. xs ++ word ∷ []) s.fresh; call = s.call; head = s.head; waiting = s.waiting })
+word_staged g w words word a s few called = grind (arith, room_left)
 
 pub tail_publishes : (g : Setup) → TailPublishes g
 tail_publishes g l words s = grind (arith, length-append, length-map)
@@ -46,25 +39,18 @@ words_of slot (bad_word word ∷ later) = word ∷ words_of (slot + 1) later
 pub items_fresh : (l : Submission) (slot : ℕ) (items : List Published)
     → (with_items l slot items).fresh ≡ l.fresh ++ words_of slot items
 items_fresh l slot [] = sym (append-nil l.fresh)
-items_fresh l slot (with_entry entry ∷ later) = items_fresh (with_item l slot (with_entry entry)) (slot + 1) later ∙ append_assoc l.fresh (slot ∷ []) (words_of (slot + 1) later)
-items_fresh l slot (bad_word word ∷ later) = items_fresh (with_item l slot (bad_word word)) (slot + 1) later ∙ append_assoc l.fresh (word ∷ []) (words_of (slot + 1) later)
+items_fresh l slot (item ∷ later) = grind (arith, (items_fresh (with_item l slot item) (slot + 1) later), append_assoc)
 
 pub items_keep : (l : Submission) (slot : ℕ) (items : List Published)
     → (with_items l slot items).published ≡ l.published
 items_keep l slot [] = refl
-items_keep l slot (with_entry entry ∷ later) =
-    items_keep (with_item l slot (with_entry entry)) (slot + 1) later
-items_keep l slot (bad_word word ∷ later) =
-    items_keep (with_item l slot (bad_word word)) (slot + 1) later
+items_keep l slot (item ∷ later) = grind (arith, (items_keep (with_item l slot item) (slot + 1) later))
 
 -- the slots before the first are as they were
 slots_below : (l : Submission) (slot : ℕ) (items : List Published) (s : ℕ) → s < slot
     → (with_items l slot items).content s ≡ l.content s
 slots_below l slot [] s low = refl
-slots_below l slot (with_entry entry ∷ later) s low =
-    slots_below (with_item l slot (with_entry entry)) (slot + 1) later s (omega arith) ∙ ap (λ b. if b then entry else l.content s) (ne_eqb s slot (λ same. omega arith))
-slots_below l slot (bad_word word ∷ later) s low =
-    slots_below (with_item l slot (bad_word word)) (slot + 1) later s (omega arith)
+slots_below l slot (item ∷ later) s low = grind (arith, (slots_below (with_item l slot item) (slot + 1) later s))
 
 -- each item is read back from its slot
 read_back : (size : ℕ) (l : Submission) (slot : ℕ) (items : List Published)

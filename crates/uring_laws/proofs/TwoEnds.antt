@@ -1,7 +1,6 @@
 -- Two ends change places, by either's rules: `finishes_change` and `doomed_ends_change`. The doomed change no file, and stay doomed.
-use Rattle.std.proofs.Common.{◌≡◌, ◌≢◌, ℕ, ℤ, Bool, true, false, if◌then◌else◌, List, ◌∷◌, refl, sym, subst, ap, ap₂, ◌∙◌, ◌⊎◌, inl, inr}
-use Rattle.uring_laws.proofs.Common.{AreAlike, CalledFor, ChangePlaces, Completions, DontMeet, DoomedEndsChange, Event, FileContents, FinishesChange, History, IsIssue, IsLawful, IsOutcome, Op, Outcome, PostsNothing, Requests, Setup, World, after, both_ways, completion_for, empty_files, ends_doomed, entry_of, files_ended, files_kept, files_of, happens, has_ended, has_ended_same, is_running_ended_other, operation_of, posts, requests_of, with_end_of, with_ended, with_posted, world}
-use Rattle.uring_core.specs.declared.step.Step.TheVariants as step
+use Rattle.std.proofs.Common.{◌≡◌, ◌≢◌, ℕ, ℤ, Bool, true, false, List, ◌∷◌, refl, sym, subst, ap, ap₂, ◌∙◌, ◌⊎◌, inl, inr, arith}
+use Rattle.uring_laws.proofs.Common.{AreAlike, CalledFor, ChangePlaces, DontMeet, DoomedEndsChange, Event, FileContents, FinishesChange, History, IsIssue, IsLawful, IsOutcome, Op, Outcome, PostsNothing, Requests, Setup, World, after, both_ways, ends_doomed, entry_of, files_ended, files_kept, files_of, happens, has_ended, has_ended_same, is_running_ended_other, operation_of, posts, requests_of, with_end_of, with_ended, world}
 use Rattle.uring_core.specs.declared.answer.Answer.TheVariants as answer
 use Rattle.uring_laws.proofs.Alike.{HaveSameRings, with_files}
 use Rattle.uring_laws.proofs.EndedRequests.{outstanding_end, ends_doomed_stays, posts_end, drains_either}
@@ -11,37 +10,12 @@ use Rattle.uring_laws.proofs.WholeLaws.{lawful_apart}
 
 -- Completions.
 
--- an end that posts nothing leaves the completions as they are
-silent : (g : Setup) (w : World) (n : ℕ) (res : ℤ) (bytes : List ℕ) → posts g.linux w.requests n res ≡ false
-    → with_end_of g w n res bytes ≡ w.completions
-silent g w n res bytes none =
-    ap (λ b. if b then with_posted g.cq w.completions (completion_for (entry_of w.requests n) res bytes) else w.completions) none
-
--- what n posts after the end of another, on which whether it posts doesn't depend
-posted_after : (g : Setup) (w : World) (m n : ℕ) (x y : Outcome)
-    → posts g.linux (with_ended w.requests m x.res x.bytes) n y.res ≡ posts g.linux w.requests n y.res
-    → with_end_of g (ended g w m x) n y.res y.bytes
-    ≡ (if posts g.linux w.requests n y.res then with_posted g.cq (with_end_of g w m x.res x.bytes) (completion_for (entry_of w.requests n) y.res y.bytes) else with_end_of g w m x.res x.bytes)
-posted_after g w m n x y same =
-    ap (λ b. if b then with_posted g.cq (with_end_of g w m x.res x.bytes) (completion_for (entry_of w.requests n) y.res y.bytes) else with_end_of g w m x.res x.bytes) same
-
--- two ends of which one posts nothing
-posted_first : (g : Setup) (w : World) (m n : ℕ) (x y : Outcome) → posts g.linux w.requests m x.res ≡ false
-    → posts g.linux (with_ended w.requests m x.res x.bytes) n y.res ≡ posts g.linux w.requests n y.res
-    → posts g.linux (with_ended w.requests n y.res y.bytes) m x.res ≡ posts g.linux w.requests m x.res
-    → with_end_of g (ended g w m x) n y.res y.bytes ≡ with_end_of g (ended g w n y) m x.res x.bytes
-posted_first g w m n x y none later earlier =
-    posted_after g w m n x y later
-    ∙ ap (λ (k : Completions). if posts g.linux w.requests n y.res then with_posted g.cq k (completion_for (entry_of w.requests n) y.res y.bytes) else k) (silent g w m x.res x.bytes none)
-    ∙ sym (silent g (ended g w n y) m x.res x.bytes (earlier ∙ none))
-
 posted_alike : (g : Setup) (w : World) (m n : ℕ) (x y : Outcome)
     → (posts g.linux w.requests m x.res ≡ false) ⊎ (posts g.linux w.requests n y.res ≡ false)
     → posts g.linux (with_ended w.requests m x.res x.bytes) n y.res ≡ posts g.linux w.requests n y.res
     → posts g.linux (with_ended w.requests n y.res y.bytes) m x.res ≡ posts g.linux w.requests m x.res
     → with_end_of g (ended g w m x) n y.res y.bytes ≡ with_end_of g (ended g w n y) m x.res x.bytes
-posted_alike g w m n x y (inl none) later earlier = posted_first g w m n x y none later earlier
-posted_alike g w m n x y (inr none) later earlier = sym (posted_first g w n m y x none earlier later)
+posted_alike g w m n x y quiet later earlier = grind arith
 
 two_rings : (g : Setup) (w : World) (m n : ℕ) (x y : Outcome) → n ≢ m
     → has_ended w.requests m ≡ false → has_ended w.requests n ≡ false
@@ -68,9 +42,7 @@ changed false files op res = files
 leaves : (g : Setup) (h : History) (runs : Bool) (n : ℕ) (x : Outcome) → IsLawful g (end_by runs n x ∷ h)
     → files_of g (world g (end_by runs n x ∷ h))
     ≡ changed runs (files_of g (world g h)) (operation_of (entry_of (world g h).requests n)) x.res
-leaves g h true n x lawful = files_ended (world g h).requests n x.res x.bytes (empty_files g.files)
-leaves g h false n x lawful =
-    files_kept g (step.Issue n) (answer.Ended x.res x.bytes) h (lawful_apart g (end_by false n x ∷ h) lawful) tt
+leaves g h runs n x lawful = grind (arith, files_ended, files_kept, lawful_apart)
 
 -- whoever runs gives the same in the other order, which leaves the same
 record Pass (files : List FileContents) (b c : Bool) (d : Op) (x : Outcome) (e : Op) (y : Outcome) : Type 0 where
@@ -81,35 +53,24 @@ record Pass (files : List FileContents) (b c : Bool) (d : Op) (x : Outcome) (e :
 pass : (files : List FileContents) (b c : Bool) (d : Op) (x : Outcome) (e : Op) (y : Outcome)
     → (b ≡ true → c ≡ true → DontMeet files d x e y) → (b ≡ true → IsOutcome files d x)
     → (c ≡ true → IsOutcome (changed b files d x.res) e y) → Pass files b c d x e y
-pass files true true d x e y apart one two =
-    record { first = λ _. (apart refl refl).first; second = λ _. (apart refl refl).second; leave = (apart refl refl).leave }
-pass files true false d x e y apart one two = record { first = λ no. absurd cc; second = one; leave = refl }
-pass files false true d x e y apart one two = record { first = two; second = λ no. absurd cc; leave = refl }
-pass files false false d x e y apart one two =
-    record { first = two; second = λ no. absurd cc; leave = refl }
+pass files b c d x e y apart one two = grind arith
 
 gives : (g : Setup) (w : World) (runs : Bool) (n : ℕ) (x : Outcome) → MayEnd g w runs n x → runs ≡ true
     → IsOutcome (files_of g w) (operation_of (entry_of w.requests n)) x
-gives g w true n x may is = may.1
-gives g w false n x may is = absurd cc
+gives g w runs n x may is = grind arith
 
 -- Who may end beside the end of another.
 
 module _ (g : Setup) (w : World) (m n : ℕ) (x y : Outcome) (differ : n ≢ m) where
   may_after : (runs : Bool) → (runs ≡ true → IsOutcome (files_of g (ended g w m x)) (operation_of (entry_of w.requests n)) y) → MayEnd g w runs n y → MayEnd g (ended g w m x) runs n y
-  may_after true given may = (is_running_ended_other w.requests m x.res x.bytes n differ ∙ may.0, given refl)
-  may_after false given may =
-      (record { outstanding = outstanding_end w.requests m x.res x.bytes n differ ∙ may.0.outstanding; idle = is_running_ended_other w.requests m x.res x.bytes n differ ∙ may.0.idle; doomed = ends_doomed_stays w.requests m x.res x.bytes n g.linux may.0.doomed }, may.1)
+  may_after runs given may = grind (arith, is_running_ended_other, outstanding_end, ends_doomed_stays)
 
   may_before : (runs : Bool) → (runs ≡ true → IsOutcome (files_of g w) (operation_of (entry_of w.requests n)) y) → (runs ≡ false → ends_doomed g.linux w.requests n ≡ true) → MayEnd g (ended g w m x) runs n y → MayEnd g w runs n y
-  may_before true given doomed may = (sym (is_running_ended_other w.requests m x.res x.bytes n differ) ∙ may.0, given refl)
-  may_before false given doomed may =
-      (record { outstanding = sym (outstanding_end w.requests m x.res x.bytes n differ) ∙ may.0.outstanding; idle = sym (is_running_ended_other w.requests m x.res x.bytes n differ) ∙ may.0.idle; doomed = doomed refl }, may.1)
+  may_before runs given doomed may = grind (arith, is_running_ended_other, outstanding_end)
 
 goes_on : (g : Setup) (h : History) (runs : Bool) (n : ℕ) (x : Outcome) → IsLawful g h
     → MayEnd g (world g h) runs n x → g.linux ≡ true → GoesOn (requests_of (world g h)) n
-goes_on g h true n x lawful may = running_goes_on g h n (lawful_apart g h lawful) may.0
-goes_on g h false n x lawful may = doomed_goes_on g h n (lawful_apart g h lawful) may.0.outstanding may.0.doomed
+goes_on g h runs n x lawful may is = grind (arith, running_goes_on, doomed_goes_on, (lawful_apart g h lawful))
 
 -- Both orders.
 
@@ -158,15 +119,11 @@ finishes_change g h m n x y quiet apart lawful =
 
 posts_none : (linux : Bool) (r : Requests) (runs : Bool) (n : ℕ) (x : Outcome) → PostsNothing linux r (end_by runs n x)
     → posts linux r n x.res ≡ false
-posts_none linux r true n x none = none
-posts_none linux r false n x none = none
+posts_none linux r runs n x none = grind arith
 
 one_doomed : (b c : Bool) (m n : ℕ) (x y : Outcome) → IsIssue (end_by b m x) ⊎ IsIssue (end_by c n y) → b ≡ true
     → c ≡ true → ⊥
-one_doomed true true m n x y (inl is) one two = is
-one_doomed true true m n x y (inr is) one two = is
-one_doomed true false m n x y is one two = absurd cc
-one_doomed false c m n x y is one two = absurd cc
+one_doomed b c m n x y is one two = grind arith
 
 by_views : (g : Setup) (h : History) (m n : ℕ) (d e : Event) → EndView g.linux (world g h).requests m d
     → EndView g.linux (world g h).requests n e → IsIssue d ⊎ IsIssue e
