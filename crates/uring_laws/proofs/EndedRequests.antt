@@ -1,5 +1,5 @@
 -- What an end leaves of other requests, by either's rules: who can start, who is to end as doomed and who posts; and the drains that two ends leave, in either order.
-use Rattle.std.proofs.Common.{◌≡◌, ◌≢◌, ℕ, ◌<◌, ℤ, Bool, true, false, ◌||◌, List, length, refl, ap, ◌∙◌, arith}
+use Rattle.std.proofs.Common.{◌≡◌, ◌≢◌, ℕ, ◌<◌, ℤ, Bool, true, false, ◌||◌, List, length, refl, ap, arith}
 use Rattle.uring_laws.proofs.Common.{Deferred, LinuxRequests, Requests, and_from, and_right, both_ways, breaker_of, drains_ended, ends_doomed, false_from_ne_true, faulty_ended, first_of, has_ended, has_ended_other, has_ended_same, is_alone, is_cancelled, is_doomed, is_in_faulty_group, is_in_some, is_in_turn, is_joined, is_outstanding, is_ready, is_ready_inside, is_ready_yes, is_running, least_below_same, list_any_push, may_start, no_bytes, not-true, not_alone, posts, some_below_none, some_member, still_deferred, still_fewer, waits_for, with_ended}
 use Rattle.uring_laws.proofs.LinuxSound.{IsFirst, after_end, failure_end, doom_ended, doom_stays, first_ended, turn_first, after_stays}
 use Rattle.uring_laws.proofs.StartedRequests.{CanStart}
@@ -101,9 +101,7 @@ unmoved alone groups e = grind arith
 
 none_goes_on : (l : LinuxRequests) (m : ℕ) (res : ℤ) (n : ℕ) → n ≢ m → IsApart l n
     → drains_ended true l m res ≡ l.drains
-none_goes_on l m res n differ a =
-    let r : Requests = with_ended l.requests m res no_bytes in
-    ap (λ gs. record l.drains { deferred = gs }) (unmoved (is_alone r l.drains.deferred) l.drains.deferred (not_alone r l.drains.deferred n a.accepted (has_ended_other l.requests m res no_bytes n differ ∙ a.still) a.free))
+none_goes_on l m res n differ a = grind (arith, unmoved, (not_alone (with_ended l.requests m res no_bytes) l.drains.deferred n), has_ended_other)
 
 -- it doesn't matter which of two ended first
 alone_either : (r : Requests) (m n : ℕ) (x y : ℤ) (xs ys : List ℕ) (groups : List Deferred)

@@ -1,6 +1,6 @@
 -- What why says, from what each case of it says: proofs of the laws on reasons.
 use Rattle.std.proofs.Common.{◌≡◌, ℕ, ◌<◌, ◌≤◌, length, Bool, true, false, not, Option, Some, None, is_some, refl, sym, ◌∙◌, ap, arith, inl, inr}
-use Rattle.uring_laws.proofs.Common.{IsLeast, Requests, both_ways, cases_lt, doom_of, entry_of, failed_member_of, fault_of, faulty_member_of, first_doom, has_ended, holder_of, holds_back, is_after_failure, is_cancelled, is_doomed, is_draining, is_failure_before, is_faulty_member, is_in_faulty_group, is_in_turn, is_issuable, is_joined, is_joined_inside, is_joined_yes, is_outstanding, is_ready, is_running, is_some_least_below, keeps_back, least_below, least_below_tells, since_of, some_member, waits_for, why_of, ◌↔◌, ◌⊎◌}
+use Rattle.uring_laws.proofs.Common.{IsLeast, Requests, both_ways, entry_of, failed_member_of, fault_of, faulty_member_of, first_doom, has_ended, holder_of, holds_back, is_after_failure, is_cancelled, is_doomed, is_failure_before, is_faulty_member, is_in_faulty_group, is_in_turn, is_issuable, is_joined, is_joined_inside, is_joined_yes, is_outstanding, is_ready, is_running, is_some_least_below, keeps_back, least_below, least_below_tells, since_of, some_member, waits_for, why_of, ◌↔◌, ◌⊎◌}
 use Rattle.uring_entry.specs.declared.fault.Fault.{Fault}
 use Rattle.uring_entry.specs.declared.why.Why.{Why}
 use Rattle.uring_entry.specs.declared.why.Why.TheVariants.{NeverAccepted, HasEnded, Runs, IsDoomed, Waits, MayStart}
@@ -69,15 +69,9 @@ doomed_else : (r : Requests) (n : ℕ) → is_in_faulty_group r n ≡ false
 unfolding is_doomed
 doomed_else r n a b doomed = grind arith
 
-doom_is : (r : Requests) (n : ℕ) → is_doomed r n ≡ true → IsDoomOf r n (doom_of r n)
-doom_is r n doomed =
-    go (fault_of (entry_of r n)) (faulty_member_of r n) (failed_member_of r n) refl refl refl
-  where
-    go : (a : Option Fault) (b d : Option ℕ) → fault_of (entry_of r n) ≡ a → faulty_member_of r n ≡ b → failed_member_of r n ≡ d → IsDoomOf r n (first_doom a b d)
-    go (Some fault) b d x y z = x
-    go None (Some m) d x y z = (ap is_some x, least_of (is_faulty_member r n) (length r.accepted) m y)
-    go None None (Some m) x y z = (no_faulty r n y, least_of (is_failure_before r n) n m z)
-    go None None None x y z = (no_faulty r n y, no_failed r n z, doomed_else r n (no_faulty r n y) (no_failed r n z) doomed)
+doom_is : (r : Requests) (n : ℕ) (a : Option Fault) (b d : Option ℕ) → fault_of (entry_of r n) ≡ a → faulty_member_of r n ≡ b
+    → failed_member_of r n ≡ d → is_doomed r n ≡ true → IsDoomOf r n (first_doom a b d)
+doom_is r n a b d x y z doomed = grind (arith, no_faulty, no_failed, doomed_else, least_of)
 
 pub doom_said : (r : Requests) (n : ℕ) (doom : Doom) → why_of r n ≡ IsDoomed doom
     → IsUnstarted r n × (is_doomed r n ≡ true) × IsDoomOf r n doom
@@ -102,35 +96,22 @@ stands r m given going = by_why (why_of r m) refl (told r m) where
 holder_going : (r : Requests) (n m : ℕ) → holds_back r n m ≡ true → has_ended r m ≡ false
 holder_going r n m holds = grind arith
 
-free_parts : (r : Requests) (n m : ℕ) → has_ended r m ≡ false → holds_back r n m ≡ false
-    → (is_joined r m n ≡ false) × (is_draining r m ≡ false) × (is_draining r n ≡ false)
-free_parts r n m going free = grind arith
-
-held_joined : (r : Requests) (n m : ℕ) → holds_back r n m ≡ true → is_draining r m ≡ false
-    → is_draining r n ≡ false → is_joined r m n ≡ true
-held_joined r n m holds a b = grind arith
+joined_on : (r : Requests) (k m n : ℕ) → is_joined r k m ≡ true → is_joined r m n ≡ true → is_joined r k n ≡ true
+joined_on r k m n lower upper =
+    grind (arith, (is_joined_yes r k n), (λ (i : ℕ). is_joined_inside r k m i lower), (λ (i : ℕ). is_joined_inside r m n i upper))
 
 -- The least that holds one back, the least that holds that one back, and again the least: three in a row there never are.
 three_none : (r : Requests) (n m k j : ℕ) → IsLeast (holds_back r n) n m
     → IsLeast (holds_back r m) m k → IsLeast (holds_back r k) k j → ⊥
-three_none r n m k j a b d =
-    let first = free_parts r n k (holder_going r m k b.holds) (a.before k b.below) in
-    let second = free_parts r m j (holder_going r k j d.holds) (b.before j d.below) in
-    let upper = held_joined r n m a.holds second.2 first.2 in
-    let lower = held_joined r m k b.holds first.1 second.2 in
-    both_ways _ first.0
-    (is_joined_yes r k n
-    (λ i le lt. elim (cases_lt i m) [ inl low ↦ is_joined_inside r k m i lower le low | inr high ↦ is_joined_inside r m n i upper high lt ]))
+three_none r n m k j a b d = grind (arith, joined_on)
 
 pub two_steps : (r : Requests) (n m : ℕ) (since : Since) → why_of r n ≡ Waits m since
     → GoesOn r m ⊎ ((k : ℕ) × (other : Since) × (why_of r m ≡ Waits k other) × GoesOn r k)
 two_steps r n m since e =
     let t = told_as r n (Waits m since) e in
-    let s = t.0 in
-    let given = s.given in
     let a = least_below_tells (holds_back r n) n m t.2 in
-    let low = a.below in
-    elim (stands r m (omega arith) (holder_going r n m a.holds)) [
+    let given = t.0.given in
+    elim (stands r m (grind arith) (holder_going r n m a.holds)) [
       | goes_on g ↦ inl g
       | waits_on k other is b ↦ grind (arith, stands, holder_going, three_none)
     ]

@@ -1,11 +1,10 @@
 -- The laws of `calls.rt`: a ring that stands between calls refuses nothing that belongs to a whole call.
 -- Each from the answer that is called for, with `Stands` for what the definitions test; no history is needed.
 -- Stable: other crates may import what is pub.
-use Rattle.std.proofs.Common.{◌≡◌, ℕ, ◌+◌, ◌<◌, ◌≤◌, false, List, [], ◌∷◌, ◌++◌, length, map, get_or, Option, Some, None, slice_get, if◌then◌else◌, refl, sym, ap, ap₂, ◌∙◌, arith, append_assoc, append-nil}
-use Rattle.uring_laws.proofs.Common.{All, All-head, All-tail, Answer, CallCloses, CallOpens, CalledForApart, FreeSlotIsFilled, IsItem, ItemsArePublished, Place, PositionIsTaken, Published, Setup, Sqe, Stands, Submission, TailPublishes, WordIsStaged, World, bad_word, ends_after, entry_answer, eq-eqb, happens, in_call, is_busy, is_full, item_of, le-ltb, length-append, length-map, lt-ltb, map-append, ne_eqb, place_answer, place_of, slice_get-get_or, sum_by_push, taken, taking, with_entry, with_item, with_items}
+use Rattle.std.proofs.Common.{◌≡◌, ℕ, ◌+◌, ◌<◌, ◌≤◌, false, List, [], ◌∷◌, ◌++◌, length, map, None, slice_get, refl, sym, ap, arith, append_assoc, append-nil}
+use Rattle.uring_laws.proofs.Common.{All, All-head, All-tail, Answer, CallCloses, CallOpens, CalledForApart, FreeSlotIsFilled, IsItem, ItemsArePublished, PositionIsTaken, Published, Setup, Stands, Submission, TailPublishes, WordIsStaged, World, bad_word, happens, in_call, is_busy, is_full, item_of, length-append, length-map, map-append, place_answer, place_of, slice_get-get_or, sum_by_push, taken, with_entry, with_item, with_items}
 use Rattle.std.proofs.Math.ListN.{drop_of_length-le}
 use Rattle.uring_core.specs.declared.step.Step.TheVariants as step
-use Rattle.uring_core.specs.declared.answer.Answer.TheVariants as answer
 
 -- Filling and staging.
 
@@ -60,61 +59,33 @@ read_back : (size : ℕ) (l : Submission) (slot : ℕ) (items : List Published)
 read_back size l slot [] few good = refl
 read_back size l slot (with_entry entry ∷ later) few good =
     let l' : Submission = with_item l slot (with_entry entry) in
-    let content : ℕ → Sqe = (with_items l' (slot + 1) later).content in
-    let held : content slot ≡ entry = slots_below l' (slot + 1) later slot (omega arith) ∙ ap (λ b. if b then entry else l.content slot) (eq-eqb slot slot refl) in
-    let low : slot < size = omega arith in
-    ap₂ (λ item rest. item ∷ rest) (ap (λ b. item_of slot (if b then Some (content slot) else None)) (lt-ltb slot size low) ∙ ap with_entry held)
-    (read_back size l' (slot + 1) later (omega arith) (All-tail (IsItem size) (with_entry entry) later good))
+    grind (arith, (slots_below l' (slot + 1) later slot), (read_back size l' (slot + 1) later), (All-tail (IsItem size) (with_entry entry) later good))
 read_back size l slot (bad_word word ∷ later) few good =
     let l' : Submission = with_item l slot (bad_word word) in
-    let content : ℕ → Sqe = (with_items l' (slot + 1) later).content in
-    let high : size ≤ word = All-head (IsItem size) (bad_word word) later good in
-    ap₂ (λ item rest. item ∷ rest) (ap (λ b. item_of word (if b then Some (content word) else None)) (le-ltb word size high))
-    (read_back size l' (slot + 1) later (omega arith) (All-tail (IsItem size) (bad_word word) later good))
+    grind (arith, (read_back size l' (slot + 1) later), (All-tail (IsItem size) (bad_word word) later good), (All-head (IsItem size) (bad_word word) later good))
 
 pub items_published : ItemsArePublished
-items_published l size items none few good =
-    let l' : Submission = with_items l 0 items in
-    let item : Place → Published = λ p. item_of p.word p.entry in
-    map-append item l'.published (map (place_of size l'.content) l'.fresh)
-    ∙ ap₂ (λ xs ys. xs ++ ys) (ap (map item) (items_keep l 0 items))
-    (ap (λ words. map item (map (place_of size l'.content) words)) (items_fresh l 0 items ∙ ap (λ words. words ++ words_of 0 items) none) ∙ read_back size l 0 items (omega arith) good)
+items_published l size items none few good = grind (arith, map-append, items_keep, items_fresh, read_back)
 
 -- Taking.
 
 pub call_opens : (g : Setup) → CallOpens g
 call_opens g w count asked a s is_open few called = grind arith
 
--- a position was taken, whatever its word
-took_entry : (g : Setup) (w : World) (count done : ℕ) (word : ℕ) (entry : Option Sqe) (a : Answer)
-    → g.stops ≡ false → a ≡ entry_answer entry
-    → taking g (in_call w count done) a
-    ≡ in_call w (if ends_after g (Some (record { word = word; entry = entry })) then done + 1 else count) (done + 1)
-took_entry g w count done word entry a goes is = grind arith
-
 pub position_taken : (g : Setup) → PositionIsTaken g
 position_taken g goes w count asked done a s few low called =
-    let l : Submission = w.submission in
-    let at : ℕ = taken l + done in
-    let within : at < length l.published = omega (arith, s.waiting) in
-    let place : Place = get_or l.published at (record { word = 0; entry = None }) in
-    let is : slice_get l.published at ≡ Some place = slice_get-get_or l.published at _ within in
-    let told : a ≡ place_answer (slice_get l.published at) = called ∙ ap (λ b. if b then answer.NoMore else place_answer (slice_get l.published at)) (ne_eqb done asked (λ same. omega arith)) in
-    (told, took_entry g w asked done place.word place.entry a goes (told ∙ ap place_answer is) ∙ ap (λ p. in_call w (if ends_after g p then done + 1 else asked) (done + 1)) (sym is))
+    let is = slice_get-get_or w.submission.published (taken w.submission + done) (record { word = 0; entry = None }) in
+    grind (arith, is)
 
--- by the manual pages' rules no position ends a call there
-ends_none : (g : Setup) (place : Option Place) → g.linux ≡ false → ends_after g place ≡ false
-ends_none g place manual = grind arith
-
--- so each is one of as many as before
+-- by the manual pages' rules none ends the call, so each is one of as many as before
 pub next_taken : (g : Setup) → g.stops ≡ false → g.linux ≡ false → (w : World) (count asked done : ℕ) (a : Answer)
     → Stands w.submission [] count → asked ≤ count → done < asked
     → CalledForApart g (in_call w asked done) step.Take a
     → (a ≡ place_answer (slice_get w.submission.published (taken w.submission + done)))
     × (happens g (in_call w asked done) step.Take a ≡ in_call w asked (done + 1))
 next_taken g goes manual w count asked done a s few low called =
-    let one = position_taken g goes w count asked done a s few low called in
-    (one.0, one.1 ∙ ap (λ b. in_call w (if b then done + 1 else asked) (done + 1)) (ends_none g _ manual))
+    let is = slice_get-get_or w.submission.published (taken w.submission + done) (record { word = 0; entry = None }) in
+    grind (arith, is)
 
 pub call_closes : (g : Setup) → CallCloses g
 call_closes g w count asked left ended loads s all called = grind (arith, sum_by_push)

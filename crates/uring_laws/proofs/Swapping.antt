@@ -1,9 +1,8 @@
 -- Starts that change places with starts and ends, by either's rules: `starts_change`, `start_then_end` and `end_then_start`.
 -- A start changes nothing that a definition reads but who runs; an end changes who has ended and failed, which counts for those alone that wait for it.
-use Rattle.std.proofs.Common.{◌≡◌, ◌≢◌, ℕ, Bool, true, false, ◌&&◌, if◌then◌else◌, List, [], ◌∷◌, ◌++◌, sym, subst, ap, ap₂, ◌∙◌, append-nil, arith, rules}
-use Rattle.uring_laws.proofs.Common.{AreAlike, CalledFor, ChangePlaces, Drains, EndThenStart, Ends, Event, History, IsLawful, IsOutcome, Outcome, Requests, Setup, StartThenEnd, StartsChange, Step, World, both_ways, choices_of, completion_for, doomed_fails, ends_doomed, entry_of, files_kept, files_of, happens, has_ended, is_cancel, is_outstanding, is_running, is_running_started_other, is_running_started_same, is_success, issue_answer, list_any, list_any_push, may_start, no_bytes, operation_of, requests_of, start_of, with_posted, with_started, world}
+use Rattle.std.proofs.Common.{◌≡◌, ◌≢◌, ℕ, Bool, true, false, if◌then◌else◌, List, [], ◌∷◌, ◌++◌, sym, subst, ap, ap₂, ◌∙◌, append-nil, arith, rules}
+use Rattle.uring_laws.proofs.Common.{AreAlike, CalledFor, ChangePlaces, Drains, EndThenStart, Ends, Event, History, IsLawful, IsOutcome, Outcome, Requests, Setup, StartThenEnd, StartsChange, Step, World, both_ways, completion_for, doomed_fails, ends_doomed, entry_of, files_kept, files_of, happens, has_ended, is_outstanding, is_running, is_running_started_other, is_running_started_same, issue_answer, list_any, list_any_push, may_start, no_bytes, operation_of, requests_of, start_of, with_posted, with_started, world}
 use Rattle.uring_rules.specs.Rules.{doomed_result}
-use Rattle.uring_entry.specs.Requests as manual
 use Rattle.uring_core.specs.declared.step.Step.TheVariants as step
 use Rattle.uring_core.specs.declared.answer.Answer.TheVariants as answer
 use Rattle.uring_laws.proofs.StartedRequests.{CanStart, can_start, start_called, start_before, start_after, ends_doomed_started, posts_started, drains_ended_started}
@@ -81,21 +80,14 @@ pub record IsEnd (g : Setup) (w : World) (n : ℕ) (x : Outcome) (s : Step) : Ty
   pub makes : happens g w s (answer.Ended x.res x.bytes) ≡ ended g w n x
   pub still : has_ended w.requests n ≡ false
 
-none_chosen : (r : Requests) (m : ℕ)
-    → (if is_cancel (entry_of r m) && is_success (entry_of r m) (manual.doomed_result r m) then choices_of r m else []) ≡ []
-none_chosen r m = grind (arith, doomed_fails)
-
 pub is_end : (g : Setup) (w : World) (runs : Bool) (n : ℕ) (x : Outcome) → MayEnd g w runs n x
     → IsEnd g w n x (end_step runs n)
-is_end g w runs n x may = grind (arith, none_chosen, append-nil)
+is_end g w runs n x may = grind (arith, doomed_fails, append-nil)
 
 -- m may end after the start of n exactly if it could before it
-module _ (g : Setup) (w : World) (n m : ℕ) (x : Outcome) (differ : m ≢ n) (files : files_of g (begun w n) ≡ files_of g w) where
-  may_after : (runs : Bool) → MayEnd g w runs m x → MayEnd g (begun w n) runs m x
-  may_after runs may = grind (arith, is_running_started_other, ends_doomed_started)
-
-  may_before : (runs : Bool) → MayEnd g (begun w n) runs m x → MayEnd g w runs m x
-  may_before runs may = grind (arith, is_running_started_other, ends_doomed_started)
+may_same : (g : Setup) (w : World) (n m : ℕ) (x : Outcome) → m ≢ n → files_of g (begun w n) ≡ files_of g w → (runs : Bool)
+    → (MayEnd g w runs m x → MayEnd g (begun w n) runs m x) × (MayEnd g (begun w n) runs m x → MayEnd g w runs m x)
+may_same g w n m x differ files runs = grind (arith, is_running_started_other, ends_doomed_started)
 
 ended_either : (g : Setup) (w : World) (n m : ℕ) (x : Outcome) → ended g (begun w n) m x ≡ begun (ended g w m x) n
 ended_either g w n m x =
@@ -114,7 +106,7 @@ both_orders g h runs m n x differ may can lawful =
     let started : IsLawful g (start_of n ∷ h) = (start_called g w n can, lawful) in
     let files : files_of g (begun w n) ≡ files_of g w = files_kept g (step.Issue n) answer.Run h (lawful_apart g (start_of n ∷ h) started) tt in
     let first : IsEnd g w m x (end_step runs m) = is_end g w runs m x may in
-    let second : IsEnd g (begun w n) m x (end_step runs m) = is_end g (begun w n) runs m x (may_after g w n m x differ files runs may) in
+    let second : IsEnd g (begun w n) m x (end_step runs m) = is_end g (begun w n) runs m x ((may_same g w n m x differ files runs).0 may) in
     let could : CanStart g.linux (requests_of (ended g w m x)) n = start_past (requests_of w) m x.res x.bytes n first.still g.linux (λ e. differ (sym e)) can in
     let same : world g (end_by runs m x ∷ start_of n ∷ h) ≡ world g (start_of n ∷ end_by runs m x ∷ h) = second.makes ∙ (ended_either g w n m x ∙ ap (λ (u : World). begun u n) (sym first.makes)) in
     let after : CalledFor g (world g (end_by runs m x ∷ h)) (step.Issue n) answer.Run = subst (λ u. answer.Run ≡ issue_answer g u n) (sym first.makes) (start_called g (ended g w m x) n could) in
@@ -140,7 +132,7 @@ start_then g h m n e (ends_by runs x doomed) differ lawful =
     let w : World = world g h in
     let files : files_of g (begun w n) ≡ files_of g w = files_kept g (step.Issue n) answer.Run h (lawful_apart g (start_of n ∷ h) lawful.1) tt in
     let may : MayEnd g (begun w n) runs m x = may_end g (begun w n) runs m x (λ idle. ends_doomed_started g.linux w.requests n m ∙ doomed idle) lawful.0 in
-    (both_orders g h runs m n x differ (may_before g w n m x differ files runs may) (can_start g w n lawful.1.0) lawful.1.1).later
+    (both_orders g h runs m n x differ ((may_same g w n m x differ files runs).1 may) (can_start g w n lawful.1.0) lawful.1.1).later
 
 pub start_then_end : (g : Setup) → StartThenEnd g
 start_then_end g h m n e is differ lawful = search (rules, start_then, view)
