@@ -1,6 +1,6 @@
 -- Who can start before a call accepts entries can start after it, and the other way round, by either's rules. By Linux's no group that was deferred goes on by a call: something else is outstanding then.
-use Rattle.std.proofs.Common.{◌≡◌, ℕ, ◌<◌, ◌≤◌, Bool, true, false, not, ◌&&◌, nat_lt, List, [], ◌∷◌, length, sym, ap, ◌∙◌, arith}
-use Rattle.uring_laws.proofs.Common.{HasGoneOn, IsBetween, LinuxRequests, Requests, Sqe, both_ways, cond_both, deferred_with, doom_kept, ends_doomed, entry_kept, false_from_ne_true, has_ended, holds_back, in_pushed, is_alone, is_deferred, is_in_some, is_in_turn, is_linked, is_outstanding, is_ready, join_kept, keeps_back, length_push, longer, lt-ltb, may_start, member_kept, not-false, not_alone, pushed_old, some_below_in, some_below_same, still_fewer, true_from_ne_false, waits_for, with_accepted, with_call, with_cut, with_entries, with_group, with_last_entry}
+use Rattle.std.proofs.Common.{◌≡◌, ℕ, ◌<◌, ◌≤◌, Bool, true, false, not, ◌&&◌, nat_lt, List, [], ◌∷◌, length, arith}
+use Rattle.uring_laws.proofs.Common.{HasGoneOn, IsBetween, LinuxRequests, Requests, Sqe, both_ways, cond_both, deferred_with, doom_kept, ends_doomed, entry_kept, false_from_ne_true, has_ended, in_pushed, is_alone, is_deferred, is_in_some, is_in_turn, is_linked, is_outstanding, is_ready, join_kept, keeps_back, length_push, longer, may_start, member_kept, not-false, not_alone, pushed_old, some_below_in, some_below_same, still_fewer, true_from_ne_false, with_accepted, with_call, with_cut, with_entries, with_group, with_last_entry}
 use Rattle.uring_laws.proofs.Growth.{IsCut}
 use Rattle.uring_entry.specs.Requests as manual
 use Rattle.uring_rules.specs.RulesCalls.{called_by}
@@ -61,21 +61,16 @@ deferred_called l entries n within b =
 -- Who can start.
 
 module _ (r : Requests) (entries : List Sqe) (cut : IsCut r) (n : ℕ) (within : n < length r.accepted) where
-  pub waits_kept : (k : ℕ) → k < n → waits_for (with_call r entries) n k ≡ waits_for r n k
-  waits_kept k low = grind (arith, member_kept, join_kept)
-
   pub ready_kept : is_ready (with_call r entries) n ≡ is_ready r n
   unfolding is_ready
-  ready_kept = ap not (some_below_same (holds_back (with_call r entries) n) (holds_back r n) n (λ k low. ap (λ b. not (has_ended r k) && b) (waits_kept k low)))
+  ready_kept = grind (arith, some_below_same, member_kept, join_kept)
 
   turn_kept : is_in_turn (with_call r entries) n ≡ is_in_turn r n
   unfolding is_in_turn
-  turn_kept = ap not (some_below_same (keeps_back (with_call r entries) n) (keeps_back r n) n (λ k low. ap (λ b. b && not (has_ended r k)) (join_kept r entries cut k n within)))
+  turn_kept = grind (arith, (some_below_same (keeps_back (with_call r entries) n) (keeps_back r n) n), join_kept)
 
   pub outstanding_kept : is_outstanding (with_call r entries) n ≡ is_outstanding r n
-  outstanding_kept =
-      let more = longer r entries cut in
-      ap (λ b. b && not (has_ended r n)) (lt-ltb n (length (with_call r entries).accepted) (omega (arith, within, more)) ∙ sym (lt-ltb n (length r.accepted) within))
+  outstanding_kept = grind (arith, (longer r entries cut))
 
 module _ (l : LinuxRequests) (entries : List Sqe) (cut : IsCut l.requests) (n : ℕ) (within : n < length l.requests.accepted) where
   abbrev r : Requests

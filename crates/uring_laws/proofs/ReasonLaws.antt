@@ -1,6 +1,6 @@
 -- What why says, from what each case of it says: proofs of the laws on reasons.
 use Rattle.std.proofs.Common.{◌≡◌, ℕ, ◌<◌, ◌≤◌, length, Bool, true, false, not, Option, Some, None, is_some, refl, sym, ◌∙◌, ap, arith, inl, inr}
-use Rattle.uring_laws.proofs.Common.{IsLeast, Requests, both_ways, entry_of, failed_member_of, fault_of, faulty_member_of, first_doom, has_ended, holder_of, holds_back, is_after_failure, is_cancelled, is_doomed, is_failure_before, is_faulty_member, is_in_faulty_group, is_in_turn, is_issuable, is_joined, is_joined_inside, is_joined_yes, is_outstanding, is_ready, is_running, is_some_least_below, keeps_back, least_below, least_below_tells, since_of, some_member, waits_for, why_of, ◌↔◌, ◌⊎◌}
+use Rattle.uring_laws.proofs.Common.{IsLeast, Requests, entry_of, failed_member_of, fault_of, faulty_member_of, first_doom, has_ended, holder_of, holds_back, is_after_failure, is_doomed, is_failure_before, is_faulty_member, is_in_faulty_group, is_in_turn, is_issuable, is_joined, is_joined_inside, is_joined_yes, is_outstanding, is_ready, is_running, is_some_least_below, keeps_back, least_below, least_below_tells, since_of, some_member, waits_for, why_of, ◌↔◌, ◌⊎◌}
 use Rattle.uring_entry.specs.declared.fault.Fault.{Fault}
 use Rattle.uring_entry.specs.declared.why.Why.{Why}
 use Rattle.uring_entry.specs.declared.why.Why.TheVariants.{NeverAccepted, HasEnded, Runs, IsDoomed, Waits, MayStart}
@@ -64,14 +64,10 @@ no_failed : (r : Requests) (n : ℕ) → failed_member_of r n ≡ None → is_af
 unfolding is_after_failure
 no_failed r n e = sym (is_some_least_below (is_failure_before r n) n) ∙ ap is_some e
 
-doomed_else : (r : Requests) (n : ℕ) → is_in_faulty_group r n ≡ false
-    → is_after_failure r n ≡ false → is_doomed r n ≡ true → is_cancelled r n ≡ true
-unfolding is_doomed
-doomed_else r n a b doomed = grind arith
-
 doom_is : (r : Requests) (n : ℕ) (a : Option Fault) (b d : Option ℕ) → fault_of (entry_of r n) ≡ a → faulty_member_of r n ≡ b
     → failed_member_of r n ≡ d → is_doomed r n ≡ true → IsDoomOf r n (first_doom a b d)
-doom_is r n a b d x y z doomed = grind (arith, no_faulty, no_failed, doomed_else, least_of)
+unfolding is_doomed
+doom_is r n a b d x y z doomed = grind (arith, no_faulty, no_failed, least_of)
 
 pub doom_said : (r : Requests) (n : ℕ) (doom : Doom) → why_of r n ≡ IsDoomed doom
     → IsUnstarted r n × (is_doomed r n ≡ true) × IsDoomOf r n doom
@@ -79,18 +75,10 @@ doom_said r n doom e = grind (arith, doom_is)
 
 -- Two steps.
 
-pub data Stands (r : Requests) (m : ℕ) : Type 0 where
-  goes_on : GoesOn r m → Stands r m
-  waits_on : (k : ℕ) (other : Since) → why_of r m ≡ Waits k other → IsLeast (holds_back r m) m k → Stands r m
-
-stands : (r : Requests) (m : ℕ) → m < length r.accepted → has_ended r m ≡ false → Stands r m
-stands r m given going = by_why (why_of r m) refl (told r m) where
-  by_why : (why : Why) → why_of r m ≡ why → IsTold r m why → Stands r m
-  by_why NeverAccepted is t = absurd (omega (arith, t, given))
-  by_why HasEnded is t = absurd (both_ways _ going t.1)
-  by_why Runs is t = goes_on (inl t.2)
-  by_why (Waits k since) is t = waits_on k since is (least_below_tells (holds_back r m) m k t.2)
-  by_why why is t = goes_on (inr (issuable_said r m ∙ ap can_be_issued is))
+-- of one that hasn't ended, of which this is told
+stands : (r : Requests) (m : ℕ) (why : Why) → why_of r m ≡ why → IsTold r m why → m < length r.accepted → has_ended r m ≡ false
+    → GoesOn r m ⊎ ((k : ℕ) × (other : Since) × (why_of r m ≡ Waits k other) × IsLeast (holds_back r m) m k)
+stands r m why is t given going = grind (arith, issuable_said, (least_below_tells (holds_back r m) m))
 
 -- whoever holds another back hasn't ended
 holder_going : (r : Requests) (n m : ℕ) → holds_back r n m ≡ true → has_ended r m ≡ false
@@ -111,9 +99,9 @@ two_steps r n m since e =
     let t = told_as r n (Waits m since) e in
     let a = least_below_tells (holds_back r n) n m t.2 in
     let given = t.0.given in
-    elim (stands r m (grind arith) (holder_going r n m a.holds)) [
-      | goes_on g ↦ inl g
-      | waits_on k other is b ↦ grind (arith, stands, holder_going, three_none)
+    elim (stands r m (why_of r m) refl (told r m) (grind arith) (holder_going r n m a.holds)) [
+      | inl g ↦ inl g
+      | inr b ↦ grind (arith, (stands r b.0 (why_of r b.0) refl (told r b.0)), holder_going, three_none)
     ]
 
 -- The answer to an Issue, by either's rules.

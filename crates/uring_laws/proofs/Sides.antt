@@ -1,6 +1,6 @@
 -- The steps on the submission ring change places with those on requests and completions: `submission_then_rest` and `rest_then_submission`. Neither side reads what the other writes, by either's rules.
 use Rattle.std.proofs.Common.{◌≡◌, ℕ, ℤ, List, ◌∷◌, sym, subst, ap, ◌∙◌, arith}
-use Rattle.uring_laws.proofs.Common.{Answer, CalledFor, Change, ChangePlaces, History, IsLawful, IsOnRest, IsOnSubmission, RestThenSubmission, Setup, Step, Submission, SubmissionThenRest, World, cancels, change_of, dooms, happens, refuses, world}
+use Rattle.uring_laws.proofs.Common.{Answer, CalledFor, Change, ChangePlaces, History, IsLawful, IsOnRest, IsOnSubmission, RestThenSubmission, Setup, Step, Submission, SubmissionThenRest, World, change_of, happens, world}
 use Rattle.uring_core.proofs.Changes.{takes, drops}
 use Rattle.uring_core.specs.declared.step.Step.TheVariants as step
 use Rattle.uring_core.specs.declared.answer.Answer.TheVariants as answer
@@ -24,12 +24,7 @@ record OnSubmission (g : Setup) (w : World) (s : Step) (a : Answer) : Type 0 whe
 
 on_submission : (g : Setup) (w : World) (s : Step) (a : Answer) → Change g w s a → IsOnSubmission s
     → OnSubmission g w s a
-on_submission g w s a (refuses _ _ same silent) on = grind arith
-on_submission g w s a (takes entry call place opened left at valid) on =
-    record { alone = rw opened; beside = λ x. rw opened }
-on_submission g w s a (drops call place opened left at invalid) on =
-    record { alone = rw opened; beside = λ x. rw opened }
-on_submission g w s a _ on = search
+on_submission g w s a c on = grind (arith, takes, drops)
 
 -- an end as a request is issued changes neither entries nor cuts, by either's rules
 ends_alone : (g : Setup) (w : World) (n : ℕ) (res : ℤ) (bytes : List ℕ)
@@ -42,10 +37,7 @@ record OnRest (g : Setup) (w : World) (t : Step) (b : Answer) : Type 0 where
   beside : (x : Submission) → happens g (submitted w x) t b ≡ submitted (happens g w t b) x
 
 on_rest : (g : Setup) (w : World) (t : Step) (b : Answer) → Change g w t b → IsOnRest t → OnRest g w t b
-on_rest g w t b (refuses _ _ same silent) on = grind arith
-on_rest g w t b (dooms n outstanding idle doomed) on = grind (arith, ends_alone)
-on_rest g w t b (cancels n outstanding idle spared ready cancel) on = grind (arith, ends_alone)
-on_rest g w t b _ on = search
+on_rest g w t b c on = grind (arith, ends_alone)
 
 -- Answers.
 
@@ -55,13 +47,11 @@ CalledAlike g v w s a = (CalledFor g v s a → CalledFor g w s a) × (CalledFor 
 
 sub_called : (g : Setup) (w x : World) (s : Step) (a : Answer) → IsOnSubmission s
     → CalledAlike g w (with_rest w x) s a
-sub_called g w x (step.Issue n) a on = absurd on
-sub_called g w x _ a on = search
+sub_called g w x s a on = grind arith
 
 rest_called : (g : Setup) (w : World) (x : Submission) (t : Step) (b : Answer) → IsOnRest t
     → CalledAlike g w (submitted w x) t b
-rest_called g w x step.Take b on = absurd on
-rest_called g w x _ b on = search
+rest_called g w x t b on = grind arith
 
 record Sides (g : Setup) (h : History) (s t : Step) (a b : Answer) : Type 0 where
   later : ChangePlaces g h (s, a) (t, b)

@@ -1,7 +1,7 @@
 -- Starts that change places with starts and ends, by either's rules: `starts_change`, `start_then_end` and `end_then_start`.
 -- A start changes nothing that a definition reads but who runs; an end changes who has ended and failed, which counts for those alone that wait for it.
-use Rattle.std.proofs.Common.{◌≡◌, ◌≢◌, ℕ, Bool, true, false, if◌then◌else◌, List, [], ◌∷◌, ◌++◌, sym, subst, ap, ap₂, ◌∙◌, append-nil, arith, rules}
-use Rattle.uring_laws.proofs.Common.{AreAlike, CalledFor, ChangePlaces, Drains, EndThenStart, Ends, Event, History, IsLawful, IsOutcome, Outcome, Requests, Setup, StartThenEnd, StartsChange, Step, World, both_ways, completion_for, doomed_fails, ends_doomed, entry_of, files_kept, files_of, happens, has_ended, is_outstanding, is_running, is_running_started_other, is_running_started_same, issue_answer, list_any, list_any_push, may_start, no_bytes, operation_of, requests_of, start_of, with_posted, with_started, world}
+use Rattle.std.proofs.Common.{◌≡◌, ◌≢◌, ℕ, Bool, true, false, List, [], ◌∷◌, ◌++◌, sym, subst, ap, ◌∙◌, append-nil, arith, rules}
+use Rattle.uring_laws.proofs.Common.{AreAlike, CalledFor, ChangePlaces, EndThenStart, Ends, Event, History, IsLawful, IsOutcome, Outcome, Requests, Setup, StartThenEnd, StartsChange, Step, World, doomed_fails, ends_doomed, entry_of, files_kept, files_of, happens, has_ended, is_outstanding, is_running, is_running_started_other, is_running_started_same, issue_answer, list_any, list_any_push, may_start, no_bytes, operation_of, requests_of, start_of, with_started, world}
 use Rattle.uring_rules.specs.Rules.{doomed_result}
 use Rattle.uring_core.specs.declared.step.Step.TheVariants as step
 use Rattle.uring_core.specs.declared.answer.Answer.TheVariants as answer
@@ -35,16 +35,12 @@ begun w n = record w { requests = with_started w.requests n }
 pub starts_change : (g : Setup) → StartsChange g
 starts_change g h m n lawful =
     let w : World = world g h in
-    let r : Requests = w.requests in
     let one : CanStart g.linux (requests_of w) m = can_start g w m lawful.1.0 in
     let two : CanStart g.linux (requests_of (begun w m)) n = can_start g (begun w m) n lawful.0 in
-    let differ : n ≢ m = λ same. both_ways (is_running (with_started r m) n) two.idle (subst (λ k. is_running (with_started r m) k ≡ true) (sym same) (is_running_started_same r m (not_ended r m one.outstanding))) in
-    let two_first : IsLawful g (start_of n ∷ h) = (start_called g w n (start_before g.linux (requests_of w) m n differ two), lawful.1.1) in
-    let both : IsLawful g (start_of m ∷ start_of n ∷ h) = (start_called g (begun w n) m (start_after g.linux (requests_of w) n m (λ e. differ (sym e)) one), two_first) in
-    record {
-      lawful = both;
-      alike = grind (arith, two_pushed, files_kept);
-    }
+    let differ : n ≢ m = grind (arith, is_running_started_same, not_ended) in
+    let first = start_before g.linux (requests_of w) m n differ two in
+    let second = start_after g.linux (requests_of w) n m (λ e. differ (sym e)) one in
+    record { lawful = (start_called g (begun w n) m second, (start_called g w n first, lawful.1.1)); alike = grind (arith, two_pushed, files_kept) }
 
 -- A start and an end.
 
@@ -90,9 +86,7 @@ may_same : (g : Setup) (w : World) (n m : ℕ) (x : Outcome) → m ≢ n → fil
 may_same g w n m x differ files runs = grind (arith, is_running_started_other, ends_doomed_started)
 
 ended_either : (g : Setup) (w : World) (n m : ℕ) (x : Outcome) → ended g (begun w n) m x ≡ begun (ended g w m x) n
-ended_either g w n m x =
-    ap₂ (λ (d : Drains) b. record (begun (ended g w m x) n) { drains = d; completions = if b then with_posted g.cq w.completions (completion_for (entry_of w.requests m) x.res x.bytes) else w.completions })
-    (drains_ended_started g.linux (requests_of w) n m x.res) (posts_started g.linux w.requests n m x.res)
+ended_either g w n m x = rw (drains_ended_started g.linux (requests_of w) n m x.res, posts_started g.linux w.requests n m x.res)
 
 -- both orders of a start and an end
 record BothOrders (g : Setup) (h : History) (n : ℕ) (e : Event) : Type 0 where
@@ -120,10 +114,9 @@ pub data EndView (linux : Bool) (r : Requests) (m : ℕ) : Event → Type 0 wher
   ends_by : (runs : Bool) (x : Outcome) → (runs ≡ false → ends_doomed linux r m ≡ true) → EndView linux r m (end_by runs m x)
 
 pub view : (linux : Bool) (r : Requests) (m : ℕ) (e : Event) → Ends linux r m e → EndView linux r m e
-view linux r m (step.Finish k, answer.Ended res bytes) is =
-    subst (λ j. EndView linux r m (step.Finish j, answer.Ended res bytes)) (sym is) (ends_by true (record { res = res; bytes = bytes }) (λ no. absurd cc))
+view linux r m (step.Finish k, answer.Ended res bytes) is = rw is (ends_by true (record { res = res; bytes = bytes }) (λ no. absurd cc))
 view linux r m (step.Issue k, answer.Ended res bytes) is =
-    subst (λ j. EndView linux r m (step.Issue j, answer.Ended res bytes)) (sym is.0) (ends_by false (record { res = res; bytes = bytes }) (λ idle. subst (λ j. ends_doomed linux r j ≡ true) is.0 is.1))
+    rw is.0 (ends_by false (record { res = res; bytes = bytes }) (λ idle. rw is.0 at is.1))
 view linux r m _ is = absurd is
 
 start_then : (g : Setup) (h : History) (m n : ℕ) (e : Event) → EndView g.linux (world g h).requests m e → m ≢ n
