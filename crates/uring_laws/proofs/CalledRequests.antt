@@ -27,12 +27,9 @@ apart_still l q f apart =
 
 module _ (l : LinuxRequests) (gone : HasGoneOn l.requests l.drains.deferred) where
   -- after one group that is accepted
-  group_same : (q : LinuxRequests) → Follows l q → (n : ℕ) → n < length l.requests.accepted
-      → is_in_some (with_group q.requests q.drains).deferred n ≡ is_deferred l n
-  group_same q f n lt = grind (arith, apart_still, unmoved, pushed_old, in_pushed, still_fewer, true_from_ne_false, both_ways)
-
   group_follows : (q : LinuxRequests) → Follows l q → Follows l (record q { drains = with_group q.requests q.drains })
-  group_follows q f = grind (arith, group_same)
+  group_follows q f =
+      grind (arith, apart_still, unmoved, pushed_old, in_pushed, still_fewer, true_from_ne_false, both_ways)
 
   accepted_follows : (q : LinuxRequests) (e : Sqe) → Follows l q → Follows l (with_accepted q e)
   accepted_follows q e f =
@@ -73,10 +70,7 @@ module _ (r : Requests) (entries : List Sqe) (cut : IsCut r) (n : ℕ) (within :
   outstanding_kept = grind (arith, (longer r entries cut))
 
 module _ (l : LinuxRequests) (entries : List Sqe) (cut : IsCut l.requests) (n : ℕ) (within : n < length l.requests.accepted) where
-  abbrev r : Requests
-  r = l.requests
-
-  ends_doomed_kept : (linux : Bool) → ends_doomed linux (with_call r entries) n ≡ ends_doomed linux r n
+  ends_doomed_kept : (linux : Bool) → ends_doomed linux (with_call l.requests entries) n ≡ ends_doomed linux l.requests n
   ends_doomed_kept linux = grind (arith, turn_kept, doom_called, doom_kept)
 
   may_start_kept : (linux : Bool) → (linux ≡ true → IsBetween l) → may_start linux (called_by linux l entries) n ≡ may_start linux l n

@@ -31,11 +31,6 @@ module _ (r : Requests) (m : ℕ) (res : ℤ) (bytes : List ℕ) (n : ℕ) where
   pub ready_end : is_ready r n ≡ true → is_ready q n ≡ true
   ready_end ready = grind (arith, is_ready_yes, is_ready_inside, waits_end, list_any_push)
 
-  -- who is doomed stays so after an end
-  stays_doomed : is_doomed r n ≡ true → is_doomed q n ≡ true
-  unfolding is_doomed some_member is_joined
-  stays_doomed doomed = grind (arith, after_stays r m res bytes n, doomed)
-
   -- By Linux's rules.
 
   turn_end : is_in_turn r n ≡ true → is_in_turn q n ≡ true
@@ -47,8 +42,10 @@ module _ (r : Requests) (m : ℕ) (res : ℤ) (bytes : List ℕ) (n : ℕ) where
   pub outstanding_end : n ≢ m → is_outstanding q n ≡ is_outstanding r n
   outstanding_end differ = grind (arith, has_ended_other)
 
+  -- who is to end as doomed stays so after an end
   pub ends_doomed_stays : (linux : Bool) → ends_doomed linux r n ≡ true → ends_doomed linux q n ≡ true
-  ends_doomed_stays linux doomed = grind (arith, and_from, turn_end, doom_stays, stays_doomed)
+  unfolding is_doomed some_member is_joined
+  ends_doomed_stays linux doomed = grind (arith, and_from, turn_end, doom_stays, after_stays)
 
   first_one_end : first_of q n ≡ first_of r n
   unfolding first_of is_joined

@@ -1,6 +1,6 @@
 -- Groups that a drain holds back: where they stand, whether their members ask to drain, and who goes on first.
-use Rattle.std.proofs.Common.{◌≡◌, ℕ, suc, ◌-◌, ◌<◌, ◌≤◌, min, max, length, Bool, true, false, ◌&&◌, ◌||◌, List, [], ◌∷◌, ◌++◌, arith, inl, inr}
-use Rattle.uring_laws.proofs.Common.{Deferred, InOrder, Requests, among_tells, both_ways, cases_Bool, drain_before, drains, entry_of, from_drain, is_drain, is_in_group, is_in_some, is_joined, is_joined_no, is_joined_yes, is_last, length_push, or_cases, order_above, some_below_none, still_deferred, takes_drain}
+use Rattle.std.proofs.Common.{◌≡◌, ℕ, suc, ◌-◌, ◌<◌, ◌≤◌, min, max, length, Bool, true, false, ◌&&◌, ◌||◌, List, [], ◌∷◌, ◌++◌, arith}
+use Rattle.uring_laws.proofs.Common.{Deferred, InOrder, Requests, among_tells, both_ways, drain_before, drains, entry_of, from_drain, is_drain, is_in_group, is_in_some, is_joined, is_joined_no, is_joined_yes, is_last, length_push, or_cases, order_above, some_below_none, still_deferred, takes_drain}
 
 -- whether n makes its group drain: it asks to, or takes a drain that is owed
 abbrev pub marks : Requests → ℕ → Bool
@@ -49,13 +49,8 @@ drain_calm r low (g ∷ rest) high n t here gone =
 pub gone_calm : (r : Requests) (low : ℕ) (xs : List Deferred) (high n m : ℕ) → AreTold r low xs high
     → is_in_some xs n ≡ true → is_in_some (still_deferred true xs) n ≡ false → is_in_some xs m ≡ true
     → m < n → is_joined r m n ≡ false → (drains r n ≡ false) × (drains r m ≡ false)
-gone_calm r low [] high n m t here gone there lt apart = absurd (let f : false ≡ true = here in cc)
-gone_calm r low (g ∷ rest) high n m t here gone there lt apart = elim (cases_Bool g.drains) [
-  | inl told ↦ grind (arith, or_cases, among_tells, both_ways, joined_told, order_above)
-  | inr still ↦
-      let calm_past = drain_calm r low (g ∷ rest) high in
-      grind (arith, (calm_past n t here), (calm_past m t there), (drain_before (IsTold r) low (g ∷ rest) high n m t here))
-]
+gone_calm r low xs high n m t here gone there lt apart =
+    grind (arith, (drain_calm r low xs high n t here), (drain_calm r low xs high m t there), (drain_before (IsTold r) low xs high n m t here), or_cases, among_tells, both_ways, joined_told, order_above)
 
 pub left_calm : (r : Requests) (low : ℕ) (xs : List Deferred) (g : Deferred) (high k : ℕ)
     → AreTold r low (xs ++ g ∷ []) high → g.drains ≡ false → still_deferred true (xs ++ g ∷ []) ≡ []

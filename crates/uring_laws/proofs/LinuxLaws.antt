@@ -1,6 +1,6 @@
 -- The laws of `linux.rt`: doomed requests, links, drains and cancels by Linux's rules.
-use Rattle.std.proofs.Common.{◌≡◌, ℕ, ◌<◌, ◌==◌, true, [], ◌∷◌, ◌++◌, Some, length, slice_get, refl, ◌∙◌, arith}
-use Rattle.uring_laws.proofs.Common.{Answer, CancelledWereDoomed, CancelsDoomNobody, Change, DeferredDontStart, DoomedNeverRun, DoomedStayDoomed, DrainsHold, Ending, HasHappened, History, IsIssued, IsLawfulApart, IsStart, LeastFreeGoesOn, LinuxRequests, MembersGoInOrder, Move, Requests, Setup, Step, World, by_linux, change_of, count_none, has_ended, history_happens, is_outstanding, least_below_out, move_of, outstanding_tells, refuses, requests_of, sound_of, world}
+use Rattle.std.proofs.Common.{◌≡◌, ℕ, ◌<◌, ◌==◌, true, [], ◌∷◌, ◌++◌, length, refl, ◌∙◌, arith}
+use Rattle.uring_laws.proofs.Common.{Answer, CancelledWereDoomed, CancelsDoomNobody, Change, DeferredDontStart, DoomedNeverRun, DoomedStayDoomed, DrainsHold, HasHappened, History, IsIssued, IsLawfulApart, IsStart, LeastFreeGoesOn, LinuxRequests, MembersGoInOrder, Move, Requests, Setup, Step, World, by_linux, change_of, count_none, has_ended, history_happens, is_outstanding, least_below_out, move_of, outstanding_tells, refuses, requests_of, sound_of, world}
 use Rattle.uring_laws.specs.LinuxLaws.{waits_for}
 use Rattle.uring_linux.specs.LinuxRequests.{is_doomed, doomed_result}
 use Rattle.uring_core.specs.declared.step.Step.TheVariants as step
@@ -9,13 +9,9 @@ use Rattle.uring_laws.proofs.ToldRequests.{tells_requests}
 use Rattle.uring_laws.proofs.Growth.{grows, event_grows, then_grows, lawful_before, IsCut}
 use Rattle.uring_laws.proofs.OrderLaws.{result_told, end_there, ended_once, cancelled_doomed, started_so}
 use Rattle.uring_laws.proofs.LinuxDrains.{waits_for_none}
-use Rattle.uring_laws.proofs.LinuxSound.{IsFirst, IsSoundLinux, turn_first, doom_started, doom_stays, doom_called, Starts, starts_so, linux_sound}
+use Rattle.uring_laws.proofs.LinuxSound.{IsFirst, turn_first, doom_started, doom_stays, doom_called, Starts, starts_so, linux_sound}
 
 -- The doomed.
-
-doomed_end : (r : Requests) (k : ℕ) (e : Ending) → IsSoundLinux r → slice_get r.ended k ≡ Some e
-    → is_doomed r e.number ≡ true → e.res ≡ doomed_result r e.number
-doomed_end r k e s at doomed = grind (arith, (result_told r.ended k e (doomed_result r e.number) at), (end_there r k e at))
 
 pub never_run : (g : Setup) (h : History) → IsLawfulApart (by_linux g) h
     → DoomedNeverRun (by_linux g) h
@@ -25,7 +21,7 @@ never_run g h lawful =
     let t = tells_requests (by_linux g) h lawful in
     record {
       never_run = λ n doomed. rw t.started (count_none (λ m. m == n) r.started (grind (arith, s.started_spared, doomed)));
-      ends_so = λ k e at doomed. doomed_end r k e s (rw t.ended at at) doomed;
+      ends_so = λ k e at doomed. result_told r.ended k e (doomed_result r e.number) (rw t.ended at at) (s.ended_how e.number (end_there r k e (rw t.ended at at)) doomed);
     }
 
 -- who is doomed stays so, event by event

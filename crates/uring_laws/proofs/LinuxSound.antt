@@ -108,13 +108,10 @@ module _ (r : Requests) (entries : List Sqe) (cut : IsCut r) where
   refused_kept : (n : ℕ) → n < length r.accepted → is_refused_drain (with_call r entries) n ≡ is_refused_drain r n
   refused_kept n below = grind (arith, some_below_same, entry_kept)
 
-  fault_kept : (n : ℕ) → n < length r.accepted → has_fault (with_call r entries) n ≡ has_fault r n
-  fault_kept n below = grind (arith, entry_kept, refused_kept)
-
   faulty_kept : (n : ℕ) → n < length r.accepted → is_in_faulty_group (with_call r entries) n ≡ is_in_faulty_group r n
   unfolding is_in_faulty_group
   faulty_kept n below =
-      grind (arith, (some_below_between (λ m. is_in_group (with_call r entries) m n && has_fault (with_call r entries) m) (length r.accepted) (length (with_call r entries).accepted) (longer r entries cut)), group_apart, some_below_same, join_kept, fault_kept)
+      grind (arith, (some_below_between (λ m. is_in_group (with_call r entries) m n && has_fault (with_call r entries) m) (length r.accepted) (length (with_call r entries).accepted) (longer r entries cut)), group_apart, some_below_same, join_kept, entry_kept, refused_kept)
 
   after_kept : (n : ℕ) → n < length r.accepted → is_after_failure (with_call r entries) n ≡ is_after_failure r n
   unfolding is_after_failure

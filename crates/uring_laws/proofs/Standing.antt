@@ -2,27 +2,17 @@
 -- Each from the answer that is called for, with `Stands` for what the definitions test; no history is needed.
 -- Stable: other crates may import what is pub.
 use Rattle.std.proofs.Common.{◌≡◌, ℕ, ◌+◌, ◌<◌, ◌≤◌, false, List, [], ◌∷◌, ◌++◌, length, map, None, slice_get, refl, sym, ap, arith, append_assoc, append-nil}
-use Rattle.uring_laws.proofs.Common.{All, All-head, All-tail, Answer, CallCloses, CallOpens, CalledForApart, FreeSlotIsFilled, IsItem, ItemsArePublished, PositionIsTaken, Published, Setup, Stands, Submission, TailPublishes, WordIsStaged, World, bad_word, happens, in_call, is_busy, is_full, item_of, length-append, length-map, map-append, place_answer, place_of, slice_get-get_or, sum_by_push, taken, with_entry, with_item, with_items}
+use Rattle.uring_laws.proofs.Common.{All, All-head, All-tail, Answer, CallCloses, CallOpens, CalledForApart, FreeSlotIsFilled, IsItem, ItemsArePublished, PositionIsTaken, Published, Setup, Stands, Submission, TailPublishes, WordIsStaged, World, bad_word, happens, in_call, item_of, length-append, length-map, map-append, place_answer, place_of, slice_get-get_or, sum_by_push, taken, with_entry, with_item, with_items}
 use Rattle.std.proofs.Math.ListN.{drop_of_length-le}
 use Rattle.uring_core.specs.declared.step.Step.TheVariants as step
 
 -- Filling and staging.
 
--- no slot is busy
-pub slots_free : (l : Submission) (words : List ℕ) (slot : ℕ) → Stands l words 0
-    → is_busy l slot ≡ false
-slots_free l words slot s = grind (arith, drop_of_length-le)
-
--- the ring has room for further words
-pub room_left : (size : ℕ) (l : Submission) (words : List ℕ) → Stands l words 0
-    → length words < size → is_full size l ≡ false
-room_left size l words s few = grind (arith, (ap length s.fresh))
-
 pub slot_filled : (g : Setup) → FreeSlotIsFilled g
-slot_filled g w words slot entry a s low called = grind (arith, slots_free)
+slot_filled g w words slot entry a s low called = grind (arith, drop_of_length-le)
 
 pub word_staged : (g : Setup) → WordIsStaged g
-word_staged g w words word a s few called = grind (arith, room_left)
+word_staged g w words word a s few called = grind (arith, (ap length s.fresh))
 
 pub tail_publishes : (g : Setup) → TailPublishes g
 tail_publishes g l words s = grind (arith, length-append, length-map)
@@ -57,12 +47,9 @@ read_back : (size : ℕ) (l : Submission) (slot : ℕ) (items : List Published)
     → map (λ p. item_of p.word p.entry) (map (place_of size (with_items l slot items).content) (words_of slot items))
     ≡ items
 read_back size l slot [] few good = refl
-read_back size l slot (with_entry entry ∷ later) few good =
-    let l' : Submission = with_item l slot (with_entry entry) in
-    grind (arith, (slots_below l' (slot + 1) later slot), (read_back size l' (slot + 1) later), (All-tail (IsItem size) (with_entry entry) later good))
-read_back size l slot (bad_word word ∷ later) few good =
-    let l' : Submission = with_item l slot (bad_word word) in
-    grind (arith, (read_back size l' (slot + 1) later), (All-tail (IsItem size) (bad_word word) later good), (All-head (IsItem size) (bad_word word) later good))
+read_back size l slot (item ∷ later) few good =
+    let l' : Submission = with_item l slot item in
+    grind (arith, (slots_below l' (slot + 1) later slot), (read_back size l' (slot + 1) later), (All-tail (IsItem size) item later good), (All-head (IsItem size) item later good))
 
 pub items_published : ItemsArePublished
 items_published l size items none few good = grind (arith, map-append, items_keep, items_fresh, read_back)

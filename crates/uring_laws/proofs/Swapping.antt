@@ -56,13 +56,10 @@ end_step false n = step.Issue n
 abbrev pub end_by : (runs : Bool) → ℕ → Outcome → Event
 end_by runs n x = (end_step runs n, answer.Ended x.res x.bytes)
 
-abbrev doom : (linux : Bool) → Requests → ℕ → Outcome
-doom linux r n = record { res = doomed_result linux r n; bytes = no_bytes }
-
 -- n may end so: it runs and its operation gives this, or it is to end as doomed
 abbrev pub MayEnd : Setup → World → (runs : Bool) → ℕ → Outcome → Type 0
 MayEnd g w true n x = (is_running w.requests n ≡ true) × IsOutcome (files_of g w) (operation_of (entry_of w.requests n)) x
-MayEnd g w false n x = IsToEnd g.linux w.requests n × (x ≡ doom g.linux w.requests n)
+MayEnd g w false n x = IsToEnd g.linux w.requests n × (x ≡ record { res = doomed_result g.linux w.requests n; bytes = no_bytes })
 
 -- an end that is called for, of one that is doomed if it doesn't run
 pub may_end : (g : Setup) (w : World) (runs : Bool) (n : ℕ) (x : Outcome)
@@ -89,12 +86,9 @@ ended_either : (g : Setup) (w : World) (n m : ℕ) (x : Outcome) → ended g (be
 ended_either g w n m x = rw (drains_ended_started g.linux (requests_of w) n m x.res, posts_started g.linux w.requests n m x.res)
 
 -- both orders of a start and an end
-record BothOrders (g : Setup) (h : History) (n : ℕ) (e : Event) : Type 0 where
-  later : ChangePlaces g h (start_of n) e
-  earlier : ChangePlaces g h e (start_of n)
-
 both_orders : (g : Setup) (h : History) (runs : Bool) (m n : ℕ) (x : Outcome) → m ≢ n → MayEnd g (world g h) runs m x
-    → CanStart g.linux (requests_of (world g h)) n → IsLawful g h → BothOrders g h n (end_by runs m x)
+    → CanStart g.linux (requests_of (world g h)) n → IsLawful g h
+    → ChangePlaces g h (start_of n) (end_by runs m x) × ChangePlaces g h (end_by runs m x) (start_of n)
 both_orders g h runs m n x differ may can lawful =
     let w : World = world g h in
     let started : IsLawful g (start_of n ∷ h) = (start_called g w n can, lawful) in
@@ -104,10 +98,7 @@ both_orders g h runs m n x differ may can lawful =
     let could : CanStart g.linux (requests_of (ended g w m x)) n = start_past (requests_of w) m x.res x.bytes n first.still g.linux (λ e. differ (sym e)) can in
     let same : world g (end_by runs m x ∷ start_of n ∷ h) ≡ world g (start_of n ∷ end_by runs m x ∷ h) = second.makes ∙ (ended_either g w n m x ∙ ap (λ (u : World). begun u n) (sym first.makes)) in
     let after : CalledFor g (world g (end_by runs m x ∷ h)) (step.Issue n) answer.Run = subst (λ u. answer.Run ≡ issue_answer g u n) (sym first.makes) (start_called g (ended g w m x) n could) in
-    record {
-      later = record { lawful = (after, (first.called, lawful)); alike = alike_same g _ _ same };
-      earlier = record { lawful = (second.called, started); alike = alike_same g _ _ (sym same) };
-    }
+    (record { lawful = (after, (first.called, lawful)); alike = alike_same g _ _ same }, record { lawful = (second.called, started); alike = alike_same g _ _ (sym same) })
 
 -- an event that ends m, by what it is
 pub data EndView (linux : Bool) (r : Requests) (m : ℕ) : Event → Type 0 where
@@ -125,7 +116,7 @@ start_then g h m n e (ends_by runs x doomed) differ lawful =
     let w : World = world g h in
     let files : files_of g (begun w n) ≡ files_of g w = files_kept g (step.Issue n) answer.Run h (lawful_apart g (start_of n ∷ h) lawful.1) tt in
     let may : MayEnd g (begun w n) runs m x = may_end g (begun w n) runs m x (λ idle. ends_doomed_started g.linux w.requests n m ∙ doomed idle) lawful.0 in
-    (both_orders g h runs m n x differ ((may_same g w n m x differ files runs).1 may) (can_start g w n lawful.1.0) lawful.1.1).later
+    (both_orders g h runs m n x differ ((may_same g w n m x differ files runs).1 may) (can_start g w n lawful.1.0) lawful.1.1).0
 
 pub start_then_end : (g : Setup) → StartThenEnd g
 start_then_end g h m n e is differ lawful = search (rules, start_then, view)
@@ -138,7 +129,7 @@ then_start g h m n e (ends_by runs x doomed) ready lawful =
     let end : IsEnd g w m x (end_step runs m) = is_end g w runs m x may in
     let could : CanStart g.linux (requests_of (ended g w m x)) n = can_start g (ended g w m x) n (subst (λ u. answer.Run ≡ issue_answer g u n) end.makes lawful.0) in
     let differ : n ≢ m = other_than w.requests m x.res x.bytes n could.outstanding in
-    (both_orders g h runs m n x (λ e. differ (sym e)) may (start_ahead (requests_of w) m x.res x.bytes n end.still g.linux differ ready could) lawful.1.1).earlier
+    (both_orders g h runs m n x (λ e. differ (sym e)) may (start_ahead (requests_of w) m x.res x.bytes n end.still g.linux differ ready could) lawful.1.1).1
 
 pub end_then_start : (g : Setup) → EndThenStart g
 end_then_start g h m n e is ready lawful = then_start g h m n e (view g.linux (world g h).requests m e is) ready lawful
