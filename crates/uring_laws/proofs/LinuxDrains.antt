@@ -1,14 +1,15 @@
 -- By Linux's rules what isn't deferred waits for no drain: whoever may start has nobody before it that a drain puts there. By what has happened, one submission call, start or end after the other.
-use Rattle.std.proofs.Common.{◌≡◌, ℕ, suc, ◌+◌, ◌<◌, ◌≤◌, length, Bool, true, false, not, ◌&&◌, ◌||◌, ◌==◌, List, [], ◌∷◌, refl, arith, inl, inr, rules, subst, ap₂, ◌∙◌}
-use Rattle.uring_laws.proofs.Common.{Deferred, Drains, End, Happening, IsSettled, LinuxRequests, MayHaveHappened, Requests, Sqe, Start, accepted_faults, accepted_settled, after_going_on, all_between, and_parts, any_kept, both_ways, cases_lt, cond_both, cut_faults, deferred_with, drains, entry_of_accepted_at, false_from_ne_true, group_faulty, has_ended, has_fault, healthy_from, is_alone, is_deferred, is_drain, is_faulty_from, is_first, is_granted_drain, is_joined, is_joined_no, is_joined_yes, is_last, is_linked, is_owed_by, is_past, length_push, lt-ltb, ltb-true, made_by, may_take, nat_lt, not-true, not_alone, or_parts, order_higher, order_push, order_still, owes_drain, pushed_new, pushed_old, ring_off, some_below, some_below_in, some_below_none, some_below_out, some_below_some, takes_drain, true_from_ne_false, with_accepted, with_cut, with_deferred, with_entries, with_group, with_last_entry, with_ring}
+use Rattle.std.proofs.Common.{◌≡◌, ℕ, suc, ◌+◌, ◌<◌, ◌≤◌, length, Bool, true, false, not, ◌&&◌, ◌||◌, ◌==◌, List, [], ◌∷◌, refl, arith, inl, inr, rules, subst}
+use Rattle.uring_laws.proofs.Common.{Deferred, Drains, End, Happening, IsSettled, LinuxRequests, MayHaveHappened, Requests, Sqe, Start, accepted_faults, accepted_settled, after_going_on, all_between, and_parts, any_kept, both_ways, cases_lt, cond_both, cut_faults, deferred_with, drains, entry_of_accepted_at, false_from_ne_true, group_faulty, has_ended, has_fault, healthy_from, is_alone, is_faulty_from, is_first, is_granted_drain, is_joined_no, is_joined_yes, is_last, is_linked, is_owed_by, length_push, lt-ltb, ltb-true, made_by, may_take, nat_lt, not-true, not_alone, or_parts, order_higher, order_push, order_still, owes_drain, pushed_new, pushed_old, ring_off, some_below, some_below_in, some_below_none, some_below_out, some_below_some, takes_drain, true_from_ne_false, with_accepted, with_cut, with_deferred, with_entries, with_group, with_last_entry, with_ring}
 use Rattle.uring_linux.specs.Happenings.{Call}
 use Rattle.uring_linux.specs.LinuxRequests.{is_in_faulty_group, with_ended}
 use Rattle.uring_entry.specs.Requests as manual
-use Rattle.uring_entry.proofs.GroupEvents.{entry_same, is_last_cut, is_last_cut_last}
+use Rattle.uring_entry.proofs.RequestLemmas.{entry_of_accepted_other}
+use Rattle.uring_entry.proofs.GroupEvents.{is_last_cut, is_last_cut_last}
 use Rattle.uring_linux.proofs.WindowEvents.{last_accepted, last_kept, refused_accepted}
 use Rattle.uring_linux.proofs.Standings.{fine_let_in}
 use Rattle.uring_laws.proofs.LinuxGroups.{marks, IsTold, AreTold, calm, gone_calm, left_calm}
-use Rattle.uring_laws.proofs.LinuxKept.{HasDrain, Waits, KeepsGroups, WaitForNone, RingDrains, IsOwed, Holds, IsDrained, more_waits, more_ring, more_told, more_begins, still_holds, more_group, more_owed}
+use Rattle.uring_laws.proofs.LinuxKept.{HasDrain, KeepsGroups, WaitForNone, RingDrains, IsOwed, Holds, IsDrained, more_waits, more_ring, more_told, more_begins, still_holds, more_group, more_owed}
 
 -- Whoever goes on waits for nobody that hasn't ended.
 
@@ -91,13 +92,7 @@ module _ (l : LinuxRequests) (e : Sqe) (s : IsSettled l) (i : IsDrained l.reques
   more = length_push l.requests.accepted e
 
   keeps : KeepsGroups l.requests q
-  keeps = record {
-    faults = accepted_faults l.requests e;
-    cut = λ k lt is. last_accepted l.requests e k lt ∙ is;
-    let_in = λ k lt. ap₂ (λ x y. x && not y) (entry_same l.requests e is_past k lt) (refused_accepted l.requests e k lt);
-    drain = entry_same l.requests e is_drain;
-    ended = λ k is. is;
-  }
+  keeps = grind (arith, accepted_faults, entry_of_accepted_other, refused_accepted, last_accepted)
 
   -- the entry is the first of its group exactly if a group was accepted right before it
   first_is : (l.drains.from == last) ≡ is_first q last
@@ -182,9 +177,6 @@ all_drained (End n res bytes ∷ earlier) may =
     assumption (told, waits, h, i)
 
 -- what isn't deferred, of a group without a fault, waits for nobody that hasn't ended
-pub waits_for_none : (happened : List Happening) → MayHaveHappened happened → (n m : ℕ)
-    → n < length (made_by happened).requests.accepted → m < n
-    → is_joined (made_by happened).requests m n ≡ false → is_deferred (made_by happened) n ≡ false
-    → is_in_faulty_group (made_by happened).requests n ≡ false → Waits (made_by happened).requests n m
-    → has_ended (made_by happened).requests m ≡ true
+pub waits_for_none : (happened : List Happening) → MayHaveHappened happened
+    → WaitForNone (made_by happened).requests (length (made_by happened).requests.accepted) (made_by happened).drains.deferred
 waits_for_none happened may n m lt under apart free right w = grind (arith, all_between, all_drained)

@@ -1,6 +1,6 @@
 -- Of groups that drain by Linux's rules: what is so of the requests whatever happened, and stays as more is accepted after them.
-use Rattle.std.proofs.Common.{◌≡◌, ℕ, suc, ◌<◌, ◌≤◌, length, true, false, ◌&&◌, List, ◌∙◌, sym, arith, ◌⊎◌, rules}
-use Rattle.uring_laws.proofs.Common.{Deferred, Drains, FaultsKept, Requests, and_left, drains, entry_of, has_ended, has_fault, is_drain, is_first, is_in_group, is_in_some, is_joined, is_last, is_let_in, is_owed_by, joined_kept, may_take, nat_lt, order_kept, owes_drain, right_kept, some_below, some_below_between, some_below_same}
+use Rattle.std.proofs.Common.{◌≡◌, ℕ, suc, ◌<◌, ◌≤◌, length, true, false, ◌&&◌, List, arith, ◌⊎◌, rules}
+use Rattle.uring_laws.proofs.Common.{Deferred, Drains, FaultsKept, Requests, drains, entry_of, has_ended, has_fault, is_drain, is_first, is_in_group, is_in_some, is_joined, is_last, is_let_in, is_owed_by, joined_kept, may_take, nat_lt, order_kept, owes_drain, right_kept, some_below_between, some_below_same}
 use Rattle.uring_linux.specs.LinuxRequests.{is_in_faulty_group}
 use Rattle.uring_laws.proofs.LinuxGroups.{marks, IsTold, AreTold, parted}
 
@@ -12,12 +12,6 @@ pub record HasDrain (r : Requests) (n : ℕ) : Type 0 where
 -- n's group waits for m's: it drains, or m's does
 abbrev pub Waits : Requests → ℕ → ℕ → Type 0
 Waits r n m = (drains r n ≡ true) ⊎ HasDrain r m
-
--- up to the end of a group that it isn't after, n's group drains if it does at all
-drains_to : (r : Requests) (n end : ℕ) → end ≤ length r.accepted → n < end → ((k : ℕ) → suc k ≡ end → is_last r k ≡ true)
-    → drains r n ≡ some_below (λ m. is_in_group r m n && marks r m) end
-drains_to r n end within lt ends =
-    some_below_between (λ m. is_in_group r m n && marks r m) end (length r.accepted) within (λ k le _. and_left _ _ (parted r k n end ends (omega (arith, lt)) (omega (arith, le))))
 
 -- Requests that more was accepted after.
 
@@ -81,15 +75,14 @@ module _ (r q : Requests) (d : Drains) (same : KeepsGroups r q) (low : d.from �
   pub more_begins : (k : ℕ) → suc k ≡ d.from → is_last q k ≡ true
   more_begins k is = same.cut k (omega (arith, is, low)) (i.begins k is)
 
-  group_before : (m n : ℕ) → n < d.from → m < d.from → (is_in_group q m n && marks q m) ≡ (is_in_group r m n && marks r m)
-  group_before m n lt under = grind (arith, joined_kept r q same.faults, marks_same)
-
   -- a group that was there before drains exactly if it did
   drains_before : (n : ℕ) → n < d.from → drains q n ≡ drains r n
   drains_before n lt =
-      drains_to q n d.from (let more = same.faults.count in omega (arith, more, low)) lt more_begins
-      ∙ some_below_same (λ m. is_in_group q m n && marks q m) (λ m. is_in_group r m n && marks r m) d.from (λ m under. group_before m n lt under)
-      ∙ sym (drains_to r n d.from low lt i.begins)
+      let p = λ (t : Requests) (m : ℕ). is_in_group t m n && marks t m in
+      let later = some_below_between (p q) d.from (length q.accepted) in
+      let others = some_below_between (p r) d.from (length r.accepted) low in
+      let same_below = some_below_same (p q) (p r) d.from in
+      grind (arith, later, others, same_below, (λ (m : ℕ). parted q m n d.from more_begins), (λ (m : ℕ). parted r m n d.from i.begins), (joined_kept r q same.faults), marks_same, same.faults.count)
 
   pub more_waits : WaitForNone q d.from d.deferred
   more_waits n m lt under apart out right w =

@@ -1,6 +1,6 @@
 -- What why says, from what each case of it says: proofs of the laws on reasons.
-use Rattle.std.proofs.Common.{◌≡◌, ℕ, ◌<◌, ◌≤◌, length, Bool, true, false, not, Option, Some, None, is_some, refl, sym, ◌∙◌, ap, arith, inl, inr}
-use Rattle.uring_laws.proofs.Common.{IsLeast, Requests, entry_of, failed_member_of, fault_of, faulty_member_of, first_doom, has_ended, holder_of, holds_back, is_after_failure, is_doomed, is_failure_before, is_faulty_member, is_in_faulty_group, is_in_turn, is_issuable, is_joined, is_joined_inside, is_joined_yes, is_outstanding, is_ready, is_running, is_some_least_below, keeps_back, least_below, least_below_tells, since_of, some_member, waits_for, why_of, ◌↔◌, ◌⊎◌}
+use Rattle.std.proofs.Common.{◌≡◌, ℕ, ◌<◌, ◌≤◌, length, Bool, true, false, not, Option, Some, is_some, refl, sym, ap, arith, inl, inr}
+use Rattle.uring_laws.proofs.Common.{IsLeast, Requests, entry_of, failed_member_of, fault_of, faulty_member_of, first_doom, has_ended, holder_of, holds_back, is_after_failure, is_doomed, is_failure_before, is_faulty_member, is_in_turn, is_issuable, is_joined, is_joined_inside, is_joined_yes, is_outstanding, is_ready, is_running, is_some_least_below, keeps_back, least_below, least_below_tells, since_of, some_member, waits_for, why_of, ◌↔◌, ◌⊎◌}
 use Rattle.uring_entry.specs.declared.fault.Fault.{Fault}
 use Rattle.uring_entry.specs.declared.why.Why.{Why}
 use Rattle.uring_entry.specs.declared.why.Why.TheVariants.{NeverAccepted, HasEnded, Runs, IsDoomed, Waits, MayStart}
@@ -55,19 +55,13 @@ waits_said r n m since e = grind (arith, (told_as r n (Waits m since) e), least_
 pub least_of : (p : ℕ → Bool) (bound m : ℕ) → least_below p bound ≡ Some m → IsLeastOf p bound m
 least_of p bound m e = assumption (least_below_tells p bound m e)
 
-no_faulty : (r : Requests) (n : ℕ) → faulty_member_of r n ≡ None → is_in_faulty_group r n ≡ false
-unfolding some_member
-no_faulty r n e =
-    sym (is_some_least_below (is_faulty_member r n) (length r.accepted)) ∙ ap is_some e
-
-no_failed : (r : Requests) (n : ℕ) → failed_member_of r n ≡ None → is_after_failure r n ≡ false
-unfolding is_after_failure
-no_failed r n e = sym (is_some_least_below (is_failure_before r n) n) ∙ ap is_some e
-
 doom_is : (r : Requests) (n : ℕ) (a : Option Fault) (b d : Option ℕ) → fault_of (entry_of r n) ≡ a → faulty_member_of r n ≡ b
     → failed_member_of r n ≡ d → is_doomed r n ≡ true → IsDoomOf r n (first_doom a b d)
-unfolding is_doomed
-doom_is r n a b d x y z doomed = grind (arith, no_faulty, no_failed, least_of)
+unfolding is_doomed some_member is_after_failure
+doom_is r n a b d x y z doomed =
+    let faulty = is_some_least_below (is_faulty_member r n) (length r.accepted) in
+    let failed = is_some_least_below (is_failure_before r n) n in
+    grind (arith, (ap is_some y), (ap is_some z), faulty, failed, least_of)
 
 pub doom_said : (r : Requests) (n : ℕ) (doom : Doom) → why_of r n ≡ IsDoomed doom
     → IsUnstarted r n × (is_doomed r n ≡ true) × IsDoomOf r n doom

@@ -66,9 +66,6 @@ goes_on : (g : Setup) (h : History) (runs : Bool) (n : ℕ) (x : Outcome) → Is
     → MayEnd g (world g h) runs n x → g.linux ≡ true → GoesOn (requests_of (world g h)) n
 goes_on g h runs n x lawful may is = grind (arith, running_goes_on, doomed_goes_on, (lawful_apart g h lawful))
 
-other_end : (r : Requests) (m : ℕ) (res : ℤ) (bytes : List ℕ) (n : ℕ) → has_ended (with_ended r m res bytes) n ≡ false → n ≢ m
-other_end r m res bytes n still same = grind (arith, has_ended_same)
-
 -- Both orders.
 
 one_left : (g : Setup) (h : History) (b : Bool) (m : ℕ) (x : Outcome) → IsLawful g h → MayEnd g (world g h) b m x
@@ -111,7 +108,8 @@ ends_change g h b c m n x y doomed also quiet apart lawful =
     let may_m : MayEnd g w b m x = may_end g w b m x doomed lawful.1.0 in
     let first : IsEnd g w m x (end_step b m) = is_end g w b m x may_m in
     let then_n : MayEnd g v c n y = may_end g v c n y (λ idle. ends_doomed_stays w.requests m x.res x.bytes n g.linux (also idle)) (subst (λ z. CalledFor g z (end_step c n) (answer.Ended y.res y.bytes)) first.makes lawful.0) in
-    let differ : n ≢ m = other_end w.requests m x.res x.bytes n (is_end g v c n y then_n).still in
+    let still = (is_end g v c n y then_n).still in
+    let differ : n ≢ m = grind (arith, still, (has_ended_same w.requests m x.res x.bytes)) in
     let passes = pass g w v b c m n x y apart (one_left g h b m x lawful.1.1 may_m) refl may_m then_n in
     let may_n : MayEnd g w c n y = may_before g w m n x y differ c passes.first also then_n in
     let left_n = one_left g h c n y lawful.1.1 may_n in
