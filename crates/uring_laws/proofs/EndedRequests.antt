@@ -11,11 +11,6 @@ with_end linux l m res bytes =
 
 -- By the manual pages' rules.
 
--- whoever is ready is in no group after one that hasn't ended
-joined_not : (r : Requests) (m n : ℕ) → is_ready r n ≡ true → has_ended r m ≡ false → m < n
-    → is_joined r m n ≡ false
-joined_not r m n ready still low = grind (arith, is_ready_inside r n m ready low)
-
 module _ (r : Requests) (m : ℕ) (res : ℤ) (bytes : List ℕ) (n : ℕ) where
   abbrev q : Requests
   q = with_ended r m res bytes
@@ -62,10 +57,10 @@ module _ (l : LinuxRequests) (m : ℕ) (res : ℤ) (bytes : List ℕ) (n : ℕ) 
   -- a request that can start can do so after the end of another, and could before it if it might then
   pub start_past : (linux : Bool) → n ≢ m → CanStart linux l n → CanStart linux (with_end linux l m res bytes) n
   start_past linux differ c =
-      grind (arith, outstanding_end, and_right, doom_ended, turn_first, doomed_end, joined_not, and_from, turn_end, false_from_ne_true, both_ways, not-true, still_fewer, ready_end)
+      grind (arith, outstanding_end, and_right, doom_ended, turn_first, doomed_end, (is_ready_inside l.requests n m), and_from, turn_end, false_from_ne_true, both_ways, not-true, still_fewer, ready_end)
 
   pub start_ahead : (linux : Bool) → n ≢ m → may_start linux l n ≡ true → CanStart linux (with_end linux l m res bytes) n → CanStart linux l n
-  start_ahead linux differ ready c = grind (arith, outstanding_end, turn_end, doom_ended, turn_first, doomed_end, joined_not)
+  start_ahead linux differ ready c = grind (arith, outstanding_end, turn_end, doom_ended, turn_first, doomed_end, (is_ready_inside l.requests n m))
 
 pub not_ended : (r : Requests) (n : ℕ) → is_outstanding r n ≡ true → has_ended r n ≡ false
 not_ended r n out = grind arith

@@ -19,10 +19,6 @@ AreTold r = InOrder (IsTold r)
 
 -- Members.
 
-joined_told : (r : Requests) (g : Deferred) (m n : ℕ) → IsTold r g → g.from ≤ m → n < g.end
-    → is_joined r m n ≡ true
-joined_told r g m n is low high = is_joined_yes r m n (λ k le lt. is.one k (omega (arith, low, le)) (omega (arith, lt, high)))
-
 -- no group goes on past the end of another
 pub parted : (r : Requests) (m n end : ℕ) → ((k : ℕ) → suc k ≡ end → is_last r k ≡ true)
     → min m n < end → end ≤ max m n → is_in_group r m n ≡ false
@@ -50,7 +46,7 @@ pub gone_calm : (r : Requests) (low : ℕ) (xs : List Deferred) (high n m : ℕ)
     → is_in_some xs n ≡ true → is_in_some (still_deferred true xs) n ≡ false → is_in_some xs m ≡ true
     → m < n → is_joined r m n ≡ false → (drains r n ≡ false) × (drains r m ≡ false)
 gone_calm r low xs high n m t here gone there lt apart =
-    grind (arith, (drain_calm r low xs high n t here), (drain_calm r low xs high m t there), (drain_before (IsTold r) low xs high n m t here), or_cases, among_tells, both_ways, joined_told, order_above)
+    grind (arith, (drain_calm r low xs high n t here), (drain_calm r low xs high m t there), (drain_before (IsTold r) low xs high n m t here), or_cases, among_tells, both_ways, (is_joined_yes r m n), order_above)
 
 pub left_calm : (r : Requests) (low : ℕ) (xs : List Deferred) (g : Deferred) (high k : ℕ)
     → AreTold r low (xs ++ g ∷ []) high → g.drains ≡ false → still_deferred true (xs ++ g ∷ []) ≡ []

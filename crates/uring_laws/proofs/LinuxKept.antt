@@ -60,17 +60,11 @@ module _ (r q : Requests) (d : Drains) (same : KeepsGroups r q) (low : d.from �
   first_same : (k : ℕ) → k < length r.accepted → is_first q k ≡ is_first r k
   first_same k lt = grind (arith, some_below_same, joined_kept r q same.faults)
 
-  owe_same : (k : ℕ) → k < length r.accepted → owes_drain q k ≡ owes_drain r k
-  owe_same k lt = grind (arith, first_same)
-
-  owed_same : (n k : ℕ) → n < length r.accepted → k < n → is_owed_by q n k ≡ is_owed_by r n k
-  owed_same n k under lt = grind (arith, (owe_same k), (some_below_same (λ f. nat_lt k f && may_take q f) (λ f. nat_lt k f && may_take r f) n), first_same)
-
   marks_same : (n : ℕ) → n < length r.accepted → marks q n ≡ marks r n
-  marks_same n lt = grind (arith, (some_below_same (is_owed_by q n) (is_owed_by r n) n (λ k low. owed_same n k lt low)), first_same)
-
-  told_more : (g : Deferred) → g.from < g.end → g.end ≤ length r.accepted → IsTold r g → IsTold q g
-  told_more g some within is = grind (arith, marks_same)
+  marks_same n lt =
+      let owed = some_below_same (is_owed_by q n) (is_owed_by r n) n in
+      let taken = λ (k : ℕ). some_below_same (λ f. nat_lt k f && may_take q f) (λ f. nat_lt k f && may_take r f) n in
+      grind (arith, owed, taken, first_same)
 
   pub more_begins : (k : ℕ) → suc k ≡ d.from → is_last q k ≡ true
   more_begins k is = same.cut k (omega (arith, is, low)) (i.begins k is)
@@ -92,13 +86,13 @@ module _ (r q : Requests) (d : Drains) (same : KeepsGroups r q) (low : d.from �
   more_ring off m lt other = grind (arith, drains_before, right_kept)
 
   pub more_told : AreTold q 0 d.deferred d.from
-  more_told = order_kept (IsTold r) (IsTold q) 0 d.deferred d.from i.told (λ g there some within is. told_more g some (omega (arith, within, low)) is)
+  more_told = order_kept (IsTold r) (IsTold q) 0 d.deferred d.from i.told (λ g there some within is. grind (arith, marks_same))
 
   pub more_group : d.group ≡ false → (k : ℕ) → d.from ≤ k → k < length r.accepted → has_fault q k ≡ false → marks q k ≡ false
   more_group still k le lt fine = grind (arith, (marks_same k lt), (i.group still k le lt), same.faults.fault)
 
   pub more_owed : (k : ℕ) → k < length r.accepted → owes_drain q k ≡ true → ((f : ℕ) → k < f → f < length r.accepted → may_take q f ≡ false) → d.owed ≡ true
-  more_owed k lt owes none = grind (arith, (i.owed k lt), (owe_same k lt), first_same)
+  more_owed k lt owes none = grind (arith, (i.owed k lt), first_same)
 
   -- and all of it, if no more was accepted
   pub still_holds : length q.accepted ≡ length r.accepted → Holds q d

@@ -70,9 +70,7 @@ pub next_taken : (g : Setup) → g.stops ≡ false → g.linux ≡ false → (w 
     → CalledForApart g (in_call w asked done) step.Take a
     → (a ≡ place_answer (slice_get w.submission.published (taken w.submission + done)))
     × (happens g (in_call w asked done) step.Take a ≡ in_call w asked (done + 1))
-next_taken g goes manual w count asked done a s few low called =
-    let is = slice_get-get_or w.submission.published (taken w.submission + done) (record { word = 0; entry = None }) in
-    grind (arith, is)
+next_taken g goes manual w count asked done a s few low called = grind (arith, (position_taken g goes w count asked done a s few low called))
 
 pub call_closes : (g : Setup) → CallCloses g
 call_closes g w count asked left ended loads s all called = grind (arith, sum_by_push)

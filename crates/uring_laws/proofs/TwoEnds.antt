@@ -126,21 +126,12 @@ pub finishes_change : (g : Setup) → FinishesChange g
 finishes_change g h m n x y quiet apart lawful =
     ends_change g h true true m n x y (λ no. absurd cc) (λ no. absurd cc) quiet (λ _ _. apart) lawful
 
-quiet_by : (linux : Bool) (r : Requests) (b c : Bool) (m n : ℕ) (x y : Outcome)
-    → PostsNothing linux r (end_by b m x) ⊎ PostsNothing linux r (end_by c n y) → (posts linux r m x.res ≡ false) ⊎ (posts linux r n y.res ≡ false)
-quiet_by linux r b c m n x y quiet = grind arith
-
-one_doomed : (b c : Bool) (m n : ℕ) (x y : Outcome) → IsIssue (end_by b m x) ⊎ IsIssue (end_by c n y) → b ≡ true
-    → c ≡ true → ⊥
-one_doomed b c m n x y is one two = grind arith
-
 by_views : (g : Setup) (h : History) (m n : ℕ) (d e : Event) → EndView g.linux (world g h).requests m d
     → EndView g.linux (world g h).requests n e → IsIssue d ⊎ IsIssue e
     → PostsNothing g.linux (world g h).requests d ⊎ PostsNothing g.linux (world g h).requests e
     → IsLawful g (e ∷ d ∷ h) → ChangePlaces g h d e
 by_views g h m n d e (ends_by b x doomed) (ends_by c y also) is quiet lawful =
-    ends_change g h b c m n x y doomed also (quiet_by g.linux (world g h).requests b c m n x y quiet)
-    (λ one two. absurd (one_doomed b c m n x y is one two)) lawful
+    ends_change g h b c m n x y doomed also (grind arith) (λ one two. absurd (grind arith)) lawful
 
 pub doomed_ends_change : (g : Setup) → DoomedEndsChange g
 doomed_ends_change g h m n d e one two is quiet lawful =
