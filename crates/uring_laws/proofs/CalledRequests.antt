@@ -1,6 +1,6 @@
 -- Who can start before a call accepts entries can start after it, and the other way round, by either's rules. By Linux's no group that was deferred goes on by a call: something else is outstanding then.
 use Rattle.std.proofs.Common.{◌≡◌, ℕ, ◌<◌, ◌≤◌, Bool, true, false, not, ◌&&◌, nat_lt, List, [], ◌∷◌, length, arith}
-use Rattle.uring_laws.proofs.Common.{HasGoneOn, IsBetween, LinuxRequests, Requests, Sqe, both_ways, cond_both, deferred_with, doom_kept, ends_doomed, entry_kept, false_from_ne_true, has_ended, in_pushed, is_alone, is_deferred, is_in_some, is_in_turn, is_linked, is_outstanding, is_ready, join_kept, keeps_back, length_push, longer, may_start, member_kept, not-false, not_alone, pushed_old, some_below_in, some_below_same, still_fewer, true_from_ne_false, with_accepted, with_call, with_cut, with_entries, with_group, with_last_entry}
+use Rattle.uring_laws.proofs.Common.{HasGoneOn, IsBetween, LinuxRequests, Requests, Sqe, both_ways, cond_both, deferred_with, doom_kept, entry_kept, false_from_ne_true, has_ended, in_pushed, is_alone, is_deferred, is_in_some, is_in_turn, is_linked, is_outstanding, is_ready, join_kept, keeps_back, length_push, longer, member_kept, not-false, not_alone, pushed_old, some_below_in, some_below_same, still_fewer, true_from_ne_false, with_accepted, with_call, with_cut, with_entries, with_group, with_last_entry}
 use Rattle.uring_laws.proofs.Growth.{IsCut}
 use Rattle.uring_entry.specs.Requests as manual
 use Rattle.uring_rules.specs.RulesCalls.{called_by}
@@ -70,14 +70,8 @@ module _ (r : Requests) (entries : List Sqe) (cut : IsCut r) (n : ℕ) (within :
   outstanding_kept = grind (arith, (longer r entries cut))
 
 module _ (l : LinuxRequests) (entries : List Sqe) (cut : IsCut l.requests) (n : ℕ) (within : n < length l.requests.accepted) where
-  ends_doomed_kept : (linux : Bool) → ends_doomed linux (with_call l.requests entries) n ≡ ends_doomed linux l.requests n
-  ends_doomed_kept linux = grind (arith, turn_kept, doom_called, doom_kept)
-
-  may_start_kept : (linux : Bool) → (linux ≡ true → IsBetween l) → may_start linux (called_by linux l entries) n ≡ may_start linux l n
-  may_start_kept linux so = grind (arith, turn_kept, deferred_called, ready_kept)
-
   pub start_kept : (linux : Bool) → (linux ≡ true → IsBetween l) → CanStart linux l n → CanStart linux (called_by linux l entries) n
-  start_kept linux so c = grind (arith, outstanding_kept, ends_doomed_kept, may_start_kept, entry_kept)
+  start_kept linux so c = grind (arith, outstanding_kept, turn_kept, doom_called, doom_kept, deferred_called, ready_kept, entry_kept)
 
   pub start_was : (linux : Bool) → (linux ≡ true → IsBetween l) → CanStart linux (called_by linux l entries) n → CanStart linux l n
-  start_was linux so c = grind (arith, outstanding_kept, ends_doomed_kept, may_start_kept, entry_kept)
+  start_was linux so c = grind (arith, outstanding_kept, turn_kept, doom_called, doom_kept, deferred_called, ready_kept, entry_kept)

@@ -1,6 +1,6 @@
 -- What an end leaves of other requests, by either's rules: who can start, who is to end as doomed and who posts; and the drains that two ends leave, in either order.
 use Rattle.std.proofs.Common.{◌≡◌, ◌≢◌, ℕ, ◌<◌, ℤ, Bool, true, false, ◌||◌, List, length, refl, arith}
-use Rattle.uring_laws.proofs.Common.{is_failure_before, Deferred, LinuxRequests, Requests, and_from, and_right, both_ways, drains_ended, ends_doomed, false_from_ne_true, faulty_ended, first_of, has_ended, has_ended_other, has_ended_same, is_alone, is_doomed, is_in_some, is_in_turn, is_joined, is_outstanding, is_ready, is_ready_inside, is_ready_yes, is_running, least_below_same, list_any_push, may_start, no_bytes, not-true, not_alone, posts, some_below_none, some_member, still_deferred, still_fewer, waits_for, with_ended}
+use Rattle.uring_laws.proofs.Common.{Deferred, LinuxRequests, Requests, and_from, and_right, both_ways, drains_ended, ends_doomed, false_from_ne_true, faulty_ended, first_of, has_ended, has_ended_other, has_ended_same, is_alone, is_doomed, is_failure_before, is_in_some, is_in_turn, is_joined, is_outstanding, is_ready, is_ready_inside, is_ready_yes, is_running, least_below_same, list_any_push, may_start, no_bytes, not-true, not_alone, posts, some_below_none, some_member, still_deferred, still_fewer, waits_for, with_ended}
 use Rattle.uring_laws.proofs.LinuxSound.{IsFirst, after_end, failure_end, doom_ended, doom_stays, first_ended, turn_first, after_stays}
 use Rattle.uring_laws.proofs.StartedRequests.{CanStart}
 

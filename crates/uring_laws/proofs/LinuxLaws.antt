@@ -1,6 +1,6 @@
 -- The laws of `linux.rt`: doomed requests, links, drains and cancels by Linux's rules.
-use Rattle.std.proofs.Common.{◌≡◌, ℕ, ◌<◌, ◌==◌, true, [], ◌∷◌, ◌++◌, length, refl, ◌∙◌, arith}
-use Rattle.uring_laws.proofs.Common.{Answer, CancelledWereDoomed, CancelsDoomNobody, Change, DeferredDontStart, DoomedNeverRun, DoomedStayDoomed, DrainsHold, HasHappened, History, IsIssued, IsLawfulApart, IsStart, LeastFreeGoesOn, LinuxRequests, MembersGoInOrder, Move, Requests, Setup, Step, World, by_linux, change_of, count_none, has_ended, history_happens, is_outstanding, least_below_out, move_of, outstanding_tells, refuses, requests_of, sound_of, world}
+use Rattle.std.proofs.Common.{◌≡◌, ℕ, ◌<◌, ◌==◌, true, [], ◌∷◌, ◌++◌, length, refl, ◌∙◌, arith, false}
+use Rattle.uring_laws.proofs.Common.{Answer, CancelledWereDoomed, CancelsDoomNobody, Change, DeferredDontStart, DoomedNeverRun, DoomedStayDoomed, DrainsHold, HasHappened, History, IsIssued, IsLawfulApart, IsStart, LeastFreeGoesOn, LinuxRequests, MembersGoInOrder, Move, Requests, Setup, Step, World, by_linux, change_of, count_none, has_ended, history_happens, is_deferred, is_in_turn, is_outstanding, least_below_out, move_of, outstanding_tells, refuses, requests_of, sound_of, world}
 use Rattle.uring_laws.specs.LinuxLaws.{waits_for}
 use Rattle.uring_linux.specs.LinuxRequests.{is_doomed, doomed_result}
 use Rattle.uring_core.specs.declared.step.Step.TheVariants as step
@@ -9,7 +9,7 @@ use Rattle.uring_laws.proofs.ToldRequests.{tells_requests}
 use Rattle.uring_laws.proofs.Growth.{grows, event_grows, then_grows, lawful_before, IsCut}
 use Rattle.uring_laws.proofs.OrderLaws.{result_told, end_there, ended_once, cancelled_doomed, started_so}
 use Rattle.uring_laws.proofs.LinuxDrains.{waits_for_none}
-use Rattle.uring_laws.proofs.LinuxSound.{IsFirst, turn_first, doom_started, doom_stays, doom_called, Starts, starts_so, linux_sound}
+use Rattle.uring_laws.proofs.LinuxSound.{IsFirst, turn_first, doom_started, doom_stays, doom_called, linux_sound}
 
 -- The doomed.
 
@@ -55,22 +55,24 @@ in_order g after before m n a lawful issued lt joined =
 
 -- of a request that starts: it was accepted, is spared, in its turn and not deferred
 starting : (g : Setup) (w : World) (n : ℕ) (a : Answer) → Change (by_linux g) w (step.Issue n) a
-    → IsStart w.requests n a → (n < length w.requests.accepted) × Starts (requests_of w) n
-starting g w n a change start = grind (arith, started_so, starts_so)
+    → IsStart w.requests n a
+    → (n < length w.requests.accepted) × (is_in_turn w.requests n ≡ true) × (is_doomed w.requests n ≡ false) × (is_deferred (requests_of w) n ≡ false)
+starting g w n a change start = grind (arith, started_so)
 
 pub not_deferred : (g : Setup) → DeferredDontStart (by_linux g)
 not_deferred g after before n a lawful start = grind (arith, lawful_before, starting)
 
 -- whatever happened, what may start waits for nobody that hasn't ended
 none_waited : (l : LinuxRequests) (n m : ℕ) → HasHappened l → n < length l.requests.accepted → m < n
-    → Starts l n → waits_for l.requests n m ≡ true → has_ended l.requests m ≡ true
-none_waited l n m so lt under start w = grind (arith, turn_first, waits_for_none)
+    → is_in_turn l.requests n ≡ true → is_doomed l.requests n ≡ false → is_deferred l n ≡ false
+    → waits_for l.requests n m ≡ true → has_ended l.requests m ≡ true
+none_waited l n m so lt under turn spared free w = grind (arith, turn_first, waits_for_none)
 
 pub drains_hold : (g : Setup) → DrainsHold (by_linux g)
 drains_hold g after before m n a lawful start lt waits =
     let l = lawful_before (by_linux g) after ((step.Issue n, a) ∷ before) lawful in
     let at = starting g (world (by_linux g) before) n a (change_of (by_linux g) (world (by_linux g) before) (step.Issue n) a l.0) start in
-    ended_once (by_linux g) before m l.1 (none_waited (requests_of (world (by_linux g) before)) n m (history_happens g before l.1) at.0 lt at.1 waits)
+    ended_once (by_linux g) before m l.1 (none_waited (requests_of (world (by_linux g) before)) n m (history_happens g before l.1) at.0 lt at.1 at.2 at.3 waits)
 
 -- Nothing waits for ever.
 

@@ -1,7 +1,7 @@
 -- What holds of the requests of every lawful history by Linux's rules: whoever started or ended did so in its turn, so that it stays as doomed or spared as it was then.
 -- By `Change`, event by event, and over a history by induction (`linux_sound`).
 use Rattle.std.proofs.Common.{◌≡◌, ℕ, ◌-◌, ◌==◌, ◌<◌, ◌≤◌, ℤ, min, max, List, [], ◌∷◌, length, Bool, true, false, not, ◌&&◌, refl, sym, subst, ◌∙◌, ap, arith}
-use Rattle.uring_laws.proofs.Common.{Answer, Change, Decides-int_eq, Ending, History, IsLawfulApart, IsSoundRequests, LinuxRequests, Requests, Setup, Sqe, Step, World, any_kept, any_looser, any_new, both_ways, by_linux, cancels, change_of, dooms, entry_kept, eqb-true, false_from_ne_true, faulty_ended, finishes, happens, has_ended, has_failed_other, has_fault, has_started, int_eq, is_after_failure, is_after_failure_from, is_after_failure_tells, is_deferred, is_failure_before, is_in_group, is_in_turn, is_joined, is_joined_ended, is_joined_no, is_joined_started, is_refused_drain, join_kept, keeps_back, list_any, list_any_push, longer, not-true, or_from, outstanding_tells, refuses, requests_of, runs, some_below_between, some_below_out, some_below_same, sound_of, with_call, with_ended, with_started, world}
+use Rattle.uring_laws.proofs.Common.{Answer, Change, Decides-int_eq, Ending, History, IsLawfulApart, IsSoundRequests, Requests, Setup, Sqe, Step, World, any_kept, any_looser, any_new, both_ways, by_linux, cancels, change_of, dooms, entry_kept, eqb-true, false_from_ne_true, faulty_ended, finishes, happens, has_ended, has_failed_other, has_fault, has_started, int_eq, is_after_failure, is_after_failure_from, is_after_failure_tells, is_failure_before, is_in_group, is_in_turn, is_joined, is_joined_ended, is_joined_no, is_joined_started, is_refused_drain, join_kept, keeps_back, list_any, list_any_push, longer, not-true, or_from, outstanding_tells, refuses, requests_of, runs, some_below_between, some_below_out, some_below_same, sound_of, with_call, with_ended, with_started, world}
 use Rattle.uring_core.proofs.Changes.{takes, drops, closes}
 use Rattle.uring_linux.specs.LinuxRequests.{is_in_faulty_group, is_doomed, doomed_result}
 use Rattle.uring_laws.proofs.Growth.{IsCut}
@@ -127,19 +127,6 @@ module _ (r : Requests) (entries : List Sqe) (cut : IsCut r) where
   pub call_linux : IsSoundRequests r → IsSoundLinux r → IsSoundLinux (with_call r entries)
   call_linux i s = grind (arith, doom_called, result_kept, join_kept)
 
--- What an answer tells.
-
--- of a request that starts: it is in its turn, spared, and not deferred
-pub record Starts (l : LinuxRequests) (n : ℕ) : Type 0 where
-  pub turn : is_in_turn l.requests n ≡ true
-  pub spared : is_doomed l.requests n ≡ false
-  pub free : is_deferred l n ≡ false
-
-pub starts_so : (l : LinuxRequests) (n : ℕ)
-    → (is_in_turn l.requests n && is_doomed l.requests n) ≡ false
-    → (is_in_turn l.requests n && not (is_deferred l n)) ≡ true → Starts l n
-starts_so l n spared free = grind arith
-
 -- Histories.
 
 linux_kept : (g : Setup) (w : World) (s : Step) (a : Answer) → Change (by_linux g) w s a
@@ -152,7 +139,7 @@ linux_kept g w s a (closes accepted missed head call opened all told) i sound = 
 linux_kept g w s a (runs n outstanding idle spared ready no_cancel) i sound = grind (arith, start_linux, turn_first)
 linux_kept g w s a (dooms n outstanding idle doomed) i sound = grind (arith, end_linux, turn_first)
 linux_kept g w s a (cancels n outstanding idle spared ready cancel) i sound =
-    grind (arith, starts_so, requests_of, end_linux, outstanding_tells, turn_first, both_ways)
+    grind (arith, requests_of, end_linux, outstanding_tells, turn_first, both_ways)
 linux_kept g w s a (finishes n res bytes running) i sound = grind (arith, end_linux, not-true)
 linux_kept g w s a _ i sound = sound
 

@@ -1,6 +1,6 @@
 -- The steps on the submission ring change places with those on requests and completions: `submission_then_rest` and `rest_then_submission`. Neither side reads what the other writes, by either's rules.
 use Rattle.std.proofs.Common.{◌≡◌, ◌∷◌, sym, subst, ap, ◌∙◌, arith}
-use Rattle.uring_laws.proofs.Common.{◌↔◌, Answer, CalledFor, Change, ChangePlaces, History, IsLawful, IsOnRest, IsOnSubmission, RestThenSubmission, Setup, Step, Submission, SubmissionThenRest, World, change_of, happens, world}
+use Rattle.uring_laws.proofs.Common.{Answer, CalledFor, Change, ChangePlaces, History, IsLawful, IsOnRest, IsOnSubmission, RestThenSubmission, Setup, Step, Submission, SubmissionThenRest, World, change_of, happens, world, ◌↔◌}
 use Rattle.uring_laws.proofs.Swapping.{alike_same}
 use Rattle.uring_laws.proofs.WholeLaws.{lawful_apart}
 

@@ -9,14 +9,6 @@ use Rattle.uring_laws.proofs.StartedRequests.{CanStart, can_start, start_called,
 use Rattle.uring_laws.proofs.EndedRequests.{start_past, start_ahead, not_ended, other_than, either_order}
 use Rattle.uring_laws.proofs.WholeLaws.{lawful_apart}
 
--- What an answer tells, and what calls for it.
-
--- to be ended as doomed
-pub record IsToEnd (linux : Bool) (r : Requests) (n : ℕ) : Type 0 where
-  pub outstanding : is_outstanding r n ≡ true
-  pub idle : is_running r n ≡ false
-  pub doomed : ends_doomed linux r n ≡ true
-
 -- Worlds.
 
 pub alike_same : (g : Setup) (v w : World) → v ≡ w → AreAlike g v w
@@ -59,7 +51,8 @@ end_by runs n x = (end_step runs n, answer.Ended x.res x.bytes)
 -- n may end so: it runs and its operation gives this, or it is to end as doomed
 abbrev pub MayEnd : Setup → World → (runs : Bool) → ℕ → Outcome → Type 0
 MayEnd g w true n x = (is_running w.requests n ≡ true) × IsOutcome (files_of g w) (operation_of (entry_of w.requests n)) x
-MayEnd g w false n x = IsToEnd g.linux w.requests n × (x ≡ record { res = doomed_result g.linux w.requests n; bytes = no_bytes })
+MayEnd g w false n x = (is_outstanding w.requests n ≡ true) × (is_running w.requests n ≡ false)
+    × (ends_doomed g.linux w.requests n ≡ true) × (x ≡ record { res = doomed_result g.linux w.requests n; bytes = no_bytes })
 
 -- an end that is called for, of one that is doomed if it doesn't run
 pub may_end : (g : Setup) (w : World) (runs : Bool) (n : ℕ) (x : Outcome)
