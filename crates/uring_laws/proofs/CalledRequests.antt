@@ -1,6 +1,6 @@
 -- Who can start before a call accepts entries can start after it, and the other way round, by either's rules. By Linux's no group that was deferred goes on by a call: something else is outstanding then.
-use Rattle.std.proofs.Common.{◌≡◌, ℕ, ◌<◌, ◌≤◌, Bool, true, false, not, ◌&&◌, nat_lt, List, [], ◌∷◌, length, arith}
-use Rattle.uring_laws.proofs.Common.{HasGoneOn, IsBetween, LinuxRequests, Requests, Sqe, both_ways, cond_both, deferred_with, doom_kept, entry_kept, false_from_ne_true, has_ended, in_pushed, is_alone, is_deferred, is_in_some, is_in_turn, is_linked, is_outstanding, is_ready, join_kept, keeps_back, length_push, longer, member_kept, not-false, not_alone, pushed_old, some_below_in, some_below_same, still_fewer, true_from_ne_false, with_accepted, with_call, with_cut, with_entries, with_group, with_last_entry}
+use Rattle.std.proofs.Common.{◌≡◌, ℕ, ◌<◌, ◌≤◌, Bool, true, false, not, ◌&&◌, List, [], ◌∷◌, length, arith}
+use Rattle.uring_laws.proofs.Common.{HasGoneOn, IsBetween, LinuxRequests, Requests, Sqe, both_ways, deferred_with, doom_kept, entry_kept, false_from_ne_true, has_ended, in_pushed, is_alone, is_deferred, is_in_some, is_in_turn, is_outstanding, is_ready, join_kept, keeps_back, length_push, longer, member_kept, not-false, not_alone, pushed_old, some_below_in, some_below_same, still_fewer, true_from_ne_false, with_accepted, with_call, with_cut, with_entries, with_group, with_last_entry}
 use Rattle.uring_laws.proofs.Growth.{IsCut}
 use Rattle.uring_entry.specs.Requests as manual
 use Rattle.uring_rules.specs.RulesCalls.{called_by}
@@ -34,26 +34,19 @@ module _ (l : LinuxRequests) (gone : HasGoneOn l.requests l.drains.deferred) whe
   accepted_follows : (q : LinuxRequests) (e : Sqe) → Follows l q → Follows l (with_accepted q e)
   accepted_follows q e f =
       let r = manual.with_accepted q.requests e in
-      let p : LinuxRequests = record { requests = r; drains = with_last_entry r (length q.requests.accepted) q.drains } in
-      let more : Follows l p = grind (arith, length_push) in
-      cond_both (is_linked e) _ _ (λ d. Follows l (record p { drains = d })) (λ _. more) (λ _. group_follows p more)
+      grind (arith, length_push, (group_follows (record { requests = r; drains = with_last_entry r (length q.requests.accepted) q.drains })))
 
   entries_follow : (xs : List Sqe) (q : LinuxRequests) → Follows l q → Follows l (with_entries q xs)
   entries_follow [] q f = f
   entries_follow (x ∷ xs) q f = entries_follow xs (with_accepted q x) (accepted_follows q x f)
 
   cut_follows : (q : LinuxRequests) → Follows l q → Follows l (with_cut q)
-  cut_follows q f =
-      let p : LinuxRequests = record q { requests = manual.with_cut q.requests } in
-      let more : Follows l p = assumption f in
-      cond_both (nat_lt q.drains.from (length q.requests.accepted)) _ _ (λ d. Follows l (record p { drains = d })) (λ _. group_follows p more) (λ _. more)
+  cut_follows q f = grind (arith, (group_follows (record q { requests = manual.with_cut q.requests })))
 
 -- between calls, who was accepted is deferred after a call exactly if it was before
 deferred_called : (l : LinuxRequests) (entries : List Sqe) (n : ℕ) → n < length l.requests.accepted → IsBetween l
     → is_in_some (with_cut (with_entries l entries)).drains.deferred n ≡ is_deferred l n
-deferred_called l entries n within b =
-    let f : Follows l l = grind arith in
-    (cut_follows l b.settled.gone (with_entries l entries) (entries_follow l b.settled.gone entries l f)).same n within
+deferred_called l entries n within b = grind (arith, cut_follows, entries_follow)
 
 -- Who can start.
 

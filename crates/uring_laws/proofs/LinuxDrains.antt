@@ -1,6 +1,6 @@
 -- By Linux's rules what isn't deferred waits for no drain: whoever may start has nobody before it that a drain puts there. By what has happened, one submission call, start or end after the other.
 use Rattle.std.proofs.Common.{◌≡◌, ℕ, suc, ◌+◌, ◌<◌, ◌≤◌, length, Bool, true, false, not, ◌&&◌, ◌||◌, ◌==◌, List, [], ◌∷◌, refl, arith, inl, inr, rules, subst}
-use Rattle.uring_laws.proofs.Common.{Deferred, Drains, End, Happening, IsSettled, LinuxRequests, MayHaveHappened, Requests, Sqe, Start, accepted_faults, accepted_settled, after_going_on, all_between, and_parts, any_kept, both_ways, cases_lt, cond_both, cut_faults, deferred_with, drains, entry_of_accepted_at, false_from_ne_true, group_faulty, has_ended, has_fault, healthy_from, is_alone, is_faulty_from, is_first, is_granted_drain, is_joined_no, is_joined_yes, is_last, is_linked, is_owed_by, length_push, lt-ltb, ltb-true, made_by, may_take, nat_lt, not-true, not_alone, or_parts, order_higher, order_push, order_still, owes_drain, pushed_new, pushed_old, ring_off, some_below, some_below_in, some_below_none, some_below_out, some_below_some, takes_drain, true_from_ne_false, with_accepted, with_cut, with_deferred, with_entries, with_group, with_last_entry, with_ring}
+use Rattle.uring_laws.proofs.Common.{Deferred, Drains, End, Happening, IsSettled, LinuxRequests, MayHaveHappened, Requests, Sqe, Start, accepted_faults, accepted_settled, after_going_on, all_between, and_parts, any_kept, both_ways, cases_lt, cond_both, cut_faults, deferred_with, drains, entry_of_accepted_at, false_from_ne_true, group_faulty, has_ended, has_fault, healthy_from, is_alone, is_faulty_from, is_first, is_granted_drain, is_joined_no, is_joined_yes, is_last, is_linked, is_owed_by, length_push, lt-ltb, made_by, may_take, nat_lt, not-true, not_alone, or_parts, order_higher, order_push, order_still, owes_drain, pushed_new, pushed_old, ring_off, some_below, some_below_in, some_below_none, some_below_out, some_below_some, takes_drain, true_from_ne_false, with_accepted, with_cut, with_deferred, with_entries, with_group, with_last_entry, with_ring}
 use Rattle.uring_linux.specs.Happenings.{Call}
 use Rattle.uring_linux.specs.LinuxRequests.{is_in_faulty_group, with_ended}
 use Rattle.uring_entry.specs.Requests as manual
@@ -102,7 +102,8 @@ module _ (l : LinuxRequests) (e : Sqe) (s : IsSettled l) (i : IsDrained l.reques
   was_owed : takes_drain q last ≡ true → l.drains.owed ≡ true
   was_owed takes =
       let found = some_below_in (is_owed_by q last) last (and_parts (may_take q last) _ takes).1 in
-      more_owed l.requests q l.drains keeps i.low i.holds found.0 found.1 (and_parts (owes_drain q found.0) _ found.2).0 (λ f past lt. none_between (may_take q) last found.0 f (not-true _ (and_parts (owes_drain q found.0) _ found.2).1) past lt)
+      let parts = and_parts (owes_drain q found.0) _ found.2 in
+      grind (arith, found, parts, (more_owed l.requests q l.drains keeps i.low i.holds found.0), (none_between (may_take q) last found.0), not-true)
 
   group_last : next.group ≡ false → has_fault q last ≡ false → marks q last ≡ false
   group_last still fine =
@@ -152,9 +153,7 @@ cut_drained : (l : LinuxRequests) → IsDrained l.requests l.drains
 cut_drained l i =
     let r = manual.with_cut l.requests in
     let holds = still_holds l.requests r l.drains (grind (arith, cut_faults, last_kept)) i.low i.holds refl in
-    cond_both (nat_lt l.drains.from (length l.requests.accepted)) _ _ (IsDrained r)
-    (λ amid. group_drained r l.drains (record { some = ltb-true _ _ amid; one = grind (arith, is_last_cut, i.amid); last = is_last_cut_last l.requests; holds = holds }))
-    (λ none. grind (arith, holds))
+    grind (arith, (group_drained r l.drains), holds, is_last_cut, is_last_cut_last)
 
 -- Whatever happened.
 

@@ -1,7 +1,6 @@
 -- The laws of `linux.rt`: doomed requests, links, drains and cancels by Linux's rules.
 use Rattle.std.proofs.Common.{◌≡◌, ℕ, ◌<◌, ◌==◌, true, [], ◌∷◌, ◌++◌, length, refl, ◌∙◌, arith, false}
-use Rattle.uring_laws.proofs.Common.{Answer, CancelledWereDoomed, CancelsDoomNobody, Change, DeferredDontStart, DoomedNeverRun, DoomedStayDoomed, DrainsHold, HasHappened, History, IsIssued, IsLawfulApart, IsStart, LeastFreeGoesOn, LinuxRequests, MembersGoInOrder, Move, Requests, Setup, Step, World, by_linux, change_of, count_none, has_ended, history_happens, is_deferred, is_in_turn, is_outstanding, least_below_out, move_of, outstanding_tells, refuses, requests_of, sound_of, world}
-use Rattle.uring_laws.specs.LinuxLaws.{waits_for}
+use Rattle.uring_laws.proofs.Common.{Answer, CancelledWereDoomed, CancelsDoomNobody, Change, DeferredDontStart, DoomedNeverRun, DoomedStayDoomed, DrainsHold, History, IsLawfulApart, IsStart, LeastFreeGoesOn, LinuxRequests, MembersGoInOrder, Move, Requests, Setup, Step, World, by_linux, change_of, count_none, history_happens, is_deferred, is_in_turn, is_outstanding, least_below_out, move_of, outstanding_tells, refuses, requests_of, sound_of, world}
 use Rattle.uring_linux.specs.LinuxRequests.{is_doomed, doomed_result}
 use Rattle.uring_core.specs.declared.step.Step.TheVariants as step
 use Rattle.uring_linux.proofs.GoingOn.{goes_on_from}
@@ -9,7 +8,7 @@ use Rattle.uring_laws.proofs.ToldRequests.{tells_requests}
 use Rattle.uring_laws.proofs.Growth.{grows, event_grows, then_grows, lawful_before, IsCut}
 use Rattle.uring_laws.proofs.OrderLaws.{result_told, end_there, ended_once, cancelled_doomed, started_so}
 use Rattle.uring_laws.proofs.LinuxDrains.{waits_for_none}
-use Rattle.uring_laws.proofs.LinuxSound.{IsFirst, turn_first, doom_started, doom_stays, doom_called, linux_sound}
+use Rattle.uring_laws.proofs.LinuxSound.{turn_first, doom_started, doom_stays, doom_called, linux_sound}
 
 -- The doomed.
 
@@ -40,16 +39,12 @@ were_doomed g after before n bytes lawful = grind (arith, lawful_before, cancell
 
 -- Links.
 
--- what isn't refused was accepted, and all earlier members of its group have ended
-issue_goes_on : (g : Setup) (w : World) (n : ℕ) (a : Answer) → Change (by_linux g) w (step.Issue n) a
-    → IsIssued a → (n < length w.requests.accepted) × IsFirst w.requests n
-issue_goes_on g w n a h issued = grind (arith, refuses, outstanding_tells, turn_first)
-
 pub in_order : (g : Setup) → MembersGoInOrder (by_linux g)
 in_order g after before m n a lawful issued lt joined =
     let l = lawful_before (by_linux g) after ((step.Issue n, a) ∷ before) lawful in
     let more = then_grows _ _ _ (event_grows (by_linux g) (step.Issue n) a before l) (grows (by_linux g) after ((step.Issue n, a) ∷ before) lawful) in
-    ended_once (by_linux g) before m l.1 (grind (arith, issue_goes_on, (change_of (by_linux g) (world (by_linux g) before) (step.Issue n) a l.0), more))
+    let change = change_of (by_linux g) (world (by_linux g) before) (step.Issue n) a l.0 in
+    ended_once (by_linux g) before m l.1 (grind (arith, change, refuses, outstanding_tells, turn_first, more))
 
 -- Drains.
 
@@ -62,17 +57,13 @@ starting g w n a change start = grind (arith, started_so)
 pub not_deferred : (g : Setup) → DeferredDontStart (by_linux g)
 not_deferred g after before n a lawful start = grind (arith, lawful_before, starting)
 
--- whatever happened, what may start waits for nobody that hasn't ended
-none_waited : (l : LinuxRequests) (n m : ℕ) → HasHappened l → n < length l.requests.accepted → m < n
-    → is_in_turn l.requests n ≡ true → is_doomed l.requests n ≡ false → is_deferred l n ≡ false
-    → waits_for l.requests n m ≡ true → has_ended l.requests m ≡ true
-none_waited l n m so lt under turn spared free w = grind (arith, turn_first, waits_for_none)
-
 pub drains_hold : (g : Setup) → DrainsHold (by_linux g)
 drains_hold g after before m n a lawful start lt waits =
     let l = lawful_before (by_linux g) after ((step.Issue n, a) ∷ before) lawful in
     let at = starting g (world (by_linux g) before) n a (change_of (by_linux g) (world (by_linux g) before) (step.Issue n) a l.0) start in
-    ended_once (by_linux g) before m l.1 (none_waited (requests_of (world (by_linux g) before)) n m (history_happens g before l.1) at.0 lt at.1 at.2 at.3 waits)
+    let first = turn_first (world (by_linux g) before).requests n at.1 in
+    let so = history_happens g before l.1 in
+    ended_once (by_linux g) before m l.1 (grind (arith, at, first, so, (waits_for_none so.happened so.may n m)))
 
 -- Nothing waits for ever.
 

@@ -1,6 +1,6 @@
 -- Two ends change places, by either's rules: `finishes_change` and `doomed_ends_change`. The doomed change no file, and stay doomed.
 use Rattle.std.proofs.Common.{◌≡◌, ◌≢◌, ℕ, ℤ, Bool, true, false, List, ◌∷◌, refl, sym, subst, ap, ◌∙◌, ◌⊎◌, arith}
-use Rattle.uring_laws.proofs.Common.{AreAlike, CalledFor, ChangePlaces, DontMeet, DoomedEndsChange, Event, FileContents, FinishesChange, History, IsIssue, IsLawful, IsOutcome, Op, Outcome, PostsNothing, Requests, Setup, World, after, ends_doomed, entry_of, files_ended, files_kept, files_of, happens, has_ended, has_ended_same, is_running_ended_other, operation_of, posts, requests_of, with_end_of, with_ended, world}
+use Rattle.uring_laws.proofs.Common.{AreAlike, CalledFor, ChangePlaces, DontMeet, DoomedEndsChange, Event, FileContents, FinishesChange, History, IsIssue, IsLawful, IsOutcome, Op, Outcome, PostsNothing, Requests, Setup, World, after, ends_doomed, entry_of, files_ended, files_kept, files_of, happens, has_ended, has_ended_same, is_running_ended_other, operation_of, posts, requests_of, world}
 use Rattle.uring_core.specs.declared.answer.Answer.TheVariants as answer
 use Rattle.uring_laws.proofs.Alike.{HaveSameRings, with_files}
 use Rattle.uring_laws.proofs.EndedRequests.{outstanding_end, ends_doomed_stays, posts_end, drains_either}
@@ -8,14 +8,7 @@ use Rattle.uring_laws.proofs.Turns.{GoesOn, running_goes_on, doomed_goes_on}
 use Rattle.uring_laws.proofs.Swapping.{IsEnd, MayEnd, EndView, ends_by, view, ended, end_step, end_by, may_end, is_end, two_pushed}
 use Rattle.uring_laws.proofs.WholeLaws.{lawful_apart}
 
--- Completions.
-
-posted_alike : (g : Setup) (w : World) (m n : ℕ) (x y : Outcome)
-    → (posts g.linux w.requests m x.res ≡ false) ⊎ (posts g.linux w.requests n y.res ≡ false)
-    → posts g.linux (with_ended w.requests m x.res x.bytes) n y.res ≡ posts g.linux w.requests n y.res
-    → posts g.linux (with_ended w.requests n y.res y.bytes) m x.res ≡ posts g.linux w.requests m x.res
-    → with_end_of g (ended g w m x) n y.res y.bytes ≡ with_end_of g (ended g w n y) m x.res x.bytes
-posted_alike g w m n x y quiet later earlier = grind arith
+-- Rings.
 
 two_rings : (g : Setup) (w : World) (m n : ℕ) (x y : Outcome) → n ≢ m
     → has_ended w.requests m ≡ false → has_ended w.requests n ≡ false
@@ -24,9 +17,10 @@ two_rings : (g : Setup) (w : World) (m n : ℕ) (x y : Outcome) → n ≢ m
     → HaveSameRings g (ended g (ended g w m x) n y) (ended g (ended g w n y) m x)
 two_rings g w m n x y differ first_still second_still first_on second_on quiet =
     let r : Requests = w.requests in
-    let completions = posted_alike g w m n x y quiet (posts_end r m x.res x.bytes n g.linux (λ is. (second_on is).first) first_still y.res) (posts_end r n y.res y.bytes m g.linux (λ is. (first_on is).first) second_still x.res) in
+    let later = posts_end r m x.res x.bytes n g.linux (λ is. (second_on is).first) first_still y.res in
+    let earlier = posts_end r n y.res y.bytes m g.linux (λ is. (first_on is).first) second_still x.res in
     let drains = drains_either g.linux (requests_of w) m n x.res y.res x.bytes y.bytes differ (λ k. (first_on k).apart) (λ k. (second_on k).apart) in
-    grind (arith, two_pushed, completions, drains)
+    grind (arith, two_pushed, later, earlier, drains)
 
 -- Files.
 
