@@ -1,6 +1,6 @@
 -- Requests with other lists, of which the definitions read the same, stand alike by the manual pages' rules: each reads who started, was doomed by a cancel, ended and failed, and nothing else of them.
 use Rattle.std.proofs.Common.{◌≡◌, ℕ, zero, suc, ◌==◌, ℤ, Bool, not, ◌&&◌, ◌||◌, nat_lt, List, length, Option, refl, ap, ap₂, ◌<◌, arith}
-use Rattle.uring_laws.proofs.Common.{Ending, HaveSame, Requests, all_below, cancel_result, chosen_by, has_ended, has_failed, has_started, is_after_failure, is_cancelled, is_candidate, is_doomed, is_in_faulty_group, is_issuable, is_joined, is_outstanding, is_ready, is_running, is_target, least_below_same, list_any, next_of, result_for, some_member, target_of, targets_of}
+use Rattle.uring_laws.proofs.Common.{Ending, HaveSame, Requests, all_below, cancel_result, chosen_by, has_ended, has_failed, has_started, is_after_failure, is_cancelled, is_candidate, is_doomed, is_in_faulty_group, is_issuable, is_joined, is_outstanding, is_ready, is_running, is_target, least_below_same, list_any, next_of, result_for, some_member, target_of, targets_of, holds_back}
 
 -- Requests with other lists of who started, was doomed and ended.
 
@@ -51,7 +51,7 @@ module _ (r : Requests) (s c : List ℕ) (e : List Ending) (a : ReadSame r s c e
 
   pub ready_same : (n : ℕ) → is_ready q n ≡ is_ready r n
   unfolding is_ready some_member is_joined
-  ready_same n = grind arith
+  ready_same n = simp (a.ended, holds_back)
 
   candidate_same : (n m : ℕ) → is_candidate q n m ≡ is_candidate r n m
   candidate_same n m = grind (arith, doomed_same)
@@ -74,10 +74,11 @@ module _ (r : Requests) (s c : List ℕ) (e : List Ending) (a : ReadSame r s c e
   cancel_same n = grind (arith, all_same, one_same)
 
   pub chosen_same : (n : ℕ) (res : ℤ) → chosen_by q n res ≡ chosen_by r n res
-  chosen_same n res = grind (arith, all_same, one_same)
+  unfolding targets_of target_of is_doomed is_after_failure some_member is_joined
+  chosen_same n res = simp (a.started, a.cancelled, a.ended, a.failed, is_candidate, is_target)
 
   issuable_same : (n : ℕ) → is_issuable q n ≡ is_issuable r n
   issuable_same n = grind (arith, doomed_same, ready_same)
 
   pub next_same : next_of q ≡ next_of r
-  next_same = least_below_same (is_issuable q) (is_issuable r) (length r.accepted) (λ k lt. issuable_same k)
+  next_same = grind (arith, least_below_same, doomed_same, ready_same)

@@ -1,5 +1,5 @@
 -- Requests with other lists, of which the definitions read the same, stand alike by the rules of each set-up, if by Linux's the drains stand the same.
-use Rattle.std.proofs.Common.{◌≡◌, ℕ, ◌==◌, ℤ, Bool, true, false, not, ◌&&◌, ◌++◌, ◌∷◌, [], List, refl, sym, ap, ap₂, ◌∙◌, ◌||◌}
+use Rattle.std.proofs.Common.{◌≡◌, ℕ, ◌==◌, ℤ, Bool, true, false, not, ◌&&◌, ◌++◌, ◌∷◌, [], List, refl, sym, ap, ap₂, ◌∙◌, ◌||◌, arith, rules}
 use Rattle.uring_laws.proofs.Common.{Drains, Ending, LinuxRequests, Sqe, StandAlike, drains_called, drains_ended, ends_doomed, is_in_some, list_any, may_start, no_bytes, posts}
 use Rattle.uring_rules.specs.Rules.{cancel_result, next_of, with_issued_end}
 use Rattle.std.proofs.lemmas.List.Folds.{list_any-append}
@@ -21,17 +21,14 @@ relisted l s c e d = record { requests = listed l.requests s c e; drains = d }
 
 module _ (l : LinuxRequests) (s c : List ℕ) (e : List Ending) (a : ReadSame l.requests s c e) where
   pub ends_doomed_same : (linux : Bool) (n : ℕ) → ends_doomed linux (listed l.requests s c e) n ≡ ends_doomed linux l.requests n
-  ends_doomed_same true n =
-      ap₂ (λ x y. x && y) (by_linux.turn_same l.requests s c e a n) (by_linux.doomed_same l.requests s c e a n)
-  ends_doomed_same false n = doomed_same l.requests s c e a n
+  ends_doomed_same linux n =
+      rw (by_linux.turn_same l.requests s c e a n, by_linux.doomed_same l.requests s c e a n, doomed_same l.requests s c e a n)
 
   pub cancel_result_same : (linux : Bool) (n : ℕ) → cancel_result linux (listed l.requests s c e) n ≡ cancel_result linux l.requests n
-  cancel_result_same true n = by_linux.cancel_same l.requests s c e a n
-  cancel_result_same false n = cancel_same l.requests s c e a n
+  cancel_result_same linux n = simp (by_linux.cancel_same l.requests s c e a n, cancel_same l.requests s c e a n)
 
   pub posts_same : (linux : Bool) (n : ℕ) (res : ℤ) → posts linux (listed l.requests s c e) n res ≡ posts linux l.requests n res
-  posts_same true n res = by_linux.posts_same l.requests s c e a n res
-  posts_same false n res = refl
+  posts_same linux n res = rw (by_linux.posts_same l.requests s c e a n res)
 
   pub may_start_same : (linux : Bool) (d : Drains) → (linux ≡ true → l.drains ≡ d) → (n : ℕ)
       → may_start linux (relisted l s c e d) n ≡ may_start linux l n

@@ -8,23 +8,18 @@ use Rattle.uring_core.specs.declared.answer.Answer.TheVariants as answer
 use Rattle.uring_laws.proofs.Growth.{event_grows}
 
 -- where a request is newly chosen, the event is the end of a cancel
-record IsChoosing (w : World) (s : Step) (a : Answer) (m : ℕ) : Type 0 where
-  number : ℕ
-  res : ℤ
-  now : Chose w.requests number res m
-  step_is : s ≡ step.Issue number
-  answer_is : a ≡ answer.Ended res no_bytes
-
-new_cancel : (w : World) (s : Step) (a : Answer) (later : Requests) → Move false (requests_of w) s a later
+new_cancel : (g : Setup) (h : History) (s : Step) (a : Answer) (later : Requests) → Move false (requests_of (world (by_manual g) h)) s a later
     → (m : ℕ) → is_cancelled later m ≡ true
-    → (is_cancelled w.requests m ≡ true) ⊎ IsChoosing w s a m
-new_cancel w s a later (ends_doomed n outstanding) m gone = grind (arith, any_both, doomed_fails)
-new_cancel w s a later (ends_cancel n outstanding spared ready cancel) m gone =
-    elim (any_both (λ k. k == m) w.requests.cancelled (chosen_by w.requests n (cancel_result w.requests n)) gone) [
+    → (is_cancelled (world (by_manual g) h).requests m ≡ true) ⊎ IsChosenIn (by_manual g) ((s, a) ∷ h) m
+new_cancel g h s a later (ends_doomed n outstanding) m gone = grind (arith, any_both, doomed_fails)
+new_cancel g h s a later (ends_cancel n outstanding spared ready cancel) m gone =
+    let r : Requests = (world (by_manual g) h).requests in
+    let res : ℤ = cancel_result r n in
+    elim (any_both (λ k. k == m) r.cancelled (chosen_by r n res) gone) [
       | inl old ↦ inl old
-      | inr new ↦ inr (record { number = n; res = cancel_result w.requests n; now = (chose w.requests n (cancel_result w.requests n) m new).1; step_is = refl; answer_is = refl })
+      | inr new ↦ inr (record { after = []; before = h; number = n; res = res; bytes = no_bytes; split = refl; chose = (chose r n res m new).1 })
     ]
-new_cancel w s a later _ m gone = inl gone
+new_cancel g h s a later _ m gone = inl gone
 
 one_later : (g : Setup) (e : Event) (h : History) (m : ℕ) → IsChosenIn (by_manual g) h m
     → IsChosenIn (by_manual g) (e ∷ h) m
@@ -42,18 +37,9 @@ pub chosen_in : (g : Setup) (h : History) → IsLawfulApart (by_manual g) h → 
     → is_cancelled (world (by_manual g) h).requests m ≡ true → IsChosenIn (by_manual g) h m
 chosen_in g [] lawful m gone = absurd (let f : false ≡ true = gone in cc)
 chosen_in g ((s, a) ∷ before) lawful m gone =
-    elim (new_cancel (world (by_manual g) before) s a _ (move_of (by_manual g) s a before lawful) m gone) [
+    elim (new_cancel g before s a _ (move_of (by_manual g) s a before lawful) m gone) [
       | inl old ↦ one_later (by_manual g) (s, a) before m (chosen_in (by_manual g) before lawful.1 m old)
-      | inr new ↦
-          record {
-            after = [];
-            before = before;
-            number = new.number;
-            res = new.res;
-            bytes = no_bytes;
-            split = ap (λ x. (x, a) ∷ before) new.step_is ∙ ap (λ b. (step.Issue new.number, b) ∷ before) new.answer_is;
-            chose = new.now;
-          }
+      | inr new ↦ new
     ]
 
 dooms_now : (r : Requests) (n : ℕ) (res : ℤ) (m : ℕ) → Chose r n res m

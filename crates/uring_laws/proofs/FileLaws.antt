@@ -2,7 +2,7 @@
 -- By induction over the history: a Finish that ended its request is `files_ended`, and any other event is `files_kept`.
 -- Stable: other crates may import what is pub.
 use Rattle.std.proofs.Common.{◌≡◌, ◌==◌, ℕ, ℤ, Bool, true, false, List, [], ◌∷◌, None, refl, sym, subst, ap, ◌∙◌}
-use Rattle.uring_laws.proofs.Common.{Answer, AreDone, CalledFor, Done, EndsOn, FilesByOperations, FilesByPlace, FinishesApart, History, IsLawful, IsLawfulApart, IsOutcome, LawfulByOperations, PlacesJoin, Requests, Setup, Step, after, done_by, done_in, entry_of, eq-eqb, file_of, files_ended, files_kept, files_left, files_of, first_files, is_running, operation_of, with_told, world}
+use Rattle.uring_laws.proofs.Common.{Answer, AreDone, CalledFor, Done, EndsOn, FilesByOperations, FilesByPlace, FinishesApart, History, IsLawful, IsLawfulApart, IsOutcome, LawfulByOperations, PlacesJoin, Requests, Setup, Step, after, done_by, done_in, entry_of, eq-eqb, file_of, files_ended, files_kept, files_left, files_of, first_files, is_running, operation_of, with_told, world, FileContents}
 use Rattle.uring_files.proofs.DoneLemmas.{left_snoc, done_snoc, done_unsnoc}
 use Rattle.uring_core.specs.declared.step.Step.TheVariants as step
 use Rattle.uring_core.specs.declared.answer.Answer.TheVariants as answer

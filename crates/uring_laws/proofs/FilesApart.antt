@@ -1,7 +1,7 @@
 -- The laws of `files.rt` on lists of operations alone: the file of a descriptor is made by the operations on it,
 -- and operations that were dealt out by their file can be carried out at places with files of their own.
 -- From the lemmas of uring_files that each file stands by itself. Stable: other crates may import what is pub.
-use Rattle.std.proofs.Common.{◌≡◌, ℕ, ◌<◌, ◌==◌, ℤ, Bool, true, false, cond, List, [], ◌∷◌, map, refl, sym, ap, ◌∙◌, inl, inr, subst}
+use Rattle.std.proofs.Common.{◌≡◌, ℕ, ◌<◌, ◌==◌, ℤ, Bool, true, false, cond, List, [], ◌∷◌, map, refl, sym, ap, ◌∙◌, inl, inr, subst, arith}
 use Rattle.uring_laws.proofs.Common.{AreDone, Done, Ending, FileByItsEnds, FileContents, IsByFile, IsOutcome, Op, Outcome, Requests, after, both_ways, cond-true, cond_both, done_at, ends_of, entry_of, eq-eqb, false_from_ne_true, file_of, files_after, files_left, filter, operation_of}
 use Rattle.uring_files.specs.Laws.{AgreeAt, is_on}
 use Rattle.uring_files.proofs.StandAlone.{others_stay, files_apart, ends_apart}
@@ -25,39 +25,17 @@ pub left_by_own : (files : List FileContents) (done : List Done) (fd : ℤ) (kee
     → AgreeAt fd (files_left files done) (files_left files (filter (λ d. keeps d.op) done))
 left_by_own files done fd keeps own = left_apart files files done fd keeps own refl
 
--- an end, as an operation that was carried out
-done_of : Requests → Ending → Done
-done_of r e = record { number = e.number; op = operation_of (entry_of r e.number); outcome = record { res = e.res; bytes = e.bytes } }
-
-after_is_left : (r : Requests) (files : List FileContents) (ends : List Ending)
-    → files_after r files ends ≡ files_left files (map (done_of r) ends)
-unfolding done_of
-after_is_left r files [] = refl
-after_is_left r files (e ∷ later) =
-    after_is_left r (after files (operation_of (entry_of r e.number)) e.res) later
-
--- the values of a function that pass a test are its values at the items that do
-with_values : {A B : Type 0} (f : A → B) (keeps : B → Bool) (xs : List A)
-    → map f (filter (λ x. keeps (f x)) xs) ≡ filter keeps (map f xs)
-with_values f keeps [] = refl
-with_values {A = A} f keeps (x ∷ later) =
-    at_first (keeps (f x)) (filter (λ y. keeps (f y)) later)
-    ∙ ap (λ ys. cond (keeps (f x)) (f x ∷ ys) ys) (with_values f keeps later) where
-      at_first : (kept : Bool) (ys : List A) → map f (cond kept (x ∷ ys) ys) ≡ cond kept (f x ∷ map f ys) (map f ys)
-      at_first true ys = refl
-      at_first false ys = refl
-
-own_ends : (r : Requests) (ends : List Ending) (fd : ℤ)
-    → map (done_of r) (ends_of fd r ends) ≡ filter (λ d. is_on fd d.op) (map (done_of r) ends)
-unfolding done_of
-own_ends r ends fd = with_values (done_of r) (λ d. is_on fd d.op) ends
+after_apart : (r : Requests) (files others : List FileContents) (ends : List Ending) (fd : ℤ) → AgreeAt fd files others
+    → AgreeAt fd (files_after r files ends) (files_after r others (ends_of fd r ends))
+after_apart r files others [] fd same = same
+after_apart r files others (e ∷ later) fd same =
+    let op : Op = operation_of (entry_of r e.number) in
+    cond_both (is_on fd op) (e ∷ ends_of fd r later) (ends_of fd r later) (λ kept. AgreeAt fd (files_after r (after files op e.res) later) (files_after r others kept))
+    (λ on. after_apart r (after files op e.res) (after others op e.res) later fd (files_apart files others op e.res fd same))
+    (λ off. after_apart r (after files op e.res) others later fd (others_stay files op e.res fd off ∙ same))
 
 pub after_by_own : FileByItsEnds
-after_by_own r files ends fd =
-    ap (λ fs. file_of fs fd) (after_is_left r files ends)
-    ∙ left_by_own files (map (done_of r) ends) fd (is_on fd) (λ op on. on)
-    ∙ ap (λ ds. file_of (files_left files ds) fd) (sym (own_ends r ends fd))
-    ∙ ap (λ fs. file_of fs fd) (sym (after_is_left r files (ends_of fd r ends)))
+after_by_own r files ends fd = after_apart r files files ends fd refl
 
 -- Operations dealt out by their file.
 
@@ -65,10 +43,7 @@ after_by_own r files ends fd =
 outcome_apart : (files others : List FileContents) (op : Op) (outcome : Outcome)
     → ((fd : ℤ) → is_on fd op ≡ true → AgreeAt fd files others) → IsOutcome others op outcome
     → IsOutcome files op outcome
-outcome_apart files others op outcome agree (inl called) =
-    inl (called ∙ sym (ends_apart files others op agree).0)
-outcome_apart files others op outcome agree (inr refused) =
-    inr ((ends_apart files others op agree).1 ∙ refused.0, refused.1)
+outcome_apart files others op outcome agree so = rw (ends_apart files others op agree).0 (rw (ends_apart files others op agree).1 so)
 
 -- each place has the files on which its operations are
 abbrev Agree : (Op → ℕ) → List FileContents → (ℕ → List FileContents) → Type 0
@@ -90,14 +65,10 @@ module _ (place : Op → ℕ) (by_file : IsByFile place) where
   -- what is left for a place once the first operation was carried out
   left_at : (parts : ℕ → List FileContents) (d : Done) (later : List Done) (k : ℕ) → AreDone (parts k) (done_at place k (d ∷ later)) → AreDone (part_after d parts k) (done_at place k later)
   unfolding part_after
-  left_at parts d later k done = by_test (place d.op == k) done where
-    by_test : (here : Bool) → AreDone (parts k) (cond here (d ∷ done_at place k later) (done_at place k later)) → AreDone (cond here (after (parts k) d.op d.outcome.res) (parts k)) (done_at place k later)
-    by_test true all = all.1
-    by_test false all = all
+  left_at parts d later k done = cond_both (place d.op == k) _ _ (λ fs. AreDone fs (done_at place k later)) (λ here. (rw here at done).1) (λ off. rw off at done)
 
   first_at : (parts : ℕ → List FileContents) (d : Done) (later : List Done) → AreDone (parts (place d.op)) (done_at place (place d.op) (d ∷ later)) → IsOutcome (parts (place d.op)) d.op d.outcome
-  first_at parts d later done =
-      (subst (AreDone (parts (place d.op))) (cond-true (place d.op == place d.op) _ _ (eq-eqb _ _ refl)) done).0
+  first_at parts d later done = (rw (eq-eqb (place d.op) (place d.op) refl) at done).0
 
   joined : (places : ℕ) → ((op : Op) → place op < places) → (files : List FileContents) (parts : ℕ → List FileContents) (done : List Done) → Agree place files parts → ((k : ℕ) → k < places → AreDone (parts k) (done_at place k done)) → AreDone files done
   joined places within files parts [] agree at = tt

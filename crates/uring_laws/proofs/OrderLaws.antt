@@ -22,16 +22,8 @@ end_there r k e at = any_passes_from_place (λ x. x.number == e.number) r.ended 
 pub ended_once : (g : Setup) (before : History) (m : ℕ) → IsLawfulApart g before
     → has_ended (world g before).requests m ≡ true → times_ended before m ≡ 1
 ended_once g before m lawful ended =
-    let s = (sound_of g before lawful).requests in
-    let once : count_by (λ e. e.number == m) (world g before).requests.ended ≡ 1 = omega (arith, s.ends_once m, count_some (λ e. e.number == m) (world g before).requests.ended ended) in
-    subst (λ xs. count_by (λ e. e.number == m) xs ≡ 1) (sym (tells_requests g before lawful).ended) once
-
--- an Issue that is refused neither starts nor ends its request
-pub refused_no_end : (n : ℕ) (a : Answer) → IsSilent (step.Issue n, a) → IsEnded a → ⊥
-refused_no_end n a silent ended = grind arith
-
-pub refused_no_run : (n : ℕ) (a : Answer) → IsSilent (step.Issue n, a) → a ≡ answer.Run → ⊥
-refused_no_run n a silent run = grind arith
+    rw (tells_requests g before lawful).ended
+    (omega (arith, (sound_of g before lawful).requests.ends_once m, count_some (λ e. e.number == m) (world g before).requests.ended ended))
 
 -- what ends with ECANCELED as it is issued is doomed, since no cancel ends so
 pub cancelled_doomed : (g : Setup) (w : World) (n : ℕ) (a : Answer) (bytes : List ℕ)
@@ -52,32 +44,23 @@ pub record Started (linux : Bool) (l : LinuxRequests) (n : ℕ) : Type 0 where
 pub started_so : (g : Setup) (w : World) (n : ℕ) (a : Answer) → Change g w (step.Issue n) a
     → (a ≡ answer.Run) ⊎ (IsEnded a × (by_rules.ends_doomed g.linux w.requests n ≡ false))
     → Started g.linux (requests_of w) n
-started_so g w n a (refuses _ _ same silent) (inl run) = absurd (refused_no_run n a silent run)
-started_so g w n a (refuses _ _ same silent) (inr ended) = absurd (refused_no_end n a silent ended.0)
+started_so g w n a (refuses _ _ same silent) start = grind arith
 started_so g w n a (runs _ outstanding idle spared ready no_cancel) start = grind arith
-started_so g w n a (dooms _ outstanding idle doomed) (inl run) = absurd cc
-started_so g w n a (dooms _ outstanding idle doomed) (inr ended) = absurd (both_ways _ ended.1 doomed)
+started_so g w n a (dooms _ outstanding idle doomed) start = grind arith
 started_so g w n a (cancels _ outstanding idle spared ready cancel) start = grind arith
 
 -- By the manual pages'.
 
-unstarted : (r : Requests) (n : ℕ) → IsSoundManual r → is_doomed r n ≡ true
-    → has_started r n ≡ false
-unstarted r n s doomed = grind arith
-
 doomed_end : (r : Requests) (k : ℕ) (e : Ending) → IsSoundManual r → slice_get r.ended k ≡ Some e
     → is_doomed r e.number ≡ true → e.res ≡ doomed_result r e.number
-doomed_end r k e s at doomed = elim (s.ended_how e.number (end_there r k e at)) [
-  | inl d ↦ result_told r.ended k e (doomed_result r e.number) at d
-  | inr free ↦ absurd (both_ways _ free.spared doomed)
-]
+doomed_end r k e s at doomed = grind (arith, (s.ended_how e.number (end_there r k e at)), (result_told r.ended k e (doomed_result r e.number) at))
 
 pub never_run : (g : Setup) (h : History) → IsLawfulApart (by_manual g) h → DoomedNeverRun (by_manual g) h
 never_run g h lawful =
     let s = (sound_of (by_manual g) h lawful).manual refl in
     let t = tells_requests (by_manual g) h lawful in
     record {
-      never_run = λ n doomed. subst (λ xs. count_by (λ m. m == n) xs ≡ 0) (sym t.started) (count_none (λ m. m == n) (world (by_manual g) h).requests.started (unstarted (world (by_manual g) h).requests n s doomed));
+      never_run = λ n doomed. rw t.started (count_none (λ m. m == n) (world (by_manual g) h).requests.started (let e : has_started (world (by_manual g) h).requests n ≡ false = grind arith in e));
       ends_so = λ k e at doomed. doomed_end (world (by_manual g) h).requests k e s (subst (λ xs. slice_get xs k ≡ Some e) t.ended at) doomed;
     }
 
@@ -94,10 +77,6 @@ stay_doomed g after before n lawful within doomed =
 
 -- Links and drains.
 
-same_wait : (r later : Requests) (n m : ℕ) → Grows r later → m < n → n < length r.accepted
-    → waits_for later n m ≡ waits_for r n m
-same_wait r later n m g lt within = grind arith
-
 pub waits : (g : Setup) (after before : History) (m n : ℕ) (a : Answer)
     → IsLawfulApart (by_manual g) (after ++ (step.Issue n, a) ∷ before) → IsStart (world (by_manual g) before).requests n a
     → m < n
@@ -105,8 +84,6 @@ pub waits : (g : Setup) (after before : History) (m n : ℕ) (a : Answer)
     → times_ended before m ≡ 1
 waits g after before m n a lawful start lt waiting =
     let l = lawful_before (by_manual g) after ((step.Issue n, a) ∷ before) lawful in
-    let c = change_of (by_manual g) (world (by_manual g) before) (step.Issue n) a l.0 in
-    let at = started_so (by_manual g) (world (by_manual g) before) n a c start in
+    let at = started_so (by_manual g) (world (by_manual g) before) n a (change_of (by_manual g) (world (by_manual g) before) (step.Issue n) a l.0) start in
     let more = then_grows _ _ _ (event_grows (by_manual g) (step.Issue n) a before l) (grows (by_manual g) after ((step.Issue n, a) ∷ before) lawful) in
-    let ended = waited (world (by_manual g) before).requests n m at.ready lt (sym (same_wait _ _ n m more lt at.accepted) ∙ waiting) in
-    ended_once (by_manual g) before m l.1 ended
+    ended_once (by_manual g) before m l.1 (waited (world (by_manual g) before).requests n m at.ready lt (grind (arith, at, more)))
