@@ -1,6 +1,6 @@
 -- Whom cancels chose, read off a history, by the manual pages' rules.
-use Rattle.std.proofs.Common.{◌≡◌, ℕ, ◌==◌, ℤ, true, false, List, [], ◌∷◌, ◌++◌, cond, refl, ap, ◌∙◌, ◌⊎◌, inl, inr, arith}
-use Rattle.uring_laws.proofs.Common.{Answer, Chose, Event, History, IsChosenIn, IsLawfulApart, Move, Requests, Setup, Step, World, all_success, any_both, by_manual, cancel_result, chose, chosen_by, doomed_fails, ends_cancel, is_cancelled, move_of, no_bytes, or_left, or_right, outstanding_tells, requests_of, target_there, with_issued_end, world}
+use Rattle.std.proofs.Common.{◌≡◌, ℕ, ◌==◌, ℤ, true, false, List, [], ◌∷◌, ◌++◌, cond, refl, ◌⊎◌, inl, inr, arith}
+use Rattle.uring_laws.proofs.Common.{Answer, Chose, Event, History, IsChosenIn, IsLawfulApart, Move, Requests, Setup, Step, all_success, any_both, by_manual, cancel_result, chose, chosen_by, doomed_fails, ends_cancel, is_cancelled, move_of, no_bytes, or_left, or_right, outstanding_tells, requests_of, target_there, with_issued_end, world}
 use Rattle.uring_core.proofs.Moves.{ends_doomed}
 use Rattle.std.proofs.lemmas.List.Folds.{list_any-append}
 use Rattle.uring_core.specs.declared.step.Step.TheVariants as step
@@ -23,15 +23,7 @@ new_cancel g h s a later _ m gone = inl gone
 
 one_later : (g : Setup) (e : Event) (h : History) (m : ℕ) → IsChosenIn (by_manual g) h m
     → IsChosenIn (by_manual g) (e ∷ h) m
-one_later g e h m c = record {
-  after = e ∷ c.after;
-  before = c.before;
-  number = c.number;
-  res = c.res;
-  bytes = c.bytes;
-  split = ap (λ xs. e ∷ xs) c.split;
-  chose = c.chose;
-}
+one_later g e h m c = record { after = e ∷ c.after; before = c.before; number = c.number; res = c.res; bytes = c.bytes; split = rw c.split; chose = c.chose }
 
 pub chosen_in : (g : Setup) (h : History) → IsLawfulApart (by_manual g) h → (m : ℕ)
     → is_cancelled (world (by_manual g) h).requests m ≡ true → IsChosenIn (by_manual g) h m
@@ -52,8 +44,7 @@ stays_chosen : (g : Setup) (after before : History) (n : ℕ) (res : ℤ) (m : �
     → is_cancelled (world (by_manual g) (after ++ (step.Issue n, answer.Ended res bytes) ∷ before)).requests m
     ≡ true
 stays_chosen g [] before n res m bytes lawful chose = grind (arith, dooms_now)
-stays_chosen g ((s, a) ∷ after) before n res m bytes lawful chose =
-    (event_grows (by_manual g) s a (after ++ (step.Issue n, answer.Ended res bytes) ∷ before) lawful).stays_cancelled m (stays_chosen (by_manual g) after before n res m bytes lawful.1 chose)
+stays_chosen g ((s, a) ∷ after) before n res m bytes lawful chose = (event_grows (by_manual g) s a _ lawful).stays_cancelled m (stays_chosen g after before n res m bytes lawful.1 chose)
 
 pub chosen_stays : (g : Setup) (h : History) → IsLawfulApart (by_manual g) h → (m : ℕ) → IsChosenIn (by_manual g) h m
     → is_cancelled (world (by_manual g) h).requests m ≡ true

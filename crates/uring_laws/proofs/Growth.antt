@@ -1,8 +1,8 @@
 -- What stays of the requests as a history goes on, by either's rules: those accepted by then keep their entries and groups, and those that are doomed by the manual pages' rules stay so.
 -- By `Move`, event by event (`event_grows`), and over a history by induction (`grows`).
 -- Stable: other crates may import `Grows` with its fields, as `same_entry`, and `event_grows`, `grows`, `lawful_before`.
-use Rattle.std.proofs.Common.{◌≡◌, ℕ, ◌<◌, ◌≤◌, ℤ, Bool, true, false, List, [], ◌∷◌, ◌++◌, length, refl, ◌∙◌, ◌⊎◌, inl, inr, arith, rules}
-use Rattle.uring_laws.proofs.Common.{Answer, History, IsChoice, IsLawfulApart, LinuxRequests, Move, Requests, Setup, Sqe, Step, accepts, choice_of, doom_kept, end_doom, end_join, ended_as, ends_cancel, ends_run, entry_kept, entry_of, is_cancelled, is_doomed, is_doomed_started, is_drain, is_draining, is_draining_started, is_joined, is_joined_started, join_kept, list_any, longer, member_kept, move_of, no_choice, requests_of, some_member, sound_of, starts, with_call, world}
+use Rattle.std.proofs.Common.{◌≡◌, ℕ, ◌<◌, ◌≤◌, ℤ, Bool, true, false, List, [], ◌∷◌, ◌++◌, length, refl, ◌⊎◌, inl, inr, arith, rules}
+use Rattle.uring_laws.proofs.Common.{Answer, History, IsChoice, IsLawfulApart, LinuxRequests, Move, Requests, Setup, Sqe, Step, accepts, choice_of, doom_kept, end_doom, ended_as, ends_cancel, ends_run, entry_kept, entry_of, is_cancelled, is_doomed, is_doomed_started, is_drain, is_draining, is_draining_started, is_joined, is_joined_started, join_kept, list_any, longer, member_kept, move_of, no_choice, requests_of, some_member, sound_of, starts, with_call, world}
 use Rattle.uring_core.proofs.Moves.{stays, ends_doomed}
 use Rattle.uring_rules.specs.Rules.{doomed_result, cancel_result, with_issued_end}
 use Rattle.std.proofs.Common.{◌==◌}

@@ -1,13 +1,13 @@
 -- The laws of doomed requests, links and drains, by the manual pages' rules; and what these and those of Linux share.
-use Rattle.std.proofs.Common.{◌≡◌, ℕ, ◌<◌, ◌==◌, ℤ, neg_ℤ, Bool, true, false, not, ◌&&◌, List, ◌∷◌, ◌++◌, Some, length, slice_get, count_by, refl, sym, subst, ◌∙◌, ◌⊎◌, inl, inr, arith}
-use Rattle.uring_laws.proofs.Common.{Answer, Change, ECANCELED, Ending, History, IsEnded, IsLawfulApart, IsSilent, IsSoundManual, LinuxRequests, Requests, Setup, World, both_ways, by_manual, cancels, change_of, count_none, count_some, doomed_result, dooms, eq-eqb, has_ended, has_started, int_eq, is_doomed, list_any, refuses, requests_of, runs, sound_of, times_ended, waited, waits_for, world}
+use Rattle.std.proofs.Common.{◌≡◌, ℕ, ◌<◌, ◌==◌, ℤ, neg_ℤ, Bool, true, false, not, ◌&&◌, List, ◌∷◌, ◌++◌, Some, length, slice_get, refl, subst, ◌⊎◌, arith}
+use Rattle.uring_laws.proofs.Common.{Answer, Change, ECANCELED, Ending, History, IsEnded, IsLawfulApart, IsSoundManual, LinuxRequests, Requests, Setup, World, both_ways, by_manual, cancels, change_of, count_none, count_some, doomed_result, dooms, eq-eqb, has_ended, has_started, int_eq, is_doomed, list_any, refuses, requests_of, runs, sound_of, times_ended, waited, waits_for, world}
 use Rattle.uring_laws.specs.Laws.{DoomedNeverRun, IsStart}
 use Rattle.std.proofs.lemmas.Map.Keys.{any_passes_from_place}
 use Rattle.uring_rules.specs.Rules as by_rules
 use Rattle.uring_core.specs.declared.step.Step.TheVariants as step
 use Rattle.uring_core.specs.declared.answer.Answer.TheVariants as answer
 use Rattle.uring_laws.proofs.ToldRequests.{tells_requests}
-use Rattle.uring_laws.proofs.Growth.{Grows, grows, event_grows, then_grows, lawful_before}
+use Rattle.uring_laws.proofs.Growth.{grows, event_grows, then_grows, lawful_before}
 
 -- By either's rules.
 

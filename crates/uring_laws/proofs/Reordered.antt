@@ -12,7 +12,4 @@ reordered_alike g h k (unchanged _) lawful = grind arith
 reordered_alike g h k (swapped rest before _ x y change later) lawful =
     let one = change_anywhere g rest before x y change lawful in
     let two = reordered_alike g (rest ++ (x ∷ y ∷ before)) k later one.lawful in
-    record {
-      lawful = two.lawful;
-      alike = through g (world g (rest ++ (y ∷ x ∷ before))) (world g (rest ++ (x ∷ y ∷ before))) (world g k) one.alike two.alike;
-    }
+    record { lawful = two.lawful; alike = through g _ (world g (rest ++ (x ∷ y ∷ before))) _ one.alike two.alike }

@@ -1,11 +1,10 @@
 -- What a start leaves as it was, by either's rules: who is doomed, who may start, who posts and how the drains stand. Only who runs changes.
-use Rattle.std.proofs.Common.{◌≡◌, ◌≢◌, ℕ, ℤ, Bool, true, false, List, [], ◌∷◌, ◌++◌, refl, ap, arith}
-use Rattle.uring_laws.proofs.Common.{LinuxRequests, Requests, Setup, Sqe, World, breaker_of, drains_called, drains_ended, ends_doomed, entry_of, first_of, is_after_failure, is_alone, is_cancel, is_doomed, is_doomed_started, is_in_turn, is_joined, is_outstanding, is_ready, is_running, is_running_started_other, issue_answer, may_start, no_bytes, posts, posts_after, requests_of, some_member}
+use Rattle.std.proofs.Common.{◌≡◌, ◌≢◌, ℕ, ℤ, Bool, true, false, List, refl, arith}
+use Rattle.uring_laws.proofs.Common.{LinuxRequests, Requests, Setup, Sqe, World, drains_called, drains_ended, ends_doomed, entry_of, first_of, is_after_failure, is_alone, is_cancel, is_doomed, is_in_turn, is_joined, is_outstanding, is_ready, is_running, is_running_started_other, issue_answer, may_start, posts, requests_of, some_member}
 use Rattle.uring_linux.specs.LinuxRequests.{is_in_faulty_group, with_started}
 use Rattle.uring_entry.specs.Requests as manual
 use Rattle.uring_core.specs.declared.answer.Answer.TheVariants as answer
-use Rattle.uring_laws.proofs.AlikeDrains.{called_same, going_same}
-use Rattle.uring_laws.proofs.LinuxSound.{doom_started}
+use Rattle.uring_laws.proofs.AlikeDrains.{called_same}
 
 pub ends_doomed_started : (linux : Bool) (r : Requests) (m n : ℕ)
     → ends_doomed linux (manual.with_started r m) n ≡ ends_doomed linux r n
@@ -15,11 +14,6 @@ ends_doomed_started linux r m n = refl
 pub ready_started : (r : Requests) (m n : ℕ) → is_ready (manual.with_started r m) n ≡ is_ready r n
 unfolding is_ready some_member is_joined
 ready_started r m n = refl
-
-pub may_start_started : (linux : Bool) (l : LinuxRequests) (m n : ℕ)
-    → may_start linux (with_started l m) n ≡ may_start linux l n
-unfolding is_in_turn is_ready some_member is_joined
-may_start_started linux l m n = refl
 
 pub posts_started : (linux : Bool) (r : Requests) (m n : ℕ) (res : ℤ)
     → posts linux (manual.with_started r m) n res ≡ posts linux r n res
@@ -56,8 +50,10 @@ start_called g w n c = rw (c.outstanding, c.idle, c.spared, c.ready, c.no_cancel
 -- a request that can start could start before another one did, and can after it
 pub start_before : (linux : Bool) (l : LinuxRequests) (m n : ℕ) → n ≢ m
     → CanStart linux (with_started l m) n → CanStart linux l n
-start_before linux l m n differ c = grind (arith, is_running_started_other, ends_doomed_started, may_start_started)
+unfolding is_in_turn is_ready some_member is_joined
+start_before linux l m n differ c = grind (arith, is_running_started_other, ends_doomed_started)
 
 pub start_after : (linux : Bool) (l : LinuxRequests) (m n : ℕ) → n ≢ m → CanStart linux l n
     → CanStart linux (with_started l m) n
-start_after linux l m n differ c = grind (arith, is_running_started_other, ends_doomed_started, may_start_started)
+unfolding is_in_turn is_ready some_member is_joined
+start_after linux l m n differ c = grind (arith, is_running_started_other, ends_doomed_started)

@@ -1,7 +1,7 @@
 -- A start changes places with each step that is on the rings, by either's rules: `start_then_rings` and `rings_then_start`.
 -- Such a step asks nobody who runs; of the requests it changes at most which are accepted, after all that there are.
-use Rattle.std.proofs.Common.{◌≡◌, ℕ, ◌<◌, true, not, List, ◌∷◌, length, Some, sym, subst, ap, ◌∙◌}
-use Rattle.uring_laws.proofs.Common.{Answer, CalledFor, Change, Drains, IsBetween, IsLawful, IsLawfulApart, IsOnRings, LinuxRequests, RingsThenStart, Setup, Sqe, StartThenRings, Step, World, and_parts, change_of, ending_of, entries_from, happens, has_ended, ltb-true, refuses, requests_of, sound_of, world}
+use Rattle.std.proofs.Common.{◌≡◌, ℕ, ◌<◌, true, not, ◌∷◌, length, Some, sym, subst, ap}
+use Rattle.uring_laws.proofs.Common.{Answer, CalledFor, Change, Drains, IsBetween, IsLawful, IsLawfulApart, IsOnRings, LinuxRequests, RingsThenStart, Setup, StartThenRings, Step, World, and_parts, change_of, ending_of, entries_from, happens, has_ended, ltb-true, refuses, requests_of, sound_of, world}
 use Rattle.uring_core.proofs.Changes.{takes, drops, closes}
 use Rattle.uring_laws.proofs.Growth.{IsCut}
 use Rattle.uring_core.specs.declared.step.Step.TheVariants as step
@@ -21,8 +21,7 @@ called_either g w n _ a on = search
 
 made_either : (g : Setup) (w : World) (n : ℕ) (s : Step) (a : Answer) → Change g w s a → IsOnRings s
     → happens g (begun w n) s a ≡ begun (happens g w s a) n
-made_either g w n s a (refuses _ _ same silent) on =
-    same (begun w n) ∙ ap (λ (v : World). begun v n) (sym (same w))
+made_either g w n s a (refuses _ _ same silent) on = rw (same (begun w n), same w)
 made_either g w n s a (takes entry call place opened left at valid) on = rw opened
 made_either g w n s a (drops call place opened left at invalid) on = rw opened
 made_either g w n s a (closes accepted missed head call opened all told) on =
@@ -38,16 +37,12 @@ module _ (g : Setup) (w : World) (n : ℕ) (cut : IsCut w.requests) (so : g.linu
   abbrev Either : World → Type 0
   Either v = (can (requests_of w) → can (requests_of v)) × (can (requests_of v) → can (requests_of w))
 
-  same_either : (l : LinuxRequests) → l ≡ requests_of w → (can (requests_of w) → can l) × (can l → can (requests_of w))
-  same_either l same = (subst can (sym same), subst can same)
-
   start_either : (s : Step) (a : Answer) → Change g w s a → IsOnRings s → Either (happens g w s a)
-  start_either s a (refuses _ _ same silent) on = same_either _ (ap requests_of (same w))
-  start_either s a (takes entry call place opened left at valid) on = same_either _ (rw opened)
-  start_either s a (drops call place opened left at invalid) on = same_either _ (rw opened)
+  start_either s a (refuses _ _ same silent) on = rw (same w) (search)
+  start_either s a (takes entry call place opened left at valid) on = rw opened (search)
+  start_either s a (drops call place opened left at invalid) on = rw opened (search)
   start_either s a (closes accepted missed head call opened all told) on =
-      let entries : List Sqe = entries_from w.submission call.count in
-      subst (λ o. Either (ending_of g w o)) (sym opened) (start_kept (requests_of w) entries cut n within g.linux so, start_was (requests_of w) entries cut n within g.linux so)
+      rw opened (start_kept (requests_of w) _ cut n within g.linux so, start_was (requests_of w) _ cut n within g.linux so)
   start_either s a _ on = search
 
 pub start_then_rings : (g : Setup) → StartThenRings g

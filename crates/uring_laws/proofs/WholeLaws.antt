@@ -1,6 +1,6 @@
 -- Histories whose ends are called for by their files too.
-use Rattle.std.proofs.Common.{ℕ, neg_ℤ, Bool, true, false, List, [], ◌∷◌, ◌++◌}
-use Rattle.uring_laws.proofs.Common.{Answer, CalledFor, CalledForApart, ECANCELED, EndsOn, FileContents, FinishesApart, History, IsLawful, IsLawfulApart, Requests, Setup, Step, World, files_of, is_running, true≢false, world}
+use Rattle.std.proofs.Common.{ℕ, neg_ℤ, Bool, true, List, [], ◌∷◌, ◌++◌, arith}
+use Rattle.uring_laws.proofs.Common.{Answer, CalledFor, CalledForApart, ECANCELED, EndsOn, FileContents, FinishesApart, History, IsLawful, IsLawfulApart, Requests, Setup, Step, World, files_of, is_running, world}
 use Rattle.uring_files.proofs.OperationCases.{outcome_other}
 use Rattle.uring_core.specs.declared.step.Step.TheVariants as step
 use Rattle.uring_core.specs.declared.answer.Answer.TheVariants as answer
@@ -9,8 +9,7 @@ use Rattle.uring_core.specs.declared.answer.Answer.TheVariants as answer
 finish_apart : (files : List FileContents) (r : Requests) (n : ℕ) (b : Bool) (a : Answer)
     → EndsOn files r n b a → FinishesApart b a
 finish_apart files r n true (answer.Ended res bytes) e = tt
-finish_apart files r n true _ e = absurd e
-finish_apart files r n false a e = e
+finish_apart files r n _ a e = e
 
 apart_called : (g : Setup) (w : World) (s : Step) (a : Answer) → CalledFor g w s a
     → CalledForApart g w s a
@@ -33,9 +32,7 @@ lawful_before g ((s, a) ∷ after) before lawful = lawful_before g after before 
 
 ends_not : (files : List FileContents) (r : Requests) (n : ℕ) (b : Bool) (bytes : List ℕ)
     → EndsOn files r n b (answer.Ended (neg_ℤ ECANCELED) bytes) → ⊥
-ends_not files r n true bytes e =
-    true≢false (outcome_other files _ (record { res = neg_ℤ ECANCELED; bytes = bytes }) e)
-ends_not files r n false bytes e = cc
+ends_not files r n running bytes e = grind (arith, outcome_other)
 
 pub finish_never_cancels : (g : Setup) (after before : History) (n : ℕ) (bytes : List ℕ)
     → IsLawful g (after ++ (step.Finish n, answer.Ended (neg_ℤ ECANCELED) bytes) ∷ before) → ⊥
