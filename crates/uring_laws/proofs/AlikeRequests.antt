@@ -1,6 +1,6 @@
 -- Requests with other lists, of which the definitions read the same, stand alike by the manual pages' rules: each reads who started, was doomed by a cancel, ended and failed, and nothing else of them.
-use Rattle.std.proofs.Common.{◌≡◌, ℕ, zero, suc, ◌==◌, ℤ, Bool, not, ◌&&◌, nat_lt, List, length, Option, refl, ap, ◌<◌, arith}
-use Rattle.uring_laws.proofs.Common.{Ending, HaveSame, Requests, all_below, cancel_result, chosen_by, has_ended, has_failed, has_started, is_after_failure, is_cancelled, is_candidate, is_doomed, is_joined, is_outstanding, is_running, is_target, list_any, result_for, some_member, target_of, targets_of}
+use Rattle.std.proofs.Common.{◌≡◌, ℕ, zero, suc, ◌==◌, ℤ, Bool, List, Option, refl, ◌<◌, arith}
+use Rattle.uring_laws.proofs.Common.{Ending, HaveSame, Requests, all_below, cancel_result, chosen_by, has_ended, has_failed, has_started, is_after_failure, is_cancelled, is_candidate, is_doomed, is_joined, is_running, is_target, list_any, result_for, some_member, target_of, targets_of}
 
 -- Requests with other lists of who started, was doomed and ended.
 

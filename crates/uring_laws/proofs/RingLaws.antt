@@ -1,6 +1,6 @@
 -- The laws `reaped_begin_posted` and `nothing_after_close`, from what is sound.
-use Rattle.std.proofs.Common.{◌≡◌, ℕ, ◌≤◌, true, false, [], ◌∷◌, ◌++◌, length, take, drop, None, is_some, refl, sym, ap, ◌∙◌, cond, arith, append_assoc}
-use Rattle.uring_laws.proofs.Common.{Answer, Completions, History, IsLawfulApart, IsSoundCompletions, ReapedBeginPosted, Setup, Step, SubmissionMove, World, in_overflow, in_ring, length-drop, length-take, list_any, or_from, submission_move, take-append-drop, take-take, takes_in, world}
+use Rattle.std.proofs.Common.{◌≡◌, ℕ, ◌≤◌, true, false, [], ◌∷◌, ◌++◌, length, take, None, refl, arith, append_assoc}
+use Rattle.uring_laws.proofs.Common.{Answer, Completions, History, IsLawfulApart, IsSoundCompletions, ReapedBeginPosted, Setup, Step, SubmissionMove, World, length-drop, length-take, list_any, or_from, submission_move, take-append-drop, take-take, takes_in, world}
 use Rattle.uring_core.specs.declared.step.Step.TheVariants as step
 use Rattle.uring_core.specs.declared.answer.Answer.TheVariants as answer
 
@@ -9,7 +9,7 @@ pub begin_posted : (size : ℕ) (l : Completions) → IsSoundCompletions size l
 begin_posted size l s =
     let within : length l.reaped ≤ l.put = omega arith in
     record {
-      in_order = sym (take-append-drop l.put l.posted) ∙ ap (λ xs. xs ++ drop l.put l.posted) (sym (take-append-drop (length l.reaped) (take l.put l.posted)) ∙ ap (λ xs. xs ++ in_ring l) (take-take (length l.reaped) l.put l.posted within ∙ sym s.begins)) ∙ append_assoc l.reaped (in_ring l) (in_overflow l);
+      in_order = grind (arith, (take-append-drop l.put l.posted), (take-append-drop (length l.reaped) (take l.put l.posted)), (take-take (length l.reaped) l.put l.posted within), append_assoc);
       reaped_put = within;
       put_posted = s.put_posted;
       ring_holds = omega arith;
@@ -31,18 +31,13 @@ shut_stays : (g : Setup) (w : World) (s : Step) (a : Answer) (v : World) → Sub
     → IsShut w → IsShut v × (takes_in (s, a) ≡ false)
 shut_stays g w s a v h i = grind arith
 
-open_none : (w : World) → answer.Shut ≡ (cond (is_some w.submission.call) answer.InCall answer.Shut)
-    → w.submission.call ≡ None
-open_none w e = grind arith
-
 stays_shut : (g : Setup) (after before : History)
     → IsLawfulApart g (after ++ (step.Close, answer.Shut) ∷ before)
     → StaysShut (world g (after ++ (step.Close, answer.Shut) ∷ before)) after
-stays_shut g [] before lawful = record { shut = record { closed = refl; no_call = open_none (world g before) lawful.0 }; none_in = refl }
+stays_shut g [] before lawful = record { shut = record { closed = refl; no_call = grind (arith, lawful.0) }; none_in = refl }
 stays_shut g ((s, a) ∷ after) before lawful =
     let i = stays_shut g after before lawful.1 in
-    let move = submission_move g s a (after ++ (step.Close, answer.Shut) ∷ before) lawful in
-    let k = shut_stays g _ s a _ move i.shut in
+    let k = shut_stays g _ s a _ (submission_move g s a (after ++ (step.Close, answer.Shut) ∷ before) lawful) i.shut in
     record { shut = k.0; none_in = or_from _ _ k.1 i.none_in }
 
 pub nothing_after : (g : Setup) (after before : History)

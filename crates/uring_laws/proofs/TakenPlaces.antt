@@ -1,6 +1,6 @@
 -- Which positions were taken.
-use Rattle.std.proofs.Common.{◌≡◌, ◌+◌, false, [], ◌∷◌, ◌++◌, take, Some, None, refl, sym, ap, ◌∙◌, arith, append-nil}
-use Rattle.uring_laws.proofs.Common.{Answer, Event, History, IsLawfulApart, IsSoundSubmission, IsWithinLimits, Setup, Step, SubmissionMove, TakenOnceInOrder, World, begins, closes, drops, entries_of, entries_taken, entry_taken_by, ltb-false, open_taken, positions_taken, reached, sound_of, stays, stores, submission_move, sum_by_push, take-append-le, taken, takes, takes_position, world}
+use Rattle.std.proofs.Common.{◌≡◌, ◌+◌, false, [], ◌∷◌, take, Some, None, refl, arith, append-nil}
+use Rattle.uring_laws.proofs.Common.{Answer, Event, History, IsLawfulApart, IsSoundSubmission, IsWithinLimits, Setup, Step, SubmissionMove, TakenOnceInOrder, World, begins, closes, drops, entries_of, entries_taken, entry_taken_by, ltb-false, positions_taken, reached, sound_of, stays, stores, submission_move, sum_by_push, take-append-le, taken, takes, takes_position, world}
 use Rattle.uring_core.proofs.TakenEntries.{one_further}
 use Rattle.uring_laws.proofs.Telling.{count_more, count_same}
 
@@ -22,20 +22,9 @@ places_kept g h w s a v (stays _ _ r c is_closed off left) sound i = grind arith
 places_kept g h w s a v (stores tail) sound i = grind (arith, count_same, take-append-le)
 places_kept g h w s a v (begins count is_open no_call unspent) sound i = grind arith
 places_kept g h w s a v (takes entry call place opened left at valid) sound i =
-    let t : open_taken w.submission.call ≡ call.taken = ap open_taken opened in
-    let next : reached w.submission + 1 ≡ taken w.submission + (call.taken + 1) = omega arith in
-    let here : reached w.submission ≡ taken w.submission + call.taken = omega arith in
-    record {
-      count = count_more takes_position (s, a) h refl ∙ omega (arith, i.count);
-      entries = ap (λ xs. xs ++ entry ∷ []) (i.entries ∙ ap (λ k. entries_of (take k w.submission.published)) here) ∙ sym (one_further w.submission.published (taken w.submission + call.taken) place (Some entry) at valid) ∙ ap (λ k. entries_of (take k w.submission.published)) (omega arith);
-    }
+    grind (arith, (count_more takes_position (s, a) h refl), (one_further w.submission.published (taken w.submission + call.taken) place (Some entry) at valid))
 places_kept g h w s a v (drops call place opened left at invalid) sound i =
-    let t : open_taken w.submission.call ≡ call.taken = ap open_taken opened in
-    let here : reached w.submission ≡ taken w.submission + call.taken = omega arith in
-    record {
-      count = count_more takes_position (s, a) h refl ∙ omega (arith, i.count);
-      entries = i.entries ∙ ap (λ k. entries_of (take k w.submission.published)) here ∙ sym (append-nil _) ∙ sym (one_further w.submission.published (taken w.submission + call.taken) place None at invalid) ∙ ap (λ k. entries_of (take k w.submission.published)) (omega arith);
-    }
+    grind (arith, (count_more takes_position (s, a) h refl), (one_further w.submission.published (taken w.submission + call.taken) place None at invalid), append-nil)
 places_kept g h w s a v (closes accepted missed head call opened all counted) sound i = grind (arith, sum_by_push, ltb-false)
 places_kept g h w s a v _ sound i = still_places h (s, a) w _ refl refl refl refl i
 

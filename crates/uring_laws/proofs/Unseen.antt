@@ -1,6 +1,6 @@
 -- A start changes places with each step that is on the rings, by either's rules: `start_then_rings` and `rings_then_start`.
 -- Such a step asks nobody who runs; of the requests it changes at most which are accepted, after all that there are.
-use Rattle.std.proofs.Common.{◌≡◌, ℕ, ◌<◌, true, not, ◌∷◌, length, Some, sym, subst, ap}
+use Rattle.std.proofs.Common.{◌≡◌, ℕ, ◌<◌, true, not, ◌∷◌, length, Some, sym, ap}
 use Rattle.uring_laws.proofs.Common.{Answer, CalledFor, Change, Drains, IsBetween, IsLawful, IsLawfulApart, IsOnRings, LinuxRequests, RingsThenStart, Setup, StartThenRings, Step, World, and_parts, change_of, ending_of, entries_from, happens, has_ended, ltb-true, refuses, requests_of, sound_of, world}
 use Rattle.uring_core.proofs.Changes.{takes, drops, closes}
 use Rattle.uring_laws.proofs.Growth.{IsCut}
