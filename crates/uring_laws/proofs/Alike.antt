@@ -82,11 +82,6 @@ module _ (g : Setup) (v : World) (s c : List ℕ) (e : List Ending) (d : Drains)
       search (rules, end_same (requests_of v) s c e a n res bytes, posted_same n res bytes, drains_ended_same (requests_of v) s c e a g.linux d)
   rings_then x b _ = search (rules, a.started, a.cancelled, a.ended)
 
-files_then : (g : Setup) (h k : History) (s : Step) (a : Answer) → IsLawfulApart g ((s, a) ∷ h)
-    → IsLawfulApart g ((s, a) ∷ k) → AreAlike g (world g h) (world g k)
-    → files_of g (world g ((s, a) ∷ h)) ≡ files_of g (world g ((s, a) ∷ k))
-files_then g h k s a lawful other al = search (rules, files_kept, files_ended)
-
 pub alike_then : (g : Setup) (h k : History) (s : Step) (a : Answer) → IsLawful g ((s, a) ∷ h)
     → IsLawful g ((s, a) ∷ k) → AreAlike g (world g h) (world g k)
     → AreAlike g (world g ((s, a) ∷ h)) (world g ((s, a) ∷ k))
@@ -95,7 +90,7 @@ alike_then g h k s a lawful other al =
     let w : World = world g k in
     let apart : IsLawfulApart g ((s, a) ∷ h) = lawful_apart g ((s, a) ∷ h) lawful in
     let rings = rw (same_but g v w al) at (rings_then g v w.requests.started w.requests.cancelled w.requests.ended w.drains (lists_of g v w al) al.drains s a (change_of g v s a apart.0)) in
-    with_files g (happens g v s a) (happens g w s a) rings (files_then g h k s a apart (lawful_apart g ((s, a) ∷ k) other) al)
+    with_files g (happens g v s a) (happens g w s a) rings (let lawful_k = lawful_apart g ((s, a) ∷ k) other in let f : files_of g (world g ((s, a) ∷ h)) ≡ files_of g (world g ((s, a) ∷ k)) = search (rules, files_kept, files_ended) in f)
 
 pub alike_go_on : (g : Setup) → AlikeGoOnAlike g
 alike_go_on g [] h k lawful al next = record { lawful = lawful; alike = al }

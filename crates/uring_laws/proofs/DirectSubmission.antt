@@ -30,18 +30,6 @@ words_of_places : (size : ℕ) (content : ℕ → Sqe) (words : List ℕ)
 words_of_places size content [] = refl
 words_of_places size content (word ∷ words) = grind (arith, (words_of_places size content words))
 
--- what an event leaves that neither opens nor closes a call and takes no position
-record NoneCalled (g : Setup) (h : History) (w : World) (e : Event) : Type 0 where
-  calls : w.submission.calls ≡ call_counts (e ∷ h)
-  closed : count_by closes_call (e ∷ h) ≡ length w.submission.calls
-  openings : count_by opens_call (e ∷ h) ≡ length w.submission.calls + open_calls w.submission.call
-  opened : IsOpened g (e ∷ h) w.submission.call
-
-none_called : (g : Setup) (h : History) (w : World) (e : Event) → opens_call e ≡ false
-    → opened_by e ≡ None → closes_call e ≡ false → takes_position e ≡ false → DirectSubmission g h w
-    → NoneCalled g h w e
-none_called g h w e none_opened none none_closed idle i = grind arith
-
 -- what an event leaves by which the open call takes a position
 record PositionTaken (g : Setup) (h : History) (w : World) (e : Event) (call : Call) : Type 0 where
   calls : w.submission.calls ≡ call_counts (e ∷ h)
@@ -70,13 +58,7 @@ submission_direct : (g : Setup) (h : History) (w : World) (s : Step) (a : Answer
 submission_direct g h w s a v (stays _ _ r c is_closed off left) sound entries i = grind arith
 submission_direct g h w s a v (fills slot entry) sound entries i = grind arith
 submission_direct g h w s a v (stages word room) sound entries i = grind (arith, append_assoc)
-submission_direct g h w s a v (stores tail) sound entries i =
-    let f = none_called g h w (s, a) refl refl refl refl i in
-    let published =
-    map-append (λ p. p.word) w.submission.published (map (place_of g.sq w.submission.content) w.submission.fresh)
-    ∙ ap₂ (λ xs ys. xs ++ ys) i.published (words_of_places g.sq w.submission.content w.submission.fresh) ∙ i.staged in
-    let staged = append-nil (staged_words h) in
-    assumption (published, staged, f, i)
+submission_direct g h w s a v (stores tail) sound entries i = grind (arith, words_of_places, map-append, append-nil)
 submission_direct g h w s a v (loads head) sound entries i = grind arith
 submission_direct g h w s a v (begins count is_open no_call unspent) sound entries i =
     grind (arith, (count_more opens_call (s, a) h refl))

@@ -1,7 +1,7 @@
 -- The laws of `files.rt` on lists of operations alone: the file of a descriptor is made by the operations on it,
 -- and operations that were dealt out by their file can be carried out at places with files of their own.
 -- From the lemmas of uring_files that each file stands by itself. Stable: other crates may import what is pub.
-use Rattle.std.proofs.Common.{◌≡◌, ℕ, ◌<◌, ◌==◌, ℤ, Bool, true, cond, List, [], ◌∷◌, refl, ◌∙◌}
+use Rattle.std.proofs.Common.{◌≡◌, ℕ, ◌<◌, ◌==◌, ℤ, Bool, true, cond, List, [], ◌∷◌, refl, ◌∙◌, arith}
 use Rattle.uring_laws.proofs.Common.{AreDone, Done, Ending, FileByItsEnds, FileContents, IsByFile, IsOutcome, Op, Outcome, Requests, after, both_ways, cond_both, done_at, ends_of, entry_of, eq-eqb, false_from_ne_true, files_after, files_left, filter, operation_of}
 use Rattle.uring_files.specs.Laws.{AgreeAt, is_on}
 use Rattle.uring_files.proofs.StandAlone.{others_stay, files_apart, ends_apart}
@@ -16,9 +16,7 @@ left_apart files others [] fd keeps own same = same
 left_apart files others (d ∷ later) fd keeps own same =
     let now : List FileContents = after files d.op d.outcome.res in
     let rest : List Done = filter (λ x. keeps x.op) later in
-    cond_both (keeps d.op) (d ∷ rest) rest (λ kept. AgreeAt fd (files_left now later) (files_left others kept))
-    (λ here. left_apart now (after others d.op d.outcome.res) later fd keeps own (files_apart files others d.op d.outcome.res fd same))
-    (λ left_out. left_apart now others later fd keeps own (others_stay files d.op d.outcome.res fd (false_from_ne_true _ (λ on. both_ways _ left_out (own d.op on))) ∙ same))
+    grind (arith, files_apart, others_stay, (own d.op), (left_apart now (after others d.op d.outcome.res) later fd keeps own), (left_apart now others later fd keeps own))
 
 pub left_by_own : (files : List FileContents) (done : List Done) (fd : ℤ) (keeps : Op → Bool)
     → ((op : Op) → is_on fd op ≡ true → keeps op ≡ true)
@@ -30,9 +28,7 @@ after_apart : (r : Requests) (files others : List FileContents) (ends : List End
 after_apart r files others [] fd same = same
 after_apart r files others (e ∷ later) fd same =
     let op : Op = operation_of (entry_of r e.number) in
-    cond_both (is_on fd op) (e ∷ ends_of fd r later) (ends_of fd r later) (λ kept. AgreeAt fd (files_after r (after files op e.res) later) (files_after r others kept))
-    (λ on. after_apart r (after files op e.res) (after others op e.res) later fd (files_apart files others op e.res fd same))
-    (λ off. after_apart r (after files op e.res) others later fd (others_stay files op e.res fd off ∙ same))
+    grind (arith, files_apart, others_stay, (after_apart r (after files op e.res) (after others op e.res) later fd), (after_apart r (after files op e.res) others later fd))
 
 pub after_by_own : FileByItsEnds
 after_by_own r files ends fd = after_apart r files files ends fd refl
@@ -58,9 +54,7 @@ module _ (place : Op → ℕ) (by_file : IsByFile place) where
   agree_after : (files : List FileContents) (parts : ℕ → List FileContents) (d : Done) → Agree place files parts → Agree place (after files d.op d.outcome.res) (part_after d parts)
   unfolding part_after
   agree_after files parts d agree fd op on =
-      cond_both (place d.op == place op) _ _ (AgreeAt fd (after files d.op d.outcome.res))
-      (λ here. files_apart files (parts (place op)) d.op d.outcome.res fd (agree fd op on))
-      (λ elsewhere. others_stay files d.op d.outcome.res fd (false_from_ne_true _ (λ also. both_ways _ elsewhere (eq-eqb _ _ (by_file fd d.op op also on)))) ∙ agree fd op on)
+      grind (arith, files_apart, others_stay, (agree fd op on), (λ (also : is_on fd d.op ≡ true). by_file fd d.op op also on), eq-eqb)
 
   -- what is left for a place once the first operation was carried out
   left_at : (parts : ℕ → List FileContents) (d : Done) (later : List Done) (k : ℕ) → AreDone (parts k) (done_at place k (d ∷ later)) → AreDone (part_after d parts k) (done_at place k later)

@@ -1,6 +1,7 @@
 -- The law `published_is_told`: the items published are those that the events tell, and so is the count of dropped words.
 -- The items: from `own_submission`, position by position. The count: what all calls took less the entries among it,
 -- which `takes_places` has; kept from the last close on by induction over the history.
+use Rattle.std.proofs.lemmas.Grind.{common_steps}
 use Rattle.std.proofs.Common.{◌≡◌, ℕ, suc, ◌+◌, ◌<◌, ◌≤◌, false, List, [], ◌∷◌, length, map, take, count_by, get_or, Option, Some, None, slice_get, refl, ap, ◌∙◌, arith}
 use Rattle.uring_laws.proofs.Common.{All, All-cons, All-nil, Answer, Event, History, IsItem, IsLawfulApart, OwnSubmission, Place, Setup, Sqe, Step, SubmissionMove, World, closes, dropped_in, entries_taken, entry_taken_by, enumerate_from, get_or-map, get_or_append_left, get_or_from_slice_get, item_of, length-map, length-take-le, length_push, positions_taken, published_entry, published_items, reached, slice_get_within, sound_of, staged_words, stays, stores, submission_move, sum_by_push, take-append-le, taken, takes_position, with_told, world}
 use Rattle.uring_laws.specs.Published.{items_told, drops_position, positions_dropped, OwnPublished}
@@ -52,17 +53,9 @@ items_sound g h own =
 taken_or_dropped : (h : History)
     → length (entries_taken h) + count_by drops_position h ≡ positions_taken h
 taken_or_dropped [] = refl
-taken_or_dropped (e ∷ h) = by_event e (taken_or_dropped h) where
-  none_more : (event : Event) → entry_taken_by event ≡ None → drops_position event ≡ false → takes_position event ≡ false → length (entries_taken h) + count_by drops_position h ≡ positions_taken h → length (entries_taken (event ∷ h)) + count_by drops_position (event ∷ h) ≡ positions_taken (event ∷ h)
-  none_more event none idle still rest =
-      let same : length (entries_taken (event ∷ h)) ≡ length (entries_taken h) = ap (λ o. length (with_told (entries_taken h) o)) none in
-      omega (arith, rest, same, count_same drops_position event h idle, count_same takes_position event h still)
-
-  by_event : (event : Event) → length (entries_taken h) + count_by drops_position h ≡ positions_taken h → length (entries_taken (event ∷ h)) + count_by drops_position (event ∷ h) ≡ positions_taken (event ∷ h)
-  by_event (step.Take, answer.Entry entry) rest =
-      omega (arith, rest, length_push (entries_taken h) entry, count_same drops_position (step.Take, answer.Entry entry) h refl, count_more takes_position (step.Take, answer.Entry entry) h refl)
-  by_event (step.Take, answer.Dropped) rest = omega (arith, rest, count_more drops_position (step.Take, answer.Dropped) h refl, count_more takes_position (step.Take, answer.Dropped) h refl)
-  by_event event rest = none_more event refl refl refl rest
+taken_or_dropped ((step.Take, answer.Entry entry) ∷ h) = grind (arith, common_steps, length_push, (taken_or_dropped h))
+taken_or_dropped ((step.Take, answer.Dropped) ∷ h) = grind (arith, common_steps, (taken_or_dropped h))
+taken_or_dropped (e ∷ h) = grind (arith, common_steps, (taken_or_dropped h))
 
 -- as many were dropped as the positions that were taken have no entry
 dropped_by_all : (g : Setup) (h : History) → IsLawfulApart g h

@@ -9,12 +9,6 @@ pub record TakesPlaces (h : History) (w : World) : Type 0 where
   pub count : positions_taken h ≡ reached w.submission
   pub entries : entries_taken h ≡ entries_of (take (reached w.submission) w.submission.published)
 
--- what neither takes a position nor reaches further leaves it so
-still_places : (h : History) (e : Event) (w v : World) → takes_position e ≡ false → entry_taken_by e ≡ None
-    → reached w.submission ≡ reached v.submission → w.submission.published ≡ v.submission.published
-    → TakesPlaces h w → TakesPlaces (e ∷ h) v
-still_places h e w v idle none same places i = grind arith
-
 places_kept : (g : Setup) (h : History) (w : World) (s : Step) (a : Answer) (v : World)
     → SubmissionMove g w s a v → IsSoundSubmission g.sq w.submission → TakesPlaces h w
     → TakesPlaces ((s, a) ∷ h) v
@@ -26,7 +20,7 @@ places_kept g h w s a v (takes entry call place opened left at valid) sound i =
 places_kept g h w s a v (drops call place opened left at invalid) sound i =
     grind (arith, (count_more takes_position (s, a) h refl), (one_further w.submission.published (taken w.submission + call.taken) place None at invalid), append-nil)
 places_kept g h w s a v (closes accepted missed head call opened all counted) sound i = grind (arith, sum_by_push, ltb-false)
-places_kept g h w s a v _ sound i = still_places h (s, a) w _ refl refl refl refl i
+places_kept g h w s a v _ sound i = grind (arith, count_same)
 
 pub takes_places : (g : Setup) (h : History) → IsLawfulApart g h → TakesPlaces h (world g h)
 takes_places g [] lawful = record { count = refl; entries = refl }
