@@ -1,6 +1,6 @@
 -- How many completions were put into the ring, read off a history.
-use Rattle.std.proofs.Common.{◌≡◌, ℕ, ◌+◌, ◌-◌, ◌==◌, min, nat_lt, Bool, ◌&&◌, [], ◌∷◌, length, Some, None, is_some, if◌then◌else◌, cond, refl, ap₂, arith}
-use Rattle.uring_laws.proofs.Common.{Answer, Completions, Cqe, Event, History, IsLawfulApart, Setup, Step, World, before_last, completion_for, cond_both, entry_of, flushed_head, posted_count, posts, posts_told, put_count, stored_head, with_posted, world}
+use Rattle.std.proofs.Common.{◌≡◌, Bool, [], ◌∷◌, length, refl, arith}
+use Rattle.uring_laws.proofs.Common.{Answer, Event, History, IsLawfulApart, Setup, Step, World, before_last, cond_both, flushed_head, posted_count, posts_told, put_count, stored_head, world}
 use Rattle.uring_core.proofs.CompletionMoves.{CompletionMove, stays, ends, flushes, completion_move}
 use Rattle.uring_laws.proofs.DirectCompletions.{direct_completions}
 
@@ -10,23 +10,13 @@ record PutFacts (g : Setup) (h : History) : Type 0 where
   loaded : (world g h).completions.seen_head ≡ flushed_head h
   stored : (world g h).completions.head ≡ stored_head h
 
--- how many are put once a completion is posted, or skipped
-end_put : (size : ℕ) (l : Completions) (told_so : Bool) (c : Cqe) (there posted loaded : ℕ)
-    → l.put ≡ there → length l.posted ≡ posted → l.seen_head ≡ loaded
-    → (cond told_so (with_posted size l c) l).put
-    ≡ (if is_some (cond told_so (Some c) None) && (there == posted) && nat_lt (there - loaded) size then there + 1 else there)
-end_put size l told_so c there posted loaded put_is posted_is loaded_is = grind arith
-
 put_direct : (g : Setup) (h : History) (s : Step) (a : Answer) (v : World)
     → CompletionMove g (world g h) s a v → PutFacts g h
     → (world g h).completions.put ≡ put_count g h → v.completions.put ≡ put_count g ((s, a) ∷ h)
 put_direct g h s a v (stays _ _ l r is_closed off no_end left) f i =
     rw (off.flushes, no_end) i
-put_direct g h s a v (ends _ _ n res bytes r off told same_accepted one_more) f i =
-    rw (off.flushes, told)
-    (end_put g.cq (world g h).completions (posts g.linux (world g h).requests n res) (completion_for (entry_of (world g h).requests n) res bytes) (put_count g h) (posted_count g h) (flushed_head h) i f.posted f.loaded)
-put_direct g h s a v (flushes moved) f i =
-    ap₂ (λ posted head. min posted (head + g.cq)) f.posted f.stored
+put_direct g h s a v (ends _ _ n res bytes r off told same_accepted one_more) f i = grind arith
+put_direct g h s a v (flushes moved) f i = rw (f.posted, f.stored)
 put_direct g h s a v _ f i = i
 
 -- The completions that the events told to be posted.

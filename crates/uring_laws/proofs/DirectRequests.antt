@@ -1,6 +1,6 @@
 -- The accepted entries, the cuts and the completions posted, read off a history.
-use Rattle.std.proofs.Common.{◌≡◌, ℕ, ◌+◌, ◌<◌, ◌==◌, true, List, [], ◌∷◌, ◌++◌, length, take, sum, Some, None, get_or, cond, refl, sym, ap, ap₂, ◌∙◌, arith, append-nil, take-add}
-use Rattle.uring_laws.proofs.Common.{Answer, Completions, Ending, History, IsLawfulApart, IsSound, Setup, Sqe, Step, Submission, SubmissionMove, World, accepted, accepted_by, by_manual, closes, closes_ring, completion_of, cons_option, cut_counts, entries_of, eq-eqb, filter_map, filter_map-append, get_or_append_left, length-append, list_any, or_left, or_right, places_from, posts_completion, sound_of, stays, stores, submission_move, sum_by-cons, sum_by_push, sums_from, take-append-le, taken, told, user_data_of, with_end, world, zero_entry}
+use Rattle.std.proofs.Common.{◌≡◌, ℕ, ◌+◌, ◌<◌, ◌==◌, true, List, [], ◌∷◌, ◌++◌, length, take, sum, get_or, refl, sym, ap₂, ◌∙◌, arith, append-nil, take-add}
+use Rattle.uring_laws.proofs.Common.{Answer, Completions, Ending, History, IsLawfulApart, IsSound, Setup, Sqe, Step, Submission, SubmissionMove, World, accepted, accepted_by, by_manual, closes, closes_ring, completion_of, cut_counts, entries_of, eq-eqb, filter_map, filter_map-append, get_or_append_left, length-append, list_any, or_left, or_right, places_from, sound_of, stays, stores, submission_move, sum_by-cons, sum_by_push, sums_from, take-append-le, taken, told, with_end, world, zero_entry}
 use Rattle.uring_core.proofs.CompletionMoves.{CompletionMove, stays as stays_off, ends, completion_move}
 
 pub record DirectRequests (h : History) (w : World) : Type 0 where
@@ -18,10 +18,9 @@ taken_more l count = grind (arith, sum_by_push, take-add, filter_map-append)
 -- a sum more
 sums_push : (before : ℕ) (xs : List ℕ) (x : ℕ)
     → sums_from before (xs ++ x ∷ []) ≡ sums_from before xs ++ (before + (sum xs + x)) ∷ []
-sums_push before [] x = ap (λ n. n ∷ []) (omega arith)
+sums_push before [] x = grind arith
 sums_push before (y ∷ xs) x =
-    ap (λ ns. (before + y) ∷ ns)
-    (sums_push (before + y) xs x ∙ ap (λ n. sums_from (before + y) xs ++ n ∷ []) (omega (arith, sum_by-cons (λ k. k) y xs)))
+    grind (arith, (sum_by-cons (λ k. k) y xs), (sums_push (before + y) xs x))
 
 -- the entries accepted later are those of no end so far
 same_posts : (accepted more : List Sqe) (es : List Ending)
@@ -29,10 +28,7 @@ same_posts : (accepted more : List Sqe) (es : List Ending)
     → filter_map (completion_of (accepted ++ more)) es ≡ filter_map (completion_of accepted) es
 same_posts accepted more [] within = refl
 same_posts accepted more (e ∷ es) within =
-    ap₂ cons_option
-    (ap (λ entry. cond (posts_completion entry e.res) (Some (record { user_data = user_data_of entry; res = e.res; payload = e.bytes })) None)
-    (get_or_append_left accepted more zero_entry e.number (within e.number (or_left (e.number == e.number) _ (eq-eqb e.number _ refl)))))
-    (same_posts accepted more es (λ n there. within n (or_right (e.number == n) _ there)))
+    rw (get_or_append_left accepted more zero_entry e.number (within e.number (or_left (e.number == e.number) _ (eq-eqb e.number _ refl))), same_posts accepted more es (λ n there. within n (or_right (e.number == n) _ there)))
 
 -- one end more
 end_posted : (size : ℕ) (l : Completions) (accepted : List Sqe) (es : List Ending) (e : Ending)

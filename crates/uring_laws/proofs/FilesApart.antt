@@ -1,8 +1,8 @@
 -- The laws of `files.rt` on lists of operations alone: the file of a descriptor is made by the operations on it,
 -- and operations that were dealt out by their file can be carried out at places with files of their own.
 -- From the lemmas of uring_files that each file stands by itself. Stable: other crates may import what is pub.
-use Rattle.std.proofs.Common.{◌≡◌, ℕ, ◌<◌, ◌==◌, ℤ, Bool, true, cond, List, [], ◌∷◌, refl, ◌∙◌, arith}
-use Rattle.uring_laws.proofs.Common.{AreDone, Done, Ending, FileByItsEnds, FileContents, IsByFile, IsOutcome, Op, Outcome, Requests, after, both_ways, cond_both, done_at, ends_of, entry_of, eq-eqb, false_from_ne_true, files_after, files_left, filter, operation_of}
+use Rattle.std.proofs.Common.{◌≡◌, ℕ, ◌<◌, ◌==◌, ℤ, Bool, true, cond, List, [], ◌∷◌, refl, arith}
+use Rattle.uring_laws.proofs.Common.{AreDone, Done, Ending, FileByItsEnds, FileContents, IsByFile, IsOutcome, Op, Outcome, Requests, after, cond_both, done_at, ends_of, entry_of, eq-eqb, files_after, files_left, filter, operation_of}
 use Rattle.uring_files.specs.Laws.{AgreeAt, is_on}
 use Rattle.uring_files.proofs.StandAlone.{others_stay, files_apart, ends_apart}
 

@@ -1,12 +1,12 @@
 -- What a cancel of one request finds, from what is told of it.
-use Rattle.std.proofs.Common.{◌≡◌, ℕ, ◌<◌, length, Bool, true, false, not, ◌&&◌, Option, Some, None, refl, sym, ◌∙◌, ap, subst, arith}
-use Rattle.uring_laws.proofs.Common.{Cancel, EALREADY, Op, Requests, addr_of, cancel_result, count_result, entry_of, if◌then◌else◌, is_cancel_all, is_candidate, is_faulty, is_outstanding, is_running, least_below_none, least_below_out, least_below_some, neg_ℤ, operation_of, pos, result_for, target_of, targets_of}
+use Rattle.std.proofs.Common.{◌≡◌, ℕ, length, Bool, true, false, not, ◌&&◌, Option, Some, None, refl, sym, arith}
+use Rattle.uring_laws.proofs.Common.{Cancel, Op, Requests, cancel_result, entry_of, if◌then◌else◌, is_cancel_all, is_candidate, is_faulty, is_outstanding, least_below_none, least_below_out, least_below_some, operation_of, result_for, target_of}
 use Rattle.uring_laws.proofs.ReasonLaws.{least_of}
 use Rattle.uring_entry.proofs.Preparations.{asks_cancel, cancel_asked}
 use Rattle.uring_dispatch.specs.Cancels.{found_as, found_for, found_by}
 use Rattle.uring_dispatch.specs.declared.answers.Found.{Found}
 use Rattle.uring_dispatch.specs.declared.answers.Found.TheVariants.{Nobody, Running, Chosen}
-use Rattle.uring_laws.specs.Reasons.{IsLeastOf, IsFound, Finds, ends_with}
+use Rattle.uring_laws.specs.Reasons.{IsFound, Finds, ends_with}
 
 -- what is found, and what the cancel ends with
 target_found : (r : Requests) (n : ℕ) (o : Option ℕ) → target_of r n ≡ o

@@ -31,8 +31,7 @@ IsCut r = (length r.accepted ≡ 0) ⊎ (list_any (λ c. c == length r.accepted)
 
 call_grows : (r : Requests) (entries : List Sqe) → IsCut r → Grows r (with_call r entries)
 call_grows r entries cut =
-    let doomed = doom_kept r entries cut in
-    search (rules, longer r entries cut, entry_kept r entries cut, join_kept r entries cut, member_kept r entries cut is_drain, doomed)
+    search (rules, longer r entries cut, entry_kept r entries cut, join_kept r entries cut, member_kept r entries cut is_drain, doom_kept r entries cut)
 
 issued_grows : (linux : Bool) (r : Requests) (n : ℕ) (res : ℤ)
     → (res ≡ doomed_result linux r n) ⊎ (res ≡ cancel_result linux r n) → Grows r (with_issued_end linux r n res)

@@ -1,6 +1,6 @@
 -- The laws of doomed requests, links and drains, by the manual pages' rules; and what these and those of Linux share.
 use Rattle.std.proofs.Common.{◌≡◌, ℕ, ◌<◌, ◌==◌, ℤ, neg_ℤ, Bool, true, false, not, ◌&&◌, List, ◌∷◌, ◌++◌, Some, length, slice_get, refl, subst, ◌⊎◌, arith}
-use Rattle.uring_laws.proofs.Common.{Answer, Change, ECANCELED, Ending, History, IsEnded, IsLawfulApart, IsSoundManual, LinuxRequests, Requests, Setup, World, both_ways, by_manual, cancels, change_of, count_none, count_some, doomed_result, dooms, eq-eqb, has_ended, has_started, int_eq, is_doomed, list_any, refuses, requests_of, runs, sound_of, times_ended, waited, waits_for, world}
+use Rattle.uring_laws.proofs.Common.{Answer, Change, ECANCELED, Ending, History, IsEnded, IsLawfulApart, IsSoundManual, LinuxRequests, Requests, Setup, World, both_ways, by_manual, change_of, count_none, count_some, doomed_result, dooms, eq-eqb, has_ended, has_started, int_eq, is_doomed, list_any, refuses, requests_of, sound_of, times_ended, waited, waits_for, world}
 use Rattle.uring_laws.specs.Laws.{DoomedNeverRun, IsStart}
 use Rattle.std.proofs.lemmas.Map.Keys.{any_passes_from_place}
 use Rattle.uring_rules.specs.Rules as by_rules
@@ -31,9 +31,8 @@ pub cancelled_doomed : (g : Setup) (w : World) (n : ℕ) (a : Answer) (bytes : L
     → Change g w (step.Issue n) a → a ≡ answer.Ended (neg_ℤ ECANCELED) bytes
     → by_rules.ends_doomed g.linux w.requests n ≡ true
 cancelled_doomed g w n a bytes unlike (refuses _ _ same silent) is = grind arith
-cancelled_doomed g w n a bytes unlike (runs _ outstanding idle spared ready no_cancel) is = absurd cc
 cancelled_doomed g w n a bytes unlike (dooms _ outstanding idle doomed) is = doomed
-cancelled_doomed g w n a bytes unlike (cancels _ outstanding idle spared ready cancel) is = grind arith
+cancelled_doomed g w n a bytes unlike _ is = grind arith
 
 -- what is known where an Issue starts its request
 pub record Started (linux : Bool) (l : LinuxRequests) (n : ℕ) : Type 0 where
@@ -44,10 +43,7 @@ pub record Started (linux : Bool) (l : LinuxRequests) (n : ℕ) : Type 0 where
 pub started_so : (g : Setup) (w : World) (n : ℕ) (a : Answer) → Change g w (step.Issue n) a
     → (a ≡ answer.Run) ⊎ (IsEnded a × (by_rules.ends_doomed g.linux w.requests n ≡ false))
     → Started g.linux (requests_of w) n
-started_so g w n a (refuses _ _ same silent) start = grind arith
-started_so g w n a (runs _ outstanding idle spared ready no_cancel) start = grind arith
-started_so g w n a (dooms _ outstanding idle doomed) start = grind arith
-started_so g w n a (cancels _ outstanding idle spared ready cancel) start = grind arith
+started_so g w n a change start = grind arith
 
 -- By the manual pages'.
 

@@ -2,14 +2,13 @@
 -- The items: from `own_submission`, position by position. The count: what all calls took less the entries among it,
 -- which `takes_places` has; kept from the last close on by induction over the history.
 use Rattle.std.proofs.lemmas.Grind.{common_steps}
-use Rattle.std.proofs.Common.{◌≡◌, ℕ, suc, ◌+◌, ◌<◌, ◌≤◌, false, List, [], ◌∷◌, length, map, take, count_by, get_or, Option, Some, None, slice_get, refl, ap, ◌∙◌, arith}
-use Rattle.uring_laws.proofs.Common.{All, All-cons, All-nil, Answer, Event, History, IsItem, IsLawfulApart, OwnSubmission, Place, Setup, Sqe, Step, SubmissionMove, World, closes, dropped_in, entries_taken, entry_taken_by, enumerate_from, get_or-map, get_or_append_left, get_or_from_slice_get, item_of, length-map, length-take-le, length_push, positions_taken, published_entry, published_items, reached, slice_get_within, sound_of, staged_words, stays, stores, submission_move, sum_by_push, take-append-le, taken, takes_position, with_told, world}
+use Rattle.std.proofs.Common.{◌≡◌, ℕ, suc, ◌+◌, ◌<◌, ◌≤◌, List, [], ◌∷◌, length, map, take, count_by, get_or, Option, Some, None, slice_get, refl, ap, ◌∙◌, arith}
+use Rattle.uring_laws.proofs.Common.{All, All-cons, All-nil, Answer, History, IsItem, IsLawfulApart, OwnSubmission, Place, Setup, Sqe, Step, SubmissionMove, World, closes, dropped_in, entries_taken, enumerate_from, get_or-map, get_or_append_left, get_or_from_slice_get, item_of, length-map, length-take-le, length_push, positions_taken, published_entry, published_items, reached, slice_get_within, sound_of, staged_words, stays, stores, submission_move, sum_by_push, take-append-le, taken, world}
 use Rattle.uring_laws.specs.Published.{items_told, drops_position, positions_dropped, OwnPublished}
 use Rattle.uring_core.specs.declared.step.Step.TheVariants as step
 use Rattle.uring_core.specs.declared.answer.Answer.TheVariants as answer
 use Rattle.uring_laws.proofs.ReadOff.{own_submission}
 use Rattle.uring_laws.proofs.TakenPlaces.{takes_places}
-use Rattle.uring_laws.proofs.Telling.{count_more, count_same}
 use Rattle.uring_rings.proofs.Places.{entries_and_dropped}
 
 -- The items.

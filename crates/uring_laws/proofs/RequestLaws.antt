@@ -1,7 +1,7 @@
 -- The laws `each_ends_once` and `least_can_go_on`.
 -- From what is sound of the requests, and from what can be issued.
-use Rattle.std.proofs.Common.{◌≡◌, ℕ, ◌<◌, ◌≤◌, ◌==◌, Bool, true, false, List, Option, Some, None, length, count_by, refl, sym, subst, inl, inr, arith}
-use Rattle.uring_laws.proofs.Common.{EachEndsOnce, History, IsLawfulApart, IsSoundRequests, LeastCanGoOn, LinuxRequests, Requests, Setup, World, and_parts, both_ways, by_manual, count_none, count_some, false_from_ne_true, has_ended, is_outstanding, least_below_out, least_below_some, least_below_tells, least_of, least_of_goes_on, list_any, lt-ltb, ltb-true, or_cases, requests_of, sound_of, true_from_ne_false, world, outstanding_tells}
+use Rattle.std.proofs.Common.{◌≡◌, ℕ, ◌<◌, ◌==◌, Bool, true, false, List, Option, Some, None, length, count_by, refl, inl, inr, arith}
+use Rattle.uring_laws.proofs.Common.{EachEndsOnce, History, IsLawfulApart, LeastCanGoOn, LinuxRequests, Setup, World, both_ways, by_manual, count_none, count_some, is_outstanding, least_below_out, least_below_some, least_below_tells, least_of, least_of_goes_on, list_any, lt-ltb, or_cases, requests_of, sound_of, true_from_ne_false, outstanding_tells}
 use Rattle.uring_rules.specs.Rules.{is_issuable, next_of}
 use Rattle.uring_core.proofs.Issuable.{issue_goes, issuable_outstanding}
 use Rattle.uring_laws.proofs.ToldRequests.{tells_requests}

@@ -1,21 +1,13 @@
 -- The laws `reaped_begin_posted` and `nothing_after_close`, from what is sound.
-use Rattle.std.proofs.Common.{◌≡◌, ℕ, ◌≤◌, true, false, [], ◌∷◌, ◌++◌, length, take, None, refl, arith, append_assoc}
-use Rattle.uring_laws.proofs.Common.{Answer, Completions, History, IsLawfulApart, IsSoundCompletions, ReapedBeginPosted, Setup, Step, SubmissionMove, World, length-drop, length-take, list_any, or_from, submission_move, take-append-drop, take-take, takes_in, world}
+use Rattle.std.proofs.Common.{◌≡◌, ℕ, true, false, [], ◌∷◌, ◌++◌, length, take, None, refl, arith, append_assoc}
+use Rattle.uring_laws.proofs.Common.{Answer, Completions, History, IsLawfulApart, IsSoundCompletions, ReapedBeginPosted, Setup, Step, SubmissionMove, World, length-drop, length-take, list_any, submission_move, take-append-drop, take-take, takes_in, world}
 use Rattle.uring_core.specs.declared.step.Step.TheVariants as step
 use Rattle.uring_core.specs.declared.answer.Answer.TheVariants as answer
 
 pub begin_posted : (size : ℕ) (l : Completions) → IsSoundCompletions size l
     → ReapedBeginPosted size l
 begin_posted size l s =
-    let within : length l.reaped ≤ l.put = omega arith in
-    record {
-      in_order = grind (arith, (take-append-drop l.put l.posted), (take-append-drop (length l.reaped) (take l.put l.posted)), (take-take (length l.reaped) l.put l.posted within), append_assoc);
-      reaped_put = within;
-      put_posted = s.put_posted;
-      ring_holds = omega arith;
-      few_stand = omega (arith, length-drop (length l.reaped) (take l.put l.posted), length-take l.put l.posted);
-      full_ring = s.full_ring;
-    }
+    grind (arith, (take-append-drop l.put l.posted), (take-append-drop (length l.reaped) (take l.put l.posted)), take-take, append_assoc, length-drop, length-take)
 
 -- the ring is closed, and no call is open
 record IsShut (w : World) : Type 0 where
@@ -37,8 +29,7 @@ stays_shut : (g : Setup) (after before : History)
 stays_shut g [] before lawful = record { shut = record { closed = refl; no_call = grind (arith, lawful.0) }; none_in = refl }
 stays_shut g ((s, a) ∷ after) before lawful =
     let i = stays_shut g after before lawful.1 in
-    let k = shut_stays g _ s a _ (submission_move g s a (after ++ (step.Close, answer.Shut) ∷ before) lawful) i.shut in
-    record { shut = k.0; none_in = or_from _ _ k.1 i.none_in }
+    grind (arith, (shut_stays g _ s a _ (submission_move g s a (after ++ (step.Close, answer.Shut) ∷ before) lawful) i.shut))
 
 pub nothing_after : (g : Setup) (after before : History)
     → IsLawfulApart g (after ++ (step.Close, answer.Shut) ∷ before)

@@ -1,39 +1,26 @@
 -- The laws of where submission calls end: from the open call as it is read off the history, and by induction over it.
 use Rattle.std.proofs.lemmas.Grind.{common_steps}
-use Rattle.std.proofs.Common.{◌≡◌, ◌↔◌, ℕ, ◌+◌, ◌≤◌, ◌<◌, Bool, true, false, cond, eqb, nat_lt, List, [], ◌∷◌, ◌++◌, length, count_by, Option, Some, None, is_some, unwrap_or, slice_get, if◌then◌else◌, ◌⊎◌, inl, inr, refl, sym, subst, ap, ◌∙◌, arith, append-nil}
-use Rattle.uring_laws.proofs.Common.{Answer, Call, History, IsLawfulApart, Place, Setup, Step, SubmissionMove, World, begins, cases_Bool, closes, drops, end_answer, end_answer_in, eqb-false, eqb-true, has_stopped, open_count, open_taken, opened_by, place_answer, slice_get-get_or, sound_of, stays, stops_at_word, submission_move, sum_by-cons, take_answer, take_answer_in, take_at, taken, taken_since, takes, told, world}
+use Rattle.std.proofs.Common.{◌≡◌, ◌↔◌, ℕ, ◌+◌, ◌≤◌, Bool, true, false, cond, List, [], ◌∷◌, ◌++◌, length, count_by, Option, Some, None, is_some, if◌then◌else◌, ◌⊎◌, refl, subst, arith, append-nil}
+use Rattle.uring_laws.proofs.Common.{Answer, Call, History, IsLawfulApart, Setup, Step, SubmissionMove, World, begins, cases_Bool, closes, drops, end_answer, end_answer_in, has_stopped, open_count, open_taken, opened_by, slice_get-get_or, sound_of, stays, submission_move, sum_by-cons, take_answer, take_answer_in, take_at, taken, taken_since, takes, told, world}
 use Rattle.uring_laws.specs.Stopping.{EndsThere, OpenCallEndsThere, CallsTakeAll, drops_word}
-use Rattle.uring_core.specs.declared.step.Step.TheVariants as step
 use Rattle.uring_core.specs.declared.answer.Answer.TheVariants as answer
 use Rattle.uring_core.proofs.SoundRings.{open_count as positions_open}
 use Rattle.uring_laws.proofs.DirectSubmission.{IsOpened, direct_submission}
-use Rattle.uring_laws.proofs.Telling.{told_same}
 
 -- The open call.
 
--- a take gives no more exactly if all positions are taken
-no_more_at : (all : Bool) (taken count : ℕ) (place : Option Place) (p : Place)
-    → eqb taken count ≡ all → place ≡ Some p
-    → (cond all answer.NoMore (place_answer place) ≡ answer.NoMore) ↔ (taken ≡ count)
-no_more_at all taken count place p e is = grind arith
-
--- a call may be closed exactly if all its positions are taken
-closes_at : (few : Bool) (taken count : ℕ) (accepted missed head : ℕ) → taken ≤ count
-    → nat_lt taken count ≡ few
-    → (cond few answer.NotAll (answer.Taken accepted missed head) ≡ answer.NotAll → ⊥)
-    ↔ (taken ≡ count)
-closes_at few taken count accepted missed head within e = grind arith
+-- in a call, a take gives no more, and the call may be closed, exactly if all its positions are taken
+in_call : (g : Setup) (w : World) (call : Call) → call.taken ≤ call.count
+    → taken w.submission + call.count ≤ length w.submission.published
+    → ((take_answer_in w (Some call) ≡ answer.NoMore) ↔ (call.taken ≡ call.count))
+    × ((end_answer_in g w (Some call) ≡ answer.NotAll → ⊥) ↔ (call.taken ≡ call.count))
+in_call g w call within published =
+    grind (arith, (slice_get-get_or w.submission.published (taken w.submission + call.taken) (record { word = 0; entry = None })))
 
 -- the positions of a call are all taken exactly if it took those that it opened with, or stopped
 all_at : (had : Bool) (taken count since opened : ℕ) → taken ≡ since
     → count ≡ (if had then since else opened) → (taken ≡ count) ↔ ((since ≡ opened) ⊎ (had ≡ true))
 all_at had taken count since opened t n = grind arith
-
-both : {A B C : Type 0} → A ↔ B → B ↔ C → A ↔ C
-both f g = (λ a. g.0 (f.0 a), λ c. f.1 (g.1 c))
-
-back : {A B : Type 0} → A ↔ B → B ↔ A
-back f = (f.1, f.0)
 
 pub ends_there : (g : Setup) → OpenCallEndsThere g
 ends_there g h opened lawful there last = by_call w.submission.call refl there
@@ -47,28 +34,13 @@ ends_there g h opened lawful there last = by_call w.submission.call refl there
         let l = w.submission in
         let s = (sound_of g h lawful).submission in
         let told : (call.taken ≡ taken_since h) × (call.count ≡ open_count g h) = subst (IsOpened g h) is (direct_submission g h lawful).opened in
-        let count : call.count ≡ (if has_stopped g h then taken_since h else opened) = rw last at told.1 in
         let within : call.taken ≤ call.count = subst (λ o. open_taken o ≤ positions_open o) is s.within_call in
         let published : taken l + call.count ≤ length l.published = subst (λ o. taken l + positions_open o ≤ length l.published) is s.call_published in
-        let all = all_at (has_stopped g h) call.taken call.count (taken_since h) opened told.0 count in
-        let take_is : take_answer w ≡ take_answer_in w (Some call) = ap (take_answer_in w) is in
-        let end_is : end_answer g w ≡ end_answer_in g w (Some call) = ap (end_answer_in g w) is in
-        let no_more : (take_answer w ≡ answer.NoMore) ↔ (call.taken ≡ call.count) = subst (λ a. (a ≡ answer.NoMore) ↔ (call.taken ≡ call.count)) (sym take_is) (taken_at call within published) in
-        let closes : (end_answer g w ≡ answer.NotAll → ⊥) ↔ (call.taken ≡ call.count) = subst (λ a. (a ≡ answer.NotAll → ⊥) ↔ (call.taken ≡ call.count)) (sym end_is) (closes_at _ call.taken call.count _ _ _ within refl) in
+        let ends = in_call g w call within published in
+        let all = all_at (has_stopped g h) call.taken call.count (taken_since h) opened told.0 (rw last at told.1) in
+        let no_more : (take_answer w ≡ answer.NoMore) ↔ (call.taken ≡ call.count) = rw is ends.0 in
+        let closes : (end_answer g w ≡ answer.NotAll → ⊥) ↔ (call.taken ≡ call.count) = rw is ends.1 in
         record { no_more = grind (arith, no_more, all); closes = grind (arith, closes, no_more) }
-      where
-        taken_at : (call : Call) → call.taken ≤ call.count → taken w.submission + call.count ≤ length w.submission.published → (take_answer_in w (Some call) ≡ answer.NoMore) ↔ (call.taken ≡ call.count)
-        taken_at call within published = by_all (eqb call.taken call.count) refl
-          where
-            at : ℕ
-            at = taken w.submission + call.taken
-
-            by_all : (all : Bool) → eqb call.taken call.count ≡ all → (cond all answer.NoMore (place_answer (slice_get w.submission.published at)) ≡ answer.NoMore) ↔ (call.taken ≡ call.count)
-            by_all true e = (λ _. eqb-true call.taken call.count e, λ _. refl)
-            by_all false e =
-                let more = eqb-false call.taken call.count e in
-                let low : at < length w.submission.published = omega arith in
-                no_more_at false call.taken call.count (slice_get w.submission.published at) _ e (slice_get-get_or w.submission.published at (record { word = 0; entry = None }) low)
 
 -- Rings that go on.
 
@@ -80,11 +52,6 @@ open_counts (Some call) = call.count ∷ []
 -- each call has as many positions as it opened with
 abbrev TakesAll : History → World → Type 0
 TakesAll h w = told opened_by h ≡ w.submission.calls ++ open_counts w.submission.call
-
--- a word that was dropped ended no call
-word_passed : (g : Setup) (h : History) → (g.linux ≡ true → count_by drops_word ((step.Take, answer.Dropped) ∷ h) ≡ 0)
-    → stops_at_word g ≡ false
-word_passed g h none = grind (arith, (sum_by-cons (λ e. cond (drops_word e) 1 0) (step.Take, answer.Dropped) h))
 
 all_kept : (g : Setup) (h : History) (s : Step) (a : Answer) (v : World) → g.stops ≡ false
     → (g.linux ≡ true → count_by drops_word ((s, a) ∷ h) ≡ 0)

@@ -1,6 +1,6 @@
 -- Which positions were taken.
-use Rattle.std.proofs.Common.{◌≡◌, ◌+◌, false, [], ◌∷◌, take, Some, None, refl, arith, append-nil}
-use Rattle.uring_laws.proofs.Common.{Answer, Event, History, IsLawfulApart, IsSoundSubmission, IsWithinLimits, Setup, Step, SubmissionMove, TakenOnceInOrder, World, begins, closes, drops, entries_of, entries_taken, entry_taken_by, ltb-false, positions_taken, reached, sound_of, stays, stores, submission_move, sum_by_push, take-append-le, taken, takes, takes_position, world}
+use Rattle.std.proofs.Common.{◌≡◌, ◌+◌, [], ◌∷◌, take, Some, None, refl, arith, append-nil}
+use Rattle.uring_laws.proofs.Common.{Answer, History, IsLawfulApart, IsSoundSubmission, IsWithinLimits, Setup, Step, SubmissionMove, TakenOnceInOrder, World, begins, closes, drops, entries_of, entries_taken, ltb-false, positions_taken, reached, sound_of, stays, stores, submission_move, sum_by_push, take-append-le, taken, takes, takes_position, world}
 use Rattle.uring_core.proofs.TakenEntries.{one_further}
 use Rattle.uring_laws.proofs.Telling.{count_more, count_same}
 

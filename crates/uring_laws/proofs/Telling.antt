@@ -1,7 +1,7 @@
 -- What an event adds to what a history tells.
-use Rattle.std.proofs.Common.{◌≡◌, ◌+◌, Bool, true, false, ◌∷◌, Option, None, count_by, ap, arith}
+use Rattle.std.proofs.Common.{◌≡◌, ◌+◌, Bool, true, false, ◌∷◌, count_by, arith}
 use Rattle.std.proofs.lemmas.Grind.{common_steps}
-use Rattle.uring_laws.proofs.Common.{Event, History, told, with_told}
+use Rattle.uring_laws.proofs.Common.{Event, History}
 
 -- a count of events, one event on
 pub count_more : (p : Event → Bool) (e : Event) (h : History) → p e ≡ true
@@ -11,8 +11,3 @@ count_more p e h holds = grind (arith, common_steps)
 pub count_same : (p : Event → Bool) (e : Event) (h : History) → p e ≡ false
     → count_by p (e ∷ h) ≡ count_by p h
 count_same p e h fails = grind (arith, common_steps)
-
--- an event that tells nothing, and one of another kind
-pub told_same : {A : Type 0} (tells : Event → Option A) (e : Event) (h : History) → tells e ≡ None
-    → told tells (e ∷ h) ≡ told tells h
-told_same tells e h none = ap (with_told (told tells h)) none

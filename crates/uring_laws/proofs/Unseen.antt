@@ -1,7 +1,7 @@
 -- A start changes places with each step that is on the rings, by either's rules: `start_then_rings` and `rings_then_start`.
 -- Such a step asks nobody who runs; of the requests it changes at most which are accepted, after all that there are.
-use Rattle.std.proofs.Common.{◌≡◌, ℕ, ◌<◌, true, not, ◌∷◌, length, Some, sym, ap}
-use Rattle.uring_laws.proofs.Common.{Answer, CalledFor, Change, Drains, IsBetween, IsLawful, IsLawfulApart, IsOnRings, LinuxRequests, RingsThenStart, Setup, StartThenRings, Step, World, and_parts, change_of, ending_of, entries_from, happens, has_ended, ltb-true, refuses, requests_of, sound_of, world}
+use Rattle.std.proofs.Common.{◌≡◌, ℕ, ◌<◌, true, ◌∷◌, length, Some, sym, ap}
+use Rattle.uring_laws.proofs.Common.{Answer, CalledFor, Change, Drains, IsBetween, IsLawful, IsLawfulApart, IsOnRings, LinuxRequests, RingsThenStart, Setup, StartThenRings, Step, World, change_of, ending_of, entries_from, happens, refuses, requests_of, sound_of, world, outstanding_tells}
 use Rattle.uring_core.proofs.Changes.{takes, drops, closes}
 use Rattle.uring_laws.proofs.Growth.{IsCut}
 use Rattle.uring_core.specs.declared.step.Step.TheVariants as step
@@ -48,11 +48,10 @@ module _ (g : Setup) (w : World) (n : ℕ) (cut : IsCut w.requests) (so : g.linu
 pub start_then_rings : (g : Setup) → StartThenRings g
 start_then_rings g h n s a on lawful =
     let w : World = world g h in
-    let called : CalledFor g w s a = (called_either g w n s a on).0 lawful.0 in
-    let first : IsLawful g ((s, a) ∷ h) = (called, lawful.1.1) in
+    let first : IsLawful g ((s, a) ∷ h) = ((called_either g w n s a on).0 lawful.0, lawful.1.1) in
     let apart : IsLawfulApart g ((s, a) ∷ h) = lawful_apart g ((s, a) ∷ h) first in
     let c : CanStart g.linux (requests_of w) n = can_start g w n lawful.1.0 in
-    let within : n < length w.requests.accepted = ltb-true n (length w.requests.accepted) (and_parts _ (not (has_ended w.requests n)) c.outstanding).0 in
+    let within = (outstanding_tells w.requests n c.outstanding).0 in
     let later : CanStart g.linux (requests_of (happens g w s a)) n = (start_either g w n (sound_of g h apart.1).requests.cut_at_end (between g h apart.1) within s a (change_of g w s a apart.0) on).0 c in
     record {
       lawful = (start_called g (happens g w s a) n later, first);
@@ -63,8 +62,9 @@ pub rings_then_start : (g : Setup) → RingsThenStart g
 rings_then_start g h n s a on within lawful =
     let w : World = world g h in
     let apart : IsLawfulApart g ((s, a) ∷ h) = lawful_apart g ((s, a) ∷ h) lawful.1 in
-    let c : CanStart g.linux (requests_of w) n = (start_either g w n (sound_of g h apart.1).requests.cut_at_end (between g h apart.1) within s a (change_of g w s a apart.0) on).1 (can_start g (happens g w s a) n lawful.0) in
+    let change = change_of g w s a apart.0 in
+    let c : CanStart g.linux (requests_of w) n = (start_either g w n (sound_of g h apart.1).requests.cut_at_end (between g h apart.1) within s a change on).1 (can_start g (happens g w s a) n lawful.0) in
     record {
       lawful = ((called_either g w n s a on).1 lawful.1.0, (start_called g w n c, lawful.1.1));
-      alike = alike_same g _ _ (sym (made_either g w n s a (change_of g w s a apart.0) on));
+      alike = alike_same g _ _ (sym (made_either g w n s a change on));
     }
