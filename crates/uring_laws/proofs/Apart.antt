@@ -1,6 +1,6 @@
 -- Operations that stay apart don't meet: `apart_dont_meet`. What one leaves of a file, the other finds as it was, and both orders leave the same bytes.
-use Rattle.std.proofs.Common.{◌≡◌, ℕ, zero, suc, ◌+◌, ◌-◌, ◌≤◌, ℤ, Bool, true, cond, List, [], ◌∷◌, length, take, drop, get_or, refl, sym, ap, arith, ◌⊎◌}
-use Rattle.uring_laws.proofs.Common.{ApartDontMeet, FileContents, Fsync, Op, Read, Write, after, are_disjoint, are_on_others, cond-true, ended_with, get_or-drop, leb-true, length-drop, length-take, on_file, or_cases, overwritten, read_outcome, result_of, slice_set, stay_apart, stay_apart_on_one, true≢false, with_changed, with_writes_synced, written}
+use Rattle.std.proofs.Common.{◌≡◌, ℕ, zero, suc, ◌+◌, ◌-◌, ◌≤◌, ℤ, Bool, true, cond, List, [], ◌∷◌, length, drop, get_or, refl, sym, ap, arith, ◌⊎◌}
+use Rattle.uring_laws.proofs.Common.{ApartDontMeet, FileContents, Fsync, Op, Read, Write, after, are_on_others, cond-true, ended_with, get_or-drop, leb-true, length-drop, length-take, on_file, or_cases, overwritten, read_outcome, result_of, slice_set, stay_apart_on_one, true≢false, with_changed, with_writes_synced}
 use Rattle.std.proofs.lemmas.Grind.{same_number_lists}
 use Rattle.uring_files.proofs.OperationCases.{cases}
 use Rattle.uring_files.proofs.Overwrites.{is_written_over}
@@ -43,41 +43,24 @@ set_either (x ∷ xs) zero (suc j) d f g same = refl
 set_either (x ∷ xs) (suc i) zero d f g same = refl
 set_either (x ∷ xs) (suc i) (suc j) d f g same = grind (arith, (set_either xs i j d f g (λ e. same (ap suc e))))
 
-changed_either : (files : List FileContents) (fd other : ℤ) (f g : FileContents → FileContents)
-    → (fd ≡ other → (x : FileContents) → g (f x) ≡ f (g x))
-    → with_changed (with_changed files fd f) other g ≡ with_changed (with_changed files other g) fd f
-changed_either files fd other f g same = grind (arith, set_either)
-
 -- the same where each is made if some test is passed
 chosen_either : (a b : Bool) (files : List FileContents) (fd other : ℤ) (f g : FileContents → FileContents)
     → (fd ≡ other → (x : FileContents) → g (f x) ≡ f (g x))
     → cond b (with_changed (cond a (with_changed files fd f) files) other g) (cond a (with_changed files fd f) files)
     ≡ cond a (with_changed (cond b (with_changed files other g) files) fd f) (cond b (with_changed files other g) files)
-chosen_either true true files fd other f g same = changed_either files fd other f g same
+chosen_either true true files fd other f g same = grind (arith, set_either)
 chosen_either _ _ files fd other f g same = refl
 
 -- What an operation gives where another was carried out.
-
-few : (len : ℕ) (bytes : List ℕ) → length (take len bytes) ≤ len
-few len bytes = omega (arith, length-take len bytes)
 
 -- On different files, whichever operations they are.
 
 gives_on_one : (files : List FileContents) (d e : Op) (res : ℤ) → stay_apart_on_one d e ≡ true
     → result_of (after files d res) e ≡ result_of files e
 gives_on_one files d e res apart =
-    grind (arith, read_outcome, leb-true, few, ended_with, with_writes_synced, true≢false, after_over, on_file, changed_same, changed_other)
-
-gives_same : (files : List FileContents) (d e : Op) (res : ℤ) → stay_apart d e ≡ true
-    → result_of (after files d res) e ≡ result_of files e
-gives_same files d e res apart = grind (arith, gives_on_one, ends_apart, others_stay)
+    grind (arith, read_outcome, leb-true, length-take, ended_with, with_writes_synced, true≢false, after_over, on_file, changed_same, changed_other)
 
 -- Which files both orders leave.
-
-written_either : (file : FileContents) (a b : List ℕ) (o p len count : ℕ) → length a ≤ len
-    → length b ≤ count → are_disjoint o len p count ≡ true
-    → written p b (written o a file) ≡ written o a (written p b file)
-written_either file a b o p len count few_a few_b apart = grind (arith, over_either, or_cases)
 
 leaves_elsewhere : (files : List FileContents) (d e : Op) (x y : ℤ) → are_on_others d e ≡ true
     → after (after files d x) e y ≡ after (after files e y) d x
@@ -88,13 +71,9 @@ leaves_on_one : (files : List FileContents) (d e : Op) (x y : ℤ) → stay_apar
 leaves_on_one files (Read fd off len) e x y apart = refl
 leaves_on_one files d (Read fd off len) x y apart = refl
 leaves_on_one files (Write fd off len bytes) (Write other at count more) x y apart =
-    chosen_either _ _ files fd other _ _ (λ same file. written_either file (take len bytes) (take count more) off at len count (few len bytes) (few count more) apart)
+    chosen_either _ _ files fd other _ _ (λ same file. grind (arith, over_either, or_cases, length-take))
 leaves_on_one files (Fsync fd) (Fsync other) x y apart = grind (arith, chosen_either)
 leaves_on_one files d e x y apart = absurd (true≢false (sym apart))
 
-leaves_same : (files : List FileContents) (d e : Op) (x y : ℤ) → stay_apart d e ≡ true
-    → after (after files d x) e y ≡ after (after files e y) d x
-leaves_same files d e x y apart = grind (arith, leaves_elsewhere, leaves_on_one)
-
 pub apart_dont_meet : ApartDontMeet
-apart_dont_meet files d e x y apart one two = grind (arith, gives_same, leaves_same)
+apart_dont_meet files d e x y apart one two = grind (arith, gives_on_one, ends_apart, others_stay, leaves_elsewhere, leaves_on_one)

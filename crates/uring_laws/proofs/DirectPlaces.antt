@@ -1,5 +1,5 @@
 -- The entries of published positions, read off a history.
-use Rattle.std.proofs.Common.{◌≡◌, ℕ, ◌+◌, ◌-◌, ◌<◌, ◌≤◌, nat_lt, [], ◌∷◌, ◌++◌, length, map, Option, Some, None, slice_get, get_or, if◌then◌else◌, refl, sym, ap, ◌∙◌, ◌⊎◌, inl, inr, arith}
+use Rattle.std.proofs.Common.{◌≡◌, ℕ, ◌+◌, ◌-◌, ◌<◌, ◌≤◌, nat_lt, [], ◌∷◌, ◌++◌, length, map, Option, Some, None, slice_get, get_or, if◌then◌else◌, refl, sym, ◌∙◌, ◌⊎◌, inl, inr, arith}
 use Rattle.uring_laws.proofs.Common.{Answer, History, IsLawfulApart, Place, Setup, Sqe, Step, SubmissionMove, World, cases_lt, get_or-append_right, get_or-map, get_or_append_left, get_or_from_slice_get, le-ltb, length-append, length-map, lt-ltb, place_of, published_entry, published_words, slice_get-get_or, slice_get_within, slot_content, staged_words, stages, stays, stores, submission_move, world}
 use Rattle.uring_core.specs.declared.step.Step.TheVariants as step
 use Rattle.uring_core.specs.declared.answer.Answer.TheVariants as answer
@@ -33,11 +33,9 @@ entry_stored g tail h w d i k p at (inr high) =
     let n = length w.submission.published in
     let f = place_of g.sq w.submission.content in
     let fresh = w.submission.fresh in
-    let within : k < length (w.submission.published ++ map f fresh) = slice_get_within _ k p at in
-    let room : k - n < length fresh = omega (arith, length-append w.submission.published (map f fresh), length-map fresh f) in
+    let room : k - n < length fresh = omega (arith, slice_get_within _ k p at, length-append w.submission.published (map f fresh), length-map fresh f) in
     let here : f (get_or fresh (k - n) 0) ≡ p = sym (get_or-map f fresh (k - n) 0 p room) ∙ sym (get_or-append_right w.submission.published (map f fresh) n k p refl high) ∙ get_or_from_slice_get _ k p p at in
-    let word_is : get_or fresh (k - n) 0 ≡ get_or (staged_words h) k 0 = sym (get_or-append_right (published_words h) fresh n k 0 c.0 high) ∙ ap (λ words. get_or words k 0) d.staged in
-    grind (arith, here, word_is, d.content, (le-ltb k (length (published_words h)) (omega (arith, c.0))))
+    grind (arith, here, (get_or-append_right (published_words h) fresh n k 0 c.0 high), d.staged, d.content, (le-ltb k (length (published_words h)) (omega (arith, c.0))))
 
 entries_direct : (g : Setup) (h : History) (w : World) (s : Step) (a : Answer) (v : World)
     → SubmissionMove g w s a v → DirectSubmission g h w → EntriesTold g h w

@@ -1,23 +1,8 @@
 -- How many completions were put into the ring, read off a history.
 use Rattle.std.proofs.Common.{◌≡◌, Bool, [], ◌∷◌, length, refl, arith}
-use Rattle.uring_laws.proofs.Common.{Answer, Event, History, IsLawfulApart, Setup, Step, World, before_last, cond_both, flushed_head, posted_count, posts_told, put_count, stored_head, world}
+use Rattle.uring_laws.proofs.Common.{Answer, Event, History, IsLawfulApart, Setup, Step, World, before_last, flushed_head, posted_count, posts_told, put_count, stored_head, world}
 use Rattle.uring_core.proofs.CompletionMoves.{CompletionMove, stays, ends, flushes, completion_move}
 use Rattle.uring_laws.proofs.DirectCompletions.{direct_completions}
-
--- the counts that a put looks at, read off a history
-record PutFacts (g : Setup) (h : History) : Type 0 where
-  posted : length (world g h).completions.posted ≡ posted_count g h
-  loaded : (world g h).completions.seen_head ≡ flushed_head h
-  stored : (world g h).completions.head ≡ stored_head h
-
-put_direct : (g : Setup) (h : History) (s : Step) (a : Answer) (v : World)
-    → CompletionMove g (world g h) s a v → PutFacts g h
-    → (world g h).completions.put ≡ put_count g h → v.completions.put ≡ put_count g ((s, a) ∷ h)
-put_direct g h s a v (stays _ _ l r is_closed off no_end left) f i =
-    rw (off.flushes, no_end) i
-put_direct g h s a v (ends _ _ n res bytes r off told same_accepted one_more) f i = grind arith
-put_direct g h s a v (flushes moved) f i = rw (f.posted, f.stored)
-put_direct g h s a v _ f i = i
 
 -- The completions that the events told to be posted.
 
@@ -33,16 +18,24 @@ pub posted_told : (g : Setup) (h : History) → IsLawfulApart g h
 posted_told g [] lawful = refl
 posted_told g ((s, a) ∷ before) lawful = posts_direct g before s a _ (completion_move g s a before lawful) (posted_told g before lawful.1)
 
-put_facts : (g : Setup) (h : History) → IsLawfulApart g h → PutFacts g h
-put_facts g h lawful = grind (arith, direct_completions, posted_told)
+-- How many were put.
+
+put_direct : (g : Setup) (h : History) (s : Step) (a : Answer) (v : World) → IsLawfulApart g h
+    → CompletionMove g (world g h) s a v
+    → (world g h).completions.put ≡ put_count g h → v.completions.put ≡ put_count g ((s, a) ∷ h)
+put_direct g h s a v lawful (stays _ _ l r is_closed off no_end left) i = rw (off.flushes, no_end) i
+put_direct g h s a v lawful (ends _ _ n res bytes r off told same_accepted one_more) i =
+    grind (arith, (direct_completions g h lawful), (posted_told g h lawful))
+put_direct g h s a v lawful (flushes moved) i = rw (posted_told g h lawful, (direct_completions g h lawful).stored)
+put_direct g h s a v lawful _ i = i
 
 pub direct_put : (g : Setup) (h : History) → IsLawfulApart g h
     → (world g h).completions.put ≡ put_count g h
 direct_put g [] lawful = refl
-direct_put g ((s, a) ∷ before) lawful = put_direct g before s a _ (completion_move g s a before lawful) (put_facts g before lawful.1) (direct_put g before lawful.1)
+direct_put g ((s, a) ∷ before) lawful = put_direct g before s a _ lawful.1 (completion_move g s a before lawful) (direct_put g before lawful.1)
 
 -- what stands before the last event of a kind is lawful
 pub lawful_last : (g : Setup) (is_kind : Event → Bool) (h : History) → IsLawfulApart g h
     → IsLawfulApart g (before_last is_kind h)
 lawful_last g is_kind [] lawful = tt
-lawful_last g is_kind ((s, a) ∷ before) lawful = cond_both (is_kind (s, a)) before (before_last is_kind before) (IsLawfulApart g) (λ _. lawful.1) (λ _. lawful_last g is_kind before lawful.1)
+lawful_last g is_kind ((s, a) ∷ before) lawful = grind (arith, (lawful_last g is_kind before lawful.1))

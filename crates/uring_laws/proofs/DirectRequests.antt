@@ -1,6 +1,6 @@
 -- The accepted entries, the cuts and the completions posted, read off a history.
-use Rattle.std.proofs.Common.{◌≡◌, ℕ, ◌+◌, ◌<◌, ◌==◌, true, List, [], ◌∷◌, ◌++◌, length, take, sum, get_or, refl, sym, ap₂, ◌∙◌, arith, append-nil, take-add}
-use Rattle.uring_laws.proofs.Common.{Answer, Completions, Ending, History, IsLawfulApart, IsSound, Setup, Sqe, Step, Submission, SubmissionMove, World, accepted, accepted_by, by_manual, closes, closes_ring, completion_of, cut_counts, entries_of, eq-eqb, filter_map, filter_map-append, get_or_append_left, length-append, list_any, or_left, or_right, places_from, sound_of, stays, stores, submission_move, sum_by-cons, sum_by_push, sums_from, take-append-le, taken, told, with_end, world, zero_entry}
+use Rattle.std.proofs.Common.{◌≡◌, ℕ, ◌+◌, ◌<◌, ◌==◌, true, List, [], ◌∷◌, ◌++◌, length, take, sum, refl, arith, append-nil, take-add}
+use Rattle.uring_laws.proofs.Common.{Answer, Ending, History, IsLawfulApart, IsSound, Setup, Sqe, Step, Submission, SubmissionMove, World, accepted, accepted_by, by_manual, closes, closes_ring, completion_of, cut_counts, entries_of, eq-eqb, filter_map, filter_map-append, get_or_append_left, length-append, list_any, or_left, or_right, places_from, sound_of, stays, stores, submission_move, sum_by-cons, sum_by_push, sums_from, take-append-le, taken, told, world, zero_entry}
 use Rattle.uring_core.proofs.CompletionMoves.{CompletionMove, stays as stays_off, ends, completion_move}
 
 pub record DirectRequests (h : History) (w : World) : Type 0 where
@@ -30,13 +30,6 @@ same_posts accepted more [] within = refl
 same_posts accepted more (e ∷ es) within =
     rw (get_or_append_left accepted more zero_entry e.number (within e.number (or_left (e.number == e.number) _ (eq-eqb e.number _ refl))), same_posts accepted more es (λ n there. within n (or_right (e.number == n) _ there)))
 
--- one end more
-end_posted : (size : ℕ) (l : Completions) (accepted : List Sqe) (es : List Ending) (e : Ending)
-    → l.posted ≡ filter_map (completion_of accepted) es
-    → (with_end size l (get_or accepted e.number zero_entry) e.res e.bytes).posted
-    ≡ filter_map (completion_of accepted) (es ++ e ∷ [])
-end_posted size l accepted es e posted = grind (arith, append-nil, filter_map-append)
-
 -- By the manual pages' rules the entries alone tell what was posted.
 
 posted_direct : (g : Setup) (w : World) (s : Step) (a : Answer) (v : World)
@@ -45,8 +38,7 @@ posted_direct : (g : Setup) (w : World) (s : Step) (a : Answer) (v : World)
     → v.completions.posted ≡ filter_map (completion_of v.requests.accepted) v.requests.ended
 posted_direct g w s a v (stays_off _ _ l r is_closed off no_end left) sound i = grind (arith, same_posts)
 posted_direct g w s a v (ends _ _ n res bytes r off told same_accepted one_more) sound i =
-    end_posted g.cq w.completions w.requests.accepted w.requests.ended (record { number = n; res = res; bytes = bytes }) i
-    ∙ ap₂ (λ accepted ended. filter_map (completion_of accepted) ended) (sym same_accepted) (sym one_more)
+    rw (same_accepted, one_more) (grind (arith, append-nil, filter_map-append))
 posted_direct g w s a v _ sound i = i
 
 pub direct_posted : (g : Setup) (h : History) → IsLawfulApart (by_manual g) h

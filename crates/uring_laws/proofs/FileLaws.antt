@@ -22,8 +22,7 @@ ends_on : (files : List FileContents) (r : Requests) (n : ℕ) (running : Bool) 
     → ((res : ℤ) (bytes : List ℕ) → a ≡ answer.Ended res bytes → IsOutcome files (operation_of (entry_of r n)) (record { res = res; bytes = bytes }))
     → EndsOn files r n running a
 ends_on files r n true (answer.Ended res bytes) e so = so res bytes refl
-ends_on files r n true _ e so = e
-ends_on files r n false a e so = e
+ends_on files r n _ a e so = e
 
 -- The laws.
 

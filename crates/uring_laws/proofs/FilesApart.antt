@@ -2,7 +2,7 @@
 -- and operations that were dealt out by their file can be carried out at places with files of their own.
 -- From the lemmas of uring_files that each file stands by itself. Stable: other crates may import what is pub.
 use Rattle.std.proofs.Common.{◌≡◌, ℕ, ◌<◌, ◌==◌, ℤ, Bool, true, cond, List, [], ◌∷◌, refl, arith}
-use Rattle.uring_laws.proofs.Common.{AreDone, Done, Ending, FileByItsEnds, FileContents, IsByFile, IsOutcome, Op, Outcome, Requests, after, cond_both, done_at, ends_of, entry_of, eq-eqb, files_after, files_left, filter, operation_of}
+use Rattle.uring_laws.proofs.Common.{AreDone, Done, Ending, FileByItsEnds, FileContents, IsByFile, IsOutcome, Op, Requests, after, cond_both, done_at, ends_of, entry_of, eq-eqb, files_after, files_left, filter, operation_of}
 use Rattle.uring_files.specs.Laws.{AgreeAt, is_on}
 use Rattle.uring_files.proofs.StandAlone.{others_stay, files_apart, ends_apart}
 
@@ -35,12 +35,6 @@ after_by_own r files ends fd = after_apart r files files ends fd refl
 
 -- Operations dealt out by their file.
 
--- an outcome depends on no file but the operation's own
-outcome_apart : (files others : List FileContents) (op : Op) (outcome : Outcome)
-    → ((fd : ℤ) → is_on fd op ≡ true → AgreeAt fd files others) → IsOutcome others op outcome
-    → IsOutcome files op outcome
-outcome_apart files others op outcome agree so = rw (ends_apart files others op agree).0 (rw (ends_apart files others op agree).1 so)
-
 -- each place has the files on which its operations are
 abbrev Agree : (Op → ℕ) → List FileContents → (ℕ → List FileContents) → Type 0
 Agree place files parts =
@@ -67,7 +61,7 @@ module _ (place : Op → ℕ) (by_file : IsByFile place) where
   joined : (places : ℕ) → ((op : Op) → place op < places) → (files : List FileContents) (parts : ℕ → List FileContents) (done : List Done) → Agree place files parts → ((k : ℕ) → k < places → AreDone (parts k) (done_at place k done)) → AreDone files done
   joined places within files parts [] agree at = tt
   joined places within files parts (d ∷ later) agree at = (
-    outcome_apart files (parts (place d.op)) d.op d.outcome (λ fd on. agree fd d.op on) (first_at parts d later (at (place d.op) (within d.op))),
+    rw ((ends_apart files (parts (place d.op)) d.op (λ fd on. agree fd d.op on)).0, (ends_apart files (parts (place d.op)) d.op (λ fd on. agree fd d.op on)).1) (first_at parts d later (at (place d.op) (within d.op))),
     joined places within (after files d.op d.outcome.res) (part_after d parts) later (agree_after files parts d agree) (λ k lt. left_at parts d later k (at k lt)),
   )
 

@@ -1,5 +1,5 @@
 -- The laws of doomed requests, links and drains, by the manual pages' rules; and what these and those of Linux share.
-use Rattle.std.proofs.Common.{◌≡◌, ℕ, ◌<◌, ◌==◌, ℤ, neg_ℤ, Bool, true, false, not, ◌&&◌, List, ◌∷◌, ◌++◌, Some, length, slice_get, refl, subst, ◌⊎◌, arith}
+use Rattle.std.proofs.Common.{◌≡◌, ℕ, ◌<◌, ◌==◌, ℤ, neg_ℤ, Bool, true, false, not, ◌&&◌, List, ◌∷◌, ◌++◌, Some, length, slice_get, refl, ◌⊎◌, arith}
 use Rattle.uring_laws.proofs.Common.{Answer, Change, ECANCELED, Ending, History, IsEnded, IsLawfulApart, IsSoundManual, LinuxRequests, Requests, Setup, World, both_ways, by_manual, change_of, count_none, count_some, doomed_result, dooms, eq-eqb, has_ended, has_started, int_eq, is_doomed, list_any, refuses, requests_of, sound_of, times_ended, waited, waits_for, world}
 use Rattle.uring_laws.specs.Laws.{DoomedNeverRun, IsStart}
 use Rattle.std.proofs.lemmas.Map.Keys.{any_passes_from_place}
@@ -57,7 +57,7 @@ never_run g h lawful =
     let t = tells_requests (by_manual g) h lawful in
     record {
       never_run = λ n doomed. rw t.started (count_none (λ m. m == n) (world (by_manual g) h).requests.started (let e : has_started (world (by_manual g) h).requests n ≡ false = grind arith in e));
-      ends_so = λ k e at doomed. doomed_end (world (by_manual g) h).requests k e s (subst (λ xs. slice_get xs k ≡ Some e) t.ended at) doomed;
+      ends_so = λ k e at doomed. doomed_end (world (by_manual g) h).requests k e s (rw t.ended at at) doomed;
     }
 
 pub were_doomed : (g : Setup) (after before : History) (n : ℕ) (bytes : List ℕ)

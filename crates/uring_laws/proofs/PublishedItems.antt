@@ -2,8 +2,8 @@
 -- The items: from `own_submission`, position by position. The count: what all calls took less the entries among it,
 -- which `takes_places` has; kept from the last close on by induction over the history.
 use Rattle.std.proofs.lemmas.Grind.{common_steps}
-use Rattle.std.proofs.Common.{◌≡◌, ℕ, suc, ◌+◌, ◌<◌, ◌≤◌, List, [], ◌∷◌, length, map, take, count_by, get_or, Option, Some, None, slice_get, refl, ap, ◌∙◌, arith}
-use Rattle.uring_laws.proofs.Common.{All, All-cons, All-nil, Answer, History, IsItem, IsLawfulApart, OwnSubmission, Place, Setup, Sqe, Step, SubmissionMove, World, closes, dropped_in, entries_taken, enumerate_from, get_or-map, get_or_append_left, get_or_from_slice_get, item_of, length-map, length-take-le, length_push, positions_taken, published_entry, published_items, reached, slice_get_within, sound_of, staged_words, stays, stores, submission_move, sum_by_push, take-append-le, taken, world}
+use Rattle.std.proofs.Common.{◌≡◌, ℕ, suc, ◌+◌, ◌<◌, ◌≤◌, List, [], ◌∷◌, length, map, take, count_by, get_or, Option, Some, None, slice_get, refl, arith}
+use Rattle.uring_laws.proofs.Common.{All, All-cons, All-nil, Answer, History, IsItem, IsLawfulApart, OwnSubmission, Place, Setup, Sqe, Step, SubmissionMove, World, closes, dropped_in, entries_taken, enumerate_from, get_or-map, get_or_append_left, get_or_from_slice_get, item_of, length-map, length-take-le, length_push, positions_taken, published_entry, published_items, slice_get_within, sound_of, staged_words, stays, stores, submission_move, sum_by_push, take-append-le, taken, world}
 use Rattle.uring_laws.specs.Published.{items_told, drops_position, positions_dropped, OwnPublished}
 use Rattle.uring_core.specs.declared.step.Step.TheVariants as step
 use Rattle.uring_core.specs.declared.answer.Answer.TheVariants as answer
@@ -24,7 +24,7 @@ items_are entry_at (p ∷ places) n at = grind (arith, (at 0 p refl), (items_are
 items_tell : (g : Setup) (h : History) → OwnSubmission g h
     → published_items (world g h).submission ≡ items_told g.sq h
 items_tell g h own =
-    rw (← own.published) (items_are (published_entry g.sq h) (world g h).submission.published 0 (λ k p at. own.entries k p at ∙ ap (published_entry g.sq h) (let e : k ≡ 0 + k = omega arith in e)))
+    rw (← own.published) (items_are (published_entry g.sq h) (world g h).submission.published 0 (λ k p at. grind (arith, (own.entries k p at))))
 
 -- the entry of a place, by its word
 all_items : (size : ℕ) (places : List Place)
@@ -56,13 +56,6 @@ taken_or_dropped ((step.Take, answer.Entry entry) ∷ h) = grind (arith, common_
 taken_or_dropped ((step.Take, answer.Dropped) ∷ h) = grind (arith, common_steps, (taken_or_dropped h))
 taken_or_dropped (e ∷ h) = grind (arith, common_steps, (taken_or_dropped h))
 
--- as many were dropped as the positions that were taken have no entry
-dropped_by_all : (g : Setup) (h : History) → IsLawfulApart g h
-    → count_by drops_position h
-    ≡ dropped_in (take (reached (world g h).submission) (world g h).submission.published)
-dropped_by_all g h lawful =
-    grind (arith, (takes_places g h lawful), (sound_of g h lawful), (taken_or_dropped h), entries_and_dropped, length-take-le)
-
 -- as many were dropped before the last close as the positions of closed calls have no entry
 abbrev Drops : History → World → Type 0
 Drops h w = positions_dropped h ≡ dropped_in (take (taken w.submission) w.submission.published)
@@ -71,7 +64,8 @@ drops_kept : (g : Setup) (h : History) (s : Step) (a : Answer) (v : World) → I
     → SubmissionMove g (world g h) s a v → Drops h (world g h) → Drops ((s, a) ∷ h) v
 drops_kept g h s a v lawful (stays _ _ r c is_closed off left) i = grind arith
 drops_kept g h s a v lawful (stores tail) i = grind (arith, take-append-le, sound_of)
-drops_kept g h s a v lawful (closes accepted missed head call opened all counted) i = grind (arith, (sound_of g h lawful), sum_by_push, (dropped_by_all g h lawful))
+drops_kept g h s a v lawful (closes accepted missed head call opened all counted) i =
+    grind (arith, (sound_of g h lawful), sum_by_push, (takes_places g h lawful), (taken_or_dropped h), entries_and_dropped, length-take-le)
 drops_kept g h s a v lawful _ i = i
 
 drops_told : (g : Setup) (h : History) → IsLawfulApart g h → Drops h (world g h)

@@ -10,8 +10,7 @@ use Rattle.uring_laws.proofs.ToldRequests.{tells_requests}
 
 pub own_submission : (g : Setup) (h : History) → IsLawfulApart g h → OwnSubmission g h
 own_submission g h lawful =
-    let d = direct_submission g h lawful in
-    assumption (d, direct_places g h lawful, call_direct g h (world g h) d, direct_requests g h lawful)
+    grind (arith, (direct_submission g h lawful), (direct_places g h lawful), call_direct, (direct_requests g h lawful))
 
 pub own_requests : (g : Setup) (h : History) → IsLawfulApart g h → OwnRequests g h
 own_requests g h lawful =
@@ -19,9 +18,7 @@ own_requests g h lawful =
 
 pub own_completions : (g : Setup) (h : History) → IsLawfulApart g h → OwnCompletions g h
 own_completions g h lawful =
-    let d = direct_completions g h lawful in
-    let seen = d.seen ∙ direct_put g (before_last is_load_cq_tail h) (lawful_last g is_load_cq_tail h lawful) in
-    assumption (d, seen, posted_told g h lawful, direct_put g h lawful)
+    grind (arith, (direct_completions g h lawful), (direct_put g (before_last is_load_cq_tail h) (lawful_last g is_load_cq_tail h lawful)), (posted_told g h lawful), (direct_put g h lawful))
 
 -- by the manual pages' rules
 pub own_posted : (g : Setup) (h : History) → IsLawfulApart (by_manual g) h

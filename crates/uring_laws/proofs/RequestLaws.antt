@@ -1,7 +1,7 @@
 -- The laws `each_ends_once` and `least_can_go_on`.
 -- From what is sound of the requests, and from what can be issued.
 use Rattle.std.proofs.Common.{◌≡◌, ℕ, ◌<◌, ◌==◌, Bool, true, false, List, Option, Some, None, length, count_by, refl, inl, inr, arith}
-use Rattle.uring_laws.proofs.Common.{EachEndsOnce, History, IsLawfulApart, LeastCanGoOn, LinuxRequests, Setup, World, both_ways, by_manual, count_none, count_some, is_outstanding, least_below_out, least_below_some, least_below_tells, least_of, least_of_goes_on, list_any, lt-ltb, or_cases, requests_of, sound_of, true_from_ne_false, outstanding_tells}
+use Rattle.uring_laws.proofs.Common.{EachEndsOnce, History, IsLawfulApart, LeastCanGoOn, LinuxRequests, Setup, World, both_ways, by_manual, count_none, count_some, is_outstanding, least_below_out, least_below_some, least_below_tells, least_of, least_of_goes_on, list_any, lt-ltb, or_cases, requests_of, sound_of, outstanding_tells}
 use Rattle.uring_rules.specs.Rules.{is_issuable, next_of}
 use Rattle.uring_core.proofs.Issuable.{issue_goes, issuable_outstanding}
 use Rattle.uring_laws.proofs.ToldRequests.{tells_requests}
@@ -32,7 +32,7 @@ least_goes_on g w n outstanding = by_least (least_of w.requests) refl where
 
 -- what is counted is there
 counted : {X : Type 0} (p : X → Bool) (xs : List X) → 0 < count_by p xs → list_any p xs ≡ true
-counted p xs some = true_from_ne_false _ (λ none. omega (arith, some, count_none p xs none))
+counted p xs some = grind (arith, (count_none p xs))
 
 pub ends_once : (g : Setup) (h : History) → IsLawfulApart g h → EachEndsOnce g h
 ends_once g h lawful =

@@ -14,24 +14,20 @@ record IsShut (w : World) : Type 0 where
   closed : w.is_closed ≡ true
   no_call : w.submission.call ≡ None
 
--- what stands after the ring is closed
-record StaysShut (w : World) (after : History) : Type 0 where
-  shut : IsShut w
-  none_in : list_any takes_in after ≡ false
-
 shut_stays : (g : Setup) (w : World) (s : Step) (a : Answer) (v : World) → SubmissionMove g w s a v
     → IsShut w → IsShut v × (takes_in (s, a) ≡ false)
 shut_stays g w s a v h i = grind arith
 
+-- what stands after the ring is closed
 stays_shut : (g : Setup) (after before : History)
     → IsLawfulApart g (after ++ (step.Close, answer.Shut) ∷ before)
-    → StaysShut (world g (after ++ (step.Close, answer.Shut) ∷ before)) after
-stays_shut g [] before lawful = record { shut = record { closed = refl; no_call = grind (arith, lawful.0) }; none_in = refl }
+    → IsShut (world g (after ++ (step.Close, answer.Shut) ∷ before)) × (list_any takes_in after ≡ false)
+stays_shut g [] before lawful = (record { closed = refl; no_call = grind (arith, lawful.0) }, refl)
 stays_shut g ((s, a) ∷ after) before lawful =
     let i = stays_shut g after before lawful.1 in
-    grind (arith, (shut_stays g _ s a _ (submission_move g s a (after ++ (step.Close, answer.Shut) ∷ before) lawful) i.shut))
+    grind (arith, i, (shut_stays g _ s a _ (submission_move g s a (after ++ (step.Close, answer.Shut) ∷ before) lawful) i.0))
 
 pub nothing_after : (g : Setup) (after before : History)
     → IsLawfulApart g (after ++ (step.Close, answer.Shut) ∷ before)
     → list_any takes_in after ≡ false
-nothing_after g after before lawful = (stays_shut g after before lawful).none_in
+nothing_after g after before lawful = (stays_shut g after before lawful).1
