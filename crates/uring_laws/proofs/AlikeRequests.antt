@@ -1,6 +1,6 @@
 -- Requests with other lists, of which the definitions read the same, stand alike by the manual pages' rules: each reads who started, was doomed by a cancel, ended and failed, and nothing else of them.
 use Rattle.std.proofs.Common.{◌≡◌, ℕ, zero, suc, ◌==◌, ℤ, Bool, List, Option, refl, ◌<◌, arith}
-use Rattle.uring_laws.proofs.Common.{Ending, HaveSame, Requests, all_below, cancel_result, chosen_by, has_ended, has_failed, has_started, is_after_failure, is_cancelled, is_candidate, is_doomed, is_joined, is_running, is_target, list_any, result_for, some_member, target_of, targets_of}
+use Rattle.uring_laws.proofs.Common.{Ending, HaveSame, Requests, all_below, chosen_by, has_ended, has_failed, has_started, is_after_failure, is_cancelled, is_candidate, is_doomed, is_joined, is_running, is_target, list_any, result_for, some_member, target_of, targets_of}
 
 -- Requests with other lists of who started, was doomed and ended.
 
@@ -38,12 +38,8 @@ module _ (r : Requests) (s c : List ℕ) (e : List Ending) (a : ReadSame r s c e
   pub running_same : (n : ℕ) → is_running q n ≡ is_running r n
   running_same n = simp (a.started, a.ended)
 
-  found_same : (o : Option ℕ) → result_for q o ≡ result_for r o
+  pub found_same : (o : Option ℕ) → result_for q o ≡ result_for r o
   found_same o = grind arith
-
-  pub cancel_same : (n : ℕ) → cancel_result q n ≡ cancel_result r n
-  unfolding targets_of target_of is_doomed is_after_failure some_member is_joined
-  cancel_same n = simp (a.started, a.cancelled, a.ended, a.failed, is_candidate, is_target, found_same)
 
   pub chosen_same : (n : ℕ) (res : ℤ) → chosen_by q n res ≡ chosen_by r n res
   unfolding targets_of target_of is_doomed is_after_failure some_member is_joined

@@ -1,6 +1,6 @@
 -- Whom cancels chose, read off a history, by the manual pages' rules.
 use Rattle.std.proofs.Common.{◌≡◌, ℕ, ◌==◌, ℤ, true, false, List, [], ◌∷◌, ◌++◌, cond, refl, ◌⊎◌, inl, inr, arith}
-use Rattle.uring_laws.proofs.Common.{Answer, Chose, Event, History, IsChosenIn, IsLawfulApart, Move, Requests, Setup, Step, all_success, any_both, by_manual, cancel_result, chose, chosen_by, doomed_fails, ends_cancel, is_cancelled, move_of, no_bytes, or_left, or_right, outstanding_tells, requests_of, target_there, with_issued_end, world}
+use Rattle.uring_laws.proofs.Common.{Answer, Chose, History, IsChosenIn, IsLawfulApart, Move, Requests, Setup, Step, all_success, any_both, by_manual, cancel_result, chose, chosen_by, doomed_fails, ends_cancel, is_cancelled, move_of, no_bytes, or_left, or_right, outstanding_tells, requests_of, target_there, with_issued_end, world}
 use Rattle.uring_core.proofs.Moves.{ends_doomed}
 use Rattle.std.proofs.lemmas.List.Folds.{list_any-append}
 use Rattle.uring_core.specs.declared.step.Step.TheVariants as step
@@ -21,16 +21,14 @@ new_cancel g h s a later (ends_cancel n outstanding spared ready cancel) m gone 
     ]
 new_cancel g h s a later _ m gone = inl gone
 
-one_later : (g : Setup) (e : Event) (h : History) (m : ℕ) → IsChosenIn (by_manual g) h m
-    → IsChosenIn (by_manual g) (e ∷ h) m
-one_later g e h m c = record { after = e ∷ c.after; before = c.before; number = c.number; res = c.res; bytes = c.bytes; split = rw c.split; chose = c.chose }
-
 pub chosen_in : (g : Setup) (h : History) → IsLawfulApart (by_manual g) h → (m : ℕ)
     → is_cancelled (world (by_manual g) h).requests m ≡ true → IsChosenIn (by_manual g) h m
 chosen_in g [] lawful m gone = absurd (let f : false ≡ true = gone in cc)
 chosen_in g ((s, a) ∷ before) lawful m gone =
     elim (new_cancel g before s a _ (move_of (by_manual g) s a before lawful) m gone) [
-      | inl old ↦ one_later (by_manual g) (s, a) before m (chosen_in (by_manual g) before lawful.1 m old)
+      | inl old ↦
+          let c = chosen_in g before lawful.1 m old in
+          record { after = (s, a) ∷ c.after; before = c.before; number = c.number; res = c.res; bytes = c.bytes; split = rw c.split; chose = c.chose }
       | inr new ↦ new
     ]
 

@@ -1,6 +1,6 @@
 -- The entries of published positions, read off a history.
-use Rattle.std.proofs.Common.{◌≡◌, ℕ, ◌+◌, ◌-◌, ◌<◌, ◌≤◌, nat_lt, [], ◌∷◌, ◌++◌, length, map, Option, Some, None, slice_get, get_or, if◌then◌else◌, refl, sym, ◌∙◌, ◌⊎◌, inl, inr, arith}
-use Rattle.uring_laws.proofs.Common.{Answer, History, IsLawfulApart, Place, Setup, Sqe, Step, SubmissionMove, World, cases_lt, get_or-append_right, get_or-map, get_or_append_left, get_or_from_slice_get, le-ltb, length-append, length-map, lt-ltb, place_of, published_entry, published_words, slice_get-get_or, slice_get_within, slot_content, staged_words, stages, stays, stores, submission_move, world}
+use Rattle.std.proofs.Common.{◌≡◌, ℕ, ◌+◌, ◌-◌, ◌<◌, ◌≤◌, [], ◌∷◌, ◌++◌, length, map, Some, None, slice_get, get_or, refl, sym, ◌∙◌, ◌⊎◌, inl, inr, arith}
+use Rattle.uring_laws.proofs.Common.{Answer, History, IsLawfulApart, Place, Setup, Step, SubmissionMove, World, cases_lt, get_or-append_right, get_or-map, get_or_append_left, get_or_from_slice_get, le-ltb, length-append, length-map, lt-ltb, place_of, published_entry, published_words, slice_get-get_or, slice_get_within, staged_words, stages, stays, stores, submission_move, world}
 use Rattle.uring_core.specs.declared.step.Step.TheVariants as step
 use Rattle.uring_core.specs.declared.answer.Answer.TheVariants as answer
 use Rattle.uring_laws.proofs.DirectSubmission.{DirectSubmission, direct_submission}
@@ -8,10 +8,6 @@ use Rattle.uring_laws.proofs.DirectSubmission.{DirectSubmission, direct_submissi
 abbrev pub EntriesTold : Setup → History → World → Type 0
 EntriesTold g h w = (k : ℕ) (p : Place) → slice_get w.submission.published k ≡ Some p
     → p.entry ≡ published_entry g.sq h k
-
--- the entry of a word, as slots stood at this point
-abbrev entry_at : ℕ → ℕ → History → Option Sqe
-entry_at size word before = if nat_lt word size then Some (slot_content before word) else None
 
 -- how many words there are
 words_count : (g : Setup) (h : History) (w : World) → DirectSubmission g h w

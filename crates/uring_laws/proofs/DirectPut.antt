@@ -1,6 +1,6 @@
 -- How many completions were put into the ring, read off a history.
-use Rattle.std.proofs.Common.{◌≡◌, Bool, [], ◌∷◌, length, refl, arith}
-use Rattle.uring_laws.proofs.Common.{Answer, Event, History, IsLawfulApart, Setup, Step, World, before_last, flushed_head, posted_count, posts_told, put_count, stored_head, world}
+use Rattle.std.proofs.Common.{◌≡◌, Bool, [], ◌∷◌, refl, arith}
+use Rattle.uring_laws.proofs.Common.{Answer, Event, History, IsLawfulApart, Setup, Step, World, before_last, posts_told, put_count, world}
 use Rattle.uring_core.proofs.CompletionMoves.{CompletionMove, stays, ends, flushes, completion_move}
 use Rattle.uring_laws.proofs.DirectCompletions.{direct_completions}
 

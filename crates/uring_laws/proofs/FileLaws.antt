@@ -15,7 +15,7 @@ use Rattle.uring_laws.proofs.WholeLaws.{lawful_apart}
 gave : (files : List FileContents) (r : Requests) (n : ℕ) (running : Bool) (res : ℤ) (bytes : List ℕ)
     → EndsOn files r n running (answer.Ended res bytes) → IsOutcome files (operation_of (entry_of r n)) (record { res = res; bytes = bytes })
 gave files r n true res bytes e = e
-gave files r n false res bytes e = absurd cc
+gave files r n false res bytes e = cc
 
 -- an end apart from the files is one on them, if it gave its outcome
 ends_on : (files : List FileContents) (r : Requests) (n : ℕ) (running : Bool) (a : Answer) → FinishesApart running a

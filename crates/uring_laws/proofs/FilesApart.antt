@@ -2,7 +2,7 @@
 -- and operations that were dealt out by their file can be carried out at places with files of their own.
 -- From the lemmas of uring_files that each file stands by itself. Stable: other crates may import what is pub.
 use Rattle.std.proofs.Common.{◌≡◌, ℕ, ◌<◌, ◌==◌, ℤ, Bool, true, cond, List, [], ◌∷◌, refl, arith}
-use Rattle.uring_laws.proofs.Common.{AreDone, Done, Ending, FileByItsEnds, FileContents, IsByFile, IsOutcome, Op, Requests, after, cond_both, done_at, ends_of, entry_of, eq-eqb, files_after, files_left, filter, operation_of}
+use Rattle.uring_laws.proofs.Common.{AreDone, Done, Ending, FileByItsEnds, FileContents, IsByFile, Op, Requests, after, cond_both, done_at, ends_of, entry_of, eq-eqb, files_after, files_left, filter, operation_of}
 use Rattle.uring_files.specs.Laws.{AgreeAt, is_on}
 use Rattle.uring_files.proofs.StandAlone.{others_stay, files_apart, ends_apart}
 
@@ -55,13 +55,10 @@ module _ (place : Op → ℕ) (by_file : IsByFile place) where
   unfolding part_after
   left_at parts d later k done = cond_both (place d.op == k) _ _ (λ fs. AreDone fs (done_at place k later)) (λ here. (rw here at done).1) (λ off. rw off at done)
 
-  first_at : (parts : ℕ → List FileContents) (d : Done) (later : List Done) → AreDone (parts (place d.op)) (done_at place (place d.op) (d ∷ later)) → IsOutcome (parts (place d.op)) d.op d.outcome
-  first_at parts d later done = (rw (eq-eqb (place d.op) (place d.op) refl) at done).0
-
   joined : (places : ℕ) → ((op : Op) → place op < places) → (files : List FileContents) (parts : ℕ → List FileContents) (done : List Done) → Agree place files parts → ((k : ℕ) → k < places → AreDone (parts k) (done_at place k done)) → AreDone files done
   joined places within files parts [] agree at = tt
   joined places within files parts (d ∷ later) agree at = (
-    rw ((ends_apart files (parts (place d.op)) d.op (λ fd on. agree fd d.op on)).0, (ends_apart files (parts (place d.op)) d.op (λ fd on. agree fd d.op on)).1) (first_at parts d later (at (place d.op) (within d.op))),
+    rw ((ends_apart files (parts (place d.op)) d.op (λ fd on. agree fd d.op on)).0, (ends_apart files (parts (place d.op)) d.op (λ fd on. agree fd d.op on)).1) (rw (eq-eqb (place d.op) (place d.op) refl) at (at (place d.op) (within d.op))).0,
     joined places within (after files d.op d.outcome.res) (part_after d parts) later (agree_after files parts d agree) (λ k lt. left_at parts d later k (at k lt)),
   )
 

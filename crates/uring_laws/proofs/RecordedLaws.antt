@@ -1,6 +1,6 @@
 -- Laws of answers that were recorded elsewhere: whether one is called for is decided, and a wrong one makes a list unlawful.
-use Rattle.std.proofs.Common.{◌≡◌, ℕ, ◌+◌, Bool, true, false, List, [], ◌∷◌, ◌++◌, take, drop, neg_ℤ, Some, sym, ap, subst, ◌∙◌, ◌⊎◌, inr, arith}
-use Rattle.uring_laws.proofs.Common.{Answer, ENOMEM, EndsOn, Event, FileContents, History, IsLawful, IsLawfulApart, IsOutcome, Op, OrAgain, Outcome, Requests, Setup, begin_answer, cases_Bool, ended_with, entry_of, get_or_from_slice_get, history_of, is_lengthening, operation_of, result_of, reverse-append, slice_get, slice_get_within, take-append-drop, take_more}
+use Rattle.std.proofs.Common.{◌≡◌, ℕ, ◌+◌, Bool, true, false, List, [], ◌∷◌, ◌++◌, take, drop, neg_ℤ, Some, sym, ap, ◌∙◌, ◌⊎◌, inr, arith}
+use Rattle.uring_laws.proofs.Common.{Answer, ENOMEM, EndsOn, Event, FileContents, History, IsOutcome, Op, OrAgain, Outcome, Requests, Setup, begin_answer, cases_Bool, ended_with, entry_of, get_or_from_slice_get, history_of, is_lengthening, operation_of, result_of, reverse-append, slice_get, slice_get_within, take-append-drop, take_more}
 use Rattle.uring_laws.specs.Recorded.{CalledIsDecided, CalledIsDecidedApart, WrongIsUnlawful, WrongIsUnlawfulApart}
 use Rattle.uring_core.specs.declared.step.Step.TheVariants as step
 use Rattle.uring_core.specs.declared.answer.Answer.TheVariants as answer
@@ -48,16 +48,15 @@ decided_called g w _ a = decided a _
 parted : (events : List Event) (place : ℕ) (e : Event) → slice_get events place ≡ Some e
     → (later : History) × (history_of events ≡ later ++ e ∷ history_of (take place events))
 parted events place e is_there =
-    let within = slice_get_within events place e is_there in
-    let more : take (place + 1) events ≡ take place events ++ e ∷ [] = rw (take_more events place e within, get_or_from_slice_get events place e e is_there) in
+    let more : take (place + 1) events ≡ take place events ++ e ∷ [] = rw (take_more events place e (slice_get_within events place e is_there), get_or_from_slice_get events place e e is_there) in
     (history_of (drop (place + 1) events), ap history_of (sym (take-append-drop (place + 1) events)) ∙ reverse-append (take (place + 1) events) (drop (place + 1) events) ∙ rw (more, history_of_snoc))
 
 pub wrong_unlawful : (g : Setup) → WrongIsUnlawful g
 wrong_unlawful g events place wanted first lawful =
     let parts = parted events place first.event first.is_there in
-    first.wrong.not_called (lawful_before g parts.0 (first.event ∷ history_of (take place events)) (subst (IsLawful g) parts.1 lawful)).0
+    first.wrong.not_called (lawful_before g parts.0 _ (rw parts.1 at lawful)).0
 
 pub wrong_unlawful_apart : (g : Setup) → WrongIsUnlawfulApart g
 wrong_unlawful_apart g events place wanted first lawful =
     let parts = parted events place first.event first.is_there in
-    first.wrong.not_called (apart.lawful_before g parts.0 (first.event ∷ history_of (take place events)) (subst (IsLawfulApart g) parts.1 lawful)).0
+    first.wrong.not_called (apart.lawful_before g parts.0 _ (rw parts.1 at lawful)).0

@@ -1,19 +1,14 @@
 -- Histories whose ends are called for by their files too.
 use Rattle.std.proofs.Common.{ℕ, neg_ℤ, List, [], ◌∷◌, ◌++◌, arith}
-use Rattle.uring_laws.proofs.Common.{Answer, CalledFor, CalledForApart, ECANCELED, History, IsLawful, IsLawfulApart, Setup, Step, World, world}
+use Rattle.uring_laws.proofs.Common.{ECANCELED, History, IsLawful, IsLawfulApart, Setup}
 use Rattle.uring_files.proofs.OperationCases.{outcome_other}
 use Rattle.uring_core.specs.declared.step.Step.TheVariants as step
 use Rattle.uring_core.specs.declared.answer.Answer.TheVariants as answer
 
-apart_called : (g : Setup) (w : World) (s : Step) (a : Answer) → CalledFor g w s a
-    → CalledForApart g w s a
-apart_called g w (step.Finish n) a called = grind arith
-apart_called g w _ a called = called
-
 pub lawful_apart : (g : Setup) (h : History) → IsLawful g h → IsLawfulApart g h
 lawful_apart g [] lawful = tt
-lawful_apart g ((s, a) ∷ before) lawful =
-    (apart_called g (world g before) s a lawful.0, lawful_apart g before lawful.1)
+lawful_apart g ((step.Finish n, a) ∷ before) lawful = (grind (arith, lawful.0), lawful_apart g before lawful.1)
+lawful_apart g ((s, a) ∷ before) lawful = (lawful.0, lawful_apart g before lawful.1)
 
 -- what came before in a lawful history is lawful
 pub lawful_before : (g : Setup) (after before : History) → IsLawful g (after ++ before)
