@@ -1,13 +1,15 @@
 -- Worlds that are alike answer alike, and stay alike by each event, by either's rules: `alike_go_on`.
 -- Each definition on requests and drains reads their lists only by what is found in them, so that the order of what started and ended is read by none.
 -- Stable: other crates may import what is pub.
+use Rattle.uring_linux.specs.LinuxRequests.{is_in_faulty_group}
 use Rattle.std.proofs.Common.{◌≡◌, ℕ, ℤ, true, List, [], ◌∷◌, sym, ap, ◌∙◌, rules}
-use Rattle.uring_laws.proofs.Common.{AlikeAnswerAlike, AlikeGoOnAlike, Answer, AreAlike, CalledFor, Change, ChangeAnywhere, Drains, Ending, History, IsLawful, IsLawfulApart, LinuxRequests, Setup, StandAlike, Step, World, cancels, change_of, dooms, entries_from, files_ended, files_kept, files_of, finishes, happens, issue_answer, next_answer_of, no_bytes, refuses, requests_of, runs, with_end_of, world}
+use Rattle.uring_laws.proofs.Common.{AlikeAnswerAlike, AlikeGoOnAlike, Answer, AreAlike, CalledFor, Change, ChangeAnywhere, Drains, Ending, History, IsLawful, IsLawfulApart, Setup, StandAlike, Step, World, cancels, change_of, dooms, entries_from, files_ended, files_kept, files_of, finishes, happens, issue_answer, next_answer_of, no_bytes, refuses, requests_of, runs, with_end_of, world, is_in_turn, is_doomed, is_after_failure, found_by, targets_of, target_of, some_member, is_joined, keeps_back, is_found, is_candidate, is_target}
 use Rattle.uring_core.proofs.Changes.{takes, drops, closes}
 use Rattle.uring_core.specs.declared.step.Step.TheVariants as step
 use Rattle.uring_core.specs.declared.answer.Answer.TheVariants as answer
-use Rattle.uring_laws.proofs.AlikeRequests.{AreSame, ReadSame, read_same, listed, running_same}
-use Rattle.uring_laws.proofs.AlikeRules.{ends_doomed_same, may_start_same, cancel_result_same, posts_same, next_of_same, drains_called_same, drains_ended_same, issued_end_same, end_same, pushed}
+use Rattle.uring_laws.proofs.AlikeRequests.{AreSame, ReadSame, read_same, listed, running_same, found_same}
+use Rattle.uring_laws.proofs.AlikeLinux.{posts_same}
+use Rattle.uring_laws.proofs.AlikeRules.{may_start_same, next_of_same, drains_called_same, drains_ended_same, issued_end_same, end_same, pushed}
 use Rattle.uring_laws.proofs.WholeLaws.{lawful_apart}
 
 -- Answers.
@@ -18,9 +20,9 @@ with_lists w s c e d = record w { requests = listed w.requests s c e; drains = d
 -- by either's rules, with other lists of which the same is read, and with the same drains by Linux's
 module _ (g : Setup) (w : World) (s c : List ℕ) (e : List Ending) (d : Drains) (a : ReadSame w.requests s c e) (same : g.linux ≡ true → w.drains ≡ d) where
   pub issue_same : (n : ℕ) → issue_answer g (with_lists w s c e d) n ≡ issue_answer g w n
+  unfolding is_in_turn is_in_faulty_group is_doomed is_after_failure found_by targets_of target_of some_member is_joined
   issue_same n =
-      let l : LinuxRequests = requests_of w in
-      simp (may_start_same l s c e a g.linux d same n, ends_doomed_same l s c e a, cancel_result_same l s c e a, a.started, a.ended)
+      simp (may_start_same (requests_of w) s c e a g.linux d same n, a.started, a.cancelled, a.ended, a.failed, keeps_back, is_found, is_candidate, is_target, found_same w.requests s c e a)
 
   called_same : files_of g w ≡ files_of g (with_lists w s c e d) → (x : Step) (b : Answer) → CalledFor g w x b
       → CalledFor g (with_lists w s c e d) x b
@@ -60,7 +62,7 @@ with_files g v w rings files = assumption (rings, files)
 module _ (g : Setup) (v : World) (s c : List ℕ) (e : List Ending) (d : Drains) (a : AreSame v.requests s c e) (same : g.linux ≡ true → v.drains ≡ d) where
   posted_same : (n : ℕ) (res : ℤ) (bytes : List ℕ)
       → with_end_of g v n res bytes ≡ with_end_of g (with_lists v s c e d) n res bytes
-  posted_same n res bytes = sym (rw (posts_same (requests_of v) s c e (read_same v.requests s c e a) g.linux n res))
+  posted_same n res bytes = sym (rw (posts_same v.requests s c e (read_same v.requests s c e a) n res))
 
   issued_rings : (n : ℕ) (res : ℤ) (bytes : List ℕ)
       → HaveSameRings g (happens g v (step.Issue n) (answer.Ended res bytes)) (happens g (with_lists v s c e d) (step.Issue n) (answer.Ended res bytes))

@@ -1,13 +1,12 @@
 -- Requests with other lists, of which the definitions read the same, stand alike by the rules of each set-up, if by Linux's the drains stand the same.
 use Rattle.std.proofs.Common.{◌≡◌, ℕ, ◌==◌, ℤ, Bool, true, false, ◌++◌, ◌∷◌, [], List, refl, sym, rules}
-use Rattle.uring_laws.proofs.Common.{Drains, Ending, LinuxRequests, Sqe, StandAlike, drains_called, drains_ended, ends_doomed, list_any, may_start, no_bytes, posts, found_by, is_after_failure, is_doomed, is_found, is_in_turn, is_joined, is_ready, keeps_back, some_member, target_of, targets_of}
+use Rattle.uring_laws.proofs.Common.{Drains, Ending, LinuxRequests, Sqe, StandAlike, drains_called, drains_ended, list_any, may_start, no_bytes, is_after_failure, is_doomed, is_in_turn, is_joined, is_ready, keeps_back, some_member}
 use Rattle.uring_linux.specs.LinuxRequests.{is_in_faulty_group}
-use Rattle.uring_rules.specs.Rules.{cancel_result, next_of, with_issued_end, is_issuable}
+use Rattle.uring_rules.specs.Rules.{next_of, with_issued_end, is_issuable}
 use Rattle.std.proofs.lemmas.List.Folds.{list_any-append}
 use Rattle.uring_entry.specs.Requests as manual
 use Rattle.uring_linux.specs.LinuxRequests as kernel
-use Rattle.uring_laws.proofs.AlikeRequests.{AreSame, ReadSame, read_same, listed, chosen_same, found_same}
-use Rattle.uring_laws.proofs.AlikeLinux as by_linux
+use Rattle.uring_laws.proofs.AlikeRequests.{AreSame, ReadSame, read_same, listed, chosen_same}
 use Rattle.uring_laws.proofs.AlikeDrains.{called_same, going_same}
 
 -- what is pushed after both is found in both
@@ -20,18 +19,6 @@ abbrev pub relisted : LinuxRequests → List ℕ → List ℕ → List Ending �
 relisted l s c e d = record { requests = listed l.requests s c e; drains = d }
 
 module _ (l : LinuxRequests) (s c : List ℕ) (e : List Ending) (a : ReadSame l.requests s c e) where
-  pub ends_doomed_same : (linux : Bool) (n : ℕ) → ends_doomed linux (listed l.requests s c e) n ≡ ends_doomed linux l.requests n
-  unfolding is_in_turn is_in_faulty_group is_doomed is_after_failure some_member is_joined
-  ends_doomed_same linux n = simp (a.cancelled, a.ended, a.failed, keeps_back)
-
-  pub cancel_result_same : (linux : Bool) (n : ℕ) → cancel_result linux (listed l.requests s c e) n ≡ cancel_result linux l.requests n
-  unfolding found_by targets_of target_of is_doomed is_after_failure some_member is_joined
-  cancel_result_same linux n =
-      simp (a.started, a.cancelled, a.ended, a.failed, is_found, manual.is_candidate, manual.is_target, found_same l.requests s c e a)
-
-  pub posts_same : (linux : Bool) (n : ℕ) (res : ℤ) → posts linux (listed l.requests s c e) n res ≡ posts linux l.requests n res
-  posts_same linux n res = rw (by_linux.posts_same l.requests s c e a n res)
-
   pub may_start_same : (linux : Bool) (d : Drains) → (linux ≡ true → l.drains ≡ d) → (n : ℕ)
       → may_start linux (relisted l s c e d) n ≡ may_start linux l n
   unfolding is_in_turn is_ready some_member is_joined

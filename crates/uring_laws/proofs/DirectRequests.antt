@@ -1,6 +1,6 @@
 -- The accepted entries, the cuts and the completions posted, read off a history.
-use Rattle.std.proofs.Common.{◌≡◌, ℕ, ◌+◌, ◌<◌, ◌==◌, true, List, [], ◌∷◌, ◌++◌, length, take, sum, refl, arith, append-nil, take-add}
-use Rattle.uring_laws.proofs.Common.{Answer, Ending, History, IsLawfulApart, IsSound, Setup, Sqe, Step, Submission, SubmissionMove, World, accepted, accepted_by, by_manual, closes, closes_ring, completion_of, cut_counts, entries_of, eq-eqb, filter_map, filter_map-append, get_or_append_left, length-append, list_any, or_left, or_right, places_from, sound_of, stays, stores, submission_move, sum_by-cons, sum_by_push, sums_from, take-append-le, taken, told, world, zero_entry}
+use Rattle.std.proofs.Common.{◌≡◌, ℕ, ◌+◌, ◌<◌, ◌==◌, true, List, [], ◌∷◌, ◌++◌, length, sum, refl, arith, append-nil, take-add}
+use Rattle.uring_laws.proofs.Common.{Answer, Ending, History, IsLawfulApart, IsSound, Setup, Sqe, Step, SubmissionMove, World, accepted, accepted_by, by_manual, closes, closes_ring, completion_of, cut_counts, eq-eqb, filter_map, filter_map-append, get_or_append_left, length-append, list_any, or_left, or_right, sound_of, stays, stores, submission_move, sum_by-cons, sum_by_push, sums_from, take-append-le, told, world, zero_entry}
 use Rattle.uring_core.proofs.CompletionMoves.{CompletionMove, stays as stays_off, ends, completion_move}
 
 pub record DirectRequests (h : History) (w : World) : Type 0 where
@@ -8,12 +8,6 @@ pub record DirectRequests (h : History) (w : World) : Type 0 where
   pub counted : sum (told accepted_by h) ≡ length w.requests.accepted
   pub cuts : w.requests.cuts ≡ cut_counts h
   pub shut : w.is_closed ≡ list_any closes_ring h
-
--- the positions of a call more
-taken_more : (l : Submission) (count : ℕ)
-    → entries_of (take (sum (l.calls ++ count ∷ [])) l.published)
-    ≡ entries_of (take (taken l) l.published) ++ entries_of (places_from l count)
-taken_more l count = grind (arith, sum_by_push, take-add, filter_map-append)
 
 -- a sum more
 sums_push : (before : ℕ) (xs : List ℕ) (x : ℕ)
@@ -54,7 +48,7 @@ accepted_direct : (g : Setup) (h : History) (w : World) (s : Step) (a : Answer) 
 accepted_direct g h w s a v (stays _ _ r c is_closed off left) sound i = grind arith
 accepted_direct g h w s a v (stores tail) sound i = grind (arith, take-append-le)
 accepted_direct g h w s a v (closes accepted missed head call opened all counted) sound i =
-    grind (arith, length-append, taken_more, sum_by_push, sums_push)
+    grind (arith, length-append, sum_by_push, take-add, filter_map-append, sums_push)
 accepted_direct g h w s a v _ sound i = assumption i
 
 pub direct_requests : (g : Setup) (h : History) → IsLawfulApart g h → DirectRequests h (world g h)

@@ -1,6 +1,6 @@
 -- The submission ring's lists, read off a history.
 use Rattle.std.proofs.lemmas.Grind.{common_steps}
-use Rattle.std.proofs.Common.{◌≡◌, ℕ, ◌+◌, ◌≤◌, true, false, eqb, List, [], ◌∷◌, ◌++◌, length, map, count_by, Option, Some, None, if◌then◌else◌, refl, subst, ap₂, arith, append-nil, append_assoc, rules}
+use Rattle.std.proofs.Common.{◌≡◌, ℕ, ◌+◌, ◌≤◌, true, false, eqb, List, [], ◌∷◌, ◌++◌, length, map, count_by, Option, Some, None, if◌then◌else◌, refl, subst, arith, append-nil, append_assoc, rules}
 use Rattle.uring_laws.proofs.Common.{Answer, Call, Event, History, IsLawfulApart, Setup, Sqe, Step, SubmissionMove, World, begins, call_counts, closes, closes_call, drops, entries_taken, length_push, loaded_head, ltb-false, map-append, open_call, open_count, open_taken, opened_by, opens_call, place_of, published_words, slot_content, sound_of, staged_words, stages, stays, stores, submission_move, taken_entries, taken_since, takes, takes_last, takes_position, world}
 use Rattle.uring_core.proofs.SoundRings.{IsSoundSubmission, open_count as positions_open}
 use Rattle.uring_laws.proofs.TakenPlaces.{takes_places}
@@ -69,11 +69,7 @@ submission_direct g h w s a v (closes accepted missed head call opened all count
     let so_far : (call.taken ≡ taken_since h) × (call.count ≡ open_count g h) = subst (IsOpened g h) opened i.opened in
     let within : call.taken ≤ call.count = subst (λ o. open_taken o ≤ positions_open o) opened sound.within_call in
     let whole : call.count ≡ taken_since h = omega (arith, ltb-false call.taken call.count all, within, so_far.0) in
-    let calls = ap₂ (λ xs n. xs ++ n ∷ []) i.calls whole in
-    let more : List ℕ = w.submission.calls ++ call.count ∷ [] in
-    let closed : count_by closes_call ((s, a) ∷ h) ≡ length more = grind (arith, common_steps, i.closed, longer) in
-    let openings : count_by opens_call ((s, a) ∷ h) ≡ length more + 0 = grind (arith, common_steps, i.openings, opened, longer) in
-    assumption (calls, closed, openings, tt, i)
+    grind (arith, common_steps, longer, whole)
 submission_direct g h w s a v _ sound entries i = grind arith
 
 pub direct_submission : (g : Setup) (h : History) → IsLawfulApart g h

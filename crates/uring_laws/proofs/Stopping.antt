@@ -1,7 +1,7 @@
 -- The laws of where submission calls end: from the open call as it is read off the history, and by induction over it.
 use Rattle.std.proofs.lemmas.Grind.{common_steps}
 use Rattle.std.proofs.Common.{◌≡◌, ◌↔◌, ℕ, ◌+◌, ◌≤◌, true, false, cond, List, [], ◌∷◌, ◌++◌, length, count_by, Option, Some, None, is_some, ◌⊎◌, refl, subst, arith, append-nil}
-use Rattle.uring_laws.proofs.Common.{Answer, Call, History, IsLawfulApart, Setup, Step, SubmissionMove, World, begins, cases_Bool, closes, drops, end_answer, end_answer_in, has_stopped, open_count, open_taken, opened_by, slice_get-get_or, sound_of, stays, submission_move, sum_by-cons, take_answer, take_answer_in, take_at, taken, taken_since, takes, told, world}
+use Rattle.uring_laws.proofs.Common.{Answer, Call, History, IsLawfulApart, Setup, Step, SubmissionMove, World, begins, cases_Bool, closes, drops, end_answer_in, has_stopped, open_count, open_taken, opened_by, slice_get-get_or, sound_of, stays, submission_move, sum_by-cons, take_answer_in, take_at, taken, taken_since, takes, told, world}
 use Rattle.uring_laws.specs.Stopping.{EndsThere, OpenCallEndsThere, CallsTakeAll, drops_word}
 use Rattle.uring_core.specs.declared.answer.Answer.TheVariants as answer
 use Rattle.uring_core.proofs.SoundRings.{open_count as positions_open}
@@ -33,9 +33,7 @@ ends_there g h opened lawful there last = by_call w.submission.call refl there
         let published : taken l + call.count ≤ length l.published = subst (λ o. taken l + positions_open o ≤ length l.published) is s.call_published in
         let ends = in_call g w call within published in
         let all : (call.taken ≡ call.count) ↔ ((taken_since h ≡ opened) ⊎ (has_stopped g h ≡ true)) = grind (arith, told, last) in
-        let no_more : (take_answer w ≡ answer.NoMore) ↔ (call.taken ≡ call.count) = rw is ends.0 in
-        let closes : (end_answer g w ≡ answer.NotAll → ⊥) ↔ (call.taken ≡ call.count) = rw is ends.1 in
-        record { no_more = grind (arith, no_more, all); closes = grind (arith, closes, no_more) }
+        grind (arith, is, ends, all)
 
 -- Rings that go on.
 

@@ -1,7 +1,7 @@
 -- A start changes places with each step that is on the rings, by either's rules: `start_then_rings` and `rings_then_start`.
 -- Such a step asks nobody who runs; of the requests it changes at most which are accepted, after all that there are.
-use Rattle.std.proofs.Common.{◌≡◌, ℕ, ◌<◌, true, ◌∷◌, length, Some, sym, ap}
-use Rattle.uring_laws.proofs.Common.{Answer, CalledFor, Change, Drains, IsBetween, IsLawful, IsLawfulApart, IsOnRings, LinuxRequests, RingsThenStart, Setup, StartThenRings, Step, World, change_of, ending_of, entries_from, happens, refuses, requests_of, sound_of, world, outstanding_tells}
+use Rattle.std.proofs.Common.{◌≡◌, ℕ, ◌<◌, true, ◌∷◌, length, sym}
+use Rattle.uring_laws.proofs.Common.{Answer, CalledFor, Change, IsBetween, IsLawful, IsLawfulApart, IsOnRings, LinuxRequests, RingsThenStart, Setup, StartThenRings, Step, World, change_of, entries_from, happens, refuses, requests_of, sound_of, world, outstanding_tells}
 use Rattle.uring_core.proofs.Changes.{takes, drops, closes}
 use Rattle.uring_laws.proofs.Growth.{IsCut}
 use Rattle.uring_core.specs.declared.step.Step.TheVariants as step
@@ -25,7 +25,7 @@ made_either g w n s a (refuses _ _ same silent) on = rw (same (begun w n), same 
 made_either g w n s a (takes entry call place opened left at valid) on = rw opened
 made_either g w n s a (drops call place opened left at invalid) on = rw opened
 made_either g w n s a (closes accepted missed head call opened all told) on =
-    rw opened (ap (λ (d : Drains). record (ending_of g (begun w n) (Some call)) { drains = d }) (drains_called_started g.linux (requests_of w) n (entries_from w.submission call.count)))
+    rw (opened, drains_called_started g.linux (requests_of w) n (entries_from w.submission call.count))
 made_either g w n s a _ on = search
 
 -- Who could start before such a step can start after it, and the other way round.

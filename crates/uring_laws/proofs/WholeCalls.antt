@@ -1,7 +1,7 @@
 -- The law `empty_ring_takes_a_whole_call`: from the laws of single steps, by induction over the items.
 -- `items_go_in` goes on from any history that ends with the ring as it stands, with some words staged.
-use Rattle.std.proofs.Common.{◌≡◌, ℕ, ◌+◌, ◌≤◌, List, [], ◌∷◌, ◌++◌, length, sym, ap, ◌∙◌, inl, inr, arith}
-use Rattle.uring_laws.proofs.Common.{Answer, Event, History, IsLawfulApart, Published, Setup, Sqe, Stands, Submission, TakesWholeCall, World, after_items, bad_word, history_of, is_spent, item_answers, item_steps, length_push, staged, with_entry, with_items, world, zip}
+use Rattle.std.proofs.Common.{◌≡◌, ℕ, ◌+◌, ◌≤◌, List, [], ◌∷◌, ◌++◌, length, ap, ◌∙◌, arith}
+use Rattle.uring_laws.proofs.Common.{Answer, Event, History, IsLawfulApart, Published, Setup, Sqe, Stands, Submission, TakesWholeCall, World, after_items, bad_word, history_of, item_answers, item_steps, length_push, staged, with_entry, with_items, world, zip}
 use Rattle.uring_entry.specs.IndexWords.{word_of}
 use Rattle.uring_core.specs.declared.step.Step.TheVariants as step
 use Rattle.uring_core.specs.declared.answer.Answer.TheVariants as answer
@@ -59,11 +59,11 @@ takes_whole_call g before items answers tail begun stands is_open few many lawfu
     let l : Submission = (world g before).submission in
     let inside = items_go_in g 0 items before [] answers stands (omega arith) (omega arith) many lawful.1.1 in
     let there : World = world g (after_items items answers before) in
-    let count : staged there.submission ≡ length l.published + length items = ap (λ v. staged v.submission) inside.now ∙ omega (arith, ap length (items_keep l 0 items), ap length inside.stands.fresh, inside.many) in
+    let count : staged there.submission ≡ length l.published + length items = rw inside.now (omega (arith, ap length (items_keep l 0 items), ap length inside.stands.fresh, inside.many)) in
     let opened = call_opens g (world g ((step.StoreTail, tail) ∷ after_items items answers before)) (length inside.staged) (length items) begun (rw inside.now (tail_publishes g (with_items l 0 items) inside.staged inside.stands)) (ap (λ v. v.is_closed) inside.now ∙ is_open) (omega (arith, inside.many)) lawful.0 in
     record {
       none_refused = inside.none_refused;
       tail_is = lawful.1.0 ∙ ap (λ n. answer.Tail (word_of g.start n)) count;
       are_published = λ good. rw inside.now (items_published l g.sq items stands.fresh few good);
-      opens = elim opened.0 [ inl called ↦ inl called | inr spent ↦ inr (spent.0, ap (λ v. is_spent v (length items)) (sym inside.now) ∙ spent.1) ];
+      opens = grind (arith, opened.0, inside.now);
     }
