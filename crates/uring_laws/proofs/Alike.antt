@@ -9,7 +9,7 @@ use Rattle.uring_core.specs.declared.step.Step.TheVariants as step
 use Rattle.uring_core.specs.declared.answer.Answer.TheVariants as answer
 use Rattle.uring_laws.proofs.AlikeRequests.{AreSame, ReadSame, read_same, listed, running_same, found_same}
 use Rattle.uring_laws.proofs.AlikeLinux.{posts_same}
-use Rattle.uring_laws.proofs.AlikeRules.{may_start_same, next_of_same, drains_called_same, drains_ended_same, issued_end_same, end_same, pushed}
+use Rattle.uring_laws.proofs.AlikeRules.{may_start_same, next_of_same, drains_called_same, drains_ended_same, issued_end_same, ended_same, pushed}
 use Rattle.uring_laws.proofs.WholeLaws.{lawful_apart}
 
 -- Answers.
@@ -81,7 +81,7 @@ module _ (g : Setup) (v : World) (s c : List ℕ) (e : List Ending) (d : Drains)
   rings_then x b (dooms n outstanding idle doomed) = search (rules, issued_rings)
   rings_then x b (cancels n outstanding idle spared ready cancel) = search (rules, issued_rings)
   rings_then x b (finishes n res bytes running) =
-      search (rules, end_same (requests_of v) s c e a n res bytes, posted_same n res bytes, drains_ended_same (requests_of v) s c e a g.linux d)
+      search (rules, ended_same (requests_of v) s c e a n res bytes, posted_same n res bytes, drains_ended_same (requests_of v) s c e a g.linux d)
   rings_then x b _ = search (rules, a.started, a.cancelled, a.ended)
 
 pub alike_then : (g : Setup) (h k : History) (s : Step) (a : Answer) → IsLawful g ((s, a) ∷ h)

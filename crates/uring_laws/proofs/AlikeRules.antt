@@ -37,7 +37,7 @@ module _ (l : LinuxRequests) (s c : List ℕ) (e : List Ending) (a : ReadSame l.
 
 -- and, where the same is found in the lists, once a request ends
 module _ (l : LinuxRequests) (s c : List ℕ) (e : List Ending) (a : AreSame l.requests s c e) where
-  ended_same : (n : ℕ) (res : ℤ) (bytes : List ℕ)
+  pub ended_same : (n : ℕ) (res : ℤ) (bytes : List ℕ)
       → AreSame (manual.with_ended l.requests n res bytes) s c (e ++ record { number = n; res = res; bytes = bytes } ∷ [])
   ended_same n res bytes = search (rules, pushed, a)
 
@@ -51,7 +51,3 @@ module _ (l : LinuxRequests) (s c : List ℕ) (e : List Ending) (a : AreSame l.r
       → StandAlike (with_issued_end linux l.requests n res) (with_issued_end linux (listed l.requests s c e) n res)
   issued_end_same true n res = assumption (ended_same n res no_bytes)
   issued_end_same false n res = rw (chosen_same l.requests s c e (read_same l.requests s c e a) n res) (search (rules, ended_same n res no_bytes, pushed, a))
-
-  pub end_same : (n : ℕ) (res : ℤ) (bytes : List ℕ)
-      → StandAlike (manual.with_ended l.requests n res bytes) (manual.with_ended (listed l.requests s c e) n res bytes)
-  end_same n res bytes = assumption (ended_same n res bytes)

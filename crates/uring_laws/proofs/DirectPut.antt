@@ -9,7 +9,7 @@ use Rattle.uring_laws.proofs.DirectCompletions.{direct_completions}
 posts_direct : (g : Setup) (h : History) (s : Step) (a : Answer) (v : World)
     → CompletionMove g (world g h) s a v → (world g h).completions.posted ≡ posts_told g h
     → v.completions.posted ≡ posts_told g ((s, a) ∷ h)
-posts_direct g h s a v (stays _ _ l r is_closed off no_end left) i = grind arith
+posts_direct g h s a v (stays _ _ l r is_closed off no_end left) i = rw no_end i
 posts_direct g h s a v (ends _ _ n res bytes r off told same_accepted one_more) i = grind arith
 posts_direct g h s a v _ i = i
 

@@ -1,7 +1,7 @@
 -- The laws of `files.rt` on histories: which are lawful, and which files they leave, by the operations that they carried out.
 -- By induction over the history: a Finish that ended its request is `files_ended`, and any other event is `files_kept`.
 -- Stable: other crates may import what is pub.
-use Rattle.std.proofs.Common.{◌≡◌, ◌==◌, ℕ, ℤ, Bool, true, false, List, [], ◌∷◌, refl, ap, ◌∙◌}
+use Rattle.std.proofs.Common.{◌≡◌, ◌==◌, ℕ, ℤ, Bool, true, List, [], ◌∷◌, refl, ap, ◌∙◌, arith}
 use Rattle.uring_laws.proofs.Common.{Answer, AreDone, EndsOn, FilesByOperations, FilesByPlace, FinishesApart, History, IsLawful, IsLawfulApart, IsOutcome, LawfulByOperations, PlacesJoin, Requests, Setup, done_in, entry_of, eq-eqb, file_of, files_ended, files_kept, files_of, first_files, is_running, operation_of, world, FileContents}
 use Rattle.uring_files.proofs.DoneLemmas.{left_snoc, done_snoc, done_unsnoc}
 use Rattle.uring_core.specs.declared.step.Step.TheVariants as step
@@ -10,12 +10,6 @@ use Rattle.uring_laws.proofs.FilesApart.{left_by_own, join_places}
 use Rattle.uring_laws.proofs.WholeLaws.{lawful_apart}
 
 -- Ends, by whether their request runs.
-
--- what ends gave its outcome
-gave : (files : List FileContents) (r : Requests) (n : ℕ) (running : Bool) (res : ℤ) (bytes : List ℕ)
-    → EndsOn files r n running (answer.Ended res bytes) → IsOutcome files (operation_of (entry_of r n)) (record { res = res; bytes = bytes })
-gave files r n true res bytes e = e
-gave files r n false res bytes e = cc
 
 -- an end apart from the files is one on them, if it gave its outcome
 ends_on : (files : List FileContents) (r : Requests) (n : ℕ) (running : Bool) (a : Answer) → FinishesApart running a
@@ -39,7 +33,7 @@ are_done g [] lawful = tt
 are_done g ((step.Finish n, answer.Ended res bytes) ∷ before) lawful =
     let same = files_by_operations g before (lawful_apart g before lawful.1) in
     done_snoc (first_files g) (done_in g before) _ (are_done g before lawful.1)
-    (rw same at (gave (files_of g (world g before)) (world g before).requests n (is_running (world g before).requests n) res bytes lawful.0))
+    (grind (arith, lawful.0, same))
 are_done g ((s, a) ∷ before) lawful = are_done g before lawful.1
 
 pub lawful_if_done : (g : Setup) (h : History) → IsLawfulApart g h

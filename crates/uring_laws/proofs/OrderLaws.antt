@@ -1,6 +1,6 @@
 -- The laws of doomed requests, links and drains, by the manual pages' rules; and what these and those of Linux share.
 use Rattle.std.proofs.Common.{◌≡◌, ℕ, ◌<◌, ◌==◌, ℤ, neg_ℤ, Bool, true, false, not, ◌&&◌, List, ◌∷◌, ◌++◌, Some, length, slice_get, refl, ◌⊎◌, arith}
-use Rattle.uring_laws.proofs.Common.{Answer, Change, ECANCELED, Ending, History, IsEnded, IsLawfulApart, IsSoundManual, LinuxRequests, Requests, Setup, World, both_ways, by_manual, change_of, count_none, count_some, doomed_result, dooms, eq-eqb, has_ended, has_started, int_eq, is_doomed, list_any, refuses, requests_of, sound_of, times_ended, waited, waits_for, world}
+use Rattle.uring_laws.proofs.Common.{Answer, Change, ECANCELED, Ending, History, IsEnded, IsLawfulApart, LinuxRequests, Requests, Setup, World, both_ways, by_manual, change_of, count_none, count_some, doomed_result, dooms, eq-eqb, has_ended, has_started, int_eq, is_doomed, list_any, refuses, requests_of, sound_of, times_ended, waited, waits_for, world}
 use Rattle.uring_laws.specs.Laws.{DoomedNeverRun, IsStart}
 use Rattle.std.proofs.lemmas.Map.Keys.{any_passes_from_place}
 use Rattle.uring_rules.specs.Rules as by_rules
@@ -47,17 +47,15 @@ started_so g w n a change start = grind arith
 
 -- By the manual pages'.
 
-doomed_end : (r : Requests) (k : ℕ) (e : Ending) → IsSoundManual r → slice_get r.ended k ≡ Some e
-    → is_doomed r e.number ≡ true → e.res ≡ doomed_result r e.number
-doomed_end r k e s at doomed = grind (arith, (s.ended_how e.number (end_there r k e at)), (result_told r.ended k e (doomed_result r e.number) at))
-
 pub never_run : (g : Setup) (h : History) → IsLawfulApart (by_manual g) h → DoomedNeverRun (by_manual g) h
 never_run g h lawful =
     let s = (sound_of (by_manual g) h lawful).manual refl in
     let t = tells_requests (by_manual g) h lawful in
     record {
       never_run = λ n doomed. rw t.started (count_none (λ m. m == n) (world (by_manual g) h).requests.started (let e : has_started (world (by_manual g) h).requests n ≡ false = grind arith in e));
-      ends_so = λ k e at doomed. doomed_end (world (by_manual g) h).requests k e s (rw t.ended at at) doomed;
+      ends_so = λ k e at doomed.
+          let there : slice_get (world (by_manual g) h).requests.ended k ≡ Some e = rw t.ended at at in
+          grind (arith, (s.ended_how e.number (end_there (world (by_manual g) h).requests k e there)), (result_told (world (by_manual g) h).requests.ended k e (doomed_result (world (by_manual g) h).requests e.number) there));
     }
 
 pub were_doomed : (g : Setup) (after before : History) (n : ℕ) (bytes : List ℕ)

@@ -73,4 +73,4 @@ drops_told g [] lawful = refl
 drops_told g ((s, a) ∷ before) lawful = drops_kept g before s a _ lawful.1 (submission_move g s a before lawful) (drops_told g before lawful.1)
 
 pub own_published : (g : Setup) (h : History) → IsLawfulApart g h → OwnPublished g h
-own_published g h lawful = grind (arith, own_submission, items_tell, items_sound, drops_told)
+own_published g h lawful = grind (arith, (own_submission g h lawful), (items_tell g h (own_submission g h lawful)), (items_sound g h (own_submission g h lawful)), (drops_told g h lawful))

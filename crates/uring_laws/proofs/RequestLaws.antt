@@ -1,7 +1,7 @@
 -- The laws `each_ends_once` and `least_can_go_on`.
 -- From what is sound of the requests, and from what can be issued.
-use Rattle.std.proofs.Common.{◌≡◌, ℕ, ◌<◌, ◌==◌, Bool, true, false, List, Option, Some, None, length, count_by, refl, inl, inr, arith}
-use Rattle.uring_laws.proofs.Common.{EachEndsOnce, History, IsLawfulApart, LeastCanGoOn, LinuxRequests, Setup, World, both_ways, by_manual, count_none, count_some, is_outstanding, least_below_out, least_below_some, least_below_tells, least_of, least_of_goes_on, list_any, lt-ltb, or_cases, requests_of, sound_of, outstanding_tells}
+use Rattle.std.proofs.Common.{◌≡◌, ℕ, ◌<◌, ◌==◌, Bool, true, false, List, Option, Some, None, length, count_by, refl, arith}
+use Rattle.uring_laws.proofs.Common.{EachEndsOnce, History, IsLawfulApart, LeastCanGoOn, LinuxRequests, Setup, World, both_ways, by_manual, count_none, count_some, is_outstanding, least_below_out, least_below_some, least_below_tells, least_of, least_of_goes_on, list_any, lt-ltb, requests_of, sound_of, outstanding_tells}
 use Rattle.uring_rules.specs.Rules.{is_issuable, next_of}
 use Rattle.uring_core.proofs.Issuable.{issue_goes, issuable_outstanding}
 use Rattle.uring_laws.proofs.ToldRequests.{tells_requests}
@@ -23,11 +23,7 @@ least_goes_on g w n outstanding = by_least (least_of w.requests) refl where
       record {
         least = m;
         is_least = e;
-        goes_on =
-            elim (or_cases _ _ (least_of_goes_on w.requests m e)) [
-              | inl running ↦ inl running
-              | inr issuable ↦ inr (least_is_next false (requests_of w) m e issuable, issue_goes (by_manual g) w m issuable)
-            ];
+        goes_on = grind (arith, (least_of_goes_on w.requests m e), (least_is_next false (requests_of w) m e), (issue_goes (by_manual g) w m));
       }
 
 -- what is counted is there

@@ -31,8 +31,7 @@ word_goes_in g slot word later rest before words (a ∷ answers) stands low few 
     let events : List Event = zip (item_steps (slot + 1) later) answers in
     let after = rw (history_of_cons (step.Index word, a) events before) at lawful in
     let one = word_staged g (world g before) words word a stands (omega arith) (lawful_before g (history_of events) ((step.Index word, a) ∷ before) after).0 in
-    let others =
-    rest ((step.Index word, answer.Staged) ∷ before) (words ++ word ∷ []) answers one.1 (omega arith) (omega (arith, length_push words word)) (omega (arith, many)) (rw one.0 at after) in
+    let others = rest ((step.Index word, answer.Staged) ∷ before) (words ++ word ∷ []) answers one.1 (omega arith) (omega (arith, length_push words word)) (omega (arith, many)) (rw one.0 at after) in
     grind (arith, one.0, others, history_of_cons, length_push)
 word_goes_in g slot word later rest before words [] stands low few many lawful = absurd (omega (arith, many))
 
