@@ -1,4 +1,4 @@
--- Requests with other lists, of which the definitions read the same, stand alike by the manual pages' rules: each reads who started, was doomed by a cancel, ended and failed, and nothing else of them.
+-- Requests with other lists, of which the definitions read the same: each reads who started, was doomed by a cancel, ended and failed, and nothing else of them. So cancels choose the same by the manual pages' rules.
 use Rattle.std.proofs.Common.{◌≡◌, ℕ, zero, suc, ◌==◌, ℤ, Bool, List, Option, refl, ◌<◌, arith}
 use Rattle.uring_laws.proofs.Common.{Ending, HaveSame, Requests, all_below, chosen_by, has_ended, has_failed, has_started, is_after_failure, is_cancelled, is_candidate, is_doomed, is_joined, is_running, is_target, list_any, result_for, some_member, target_of, targets_of}
 

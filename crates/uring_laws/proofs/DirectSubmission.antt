@@ -65,11 +65,10 @@ submission_direct g h w s a v (takes entry call place opened left at valid) soun
 submission_direct g h w s a v (drops call place opened left at invalid) sound entries i =
     grind (arith, (position_taken g h w (s, a) call opened left refl refl refl refl i))
 submission_direct g h w s a v (closes accepted missed head call opened all counted) sound entries i =
-    let longer = length_push w.submission.calls call.count in
     let so_far : (call.taken ≡ taken_since h) × (call.count ≡ open_count g h) = subst (IsOpened g h) opened i.opened in
     let within : call.taken ≤ call.count = subst (λ o. open_taken o ≤ positions_open o) opened sound.within_call in
     let whole : call.count ≡ taken_since h = omega (arith, ltb-false call.taken call.count all, within, so_far.0) in
-    grind (arith, common_steps, longer, whole)
+    grind (arith, common_steps, length_push, whole)
 submission_direct g h w s a v _ sound entries i = grind arith
 
 pub direct_submission : (g : Setup) (h : History) → IsLawfulApart g h

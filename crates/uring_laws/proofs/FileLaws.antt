@@ -9,8 +9,6 @@ use Rattle.uring_core.specs.declared.answer.Answer.TheVariants as answer
 use Rattle.uring_laws.proofs.FilesApart.{left_by_own, join_places}
 use Rattle.uring_laws.proofs.WholeLaws.{lawful_apart}
 
--- Ends, by whether their request runs.
-
 -- an end apart from the files is one on them, if it gave its outcome
 ends_on : (files : List FileContents) (r : Requests) (n : ℕ) (running : Bool) (a : Answer) → FinishesApart running a
     → ((res : ℤ) (bytes : List ℕ) → a ≡ answer.Ended res bytes → IsOutcome files (operation_of (entry_of r n)) (record { res = res; bytes = bytes }))
@@ -32,8 +30,7 @@ are_done : (g : Setup) (h : History) → IsLawful g h → AreDone (first_files g
 are_done g [] lawful = tt
 are_done g ((step.Finish n, answer.Ended res bytes) ∷ before) lawful =
     let same = files_by_operations g before (lawful_apart g before lawful.1) in
-    done_snoc (first_files g) (done_in g before) _ (are_done g before lawful.1)
-    (grind (arith, lawful.0, same))
+    done_snoc (first_files g) (done_in g before) _ (are_done g before lawful.1) (grind (arith, lawful.0, same))
 are_done g ((s, a) ∷ before) lawful = are_done g before lawful.1
 
 pub lawful_if_done : (g : Setup) (h : History) → IsLawfulApart g h

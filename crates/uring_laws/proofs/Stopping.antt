@@ -18,14 +18,12 @@ in_call g w call within published =
     grind (arith, (slice_get-get_or w.submission.published (taken w.submission + call.taken) (record { word = 0; entry = None })))
 
 pub ends_there : (g : Setup) → OpenCallEndsThere g
-ends_there g h opened lawful there last = by_call w.submission.call refl there
+ends_there g h opened lawful there last = by_call (world g h).submission.call refl there
   where
-    w : World
-    w = world g h
-
-    by_call : (c : Option Call) → w.submission.call ≡ c → is_some c ≡ true → EndsThere g h opened
+    by_call : (c : Option Call) → (world g h).submission.call ≡ c → is_some c ≡ true → EndsThere g h opened
     by_call None is some = absurd cc
     by_call (Some call) is some =
+        let w : World = world g h in
         let l = w.submission in
         let s = (sound_of g h lawful).submission in
         let told : (call.taken ≡ taken_since h) × (call.count ≡ open_count g h) = subst (IsOpened g h) is (direct_submission g h lawful).opened in

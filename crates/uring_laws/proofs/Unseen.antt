@@ -51,8 +51,7 @@ start_then_rings g h n s a on lawful =
     let first : IsLawful g ((s, a) ∷ h) = ((called_either g w n s a on).0 lawful.0, lawful.1.1) in
     let apart : IsLawfulApart g ((s, a) ∷ h) = lawful_apart g ((s, a) ∷ h) first in
     let c : CanStart g.linux (requests_of w) n = can_start g w n lawful.1.0 in
-    let within = (outstanding_tells w.requests n c.outstanding).0 in
-    let later : CanStart g.linux (requests_of (happens g w s a)) n = (start_either g w n (sound_of g h apart.1).requests.cut_at_end (between g h apart.1) within s a (change_of g w s a apart.0) on).0 c in
+    let later : CanStart g.linux (requests_of (happens g w s a)) n = (start_either g w n (sound_of g h apart.1).requests.cut_at_end (between g h apart.1) (outstanding_tells w.requests n c.outstanding).0 s a (change_of g w s a apart.0) on).0 c in
     record {
       lawful = (start_called g (happens g w s a) n later, first);
       alike = alike_same g _ _ (made_either g w n s a (change_of g w s a apart.0) on);
