@@ -1,13 +1,15 @@
 -- Worlds that are alike answer alike, and stay alike by each event, by either's rules: `alike_go_on`.
 -- Each definition on requests and drains reads their lists only by what is found in them, so that the order of what started and ended is read by none.
 -- Stable: other crates may import what is pub.
-use Rattle.std.proofs.Common.{◌≡◌, ℕ, ℤ, true, if◌then◌else◌, List, [], ◌∷◌, sym, subst, ap, ◌∙◌, rules}
-use Rattle.uring_laws.proofs.Common.{AlikeAnswerAlike, AlikeGoOnAlike, Answer, AreAlike, CalledFor, Change, ChangeAnywhere, Drains, Ending, EndsOn, History, IsLawful, IsLawfulApart, LinuxRequests, Setup, StandAlike, Step, World, cancels, change_of, completion_for, dooms, ending_of, entries_from, entry_of, files_ended, files_kept, files_of, finishes, happens, is_running, issue_answer, next_answer_of, no_bytes, refuses, requests_of, runs, with_end_of, with_posted, world}
+use Rattle.uring_linux.specs.LinuxRequests.{is_in_faulty_group}
+use Rattle.std.proofs.Common.{◌≡◌, ℕ, ℤ, true, List, [], ◌∷◌, sym, ap, ◌∙◌, rules}
+use Rattle.uring_laws.proofs.Common.{AlikeAnswerAlike, AlikeGoOnAlike, Answer, AreAlike, CalledFor, Change, ChangeAnywhere, Drains, Ending, History, IsLawful, IsLawfulApart, Setup, StandAlike, Step, World, cancels, change_of, dooms, entries_from, files_ended, files_kept, files_of, finishes, happens, issue_answer, next_answer_of, no_bytes, refuses, requests_of, runs, with_end_of, world, is_in_turn, is_doomed, is_after_failure, found_by, targets_of, target_of, some_member, is_joined, keeps_back, is_found, is_candidate, is_target}
 use Rattle.uring_core.proofs.Changes.{takes, drops, closes}
 use Rattle.uring_core.specs.declared.step.Step.TheVariants as step
 use Rattle.uring_core.specs.declared.answer.Answer.TheVariants as answer
-use Rattle.uring_laws.proofs.AlikeRequests.{AreSame, ReadSame, read_same, listed, outstanding_same, running_same}
-use Rattle.uring_laws.proofs.AlikeRules.{ends_doomed_same, may_start_same, cancel_result_same, posts_same, next_of_same, drains_called_same, drains_ended_same, issued_end_same, end_same, pushed}
+use Rattle.uring_laws.proofs.AlikeRequests.{AreSame, ReadSame, read_same, listed, running_same, found_same}
+use Rattle.uring_laws.proofs.AlikeLinux.{posts_same}
+use Rattle.uring_laws.proofs.AlikeRules.{may_start_same, next_of_same, drains_called_same, drains_ended_same, issued_end_same, ended_same, pushed}
 use Rattle.uring_laws.proofs.WholeLaws.{lawful_apart}
 
 -- Answers.
@@ -18,16 +20,14 @@ with_lists w s c e d = record w { requests = listed w.requests s c e; drains = d
 -- by either's rules, with other lists of which the same is read, and with the same drains by Linux's
 module _ (g : Setup) (w : World) (s c : List ℕ) (e : List Ending) (d : Drains) (a : ReadSame w.requests s c e) (same : g.linux ≡ true → w.drains ≡ d) where
   pub issue_same : (n : ℕ) → issue_answer g (with_lists w s c e d) n ≡ issue_answer g w n
+  unfolding is_in_turn is_in_faulty_group is_doomed is_after_failure found_by targets_of target_of some_member is_joined
   issue_same n =
-      let l : LinuxRequests = requests_of w in
-      rw (outstanding_same l.requests s c e a n, running_same l.requests s c e a n, ends_doomed_same l s c e a g.linux n, may_start_same l s c e a g.linux d same n, cancel_result_same l s c e a g.linux n)
+      simp (may_start_same (requests_of w) s c e a g.linux d same n, a.started, a.cancelled, a.ended, a.failed, keeps_back, is_found, is_candidate, is_target, found_same w.requests s c e a)
 
   called_same : files_of g w ≡ files_of g (with_lists w s c e d) → (x : Step) (b : Answer) → CalledFor g w x b
       → CalledFor g (with_lists w s c e d) x b
   called_same files (step.Issue n) b called = called ∙ sym (issue_same n)
-  called_same files (step.Finish n) b called =
-      subst (λ k. EndsOn (files_of g (with_lists w s c e d)) w.requests n k b) (sym (running_same w.requests s c e a n))
-      (subst (λ fs. EndsOn fs w.requests n (is_running w.requests n) b) files called)
+  called_same files (step.Finish n) b called = rw (running_same w.requests s c e a n) (rw files at called)
   called_same files step.Next b called =
       called ∙ ap next_answer_of (sym (next_of_same (requests_of w) s c e a g.linux d same))
   called_same files _ b called = called
@@ -44,8 +44,7 @@ lists_of g v w al = search rules
 pub alike_answer : (g : Setup) → AlikeAnswerAlike g
 alike_answer g v w s a al called =
     let same = same_but g v w al in
-    subst (λ u. CalledFor g u s a) same
-    (called_same g v w.requests.started w.requests.cancelled w.requests.ended w.drains (read_same v.requests w.requests.started w.requests.cancelled w.requests.ended (lists_of g v w al)) al.drains (al.files ∙ ap (files_of g) (sym same)) s a called)
+    rw same at (called_same g v w.requests.started w.requests.cancelled w.requests.ended w.drains (read_same v.requests w.requests.started w.requests.cancelled w.requests.ended (lists_of g v w al)) al.drains (al.files ∙ ap (files_of g) (sym same)) s a called)
 
 -- What each event makes of worlds that are alike.
 
@@ -60,20 +59,15 @@ pub record HaveSameRings (g : Setup) (v w : World) : Type 0 where
 pub with_files : (g : Setup) (v w : World) → HaveSameRings g v w → files_of g v ≡ files_of g w → AreAlike g v w
 with_files g v w rings files = assumption (rings, files)
 
-by_rings : (g : Setup) (v : World) (s c : List ℕ) (e : List Ending) (d : Drains) → AreSame v.requests s c e
-    → (g.linux ≡ true → v.drains ≡ d) → HaveSameRings g v (with_lists v s c e d)
-by_rings g v s c e d a same = search (rules, a.started, a.cancelled, a.ended)
-
 module _ (g : Setup) (v : World) (s c : List ℕ) (e : List Ending) (d : Drains) (a : AreSame v.requests s c e) (same : g.linux ≡ true → v.drains ≡ d) where
   posted_same : (n : ℕ) (res : ℤ) (bytes : List ℕ)
       → with_end_of g v n res bytes ≡ with_end_of g (with_lists v s c e d) n res bytes
-  posted_same n res bytes =
-      ap (λ b. if b then with_posted g.cq v.completions (completion_for (entry_of v.requests n) res bytes) else v.completions) (sym (posts_same (requests_of v) s c e (read_same v.requests s c e a) g.linux n res))
+  posted_same n res bytes = sym (rw (posts_same v.requests s c e (read_same v.requests s c e a) n res))
 
   issued_rings : (n : ℕ) (res : ℤ) (bytes : List ℕ)
       → HaveSameRings g (happens g v (step.Issue n) (answer.Ended res bytes)) (happens g (with_lists v s c e d) (step.Issue n) (answer.Ended res bytes))
   issued_rings n res bytes =
-      search (rules, issued_end_same (requests_of v) s c e a g.linux n res, posted_same n res no_bytes, drains_ended_same (requests_of v) s c e a g.linux d same n res)
+      search (rules, issued_end_same (requests_of v) s c e a g.linux n res, posted_same n res no_bytes, drains_ended_same (requests_of v) s c e a g.linux d)
 
   rings_then : (x : Step) (b : Answer) → Change g v x b
       → HaveSameRings g (happens g v x b) (happens g (with_lists v s c e d) x b)
@@ -81,19 +75,14 @@ module _ (g : Setup) (v : World) (s c : List ℕ) (e : List Ending) (d : Drains)
   rings_then x b (takes entry call place opened left at valid) = search rules
   rings_then x b (drops call place opened left at invalid) = search rules
   rings_then x b (closes accepted missed head call opened all told) =
-      let drains = drains_called_same (requests_of v) s c e (read_same v.requests s c e a) g.linux d same (entries_from v.submission call.count) in
-      subst (λ o. HaveSameRings g (ending_of g v o) (ending_of g (with_lists v s c e d) o)) (sym opened) (search (rules, drains, a.started, a.cancelled, a.ended))
+      let drains = λ (is : g.linux ≡ true). drains_called_same (requests_of v) s c e (read_same v.requests s c e a) g.linux d (same is) (entries_from v.submission call.count) in
+      rw opened (search (rules, drains, a.started, a.cancelled, a.ended))
   rings_then x b (runs n outstanding idle spared ready no_cancel) = search (rules, pushed)
   rings_then x b (dooms n outstanding idle doomed) = search (rules, issued_rings)
   rings_then x b (cancels n outstanding idle spared ready cancel) = search (rules, issued_rings)
   rings_then x b (finishes n res bytes running) =
-      search (rules, end_same (requests_of v) s c e a n res bytes, posted_same n res bytes, drains_ended_same (requests_of v) s c e a g.linux d same n res)
-  rings_then x b _ = by_rings g (happens g v x b) s c e d a same
-
-files_then : (g : Setup) (h k : History) (s : Step) (a : Answer) → IsLawfulApart g ((s, a) ∷ h)
-    → IsLawfulApart g ((s, a) ∷ k) → AreAlike g (world g h) (world g k)
-    → files_of g (world g ((s, a) ∷ h)) ≡ files_of g (world g ((s, a) ∷ k))
-files_then g h k s a lawful other al = search (rules, files_kept, files_ended)
+      search (rules, ended_same (requests_of v) s c e a n res bytes, posted_same n res bytes, drains_ended_same (requests_of v) s c e a g.linux d)
+  rings_then x b _ = search (rules, a.started, a.cancelled, a.ended)
 
 pub alike_then : (g : Setup) (h k : History) (s : Step) (a : Answer) → IsLawful g ((s, a) ∷ h)
     → IsLawful g ((s, a) ∷ k) → AreAlike g (world g h) (world g k)
@@ -102,8 +91,8 @@ alike_then g h k s a lawful other al =
     let v : World = world g h in
     let w : World = world g k in
     let apart : IsLawfulApart g ((s, a) ∷ h) = lawful_apart g ((s, a) ∷ h) lawful in
-    let rings : HaveSameRings g (happens g v s a) (happens g w s a) = subst (λ u. HaveSameRings g (happens g v s a) (happens g u s a)) (same_but g v w al) (rings_then g v w.requests.started w.requests.cancelled w.requests.ended w.drains (lists_of g v w al) al.drains s a (change_of g v s a apart.0)) in
-    with_files g (happens g v s a) (happens g w s a) rings (files_then g h k s a apart (lawful_apart g ((s, a) ∷ k) other) al)
+    let rings = rw (same_but g v w al) at (rings_then g v w.requests.started w.requests.cancelled w.requests.ended w.drains (lists_of g v w al) al.drains s a (change_of g v s a apart.0)) in
+    with_files g (happens g v s a) (happens g w s a) rings (let lawful_k = lawful_apart g ((s, a) ∷ k) other in let f : files_of g (world g ((s, a) ∷ h)) ≡ files_of g (world g ((s, a) ∷ k)) = search (rules, files_kept, files_ended) in f)
 
 pub alike_go_on : (g : Setup) → AlikeGoOnAlike g
 alike_go_on g [] h k lawful al next = record { lawful = lawful; alike = al }

@@ -1,39 +1,12 @@
--- Who is in its turn, and what calls and ends make of the drains, by Linux's rules, reads of the lists of requests only which numbers have ended: who started counts for nothing there.
-use Rattle.std.proofs.Common.{◌≡◌, ℕ, Bool, not, ◌&&◌, ◌||◌, nat_lt, if◌then◌else◌, List, [], ◌∷◌, length, refl, ap, ap₂, ◌∙◌}
-use Rattle.uring_laws.proofs.Common.{Deferred, Drains, Ending, LinuxRequests, Requests, Sqe, after_going_on, deferred_with, has_ended, is_alone, is_faulty_from, is_in_some, is_in_turn, is_joined, is_linked, keeps_back, some_below_same, still_deferred, with_accepted, with_cut, with_deferred, with_entries, with_group, with_last_entry, with_ring}
-use Rattle.uring_entry.specs.Requests as manual
+-- What calls and ends make of the drains, by Linux's rules, reads of the lists of requests only which numbers have ended: who started counts for nothing there.
+use Rattle.std.proofs.Common.{◌≡◌, ℕ, List, [], ◌∷◌, ap, ◌∙◌}
+use Rattle.uring_laws.proofs.Common.{Deferred, Ending, LinuxRequests, Requests, Sqe, after_going_on, is_alone, is_faulty_from, with_accepted, with_cut, with_entries}
 use Rattle.uring_laws.proofs.AlikeRequests.{listed, EndSame}
 
-module _ (r : Requests) (s c : List ℕ) (e : List Ending) (same : EndSame r e) where
-  abbrev q : Requests
-  q = listed r s c e
-
-  pub turn_same : (n : ℕ) → is_in_turn q n ≡ is_in_turn r n
-  unfolding is_in_turn is_joined
-  turn_same n =
-      ap not
-      (some_below_same (keeps_back q n) (keeps_back r n) n (λ k lt. ap (λ b. is_joined r k n && not b) (same k)))
-
-  alone_same : (groups : List Deferred) → is_alone q groups ≡ is_alone r groups
-  unfolding is_alone
-  alone_same groups =
-      ap not
-      (some_below_same (λ k. not (has_ended q k) && not (is_in_some groups k)) (λ k. not (has_ended r k) && not (is_in_some groups k)) (length r.accepted)
-      (λ k lt. ap (λ b. not b && not (is_in_some groups k)) (same k)))
-
-  pub going_same : (groups : List Deferred) → after_going_on q groups ≡ after_going_on r groups
-  going_same groups = ap (λ b. still_deferred b groups) (alone_same groups)
-
-  faulty_from_same : (from : ℕ) → is_faulty_from q from ≡ is_faulty_from r from
-  unfolding is_faulty_from
-  faulty_from_same from = refl
-
-  group_same : (d : Drains) → with_group q d ≡ with_group r d
-  group_same d =
-      ap₂ (λ (b : Bool) (gs : List Deferred). if not d.ring || b then with_deferred d (length r.accepted) d.deferred else with_ring (with_deferred d (length r.accepted) gs) d.group)
-      (faulty_from_same d.from) (going_same (deferred_with d (length r.accepted)))
-
--- What a call makes of the drains.
+pub going_same : (r : Requests) (s c : List ℕ) (e : List Ending) → EndSame r e → (groups : List Deferred)
+    → after_going_on (listed r s c e) groups ≡ after_going_on r groups
+unfolding is_alone
+going_same r s c e same groups = simp same
 
 -- the same with other lists
 abbrev pub relisted : LinuxRequests → List ℕ → List ℕ → List Ending → LinuxRequests
@@ -41,33 +14,15 @@ relisted l s c e = record l { requests = listed l.requests s c e }
 
 accepted_same : (l : LinuxRequests) (x : Sqe) (s c : List ℕ) (e : List Ending) → EndSame l.requests e
     → with_accepted (relisted l s c e) x ≡ relisted (with_accepted l x) s c e
-accepted_same l x s c e a =
-    let r : Requests = manual.with_accepted l.requests x in
-    let d : Drains = with_last_entry r (length l.requests.accepted) l.drains in
-    ap (λ (y : Drains). record { requests = listed r s c e; drains = if is_linked x then d else y }) (group_same r s c e a d)
+unfolding is_alone is_faulty_from
+accepted_same l x s c e a = simp a
 
-entries_same : (xs : List Sqe) (l : LinuxRequests) (s c : List ℕ) (e : List Ending) → EndSame l.requests e
-    → with_entries (relisted l s c e) xs ≡ relisted (with_entries l xs) s c e
-entries_same [] l s c e a = refl
-entries_same (x ∷ xs) l s c e a =
-    ap (λ (y : LinuxRequests). with_entries y xs) (accepted_same l x s c e a)
-    ∙ entries_same xs (with_accepted l x) s c e a
-
-entries_keep : (xs : List Sqe) (l : LinuxRequests) (e : List Ending) → EndSame l.requests e
-    → EndSame (with_entries l xs).requests e
-entries_keep [] l e a = a
-entries_keep (x ∷ xs) l e a =
-    entries_keep xs (with_accepted l x) e a
-
-cut_same : (l : LinuxRequests) (s c : List ℕ) (e : List Ending) → EndSame l.requests e
-    → (with_cut (relisted l s c e)).drains ≡ (with_cut l).drains
-cut_same l s c e a =
-    let r : Requests = manual.with_cut l.requests in
-    ap (λ (y : Drains). if nat_lt l.drains.from (length r.accepted) then y else l.drains) (group_same r s c e a l.drains)
-
+-- what a call makes of the drains
 pub called_same : (l : LinuxRequests) (s c : List ℕ) (e : List Ending) → EndSame l.requests e
     → (xs : List Sqe)
     → (with_cut (with_entries (relisted l s c e) xs)).drains ≡ (with_cut (with_entries l xs)).drains
-called_same l s c e a xs =
-    ap (λ (y : LinuxRequests). (with_cut y).drains) (entries_same xs l s c e a)
-    ∙ cut_same (with_entries l xs) s c e (entries_keep xs l e a)
+unfolding is_alone is_faulty_from
+called_same l s c e a [] = simp a
+called_same l s c e a (x ∷ xs) =
+    ap (λ (y : LinuxRequests). (with_cut (with_entries y xs)).drains) (accepted_same l x s c e a)
+    ∙ called_same (with_accepted l x) s c e a xs

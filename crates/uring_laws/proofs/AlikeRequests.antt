@@ -1,6 +1,6 @@
--- Requests with other lists, of which the definitions read the same, stand alike by the manual pages' rules: each reads who started, was doomed by a cancel, ended and failed, and nothing else of them.
-use Rattle.std.proofs.Common.{◌≡◌, ℕ, zero, suc, ◌==◌, ℤ, Bool, not, ◌&&◌, ◌||◌, nat_lt, List, length, Option, refl, ap, ap₂, ◌<◌, arith}
-use Rattle.uring_laws.proofs.Common.{Ending, HaveSame, Requests, all_below, cancel_result, chosen_by, has_ended, has_failed, has_started, is_after_failure, is_cancelled, is_candidate, is_doomed, is_in_faulty_group, is_issuable, is_joined, is_outstanding, is_ready, is_running, is_target, least_below_same, list_any, next_of, result_for, some_member, target_of, targets_of}
+-- Requests with other lists, of which the definitions read the same: each reads who started, was doomed by a cancel, ended and failed, and nothing else of them. So cancels choose the same by the manual pages' rules.
+use Rattle.std.proofs.Common.{◌≡◌, ℕ, zero, suc, ◌==◌, ℤ, Bool, List, Option, refl, ◌<◌, arith}
+use Rattle.uring_laws.proofs.Common.{Ending, HaveSame, Requests, all_below, chosen_by, has_ended, has_failed, has_started, is_after_failure, is_cancelled, is_candidate, is_doomed, is_joined, is_running, is_target, list_any, result_for, some_member, target_of, targets_of}
 
 -- Requests with other lists of who started, was doomed and ended.
 
@@ -35,49 +35,12 @@ module _ (r : Requests) (s c : List ℕ) (e : List Ending) (a : ReadSame r s c e
   abbrev q : Requests
   q = listed r s c e
 
-  pub outstanding_same : (n : ℕ) → is_outstanding q n ≡ is_outstanding r n
-  outstanding_same n = ap (λ b. nat_lt n (length r.accepted) && not b) (a.ended n)
-
   pub running_same : (n : ℕ) → is_running q n ≡ is_running r n
-  running_same n = ap₂ (λ x y. x && not y) (a.started n) (a.ended n)
+  running_same n = simp (a.started, a.ended)
 
-  pub after_same : (n : ℕ) → is_after_failure q n ≡ is_after_failure r n
-  unfolding is_after_failure is_joined
-  after_same n = grind arith
-
-  pub doomed_same : (n : ℕ) → is_doomed q n ≡ is_doomed r n
-  unfolding is_doomed some_member is_joined
-  doomed_same n = ap₂ (λ x y. is_in_faulty_group r n || x || y) (after_same n) (a.cancelled n)
-
-  pub ready_same : (n : ℕ) → is_ready q n ≡ is_ready r n
-  unfolding is_ready some_member is_joined
-  ready_same n = grind arith
-
-  candidate_same : (n m : ℕ) → is_candidate q n m ≡ is_candidate r n m
-  candidate_same n m = grind (arith, doomed_same)
-
-  target_same : (n m : ℕ) → is_target q n m ≡ is_target r n m
-  target_same n m = ap₂ (λ x y. x && not y) (candidate_same n m) (running_same m)
-
-  one_same : (n : ℕ) → target_of q n ≡ target_of r n
-  unfolding target_of
-  one_same n = least_below_same (is_candidate q n) (is_candidate r n) (length r.accepted) (λ k lt. candidate_same n k)
-
-  all_same : (n : ℕ) → targets_of q n ≡ targets_of r n
-  unfolding targets_of
-  all_same n = all_below_same (is_target q n) (is_target r n) (length r.accepted) (λ k lt. target_same n k)
-
-  found_same : (o : Option ℕ) → result_for q o ≡ result_for r o
+  pub found_same : (o : Option ℕ) → result_for q o ≡ result_for r o
   found_same o = grind arith
 
-  pub cancel_same : (n : ℕ) → cancel_result q n ≡ cancel_result r n
-  cancel_same n = grind (arith, all_same, one_same)
-
   pub chosen_same : (n : ℕ) (res : ℤ) → chosen_by q n res ≡ chosen_by r n res
-  chosen_same n res = grind (arith, all_same, one_same)
-
-  issuable_same : (n : ℕ) → is_issuable q n ≡ is_issuable r n
-  issuable_same n = grind (arith, doomed_same, ready_same)
-
-  pub next_same : next_of q ≡ next_of r
-  next_same = least_below_same (is_issuable q) (is_issuable r) (length r.accepted) (λ k lt. issuable_same k)
+  unfolding targets_of target_of is_doomed is_after_failure some_member is_joined
+  chosen_same n res = simp (a.started, a.cancelled, a.ended, a.failed, is_candidate, is_target)

@@ -1,6 +1,6 @@
 -- Operations that stay apart don't meet: `apart_dont_meet`. What one leaves of a file, the other finds as it was, and both orders leave the same bytes.
-use Rattle.std.proofs.Common.{◌≡◌, ℕ, zero, suc, ◌+◌, ◌-◌, ◌≤◌, ℤ, pos, Bool, true, cond, List, [], ◌∷◌, length, take, drop, get_or, refl, sym, ap, arith, ◌⊎◌, inl, inr}
-use Rattle.uring_laws.proofs.Common.{ApartDontMeet, FileContents, Fsync, Op, Read, Write, after, are_disjoint, are_on_others, cases_lt, cond-true, ended_with, get_or-drop, int_eq, leb-true, length-drop, length-take, on_file, or_cases, overwritten, read_outcome, result_of, slice_set, stay_apart, stay_apart_on_one, true≢false, with_changed, with_writes_synced, written}
+use Rattle.std.proofs.Common.{◌≡◌, ℕ, zero, suc, ◌+◌, ◌-◌, ◌≤◌, ℤ, Bool, true, cond, List, [], ◌∷◌, length, drop, get_or, refl, sym, ap, arith, ◌⊎◌}
+use Rattle.uring_laws.proofs.Common.{ApartDontMeet, FileContents, Fsync, Op, Read, Write, after, are_on_others, cond-true, ended_with, get_or-drop, leb-true, length-drop, length-take, on_file, or_cases, overwritten, read_outcome, result_of, slice_set, stay_apart_on_one, true≢false, with_changed, with_writes_synced}
 use Rattle.std.proofs.lemmas.Grind.{same_number_lists}
 use Rattle.uring_files.proofs.OperationCases.{cases}
 use Rattle.uring_files.proofs.Overwrites.{is_written_over}
@@ -18,17 +18,12 @@ some_over old a b with_a with_b left right o p wa wb wl wr apart = grind (arith,
 
 over_either : (old a b : List ℕ) (o p : ℕ) → (o + length a ≤ p) ⊎ (p + length b ≤ o)
     → overwritten (overwritten old o a) p b ≡ overwritten (overwritten old p b) o a
-over_either old a b o p apart = elim (cases_lt 0 (length a)) [
-  | inr none ↦ grind arith
-  | inl some ↦
-      elim (cases_lt 0 (length b)) [
-        | inr none ↦ grind arith
-        | inl more ↦
-            let x : 1 ≤ length a = omega arith in
-            let y : 1 ≤ length b = omega arith in
-            some_over old a b (overwritten old o a) (overwritten old p b) (overwritten (overwritten old o a) p b) (overwritten (overwritten old p b) o a) o p (is_written_over old a o x) (is_written_over old b p y) (is_written_over (overwritten old o a) b p y) (is_written_over (overwritten old p b) a o x) apart
-      ]
-]
+over_either old [] b o p apart = refl
+over_either old (x ∷ a) [] o p apart = refl
+over_either old (x ∷ a) (y ∷ b) o p apart =
+    let f : 1 ≤ length (x ∷ a) = omega arith in
+    let k : 1 ≤ length (y ∷ b) = omega arith in
+    some_over old (x ∷ a) (y ∷ b) _ _ _ _ o p (is_written_over old (x ∷ a) o f) (is_written_over old (y ∷ b) p k) (is_written_over (overwritten old o (x ∷ a)) (y ∷ b) p k) (is_written_over (overwritten old p (y ∷ b)) (x ∷ a) o f) apart
 
 -- what lies after the bytes that were written
 after_over : (old new : List ℕ) (off at : ℕ) → off + length new ≤ at
@@ -48,66 +43,37 @@ set_either (x ∷ xs) zero (suc j) d f g same = refl
 set_either (x ∷ xs) (suc i) zero d f g same = refl
 set_either (x ∷ xs) (suc i) (suc j) d f g same = grind (arith, (set_either xs i j d f g (λ e. same (ap suc e))))
 
-changed_either : (files : List FileContents) (fd other : ℤ) (f g : FileContents → FileContents)
-    → (fd ≡ other → (x : FileContents) → g (f x) ≡ f (g x))
-    → with_changed (with_changed files fd f) other g ≡ with_changed (with_changed files other g) fd f
-changed_either files fd other f g same = grind (arith, set_either)
-
 -- the same where each is made if some test is passed
 chosen_either : (a b : Bool) (files : List FileContents) (fd other : ℤ) (f g : FileContents → FileContents)
     → (fd ≡ other → (x : FileContents) → g (f x) ≡ f (g x))
     → cond b (with_changed (cond a (with_changed files fd f) files) other g) (cond a (with_changed files fd f) files)
     ≡ cond a (with_changed (cond b (with_changed files other g) files) fd f) (cond b (with_changed files other g) files)
-chosen_either true true files fd other f g same = changed_either files fd other f g same
+chosen_either true true files fd other f g same = grind (arith, set_either)
 chosen_either _ _ files fd other f g same = refl
 
 -- What an operation gives where another was carried out.
-
-few : (len : ℕ) (bytes : List ℕ) → length (take len bytes) ≤ len
-few len bytes = omega (arith, length-take len bytes)
 
 -- On different files, whichever operations they are.
 
 gives_on_one : (files : List FileContents) (d e : Op) (res : ℤ) → stay_apart_on_one d e ≡ true
     → result_of (after files d res) e ≡ result_of files e
 gives_on_one files d e res apart =
-    grind (arith, read_outcome, leb-true, few, ended_with, with_writes_synced, true≢false, after_over, on_file, changed_same, changed_other)
-
-gives_same : (files : List FileContents) (d e : Op) (res : ℤ) → stay_apart d e ≡ true
-    → result_of (after files d res) e ≡ result_of files e
-gives_same files d e res apart = grind (arith, gives_on_one, ends_apart, others_stay)
+    grind (arith, read_outcome, leb-true, length-take, ended_with, with_writes_synced, true≢false, after_over, on_file, changed_same, changed_other)
 
 -- Which files both orders leave.
 
-written_either : (file : FileContents) (a b : List ℕ) (o p len count : ℕ) → length a ≤ len
-    → length b ≤ count → are_disjoint o len p count ≡ true
-    → written p b (written o a file) ≡ written o a (written p b file)
-written_either file a b o p len count few_a few_b apart = grind (arith, over_either, or_cases)
-
 leaves_elsewhere : (files : List FileContents) (d e : Op) (x y : ℤ) → are_on_others d e ≡ true
     → after (after files d x) e y ≡ after (after files e y) d x
-leaves_elsewhere files d e x y apart = elim (cases d) [
-  | inl idle ↦ grind arith
-  | inr one ↦
-      elim (cases e) [
-        | inl idle ↦ grind arith
-        | inr two ↦ grind (arith, cond, chosen_either)
-      ]
-]
+leaves_elsewhere files d e x y apart = grind (arith, (cases d), (cases e), cond, chosen_either)
 
 leaves_on_one : (files : List FileContents) (d e : Op) (x y : ℤ) → stay_apart_on_one d e ≡ true
     → after (after files d x) e y ≡ after (after files e y) d x
 leaves_on_one files (Read fd off len) e x y apart = refl
 leaves_on_one files d (Read fd off len) x y apart = refl
 leaves_on_one files (Write fd off len bytes) (Write other at count more) x y apart =
-    chosen_either (int_eq x (pos len)) (int_eq y (pos count)) files fd other (written off (take len bytes)) (written at (take count more))
-    (λ same file. written_either file (take len bytes) (take count more) off at len count (few len bytes) (few count more) apart)
+    chosen_either _ _ files fd other _ _ (λ same file. grind (arith, over_either, or_cases, length-take))
 leaves_on_one files (Fsync fd) (Fsync other) x y apart = grind (arith, chosen_either)
 leaves_on_one files d e x y apart = absurd (true≢false (sym apart))
 
-leaves_same : (files : List FileContents) (d e : Op) (x y : ℤ) → stay_apart d e ≡ true
-    → after (after files d x) e y ≡ after (after files e y) d x
-leaves_same files d e x y apart = grind (arith, leaves_elsewhere, leaves_on_one)
-
 pub apart_dont_meet : ApartDontMeet
-apart_dont_meet files d e x y apart one two = grind (arith, gives_same, leaves_same)
+apart_dont_meet files d e x y apart one two = grind (arith, gives_on_one, ends_apart, others_stay, leaves_elsewhere, leaves_on_one)

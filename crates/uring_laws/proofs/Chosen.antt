@@ -1,6 +1,6 @@
 -- Whom cancels chose, read off a history, by the manual pages' rules.
-use Rattle.std.proofs.Common.{◌≡◌, ℕ, ◌==◌, ℤ, true, false, List, [], ◌∷◌, ◌++◌, cond, refl, ap, ◌∙◌, ◌⊎◌, inl, inr, arith}
-use Rattle.uring_laws.proofs.Common.{Answer, Chose, Event, History, IsChosenIn, IsLawfulApart, Move, Requests, Setup, Step, World, all_success, any_both, by_manual, cancel_result, chose, chosen_by, doomed_fails, ends_cancel, is_cancelled, move_of, no_bytes, or_left, or_right, outstanding_tells, requests_of, target_there, with_issued_end, world}
+use Rattle.std.proofs.Common.{◌≡◌, ℕ, ◌==◌, ℤ, true, false, List, [], ◌∷◌, ◌++◌, cond, refl, ◌⊎◌, inl, inr, arith}
+use Rattle.uring_laws.proofs.Common.{Answer, Chose, History, IsChosenIn, IsLawfulApart, Move, Requests, Setup, Step, all_success, any_both, by_manual, cancel_result, chose, chosen_by, doomed_fails, ends_cancel, is_cancelled, move_of, no_bytes, or_left, or_right, outstanding_tells, requests_of, target_there, with_issued_end, world}
 use Rattle.uring_core.proofs.Moves.{ends_doomed}
 use Rattle.std.proofs.lemmas.List.Folds.{list_any-append}
 use Rattle.uring_core.specs.declared.step.Step.TheVariants as step
@@ -8,52 +8,28 @@ use Rattle.uring_core.specs.declared.answer.Answer.TheVariants as answer
 use Rattle.uring_laws.proofs.Growth.{event_grows}
 
 -- where a request is newly chosen, the event is the end of a cancel
-record IsChoosing (w : World) (s : Step) (a : Answer) (m : ℕ) : Type 0 where
-  number : ℕ
-  res : ℤ
-  now : Chose w.requests number res m
-  step_is : s ≡ step.Issue number
-  answer_is : a ≡ answer.Ended res no_bytes
-
-new_cancel : (w : World) (s : Step) (a : Answer) (later : Requests) → Move false (requests_of w) s a later
+new_cancel : (g : Setup) (h : History) (s : Step) (a : Answer) (later : Requests) → Move false (requests_of (world (by_manual g) h)) s a later
     → (m : ℕ) → is_cancelled later m ≡ true
-    → (is_cancelled w.requests m ≡ true) ⊎ IsChoosing w s a m
-new_cancel w s a later (ends_doomed n outstanding) m gone = grind (arith, any_both, doomed_fails)
-new_cancel w s a later (ends_cancel n outstanding spared ready cancel) m gone =
-    elim (any_both (λ k. k == m) w.requests.cancelled (chosen_by w.requests n (cancel_result w.requests n)) gone) [
+    → (is_cancelled (world (by_manual g) h).requests m ≡ true) ⊎ IsChosenIn (by_manual g) ((s, a) ∷ h) m
+new_cancel g h s a later (ends_doomed n outstanding) m gone = grind (arith, any_both, doomed_fails)
+new_cancel g h s a later (ends_cancel n outstanding spared ready cancel) m gone =
+    let r : Requests = (world (by_manual g) h).requests in
+    let res : ℤ = cancel_result r n in
+    elim (any_both (λ k. k == m) r.cancelled (chosen_by r n res) gone) [
       | inl old ↦ inl old
-      | inr new ↦ inr (record { number = n; res = cancel_result w.requests n; now = (chose w.requests n (cancel_result w.requests n) m new).1; step_is = refl; answer_is = refl })
+      | inr new ↦ inr (record { after = []; before = h; number = n; res = res; bytes = no_bytes; split = refl; chose = (chose r n res m new).1 })
     ]
-new_cancel w s a later _ m gone = inl gone
-
-one_later : (g : Setup) (e : Event) (h : History) (m : ℕ) → IsChosenIn (by_manual g) h m
-    → IsChosenIn (by_manual g) (e ∷ h) m
-one_later g e h m c = record {
-  after = e ∷ c.after;
-  before = c.before;
-  number = c.number;
-  res = c.res;
-  bytes = c.bytes;
-  split = ap (λ xs. e ∷ xs) c.split;
-  chose = c.chose;
-}
+new_cancel g h s a later _ m gone = inl gone
 
 pub chosen_in : (g : Setup) (h : History) → IsLawfulApart (by_manual g) h → (m : ℕ)
     → is_cancelled (world (by_manual g) h).requests m ≡ true → IsChosenIn (by_manual g) h m
 chosen_in g [] lawful m gone = absurd (let f : false ≡ true = gone in cc)
 chosen_in g ((s, a) ∷ before) lawful m gone =
-    elim (new_cancel (world (by_manual g) before) s a _ (move_of (by_manual g) s a before lawful) m gone) [
-      | inl old ↦ one_later (by_manual g) (s, a) before m (chosen_in (by_manual g) before lawful.1 m old)
-      | inr new ↦
-          record {
-            after = [];
-            before = before;
-            number = new.number;
-            res = new.res;
-            bytes = no_bytes;
-            split = ap (λ x. (x, a) ∷ before) new.step_is ∙ ap (λ b. (step.Issue new.number, b) ∷ before) new.answer_is;
-            chose = new.now;
-          }
+    elim (new_cancel g before s a _ (move_of (by_manual g) s a before lawful) m gone) [
+      | inl old ↦
+          let c = chosen_in g before lawful.1 m old in
+          record { after = (s, a) ∷ c.after; before = c.before; number = c.number; res = c.res; bytes = c.bytes; split = rw c.split; chose = c.chose }
+      | inr new ↦ new
     ]
 
 dooms_now : (r : Requests) (n : ℕ) (res : ℤ) (m : ℕ) → Chose r n res m
@@ -66,8 +42,7 @@ stays_chosen : (g : Setup) (after before : History) (n : ℕ) (res : ℤ) (m : �
     → is_cancelled (world (by_manual g) (after ++ (step.Issue n, answer.Ended res bytes) ∷ before)).requests m
     ≡ true
 stays_chosen g [] before n res m bytes lawful chose = grind (arith, dooms_now)
-stays_chosen g ((s, a) ∷ after) before n res m bytes lawful chose =
-    (event_grows (by_manual g) s a (after ++ (step.Issue n, answer.Ended res bytes) ∷ before) lawful).stays_cancelled m (stays_chosen (by_manual g) after before n res m bytes lawful.1 chose)
+stays_chosen g ((s, a) ∷ after) before n res m bytes lawful chose = (event_grows (by_manual g) s a _ lawful).stays_cancelled m (stays_chosen g after before n res m bytes lawful.1 chose)
 
 pub chosen_stays : (g : Setup) (h : History) → IsLawfulApart (by_manual g) h → (m : ℕ) → IsChosenIn (by_manual g) h m
     → is_cancelled (world (by_manual g) h).requests m ≡ true

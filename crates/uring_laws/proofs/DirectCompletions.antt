@@ -1,8 +1,8 @@
 -- The completion ring's lists, read off a history.
-use Rattle.std.proofs.Common.{◌≡◌, [], ◌∷◌, refl, rules}
-use Rattle.uring_laws.proofs.Common.{Answer, Completions, Event, History, IsLawfulApart, Setup, Step, World, cond_both, is_load_cq_tail, posts, world}
+use Rattle.std.proofs.Common.{◌≡◌, [], ◌∷◌, refl, rules, arith}
+use Rattle.uring_laws.proofs.Common.{Answer, Completions, Event, History, IsLawfulApart, Setup, Step, World, is_load_cq_tail, world}
 use Rattle.uring_laws.specs.Direct.{before_last, reaps as reaps_in, stored_head, flushed_head}
-use Rattle.uring_core.proofs.CompletionMoves.{CompletionMove, stays, ends, flushes, sees_tail, reaps, stores_head, completion_move, IsOffCompletions}
+use Rattle.uring_core.proofs.CompletionMoves.{CompletionMove, stays, ends, completion_move, IsOffCompletions}
 
 pub record DirectCompletions (g : Setup) (h : History) (l : Completions) : Type 0 where
   pub reaped : l.reaped ≡ reaps_in h
@@ -20,12 +20,8 @@ completions_direct : (g : Setup) (h : History) (w : World) (s : Step) (a : Answe
     → DirectCompletions g ((s, a) ∷ h) v.completions
 completions_direct g h w s a v (stays _ _ l r is_closed off no_end left) is i = search rules
 completions_direct g h w s a v (ends _ _ n res bytes r off told same_accepted one_more) is i =
-    let k = still_direct g h (s, a) w.completions off i in
-    cond_both (posts g.linux w.requests n res) _ _ (DirectCompletions g ((s, a) ∷ h)) (λ _. assumption k) (λ _. k)
-completions_direct g h w s a v (flushes moved) is i = assumption i
-completions_direct g h w s a v (sees_tail tail) is i = search rules
-completions_direct g h w s a v (reaps completion next) is i = search rules
-completions_direct g h w s a v (stores_head head) is i = search rules
+    grind (arith, (still_direct g h (s, a) w.completions off i))
+completions_direct g h w s a v _ is i = search rules
 
 pub direct_completions : (g : Setup) (h : History) → IsLawfulApart g h
     → DirectCompletions g h (world g h).completions

@@ -1,40 +1,15 @@
 -- How many completions were put into the ring, read off a history.
-use Rattle.std.proofs.Common.{◌≡◌, ℕ, ◌+◌, ◌-◌, ◌==◌, min, nat_lt, Bool, ◌&&◌, [], ◌∷◌, length, Some, None, is_some, if◌then◌else◌, cond, refl, ap₂, arith}
-use Rattle.uring_laws.proofs.Common.{Answer, Completions, Cqe, Event, History, IsLawfulApart, Setup, Step, World, before_last, completion_for, cond_both, entry_of, flushed_head, posted_count, posts, posts_told, put_count, stored_head, with_posted, world}
+use Rattle.std.proofs.Common.{◌≡◌, Bool, [], ◌∷◌, refl, arith}
+use Rattle.uring_laws.proofs.Common.{Answer, Event, History, IsLawfulApart, Setup, Step, World, before_last, posts_told, put_count, world}
 use Rattle.uring_core.proofs.CompletionMoves.{CompletionMove, stays, ends, flushes, completion_move}
 use Rattle.uring_laws.proofs.DirectCompletions.{direct_completions}
-
--- the counts that a put looks at, read off a history
-record PutFacts (g : Setup) (h : History) : Type 0 where
-  posted : length (world g h).completions.posted ≡ posted_count g h
-  loaded : (world g h).completions.seen_head ≡ flushed_head h
-  stored : (world g h).completions.head ≡ stored_head h
-
--- how many are put once a completion is posted, or skipped
-end_put : (size : ℕ) (l : Completions) (told_so : Bool) (c : Cqe) (there posted loaded : ℕ)
-    → l.put ≡ there → length l.posted ≡ posted → l.seen_head ≡ loaded
-    → (cond told_so (with_posted size l c) l).put
-    ≡ (if is_some (cond told_so (Some c) None) && (there == posted) && nat_lt (there - loaded) size then there + 1 else there)
-end_put size l told_so c there posted loaded put_is posted_is loaded_is = grind arith
-
-put_direct : (g : Setup) (h : History) (s : Step) (a : Answer) (v : World)
-    → CompletionMove g (world g h) s a v → PutFacts g h
-    → (world g h).completions.put ≡ put_count g h → v.completions.put ≡ put_count g ((s, a) ∷ h)
-put_direct g h s a v (stays _ _ l r is_closed off no_end left) f i =
-    rw (off.flushes, no_end) i
-put_direct g h s a v (ends _ _ n res bytes r off told same_accepted one_more) f i =
-    rw (off.flushes, told)
-    (end_put g.cq (world g h).completions (posts g.linux (world g h).requests n res) (completion_for (entry_of (world g h).requests n) res bytes) (put_count g h) (posted_count g h) (flushed_head h) i f.posted f.loaded)
-put_direct g h s a v (flushes moved) f i =
-    ap₂ (λ posted head. min posted (head + g.cq)) f.posted f.stored
-put_direct g h s a v _ f i = i
 
 -- The completions that the events told to be posted.
 
 posts_direct : (g : Setup) (h : History) (s : Step) (a : Answer) (v : World)
     → CompletionMove g (world g h) s a v → (world g h).completions.posted ≡ posts_told g h
     → v.completions.posted ≡ posts_told g ((s, a) ∷ h)
-posts_direct g h s a v (stays _ _ l r is_closed off no_end left) i = grind arith
+posts_direct g h s a v (stays _ _ l r is_closed off no_end left) i = rw no_end i
 posts_direct g h s a v (ends _ _ n res bytes r off told same_accepted one_more) i = grind arith
 posts_direct g h s a v _ i = i
 
@@ -43,16 +18,24 @@ pub posted_told : (g : Setup) (h : History) → IsLawfulApart g h
 posted_told g [] lawful = refl
 posted_told g ((s, a) ∷ before) lawful = posts_direct g before s a _ (completion_move g s a before lawful) (posted_told g before lawful.1)
 
-put_facts : (g : Setup) (h : History) → IsLawfulApart g h → PutFacts g h
-put_facts g h lawful = grind (arith, direct_completions, posted_told)
+-- How many were put.
+
+put_direct : (g : Setup) (h : History) (s : Step) (a : Answer) (v : World) → IsLawfulApart g h
+    → CompletionMove g (world g h) s a v
+    → (world g h).completions.put ≡ put_count g h → v.completions.put ≡ put_count g ((s, a) ∷ h)
+put_direct g h s a v lawful (stays _ _ l r is_closed off no_end left) i = rw (off.flushes, no_end) i
+put_direct g h s a v lawful (ends _ _ n res bytes r off told same_accepted one_more) i =
+    grind (arith, (direct_completions g h lawful), (posted_told g h lawful))
+put_direct g h s a v lawful (flushes moved) i = rw (posted_told g h lawful, (direct_completions g h lawful).stored)
+put_direct g h s a v lawful _ i = i
 
 pub direct_put : (g : Setup) (h : History) → IsLawfulApart g h
     → (world g h).completions.put ≡ put_count g h
 direct_put g [] lawful = refl
-direct_put g ((s, a) ∷ before) lawful = put_direct g before s a _ (completion_move g s a before lawful) (put_facts g before lawful.1) (direct_put g before lawful.1)
+direct_put g ((s, a) ∷ before) lawful = put_direct g before s a _ lawful.1 (completion_move g s a before lawful) (direct_put g before lawful.1)
 
 -- what stands before the last event of a kind is lawful
 pub lawful_last : (g : Setup) (is_kind : Event → Bool) (h : History) → IsLawfulApart g h
     → IsLawfulApart g (before_last is_kind h)
 lawful_last g is_kind [] lawful = tt
-lawful_last g is_kind ((s, a) ∷ before) lawful = cond_both (is_kind (s, a)) before (before_last is_kind before) (IsLawfulApart g) (λ _. lawful.1) (λ _. lawful_last g is_kind before lawful.1)
+lawful_last g is_kind ((s, a) ∷ before) lawful = grind (arith, (lawful_last g is_kind before lawful.1))

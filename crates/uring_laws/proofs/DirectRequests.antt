@@ -1,6 +1,6 @@
 -- The accepted entries, the cuts and the completions posted, read off a history.
-use Rattle.std.proofs.Common.{◌≡◌, ℕ, ◌+◌, ◌<◌, ◌==◌, true, List, [], ◌∷◌, ◌++◌, length, take, sum, Some, None, get_or, cond, refl, sym, ap, ap₂, ◌∙◌, arith, append-nil, take-add}
-use Rattle.uring_laws.proofs.Common.{Answer, Completions, Ending, History, IsLawfulApart, IsSound, Setup, Sqe, Step, Submission, SubmissionMove, World, accepted, accepted_by, by_manual, closes, closes_ring, completion_of, cons_option, cut_counts, entries_of, eq-eqb, filter_map, filter_map-append, get_or_append_left, length-append, list_any, or_left, or_right, places_from, posts_completion, sound_of, stays, stores, submission_move, sum_by-cons, sum_by_push, sums_from, take-append-le, taken, told, user_data_of, with_end, world, zero_entry}
+use Rattle.std.proofs.Common.{◌≡◌, ℕ, ◌+◌, ◌<◌, ◌==◌, true, List, [], ◌∷◌, ◌++◌, length, sum, refl, arith, append-nil, take-add}
+use Rattle.uring_laws.proofs.Common.{Answer, Ending, History, IsLawfulApart, IsSound, Setup, Sqe, Step, SubmissionMove, World, accepted, accepted_by, by_manual, closes, closes_ring, completion_of, cut_counts, eq-eqb, filter_map, filter_map-append, get_or_append_left, length-append, list_any, or_left, or_right, sound_of, stays, stores, submission_move, sum_by-cons, sum_by_push, sums_from, take-append-le, told, world, zero_entry}
 use Rattle.uring_core.proofs.CompletionMoves.{CompletionMove, stays as stays_off, ends, completion_move}
 
 pub record DirectRequests (h : History) (w : World) : Type 0 where
@@ -9,19 +9,12 @@ pub record DirectRequests (h : History) (w : World) : Type 0 where
   pub cuts : w.requests.cuts ≡ cut_counts h
   pub shut : w.is_closed ≡ list_any closes_ring h
 
--- the positions of a call more
-taken_more : (l : Submission) (count : ℕ)
-    → entries_of (take (sum (l.calls ++ count ∷ [])) l.published)
-    ≡ entries_of (take (taken l) l.published) ++ entries_of (places_from l count)
-taken_more l count = grind (arith, sum_by_push, take-add, filter_map-append)
-
 -- a sum more
 sums_push : (before : ℕ) (xs : List ℕ) (x : ℕ)
     → sums_from before (xs ++ x ∷ []) ≡ sums_from before xs ++ (before + (sum xs + x)) ∷ []
-sums_push before [] x = ap (λ n. n ∷ []) (omega arith)
+sums_push before [] x = grind arith
 sums_push before (y ∷ xs) x =
-    ap (λ ns. (before + y) ∷ ns)
-    (sums_push (before + y) xs x ∙ ap (λ n. sums_from (before + y) xs ++ n ∷ []) (omega (arith, sum_by-cons (λ k. k) y xs)))
+    grind (arith, (sum_by-cons (λ k. k) y xs), (sums_push (before + y) xs x))
 
 -- the entries accepted later are those of no end so far
 same_posts : (accepted more : List Sqe) (es : List Ending)
@@ -29,17 +22,7 @@ same_posts : (accepted more : List Sqe) (es : List Ending)
     → filter_map (completion_of (accepted ++ more)) es ≡ filter_map (completion_of accepted) es
 same_posts accepted more [] within = refl
 same_posts accepted more (e ∷ es) within =
-    ap₂ cons_option
-    (ap (λ entry. cond (posts_completion entry e.res) (Some (record { user_data = user_data_of entry; res = e.res; payload = e.bytes })) None)
-    (get_or_append_left accepted more zero_entry e.number (within e.number (or_left (e.number == e.number) _ (eq-eqb e.number _ refl)))))
-    (same_posts accepted more es (λ n there. within n (or_right (e.number == n) _ there)))
-
--- one end more
-end_posted : (size : ℕ) (l : Completions) (accepted : List Sqe) (es : List Ending) (e : Ending)
-    → l.posted ≡ filter_map (completion_of accepted) es
-    → (with_end size l (get_or accepted e.number zero_entry) e.res e.bytes).posted
-    ≡ filter_map (completion_of accepted) (es ++ e ∷ [])
-end_posted size l accepted es e posted = grind (arith, append-nil, filter_map-append)
+    rw (get_or_append_left accepted more zero_entry e.number (within e.number (or_left (e.number == e.number) _ (eq-eqb e.number _ refl))), same_posts accepted more es (λ n there. within n (or_right (e.number == n) _ there)))
 
 -- By the manual pages' rules the entries alone tell what was posted.
 
@@ -49,8 +32,7 @@ posted_direct : (g : Setup) (w : World) (s : Step) (a : Answer) (v : World)
     → v.completions.posted ≡ filter_map (completion_of v.requests.accepted) v.requests.ended
 posted_direct g w s a v (stays_off _ _ l r is_closed off no_end left) sound i = grind (arith, same_posts)
 posted_direct g w s a v (ends _ _ n res bytes r off told same_accepted one_more) sound i =
-    end_posted g.cq w.completions w.requests.accepted w.requests.ended (record { number = n; res = res; bytes = bytes }) i
-    ∙ ap₂ (λ accepted ended. filter_map (completion_of accepted) ended) (sym same_accepted) (sym one_more)
+    rw (same_accepted, one_more) (grind (arith, append-nil, filter_map-append))
 posted_direct g w s a v _ sound i = i
 
 pub direct_posted : (g : Setup) (h : History) → IsLawfulApart (by_manual g) h
@@ -66,7 +48,7 @@ accepted_direct : (g : Setup) (h : History) (w : World) (s : Step) (a : Answer) 
 accepted_direct g h w s a v (stays _ _ r c is_closed off left) sound i = grind arith
 accepted_direct g h w s a v (stores tail) sound i = grind (arith, take-append-le)
 accepted_direct g h w s a v (closes accepted missed head call opened all counted) sound i =
-    grind (arith, length-append, taken_more, sum_by_push, sums_push)
+    grind (arith, length-append, sum_by_push, take-add, filter_map-append, sums_push)
 accepted_direct g h w s a v _ sound i = assumption i
 
 pub direct_requests : (g : Setup) (h : History) → IsLawfulApart g h → DirectRequests h (world g h)

@@ -1,9 +1,9 @@
 -- The submission ring's lists, read off a history.
-use Rattle.std.proofs.Common.{◌≡◌, ℕ, ◌+◌, ◌≤◌, true, false, eqb, List, [], ◌∷◌, ◌++◌, length, map, count_by, Option, Some, None, if◌then◌else◌, refl, subst, ap, ap₂, ◌∙◌, arith, append-nil, append_assoc, rules}
-use Rattle.uring_laws.proofs.Common.{Answer, Call, Event, History, IsLawfulApart, Setup, Sqe, Step, SubmissionMove, World, begins, call_counts, closes, closes_call, drops, entries_taken, fills, length_push, loaded_head, loads, ltb-false, map-append, open_call, open_count, open_taken, opened_by, opens_call, place_of, published_words, since_last, slot_content, sound_of, staged_words, stages, stays, stores, submission_move, taken_entries, taken_since, takes, takes_last, takes_position, world}
+use Rattle.std.proofs.lemmas.Grind.{common_steps}
+use Rattle.std.proofs.Common.{◌≡◌, ℕ, ◌+◌, ◌≤◌, true, false, eqb, List, [], ◌∷◌, ◌++◌, length, map, count_by, Option, Some, None, if◌then◌else◌, refl, subst, arith, append-nil, append_assoc, rules}
+use Rattle.uring_laws.proofs.Common.{Answer, Call, Event, History, IsLawfulApart, Setup, Sqe, Step, SubmissionMove, World, begins, call_counts, closes, closes_call, drops, entries_taken, length_push, loaded_head, ltb-false, map-append, open_call, open_count, open_taken, opened_by, opens_call, place_of, published_words, slot_content, sound_of, staged_words, stages, stays, stores, submission_move, taken_entries, taken_since, takes, takes_last, takes_position, world}
 use Rattle.uring_core.proofs.SoundRings.{IsSoundSubmission, open_count as positions_open}
 use Rattle.uring_laws.proofs.TakenPlaces.{takes_places}
-use Rattle.uring_laws.proofs.Telling.{count_more, count_same}
 
 -- an open call is the one that was opened last
 abbrev pub IsOpened : Setup → History → Option Call → Type 0
@@ -30,18 +30,6 @@ words_of_places : (size : ℕ) (content : ℕ → Sqe) (words : List ℕ)
 words_of_places size content [] = refl
 words_of_places size content (word ∷ words) = grind (arith, (words_of_places size content words))
 
--- what an event leaves that neither opens nor closes a call and takes no position
-record NoneCalled (g : Setup) (h : History) (w : World) (e : Event) : Type 0 where
-  calls : w.submission.calls ≡ call_counts (e ∷ h)
-  closed : count_by closes_call (e ∷ h) ≡ length w.submission.calls
-  openings : count_by opens_call (e ∷ h) ≡ length w.submission.calls + open_calls w.submission.call
-  opened : IsOpened g (e ∷ h) w.submission.call
-
-none_called : (g : Setup) (h : History) (w : World) (e : Event) → opens_call e ≡ false
-    → opened_by e ≡ None → closes_call e ≡ false → takes_position e ≡ false → DirectSubmission g h w
-    → NoneCalled g h w e
-none_called g h w e none_opened none none_closed idle i = grind arith
-
 -- what an event leaves by which the open call takes a position
 record PositionTaken (g : Setup) (h : History) (w : World) (e : Event) (call : Call) : Type 0 where
   calls : w.submission.calls ≡ call_counts (e ∷ h)
@@ -55,11 +43,11 @@ position_taken : (g : Setup) (h : History) (w : World) (e : Event) (call : Call)
     → takes_position e ≡ true → DirectSubmission g h w → PositionTaken g h w e call
 position_taken g h w e call is left none_opened none none_closed taken i =
     let so_far : (call.taken ≡ taken_since h) × (call.count ≡ open_count g h) = subst (IsOpened g h) is i.opened in
-    let more : call.taken + 1 ≡ taken_since (e ∷ h) = rw none_opened (omega (arith, count_more takes_position e (since_last opens_call h) taken, so_far.0)) in
+    let more : call.taken + 1 ≡ taken_since (e ∷ h) = grind (arith, common_steps, so_far, none_opened) in
     record {
       calls = rw none_closed i.calls;
-      closed = count_same closes_call e h none_closed ∙ i.closed;
-      openings = count_same opens_call e h none_opened ∙ i.openings ∙ ap (λ o. length w.submission.calls + open_calls o) is;
+      closed = grind (arith, common_steps, i.closed);
+      openings = grind (arith, common_steps, i.openings);
       opened = grind arith;
     }
 
@@ -68,32 +56,20 @@ submission_direct : (g : Setup) (h : History) (w : World) (s : Step) (a : Answer
     → entries_taken h ≡ taken_entries w.submission → DirectSubmission g h w
     → DirectSubmission g ((s, a) ∷ h) v
 submission_direct g h w s a v (stays _ _ r c is_closed off left) sound entries i = grind arith
-submission_direct g h w s a v (fills slot entry) sound entries i = grind arith
 submission_direct g h w s a v (stages word room) sound entries i = grind (arith, append_assoc)
-submission_direct g h w s a v (stores tail) sound entries i =
-    let f = none_called g h w (s, a) refl refl refl refl i in
-    let published =
-    map-append (λ p. p.word) w.submission.published (map (place_of g.sq w.submission.content) w.submission.fresh)
-    ∙ ap₂ (λ xs ys. xs ++ ys) i.published (words_of_places g.sq w.submission.content w.submission.fresh) ∙ i.staged in
-    let staged = append-nil (staged_words h) in
-    assumption (published, staged, f, i)
-submission_direct g h w s a v (loads head) sound entries i = grind arith
+submission_direct g h w s a v (stores tail) sound entries i = grind (arith, words_of_places, map-append, append-nil)
 submission_direct g h w s a v (begins count is_open no_call unspent) sound entries i =
-    grind (arith, (count_more opens_call (s, a) h refl))
+    grind (arith, common_steps)
 submission_direct g h w s a v (takes entry call place opened left at valid) sound entries i =
     grind (arith, (position_taken g h w (s, a) call opened left refl refl refl refl i))
 submission_direct g h w s a v (drops call place opened left at invalid) sound entries i =
     grind (arith, (position_taken g h w (s, a) call opened left refl refl refl refl i))
 submission_direct g h w s a v (closes accepted missed head call opened all counted) sound entries i =
-    let longer = length_push w.submission.calls call.count in
     let so_far : (call.taken ≡ taken_since h) × (call.count ≡ open_count g h) = subst (IsOpened g h) opened i.opened in
     let within : call.taken ≤ call.count = subst (λ o. open_taken o ≤ positions_open o) opened sound.within_call in
     let whole : call.count ≡ taken_since h = omega (arith, ltb-false call.taken call.count all, within, so_far.0) in
-    let calls = ap₂ (λ xs n. xs ++ n ∷ []) i.calls whole in
-    let more : List ℕ = w.submission.calls ++ call.count ∷ [] in
-    let closed : count_by closes_call ((s, a) ∷ h) ≡ length more = omega (arith, count_more closes_call (s, a) h refl, i.closed, longer) in
-    let openings : count_by opens_call ((s, a) ∷ h) ≡ length more + 0 = omega (arith, count_same opens_call (s, a) h refl, i.openings, ap open_calls opened, longer) in
-    assumption (calls, closed, openings, tt, i)
+    grind (arith, common_steps, length_push, whole)
+submission_direct g h w s a v _ sound entries i = grind arith
 
 pub direct_submission : (g : Setup) (h : History) → IsLawfulApart g h
     → DirectSubmission g h (world g h)

@@ -1,8 +1,8 @@
 -- The laws of `files.rt` on lists of operations alone: the file of a descriptor is made by the operations on it,
 -- and operations that were dealt out by their file can be carried out at places with files of their own.
 -- From the lemmas of uring_files that each file stands by itself. Stable: other crates may import what is pub.
-use Rattle.std.proofs.Common.{◌≡◌, ℕ, ◌<◌, ◌==◌, ℤ, Bool, true, false, cond, List, [], ◌∷◌, map, refl, sym, ap, ◌∙◌, inl, inr, subst}
-use Rattle.uring_laws.proofs.Common.{AreDone, Done, Ending, FileByItsEnds, FileContents, IsByFile, IsOutcome, Op, Outcome, Requests, after, both_ways, cond-true, cond_both, done_at, ends_of, entry_of, eq-eqb, false_from_ne_true, file_of, files_after, files_left, filter, operation_of}
+use Rattle.std.proofs.Common.{◌≡◌, ℕ, ◌<◌, ◌==◌, ℤ, Bool, true, cond, List, [], ◌∷◌, refl, arith}
+use Rattle.uring_laws.proofs.Common.{AreDone, Done, Ending, FileByItsEnds, FileContents, IsByFile, Op, Requests, after, cond_both, done_at, ends_of, entry_of, eq-eqb, files_after, files_left, filter, operation_of}
 use Rattle.uring_files.specs.Laws.{AgreeAt, is_on}
 use Rattle.uring_files.proofs.StandAlone.{others_stay, files_apart, ends_apart}
 
@@ -16,59 +16,24 @@ left_apart files others [] fd keeps own same = same
 left_apart files others (d ∷ later) fd keeps own same =
     let now : List FileContents = after files d.op d.outcome.res in
     let rest : List Done = filter (λ x. keeps x.op) later in
-    cond_both (keeps d.op) (d ∷ rest) rest (λ kept. AgreeAt fd (files_left now later) (files_left others kept))
-    (λ here. left_apart now (after others d.op d.outcome.res) later fd keeps own (files_apart files others d.op d.outcome.res fd same))
-    (λ left_out. left_apart now others later fd keeps own (others_stay files d.op d.outcome.res fd (false_from_ne_true _ (λ on. both_ways _ left_out (own d.op on))) ∙ same))
+    grind (arith, files_apart, others_stay, (own d.op), (left_apart now (after others d.op d.outcome.res) later fd keeps own), (left_apart now others later fd keeps own))
 
 pub left_by_own : (files : List FileContents) (done : List Done) (fd : ℤ) (keeps : Op → Bool)
     → ((op : Op) → is_on fd op ≡ true → keeps op ≡ true)
     → AgreeAt fd (files_left files done) (files_left files (filter (λ d. keeps d.op) done))
 left_by_own files done fd keeps own = left_apart files files done fd keeps own refl
 
--- an end, as an operation that was carried out
-done_of : Requests → Ending → Done
-done_of r e = record { number = e.number; op = operation_of (entry_of r e.number); outcome = record { res = e.res; bytes = e.bytes } }
-
-after_is_left : (r : Requests) (files : List FileContents) (ends : List Ending)
-    → files_after r files ends ≡ files_left files (map (done_of r) ends)
-unfolding done_of
-after_is_left r files [] = refl
-after_is_left r files (e ∷ later) =
-    after_is_left r (after files (operation_of (entry_of r e.number)) e.res) later
-
--- the values of a function that pass a test are its values at the items that do
-with_values : {A B : Type 0} (f : A → B) (keeps : B → Bool) (xs : List A)
-    → map f (filter (λ x. keeps (f x)) xs) ≡ filter keeps (map f xs)
-with_values f keeps [] = refl
-with_values {A = A} f keeps (x ∷ later) =
-    at_first (keeps (f x)) (filter (λ y. keeps (f y)) later)
-    ∙ ap (λ ys. cond (keeps (f x)) (f x ∷ ys) ys) (with_values f keeps later) where
-      at_first : (kept : Bool) (ys : List A) → map f (cond kept (x ∷ ys) ys) ≡ cond kept (f x ∷ map f ys) (map f ys)
-      at_first true ys = refl
-      at_first false ys = refl
-
-own_ends : (r : Requests) (ends : List Ending) (fd : ℤ)
-    → map (done_of r) (ends_of fd r ends) ≡ filter (λ d. is_on fd d.op) (map (done_of r) ends)
-unfolding done_of
-own_ends r ends fd = with_values (done_of r) (λ d. is_on fd d.op) ends
+after_apart : (r : Requests) (files others : List FileContents) (ends : List Ending) (fd : ℤ) → AgreeAt fd files others
+    → AgreeAt fd (files_after r files ends) (files_after r others (ends_of fd r ends))
+after_apart r files others [] fd same = same
+after_apart r files others (e ∷ later) fd same =
+    let op : Op = operation_of (entry_of r e.number) in
+    grind (arith, files_apart, others_stay, (after_apart r (after files op e.res) (after others op e.res) later fd), (after_apart r (after files op e.res) others later fd))
 
 pub after_by_own : FileByItsEnds
-after_by_own r files ends fd =
-    ap (λ fs. file_of fs fd) (after_is_left r files ends)
-    ∙ left_by_own files (map (done_of r) ends) fd (is_on fd) (λ op on. on)
-    ∙ ap (λ ds. file_of (files_left files ds) fd) (sym (own_ends r ends fd))
-    ∙ ap (λ fs. file_of fs fd) (sym (after_is_left r files (ends_of fd r ends)))
+after_by_own r files ends fd = after_apart r files files ends fd refl
 
 -- Operations dealt out by their file.
-
--- an outcome depends on no file but the operation's own
-outcome_apart : (files others : List FileContents) (op : Op) (outcome : Outcome)
-    → ((fd : ℤ) → is_on fd op ≡ true → AgreeAt fd files others) → IsOutcome others op outcome
-    → IsOutcome files op outcome
-outcome_apart files others op outcome agree (inl called) =
-    inl (called ∙ sym (ends_apart files others op agree).0)
-outcome_apart files others op outcome agree (inr refused) =
-    inr ((ends_apart files others op agree).1 ∙ refused.0, refused.1)
 
 -- each place has the files on which its operations are
 abbrev Agree : (Op → ℕ) → List FileContents → (ℕ → List FileContents) → Type 0
@@ -83,26 +48,17 @@ module _ (place : Op → ℕ) (by_file : IsByFile place) where
   agree_after : (files : List FileContents) (parts : ℕ → List FileContents) (d : Done) → Agree place files parts → Agree place (after files d.op d.outcome.res) (part_after d parts)
   unfolding part_after
   agree_after files parts d agree fd op on =
-      cond_both (place d.op == place op) _ _ (AgreeAt fd (after files d.op d.outcome.res))
-      (λ here. files_apart files (parts (place op)) d.op d.outcome.res fd (agree fd op on))
-      (λ elsewhere. others_stay files d.op d.outcome.res fd (false_from_ne_true _ (λ also. both_ways _ elsewhere (eq-eqb _ _ (by_file fd d.op op also on)))) ∙ agree fd op on)
+      grind (arith, files_apart, others_stay, (agree fd op on), (λ (also : is_on fd d.op ≡ true). by_file fd d.op op also on), eq-eqb)
 
   -- what is left for a place once the first operation was carried out
   left_at : (parts : ℕ → List FileContents) (d : Done) (later : List Done) (k : ℕ) → AreDone (parts k) (done_at place k (d ∷ later)) → AreDone (part_after d parts k) (done_at place k later)
   unfolding part_after
-  left_at parts d later k done = by_test (place d.op == k) done where
-    by_test : (here : Bool) → AreDone (parts k) (cond here (d ∷ done_at place k later) (done_at place k later)) → AreDone (cond here (after (parts k) d.op d.outcome.res) (parts k)) (done_at place k later)
-    by_test true all = all.1
-    by_test false all = all
-
-  first_at : (parts : ℕ → List FileContents) (d : Done) (later : List Done) → AreDone (parts (place d.op)) (done_at place (place d.op) (d ∷ later)) → IsOutcome (parts (place d.op)) d.op d.outcome
-  first_at parts d later done =
-      (subst (AreDone (parts (place d.op))) (cond-true (place d.op == place d.op) _ _ (eq-eqb _ _ refl)) done).0
+  left_at parts d later k done = cond_both (place d.op == k) _ _ (λ fs. AreDone fs (done_at place k later)) (λ here. (rw here at done).1) (λ off. rw off at done)
 
   joined : (places : ℕ) → ((op : Op) → place op < places) → (files : List FileContents) (parts : ℕ → List FileContents) (done : List Done) → Agree place files parts → ((k : ℕ) → k < places → AreDone (parts k) (done_at place k done)) → AreDone files done
   joined places within files parts [] agree at = tt
   joined places within files parts (d ∷ later) agree at = (
-    outcome_apart files (parts (place d.op)) d.op d.outcome (λ fd on. agree fd d.op on) (first_at parts d later (at (place d.op) (within d.op))),
+    rw ((ends_apart files (parts (place d.op)) d.op (λ fd on. agree fd d.op on)).0, (ends_apart files (parts (place d.op)) d.op (λ fd on. agree fd d.op on)).1) (rw (eq-eqb (place d.op) (place d.op) refl) at (at (place d.op) (within d.op))).0,
     joined places within (after files d.op d.outcome.res) (part_after d parts) later (agree_after files parts d agree) (λ k lt. left_at parts d later k (at k lt)),
   )
 

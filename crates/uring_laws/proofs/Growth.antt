@@ -1,8 +1,8 @@
 -- What stays of the requests as a history goes on, by either's rules: those accepted by then keep their entries and groups, and those that are doomed by the manual pages' rules stay so.
 -- By `Move`, event by event (`event_grows`), and over a history by induction (`grows`).
 -- Stable: other crates may import `Grows` with its fields, as `same_entry`, and `event_grows`, `grows`, `lawful_before`.
-use Rattle.std.proofs.Common.{◌≡◌, ℕ, ◌<◌, ◌≤◌, ℤ, Bool, true, false, List, [], ◌∷◌, ◌++◌, length, refl, ◌∙◌, ◌⊎◌, inl, inr, arith, rules}
-use Rattle.uring_laws.proofs.Common.{Answer, History, IsChoice, IsLawfulApart, LinuxRequests, Move, Requests, Setup, Sqe, Step, accepts, choice_of, doom_kept, end_doom, end_join, ended_as, ends_cancel, ends_run, entry_kept, entry_of, is_cancelled, is_doomed, is_doomed_started, is_drain, is_draining, is_draining_started, is_joined, is_joined_started, join_kept, list_any, longer, member_kept, move_of, no_choice, requests_of, some_member, sound_of, starts, with_call, world}
+use Rattle.std.proofs.Common.{◌≡◌, ℕ, ◌<◌, ◌≤◌, ℤ, Bool, true, false, List, [], ◌∷◌, ◌++◌, length, refl, ◌⊎◌, inl, inr, arith, rules}
+use Rattle.uring_laws.proofs.Common.{Answer, History, IsChoice, IsLawfulApart, LinuxRequests, Move, Requests, Setup, Sqe, Step, accepts, choice_of, doom_kept, end_doom, ended_as, ends_cancel, ends_run, entry_kept, entry_of, is_cancelled, is_doomed, is_doomed_started, is_drain, is_draining, is_draining_started, is_joined, is_joined_started, join_kept, list_any, longer, member_kept, move_of, no_choice, requests_of, some_member, sound_of, starts, with_call, world}
 use Rattle.uring_core.proofs.Moves.{stays, ends_doomed}
 use Rattle.uring_rules.specs.Rules.{doomed_result, cancel_result, with_issued_end}
 use Rattle.std.proofs.Common.{◌==◌}
@@ -17,20 +17,13 @@ pub record Grows (r later : Requests) : Type 0 where
   pub stays_doomed : (n : ℕ) → n < length r.accepted → is_doomed r n ≡ true
       → is_doomed later n ≡ true
 
-same_grows : (r : Requests) → Grows r r
-same_grows r = search (rules, arith)
-
 pub then_grows : (r later last : Requests) → Grows r later → Grows later last → Grows r last
 then_grows r later last a b = grind arith
 
-end_drain : (r : Requests) (n : ℕ) (res : ℤ) (bytes cancelled : List ℕ) (m : ℕ)
-    → is_draining (ended_as r n res bytes cancelled) m ≡ is_draining r m
-unfolding some_member is_joined
-end_drain r n res bytes cancelled m = refl
-
 end_grows : (r : Requests) (n : ℕ) (res : ℤ) (bytes cancelled : List ℕ) → IsChoice r n cancelled
     → Grows r (ended_as r n res bytes cancelled)
-end_grows r n res bytes cancelled choice = grind (arith, end_join, end_drain, end_doom)
+unfolding some_member is_joined
+end_grows r n res bytes cancelled choice = grind (arith, end_doom)
 
 -- a call ended with the last entry
 abbrev pub IsCut : Requests → Type 0
@@ -38,33 +31,21 @@ IsCut r = (length r.accepted ≡ 0) ⊎ (list_any (λ c. c == length r.accepted)
 
 call_grows : (r : Requests) (entries : List Sqe) → IsCut r → Grows r (with_call r entries)
 call_grows r entries cut =
-    record {
-      longer_then = longer r entries cut;
-      same_entry = entry_kept r entries cut;
-      same_group = join_kept r entries cut;
-      same_drain = member_kept r entries cut is_drain;
-      stays_cancelled = λ n e. e;
-      stays_doomed = λ n lt e. doom_kept r entries cut n lt ∙ e;
-    }
+    search (rules, longer r entries cut, entry_kept r entries cut, join_kept r entries cut, member_kept r entries cut is_drain, doom_kept r entries cut)
 
-doomed_grows : (linux : Bool) (r : Requests) (n : ℕ)
-    → Grows r (with_issued_end linux r n (doomed_result linux r n))
-doomed_grows true r n = end_grows r n _ _ r.cancelled (no_choice r n)
-doomed_grows false r n = end_grows r n _ _ _ (choice_of r n (doomed_result false r n) (inl refl))
-
-cancel_grows : (linux : Bool) (r : Requests) (n : ℕ)
-    → Grows r (with_issued_end linux r n (cancel_result linux r n))
-cancel_grows true r n = end_grows r n _ _ r.cancelled (no_choice r n)
-cancel_grows false r n = end_grows r n _ _ _ (choice_of r n (cancel_result false r n) (inr refl))
+issued_grows : (linux : Bool) (r : Requests) (n : ℕ) (res : ℤ)
+    → (res ≡ doomed_result linux r n) ⊎ (res ≡ cancel_result linux r n) → Grows r (with_issued_end linux r n res)
+issued_grows true r n res how = end_grows r n _ _ r.cancelled (no_choice r n)
+issued_grows false r n res how = end_grows r n _ _ _ (choice_of r n res how)
 
 move_grows : (linux : Bool) (l : LinuxRequests) (s : Step) (a : Answer) (later : Requests)
     → Move linux l s a later → IsCut l.requests → Grows l.requests later
-move_grows linux l s a later (stays _ _ no_start no_end) cut = same_grows l.requests
+move_grows linux l s a later (stays _ _ no_start no_end) cut = search (rules, arith)
 move_grows linux l s a later (accepts accepted missed head entries) cut = grind (arith, call_grows)
 move_grows linux l s a later (starts n outstanding idle spared ready no_cancel) cut =
     search (rules, is_joined_started, is_draining_started, is_doomed_started)
-move_grows linux l s a later (ends_doomed n outstanding) cut = doomed_grows linux l.requests n
-move_grows linux l s a later (ends_cancel n outstanding spared ready cancel) cut = search (rules, cancel_grows)
+move_grows linux l s a later (ends_doomed n outstanding) cut = issued_grows linux l.requests n _ (inl refl)
+move_grows linux l s a later (ends_cancel n outstanding spared ready cancel) cut = issued_grows linux l.requests n _ (inr refl)
 move_grows linux l s a later (ends_run n res bytes running) cut = search (rules, end_grows, no_choice)
 
 pub event_grows : (g : Setup) (s : Step) (a : Answer) (before : History)
@@ -74,7 +55,7 @@ event_grows g s a before lawful = move_grows g.linux (requests_of (world g befor
 
 pub grows : (g : Setup) (after before : History) → IsLawfulApart g (after ++ before)
     → Grows (world g before).requests (world g (after ++ before)).requests
-grows g [] before lawful = same_grows (world g before).requests
+grows g [] before lawful = search (rules, arith)
 grows g ((s, a) ∷ after) before lawful = search (rules, then_grows, (grows g after before lawful.1), event_grows)
 
 -- what a history is made of is lawful

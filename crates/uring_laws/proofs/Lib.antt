@@ -1,7 +1,6 @@
 -- In the order in which they are best read.
 mod Common
 -- The lists are the history's own:
-pub mod Telling
 pub mod ToldRequests
 pub mod ReadOff
 pub mod DirectSubmission

@@ -1,13 +1,13 @@
 -- The laws of doomed requests, links and drains, by the manual pages' rules; and what these and those of Linux share.
-use Rattle.std.proofs.Common.{◌≡◌, ℕ, ◌<◌, ◌==◌, ℤ, neg_ℤ, Bool, true, false, not, ◌&&◌, List, ◌∷◌, ◌++◌, Some, length, slice_get, count_by, refl, sym, subst, ◌∙◌, ◌⊎◌, inl, inr, arith}
-use Rattle.uring_laws.proofs.Common.{Answer, Change, ECANCELED, Ending, History, IsEnded, IsLawfulApart, IsSilent, IsSoundManual, LinuxRequests, Requests, Setup, World, both_ways, by_manual, cancels, change_of, count_none, count_some, doomed_result, dooms, eq-eqb, has_ended, has_started, int_eq, is_doomed, list_any, refuses, requests_of, runs, sound_of, times_ended, waited, waits_for, world}
+use Rattle.std.proofs.Common.{◌≡◌, ℕ, ◌<◌, ◌==◌, ℤ, neg_ℤ, Bool, true, false, not, ◌&&◌, List, ◌∷◌, ◌++◌, Some, length, slice_get, refl, ◌⊎◌, arith}
+use Rattle.uring_laws.proofs.Common.{Answer, Change, ECANCELED, Ending, History, IsEnded, IsLawfulApart, LinuxRequests, Requests, Setup, World, both_ways, by_manual, change_of, count_none, count_some, doomed_result, dooms, eq-eqb, has_ended, has_started, int_eq, is_doomed, list_any, refuses, requests_of, sound_of, times_ended, waited, waits_for, world}
 use Rattle.uring_laws.specs.Laws.{DoomedNeverRun, IsStart}
 use Rattle.std.proofs.lemmas.Map.Keys.{any_passes_from_place}
 use Rattle.uring_rules.specs.Rules as by_rules
 use Rattle.uring_core.specs.declared.step.Step.TheVariants as step
 use Rattle.uring_core.specs.declared.answer.Answer.TheVariants as answer
 use Rattle.uring_laws.proofs.ToldRequests.{tells_requests}
-use Rattle.uring_laws.proofs.Growth.{Grows, grows, event_grows, then_grows, lawful_before}
+use Rattle.uring_laws.proofs.Growth.{grows, event_grows, then_grows, lawful_before}
 
 -- By either's rules.
 
@@ -22,16 +22,8 @@ end_there r k e at = any_passes_from_place (λ x. x.number == e.number) r.ended 
 pub ended_once : (g : Setup) (before : History) (m : ℕ) → IsLawfulApart g before
     → has_ended (world g before).requests m ≡ true → times_ended before m ≡ 1
 ended_once g before m lawful ended =
-    let s = (sound_of g before lawful).requests in
-    let once : count_by (λ e. e.number == m) (world g before).requests.ended ≡ 1 = omega (arith, s.ends_once m, count_some (λ e. e.number == m) (world g before).requests.ended ended) in
-    subst (λ xs. count_by (λ e. e.number == m) xs ≡ 1) (sym (tells_requests g before lawful).ended) once
-
--- an Issue that is refused neither starts nor ends its request
-pub refused_no_end : (n : ℕ) (a : Answer) → IsSilent (step.Issue n, a) → IsEnded a → ⊥
-refused_no_end n a silent ended = grind arith
-
-pub refused_no_run : (n : ℕ) (a : Answer) → IsSilent (step.Issue n, a) → a ≡ answer.Run → ⊥
-refused_no_run n a silent run = grind arith
+    rw (tells_requests g before lawful).ended
+    (omega (arith, (sound_of g before lawful).requests.ends_once m, count_some (λ e. e.number == m) (world g before).requests.ended ended))
 
 -- what ends with ECANCELED as it is issued is doomed, since no cancel ends so
 pub cancelled_doomed : (g : Setup) (w : World) (n : ℕ) (a : Answer) (bytes : List ℕ)
@@ -39,9 +31,8 @@ pub cancelled_doomed : (g : Setup) (w : World) (n : ℕ) (a : Answer) (bytes : L
     → Change g w (step.Issue n) a → a ≡ answer.Ended (neg_ℤ ECANCELED) bytes
     → by_rules.ends_doomed g.linux w.requests n ≡ true
 cancelled_doomed g w n a bytes unlike (refuses _ _ same silent) is = grind arith
-cancelled_doomed g w n a bytes unlike (runs _ outstanding idle spared ready no_cancel) is = absurd cc
 cancelled_doomed g w n a bytes unlike (dooms _ outstanding idle doomed) is = doomed
-cancelled_doomed g w n a bytes unlike (cancels _ outstanding idle spared ready cancel) is = grind arith
+cancelled_doomed g w n a bytes unlike _ is = grind arith
 
 -- what is known where an Issue starts its request
 pub record Started (linux : Bool) (l : LinuxRequests) (n : ℕ) : Type 0 where
@@ -52,33 +43,19 @@ pub record Started (linux : Bool) (l : LinuxRequests) (n : ℕ) : Type 0 where
 pub started_so : (g : Setup) (w : World) (n : ℕ) (a : Answer) → Change g w (step.Issue n) a
     → (a ≡ answer.Run) ⊎ (IsEnded a × (by_rules.ends_doomed g.linux w.requests n ≡ false))
     → Started g.linux (requests_of w) n
-started_so g w n a (refuses _ _ same silent) (inl run) = absurd (refused_no_run n a silent run)
-started_so g w n a (refuses _ _ same silent) (inr ended) = absurd (refused_no_end n a silent ended.0)
-started_so g w n a (runs _ outstanding idle spared ready no_cancel) start = grind arith
-started_so g w n a (dooms _ outstanding idle doomed) (inl run) = absurd cc
-started_so g w n a (dooms _ outstanding idle doomed) (inr ended) = absurd (both_ways _ ended.1 doomed)
-started_so g w n a (cancels _ outstanding idle spared ready cancel) start = grind arith
+started_so g w n a change start = grind arith
 
 -- By the manual pages'.
-
-unstarted : (r : Requests) (n : ℕ) → IsSoundManual r → is_doomed r n ≡ true
-    → has_started r n ≡ false
-unstarted r n s doomed = grind arith
-
-doomed_end : (r : Requests) (k : ℕ) (e : Ending) → IsSoundManual r → slice_get r.ended k ≡ Some e
-    → is_doomed r e.number ≡ true → e.res ≡ doomed_result r e.number
-doomed_end r k e s at doomed = elim (s.ended_how e.number (end_there r k e at)) [
-  | inl d ↦ result_told r.ended k e (doomed_result r e.number) at d
-  | inr free ↦ absurd (both_ways _ free.spared doomed)
-]
 
 pub never_run : (g : Setup) (h : History) → IsLawfulApart (by_manual g) h → DoomedNeverRun (by_manual g) h
 never_run g h lawful =
     let s = (sound_of (by_manual g) h lawful).manual refl in
     let t = tells_requests (by_manual g) h lawful in
     record {
-      never_run = λ n doomed. subst (λ xs. count_by (λ m. m == n) xs ≡ 0) (sym t.started) (count_none (λ m. m == n) (world (by_manual g) h).requests.started (unstarted (world (by_manual g) h).requests n s doomed));
-      ends_so = λ k e at doomed. doomed_end (world (by_manual g) h).requests k e s (subst (λ xs. slice_get xs k ≡ Some e) t.ended at) doomed;
+      never_run = λ n doomed. rw t.started (count_none (λ m. m == n) (world (by_manual g) h).requests.started (let e : has_started (world (by_manual g) h).requests n ≡ false = grind arith in e));
+      ends_so = λ k e at doomed.
+          let there : slice_get (world (by_manual g) h).requests.ended k ≡ Some e = rw t.ended at at in
+          grind (arith, (s.ended_how e.number (end_there (world (by_manual g) h).requests k e there)), (result_told (world (by_manual g) h).requests.ended k e (doomed_result (world (by_manual g) h).requests e.number) there));
     }
 
 pub were_doomed : (g : Setup) (after before : History) (n : ℕ) (bytes : List ℕ)
@@ -94,10 +71,6 @@ stay_doomed g after before n lawful within doomed =
 
 -- Links and drains.
 
-same_wait : (r later : Requests) (n m : ℕ) → Grows r later → m < n → n < length r.accepted
-    → waits_for later n m ≡ waits_for r n m
-same_wait r later n m g lt within = grind arith
-
 pub waits : (g : Setup) (after before : History) (m n : ℕ) (a : Answer)
     → IsLawfulApart (by_manual g) (after ++ (step.Issue n, a) ∷ before) → IsStart (world (by_manual g) before).requests n a
     → m < n
@@ -105,8 +78,6 @@ pub waits : (g : Setup) (after before : History) (m n : ℕ) (a : Answer)
     → times_ended before m ≡ 1
 waits g after before m n a lawful start lt waiting =
     let l = lawful_before (by_manual g) after ((step.Issue n, a) ∷ before) lawful in
-    let c = change_of (by_manual g) (world (by_manual g) before) (step.Issue n) a l.0 in
-    let at = started_so (by_manual g) (world (by_manual g) before) n a c start in
+    let at = started_so (by_manual g) (world (by_manual g) before) n a (change_of (by_manual g) (world (by_manual g) before) (step.Issue n) a l.0) start in
     let more = then_grows _ _ _ (event_grows (by_manual g) (step.Issue n) a before l) (grows (by_manual g) after ((step.Issue n, a) ∷ before) lawful) in
-    let ended = waited (world (by_manual g) before).requests n m at.ready lt (sym (same_wait _ _ n m more lt at.accepted) ∙ waiting) in
-    ended_once (by_manual g) before m l.1 ended
+    ended_once (by_manual g) before m l.1 (waited (world (by_manual g) before).requests n m at.ready lt (grind (arith, at, more)))

@@ -1,14 +1,14 @@
 -- The law `published_is_told`: the items published are those that the events tell, and so is the count of dropped words.
 -- The items: from `own_submission`, position by position. The count: what all calls took less the entries among it,
 -- which `takes_places` has; kept from the last close on by induction over the history.
-use Rattle.std.proofs.Common.{◌≡◌, ℕ, suc, ◌+◌, ◌<◌, ◌≤◌, false, nat_lt, List, [], ◌∷◌, length, map, take, count_by, get_or, Option, Some, None, slice_get, if◌then◌else◌, refl, sym, subst, ap, ap₂, ◌∙◌, arith}
-use Rattle.uring_laws.proofs.Common.{All, All-cons, All-nil, Answer, Call, Event, History, IsItem, IsLawfulApart, OwnSubmission, Place, Setup, Sqe, Step, SubmissionMove, World, before_published, closes, dropped_in, ending_of, entries_taken, entry_taken_by, enumerate_from, get_or-map, get_or_append_left, get_or_from_slice_get, item_of, length-map, length-take-le, length_push, positions_taken, published_entry, published_items, published_words, reached, slice_get_within, slot_content, sound_of, staged_words, stays, stores, submission_move, sum_by_push, take-append-le, taken, takes_position, with_told, world}
+use Rattle.std.proofs.lemmas.Grind.{common_steps}
+use Rattle.std.proofs.Common.{◌≡◌, ℕ, suc, ◌+◌, ◌<◌, ◌≤◌, List, [], ◌∷◌, length, map, take, count_by, get_or, Option, Some, None, slice_get, refl, arith}
+use Rattle.uring_laws.proofs.Common.{All, All-cons, All-nil, Answer, History, IsItem, IsLawfulApart, OwnSubmission, Place, Setup, Sqe, Step, SubmissionMove, World, closes, dropped_in, entries_taken, enumerate_from, get_or-map, get_or_append_left, get_or_from_slice_get, item_of, length-map, length-take-le, length_push, positions_taken, published_entry, published_items, slice_get_within, sound_of, staged_words, stays, stores, submission_move, sum_by_push, take-append-le, taken, world}
 use Rattle.uring_laws.specs.Published.{items_told, drops_position, positions_dropped, OwnPublished}
 use Rattle.uring_core.specs.declared.step.Step.TheVariants as step
 use Rattle.uring_core.specs.declared.answer.Answer.TheVariants as answer
 use Rattle.uring_laws.proofs.ReadOff.{own_submission}
 use Rattle.uring_laws.proofs.TakenPlaces.{takes_places}
-use Rattle.uring_laws.proofs.Telling.{count_more, count_same}
 use Rattle.uring_rings.proofs.Places.{entries_and_dropped}
 
 -- The items.
@@ -19,47 +19,32 @@ items_are : (entry_at : ℕ → Option Sqe) (places : List Place) (n : ℕ)
     → map (λ p. item_of p.word p.entry) places
     ≡ map (λ q. item_of q.1 (entry_at q.0)) (enumerate_from n (map (λ p. p.word) places))
 items_are entry_at [] n at = refl
-items_are entry_at (p ∷ places) n at =
-    ap₂ (λ item rest. item ∷ rest) (ap (item_of p.word) (at 0 p refl ∙ ap entry_at (let e : n + 0 ≡ n = omega arith in e)))
-    (items_are entry_at places (n + 1) (λ k q e. at (suc k) q e ∙ ap entry_at (let f : n + suc k ≡ n + 1 + k = omega arith in f)))
+items_are entry_at (p ∷ places) n at = grind (arith, (at 0 p refl), (items_are entry_at places (n + 1) (λ k q e. grind (arith, (at (suc k) q e)))))
 
 items_tell : (g : Setup) (h : History) → OwnSubmission g h
     → published_items (world g h).submission ≡ items_told g.sq h
 items_tell g h own =
-    items_are (published_entry g.sq h) (world g h).submission.published 0 (λ k p at. own.entries k p at ∙ ap (published_entry g.sq h) (let e : k ≡ 0 + k = omega arith in e))
-    ∙ ap (λ words. map (λ q. item_of q.1 (published_entry g.sq h q.0)) (enumerate_from 0 words)) own.published
+    rw (← own.published) (items_are (published_entry g.sq h) (world g h).submission.published 0 (λ k p at. grind (arith, (own.entries k p at))))
 
 -- the entry of a place, by its word
 all_items : (size : ℕ) (places : List Place)
     → ((k : ℕ) (p : Place) → slice_get places k ≡ Some p → p.entry ≡ None → size ≤ p.word)
     → All (IsItem size) (map (λ p. item_of p.word p.entry) places)
 all_items size [] at = All-nil (IsItem size)
-all_items size (p ∷ places) at = All-cons (IsItem size) (item_of p.word p.entry) (map (λ q. item_of q.word q.entry) places) (first p.entry refl) (all_items size places (λ k q e. at (suc k) q e)) where
-  first : (entry : Option Sqe) → p.entry ≡ entry → IsItem size (item_of p.word entry)
-  first None e = at 0 p refl e
-  first (Some entry) e = tt
-
-bad_is_high : (word size : ℕ) (entry : Sqe) → None ≡ (if nat_lt word size then Some entry else None)
-    → size ≤ word
-bad_is_high word size entry e = grind arith
+all_items size (p ∷ places) at = All-cons (IsItem size) _ _ (grind (arith, (at 0 p refl))) (all_items size places (λ k q e. at (suc k) q e))
 
 word_is : (g : Setup) (h : History) → OwnSubmission g h → (k : ℕ) (p : Place)
     → slice_get (world g h).submission.published k ≡ Some p → get_or (staged_words h) k 0 ≡ p.word
 word_is g h own k p at =
     let places : List Place = (world g h).submission.published in
     let within : k < length places = slice_get_within places k p at in
-    let words : length (published_words h) ≡ length places = ap length (sym own.published) ∙ length-map places (λ q. q.word) in
-    ap (λ words. get_or words k 0) (sym own.staged)
-    ∙ get_or_append_left (published_words h) (world g h).submission.fresh 0 k (omega arith)
-    ∙ ap (λ words. get_or words k 0) (sym own.published)
-    ∙ get_or-map (λ q. q.word) places k p 0 within
-    ∙ ap (λ q. q.word) (get_or_from_slice_get places k p p at)
+    rw (← own.staged, ← own.published, get_or_append_left (map (λ q. q.word) places) (world g h).submission.fresh 0 k (omega (arith, length-map places (λ (q : Place). q.word))), get_or-map (λ q. q.word) places k p 0 within, get_or_from_slice_get places k p p at)
 
 items_sound : (g : Setup) (h : History) → OwnSubmission g h
     → All (IsItem g.sq) (published_items (world g h).submission)
 items_sound g h own =
     all_items g.sq (world g h).submission.published
-    (λ k p at none. subst (λ word. g.sq ≤ word) (word_is g h own k p at) (bad_is_high (get_or (staged_words h) k 0) g.sq (slot_content (before_published k h) (get_or (staged_words h) k 0)) (sym none ∙ own.entries k p at)))
+    (λ k p at none. grind (arith, (word_is g h own k p at), (own.entries k p at)))
 
 -- What calls dropped.
 
@@ -67,41 +52,20 @@ items_sound g h own =
 taken_or_dropped : (h : History)
     → length (entries_taken h) + count_by drops_position h ≡ positions_taken h
 taken_or_dropped [] = refl
-taken_or_dropped (e ∷ h) = by_event e (taken_or_dropped h) where
-  none_more : (event : Event) → entry_taken_by event ≡ None → drops_position event ≡ false → takes_position event ≡ false → length (entries_taken h) + count_by drops_position h ≡ positions_taken h → length (entries_taken (event ∷ h)) + count_by drops_position (event ∷ h) ≡ positions_taken (event ∷ h)
-  none_more event none idle still rest =
-      let same : length (entries_taken (event ∷ h)) ≡ length (entries_taken h) = ap (λ o. length (with_told (entries_taken h) o)) none in
-      omega (arith, rest, same, count_same drops_position event h idle, count_same takes_position event h still)
-
-  by_event : (event : Event) → length (entries_taken h) + count_by drops_position h ≡ positions_taken h → length (entries_taken (event ∷ h)) + count_by drops_position (event ∷ h) ≡ positions_taken (event ∷ h)
-  by_event (step.Take, answer.Entry entry) rest =
-      omega (arith, rest, length_push (entries_taken h) entry, count_same drops_position (step.Take, answer.Entry entry) h refl, count_more takes_position (step.Take, answer.Entry entry) h refl)
-  by_event (step.Take, answer.Dropped) rest = omega (arith, rest, count_more drops_position (step.Take, answer.Dropped) h refl, count_more takes_position (step.Take, answer.Dropped) h refl)
-  by_event event rest = none_more event refl refl refl rest
-
--- as many were dropped as the positions that were taken have no entry
-dropped_by_all : (g : Setup) (h : History) → IsLawfulApart g h
-    → count_by drops_position h
-    ≡ dropped_in (take (reached (world g h).submission) (world g h).submission.published)
-dropped_by_all g h lawful =
-    grind (arith, (takes_places g h lawful), (sound_of g h lawful), (taken_or_dropped h), entries_and_dropped, length-take-le)
+taken_or_dropped ((step.Take, answer.Entry entry) ∷ h) = grind (arith, common_steps, length_push, (taken_or_dropped h))
+taken_or_dropped ((step.Take, answer.Dropped) ∷ h) = grind (arith, common_steps, (taken_or_dropped h))
+taken_or_dropped (e ∷ h) = grind (arith, common_steps, (taken_or_dropped h))
 
 -- as many were dropped before the last close as the positions of closed calls have no entry
 abbrev Drops : History → World → Type 0
 Drops h w = positions_dropped h ≡ dropped_in (take (taken w.submission) w.submission.published)
-
-closed_drops : (g : Setup) (h : History) → IsLawfulApart g h
-    → (accepted missed head : ℕ) (call : Call) → (world g h).submission.call ≡ Some call
-    → nat_lt call.taken call.count ≡ false
-    → Drops ((step.End, answer.Taken accepted missed head) ∷ h) (ending_of g (world g h) (Some call))
-closed_drops g h lawful accepted missed head call opened all = grind (arith, sound_of, sum_by_push, dropped_by_all)
 
 drops_kept : (g : Setup) (h : History) (s : Step) (a : Answer) (v : World) → IsLawfulApart g h
     → SubmissionMove g (world g h) s a v → Drops h (world g h) → Drops ((s, a) ∷ h) v
 drops_kept g h s a v lawful (stays _ _ r c is_closed off left) i = grind arith
 drops_kept g h s a v lawful (stores tail) i = grind (arith, take-append-le, sound_of)
 drops_kept g h s a v lawful (closes accepted missed head call opened all counted) i =
-    closed_drops g h lawful accepted missed head call opened all
+    grind (arith, (sound_of g h lawful), sum_by_push, (takes_places g h lawful), (taken_or_dropped h), entries_and_dropped, length-take-le)
 drops_kept g h s a v lawful _ i = i
 
 drops_told : (g : Setup) (h : History) → IsLawfulApart g h → Drops h (world g h)
@@ -109,4 +73,4 @@ drops_told g [] lawful = refl
 drops_told g ((s, a) ∷ before) lawful = drops_kept g before s a _ lawful.1 (submission_move g s a before lawful) (drops_told g before lawful.1)
 
 pub own_published : (g : Setup) (h : History) → IsLawfulApart g h → OwnPublished g h
-own_published g h lawful = grind (arith, own_submission, items_tell, items_sound, drops_told)
+own_published g h lawful = grind (arith, (own_submission g h lawful), (items_tell g h (own_submission g h lawful)), (items_sound g h (own_submission g h lawful)), (drops_told g h lawful))

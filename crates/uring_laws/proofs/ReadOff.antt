@@ -1,5 +1,5 @@
 -- The lists of a world are its history's own.
-use Rattle.std.proofs.Common.{sym, ap, ◌∙◌}
+use Rattle.std.proofs.Common.{sym, ap, ◌∙◌, arith}
 use Rattle.uring_laws.proofs.Common.{History, IsLawfulApart, OwnCompletions, OwnPosted, OwnRequests, OwnSubmission, Setup, before_last, by_manual, completion_of, filter_map, is_load_cq_tail, world}
 use Rattle.uring_laws.proofs.DirectSubmission.{direct_submission, call_direct}
 use Rattle.uring_laws.proofs.DirectCompletions.{direct_completions}
@@ -10,35 +10,15 @@ use Rattle.uring_laws.proofs.ToldRequests.{tells_requests}
 
 pub own_submission : (g : Setup) (h : History) → IsLawfulApart g h → OwnSubmission g h
 own_submission g h lawful =
-    let d = direct_submission g h lawful in
-    record {
-      content = d.content;
-      published = d.published;
-      staged = d.staged;
-      entries = direct_places g h lawful;
-      call = call_direct g h (world g h) d;
-      calls = d.calls;
-      seen_head = d.seen;
-      is_closed = (direct_requests g h lawful).shut;
-    }
+    grind (arith, (direct_submission g h lawful), (direct_places g h lawful), call_direct, (direct_requests g h lawful))
 
 pub own_requests : (g : Setup) (h : History) → IsLawfulApart g h → OwnRequests g h
 own_requests g h lawful =
-    let t = tells_requests g h lawful in
-    let d = direct_requests g h lawful in
-    record { accepted_taken = d.taken_in; cuts = d.cuts; started = sym t.started; ended = sym t.ended }
+    grind (arith, (tells_requests g h lawful), (direct_requests g h lawful))
 
 pub own_completions : (g : Setup) (h : History) → IsLawfulApart g h → OwnCompletions g h
 own_completions g h lawful =
-    let d = direct_completions g h lawful in
-    record {
-      posted = posted_told g h lawful;
-      put = direct_put g h lawful;
-      reaped = d.reaped;
-      head = d.stored;
-      seen_head = d.flushed;
-      seen_tail = d.seen ∙ direct_put g (before_last is_load_cq_tail h) (lawful_last g is_load_cq_tail h lawful);
-    }
+    grind (arith, (direct_completions g h lawful), (direct_put g (before_last is_load_cq_tail h) (lawful_last g is_load_cq_tail h lawful)), (posted_told g h lawful), (direct_put g h lawful))
 
 -- by the manual pages' rules
 pub own_posted : (g : Setup) (h : History) → IsLawfulApart (by_manual g) h

@@ -1,7 +1,7 @@
 -- The laws `each_ends_once` and `least_can_go_on`.
 -- From what is sound of the requests, and from what can be issued.
-use Rattle.std.proofs.Common.{◌≡◌, ℕ, ◌<◌, ◌≤◌, ◌==◌, Bool, true, false, List, Option, Some, None, length, count_by, refl, sym, subst, inl, inr, arith}
-use Rattle.uring_laws.proofs.Common.{EachEndsOnce, History, IsLawfulApart, IsSoundRequests, LeastCanGoOn, LinuxRequests, Requests, Setup, World, and_parts, both_ways, by_manual, count_none, count_some, false_from_ne_true, has_ended, is_outstanding, least_below_out, least_below_some, least_below_tells, least_of, least_of_goes_on, list_any, lt-ltb, ltb-true, or_cases, requests_of, sound_of, true_from_ne_false, world}
+use Rattle.std.proofs.Common.{◌≡◌, ℕ, ◌<◌, ◌==◌, Bool, true, false, List, Option, Some, None, length, count_by, refl, arith}
+use Rattle.uring_laws.proofs.Common.{EachEndsOnce, History, IsLawfulApart, LeastCanGoOn, LinuxRequests, Setup, World, both_ways, by_manual, count_none, count_some, is_outstanding, least_below_out, least_below_some, least_below_tells, least_of, least_of_goes_on, list_any, lt-ltb, requests_of, sound_of, outstanding_tells}
 use Rattle.uring_rules.specs.Rules.{is_issuable, next_of}
 use Rattle.uring_core.proofs.Issuable.{issue_goes, issuable_outstanding}
 use Rattle.uring_laws.proofs.ToldRequests.{tells_requests}
@@ -10,45 +10,34 @@ use Rattle.uring_laws.proofs.ToldRequests.{tells_requests}
 least_is_next : (linux : Bool) (l : LinuxRequests) (m : ℕ) → least_of l.requests ≡ Some m
     → is_issuable linux l m ≡ true → next_of linux l ≡ Some m
 least_is_next linux l m least issuable =
-    let r : Requests = l.requests in
-    let low = least_below_tells (is_outstanding r) (length r.accepted) m least in
-    least_below_some (is_issuable linux l) (length r.accepted) m low.below issuable
-    (λ k lt. false_from_ne_true _ (λ holds. both_ways _ (low.before k lt) (issuable_outstanding linux l k holds)))
+    let low = least_below_tells (is_outstanding l.requests) (length l.requests.accepted) m least in
+    least_below_some (is_issuable linux l) (length l.requests.accepted) m low.below issuable
+    (λ k lt. grind (arith, (low.before k lt), (issuable_outstanding linux l k)))
 
 pub least_goes_on : (g : Setup) (w : World) (n : ℕ) → is_outstanding w.requests n ≡ true
     → LeastCanGoOn (by_manual g) w
 least_goes_on g w n outstanding = by_least (least_of w.requests) refl where
   by_least : (least : Option ℕ) → least_of w.requests ≡ least → LeastCanGoOn (by_manual g) w
-  by_least None e = absurd (both_ways _ (least_below_out (is_outstanding w.requests) (length w.requests.accepted) e n (ltb-true _ _ (and_parts _ _ outstanding).0)) outstanding)
+  by_least None e = absurd (both_ways _ (least_below_out (is_outstanding w.requests) (length w.requests.accepted) e n (outstanding_tells w.requests n outstanding).0) outstanding)
   by_least (Some m) e =
       record {
         least = m;
         is_least = e;
-        goes_on =
-            elim (or_cases _ _ (least_of_goes_on w.requests m e)) [
-              | inl running ↦ inl running
-              | inr issuable ↦ inr (least_is_next false (requests_of w) m e issuable, issue_goes (by_manual g) w m issuable)
-            ];
+        goes_on = grind (arith, (least_of_goes_on w.requests m e), (least_is_next false (requests_of w) m e), (issue_goes (by_manual g) w m));
       }
 
 -- what is counted is there
 counted : {X : Type 0} (p : X → Bool) (xs : List X) → 0 < count_by p xs → list_any p xs ≡ true
-counted p xs some = true_from_ne_false _ (λ none. omega (arith, some, count_none p xs none))
+counted p xs some = grind (arith, (count_none p xs))
 
 pub ends_once : (g : Setup) (h : History) → IsLawfulApart g h → EachEndsOnce g h
 ends_once g h lawful =
     let s = (sound_of g h lawful).requests in
     let t = tells_requests g h lawful in
-    let started = sym t.started in
-    let ended = sym t.ended in
     record {
-      starts_once = λ n. subst (λ xs. count_by (λ m. m == n) xs ≤ 1) started (s.starts_once n);
-      ends_once = λ n. subst (λ xs. count_by (λ e. e.number == n) xs ≤ 1) ended (s.ends_once n);
-      accepted_start = λ n some. s.started_accepted n (counted (λ m. m == n) (world g h).requests.started (subst (λ xs. 0 < count_by (λ m. m == n) xs) t.started some));
-      accepted_end = λ n some. s.ended_accepted n (counted (λ e. e.number == n) (world g h).requests.ended (subst (λ xs. 0 < count_by (λ e. e.number == n) xs) t.ended some));
-      all_end = λ none n within. subst (λ xs. count_by (λ e. e.number == n) xs ≡ 1) ended (exactly_once (world g h).requests n s (none n) within);
-    } where
-      exactly_once : (r : Requests) (n : ℕ) → IsSoundRequests r → is_outstanding r n ≡ false → n < length r.accepted → count_by (λ e. e.number == n) r.ended ≡ 1
-      exactly_once r n s none within =
-          let over : has_ended r n ≡ true = grind (arith, lt-ltb n (length r.accepted) within, none) in
-          omega (arith, s.ends_once n, count_some (λ e. e.number == n) r.ended over)
+      starts_once = λ n. rw t.started (s.starts_once n);
+      ends_once = λ n. rw t.ended (s.ends_once n);
+      accepted_start = λ n some. s.started_accepted n (counted (λ m. m == n) _ (rw t.started at some));
+      accepted_end = λ n some. s.ended_accepted n (counted (λ e. e.number == n) _ (rw t.ended at some));
+      all_end = λ none n within. rw t.ended (grind (arith, (s.ends_once n), (none n), lt-ltb, count_some));
+    }

@@ -1,42 +1,29 @@
 -- What a start leaves as it was, by either's rules: who is doomed, who may start, who posts and how the drains stand. Only who runs changes.
-use Rattle.std.proofs.Common.{◌≡◌, ◌≢◌, ℕ, ℤ, Bool, true, false, List, [], ◌∷◌, ◌++◌, refl, ap, arith}
-use Rattle.uring_laws.proofs.Common.{LinuxRequests, Requests, Setup, Sqe, World, breaker_of, drains_called, drains_ended, ends_doomed, entry_of, first_of, is_cancel, is_doomed_started, is_in_turn, is_joined, is_outstanding, is_ready, is_running, is_running_started_other, issue_answer, may_start, no_bytes, posts, requests_of, some_member}
+use Rattle.std.proofs.Common.{◌≡◌, ◌≢◌, ℕ, ℤ, Bool, true, false, List, refl, arith}
+use Rattle.uring_laws.proofs.Common.{LinuxRequests, Requests, Setup, Sqe, World, drains_called, drains_ended, ends_doomed, entry_of, first_of, is_after_failure, is_alone, is_cancel, is_doomed, is_in_turn, is_joined, is_outstanding, is_ready, is_running, is_running_started_other, issue_answer, may_start, posts, requests_of, some_member}
 use Rattle.uring_linux.specs.LinuxRequests.{is_in_faulty_group, with_started}
 use Rattle.uring_entry.specs.Requests as manual
 use Rattle.uring_core.specs.declared.answer.Answer.TheVariants as answer
-use Rattle.uring_laws.proofs.AlikeDrains.{called_same, going_same}
-use Rattle.uring_laws.proofs.LinuxSound.{doom_started}
-
-turn_started : (r : Requests) (m n : ℕ) → is_in_turn (manual.with_started r m) n ≡ is_in_turn r n
-unfolding is_in_turn is_joined
-turn_started r m n = refl
+use Rattle.uring_laws.proofs.AlikeDrains.{called_same}
 
 pub ends_doomed_started : (linux : Bool) (r : Requests) (m n : ℕ)
     → ends_doomed linux (manual.with_started r m) n ≡ ends_doomed linux r n
-ends_doomed_started linux r m n = grind (arith, turn_started, doom_started, is_doomed_started)
+unfolding is_in_turn is_after_failure is_in_faulty_group is_doomed some_member is_joined
+ends_doomed_started linux r m n = refl
 
 pub ready_started : (r : Requests) (m n : ℕ) → is_ready (manual.with_started r m) n ≡ is_ready r n
 unfolding is_ready some_member is_joined
 ready_started r m n = refl
 
-pub may_start_started : (linux : Bool) (l : LinuxRequests) (m n : ℕ)
-    → may_start linux (with_started l m) n ≡ may_start linux l n
-may_start_started linux l m n = grind (arith, turn_started, ready_started)
-
-breaker_started : (r : Requests) (m n : ℕ) → breaker_of (manual.with_started r m) n ≡ breaker_of r n
-unfolding is_in_faulty_group first_of is_joined
-breaker_started r m n = refl
-
 pub posts_started : (linux : Bool) (r : Requests) (m n : ℕ) (res : ℤ)
     → posts linux (manual.with_started r m) n res ≡ posts linux r n res
-posts_started linux r m n res = grind (arith, breaker_started)
+unfolding is_in_faulty_group first_of is_joined
+posts_started linux r m n res = refl
 
 pub drains_ended_started : (linux : Bool) (l : LinuxRequests) (m n : ℕ) (res : ℤ)
     → drains_ended linux (with_started l m) n res ≡ drains_ended linux l n res
-drains_ended_started true l m n res =
-    let r : Requests = manual.with_ended l.requests n res no_bytes in
-    ap (λ gs. record l.drains { deferred = gs }) (going_same r (r.started ++ m ∷ []) r.cancelled r.ended (λ k. refl) l.drains.deferred)
-drains_ended_started false l m n res = refl
+unfolding is_alone
+drains_ended_started linux l m n res = refl
 
 pub drains_called_started : (linux : Bool) (l : LinuxRequests) (m : ℕ) (entries : List Sqe)
     → drains_called linux (with_started l m) entries ≡ drains_called linux l entries
@@ -63,8 +50,10 @@ start_called g w n c = rw (c.outstanding, c.idle, c.spared, c.ready, c.no_cancel
 -- a request that can start could start before another one did, and can after it
 pub start_before : (linux : Bool) (l : LinuxRequests) (m n : ℕ) → n ≢ m
     → CanStart linux (with_started l m) n → CanStart linux l n
-start_before linux l m n differ c = grind (arith, is_running_started_other, ends_doomed_started, may_start_started)
+unfolding is_in_turn is_ready some_member is_joined
+start_before linux l m n differ c = grind (arith, is_running_started_other, ends_doomed_started)
 
 pub start_after : (linux : Bool) (l : LinuxRequests) (m n : ℕ) → n ≢ m → CanStart linux l n
     → CanStart linux (with_started l m) n
-start_after linux l m n differ c = grind (arith, is_running_started_other, ends_doomed_started, may_start_started)
+unfolding is_in_turn is_ready some_member is_joined
+start_after linux l m n differ c = grind (arith, is_running_started_other, ends_doomed_started)

@@ -1,73 +1,37 @@
 -- The laws of where submission calls end: from the open call as it is read off the history, and by induction over it.
-use Rattle.std.proofs.Common.{◌≡◌, ◌↔◌, ℕ, ◌+◌, ◌≤◌, ◌<◌, Bool, true, false, cond, eqb, nat_lt, List, [], ◌∷◌, ◌++◌, length, count_by, Option, Some, None, is_some, unwrap_or, slice_get, if◌then◌else◌, ◌⊎◌, inl, inr, refl, sym, subst, ap, ◌∙◌, arith, append-nil}
-use Rattle.uring_laws.proofs.Common.{Answer, Call, History, IsLawfulApart, Place, Setup, Step, SubmissionMove, World, begins, cases_Bool, closes, drops, end_answer, end_answer_in, eqb-false, eqb-true, has_stopped, open_count, open_taken, opened_by, place_answer, slice_get-get_or, sound_of, stays, stops_at_word, submission_move, sum_by-cons, take_answer, take_answer_in, take_at, taken, taken_since, takes, told, world}
+use Rattle.std.proofs.lemmas.Grind.{common_steps}
+use Rattle.std.proofs.Common.{◌≡◌, ◌↔◌, ℕ, ◌+◌, ◌≤◌, true, false, cond, List, [], ◌∷◌, ◌++◌, length, count_by, Option, Some, None, is_some, ◌⊎◌, refl, subst, arith, append-nil}
+use Rattle.uring_laws.proofs.Common.{Answer, Call, History, IsLawfulApart, Setup, Step, SubmissionMove, World, begins, cases_Bool, closes, drops, end_answer_in, has_stopped, open_count, open_taken, opened_by, slice_get-get_or, sound_of, stays, submission_move, sum_by-cons, take_answer_in, take_at, taken, taken_since, takes, told, world}
 use Rattle.uring_laws.specs.Stopping.{EndsThere, OpenCallEndsThere, CallsTakeAll, drops_word}
-use Rattle.uring_core.specs.declared.step.Step.TheVariants as step
 use Rattle.uring_core.specs.declared.answer.Answer.TheVariants as answer
 use Rattle.uring_core.proofs.SoundRings.{open_count as positions_open}
 use Rattle.uring_laws.proofs.DirectSubmission.{IsOpened, direct_submission}
-use Rattle.uring_laws.proofs.Telling.{told_same}
 
 -- The open call.
 
--- a take gives no more exactly if all positions are taken
-no_more_at : (all : Bool) (taken count : ℕ) (place : Option Place) (p : Place)
-    → eqb taken count ≡ all → place ≡ Some p
-    → (cond all answer.NoMore (place_answer place) ≡ answer.NoMore) ↔ (taken ≡ count)
-no_more_at all taken count place p e is = grind arith
-
--- a call may be closed exactly if all its positions are taken
-closes_at : (few : Bool) (taken count : ℕ) (accepted missed head : ℕ) → taken ≤ count
-    → nat_lt taken count ≡ few
-    → (cond few answer.NotAll (answer.Taken accepted missed head) ≡ answer.NotAll → ⊥)
-    ↔ (taken ≡ count)
-closes_at few taken count accepted missed head within e = grind arith
-
--- the positions of a call are all taken exactly if it took those that it opened with, or stopped
-all_at : (had : Bool) (taken count since opened : ℕ) → taken ≡ since
-    → count ≡ (if had then since else opened) → (taken ≡ count) ↔ ((since ≡ opened) ⊎ (had ≡ true))
-all_at had taken count since opened t n = grind arith
-
-both : {A B C : Type 0} → A ↔ B → B ↔ C → A ↔ C
-both f g = (λ a. g.0 (f.0 a), λ c. f.1 (g.1 c))
-
-back : {A B : Type 0} → A ↔ B → B ↔ A
-back f = (f.1, f.0)
+-- in a call, a take gives no more, and the call may be closed, exactly if all its positions are taken
+in_call : (g : Setup) (w : World) (call : Call) → call.taken ≤ call.count
+    → taken w.submission + call.count ≤ length w.submission.published
+    → ((take_answer_in w (Some call) ≡ answer.NoMore) ↔ (call.taken ≡ call.count))
+    × ((end_answer_in g w (Some call) ≡ answer.NotAll → ⊥) ↔ (call.taken ≡ call.count))
+in_call g w call within published =
+    grind (arith, (slice_get-get_or w.submission.published (taken w.submission + call.taken) (record { word = 0; entry = None })))
 
 pub ends_there : (g : Setup) → OpenCallEndsThere g
-ends_there g h opened lawful there last = by_call w.submission.call refl there
+ends_there g h opened lawful there last = by_call (world g h).submission.call refl there
   where
-    w : World
-    w = world g h
-
-    by_call : (c : Option Call) → w.submission.call ≡ c → is_some c ≡ true → EndsThere g h opened
+    by_call : (c : Option Call) → (world g h).submission.call ≡ c → is_some c ≡ true → EndsThere g h opened
     by_call None is some = absurd cc
     by_call (Some call) is some =
+        let w : World = world g h in
         let l = w.submission in
         let s = (sound_of g h lawful).submission in
         let told : (call.taken ≡ taken_since h) × (call.count ≡ open_count g h) = subst (IsOpened g h) is (direct_submission g h lawful).opened in
-        let count : call.count ≡ (if has_stopped g h then taken_since h else opened) = told.1 ∙ ap (λ o. if has_stopped g h then taken_since h else unwrap_or o 0) last in
         let within : call.taken ≤ call.count = subst (λ o. open_taken o ≤ positions_open o) is s.within_call in
         let published : taken l + call.count ≤ length l.published = subst (λ o. taken l + positions_open o ≤ length l.published) is s.call_published in
-        let all = all_at (has_stopped g h) call.taken call.count (taken_since h) opened told.0 count in
-        let take_is : take_answer w ≡ take_answer_in w (Some call) = ap (take_answer_in w) is in
-        let end_is : end_answer g w ≡ end_answer_in g w (Some call) = ap (end_answer_in g w) is in
-        let no_more : (take_answer w ≡ answer.NoMore) ↔ (call.taken ≡ call.count) = subst (λ a. (a ≡ answer.NoMore) ↔ (call.taken ≡ call.count)) (sym take_is) (taken_at call within published) in
-        let closes : (end_answer g w ≡ answer.NotAll → ⊥) ↔ (call.taken ≡ call.count) = subst (λ a. (a ≡ answer.NotAll → ⊥) ↔ (call.taken ≡ call.count)) (sym end_is) (closes_at _ call.taken call.count _ _ _ within refl) in
-        record { no_more = both no_more all; closes = both closes (back no_more) }
-      where
-        taken_at : (call : Call) → call.taken ≤ call.count → taken w.submission + call.count ≤ length w.submission.published → (take_answer_in w (Some call) ≡ answer.NoMore) ↔ (call.taken ≡ call.count)
-        taken_at call within published = by_all (eqb call.taken call.count) refl
-          where
-            at : ℕ
-            at = taken w.submission + call.taken
-
-            by_all : (all : Bool) → eqb call.taken call.count ≡ all → (cond all answer.NoMore (place_answer (slice_get w.submission.published at)) ≡ answer.NoMore) ↔ (call.taken ≡ call.count)
-            by_all true e = (λ _. eqb-true call.taken call.count e, λ _. refl)
-            by_all false e =
-                let more = eqb-false call.taken call.count e in
-                let low : at < length w.submission.published = omega arith in
-                no_more_at false call.taken call.count (slice_get w.submission.published at) _ e (slice_get-get_or w.submission.published at (record { word = 0; entry = None }) low)
+        let ends = in_call g w call within published in
+        let all : (call.taken ≡ call.count) ↔ ((taken_since h ≡ opened) ⊎ (has_stopped g h ≡ true)) = grind (arith, told, last) in
+        grind (arith, is, ends, all)
 
 -- Rings that go on.
 
@@ -80,22 +44,13 @@ open_counts (Some call) = call.count ∷ []
 abbrev TakesAll : History → World → Type 0
 TakesAll h w = told opened_by h ≡ w.submission.calls ++ open_counts w.submission.call
 
--- a word that was dropped ended no call
-word_passed : (g : Setup) (h : History) → (g.linux ≡ true → count_by drops_word ((step.Take, answer.Dropped) ∷ h) ≡ 0)
-    → stops_at_word g ≡ false
-word_passed g h none =
-    elim (cases_Bool g.linux) [
-      | inl linux ↦ absurd (omega (arith, none linux, sum_by-cons (λ e. cond (drops_word e) 1 0) (step.Take, answer.Dropped) h))
-      | inr manual ↦ manual
-    ]
-
 all_kept : (g : Setup) (h : History) (s : Step) (a : Answer) (v : World) → g.stops ≡ false
     → (g.linux ≡ true → count_by drops_word ((s, a) ∷ h) ≡ 0)
     → SubmissionMove g (world g h) s a v → TakesAll h (world g h) → TakesAll ((s, a) ∷ h) v
-all_kept g h s a v goes none (stays _ _ r c is_closed off left) i = told_same opened_by (s, a) h off.opens ∙ i
+all_kept g h s a v goes none (stays _ _ r c is_closed off left) i = rw off.opens i
 all_kept g h s a v goes none (begins count is_open no_call unspent) i = grind (arith, append-nil)
 all_kept g h s a v goes none (takes entry call place opened left at valid) i = grind arith
-all_kept g h s a v goes none (drops call place opened left at invalid) i = grind (arith, (word_passed g h none))
+all_kept g h s a v goes none (drops call place opened left at invalid) i = grind (arith, common_steps, (cases_Bool g.linux))
 all_kept g h s a v goes none (closes accepted missed head call opened all counted) i = grind (arith, append-nil)
 all_kept g h s a v goes none _ i = i
 
@@ -103,8 +58,8 @@ all_taken : (g : Setup) (h : History) → g.stops ≡ false → (g.linux ≡ tru
     → IsLawfulApart g h → TakesAll h (world g h)
 all_taken g [] goes none lawful = refl
 all_taken g ((s, a) ∷ before) goes none lawful =
-    let none_before : g.linux ≡ true → count_by drops_word before ≡ 0 = λ linux. omega (arith, none linux, sum_by-cons (λ e. cond (drops_word e) 1 0) (s, a) before) in
-    all_kept g before s a _ goes none (submission_move g s a before lawful) (all_taken g before goes none_before lawful.1)
+    all_kept g before s a _ goes none (submission_move g s a before lawful)
+    (all_taken g before goes (λ linux. omega (arith, none linux, sum_by-cons (λ e. cond (drops_word e) 1 0) (s, a) before)) lawful.1)
 
 pub calls_take_all : (g : Setup) → CallsTakeAll g
 calls_take_all g h goes none lawful = grind (arith, direct_submission, all_taken, take_at)

@@ -1,43 +1,26 @@
 -- Which positions were taken.
-use Rattle.std.proofs.Common.{◌≡◌, ◌+◌, false, [], ◌∷◌, ◌++◌, take, Some, None, refl, sym, ap, ◌∙◌, arith, append-nil}
-use Rattle.uring_laws.proofs.Common.{Answer, Event, History, IsLawfulApart, IsSoundSubmission, IsWithinLimits, Setup, Step, SubmissionMove, TakenOnceInOrder, World, begins, closes, drops, entries_of, entries_taken, entry_taken_by, ltb-false, open_taken, positions_taken, reached, sound_of, stays, stores, submission_move, sum_by_push, take-append-le, taken, takes, takes_position, world}
+use Rattle.std.proofs.lemmas.Grind.{common_steps}
+use Rattle.std.proofs.Common.{◌≡◌, ◌+◌, [], ◌∷◌, take, Some, None, refl, arith, append-nil}
+use Rattle.uring_laws.proofs.Common.{Answer, History, IsLawfulApart, IsSoundSubmission, IsWithinLimits, Setup, Step, SubmissionMove, TakenOnceInOrder, World, begins, closes, drops, entries_of, entries_taken, ltb-false, positions_taken, reached, sound_of, stays, stores, submission_move, sum_by_push, take-append-le, taken, takes, world}
 use Rattle.uring_core.proofs.TakenEntries.{one_further}
-use Rattle.uring_laws.proofs.Telling.{count_more, count_same}
 
 -- as many positions were taken as the lists say, and the entries are those that they have
 pub record TakesPlaces (h : History) (w : World) : Type 0 where
   pub count : positions_taken h ≡ reached w.submission
   pub entries : entries_taken h ≡ entries_of (take (reached w.submission) w.submission.published)
 
--- what neither takes a position nor reaches further leaves it so
-still_places : (h : History) (e : Event) (w v : World) → takes_position e ≡ false → entry_taken_by e ≡ None
-    → reached w.submission ≡ reached v.submission → w.submission.published ≡ v.submission.published
-    → TakesPlaces h w → TakesPlaces (e ∷ h) v
-still_places h e w v idle none same places i = grind arith
-
 places_kept : (g : Setup) (h : History) (w : World) (s : Step) (a : Answer) (v : World)
     → SubmissionMove g w s a v → IsSoundSubmission g.sq w.submission → TakesPlaces h w
     → TakesPlaces ((s, a) ∷ h) v
 places_kept g h w s a v (stays _ _ r c is_closed off left) sound i = grind arith
-places_kept g h w s a v (stores tail) sound i = grind (arith, count_same, take-append-le)
+places_kept g h w s a v (stores tail) sound i = grind (arith, common_steps, take-append-le)
 places_kept g h w s a v (begins count is_open no_call unspent) sound i = grind arith
 places_kept g h w s a v (takes entry call place opened left at valid) sound i =
-    let t : open_taken w.submission.call ≡ call.taken = ap open_taken opened in
-    let next : reached w.submission + 1 ≡ taken w.submission + (call.taken + 1) = omega arith in
-    let here : reached w.submission ≡ taken w.submission + call.taken = omega arith in
-    record {
-      count = count_more takes_position (s, a) h refl ∙ omega (arith, i.count);
-      entries = ap (λ xs. xs ++ entry ∷ []) (i.entries ∙ ap (λ k. entries_of (take k w.submission.published)) here) ∙ sym (one_further w.submission.published (taken w.submission + call.taken) place (Some entry) at valid) ∙ ap (λ k. entries_of (take k w.submission.published)) (omega arith);
-    }
+    grind (arith, common_steps, (one_further w.submission.published (taken w.submission + call.taken) place (Some entry) at valid))
 places_kept g h w s a v (drops call place opened left at invalid) sound i =
-    let t : open_taken w.submission.call ≡ call.taken = ap open_taken opened in
-    let here : reached w.submission ≡ taken w.submission + call.taken = omega arith in
-    record {
-      count = count_more takes_position (s, a) h refl ∙ omega (arith, i.count);
-      entries = i.entries ∙ ap (λ k. entries_of (take k w.submission.published)) here ∙ sym (append-nil _) ∙ sym (one_further w.submission.published (taken w.submission + call.taken) place None at invalid) ∙ ap (λ k. entries_of (take k w.submission.published)) (omega arith);
-    }
+    grind (arith, common_steps, (one_further w.submission.published (taken w.submission + call.taken) place None at invalid), append-nil)
 places_kept g h w s a v (closes accepted missed head call opened all counted) sound i = grind (arith, sum_by_push, ltb-false)
-places_kept g h w s a v _ sound i = still_places h (s, a) w _ refl refl refl refl i
+places_kept g h w s a v _ sound i = grind (arith, common_steps)
 
 pub takes_places : (g : Setup) (h : History) → IsLawfulApart g h → TakesPlaces h (world g h)
 takes_places g [] lawful = record { count = refl; entries = refl }

@@ -1,6 +1,6 @@
 -- The starts and the ends are those that a history tells.
 use Rattle.std.proofs.Common.{◌≡◌, ℕ, ℤ, Bool, [], ◌∷◌, refl, arith}
-use Rattle.uring_laws.proofs.Common.{Answer, History, IsLawfulApart, LinuxRequests, Move, Requests, Setup, Step, ends_cancel, move_of, no_bytes, requests_of, world}
+use Rattle.uring_laws.proofs.Common.{Answer, History, IsLawfulApart, LinuxRequests, Move, Requests, Setup, Step, move_of, no_bytes, requests_of, world}
 use Rattle.uring_core.proofs.Moves.{stays, ends_doomed}
 use Rattle.uring_rules.specs.Rules.{with_issued_end}
 use Rattle.uring_laws.specs.Direct.{starts as starts_of, ends}
@@ -20,7 +20,6 @@ told_kept : (linux : Bool) (h : History) (l : LinuxRequests) (s : Step) (a : Ans
     → Move linux l s a later → TellsRequests h l.requests → TellsRequests ((s, a) ∷ h) later
 told_kept linux h l s a later (stays _ _ no_start no_end) i = grind arith
 told_kept linux h l s a later (ends_doomed n outstanding) i = issued_told linux h l.requests n _ i
-told_kept linux h l s a later (ends_cancel n outstanding spared ready cancel) i = grind arith
 told_kept linux h l s a later _ i = grind arith
 
 pub tells_requests : (g : Setup) (h : History) → IsLawfulApart g h

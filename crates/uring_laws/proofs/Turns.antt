@@ -1,61 +1,32 @@
 -- Who runs, or is to end as doomed, in a lawful history: by Linux's rules all earlier members of its group have ended, and it isn't deferred.
-use Rattle.std.proofs.Common.{◌≡◌, ℕ, true, not, ◌&&◌, subst}
-use Rattle.uring_laws.proofs.Common.{History, IsBetween, IsLawfulApart, LinuxRequests, Setup, all_between, and_parts, both_ways, by_linux, ends_doomed, false_from_ne_true, has_ended, has_started, held_by, history_happens, is_in_turn, is_outstanding, is_running, not_doomed, outstanding_tells, requests_of, sound_of, world}
+use Rattle.std.proofs.Common.{◌≡◌, ℕ, true, not, subst}
+use Rattle.uring_laws.proofs.Common.{History, IsBetween, IsLawfulApart, LinuxRequests, Setup, all_between, and_parts, both_ways, ends_doomed, false_from_ne_true, has_ended, has_started, held_by, history_happens, is_in_turn, is_outstanding, is_running, not_doomed, outstanding_tells, requests_of, sound_of, world}
 use Rattle.uring_linux.specs.LinuxRequests.{is_doomed}
 use Rattle.uring_laws.proofs.EndedRequests.{IsApart, not_over}
-use Rattle.uring_laws.proofs.LinuxSound.{IsFirst, of_linux, linux_sound, turn_first}
-
-between_by_linux : (g : Setup) (h : History) → IsLawfulApart (by_linux g) h → IsBetween (requests_of (world (by_linux g) h))
-between_by_linux g h lawful =
-    let so = history_happens g h lawful in
-    subst IsBetween so.made (all_between so.happened so.may)
+use Rattle.uring_laws.proofs.LinuxSound.{IsFirst, of_linux, linux_sound, turn_first, IsSoundLinux}
 
 -- what is so of the requests and drains of a lawful history by Linux's rules, whatever happened
 pub between : (g : Setup) (h : History) → IsLawfulApart g h → g.linux ≡ true
     → IsBetween (requests_of (world g h))
 between g h lawful is =
-    of_linux (λ g. (h : History) → IsLawfulApart g h → IsBetween (requests_of (world g h))) between_by_linux g is h lawful
+    of_linux (λ g. (h : History) → IsLawfulApart g h → IsBetween (requests_of (world g h))) (λ g h lawful. rw (← (history_happens g h lawful).made) (all_between (history_happens g h lawful).happened (history_happens g h lawful).may)) g is h lawful
 
 -- by Linux's rules n is in its turn, and not deferred
 pub record GoesOn (l : LinuxRequests) (n : ℕ) : Type 0 where
   pub first : IsFirst l.requests n
   pub apart : IsApart l n
 
-running_by_linux : (g : Setup) (h : History) (n : ℕ) → IsLawfulApart (by_linux g) h
-    → is_running (world (by_linux g) h).requests n ≡ true → GoesOn (requests_of (world (by_linux g) h)) n
-running_by_linux g h n lawful running =
-    let l : LinuxRequests = requests_of (world (by_linux g) h) in
-    let started : has_started l.requests n ≡ true = (and_parts (has_started l.requests n) (not (has_ended l.requests n)) running).0 in
-    let waiting = (between_by_linux g h lawful).settled.waiting in
-    record {
-      first = (linux_sound g h lawful).started_first n started;
-      apart = record {
-        accepted = (sound_of (by_linux g) h lawful).requests.started_accepted n started;
-        still = not_over l.requests n running;
-        free = false_from_ne_true _ (λ held. let k = held_by l.requests 0 l.drains.deferred l.drains.from n waiting held in both_ways _ (k.waiting.idle n k.low k.high).started started);
-      };
-    }
-
 pub running_goes_on : (g : Setup) (h : History) (n : ℕ) → IsLawfulApart g h
     → is_running (world g h).requests n ≡ true → g.linux ≡ true → GoesOn (requests_of (world g h)) n
 running_goes_on g h n lawful running is =
-    of_linux (λ g. (h : History) (n : ℕ) → IsLawfulApart g h → is_running (world g h).requests n ≡ true → GoesOn (requests_of (world g h)) n) running_by_linux g is h n lawful running
-
-doomed_by_linux : (g : Setup) (h : History) (n : ℕ) → IsLawfulApart (by_linux g) h
-    → is_outstanding (world (by_linux g) h).requests n ≡ true
-    → (is_in_turn (world (by_linux g) h).requests n && is_doomed (world (by_linux g) h).requests n) ≡ true
-    → GoesOn (requests_of (world (by_linux g) h)) n
-doomed_by_linux g h n lawful outstanding doomed =
-    let l : LinuxRequests = requests_of (world (by_linux g) h) in
-    let p = and_parts (is_in_turn l.requests n) (is_doomed l.requests n) doomed in
-    let t = outstanding_tells l.requests n outstanding in
-    let waiting = (between_by_linux g h lawful).settled.waiting in
+    let l : LinuxRequests = requests_of (world g h) in
+    let started : has_started l.requests n ≡ true = (and_parts (has_started l.requests n) (not (has_ended l.requests n)) running).0 in
     record {
-      first = turn_first l.requests n p.0;
+      first = (of_linux (λ g. (h : History) → IsLawfulApart g h → IsSoundLinux (world g h).requests) linux_sound g is h lawful).started_first n started;
       apart = record {
-        accepted = t.0;
-        still = t.1;
-        free = false_from_ne_true _ (λ held. let k = held_by l.requests 0 l.drains.deferred l.drains.from n waiting held in both_ways _ (not_doomed l.requests k.group n k.waiting k.low k.high) p.1);
+        accepted = (sound_of g h lawful).requests.started_accepted n started;
+        still = not_over l.requests n running;
+        free = false_from_ne_true _ (λ held. let k = held_by l.requests 0 l.drains.deferred l.drains.from n (between g h lawful is).settled.waiting held in both_ways _ (k.waiting.idle n k.low k.high).started started);
       };
     }
 
@@ -63,4 +34,14 @@ pub doomed_goes_on : (g : Setup) (h : History) (n : ℕ) → IsLawfulApart g h
     → is_outstanding (world g h).requests n ≡ true → ends_doomed g.linux (world g h).requests n ≡ true
     → g.linux ≡ true → GoesOn (requests_of (world g h)) n
 doomed_goes_on g h n lawful outstanding doomed is =
-    of_linux (λ g. (h : History) (n : ℕ) → IsLawfulApart g h → is_outstanding (world g h).requests n ≡ true → ends_doomed g.linux (world g h).requests n ≡ true → GoesOn (requests_of (world g h)) n) doomed_by_linux g is h n lawful outstanding doomed
+    let l : LinuxRequests = requests_of (world g h) in
+    let p = and_parts (is_in_turn l.requests n) (is_doomed l.requests n) (subst (λ b. ends_doomed b l.requests n ≡ true) is doomed) in
+    let t = outstanding_tells l.requests n outstanding in
+    record {
+      first = turn_first l.requests n p.0;
+      apart = record {
+        accepted = t.0;
+        still = t.1;
+        free = false_from_ne_true _ (λ held. let k = held_by l.requests 0 l.drains.deferred l.drains.from n (between g h lawful is).settled.waiting held in both_ways _ (not_doomed l.requests k.group n k.waiting k.low k.high) p.1);
+      };
+    }

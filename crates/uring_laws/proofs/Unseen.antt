@@ -1,7 +1,7 @@
 -- A start changes places with each step that is on the rings, by either's rules: `start_then_rings` and `rings_then_start`.
 -- Such a step asks nobody who runs; of the requests it changes at most which are accepted, after all that there are.
-use Rattle.std.proofs.Common.{◌≡◌, ℕ, ◌<◌, true, not, List, ◌∷◌, length, Some, sym, subst, ap, ◌∙◌}
-use Rattle.uring_laws.proofs.Common.{Answer, CalledFor, Change, Drains, IsBetween, IsLawful, IsLawfulApart, IsOnRings, LinuxRequests, RingsThenStart, Setup, Sqe, StartThenRings, Step, World, and_parts, change_of, ending_of, entries_from, happens, has_ended, ltb-true, refuses, requests_of, sound_of, world}
+use Rattle.std.proofs.Common.{◌≡◌, ℕ, ◌<◌, true, ◌∷◌, length, sym}
+use Rattle.uring_laws.proofs.Common.{Answer, CalledFor, Change, IsBetween, IsLawful, IsLawfulApart, IsOnRings, LinuxRequests, RingsThenStart, Setup, StartThenRings, Step, World, change_of, entries_from, happens, refuses, requests_of, sound_of, world, outstanding_tells}
 use Rattle.uring_core.proofs.Changes.{takes, drops, closes}
 use Rattle.uring_laws.proofs.Growth.{IsCut}
 use Rattle.uring_core.specs.declared.step.Step.TheVariants as step
@@ -21,12 +21,11 @@ called_either g w n _ a on = search
 
 made_either : (g : Setup) (w : World) (n : ℕ) (s : Step) (a : Answer) → Change g w s a → IsOnRings s
     → happens g (begun w n) s a ≡ begun (happens g w s a) n
-made_either g w n s a (refuses _ _ same silent) on =
-    same (begun w n) ∙ ap (λ (v : World). begun v n) (sym (same w))
+made_either g w n s a (refuses _ _ same silent) on = rw (same (begun w n), same w)
 made_either g w n s a (takes entry call place opened left at valid) on = rw opened
 made_either g w n s a (drops call place opened left at invalid) on = rw opened
 made_either g w n s a (closes accepted missed head call opened all told) on =
-    rw opened (ap (λ (d : Drains). record (ending_of g (begun w n) (Some call)) { drains = d }) (drains_called_started g.linux (requests_of w) n (entries_from w.submission call.count)))
+    rw (opened, drains_called_started g.linux (requests_of w) n (entries_from w.submission call.count))
 made_either g w n s a _ on = search
 
 -- Who could start before such a step can start after it, and the other way round.
@@ -38,27 +37,21 @@ module _ (g : Setup) (w : World) (n : ℕ) (cut : IsCut w.requests) (so : g.linu
   abbrev Either : World → Type 0
   Either v = (can (requests_of w) → can (requests_of v)) × (can (requests_of v) → can (requests_of w))
 
-  same_either : (l : LinuxRequests) → l ≡ requests_of w → (can (requests_of w) → can l) × (can l → can (requests_of w))
-  same_either l same = (subst can (sym same), subst can same)
-
   start_either : (s : Step) (a : Answer) → Change g w s a → IsOnRings s → Either (happens g w s a)
-  start_either s a (refuses _ _ same silent) on = same_either _ (ap requests_of (same w))
-  start_either s a (takes entry call place opened left at valid) on = same_either _ (rw opened)
-  start_either s a (drops call place opened left at invalid) on = same_either _ (rw opened)
+  start_either s a (refuses _ _ same silent) on = rw (same w) (search)
+  start_either s a (takes entry call place opened left at valid) on = rw opened (search)
+  start_either s a (drops call place opened left at invalid) on = rw opened (search)
   start_either s a (closes accepted missed head call opened all told) on =
-      let entries : List Sqe = entries_from w.submission call.count in
-      subst (λ o. Either (ending_of g w o)) (sym opened) (start_kept (requests_of w) entries cut n within g.linux so, start_was (requests_of w) entries cut n within g.linux so)
+      rw opened (start_kept (requests_of w) _ cut n within g.linux so, start_was (requests_of w) _ cut n within g.linux so)
   start_either s a _ on = search
 
 pub start_then_rings : (g : Setup) → StartThenRings g
 start_then_rings g h n s a on lawful =
     let w : World = world g h in
-    let called : CalledFor g w s a = (called_either g w n s a on).0 lawful.0 in
-    let first : IsLawful g ((s, a) ∷ h) = (called, lawful.1.1) in
+    let first : IsLawful g ((s, a) ∷ h) = ((called_either g w n s a on).0 lawful.0, lawful.1.1) in
     let apart : IsLawfulApart g ((s, a) ∷ h) = lawful_apart g ((s, a) ∷ h) first in
     let c : CanStart g.linux (requests_of w) n = can_start g w n lawful.1.0 in
-    let within : n < length w.requests.accepted = ltb-true n (length w.requests.accepted) (and_parts _ (not (has_ended w.requests n)) c.outstanding).0 in
-    let later : CanStart g.linux (requests_of (happens g w s a)) n = (start_either g w n (sound_of g h apart.1).requests.cut_at_end (between g h apart.1) within s a (change_of g w s a apart.0) on).0 c in
+    let later : CanStart g.linux (requests_of (happens g w s a)) n = (start_either g w n (sound_of g h apart.1).requests.cut_at_end (between g h apart.1) (outstanding_tells w.requests n c.outstanding).0 s a (change_of g w s a apart.0) on).0 c in
     record {
       lawful = (start_called g (happens g w s a) n later, first);
       alike = alike_same g _ _ (made_either g w n s a (change_of g w s a apart.0) on);
@@ -68,8 +61,9 @@ pub rings_then_start : (g : Setup) → RingsThenStart g
 rings_then_start g h n s a on within lawful =
     let w : World = world g h in
     let apart : IsLawfulApart g ((s, a) ∷ h) = lawful_apart g ((s, a) ∷ h) lawful.1 in
-    let c : CanStart g.linux (requests_of w) n = (start_either g w n (sound_of g h apart.1).requests.cut_at_end (between g h apart.1) within s a (change_of g w s a apart.0) on).1 (can_start g (happens g w s a) n lawful.0) in
+    let change = change_of g w s a apart.0 in
+    let c : CanStart g.linux (requests_of w) n = (start_either g w n (sound_of g h apart.1).requests.cut_at_end (between g h apart.1) within s a change on).1 (can_start g (happens g w s a) n lawful.0) in
     record {
       lawful = ((called_either g w n s a on).1 lawful.1.0, (start_called g w n c, lawful.1.1));
-      alike = alike_same g _ _ (sym (made_either g w n s a (change_of g w s a apart.0) on));
+      alike = alike_same g _ _ (sym (made_either g w n s a change on));
     }
