@@ -1,8 +1,7 @@
 -- What a core shows as a submission call closes, as a request ends, and as it is made.
-use Rattle.std.proofs.Common.{◌≡◌, ℕ, ◌+◌, ◌≤◌, ℤ, Bool, true, false, not, cond, eqb, if◌then◌else◌, List, [], ◌∷◌, length, Option, Some, None, refl, sym, ap, subst, ◌∙◌, arith}
-use Rattle.uring_core.proofs.Common.{Answer, Call, Completions, Core, Cq, FinishesApart, FitsApart, History, IsFinished, LinuxRequests, Op, Setup, ShowsCompletions, ShowsSubmission, ShowsWorld, Sq, Sqe, Submission, World, cond_some, dropped, end_answer_in, ending_of, ends_doomed, entries_of, entry_of, eqb-true, held_by, is_cancel, is_outstanding, is_running, issue_answer, issue_told, length-append, may_start, no_bytes, no_completion, no_submission, operation_of, places_from, positions_of, requests_of, sum_by_push, taken, with_closed, with_end_of, with_told, word_of, world, happens}
+use Rattle.std.proofs.Common.{◌≡◌, ℕ, ◌+◌, ◌≤◌, ℤ, Bool, true, false, cond, eqb, List, [], ◌∷◌, length, Option, Some, None, refl, sym, ap, subst, ◌∙◌, arith}
+use Rattle.uring_core.proofs.Common.{Answer, Call, Completions, Core, Cq, FinishesApart, FitsApart, History, IsFinished, LinuxRequests, Op, Setup, ShowsCompletions, ShowsSubmission, ShowsWorld, Sq, Sqe, Submission, World, cond_some, dropped, end_answer_in, ending_of, entries_of, eqb-true, held_by, is_running, issue_answer, issue_told, length-append, no_bytes, no_completion, no_submission, places_from, positions_of, requests_of, sum_by_push, taken, with_closed, with_end_of, with_told, word_of, world, happens}
 use Rattle.uring_linux.specs.LinuxRequests.{no_request, with_started}
-use Rattle.uring_rules.specs.Rules.{doomed_result, cancel_result}
 use Rattle.uring_entry.specs.declared.operation.Outcome.{Outcome}
 use Rattle.uring_rings.specs.SqAnswers as ring
 use Rattle.uring_rings.specs.declared.answers.EndAnswer.TheVariants as ended_as
@@ -96,11 +95,6 @@ pub told_end : (g : Setup) (w : World) (n : ℕ) (res : ℤ) (bytes : List ℕ)
     ≡ with_end_of g w n res bytes
 told_end g w n res bytes = grind arith
 
--- an end posts one completion at most
-few_posted : (g : Setup) (w : World) (n : ℕ) (res : ℤ) (bytes : List ℕ)
-    → length (with_end_of g w n res bytes).posted ≤ length w.completions.posted + 1
-few_posted g w n res bytes = grind (arith, length-append)
-
 -- The parts after an end: one request less is outstanding, and one promised post less is left at most.
 ended_shows : (p : Core) (w : World) (d : Rules) (q : Cq) (r : LinuxRequests) (n : ℕ) (res : ℤ) (bytes : List ℕ)
     → ShowsWorld p w
@@ -111,31 +105,19 @@ ended_shows : (p : Core) (w : World) (d : Rules) (q : Cq) (r : LinuxRequests) (n
     → p.cq.room ≤ q.room + 1 → (p.cq.room ≤ p.cq.spare → q.room ≤ q.spare)
     → ShowsWorld (record p { dispatch = d; cq = q }) (record w { requests = r.requests; drains = r.drains; completions = with_end_of p.setup w n res bytes })
 ended_shows p w d q r n res bytes s shows same_rules accepted outstanding room between shown left promised =
-    grind (arith, few_posted)
+    grind (arith, length-append)
 
 -- Issue.
 
--- a chain of tests goes through
-told_chain : (a b c d e : Bool) (x y z u v t : Issued)
-    → issue_told (cond a x (cond b y (cond c z (cond d u (cond e v t)))))
-    ≡ cond a (issue_told x) (cond b (issue_told y) (cond c (issue_told z) (cond d (issue_told u) (cond e (issue_told v) (issue_told t)))))
-told_chain a b c d e x y z u v t = grind arith
-
 issue_same : (g : Setup) (w : World) (n : ℕ)
     → issue_told (issued g.linux (requests_of w) n) ≡ issue_answer g w n
-issue_same g w n = told_chain (not (is_outstanding w.requests n)) (is_running w.requests n) (ends_doomed g.linux w.requests n) (not (may_start g.linux (requests_of w) n)) (is_cancel (entry_of w.requests n)) issue.Unknown issue.Running (issue.Ended (doomed_result g.linux w.requests n) (posts_of g.linux w.requests n (doomed_result g.linux w.requests n))) issue.NotReady (issue.Ended (cancel_result g.linux w.requests n) (posts_of g.linux w.requests n (cancel_result g.linux w.requests n))) (issue.Run (operation_of (entry_of w.requests n)))
+issue_same g w n = grind arith
 
 -- what ends as it is issued posts what its end posts
-posts_chain : (a b c d e : Bool) (x z : ℤ) (posted_with : ℤ → Posts) (op : Op) (res : ℤ) (posted : Posts)
-    → issue.Ended res posted
-    ≡ cond a issue.Unknown (cond b issue.Running (cond c (issue.Ended x (posted_with x)) (cond d issue.NotReady (cond e (issue.Ended z (posted_with z)) (issue.Run op)))))
-    → posted ≡ posted_with res
-posts_chain a b c d e x z posted_with op res posted is = grind arith
-
 issue_posts : (g : Setup) (w : World) (n : ℕ) (res : ℤ) (posted : Posts)
     → issue.Ended res posted ≡ issued g.linux (requests_of w) n
     → posted ≡ posts_of g.linux w.requests n res
-issue_posts g w n res posted is = posts_chain (not (is_outstanding w.requests n)) (is_running w.requests n) (ends_doomed g.linux w.requests n) (not (may_start g.linux (requests_of w) n)) (is_cancel (entry_of w.requests n)) (doomed_result g.linux w.requests n) (cancel_result g.linux w.requests n) (posts_of g.linux w.requests n) (operation_of (entry_of w.requests n)) res posted is
+issue_posts g w n res posted is = grind arith
 
 pub run_goes : (p : Core) (d : Rules) (n : ℕ) (op : Op)
     → ((l : LinuxRequests) → ShowsRequests p.dispatch l → issue.Run op ≡ issued p.dispatch.linux l n)
@@ -222,4 +204,4 @@ new_fits p submission completions none_promised requests rules between held none
 pub ended_as_posted : (g : Setup) (w : World) (n : ℕ) (outcome : Outcome) (posted : Posts) (a : Answer)
     → Some posted ≡ posted_by g.linux (requests_of w) n outcome.res
     → a ≡ answer.Ended outcome.res outcome.bytes → IsFinished w n outcome a
-ended_as_posted g w n outcome posted a told is = is ∙ ap (λ b. if b then answer.Ended outcome.res outcome.bytes else answer.NotRunning) (sym (ended_running g w n outcome.res posted told).0)
+ended_as_posted g w n outcome posted a told is = grind (arith, cond_some)

@@ -151,10 +151,7 @@ take_dropped_goes p q stops answered shown stopped h f =
 
 -- what a call took fits its positions
 pub few_entries : (places : List Place) (n : ℕ) → length (entries_of (take n places)) ≤ n
-few_entries places n =
-    let e = entries_and_dropped (take n places) in
-    let k : length (take n places) ≤ n = grind (arith, common_steps) in
-    omega arith
+few_entries places n = grind (arith, entries_and_dropped, common_steps)
 
 pub held_within : (l : Submission) (size : ℕ) (c : Option Call)
     → IfSome c (λ call. (call.taken ≤ call.count) × (call.count ≤ pending l))

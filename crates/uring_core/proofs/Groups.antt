@@ -1,8 +1,7 @@
 -- A call accepts entries, and closes: what stands before it stays.
-use Rattle.std.proofs.Common.{◌≡◌, ℕ, ◌+◌, ◌-◌, ◌==◌, ◌<◌, ◌≤◌, min, max, neg_ℤ, if◌then◌else◌, List, length, Bool, true, false, not, ◌&&◌, leb, sym, ◌∙◌, ap, arith, ◌⊎◌, inl, inr}
-use Rattle.uring_core.proofs.Common.{Requests, Sqe, and_left, entry_of, eq-eqb, get_or_append_left, has_failed, int_eq, is_after_failure, is_doomed, is_faulty, is_in_group, is_joined, is_joined_no, is_last, length-append, list_any, list_any_push, ne_eqb, some_member, with_call, zero_entry}
+use Rattle.std.proofs.Common.{◌≡◌, ℕ, ◌+◌, ◌-◌, ◌==◌, ◌<◌, ◌≤◌, min, max, neg_ℤ, if◌then◌else◌, List, length, Bool, true, false, not, ◌&&◌, leb, ◌∙◌, ap, arith, ◌⊎◌, inl, inr}
+use Rattle.uring_core.proofs.Common.{Requests, Sqe, and_left, entry_of, eq-eqb, get_or_append_left, int_eq, is_after_failure, is_doomed, is_faulty, is_in_group, is_joined, is_joined_no, is_last, length-append, list_any, list_any_push, ne_eqb, some_member, with_call, zero_entry}
 use Rattle.uring_entry.specs.declared.errno.TheConstants.{EINVAL, ECANCELED}
-use Rattle.uring_entry.specs.Success.{is_success}
 use Rattle.uring_entry.proofs.BelowLemmas.{some_below_same, some_below_between}
 use Rattle.uring_core.proofs.SoundRequests.{IsSoundRequests, IsSoundManual, IsFree, EndsDoomed}
 use Rattle.uring_core.proofs.ListCounts.{any_kept}
@@ -45,12 +44,9 @@ module _ (r : Requests) (entries : List Sqe) (cut : (length r.accepted ≡ 0) �
       ∙ some_below_same (λ m. is_in_group (with_call r entries) m n && p (entry_of (with_call r entries) m)) (λ m. is_in_group r m n && p (entry_of r m)) (length r.accepted)
       (λ k lt. ap (λ b. b && p (entry_of (with_call r entries) k)) (group_kept k n lt below) ∙ ap (λ e. is_in_group r k n && p e) (entry_kept k lt))
 
-  failed_kept : (k : ℕ) → k < length r.accepted → has_failed (with_call r entries) k ≡ has_failed r k
-  failed_kept k lt = ap (λ e. list_any (λ x. (x.number == k) && not (is_success e x.res)) r.ended) (entry_kept k lt)
-
   after_kept : (n : ℕ) → n < length r.accepted → is_after_failure (with_call r entries) n ≡ is_after_failure r n
   unfolding is_after_failure
-  after_kept n below = grind (arith, some_below_same, join_kept, entry_kept, failed_kept)
+  after_kept n below = grind (arith, some_below_same, join_kept, entry_kept)
 
   pub doom_kept : (n : ℕ) → n < length r.accepted
       → is_doomed (with_call r entries) n ≡ is_doomed r n
@@ -58,7 +54,7 @@ module _ (r : Requests) (entries : List Sqe) (cut : (length r.accepted ≡ 0) �
   doom_kept n below = grind (arith, member_kept, after_kept)
 
   call_free : (n : ℕ) → n < length r.accepted → IsFree r n → IsFree (with_call r entries) n
-  call_free n below f = record { spared = doom_kept n below ∙ f.spared; first = λ k lt e. f.first k lt (sym (join_kept k n below) ∙ e) }
+  call_free n below f = grind (arith, doom_kept, join_kept)
 
   ends_kept : (n : ℕ) → n < length r.accepted → EndsDoomed r n → EndsDoomed (with_call r entries) n
   ends_kept n below d = ap (λ e. list_any (λ x. (x.number == n) && not (int_eq x.res (if is_faulty e then neg_ℤ EINVAL else neg_ℤ ECANCELED))) r.ended) (entry_kept n below) ∙ d

@@ -1,5 +1,5 @@
 -- By Linux's rules a lawful history is one of submission calls, starts and ends, where nobody starts that is doomed: so that what is so whatever happened is so of its requests.
-use Rattle.std.proofs.Common.{◌≡◌, Bool, true, false, not, ◌&&◌, ◌||◌, List, [], ◌∷◌, refl, sym, ◌∙◌, ap, subst}
+use Rattle.std.proofs.Common.{◌≡◌, Bool, true, false, not, ◌&&◌, ◌||◌, List, [], ◌∷◌, refl, sym, ◌∙◌, ap, subst, arith}
 use Rattle.uring_core.proofs.Common.{Answer, History, IsLawfulApart, LinuxRequests, Setup, Step, World, ending_of, entries_from, happens, is_deferred, is_in_turn, is_outstanding, is_running, no_bytes, or_left, or_right, requests_of, taking_entry_of, taking_of, world}
 use Rattle.uring_linux.specs.LinuxRequests.{is_doomed}
 use Rattle.uring_linux.specs.Happenings.{Happening, Call, Start, End, after, made_by, MayHappen, MayHaveHappened}
@@ -41,22 +41,13 @@ by_linux g = record g { linux = true }
 can_start : (outstanding running turn doomed deferred : Bool) → outstanding ≡ true → running ≡ false
     → (turn && doomed) ≡ false → (turn && not deferred) ≡ true
     → ((outstanding && (not running && (turn && (doomed || not deferred)))) ≡ true) × (doomed ≡ false)
-can_start true false true false false o r s f = (refl, refl)
-can_start true false true doomed true o r s f = absurd (let e : false ≡ true = f in cc)
-can_start true false true true deferred o r s f = absurd (let e : true ≡ false = s in cc)
-can_start true false false doomed deferred o r s f = absurd (let e : false ≡ true = f in cc)
-can_start true true turn doomed deferred o r s f = absurd (let e : true ≡ false = r in cc)
-can_start false running turn doomed deferred o r s f = absurd (let e : false ≡ true = o in cc)
+can_start outstanding running turn doomed deferred o r s f = grind arith
 
 -- what ends as doomed can be issued
 can_end : (outstanding running turn doomed deferred : Bool) → outstanding ≡ true → running ≡ false
     → (turn && doomed) ≡ true
     → (outstanding && (not running && (turn && (doomed || not deferred)))) ≡ true
-can_end true false true true deferred o r d = refl
-can_end true false true false deferred o r d = absurd (let e : false ≡ true = d in cc)
-can_end true false false doomed deferred o r d = absurd (let e : false ≡ true = d in cc)
-can_end true true turn doomed deferred o r d = absurd (let e : true ≡ false = r in cc)
-can_end false running turn doomed deferred o r d = absurd (let e : false ≡ true = o in cc)
+can_end outstanding running turn doomed deferred o r d = grind arith
 
 change_happens : (g : Setup) (w : World) (s : Step) (a : Answer) → Change (by_linux g) w s a
     → HasHappened (requests_of w) → HasHappened (requests_of (happens (by_linux g) w s a))

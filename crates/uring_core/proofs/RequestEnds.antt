@@ -1,10 +1,10 @@
 -- What holds of the requests stays as one ends.
-use Rattle.std.proofs.Common.{◌≡◌, ◌≢◌, ℕ, ◌==◌, ◌<◌, ℤ, pos, neg_ℤ, List, [], ◌∷◌, ◌++◌, length, Bool, true, false, not, ◌&&◌, eqb, Option, Some, None, cond, refl, sym, subst, ap, ◌∙◌, ◌⊎◌, inl, inr, negsuc}
+use Rattle.std.proofs.Common.{◌≡◌, ◌≢◌, ℕ, ◌==◌, ◌<◌, ℤ, pos, neg_ℤ, List, [], ◌∷◌, ◌++◌, length, Bool, true, false, not, ◌&&◌, eqb, Option, Some, cond, refl, sym, subst, ap, ◌∙◌, ◌⊎◌, inl, inr, arith}
 use Rattle.uring_core.proofs.Common.{Chose, Requests, all_success, and_from, and_left, and_parts, and_right, both_ways, cancel_result, cases_Bool, cases_eq, choices_of, chosen_by, cond_both, count_result, doomed_result, entry_of, eqb-false, eqb-true, false_from_ne_true, has_ended, has_failed, has_started, int_eq, int_le, is_cancel, is_cancel_all, is_cancelled, is_candidate, is_doomed, is_doomed_after, is_doomed_cancelled, is_doomed_faulty, is_faulty, is_in_faulty_group, is_joined, is_outstanding, is_ready, is_running, list_any, list_any_push, lt-ltb, ne_eqb, never_success, no_bytes, not-true, not_from_true, one_success, option_to_list, or_cases, or_from, result_for, some_member, target_in, target_of, targets_of, with_ended, with_issued_end}
 use Rattle.std.proofs.lemmas.Bool.Decides.{Decides-int_eq}
 use Rattle.std.proofs.lemmas.List.Folds.{list_any-append}
 use Rattle.uring_entry.specs.Success.{is_success}
-use Rattle.uring_entry.specs.declared.errno.TheConstants.{EINVAL, EALREADY, ECANCELED}
+use Rattle.uring_entry.specs.declared.errno.TheConstants.{EINVAL, ECANCELED}
 use Rattle.uring_rules.specs.Rules as by_rules
 use Rattle.uring_core.proofs.ListCounts.{any_looser, any_kept, any_new, count_once_more}
 use Rattle.uring_entry.proofs.EventLemmas.{is_doomed_tells, is_after_failure_tells, is_after_failure_from, target_of_tells}
@@ -69,11 +69,7 @@ module _ (r : Requests) (n : ℕ) (res : ℤ) (bytes : List ℕ) (cancelled : Li
   end_kept m e = any_kept (λ x. x.number == m) r.ended _ e
 
   fail_other : (k : ℕ) → k ≢ n → has_failed (ended_as r n res bytes cancelled) k ≡ true → has_failed r k ≡ true
-  fail_other k differ e =
-      elim (any_new (λ x. (x.number == k) && not (is_success (entry_of r k) x.res)) r.ended (record { number = n; res = res; bytes = bytes }) e) [
-        | inl old ↦ old
-        | inr new ↦ absurd (differ (sym (eqb-true _ _ (and_parts _ _ new).0)))
-      ]
+  fail_other k differ e = grind (arith, any_new, eqb-true, and_parts)
 
   fail_kept : (k : ℕ) → has_failed r k ≡ true → has_failed (ended_as r n res bytes cancelled) k ≡ true
   fail_kept k e = any_kept (λ x. (x.number == k) && not (is_success (entry_of r k) x.res)) r.ended _ e
@@ -132,9 +128,7 @@ module _ (r : Requests) (n : ℕ) (res : ℤ) (bytes : List ℕ) (cancelled : Li
 
   -- the ends of another stay its ends
   ends_doomed_kept : (m : ℕ) → m ≢ n → EndsDoomed r m → EndsDoomed (ended_as r n res bytes cancelled) m
-  ends_doomed_kept m differ d =
-      list_any_push (is_otherwise r m) r.ended (record { number = n; res = res; bytes = bytes })
-      ∙ or_from _ _ d (and_left (eqb n m) _ (ne_eqb n m (λ same. differ (sym same))))
+  ends_doomed_kept m differ d = grind (arith, list_any_push, or_from, and_left, ne_eqb)
 
   -- the first end of a doomed request
   ends_doomed_first : has_ended r n ≡ false → res ≡ doomed_result r n → EndsDoomed (ended_as r n res bytes cancelled) n
@@ -171,10 +165,7 @@ no_choice r n = record { kept = λ m e. e; added = λ m e. inl e }
 
 pub finish_manual : (r : Requests) (n : ℕ) (res : ℤ) (bytes : List ℕ) → is_running r n ≡ true
     → IsSoundRequests r → IsSoundManual r → IsSoundManual (with_ended r n res bytes)
-finish_manual r n res bytes running s m =
-    let p = and_parts _ _ running in
-    let within = s.started_accepted n p.0 in
-    end_manual r n res bytes r.cancelled (no_choice r n) (and_from _ _ (lt-ltb _ _ within) p.1) (inr (m.started_free n p.0)) m
+finish_manual r n res bytes running s m = grind (arith, and_parts, end_manual, no_choice, and_from, lt-ltb)
 
 -- What a cancel chooses.
 
@@ -184,12 +175,10 @@ any_both p xs ys e = or_cases _ _ (sym (list_any-append p xs ys) ∙ e)
 
 only_one : (target : Option ℕ) (m : ℕ) → list_any (λ k. k == m) (option_to_list target) ≡ true
     → target ≡ Some m
-only_one None m e = absurd (let f : false ≡ true = e in cc)
-only_one (Some t) m e = elim (or_cases (t == m) false e) [ inl here ↦ ap Some (eqb-true t m here) | inr none ↦ absurd (let f : false ≡ true = none in cc) ]
+only_one target m e = grind (arith, or_cases, eqb-true)
 
 a_number : (res : ℤ) → int_le (pos 0) res ≡ true → (count : ℕ) × (res ≡ pos count)
-a_number (pos count) e = (count, refl)
-a_number (negsuc below) e = absurd (let f : false ≡ true = e in cc)
+a_number res e = grind arith
 
 -- whom a cancel chose that succeeded with this result
 chose_so : (r : Requests) (n : ℕ) (res : ℤ) (m : ℕ) → is_cancel (entry_of r n) ≡ true
@@ -225,25 +214,12 @@ doomed_fails r n = cond_both (is_faulty (entry_of r n)) (neg_ℤ EINVAL) (neg_�
 -- a cancel that ends with 0 found its target at rest
 result_tells : (r : Requests) (m : ℕ) → int_eq (result_for r (Some m)) (pos 0) ≡ true
     → is_running r m ≡ false
-result_tells r m e = by_running (is_running r m) e where
-  by_running : (running : Bool) → int_eq (cond running (neg_ℤ EALREADY) (pos 0)) (pos 0) ≡ true → running ≡ false
-  by_running true f = absurd (let g : false ≡ true = f in cc)
-  by_running false f = refl
+result_tells r m e = grind arith
 
 module _ (r : Requests) (n : ℕ) where
   -- what a cancel may choose is chosen, if it isn't running
   chosen_at : (m : ℕ) → is_candidate r n m ≡ true → is_running r m ≡ false → IsChosen r n m
-  chosen_at m candidate idle =
-      let p = and_parts _ _ candidate in
-      let q = and_parts _ _ p.0 in
-      let u = and_parts _ _ q.0 in
-      let o = outstanding_tells r m u.0 in
-      record {
-        other = eqb-false _ _ (not-true _ u.1);
-        unstarted = idle_tells r m idle o.1;
-        unended = o.1;
-        accepted = o.0;
-      }
+  chosen_at m candidate idle = grind (arith, and_parts, outstanding_tells, eqb-false, not-true, idle_tells)
 
   -- whom a cancel chose
   is_chosen : (m : ℕ) → Chose r n (cancel_result r n) m → IsChosen r n m

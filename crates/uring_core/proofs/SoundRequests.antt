@@ -82,8 +82,4 @@ start_sound r n outstanding idle right s =
 
 pub start_manual : (r : Requests) (n : ℕ) → is_doomed r n ≡ false → is_ready r n ≡ true
     → IsSoundManual r → IsSoundManual (with_started r n)
-start_manual r n spared ready s =
-    record {
-      started_free = λ m e. start_free r n m (elim (any_new (λ k. k == m) r.started n e) [ inl old ↦ s.started_free m old | inr new ↦ subst (IsFree r) (eqb-true _ _ new) (record { spared = spared; first = ready_first r n ready }) ]);
-      ended_how = λ m e. elim (s.ended_how m e) [ inl doomed ↦ inl doomed | inr free ↦ inr (start_free r n m free) ];
-    }
+start_manual r n spared ready s = grind (arith, is_doomed_started, is_joined_started, any_new, eqb-true, ready_first)

@@ -49,9 +49,7 @@ pub reaps_next : (completions : List Cqe) (i : ℕ) (completion : Cqe) (h : Hist
     → i < length completions
     → after_reaps (take (i + 1) (set completions i completion)) h
     ≡ (step.Reap, answer.Reaped completion) ∷ after_reaps (take i completions) h
-reaps_next completions i completion h within =
-    let next : take (i + 1) (set completions i completion) ≡ take i completions ++ completion ∷ [] = grind (arith, common_steps) in
-    ap (λ xs. after_reaps xs h) next ∙ after_reaps_snoc (take i completions) completion h
+reaps_next completions i completion h within = grind (arith, common_steps, after_reaps_snoc)
 
 -- A change of the submission ring alone, and then another.
 pub submission_then : (p q r : Core) → q ≡ record p { sq = q.sq } → r ≡ record q { sq = r.sq }
