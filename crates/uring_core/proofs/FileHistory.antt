@@ -1,8 +1,8 @@
 -- What an event makes of the files of a history: a Finish that ends its request does what its operation does (`files_ended`), and no other step changes a file (`files_kept`).
 -- From `Moves`: doomed requests end with a fault and cancels are on no file, so their ends change none.
 -- Stable: other crates may import `files_ended`, `files_kept` and `files_kept_from`.
-use Rattle.std.proofs.Common.{◌≡◌, ℕ, ℤ, negsuc, ◌==◌, List, [], ◌∷◌, ◌++◌, Bool, true, false, cond, refl, ◌∙◌, ap}
-use Rattle.uring_core.proofs.Common.{Answer, Ending, History, IsLawfulApart, IsNoFinish, LinuxRequests, Requests, Setup, Sqe, Step, cond_both, entry_of, eq-eqb, is_cancel, is_faulty, is_refused_drain, list_any, no_bytes, operation_of, or_left, or_right, requests_of, with_call, with_ended, with_started, world}
+use Rattle.std.proofs.Common.{◌≡◌, ℕ, ℤ, negsuc, ◌==◌, List, [], ◌∷◌, ◌++◌, Bool, true, false, cond, refl, ◌∙◌, ap, arith}
+use Rattle.uring_core.proofs.Common.{Answer, Ending, History, IsLawfulApart, IsNoFinish, LinuxRequests, Requests, Setup, Sqe, Step, cond_both, entry_of, eq-eqb, is_cancel, is_faulty, is_refused_drain, list_any, operation_of, or_left, or_right, requests_of, with_call, with_ended, with_started, world}
 use Rattle.uring_rules.specs.Rules.{doomed_result, cancel_result, with_issued_end}
 use Rattle.uring_entry.proofs.Preparations.{asks_cancel}
 use Rattle.uring_files.specs.Contents.{FileContents, empty_files}
@@ -49,17 +49,13 @@ cancel_changes_none files e res cancel = ap (λ op. after files op res) (asks_ca
 pub files_ended : (r : Requests) (n : ℕ) (res : ℤ) (bytes : List ℕ) (files : List FileContents)
     → files_after (with_ended r n res bytes) files (with_ended r n res bytes).ended
     ≡ after (files_after r files r.ended) (operation_of (entry_of r n)) res
-files_ended r n res bytes files =
-    files_same r (with_ended r n res bytes) files (with_ended r n res bytes).ended (λ m there. refl)
-    ∙ files_more r files r.ended (record { number = n; res = res; bytes = bytes })
+files_ended r n res bytes files = grind (arith, files_same, files_more)
 
 issued_end : (linux : Bool) (r : Requests) (n : ℕ) (res : ℤ) (files : List FileContents)
     → files_after (with_issued_end linux r n res) files (with_issued_end linux r n res).ended
     ≡ after (files_after r files r.ended) (operation_of (entry_of r n)) res
-issued_end true r n res files = files_ended r n res no_bytes files
-issued_end false r n res files =
-    files_same r (with_issued_end false r n res) files (with_issued_end false r n res).ended (λ m there. refl)
-    ∙ files_more r files r.ended (record { number = n; res = res; bytes = no_bytes })
+issued_end linux r n res files =
+    grind (arith, (files_same r (with_issued_end linux r n res) files (with_issued_end linux r n res).ended), files_more)
 
 move_keeps : (linux : Bool) (l : LinuxRequests) (q : Requests) (s : Step) (a : Answer) (files : List FileContents)
     → Move linux l s a q → IsNoFinish s → IsSoundRequests l.requests

@@ -12,8 +12,16 @@ same a b = ghosts.eq a b
 
 -- what `==` finds the same is the same
 one : (a b : Answer) → same a b ≡ true → a ≡ b
-one (answer.Tail x) b e = grind (arith, eqb-true)
-one _ b e = grind (arith, eqb-true, and_parts, Decides-int_eq, bytes_decides)
+one (answer.Tail x) (answer.Tail y) e = cc (eqb-true x y e)
+one (answer.Head x) (answer.Head y) e = cc (eqb-true x y e)
+one (answer.Call x) (answer.Call y) e = cc (eqb-true x y e)
+one (answer.Entry x) (answer.Entry y) e = cc ((bytes_decides x y).0 e)
+one (answer.Taken x y z) (answer.Taken x' y' z') e = grind (arith, and_parts, eqb-true)
+one (answer.Ended res bytes) (answer.Ended res' bytes') e = grind (arith, and_parts, Decides-int_eq, bytes_decides)
+one (answer.Moved x) (answer.Moved y) e = cc (eqb-true x y e)
+one (answer.Reaped c) (answer.Reaped d) e = grind (arith, and_parts, eqb-true, Decides-int_eq, bytes_decides)
+one (answer.Next x) (answer.Next y) e = cc (eqb-true x y e)
+one _ _ e = grind arith
 
 -- `==` finds each answer the same as itself
 alike : (a : Answer) → same a a ≡ true
