@@ -1,8 +1,8 @@
 -- What an event makes of the files of a history: a Finish that ends its request does what its operation does (`files_ended`), and no other step changes a file (`files_kept`).
 -- From `Moves`: doomed requests end with a fault and cancels are on no file, so their ends change none.
 -- Stable: other crates may import `files_ended`, `files_kept` and `files_kept_from`.
-use Rattle.std.proofs.Common.{◌≡◌, ℕ, ℤ, negsuc, ◌==◌, List, [], ◌∷◌, ◌++◌, Bool, true, false, cond, refl, ◌∙◌, ap, arith}
-use Rattle.uring_core.proofs.Common.{Answer, Ending, History, IsLawfulApart, IsNoFinish, LinuxRequests, Requests, Setup, Sqe, Step, cond_both, entry_of, eq-eqb, is_cancel, is_faulty, is_refused_drain, list_any, operation_of, or_left, or_right, requests_of, with_call, with_ended, with_started, world}
+use Rattle.std.proofs.Common.{if◌then◌else◌, ◌≡◌, ℕ, ℤ, negsuc, ◌==◌, List, [], ◌∷◌, ◌++◌, Bool, true, cond, refl, ◌∙◌, ap, arith}
+use Rattle.uring_core.proofs.Common.{Op, Answer, Ending, History, IsLawfulApart, IsNoFinish, LinuxRequests, Requests, Setup, Sqe, Step, entry_of, eq-eqb, is_cancel, is_faulty, is_refused_drain, list_any, operation_of, or_left, or_right, requests_of, with_call, with_ended, with_started, world}
 use Rattle.uring_rules.specs.Rules.{doomed_result, cancel_result, with_issued_end}
 use Rattle.uring_entry.proofs.Preparations.{asks_cancel}
 use Rattle.uring_files.specs.Contents.{FileContents, empty_files}
@@ -33,13 +33,9 @@ files_more r files (first ∷ later) e =
 
 -- Ends that change no file.
 
-doomed_changes_none : (linux : Bool) (files : List FileContents) (r : Requests) (n : ℕ)
-    → after files (operation_of (entry_of r n)) (doomed_result linux r n) ≡ files
-doomed_changes_none true files r n =
-    cond_both (is_refused_drain r n) (negsuc 94) (cond (is_faulty (entry_of r n)) (negsuc 21) (negsuc 124)) (λ res. after files (operation_of (entry_of r n)) res ≡ files) (λ _. failed files (operation_of (entry_of r n)) 94)
-    (λ _. cond_both (is_faulty (entry_of r n)) (negsuc 21) (negsuc 124) (λ res. after files (operation_of (entry_of r n)) res ≡ files) (λ _. failed files (operation_of (entry_of r n)) 21) (λ _. failed files (operation_of (entry_of r n)) 124))
-doomed_changes_none false files r n =
-    cond_both (is_faulty (entry_of r n)) (negsuc 21) (negsuc 124) (λ res. after files (operation_of (entry_of r n)) res ≡ files) (λ _. failed files (operation_of (entry_of r n)) 21) (λ _. failed files (operation_of (entry_of r n)) 124)
+doomed_changes_none : (files : List FileContents) (op : Op) (drain faulty linux : Bool)
+    → after files op (if linux then cond drain (negsuc 94) (cond faulty (negsuc 21) (negsuc 124)) else cond faulty (negsuc 21) (negsuc 124)) ≡ files
+doomed_changes_none files op drain faulty linux = grind (arith, failed)
 
 cancel_changes_none : (files : List FileContents) (e : Sqe) (res : ℤ) → is_cancel e ≡ true
     → after files (operation_of e) res ≡ files
@@ -65,7 +61,7 @@ move_keeps linux l q s a files (accepts accepted missed head entries) other i = 
 move_keeps linux l q s a files (starts n outstanding idle spared ready no_cancel) other i =
     files_same l.requests (with_started l.requests n) files l.requests.ended (λ m there. refl)
 move_keeps linux l q s a files (ends_doomed n outstanding) other i =
-    issued_end linux l.requests n (doomed_result linux l.requests n) files ∙ doomed_changes_none linux (files_after l.requests files l.requests.ended) l.requests n
+    issued_end linux l.requests n (doomed_result linux l.requests n) files ∙ doomed_changes_none _ (operation_of (entry_of l.requests n)) (is_refused_drain l.requests n) (is_faulty (entry_of l.requests n)) linux
 move_keeps linux l q s a files (ends_cancel n outstanding spared ready cancel) other i = issued_end linux l.requests n (cancel_result linux l.requests n) files ∙ cancel_changes_none (files_after l.requests files l.requests.ended) (entry_of l.requests n) (cancel_result linux l.requests n) cancel
 move_keeps linux l q s a files (ends_run n res bytes running) other i = absurd other
 

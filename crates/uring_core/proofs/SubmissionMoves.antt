@@ -1,11 +1,10 @@
 -- What an event makes of the submission ring, each with what is known of it because its answer was called for.
 -- `stays` is the frame of all that leave the ring as it was: whatever became of the rest, they tell nothing of it.
-use Rattle.std.proofs.Common.{◌≡◌, ℕ, ℤ, Bool, true, false, ◌||◌, nat_lt, eqb, ◌+◌, length, Some, None, slice_get, refl, sym, subst, ap, rules, ◌∷◌}
-use Rattle.uring_core.proofs.Common.{Answer, Call, Completions, Event, History, IsLawfulApart, LinuxRequests, Place, Requests, Setup, Sqe, Step, World, accepted_by, call_length, closes_call, closes_ring, ending_of, entries_of, entry_taken_by, filled_by, happens, is_full, is_load_head, is_spent, is_store_tail, no_bytes, opened_by, opens_call, places_from, requests_of, staged_by, taken, takes_in, takes_position, taking_entry_of, taking_of, with_begun, with_filled, with_head_loaded, with_published, with_staged, world}
-use Rattle.uring_rules.specs.Rules.{with_issued_end}
+use Rattle.std.proofs.Common.{◌≡◌, ℕ, ℤ, Bool, false, ◌||◌, nat_lt, eqb, ◌+◌, length, Some, None, slice_get, refl, sym, subst, ap, rules, ◌∷◌, arith}
+use Rattle.uring_core.proofs.Common.{Answer, Call, Completions, Event, History, IsLawfulApart, LinuxRequests, Place, Setup, Sqe, Step, World, accepted_by, call_length, closes_call, closes_ring, ending_of, entries_of, entry_taken_by, filled_by, happens, is_full, is_load_head, is_spent, is_store_tail, no_bytes, opened_by, opens_call, places_from, requests_of, staged_by, taken, takes_in, takes_position, taking_entry_of, taking_of, with_begun, with_filled, with_head_loaded, with_published, with_staged, world}
 use Rattle.uring_core.specs.declared.step.Step.TheVariants as step
 use Rattle.uring_core.specs.declared.answer.Answer.TheVariants as answer
-use Rattle.uring_core.proofs.Changes.{Change, IsSilent, refuses as event_refuses, fills as event_fills, stages as event_stages, stores as event_stores, loads as event_loads, begins as event_begins, takes as event_takes, drops as event_drops, closes as event_closes, dooms as event_dooms, cancels as event_cancels, change_of}
+use Rattle.uring_core.proofs.Changes.{Change, IsSilent, fills as event_fills, stores as event_stores, loads as event_loads, dooms as event_dooms, cancels as event_cancels, refuses as event_refuses, stages as event_stages, begins as event_begins, takes as event_takes, drops as event_drops, closes as event_closes, change_of}
 
 -- an event that tells nothing of the submission ring
 pub record IsOffSubmission (e : Event) : Type 0 where
@@ -55,14 +54,7 @@ off_silent i = assumption i
 leaves_issued : (g : Setup) (w : World) (n : ℕ) (res : ℤ)
     → SubmissionMove g w (step.Issue n) (answer.Ended res no_bytes) (happens g w (step.Issue n) (answer.Ended res no_bytes))
 leaves_issued g w n res =
-    stays _ _ (requests_of (happens g w (step.Issue n) (answer.Ended res no_bytes))) _ _ (search rules)
-    (record { accepted = same_accepted g.linux w.requests; cuts = same_cuts g.linux w.requests; shut = refl }) where
-      same_accepted : (linux : Bool) (r : Requests) → (with_issued_end linux r n res).accepted ≡ r.accepted
-      same_accepted true r = refl
-      same_accepted false r = refl
-
-      same_cuts : (linux : Bool) (r : Requests) → (with_issued_end linux r n res).cuts ≡ r.cuts
-      same_cuts linux r = search rules
+    stays _ _ (requests_of (happens g w (step.Issue n) (answer.Ended res no_bytes))) _ _ (search rules) (grind arith)
 
 submission_by : (g : Setup) (w : World) (s : Step) (a : Answer) → Change g w s a
     → SubmissionMove g w s a (happens g w s a)
