@@ -1,21 +1,14 @@
 -- What is so by the manual pages' rules and by Linux's.
 -- Stable: other crates may import all of it.
-use Rattle.std.proofs.Common.{◌≡◌, ℕ, ◌<◌, Bool, true, false, not, ◌&&◌, ◌||◌, length, ap, sym, subst, arith}
-use Rattle.uring_core.proofs.Common.{LinuxRequests, Setup, and_parts, both_ways, by_manual, ends_doomed, entry_of, false_from_ne_true, is_deferred, is_doomed_own_fault, is_faulty, is_in_turn, is_issuable, is_outstanding, is_running, may_start, not-true}
-use Rattle.uring_linux.specs.LinuxRequests as kernel
+use Rattle.std.proofs.Common.{◌≡◌, ℕ, ◌<◌, Bool, true, false, ◌||◌, length, ap, sym, subst, arith}
+use Rattle.uring_core.proofs.Common.{LinuxRequests, Setup, and_parts, both_ways, by_manual, ends_doomed, entry_of, false_from_ne_true, is_doomed_own_fault, is_faulty, is_issuable, is_outstanding, is_running, may_start, not-true}
 use Rattle.uring_linux.proofs.Standings.{healthy}
-
--- what doesn't end as doomed though it is in its turn is spared
-spared_in_turn : (turn doomed deferred : Bool) → (turn && doomed) ≡ false
-    → (turn && not deferred) ≡ true → doomed ≡ false
-spared_in_turn turn doomed deferred spared free = grind arith
 
 -- what starts has no fault
 pub starts_right : (linux : Bool) (l : LinuxRequests) (n : ℕ) → n < length l.requests.accepted
     → ends_doomed linux l.requests n ≡ false → may_start linux l n ≡ true
     → is_faulty (entry_of l.requests n) ≡ false
-starts_right true l n within spared free =
-    healthy l.requests n within (spared_in_turn (is_in_turn l.requests n) (kernel.is_doomed l.requests n) (is_deferred l n) spared free)
+starts_right true l n within spared free = healthy l.requests n within (grind arith)
 starts_right false l n within spared free =
     false_from_ne_true _ (λ faulty. both_ways _ spared (is_doomed_own_fault l.requests n within faulty))
 

@@ -63,13 +63,10 @@ module _ (g : Setup) (w : World) where
   by_option s None f none some = none refl
   by_option s (Some x) f none some = some x refl
 
-  again : (count : ℕ) → Change g w (step.Begin count) answer.Again
-  again count = refuses _ _ (λ v. refl) (search rules)
-
   begin_of : (count : ℕ) (a : Answer) (is_closed in_call spent : Bool) → w.is_closed ≡ is_closed → is_some w.submission.call ≡ in_call → is_spent w (call_length w.submission count) ≡ spent
       → OrAgain (if is_closed then answer.Closed else (if in_call then answer.InCall else (if spent then answer.Spent else answer.Call (call_length w.submission count)))) a → Change g w (step.Begin count) a
   begin_of count a false false false e f k (inl h) = subst (Change g w (step.Begin count)) (sym h) (begins count e (not_some w.submission.call f) k)
-  begin_of count a false false false e f k (inr h) = subst (Change g w (step.Begin count)) (sym h.0) (again count)
+  begin_of count a false false false e f k (inr h) = subst (Change g w (step.Begin count)) (sym h.0) (refuses _ _ (λ v. refl) (search rules))
   begin_of count a _ _ _ e f k h = subst (Change g w (step.Begin count)) (sym h) (refuses _ _ (λ v. refl) (search rules))
 
   issue_of : (n : ℕ) (outstanding running doomed ready cancel : Bool) → is_outstanding w.requests n ≡ outstanding → is_running w.requests n ≡ running → ends_doomed g.linux w.requests n ≡ doomed → may_start g.linux (requests_of w) n ≡ ready → is_cancel (entry_of w.requests n) ≡ cancel

@@ -1,6 +1,6 @@
 -- Submission calls, from the layers' contracts to the core's: what a core shows as one opens.
-use Rattle.std.proofs.Common.{◌≡◌, ℕ, ◌+◌, ◌-◌, ◌^◌, ◌≤◌, true, false, ◌∷◌, is_some, arith}
-use Rattle.uring_core.proofs.Common.{Completions, Core, Cq, FitsApart, History, IsOk, IsShortFor, KeepsMemory, LinuxRequests, OnOk, Result, Setup, ShowsCompletions, ShowsSubmission, Sq, Submission, World, begin_answer, begin_told, call_length, is_err, is_spent, world, OnErr}
+use Rattle.std.proofs.Common.{◌≡◌, ℕ, ◌+◌, ◌-◌, ◌^◌, ◌≤◌, true, false, ◌∷◌, arith}
+use Rattle.uring_core.proofs.Common.{Completions, Core, Cq, FitsApart, History, IsOk, IsShortFor, KeepsMemory, LinuxRequests, OnOk, Result, Setup, ShowsCompletions, ShowsSubmission, Sq, Submission, begin_answer, begin_told, call_length, is_err, world, OnErr}
 use Rattle.uring_rings.specs.SqAnswers as ring
 use Rattle.uring_rings.specs.declared.answers.BeginAnswer.{BeginAnswer}
 use Rattle.uring_rules.specs.RulesDispatch.{Rules, ShowsRequests, IsSameCount}
@@ -14,15 +14,6 @@ use Rattle.uring_core.proofs.Changes.{not_some}
 abbrev Opens : Core → ℕ → ℕ → Type 0
 Opens p count n =
     (h : History) → FitsApart p h → begin_answer (world p.setup h) count ≡ answer.Call n
-
--- What is so of a world in which a call of this length opens.
-record IsOpening (w : World) (count n : ℕ) : Type 0 where
-  no_call : false ≡ is_some w.submission.call
-  positions : n ≡ call_length w.submission count
-  unspent : is_spent w (call_length w.submission count) ≡ false
-
-opening : (w : World) (count n : ℕ) → begin_answer w count ≡ answer.Call n → IsOpening w count n
-opening w count n e = grind arith
 
 -- such a call has the positions that the history leaves it
 pub opens_with : (p : Core) (count n : ℕ) → Opens p count n → (h : History) → FitsApart p h

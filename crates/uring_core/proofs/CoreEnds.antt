@@ -1,6 +1,6 @@
 -- What a core shows as a submission call closes, as a request ends, and as it is made.
-use Rattle.std.proofs.Common.{◌≡◌, ℕ, ◌+◌, ◌≤◌, ℤ, Bool, true, false, cond, eqb, List, [], ◌∷◌, length, Option, Some, None, refl, sym, ap, subst, ◌∙◌, arith}
-use Rattle.uring_core.proofs.Common.{Answer, Call, Completions, Core, Cq, FinishesApart, FitsApart, History, IsFinished, LinuxRequests, Op, Setup, ShowsCompletions, ShowsSubmission, ShowsWorld, Sq, Sqe, Submission, World, cond_some, dropped, end_answer_in, ending_of, entries_of, eqb-true, held_by, is_running, issue_answer, issue_told, length-append, no_bytes, no_completion, no_submission, places_from, positions_of, requests_of, sum_by_push, taken, with_closed, with_end_of, with_told, word_of, world, happens}
+use Rattle.std.proofs.Common.{◌≡◌, ℕ, ◌+◌, ◌≤◌, ℤ, true, false, List, [], ◌∷◌, length, Option, Some, None, refl, sym, arith}
+use Rattle.uring_core.proofs.Common.{Answer, Call, Completions, Core, Cq, FitsApart, History, IsFinished, LinuxRequests, Op, Setup, ShowsCompletions, ShowsSubmission, ShowsWorld, Sq, Sqe, Submission, World, cond_some, dropped, end_answer_in, ending_of, is_running, issue_answer, issue_told, length-append, no_bytes, no_completion, no_submission, requests_of, sum_by_push, with_closed, with_end_of, with_told, world, happens}
 use Rattle.uring_linux.specs.LinuxRequests.{no_request, with_started}
 use Rattle.uring_entry.specs.declared.operation.Outcome.{Outcome}
 use Rattle.uring_rings.specs.SqAnswers as ring
@@ -29,42 +29,22 @@ pub record Accepts (p : Core) (d : Rules) : Type 0 where
   pub between : d.is_between_calls ≡ true
 
 -- what the end of a call shows and answers, by the call that is open
-pub record Ends (p : Core) (w : World) (q : Sq) (d : Rules) (a : Answer) (c : Option Call) : Type 0 where
-  pub shows : ShowsWorld (record p { sq = q; dispatch = d; held = [] }) (ending_of p.setup w c)
-  pub answered : a ≡ end_answer_in p.setup w c
-
--- what is told of a call that took all its positions
-abbrev taken_by : Setup → Submission → Call → Taken
-taken_by g l call =
-    record { accepted = length (entries_of (places_from l call.count)); dropped = dropped (with_closed l call); head = word_of g.start (taken (with_closed l call)) }
-
--- a call that closes took all its positions, and this is told of it
-taken_as : (all : Bool) (t told : Taken)
-    → ended_as.Taken t ≡ cond all (ended_as.Taken told) ended_as.NotAll → (all ≡ true) × (t ≡ told)
-taken_as all t told e = grind arith
-
-closed_shows : (p : Core) (w : World) (q : Sq) (d : Rules) (call : Call) → ShowsWorld p w
-    → w.submission.call ≡ Some call → call.taken ≡ call.count → Accepts p d
-    → length p.held ≤ call.count → ShowsSubmission p.setup q (with_closed w.submission call)
+closed_shows : (p : Core) (w : World) (q : Sq) (d : Rules) (t : Taken) (call : Call) → ShowsWorld p w
+    → w.submission.call ≡ Some call → Accepts p d → ended_as.Taken t ≡ ring.end_of p.setup w.submission (Some call)
+    → ShowsSubmission p.setup q (with_closed w.submission call)
     → ShowsWorld (record p { sq = q; dispatch = d; held = [] }) (ending_of p.setup w (Some call))
-closed_shows p w q d call s is all accepts few shown = grind (arith, closed_entries)
+closed_shows p w q d t call s is accepts e shown = grind (arith, closed_entries, held_within)
 
-closed_answer : (g : Setup) (w : World) (call : Call) (t : Taken)
-    → ended_as.Taken t ≡ ring.end_of g w.submission (Some call)
-    → answer.Taken t.accepted t.dropped t.head ≡ end_answer_in g w (Some call)
-closed_answer g w call t e = grind (arith, with_closed, sum_by_push)
-
-end_taken : (p : Core) (w : World) (q : Sq) (d : Rules) (t : Taken) (c : Option Call)
-    → ShowsWorld p w → w.submission.call ≡ c → Accepts p d
-    → length p.held ≤ positions_of w.submission.call
-    → ended_as.Taken t ≡ ring.end_of p.setup w.submission c
+end_shows : (p : Core) (w : World) (q : Sq) (d : Rules) (t : Taken) (c : Option Call) → ShowsWorld p w
+    → w.submission.call ≡ c → Accepts p d → ended_as.Taken t ≡ ring.end_of p.setup w.submission c
     → ShowsSubmission p.setup q (ring.closed_on w.submission c)
-    → Ends p w q d (answer.Taken t.accepted t.dropped t.head) c
-end_taken p w q d t None s is accepts few e shown = grind arith
-end_taken p w q d t (Some call) s is accepts few e shown = record {
-  shows = closed_shows p w q d call s is (eqb-true call.taken call.count (taken_as (eqb call.taken call.count) t (taken_by p.setup w.submission call) e).0) accepts (subst (λ c. length p.held ≤ positions_of c) is few) shown;
-  answered = closed_answer p.setup w call t e;
-}
+    → ShowsWorld (record p { sq = q; dispatch = d; held = [] }) (ending_of p.setup w c)
+end_shows p w q d t None s is accepts e shown = grind arith
+end_shows p w q d t (Some call) s is accepts e shown = closed_shows p w q d t call s is accepts e shown
+
+end_called : (g : Setup) (w : World) (t : Taken) (c : Option Call) → ended_as.Taken t ≡ ring.end_of g w.submission c
+    → answer.Taken t.accepted t.dropped t.head ≡ end_answer_in g w c
+end_called g w t c e = grind (arith, with_closed, sum_by_push)
 
 pub end_goes : (p : Core) (q : Sq) (d : Rules) (t : Taken)
     → ((g : Setup) (l : Submission) → ShowsSubmission g p.sq l → ended_as.Taken t ≡ ring.end_answer g l)
@@ -75,10 +55,11 @@ pub end_goes : (p : Core) (q : Sq) (d : Rules) (t : Taken)
 end_goes p q d t answered shown accepts h f =
     let w = world p.setup h in
     let s = f.shows in
-    let held = held_within w.submission p.setup.sq w.submission.call s.submission.call_fits in
-    let same : length p.held ≡ length (held_by w.submission w.submission.call) = ap length s.held in
-    let e = end_taken p w q d t w.submission.call s refl accepts (omega arith) (answered p.setup w.submission s.submission) (shown p.setup w.submission s.submission) in
-    record { shows = e.shows; lawful = (e.answered, f.lawful) }
+    let e = answered p.setup w.submission s.submission in
+    record {
+      shows = end_shows p w q d t w.submission.call s refl accepts e (shown p.setup w.submission s.submission);
+      lawful = (end_called p.setup w t w.submission.call e, f.lawful);
+    }
 
 pub end_not_all_goes : (p : Core) (q : Sq)
     → ((g : Setup) (l : Submission) → ShowsSubmission g p.sq l → ended_as.NotAll ≡ ring.end_answer g l)
@@ -109,15 +90,10 @@ ended_shows p w d q r n res bytes s shows same_rules accepted outstanding room b
 
 -- Issue.
 
-issue_same : (g : Setup) (w : World) (n : ℕ)
-    → issue_told (issued g.linux (requests_of w) n) ≡ issue_answer g w n
-issue_same g w n = grind arith
-
--- what ends as it is issued posts what its end posts
-issue_posts : (g : Setup) (w : World) (n : ℕ) (res : ℤ) (posted : Posts)
+issue_ended : (g : Setup) (w : World) (n : ℕ) (res : ℤ) (posted : Posts)
     → issue.Ended res posted ≡ issued g.linux (requests_of w) n
-    → posted ≡ posts_of g.linux w.requests n res
-issue_posts g w n res posted is = grind arith
+    → (answer.Ended res no_bytes ≡ issue_answer g w n) × (posted ≡ posts_of g.linux w.requests n res)
+issue_ended g w n res posted is = grind arith
 
 pub run_goes : (p : Core) (d : Rules) (n : ℕ) (op : Op)
     → ((l : LinuxRequests) → ShowsRequests p.dispatch l → issue.Run op ≡ issued p.dispatch.linux l n)
@@ -146,13 +122,13 @@ pub issue_ended_goes : (p : Core) (d : Rules) (q : Cq) (n : ℕ) (res : ℤ) (po
 issue_ended_goes p d q n res posted answered shows counts shown left promised h f =
     let w = world p.setup h in
     let s = f.shows in
-    let called = subst (λ linux. issue.Ended res posted ≡ issued linux (requests_of w) n) s.rules (answered (requests_of w) s.requests) in
-    let ended = subst (λ linux. ShowsRequests d (ended_at_issue linux (requests_of w) n res)) s.rules (shows (requests_of w) s.requests) in
-    let told = subst (λ x. ShowsCompletions p.setup q (with_told p.setup.cq w.completions x res no_bytes)) (issue_posts p.setup w n res posted called) (shown p.setup w.completions s.completions) in
+    let called = issue_ended p.setup w n res posted (rw s.rules at (answered (requests_of w) s.requests)) in
+    let ended = rw s.rules at (shows (requests_of w) s.requests) in
+    let told = rw called.1 at (shown p.setup w.completions s.completions) in
     record {
       shows = ended_shows p w d q (ended_at_issue p.setup.linux (requests_of w) n res) n res no_bytes s ended counts.linux counts.accepted counts.outstanding counts.room counts.between
-          (subst (ShowsCompletions p.setup q) (told_end p.setup w n res no_bytes) told) left promised;
-      lawful = (ap issue_told called ∙ issue_same p.setup w n, f.lawful);
+          (rw (← told_end p.setup w n res no_bytes) told) left promised;
+      lawful = (called.0, f.lawful);
     }
 
 -- Finish.
@@ -174,14 +150,13 @@ pub finish_goes : (p : Core) (d : Rules) (q : Cq) (n : ℕ) (res : ℤ) (bytes :
 finish_goes p d q n res bytes posted answered shows counts shown left promised h f =
     let w = world p.setup h in
     let s = f.shows in
-    let called = subst (λ linux. Some posted ≡ posted_by linux (requests_of w) n res) s.rules (answered (requests_of w) s.requests) in
-    let ended = ended_running p.setup w n res posted called in
-    let gone = subst (λ linux. ShowsRequests d (ended_by linux (requests_of w) n res bytes)) s.rules (shows (requests_of w) bytes s.requests) in
-    let told = subst (λ x. ShowsCompletions p.setup q (with_told p.setup.cq w.completions x res bytes)) ended.1 (shown p.setup w.completions s.completions) in
+    let ended = ended_running p.setup w n res posted (rw s.rules at (answered (requests_of w) s.requests)) in
+    let gone = rw s.rules at (shows (requests_of w) bytes s.requests) in
+    let told = rw ended.1 at (shown p.setup w.completions s.completions) in
     record {
       shows = ended_shows p w d q (ended_by p.setup.linux (requests_of w) n res bytes) n res bytes s gone counts.linux counts.accepted counts.outstanding counts.room counts.between
-          (subst (ShowsCompletions p.setup q) (told_end p.setup w n res bytes) told) left promised;
-      lawful = (subst (λ b. FinishesApart b (answer.Ended res bytes)) (sym ended.0) tt, f.lawful);
+          (rw (← told_end p.setup w n res bytes) told) left promised;
+      lawful = (rw ended.0 tt, f.lawful);
     }
 
 -- the entries accepted are those held

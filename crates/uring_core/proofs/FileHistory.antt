@@ -2,7 +2,7 @@
 -- From `Moves`: doomed requests end with a fault and cancels are on no file, so their ends change none.
 -- Stable: other crates may import `files_ended`, `files_kept` and `files_kept_from`.
 use Rattle.std.proofs.Common.{if◌then◌else◌, ◌≡◌, ℕ, ℤ, negsuc, ◌==◌, List, [], ◌∷◌, ◌++◌, Bool, true, cond, refl, ◌∙◌, ap, arith}
-use Rattle.uring_core.proofs.Common.{Op, Answer, Ending, History, IsLawfulApart, IsNoFinish, LinuxRequests, Requests, Setup, Sqe, Step, entry_of, eq-eqb, is_cancel, is_faulty, is_refused_drain, list_any, operation_of, or_left, or_right, requests_of, with_call, with_ended, with_started, world}
+use Rattle.uring_core.proofs.Common.{Op, Answer, Ending, History, IsLawfulApart, IsNoFinish, LinuxRequests, Requests, Setup, Step, entry_of, eq-eqb, is_faulty, is_refused_drain, list_any, operation_of, or_left, or_right, requests_of, with_call, with_ended, with_started, world}
 use Rattle.uring_rules.specs.Rules.{doomed_result, cancel_result, with_issued_end}
 use Rattle.uring_entry.proofs.Preparations.{asks_cancel}
 use Rattle.uring_files.specs.Contents.{FileContents, empty_files}
@@ -37,10 +37,6 @@ doomed_changes_none : (files : List FileContents) (op : Op) (drain faulty linux 
     → after files op (if linux then cond drain (negsuc 94) (cond faulty (negsuc 21) (negsuc 124)) else cond faulty (negsuc 21) (negsuc 124)) ≡ files
 doomed_changes_none files op drain faulty linux = grind (arith, failed)
 
-cancel_changes_none : (files : List FileContents) (e : Sqe) (res : ℤ) → is_cancel e ≡ true
-    → after files (operation_of e) res ≡ files
-cancel_changes_none files e res cancel = ap (λ op. after files op res) (asks_cancel e cancel)
-
 -- what an end makes of the files
 pub files_ended : (r : Requests) (n : ℕ) (res : ℤ) (bytes : List ℕ) (files : List FileContents)
     → files_after (with_ended r n res bytes) files (with_ended r n res bytes).ended
@@ -62,7 +58,7 @@ move_keeps linux l q s a files (starts n outstanding idle spared ready no_cancel
     files_same l.requests (with_started l.requests n) files l.requests.ended (λ m there. refl)
 move_keeps linux l q s a files (ends_doomed n outstanding) other i =
     issued_end linux l.requests n (doomed_result linux l.requests n) files ∙ doomed_changes_none _ (operation_of (entry_of l.requests n)) (is_refused_drain l.requests n) (is_faulty (entry_of l.requests n)) linux
-move_keeps linux l q s a files (ends_cancel n outstanding spared ready cancel) other i = issued_end linux l.requests n (cancel_result linux l.requests n) files ∙ cancel_changes_none (files_after l.requests files l.requests.ended) (entry_of l.requests n) (cancel_result linux l.requests n) cancel
+move_keeps linux l q s a files (ends_cancel n outstanding spared ready cancel) other i = issued_end linux l.requests n (cancel_result linux l.requests n) files ∙ ap (λ op. after (files_after l.requests files l.requests.ended) op (cancel_result linux l.requests n)) (asks_cancel (entry_of l.requests n) cancel)
 move_keeps linux l q s a files (ends_run n res bytes running) other i = absurd other
 
 -- a step but a finish leaves the files as they are, whatever files there were at first

@@ -1,5 +1,5 @@
 -- A call accepts entries, and closes: what stands before it stays.
-use Rattle.std.proofs.Common.{◌≡◌, ℕ, ◌+◌, ◌-◌, ◌==◌, ◌<◌, ◌≤◌, min, max, neg_ℤ, if◌then◌else◌, List, length, Bool, true, false, not, ◌&&◌, leb, ◌∙◌, ap, arith, ◌⊎◌, inl, inr}
+use Rattle.std.proofs.Common.{◌≡◌, ℕ, ◌+◌, ◌-◌, ◌==◌, ◌<◌, ◌≤◌, min, max, neg_ℤ, if◌then◌else◌, List, length, Bool, true, false, not, ◌&&◌, leb, ◌∙◌, ap, arith, ◌⊎◌}
 use Rattle.uring_core.proofs.Common.{Requests, Sqe, and_left, entry_of, eq-eqb, get_or_append_left, int_eq, is_after_failure, is_doomed, is_faulty, is_in_group, is_joined, is_joined_no, is_last, length-append, list_any, list_any_push, ne_eqb, some_member, with_call, zero_entry}
 use Rattle.uring_entry.specs.declared.errno.TheConstants.{EINVAL, ECANCELED}
 use Rattle.uring_entry.proofs.BelowLemmas.{some_below_same, some_below_between}
@@ -63,8 +63,4 @@ module _ (r : Requests) (entries : List Sqe) (cut : (length r.accepted ≡ 0) �
   call_sound s = grind (arith, longer, list_any_push, eq-eqb, entry_kept)
 
   pub call_manual : IsSoundRequests r → IsSoundManual r → IsSoundManual (with_call r entries)
-  call_manual s m =
-      record {
-        started_free = λ n e. call_free n (s.started_accepted n e) (m.started_free n e);
-        ended_how = λ n e. elim (m.ended_how n e) [ inl doomed ↦ inl (ends_kept n (s.ended_accepted n e) doomed) | inr free ↦ inr (call_free n (s.ended_accepted n e) free) ];
-      }
+  call_manual s m = grind (arith, (λ (n : ℕ). call_free n), (λ (n : ℕ). ends_kept n))

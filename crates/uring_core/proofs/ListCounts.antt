@@ -1,5 +1,5 @@
 -- What passes a test in a list that grows.
-use Rattle.std.proofs.Common.{◌&&◌, ◌≡◌, ℕ, ◌≤◌, List, [], ◌∷◌, ◌++◌, Bool, true, false, count_by, cond, refl, sym, ◌∙◌, ap, arith, ◌⊎◌, inl, inr}
+use Rattle.std.proofs.Common.{◌&&◌, ◌≡◌, ◌≤◌, List, [], ◌∷◌, ◌++◌, Bool, true, false, count_by, cond, refl, sym, ◌∙◌, arith, ◌⊎◌}
 use Rattle.uring_core.proofs.Common.{list_any, list_any_push, or_cases, or_left, sum_by-cons, sum_by_push}
 use Rattle.std.proofs.lemmas.List.Folds.{list_any-append}
 
@@ -22,12 +22,7 @@ pub count_some : {X : Type 0} (p : X → Bool) (xs : List X) → list_any p xs �
     → 1 ≤ count_by p xs
 count_some p [] e = absurd (let f : false ≡ true = e in cc)
 count_some p (x ∷ xs) e =
-    elim (or_cases _ _ e) [
-      | inl here ↦
-          let one : ◌≡◌ {A = ℕ} (cond (p x) 1 0) 1 = ap (λ t. cond t 1 0) here in
-          omega (arith, sum_by-cons (λ y. cond (p y) 1 0) x xs)
-      | inr later ↦ omega (arith, sum_by-cons (λ y. cond (p y) 1 0) x xs, count_some p xs later)
-    ]
+    grind (arith, (sum_by-cons (λ y. cond (p y) 1 0) x xs), (or_cases (p x) (list_any p xs) e), (count_some p xs))
 
 -- at most once, also with one more that wasn't there
 pub count_once_more : {X : Type 0} (p : X → Bool) (xs : List X) (x : X) → count_by p xs ≤ 1

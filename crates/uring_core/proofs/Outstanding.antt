@@ -1,15 +1,10 @@
 -- How many requests are outstanding: none exactly if the count is 0, and one less with each end of one of them.
 -- By induction over the numbers below the count of accepted requests.
 -- Stable: other crates may import `none_outstanding`, `all_ended`, `ended_less` and `count_below_zero`.
-use Rattle.std.proofs.Common.{◌≡◌, ◌≢◌, ℕ, zero, suc, ◌+◌, ◌<◌, Bool, true, false, ℤ, List, length, refl, arith}
+use Rattle.std.proofs.Common.{◌≡◌, ℕ, zero, suc, ◌+◌, ◌<◌, Bool, true, false, ℤ, List, length, refl, arith}
 use Rattle.uring_core.proofs.Common.{Requests, and_parts, has_ended_other, has_ended_same, is_outstanding, ltb-true, outstanding_in, with_ended}
 use Rattle.uring_entry.specs.Below.{count_below}
 use Rattle.uring_dispatch.proofs.Counting.{count_below_changed, count_below_some}
-
--- a number less
-count_below_less : (p q : ℕ → Bool) (n m : ℕ) → m < n → p m ≡ true → q m ≡ false
-    → ((k : ℕ) → k ≢ m → q k ≡ p k) → count_below q n + 1 ≡ count_below p n
-count_below_less p q n m lt is isnt same = grind (arith, count_below_changed)
 
 -- nothing is counted that isn't there
 pub count_below_zero : (p : ℕ → Bool) (n : ℕ) → ((k : ℕ) → k < n → p k ≡ false)
@@ -29,4 +24,4 @@ all_ended r none = count_below_zero (is_outstanding r) (length r.accepted) (λ n
 pub ended_less : (r : Requests) (n : ℕ) (res : ℤ) (bytes : List ℕ) → is_outstanding r n ≡ true
     → outstanding_in (with_ended r n res bytes) + 1 ≡ outstanding_in r
 ended_less r n res bytes outstanding =
-    grind (arith, (count_below_less (is_outstanding r) (is_outstanding (with_ended r n res bytes)) (length r.accepted) n), has_ended_same, has_ended_other, ltb-true, and_parts)
+    grind (arith, (count_below_changed (is_outstanding r) (is_outstanding (with_ended r n res bytes)) (length r.accepted) n), has_ended_same, has_ended_other, ltb-true, and_parts)

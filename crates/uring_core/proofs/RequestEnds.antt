@@ -1,6 +1,6 @@
 -- What holds of the requests stays as one ends.
-use Rattle.std.proofs.Common.{◌≡◌, count_by, ◌≤◌, ◌≢◌, ℕ, ◌==◌, ◌<◌, ℤ, pos, neg_ℤ, List, [], ◌∷◌, ◌++◌, length, Bool, true, false, not, ◌&&◌, Option, Some, refl, sym, ◌∙◌, ◌⊎◌, inl, inr, arith}
-use Rattle.uring_core.proofs.Common.{Chose, Requests, all_success, and_from, and_left, and_parts, both_ways, cancel_result, choices_of, chosen_by, cond_both, doomed_result, entry_of, eqb-false, eqb-true, has_ended, has_failed, has_started, int_eq, int_le, is_cancel, is_cancel_all, is_cancelled, is_candidate, is_doomed, is_doomed_after, is_doomed_cancelled, is_doomed_faulty, is_faulty, is_joined, is_outstanding, is_ready, is_running, list_any, list_any_push, lt-ltb, ne_eqb, never_success, no_bytes, not-true, one_success, option_to_list, or_cases, or_from, result_for, some_member, target_in, target_of, targets_of, with_ended, with_issued_end}
+use Rattle.std.proofs.Common.{◌≡◌, count_by, ◌≤◌, ◌≢◌, ℕ, ◌==◌, ◌<◌, ℤ, pos, neg_ℤ, List, [], ◌∷◌, ◌++◌, length, Bool, true, false, not, Option, Some, refl, sym, ◌∙◌, ◌⊎◌, inl, inr, arith}
+use Rattle.uring_core.proofs.Common.{Chose, Requests, all_success, and_from, and_left, and_parts, cancel_result, choices_of, chosen_by, cond_both, doomed_result, entry_of, eqb-true, has_ended, has_started, int_eq, int_le, is_cancel, is_cancel_all, is_cancelled, is_doomed, is_doomed_after, is_doomed_cancelled, is_doomed_faulty, is_faulty, is_joined, is_outstanding, is_ready, is_running, list_any, list_any_push, lt-ltb, ne_eqb, never_success, no_bytes, one_success, option_to_list, or_cases, or_from, some_member, target_in, target_of, targets_of, with_ended, with_issued_end}
 use Rattle.std.proofs.lemmas.Bool.Decides.{Decides-int_eq}
 use Rattle.std.proofs.lemmas.List.Folds.{list_any-append}
 use Rattle.uring_entry.specs.Success.{is_success}
@@ -52,31 +52,22 @@ module _ (r : Requests) (n : ℕ) (res : ℤ) (bytes : List ℕ) (cancelled : Li
   unfolding is_joined
   end_join k m = refl
 
-  end_kept : (m : ℕ) → has_ended r m ≡ true → has_ended (ended_as r n res bytes cancelled) m ≡ true
-  end_kept m e = any_kept (λ x. x.number == m) r.ended _ e
-
-  fail_other : (k : ℕ) → k ≢ n → has_failed (ended_as r n res bytes cancelled) k ≡ true → has_failed r k ≡ true
-  fail_other k differ e = grind (arith, any_new, eqb-true, and_parts)
-
-  fail_kept : (k : ℕ) → has_failed r k ≡ true → has_failed (ended_as r n res bytes cancelled) k ≡ true
-  fail_kept k e = any_kept (λ x. (x.number == k) && not (is_success (entry_of r k) x.res)) r.ended _ e
-
   -- who is doomed stays doomed
   pub end_doom : (m : ℕ) → is_doomed r m ≡ true
       → is_doomed (ended_as r n res bytes cancelled) m ≡ true
   unfolding is_joined some_member
   end_doom m doomed =
-      grind (arith, (is_doomed_tells r m doomed), (is_doomed_faulty (ended_as r n res bytes cancelled) m), (is_after_failure_tells r m), (is_after_failure_from (ended_as r n res bytes cancelled) m), (is_doomed_after (ended_as r n res bytes cancelled) m), (is_doomed_cancelled (ended_as r n res bytes cancelled) m), fail_kept, (choice.kept m))
+      grind (arith, (is_doomed_tells r m doomed), (is_doomed_faulty (ended_as r n res bytes cancelled) m), (is_after_failure_tells r m), (is_after_failure_from (ended_as r n res bytes cancelled) m), (is_doomed_after (ended_as r n res bytes cancelled) m), (is_doomed_cancelled (ended_as r n res bytes cancelled) m), list_any_push, (choice.kept m))
 
   -- who is doomed newly is a later member of n's group, or chosen
   end_doomed : (m : ℕ) → is_doomed (ended_as r n res bytes cancelled) m ≡ true → (is_doomed r m ≡ true) ⊎ (((n < m) × (is_joined r n m ≡ true)) ⊎ IsChosen r n m)
   unfolding is_joined some_member
   end_doomed m doomed =
-      grind (arith, (is_doomed_tells (ended_as r n res bytes cancelled) m doomed), (is_doomed_faulty r m), (is_after_failure_tells (ended_as r n res bytes cancelled) m), (is_after_failure_from r m), (is_doomed_after r m), (is_doomed_cancelled r m), fail_other, (choice.added m))
+      grind (arith, (is_doomed_tells (ended_as r n res bytes cancelled) m doomed), (is_doomed_faulty r m), (is_after_failure_tells (ended_as r n res bytes cancelled) m), (is_after_failure_from r m), (is_doomed_after r m), (is_doomed_cancelled r m), list_any_push, eqb-true, (choice.added m))
 
   -- who is free stays free, unless chosen
   free_kept : (m : ℕ) → has_ended r n ≡ false → (IsChosen r n m → ⊥) → IsFree r m → IsFree (ended_as r n res bytes cancelled) m
-  free_kept m unended unchosen f = grind (arith, end_doomed, end_join, end_kept)
+  free_kept m unended unchosen f = grind (arith, end_doomed, end_join, list_any_push)
 
   -- the ends of another stay its ends
   ends_doomed_kept : (m : ℕ) → m ≢ n → EndsDoomed r m → EndsDoomed (ended_as r n res bytes cancelled) m
@@ -90,12 +81,10 @@ module _ (r : Requests) (n : ℕ) (res : ℤ) (bytes : List ℕ) (cancelled : Li
   -- how the end of n came: n was doomed, with that result, or free
   pub end_manual : is_outstanding r n ≡ true → (res ≡ doomed_result r n) ⊎ IsFree r n
       → IsSoundManual r → IsSoundManual (ended_as r n res bytes cancelled)
-  end_manual outstanding how s =
-      let o = outstanding_tells r n outstanding in
-      record {
-        started_free = λ m e. free_kept m o.1 (λ chosen. both_ways _ chosen.unstarted e) (s.started_free m e);
-        ended_how = λ m e. grind (arith, (any_new (λ x. x.number == m) r.ended (record { number = n; res = res; bytes = bytes }) e), (s.ended_how m), ends_doomed_kept, ends_doomed_first, free_kept, eqb-true);
-      }
+  end_manual outstanding how s = record {
+    started_free = λ m e. grind (arith, outstanding_tells, (free_kept m), (s.started_free m e));
+    ended_how = λ m e. grind (arith, outstanding_tells, (any_new (λ x. x.number == m) r.ended (record { number = n; res = res; bytes = bytes }) e), (s.ended_how m), ends_doomed_kept, ends_doomed_first, free_kept, eqb-true);
+  }
 
 -- nothing is chosen where a running request ends
 pub no_choice : (r : Requests) (n : ℕ) → IsChoice r n r.cancelled
@@ -138,28 +127,16 @@ chose r n res m e = grind (arith, (chose_so r n res m))
 pub doomed_fails : (r : Requests) (n : ℕ) → is_success (entry_of r n) (doomed_result r n) ≡ false
 doomed_fails r n = cond_both (is_faulty (entry_of r n)) (neg_ℤ EINVAL) (neg_ℤ ECANCELED) (λ res. is_success (entry_of r n) res ≡ false) (λ _. never_success (entry_of r n) 21) (λ _. never_success (entry_of r n) 124)
 
--- a cancel that ends with 0 found its target at rest
-result_tells : (r : Requests) (m : ℕ) → int_eq (result_for r (Some m)) (pos 0) ≡ true
-    → is_running r m ≡ false
-result_tells r m e = grind arith
-
 module _ (r : Requests) (n : ℕ) where
-  -- what a cancel may choose is chosen, if it isn't running
-  chosen_at : (m : ℕ) → is_candidate r n m ≡ true → is_running r m ≡ false → IsChosen r n m
-  chosen_at m candidate idle = grind (arith, and_parts, outstanding_tells, eqb-false, not-true, idle_tells)
-
   -- whom a cancel chose
   is_chosen : (m : ℕ) → Chose r n (cancel_result r n) m → IsChosen r n m
-  is_chosen m c = grind (arith, (target_of_tells r n m), (result_tells r m), (chosen_at m), not-true, Decides-int_eq)
+  is_chosen m c = grind (arith, (target_of_tells r n m), (outstanding_tells r m), (idle_tells r m), Decides-int_eq)
 
   -- who is chosen by the end of n with this result
   pub choice_of : (res : ℤ) → (res ≡ doomed_result r n) ⊎ (res ≡ cancel_result r n)
       → IsChoice r n (r.cancelled ++ chosen_by r n res)
   choice_of res how =
-      record {
-        kept = λ m e. any_kept (λ k. k == m) r.cancelled (chosen_by r n res) e;
-        added = λ m e. grind (arith, (any_both (λ k. k == m) r.cancelled (chosen_by r n res) e), (chose r n res m), (doomed_fails r n), (is_chosen m));
-      }
+      grind (arith, (λ (m : ℕ). any_kept (λ k. k == m) r.cancelled (chosen_by r n res)), (λ (m : ℕ). any_both (λ k. k == m) r.cancelled (chosen_by r n res)), (chose r n res), (doomed_fails r n), is_chosen)
 
 pub doom_manual : (r : Requests) (n : ℕ) → is_outstanding r n ≡ true → IsSoundManual r
     → IsSoundManual (with_issued_end r n (doomed_result r n))

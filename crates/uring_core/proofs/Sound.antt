@@ -1,10 +1,10 @@
 -- What holds of everything that a lawful history has made.
-use Rattle.std.proofs.Common.{◌≡◌, ◌+◌, Bool, false, [], ◌∷◌, refl, subst, arith}
-use Rattle.uring_core.proofs.Common.{Answer, History, IsLawfulApart, LinuxRequests, Requests, Setup, Step, World, at_first, requests_of, stops_there, with_taken, world}
+use Rattle.std.proofs.Common.{◌≡◌, Bool, false, [], ◌∷◌, subst, arith}
+use Rattle.uring_core.proofs.Common.{Answer, History, IsLawfulApart, LinuxRequests, Requests, Setup, Step, World, at_first, requests_of, world}
 use Rattle.uring_core.proofs.Moves.{Move, stays, accepts, starts, ends_doomed, ends_cancel, ends_run, move_of}
 use Rattle.uring_core.proofs.SubmissionMoves.{SubmissionMove, stages, takes, drops, closes, submission_move}
 use Rattle.uring_core.proofs.CompletionMoves.{CompletionMove, completion_move}
-use Rattle.uring_core.proofs.SoundRings.{IsSoundCompletions, IsSoundSubmission, end_sound, reap_sound, stage_sound, store_sound, take_sound, stop_sound, close_sound}
+use Rattle.uring_core.proofs.SoundRings.{IsSoundCompletions, IsSoundSubmission, end_sound, reap_sound, stage_sound, store_sound, take_sound, close_sound}
 use Rattle.uring_core.proofs.SoundRequests.{IsSoundRequests, IsSoundManual, start_sound, start_manual, outstanding_tells}
 use Rattle.uring_core.proofs.ByRules.{starts_right}
 use Rattle.uring_core.proofs.RequestEnds.{finish_sound, issued_end_sound, finish_manual, doom_manual, cancel_manual}
@@ -24,8 +24,7 @@ submission_kept : (g : Setup) (w : World) (s : Step) (a : Answer) (v : World)
     → SubmissionMove g w s a v → IsSoundSubmission g.sq w.submission
     → IsSoundSubmission g.sq v.submission
 submission_kept g w s a v (stages word room) i = stage_sound g.sq w.submission word room i
-submission_kept g w s a v (takes entry call place opened left at valid) i =
-    stop_sound g.sq (with_taken w.submission call) (record call { taken = call.taken + 1 }) (stops_there g w.submission entry) refl (take_sound g.sq w.submission call opened left i)
+submission_kept g w s a v (takes entry call place opened left at valid) i = take_sound g.sq w.submission call _ opened left i
 submission_kept g w s a v (drops call place opened left at invalid) i = grind arith
 submission_kept g w s a v (closes accepted missed head call opened all counted) i =
     close_sound g.sq w.submission call opened i

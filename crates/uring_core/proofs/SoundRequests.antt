@@ -41,10 +41,6 @@ first_manual = grind arith
 
 -- A request starts.
 
--- a start changes neither groups nor who is doomed
-start_free : (r : Requests) (n m : ℕ) → IsFree r m → IsFree (with_started r n) m
-start_free r n m f = grind (arith, is_doomed_started, is_joined_started)
-
 -- what is outstanding is accepted, and hasn't ended
 pub outstanding_tells : (r : Requests) (n : ℕ) → is_outstanding r n ≡ true
     → (n < length r.accepted) × (has_ended r n ≡ false)
