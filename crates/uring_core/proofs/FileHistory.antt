@@ -2,7 +2,7 @@
 -- From `Moves`: doomed requests end with a fault and cancels are on no file, so their ends change none.
 -- Stable: other crates may import `files_ended`, `files_kept` and `files_kept_from`.
 use Rattle.std.proofs.Common.{if◌then◌else◌, ◌≡◌, ℕ, ℤ, negsuc, ◌==◌, List, [], ◌∷◌, ◌++◌, Bool, true, cond, refl, ◌∙◌, ap, arith}
-use Rattle.uring_core.proofs.Common.{Op, Answer, Ending, History, IsLawfulApart, IsNoFinish, LinuxRequests, Requests, Setup, Step, entry_of, eq-eqb, is_faulty, is_refused_drain, list_any, operation_of, or_left, or_right, requests_of, with_call, with_ended, with_started, world}
+use Rattle.uring_core.proofs.Common.{Op, Answer, Ending, History, IsLawfulApart, IsNoFinish, LinuxRequests, Requests, Setup, Step, entry_of, is_faulty, is_refused_drain, list_any, operation_of, requests_of, with_call, with_ended, with_started, world}
 use Rattle.uring_rules.specs.Rules.{doomed_result, cancel_result, with_issued_end}
 use Rattle.uring_entry.proofs.Preparations.{asks_cancel}
 use Rattle.uring_files.specs.Contents.{FileContents, empty_files}
@@ -19,9 +19,7 @@ files_same : (r q : Requests) (files : List FileContents) (ends : List Ending)
     → ((n : ℕ) → list_any (λ e. e.number == n) ends ≡ true → entry_of q n ≡ entry_of r n)
     → files_after q files ends ≡ files_after r files ends
 files_same r q files [] same = refl
-files_same r q files (e ∷ later) same =
-    ap (λ x. files_after q (after files (operation_of x) e.res) later) (same e.number (or_left _ _ (eq-eqb e.number e.number refl)))
-    ∙ files_same r q (after files (operation_of (entry_of r e.number)) e.res) later (λ n there. same n (or_right (e.number == n) _ there))
+files_same r q files (e ∷ later) same = grind (arith, (files_same r q (after files (operation_of (entry_of r e.number)) e.res) later))
 
 -- the last end comes last
 files_more : (r : Requests) (files : List FileContents) (ends : List Ending) (e : Ending)

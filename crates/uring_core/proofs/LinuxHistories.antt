@@ -39,7 +39,7 @@ by_linux g = record g { linux = true }
 
 change_happens : (g : Setup) (w : World) (s : Step) (a : Answer) → Change (by_linux g) w s a
     → HasHappened (requests_of w) → HasHappened (requests_of (happens (by_linux g) w s a))
-change_happens g w s a (refuses _ _ same silent) so = subst (λ (v : World). HasHappened (requests_of v)) (sym (same w)) so
+change_happens g w s a (refuses _ _ same silent) so = rw same so
 change_happens g w s a (takes entry call place opened left at valid) so = rw opened so
 change_happens g w s a (drops call place opened left at invalid) so = rw opened so
 change_happens g w s a (closes accepted missed head call opened all told) so =

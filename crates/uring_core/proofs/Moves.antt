@@ -1,5 +1,5 @@
 -- What an event makes of the requests, each with what is known of it because its answer was called for.
-use Rattle.std.proofs.Common.{◌≡◌, ℕ, ℤ, Bool, true, false, List, None, refl, sym, subst, ◌∷◌}
+use Rattle.std.proofs.Common.{◌≡◌, ℕ, ℤ, Bool, true, false, List, None, refl, ◌∷◌}
 use Rattle.uring_core.proofs.Common.{Answer, History, IsLawfulApart, LinuxRequests, Requests, Setup, Sqe, Step, World, end_told_by, entries_of, entry_of, happens, is_cancel, is_outstanding, is_running, may_start, no_bytes, places_from, requests_of, started_by, with_call, with_ended, with_started, world}
 use Rattle.uring_rules.specs.Rules.{doomed_result, cancel_result, with_issued_end}
 use Rattle.uring_rules.specs.Rules as by_rules
@@ -21,8 +21,7 @@ pub data Move (linux : Bool) (l : LinuxRequests) : Step → Answer → Requests 
 
 move_by : (g : Setup) (w : World) (s : Step) (a : Answer) → Change g w s a
     → Move g.linux (requests_of w) s a (happens g w s a).requests
-move_by g w s a (refuses _ _ same silent) =
-    subst (λ v. Move g.linux (requests_of w) s a v.requests) (sym (same w)) (stays s a silent.starts silent.ends)
+move_by g w s a (refuses _ _ same silent) = rw same (stays s a silent.starts silent.ends)
 move_by g w s a (takes entry call place opened left at valid) = rw opened (stays _ _ refl refl)
 move_by g w s a (drops call place opened left at invalid) = rw opened (stays _ _ refl refl)
 move_by g w s a (closes accepted missed head call opened all told) = rw opened (accepts accepted missed head (entries_of (places_from w.submission call.count)))

@@ -1,5 +1,5 @@
 -- Equality of answers: what the derived `==` says of them, and that it is decided.
-use Rattle.std.proofs.Common.{◌≡◌, Bool, true, refl, ◌⊎◌, arith}
+use Rattle.std.proofs.Common.{◌≡◌, Bool, true, false, refl, ◌⊎◌, arith}
 use Rattle.uring_core.proofs.Common.{Answer, and_from, and_parts, cases_Bool, eq-eqb, eqb-true}
 use Rattle.std.proofs.lemmas.Bool.Decides.{Decides-int_eq}
 use lib.Pointwise.{bytes_decides}
@@ -10,9 +10,13 @@ use Rattle.uring_core.specs.contracts.answer.AnswerPartialEq.TheImpl.{ghosts}
 abbrev pub same : Answer → Answer → Bool
 same a b = ghosts.eq a b
 
+others : (a b : Answer) → false ≡ true → a ≡ b
+others a b e = cc
+
 -- what `==` finds the same is the same
 one : (a b : Answer) → same a b ≡ true → a ≡ b
 one (answer.Tail x) (answer.Tail y) e = cc (eqb-true x y e)
+one _ answer.Filled e = search (others) depth 1
 one (answer.Head x) (answer.Head y) e = cc (eqb-true x y e)
 one (answer.Call x) (answer.Call y) e = cc (eqb-true x y e)
 one (answer.Entry x) (answer.Entry y) e = cc ((bytes_decides x y).0 e)
@@ -21,7 +25,7 @@ one (answer.Ended res bytes) (answer.Ended res' bytes') e = grind (arith, and_pa
 one (answer.Moved x) (answer.Moved y) e = cc (eqb-true x y e)
 one (answer.Reaped c) (answer.Reaped d) e = grind (arith, and_parts, eqb-true, Decides-int_eq, bytes_decides)
 one (answer.Next x) (answer.Next y) e = cc (eqb-true x y e)
-one _ _ e = grind arith
+one _ _ e = search (others) depth 1
 
 -- `==` finds each answer the same as itself
 alike : (a : Answer) → same a a ≡ true
