@@ -1,7 +1,7 @@
 -- What is so by the manual pages' rules and by Linux's.
 -- Stable: other crates may import all of it.
-use Rattle.std.proofs.Common.{◌≡◌, ℕ, ◌<◌, Bool, true, false, ◌||◌, length, ap, sym, subst, arith}
-use Rattle.uring_core.proofs.Common.{LinuxRequests, Setup, and_parts, both_ways, by_manual, ends_doomed, entry_of, false_from_ne_true, is_doomed_own_fault, is_faulty, is_issuable, is_outstanding, is_running, may_start, not-true}
+use Rattle.std.proofs.Common.{◌≡◌, ℕ, ◌<◌, Bool, true, false, length, ap, sym, subst, arith}
+use Rattle.uring_core.proofs.Common.{LinuxRequests, Setup, both_ways, by_manual, ends_doomed, entry_of, false_from_ne_true, is_doomed_own_fault, is_faulty, may_start}
 use Rattle.uring_linux.proofs.Standings.{healthy}
 
 -- what starts has no fault
@@ -11,16 +11,6 @@ pub starts_right : (linux : Bool) (l : LinuxRequests) (n : ℕ) → n < length l
 starts_right true l n within spared free = healthy l.requests n within (grind arith)
 starts_right false l n within spared free =
     false_from_ne_true _ (λ faulty. both_ways _ spared (is_doomed_own_fault l.requests n within faulty))
-
--- What can be issued is outstanding, doesn't run, and is to end as doomed or may start.
-pub record CanBeIssued (linux : Bool) (l : LinuxRequests) (n : ℕ) : Type 0 where
-  pub outstanding : is_outstanding l.requests n ≡ true
-  pub idle : is_running l.requests n ≡ false
-  pub goes : (ends_doomed linux l.requests n || may_start linux l n) ≡ true
-
-pub issuable_tells : (linux : Bool) (l : LinuxRequests) (n : ℕ) → is_issuable linux l n ≡ true
-    → CanBeIssued linux l n
-issuable_tells linux l n issuable = grind (arith, and_parts, not-true)
 
 -- A set-up of the manual pages' rules.
 

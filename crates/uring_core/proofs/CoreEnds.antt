@@ -29,18 +29,12 @@ pub record Accepts (p : Core) (d : Rules) : Type 0 where
   pub between : d.is_between_calls ≡ true
 
 -- what the end of a call shows and answers, by the call that is open
-closed_shows : (p : Core) (w : World) (q : Sq) (d : Rules) (t : Taken) (call : Call) → ShowsWorld p w
-    → w.submission.call ≡ Some call → Accepts p d → ended_as.Taken t ≡ ring.end_of p.setup w.submission (Some call)
-    → ShowsSubmission p.setup q (with_closed w.submission call)
-    → ShowsWorld (record p { sq = q; dispatch = d; held = [] }) (ending_of p.setup w (Some call))
-closed_shows p w q d t call s is accepts e shown = grind (arith, closed_entries, held_within)
-
 end_shows : (p : Core) (w : World) (q : Sq) (d : Rules) (t : Taken) (c : Option Call) → ShowsWorld p w
     → w.submission.call ≡ c → Accepts p d → ended_as.Taken t ≡ ring.end_of p.setup w.submission c
     → ShowsSubmission p.setup q (ring.closed_on w.submission c)
     → ShowsWorld (record p { sq = q; dispatch = d; held = [] }) (ending_of p.setup w c)
 end_shows p w q d t None s is accepts e shown = grind arith
-end_shows p w q d t (Some call) s is accepts e shown = closed_shows p w q d t call s is accepts e shown
+end_shows p w q d t (Some call) s is accepts e shown = grind (arith, closed_entries, held_within)
 
 end_called : (g : Setup) (w : World) (t : Taken) (c : Option Call) → ended_as.Taken t ≡ ring.end_of g w.submission c
     → answer.Taken t.accepted t.dropped t.head ≡ end_answer_in g w c

@@ -1,6 +1,6 @@
 -- What a core shows as a submission call takes a position, and that there is room for what it took.
 use Rattle.uring_core.proofs.Common.{entry_answer, take_answer_in, Call, cons_option, list_any_push, taken_entries, Core, FitsApart, History, Place, Setup, ShowsSubmission, ShowsWorld, Sq, Sqe, Submission, World, append-nil, asks_to_skip, common_steps, entries_of, held_by, pending, positions_of, some_skips, stops_after, stops_at_word, taken, taking_entry_of, taking_of, taking_on, with_stopped, with_taken, world}
-use Rattle.std.proofs.Common.{◌≡◌, ℕ, ◌+◌, ◌<◌, ◌≤◌, Bool, false, eqb, ◌||◌, List, [], ◌∷◌, ◌++◌, length, take, Option, Some, None, slice_get, refl, sym, ap, ◌∙◌, arith, IfSome}
+use Rattle.std.proofs.Common.{◌≡◌, ℕ, ◌+◌, ◌<◌, ◌≤◌, Bool, ◌||◌, List, [], ◌∷◌, ◌++◌, length, take, Option, Some, None, slice_get, refl, sym, ap, ◌∙◌, arith, IfSome}
 use Rattle.std.proofs.lemmas.Option.{slice_get_cases}
 use Rattle.std.proofs.lemmas.List.Elements.{filter_map-append}
 use Rattle.uring_rings.specs.SqAnswers as ring
@@ -12,12 +12,6 @@ use Rattle.uring_core.specs.declared.answer.Answer.TheVariants as answer
 
 -- Take.
 
--- a take that goes on finds the place of the call's next position
-found : (p : Core) (w : World) (call : Call) (entry : Option Sqe) → ShowsWorld p w
-    → w.submission.call ≡ Some call → ring.given entry ≡ ring.take_in w.submission (Some call)
-    → (place : Place) × (slice_get w.submission.published (taken w.submission + call.taken) ≡ Some place) × (place.entry ≡ entry) × (eqb call.taken call.count ≡ false)
-found p w call entry s is e = grind (arith, (slice_get_cases w.submission.published (taken w.submission + call.taken)))
-
 -- the parts after a take, whatever was taken, and whether or not the call stops after it
 taken_shows : (p : Core) (w : World) (q : Sq) (call : Call) (entry : Option Sqe) (held : List Sqe) (has_skipped stops : Bool)
     → ShowsWorld p w → w.submission.call ≡ Some call → ring.given entry ≡ ring.take_in w.submission (Some call)
@@ -26,7 +20,8 @@ taken_shows : (p : Core) (w : World) (q : Sq) (call : Call) (entry : Option Sqe)
     → has_skipped ≡ some_skips (taken_entries w.submission ++ cons_option entry [])
     → ShowsWorld (record p { sq = q; held = held; has_skipped = has_skipped }) (taking_on w stops call)
 taken_shows p w q call entry held has_skipped stops s is e shown holds skipped =
-    let at = found p w call entry s is e in
+    let at : (place : Place) × (slice_get w.submission.published (taken w.submission + call.taken) ≡ Some place) × (place.entry ≡ entry) =
+        grind (arith, (slice_get_cases w.submission.published (taken w.submission + call.taken))) in
     grind (arith, (places_more w.submission.published (taken w.submission) call.taken at.0 at.1), (taken_more w.submission call at.0 entry is at.1 at.2), filter_map-append)
 
 -- the core answers as the ring does

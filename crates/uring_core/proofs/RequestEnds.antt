@@ -1,6 +1,6 @@
 -- What holds of the requests stays as one ends.
-use Rattle.std.proofs.Common.{◌≡◌, count_by, ◌≤◌, ◌≢◌, ℕ, ◌==◌, ◌<◌, ℤ, pos, neg_ℤ, List, [], ◌∷◌, ◌++◌, length, Bool, true, false, not, Option, Some, refl, sym, ◌∙◌, ◌⊎◌, inl, inr, arith}
-use Rattle.uring_core.proofs.Common.{Chose, Requests, all_success, and_from, and_left, and_parts, cancel_result, choices_of, chosen_by, cond_both, doomed_result, entry_of, eqb-true, has_ended, has_started, int_eq, int_le, is_cancel, is_cancel_all, is_cancelled, is_doomed, is_doomed_after, is_doomed_cancelled, is_doomed_faulty, is_faulty, is_joined, is_outstanding, is_ready, is_running, list_any, list_any_push, lt-ltb, ne_eqb, never_success, no_bytes, one_success, option_to_list, or_cases, or_from, some_member, target_in, target_of, targets_of, with_ended, with_issued_end}
+use Rattle.std.proofs.Common.{◌≡◌, count_by, ◌≤◌, ◌≢◌, ℕ, ◌==◌, ◌<◌, ℤ, pos, neg_ℤ, List, [], ◌∷◌, ◌++◌, length, Bool, true, false, not, refl, sym, ◌∙◌, ◌⊎◌, inl, inr, arith}
+use Rattle.uring_core.proofs.Common.{Chose, Requests, all_success, and_from, and_left, and_parts, cancel_result, choices_of, chosen_by, cond_both, doomed_result, entry_of, eqb-true, has_ended, has_started, int_eq, is_cancel, is_cancel_all, is_cancelled, is_doomed, is_doomed_after, is_doomed_cancelled, is_doomed_faulty, is_faulty, is_joined, is_outstanding, is_ready, is_running, list_any, list_any_push, lt-ltb, ne_eqb, never_success, no_bytes, one_success, option_to_list, or_cases, or_from, some_member, target_in, target_of, targets_of, with_ended, with_issued_end}
 use Rattle.std.proofs.lemmas.Bool.Decides.{Decides-int_eq}
 use Rattle.std.proofs.lemmas.List.Folds.{list_any-append}
 use Rattle.uring_entry.specs.Success.{is_success}
@@ -100,21 +100,14 @@ pub any_both : {X : Type 0} (p : X → Bool) (xs ys : List X) → list_any p (xs
     → (list_any p xs ≡ true) ⊎ (list_any p ys ≡ true)
 any_both p xs ys e = or_cases _ _ (sym (list_any-append p xs ys) ∙ e)
 
-only_one : (target : Option ℕ) (m : ℕ) → list_any (λ k. k == m) (option_to_list target) ≡ true
-    → target ≡ Some m
-only_one target m e = grind (arith, or_cases, eqb-true)
-
-a_number : (res : ℤ) → int_le (pos 0) res ≡ true → (count : ℕ) × (res ≡ pos count)
-a_number res e = grind arith
-
 -- whom a cancel chose that succeeded with this result
 chose_so : (r : Requests) (n : ℕ) (res : ℤ) (m : ℕ) → is_cancel (entry_of r n) ≡ true
     → is_success (entry_of r n) res ≡ true → list_any (λ k. k == m) (choices_of r n) ≡ true
     → Chose r n res m
 chose_so r n res m cancel success there =
     cond_both (is_cancel_all (entry_of r n)) (targets_of r n) (option_to_list (target_of r n)) (λ xs. list_any (λ k. k == m) xs ≡ true → Chose r n res m)
-    (λ all among. grind (arith, (all_success (entry_of r n) res all), (a_number res), (target_in r n m among)))
-    (λ one among. grind (arith, (one_success (entry_of r n) res cancel one), (Decides-int_eq res (pos 0)), (only_one (target_of r n) m among)))
+    (λ all among. grind (arith, (all_success (entry_of r n) res all), (target_in r n m among)))
+    (λ one among. grind (arith, (one_success (entry_of r n) res cancel one), (Decides-int_eq res (pos 0)), or_cases, eqb-true))
     there
 
 -- who is chosen with a result

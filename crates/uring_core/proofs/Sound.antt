@@ -1,6 +1,6 @@
 -- What holds of everything that a lawful history has made.
 use Rattle.std.proofs.Common.{◌≡◌, Bool, false, [], ◌∷◌, subst, arith}
-use Rattle.uring_core.proofs.Common.{Answer, History, IsLawfulApart, LinuxRequests, Requests, Setup, Step, World, at_first, requests_of, world}
+use Rattle.uring_core.proofs.Common.{Answer, History, IsLawfulApart, LinuxRequests, Requests, Setup, Step, World, requests_of, world}
 use Rattle.uring_core.proofs.Moves.{Move, stays, accepts, starts, ends_doomed, ends_cancel, ends_run, move_of}
 use Rattle.uring_core.proofs.SubmissionMoves.{SubmissionMove, stages, takes, drops, closes, submission_move}
 use Rattle.uring_core.proofs.CompletionMoves.{CompletionMove, completion_move}
@@ -15,9 +15,6 @@ pub record IsSound (g : Setup) (w : World) : Type 0 where
   pub completions : IsSoundCompletions g.cq w.completions
   pub requests : IsSoundRequests w.requests
   pub manual : g.linux ≡ false → IsSoundManual w.requests
-
-first_sound : (g : Setup) → IsSound g at_first
-first_sound g = grind arith
 
 -- a change keeps the submission ring sound
 submission_kept : (g : Setup) (w : World) (s : Step) (a : Answer) (v : World)
@@ -61,7 +58,7 @@ manual_kept l s a later (ends_cancel n outstanding spared ready cancel) i m = gr
 manual_kept l s a later (ends_run n res bytes running) i m = grind (arith, finish_manual)
 
 pub sound_of : (g : Setup) (h : History) → IsLawfulApart g h → IsSound g (world g h)
-sound_of g [] lawful = first_sound g
+sound_of g [] lawful = grind arith
 sound_of g ((s, a) ∷ before) lawful =
     let i = sound_of g before lawful.1 in
     let move = move_of g s a before lawful in
