@@ -3,7 +3,7 @@
 -- From the definitions of the answers alone.
 -- Stable: other crates may import `Change` with its cases and `change_of`.
 use Rattle.std.proofs.Common.{◌≡◌, ℕ, ◌+◌, ℤ, Bool, true, false, not, nat_lt, eqb, List, length, Option, Some, None, is_some, if◌then◌else◌, slice_get, refl, sym, subst, inl, inr, rules}
-use Rattle.uring_core.proofs.Common.{Answer, cond_both, Call, CalledForApart, Cqe, Event, FinishesApart, OrAgain, Place, Setup, Sqe, Step, World, accepted_by, call_length, closes_call, closes_ring, end_answer_in, end_told_by, ends_doomed, entries_of, entry_answer, entry_of, entry_taken_by, filled_by, happens, is_busy, is_cancel, is_flush, is_full, is_load_cq_tail, is_load_head, is_outstanding, is_running, is_spent, is_store_cq_head, is_store_tail, may_start, next_answer_of, next_to_reap, no_bytes, opened_by, opens_call, place_answer, places_from, reap_answer_of, reaped_by, requests_of, staged_by, started_by, take_answer_in, taken, takes_in, takes_position}
+use Rattle.uring_core.proofs.Common.{Answer, Call, CalledForApart, Cqe, Event, FinishesApart, OrAgain, Place, Setup, Sqe, Step, World, accepted_by, call_length, closes_call, closes_ring, cond_both, end_answer_in, end_told_by, ends_doomed, entries_of, entry_answer, entry_of, entry_taken_by, filled_by, happens, is_busy, is_cancel, is_flush, is_full, is_load_cq_tail, is_load_head, is_outstanding, is_running, is_spent, is_store_cq_head, is_store_tail, may_start, next_answer_of, next_to_reap, no_bytes, opened_by, opens_call, place_answer, places_from, reap_answer_of, reaped_by, requests_of, staged_by, started_by, take_answer_in, taken, takes_in, takes_position}
 use Rattle.uring_rules.specs.Rules.{doomed_result, cancel_result}
 use Rattle.uring_core.specs.declared.step.Step.TheVariants as step
 use Rattle.uring_core.specs.declared.answer.Answer.TheVariants as answer
@@ -87,24 +87,29 @@ module _ (g : Setup) (w : World) where
       subst (Change g w (step.Fill slot entry)) (sym e)
       (by_test _ _ answer.NoSlot (if is_busy w.submission slot then answer.Busy else answer.Filled) (search (rules, refuses))
       (λ _. by_test _ _ answer.Busy answer.Filled (search (rules, refuses)) (fills slot entry)))
-  change_of (step.Index word) a e = subst (Change g w (step.Index word)) (sym e) (by_test _ _ answer.Full answer.Staged (search (rules, refuses)) (stages word))
+  change_of (step.Index word) a e =
+      subst (Change g w (step.Index word)) (sym e) (by_test _ _ answer.Full answer.Staged (search (rules, refuses)) (stages word))
   change_of step.StoreTail a e = subst (Change g w step.StoreTail) (sym e) (stores _)
   change_of step.LoadHead a e = subst (Change g w step.LoadHead) (sym e) (loads _)
   change_of (step.Begin count) a e = begin_of count a _ _ _ refl refl refl e
   change_of step.Take a e =
       subst (Change g w step.Take) (sym e)
       (by_option _ w.submission.call (take_answer_in w) (search (rules, refuses)) (λ call opened.
-          by_test _ (eqb call.taken call.count) answer.NoMore (place_answer (slice_get w.submission.published (taken w.submission + call.taken))) (search (rules, refuses)) (λ left.
+          by_test _ (eqb call.taken call.count) answer.NoMore
+          (place_answer (slice_get w.submission.published (taken w.submission + call.taken))) (search (rules, refuses)) (λ left.
           by_option _ _ place_answer (search (rules, refuses)) (λ place at.
               by_option _ place.entry entry_answer (drops call place opened left at) (λ entry. takes entry call place opened left at)))))
   change_of step.End a e =
       subst (Change g w step.End) (sym e)
-      (by_option _ w.submission.call (end_answer_in g w) (search (rules, refuses)) (λ call opened. by_test _ _ answer.NotAll (answer.Taken _ _ _) (search (rules, refuses)) (λ all. closes _ _ _ call opened all refl)))
+      (by_option _ w.submission.call (end_answer_in g w) (search (rules, refuses)) (λ call opened.
+          by_test _ _ answer.NotAll (answer.Taken _ _ _) (search (rules, refuses)) (λ all. closes _ _ _ call opened all refl)))
   change_of (step.Issue n) a e = subst (Change g w (step.Issue n)) (sym e) (issue_of n _ _ _ _ _ refl refl refl refl refl)
   change_of (step.Finish n) a e = finish_of n _ a refl e
   change_of step.Flush a e = subst (Change g w step.Flush) (sym e) (flushes _)
   change_of step.LoadCqTail a e = subst (Change g w step.LoadCqTail) (sym e) (sees_tail _)
   change_of step.Reap a e = subst (Change g w step.Reap) (sym e) (by_option _ _ reap_answer_of (search (rules, refuses)) reaps)
   change_of step.StoreCqHead a e = subst (Change g w step.StoreCqHead) (sym e) (stores_head _)
-  change_of step.Close a e = subst (Change g w step.Close) (sym e) (by_test _ _ answer.InCall answer.Shut (search (rules, refuses)) (λ none. shuts (not_some _ none)))
+  change_of step.Close a e =
+      subst (Change g w step.Close) (sym e)
+      (by_test _ _ answer.InCall answer.Shut (search (rules, refuses)) (λ none. shuts (not_some _ none)))
   change_of step.Next a e = subst (Change g w step.Next) (sym e) (by_option _ _ next_answer_of (search (rules, refuses)) (search (rules, refuses)))

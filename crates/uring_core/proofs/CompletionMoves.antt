@@ -1,7 +1,7 @@
 -- What an event makes of the completion ring, each with what is known of it because its answer was called for.
 -- `stays` is the frame of all that leave the ring as it was: whatever became of the rest, they tell nothing of it.
 use Rattle.std.proofs.Common.{◌≡◌, ◌∙◌, ℕ, ℤ, Bool, false, List, [], ◌∷◌, ◌++◌, Some, None, refl, sym, subst, append-nil, rules}
-use Rattle.uring_core.proofs.Common.{taking_of, taking_entry_of, Answer, Cqe, Event, History, IsLawfulApart, LinuxRequests, Requests, Setup, Sqe, Step, Submission, World, end_told_by, ending_of, entries_of, happens, is_flush, is_load_cq_tail, is_store_cq_head, next_to_reap, no_bytes, places_from, reaped_by, requests_of, with_end_of, with_flushed, with_head_stored, with_reaped, with_tail_loaded, world}
+use Rattle.uring_core.proofs.Common.{Answer, Cqe, Event, History, IsLawfulApart, LinuxRequests, Requests, Setup, Sqe, Step, Submission, World, end_told_by, ending_of, entries_of, happens, is_flush, is_load_cq_tail, is_store_cq_head, next_to_reap, no_bytes, places_from, reaped_by, requests_of, taking_entry_of, taking_of, with_end_of, with_flushed, with_head_stored, with_reaped, with_tail_loaded, world}
 use Rattle.uring_core.specs.declared.step.Step.TheVariants as step
 use Rattle.uring_core.specs.declared.answer.Answer.TheVariants as answer
 use Rattle.uring_core.proofs.Changes.{Change, refuses as event_refuses, takes as event_takes, drops as event_drops, closes as event_closes, finishes as event_finishes, reaps as event_reaps, change_of}
@@ -38,7 +38,8 @@ keeps_ends : (g : Setup) (w : World) (s : Step) (a : Answer) (v : World) → IsO
     → end_told_by (s, a) ≡ None → v.requests.accepted ≡ w.requests.accepted → v.requests.ended ≡ w.requests.ended
     → CompletionMove g w s a (record v { completions = w.completions })
 keeps_ends g w s a v off no_end accepted ended =
-    stays s a v.submission (requests_of v) v.is_closed off no_end (record { more = []; accepted = accepted ∙ sym (append-nil w.requests.accepted); ended = ended })
+    stays s a v.submission (requests_of v) v.is_closed off no_end
+    (record { more = []; accepted = accepted ∙ sym (append-nil w.requests.accepted); ended = ended })
 
 -- an end as a request is issued, by either's rules
 ends_issued : (g : Setup) (w : World) (n : ℕ) (res : ℤ)
@@ -51,9 +52,11 @@ completion_by : (g : Setup) (w : World) (s : Step) (a : Answer) → Change g w s
 completion_by g w s a (event_refuses _ _ same i) =
     subst (CompletionMove g w s a) (sym (same w)) (keeps_ends g w s a w (assumption i) i.ends refl refl)
 completion_by g w s a (event_takes entry call place opened left at valid) =
-    subst (λ o. CompletionMove g w step.Take (answer.Entry entry) (taking_entry_of g w entry o)) (sym opened) (keeps_ends g w _ _ (taking_entry_of g w entry (Some call)) (search rules) refl refl refl)
+    subst (λ o. CompletionMove g w step.Take (answer.Entry entry) (taking_entry_of g w entry o)) (sym opened)
+    (keeps_ends g w _ _ (taking_entry_of g w entry (Some call)) (search rules) refl refl refl)
 completion_by g w s a (event_drops call place opened left at invalid) =
-    subst (λ o. CompletionMove g w step.Take answer.Dropped (taking_of g w o)) (sym opened) (keeps_ends g w _ _ (taking_of g w (Some call)) (search rules) refl refl refl)
+    subst (λ o. CompletionMove g w step.Take answer.Dropped (taking_of g w o)) (sym opened)
+    (keeps_ends g w _ _ (taking_of g w (Some call)) (search rules) refl refl refl)
 completion_by g w s a (event_closes accepted missed head call opened all counted) =
     subst (λ o. CompletionMove g w step.End (answer.Taken accepted missed head) (ending_of g w o)) (sym opened) (stays _ _ _ (requests_of (ending_of g w (Some call))) _ (search rules) refl (record { more = entries_of (places_from w.submission call.count); accepted = refl; ended = refl }))
 completion_by g w s a (event_finishes n res bytes running) =

@@ -173,4 +173,4 @@ new_fits p submission completions none_promised requests rules between held none
 pub ended_as_posted : (g : Setup) (w : World) (n : ℕ) (outcome : Outcome) (posted : Posts) (a : Answer)
     → Some posted ≡ posted_by g.linux (requests_of w) n outcome.res
     → a ≡ answer.Ended outcome.res outcome.bytes → IsFinished w n outcome a
-ended_as_posted g w n outcome posted a told is = grind (arith, cond_some)
+ended_as_posted g w n outcome posted a told is = grind arith

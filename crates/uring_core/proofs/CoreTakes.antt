@@ -1,5 +1,5 @@
 -- What a core shows as a submission call takes a position, and that there is room for what it took.
-use Rattle.uring_core.proofs.Common.{entry_answer, take_answer_in, Call, cons_option, list_any_push, taken_entries, Core, FitsApart, History, Place, Setup, ShowsSubmission, ShowsWorld, Sq, Sqe, Submission, World, append-nil, asks_to_skip, common_steps, entries_of, held_by, pending, positions_of, some_skips, stops_after, stops_at_word, taken, taking_entry_of, taking_of, taking_on, with_stopped, with_taken, world}
+use Rattle.uring_core.proofs.Common.{Call, Core, FitsApart, History, Place, Setup, ShowsSubmission, ShowsWorld, Sq, Sqe, Submission, World, append-nil, asks_to_skip, common_steps, cons_option, entries_of, entry_answer, held_by, list_any_push, pending, positions_of, some_skips, stops_after, stops_at_word, take_answer_in, taken, taken_entries, taking_entry_of, taking_of, taking_on, with_stopped, with_taken, world}
 use Rattle.std.proofs.Common.{◌≡◌, ℕ, ◌+◌, ◌<◌, ◌≤◌, Bool, ◌||◌, List, [], ◌∷◌, ◌++◌, length, take, Option, Some, None, slice_get, refl, sym, ap, ◌∙◌, arith, IfSome}
 use Rattle.std.proofs.lemmas.Option.{slice_get_cases}
 use Rattle.std.proofs.lemmas.List.Elements.{filter_map-append}
@@ -22,7 +22,8 @@ taken_shows : (p : Core) (w : World) (q : Sq) (call : Call) (entry : Option Sqe)
 taken_shows p w q call entry held has_skipped stops s is e shown holds skipped =
     let at : (place : Place) × (slice_get w.submission.published (taken w.submission + call.taken) ≡ Some place) × (place.entry ≡ entry) =
         grind (arith, (slice_get_cases w.submission.published (taken w.submission + call.taken))) in
-    grind (arith, (places_more w.submission.published (taken w.submission) call.taken at.0 at.1), (taken_more w.submission call at.0 entry is at.1 at.2), filter_map-append)
+    grind (arith, (places_more w.submission.published (taken w.submission) call.taken at.0 at.1),
+        (taken_more w.submission call at.0 entry is at.1 at.2), filter_map-append)
 
 -- the core answers as the ring does
 called : (p : Core) (w : World) (entry : Option Sqe) (c : Option Call) → ShowsWorld p w
@@ -38,7 +39,8 @@ take_entry : (p : Core) (w : World) (q : Sq) (entry : Sqe) (has_skipped : Bool) 
 take_entry p w q entry has_skipped None s is skips e shown = grind arith
 take_entry p w q entry has_skipped (Some call) s is skips e shown =
     let so_far : has_skipped ≡ (some_skips (taken_entries w.submission) || asks_to_skip entry) = cc (skips, s.skipped) in
-    taken_shows p w q call (Some entry) _ _ _ s is e (rw so_far at shown) refl (so_far ∙ sym (list_any_push asks_to_skip (taken_entries w.submission) entry))
+    taken_shows p w q call (Some entry) _ _ _ s is e (rw so_far at shown) refl
+    (so_far ∙ sym (list_any_push asks_to_skip (taken_entries w.submission) entry))
 
 take_dropped : (p : Core) (w : World) (q : Sq) (c : Option Call) → ShowsWorld p w
     → w.submission.call ≡ c → took_as.Dropped ≡ ring.take_in w.submission c
@@ -46,7 +48,8 @@ take_dropped : (p : Core) (w : World) (q : Sq) (c : Option Call) → ShowsWorld 
     → ShowsWorld (record p { sq = q }) (taking_of p.setup w c)
 take_dropped p w q None s is e shown = grind arith
 take_dropped p w q (Some call) s is e shown =
-    taken_shows p w q call None p.held p.has_skipped _ s is e shown (sym (append-nil p.held)) (s.skipped ∙ ap some_skips (sym (append-nil (taken_entries w.submission))))
+    taken_shows p w q call None p.held p.has_skipped _ s is e shown (sym (append-nil p.held))
+    (s.skipped ∙ ap some_skips (sym (append-nil (taken_entries w.submission))))
 
 -- the ring after a take, and then with its call stopped after the entry, if it stops there
 pub take_entry_goes : (p : Core) (q stops : Sq) (entry : Sqe) (has_skipped : Bool)
@@ -60,7 +63,8 @@ take_entry_goes p q stops entry has_skipped is answered shown stopped h f =
     let w = world p.setup h in
     let e = answered p.setup w.submission f.shows.submission in
     record {
-      shows = take_entry p w stops entry has_skipped w.submission.call f.shows refl is e (stopped p.setup _ (shown p.setup w.submission f.shows.submission));
+      shows = take_entry p w stops entry has_skipped w.submission.call f.shows refl is e
+          (stopped p.setup _ (shown p.setup w.submission f.shows.submission));
       lawful = (called p w (Some entry) w.submission.call f.shows refl e, f.lawful);
     }
 

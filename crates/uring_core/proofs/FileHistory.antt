@@ -2,7 +2,7 @@
 -- From `Moves`: doomed requests end with a fault and cancels are on no file, so their ends change none.
 -- Stable: other crates may import `files_ended`, `files_kept` and `files_kept_from`.
 use Rattle.std.proofs.Common.{if◌then◌else◌, ◌≡◌, ℕ, ℤ, negsuc, ◌==◌, List, [], ◌∷◌, ◌++◌, Bool, true, cond, refl, ◌∙◌, ap, arith}
-use Rattle.uring_core.proofs.Common.{Op, Answer, Ending, History, IsLawfulApart, IsNoFinish, LinuxRequests, Requests, Setup, Step, entry_of, is_faulty, is_refused_drain, list_any, operation_of, requests_of, with_call, with_ended, with_started, world}
+use Rattle.uring_core.proofs.Common.{Answer, Ending, History, IsLawfulApart, IsNoFinish, LinuxRequests, Op, Requests, Setup, Step, entry_of, is_faulty, is_refused_drain, list_any, operation_of, requests_of, with_call, with_ended, world}
 use Rattle.uring_rules.specs.Rules.{doomed_result, cancel_result, with_issued_end}
 use Rattle.uring_entry.proofs.Preparations.{asks_cancel}
 use Rattle.uring_files.specs.Contents.{FileContents, empty_files}
@@ -44,19 +44,20 @@ files_ended r n res bytes files = grind (arith, files_same, files_more)
 issued_end : (linux : Bool) (r : Requests) (n : ℕ) (res : ℤ) (files : List FileContents)
     → files_after (with_issued_end linux r n res) files (with_issued_end linux r n res).ended
     ≡ after (files_after r files r.ended) (operation_of (entry_of r n)) res
-issued_end linux r n res files =
-    grind (arith, (files_same r (with_issued_end linux r n res) files (with_issued_end linux r n res).ended), files_more)
+issued_end linux r n res files = grind (arith, files_same, files_more)
 
 move_keeps : (linux : Bool) (l : LinuxRequests) (q : Requests) (s : Step) (a : Answer) (files : List FileContents)
     → Move linux l s a q → IsNoFinish s → IsSoundRequests l.requests
     → files_after q files q.ended ≡ files_after l.requests files l.requests.ended
 move_keeps linux l q s a files (stays _ _ no_start no_end) other i = refl
 move_keeps linux l q s a files (accepts accepted missed head entries) other i = files_same l.requests (with_call l.requests entries) files l.requests.ended (λ n there. entry_stays l.requests entries n (i.ended_accepted n there))
-move_keeps linux l q s a files (starts n outstanding idle spared ready no_cancel) other i =
-    files_same l.requests (with_started l.requests n) files l.requests.ended (λ m there. refl)
+move_keeps linux l q s a files (starts n outstanding idle spared ready no_cancel) other i = grind (arith, files_same)
 move_keeps linux l q s a files (ends_doomed n outstanding) other i =
-    issued_end linux l.requests n (doomed_result linux l.requests n) files ∙ doomed_changes_none _ (operation_of (entry_of l.requests n)) (is_refused_drain l.requests n) (is_faulty (entry_of l.requests n)) linux
-move_keeps linux l q s a files (ends_cancel n outstanding spared ready cancel) other i = issued_end linux l.requests n (cancel_result linux l.requests n) files ∙ ap (λ op. after (files_after l.requests files l.requests.ended) op (cancel_result linux l.requests n)) (asks_cancel (entry_of l.requests n) cancel)
+    issued_end linux l.requests n (doomed_result linux l.requests n) files
+    ∙ doomed_changes_none _ (operation_of (entry_of l.requests n)) (is_refused_drain l.requests n) (is_faulty (entry_of l.requests n)) linux
+move_keeps linux l q s a files (ends_cancel n outstanding spared ready cancel) other i =
+    issued_end linux l.requests n (cancel_result linux l.requests n) files
+    ∙ ap (λ op. after (files_after l.requests files l.requests.ended) op (cancel_result linux l.requests n)) (asks_cancel (entry_of l.requests n) cancel)
 move_keeps linux l q s a files (ends_run n res bytes running) other i = absurd other
 
 -- a step but a finish leaves the files as they are, whatever files there were at first

@@ -2,7 +2,7 @@
 -- From the answer that is called for.
 -- Stable: other crates may import `issue_goes`, `issued_ends`, `issuable_outstanding` and `next_tells`.
 use Rattle.std.proofs.Common.{◌≡◌, ℕ, Option, Some, Bool, true, arith}
-use Rattle.uring_core.proofs.Common.{and_parts, not-true, Answer, IsEnded, IsIssued, LinuxRequests, Setup, World, is_issuable, is_outstanding, issue_answer, next_answer_of, next_of, requests_of}
+use Rattle.uring_core.proofs.Common.{Answer, IsEnded, IsIssued, LinuxRequests, Setup, World, and_parts, is_issuable, is_outstanding, issue_answer, next_answer_of, next_of, not-true, requests_of}
 use Rattle.uring_entry.proofs.BelowLemmas.{least_below_tells}
 use Rattle.uring_core.specs.declared.answer.Answer.TheVariants as answer
 

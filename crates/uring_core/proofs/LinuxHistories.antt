@@ -43,10 +43,13 @@ change_happens g w s a (refuses _ _ same silent) so = rw same so
 change_happens g w s a (takes entry call place opened left at valid) so = rw opened so
 change_happens g w s a (drops call place opened left at invalid) so = rw opened so
 change_happens g w s a (closes accepted missed head call opened all told) so =
-    rw opened (happens_more (requests_of w) _ (Call (entries_from w.submission call.count)) so tt tt (whole_call true (requests_of w) (entries_from w.submission call.count)))
-change_happens g w s a (runs n outstanding idle spared ready no_cancel) so = happens_more (requests_of w) _ (Start n) so (grind arith) (grind arith) refl
+    rw opened (happens_more (requests_of w) _ (Call (entries_from w.submission call.count)) so tt tt
+    (whole_call true (requests_of w) (entries_from w.submission call.count)))
+change_happens g w s a (runs n outstanding idle spared ready no_cancel) so =
+    happens_more (requests_of w) _ (Start n) so (grind arith) (grind arith) refl
 change_happens g w s a (dooms n outstanding idle doomed) so = happens_more (requests_of w) _ (End n _ no_bytes) so (grind arith) tt refl
-change_happens g w s a (cancels n outstanding idle spared ready cancel) so = happens_more (requests_of w) _ (End n _ no_bytes) so (grind arith) tt refl
+change_happens g w s a (cancels n outstanding idle spared ready cancel) so =
+    happens_more (requests_of w) _ (End n _ no_bytes) so (grind arith) tt refl
 change_happens g w s a (finishes n res bytes running) so =
     happens_more (requests_of w) _ (End n res bytes) so (or_left _ _ running) tt (end_by_linux (requests_of w) n res bytes)
 change_happens g w s a _ so = so

@@ -24,7 +24,8 @@ move_by : (g : Setup) (w : World) (s : Step) (a : Answer) → Change g w s a
 move_by g w s a (refuses _ _ same silent) = rw same (stays s a silent.starts silent.ends)
 move_by g w s a (takes entry call place opened left at valid) = rw opened (stays _ _ refl refl)
 move_by g w s a (drops call place opened left at invalid) = rw opened (stays _ _ refl refl)
-move_by g w s a (closes accepted missed head call opened all told) = rw opened (accepts accepted missed head (entries_of (places_from w.submission call.count)))
+move_by g w s a (closes accepted missed head call opened all told) =
+    rw opened (accepts accepted missed head (entries_of (places_from w.submission call.count)))
 move_by g w s a (runs n outstanding idle spared ready no_cancel) =
     starts n outstanding idle spared ready no_cancel
 move_by g w s a (dooms n outstanding idle doomed) = ends_doomed n outstanding

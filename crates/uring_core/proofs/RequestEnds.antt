@@ -1,6 +1,6 @@
 -- What holds of the requests stays as one ends.
 use Rattle.std.proofs.Common.{◌≡◌, count_by, ◌≤◌, ◌≢◌, ℕ, ◌==◌, ◌<◌, ℤ, pos, neg_ℤ, List, [], ◌∷◌, ◌++◌, length, Bool, true, false, not, refl, sym, ◌∙◌, ◌⊎◌, inl, inr, arith}
-use Rattle.uring_core.proofs.Common.{Chose, Requests, all_success, and_from, and_left, and_parts, cancel_result, choices_of, chosen_by, cond_both, doomed_result, entry_of, eqb-true, has_ended, has_started, int_eq, is_cancel, is_cancel_all, is_cancelled, is_doomed, is_doomed_after, is_doomed_cancelled, is_doomed_faulty, is_faulty, is_joined, is_outstanding, is_ready, is_running, list_any, list_any_push, lt-ltb, ne_eqb, never_success, no_bytes, one_success, option_to_list, or_cases, or_from, some_member, target_in, target_of, targets_of, with_ended, with_issued_end}
+use Rattle.uring_core.proofs.Common.{Chose, Requests, all_success, and_from, and_parts, cancel_result, choices_of, chosen_by, cond_both, doomed_result, entry_of, eqb-true, has_ended, has_started, int_eq, is_cancel, is_cancel_all, is_cancelled, is_doomed, is_doomed_after, is_doomed_cancelled, is_doomed_faulty, is_faulty, is_joined, is_outstanding, is_ready, is_running, list_any, list_any_push, lt-ltb, never_success, no_bytes, one_success, option_to_list, or_cases, some_member, target_in, target_of, targets_of, with_ended, with_issued_end}
 use Rattle.std.proofs.lemmas.Bool.Decides.{Decides-int_eq}
 use Rattle.std.proofs.lemmas.List.Folds.{list_any-append}
 use Rattle.uring_entry.specs.Success.{is_success}
@@ -18,9 +18,10 @@ pub end_sound : (r : Requests) (n : ℕ) (res : ℤ) (bytes : List ℕ) (cancell
     → is_outstanding r n ≡ true → IsSoundRequests r
     → IsSoundRequests (ended_as r n res bytes cancelled)
 end_sound r n res bytes cancelled outstanding s =
-    let o = outstanding_tells r n outstanding in
-    let within : (m : ℕ) → has_ended (ended_as r n res bytes cancelled) m ≡ true → m < length r.accepted = λ m e. grind (arith, list_any_push, eqb-true) in
-    let once : (m : ℕ) → count_by (λ e. e.number == m) (ended_as r n res bytes cancelled).ended ≤ 1 = λ m. count_once_more (λ x. x.number == m) r.ended _ (s.ends_once m) (λ same. grind (arith, eqb-true)) in
+    let within : (m : ℕ) → has_ended (ended_as r n res bytes cancelled) m ≡ true → m < length r.accepted =
+        λ m e. grind (arith, list_any_push, eqb-true, outstanding_tells) in
+    let once : (m : ℕ) → count_by (λ e. e.number == m) (ended_as r n res bytes cancelled).ended ≤ 1 =
+        λ m. count_once_more (λ x. x.number == m) r.ended _ (s.ends_once m) (λ same. grind (arith, eqb-true, outstanding_tells)) in
     assumption (s, within, once)
 
 -- a request ends as it is issued, by either's rules
@@ -57,13 +58,18 @@ module _ (r : Requests) (n : ℕ) (res : ℤ) (bytes : List ℕ) (cancelled : Li
       → is_doomed (ended_as r n res bytes cancelled) m ≡ true
   unfolding is_joined some_member
   end_doom m doomed =
-      grind (arith, (is_doomed_tells r m doomed), (is_doomed_faulty (ended_as r n res bytes cancelled) m), (is_after_failure_tells r m), (is_after_failure_from (ended_as r n res bytes cancelled) m), (is_doomed_after (ended_as r n res bytes cancelled) m), (is_doomed_cancelled (ended_as r n res bytes cancelled) m), list_any_push, (choice.kept m))
+      grind (arith, (is_doomed_tells r m doomed), (is_doomed_faulty (ended_as r n res bytes cancelled) m),
+          (is_after_failure_tells r m), (is_after_failure_from (ended_as r n res bytes cancelled) m),
+          (is_doomed_after (ended_as r n res bytes cancelled) m), (is_doomed_cancelled (ended_as r n res bytes cancelled) m),
+          list_any_push, (choice.kept m))
 
   -- who is doomed newly is a later member of n's group, or chosen
   end_doomed : (m : ℕ) → is_doomed (ended_as r n res bytes cancelled) m ≡ true → (is_doomed r m ≡ true) ⊎ (((n < m) × (is_joined r n m ≡ true)) ⊎ IsChosen r n m)
   unfolding is_joined some_member
   end_doomed m doomed =
-      grind (arith, (is_doomed_tells (ended_as r n res bytes cancelled) m doomed), (is_doomed_faulty r m), (is_after_failure_tells (ended_as r n res bytes cancelled) m), (is_after_failure_from r m), (is_doomed_after r m), (is_doomed_cancelled r m), list_any_push, eqb-true, (choice.added m))
+      grind (arith, (is_doomed_tells (ended_as r n res bytes cancelled) m doomed), (is_doomed_faulty r m),
+          (is_after_failure_tells (ended_as r n res bytes cancelled) m), (is_after_failure_from r m), (is_doomed_after r m),
+          (is_doomed_cancelled r m), list_any_push, eqb-true, (choice.added m))
 
   -- who is free stays free, unless chosen
   free_kept : (m : ℕ) → has_ended r n ≡ false → (IsChosen r n m → ⊥) → IsFree r m → IsFree (ended_as r n res bytes cancelled) m
@@ -71,7 +77,7 @@ module _ (r : Requests) (n : ℕ) (res : ℤ) (bytes : List ℕ) (cancelled : Li
 
   -- the ends of another stay its ends
   ends_doomed_kept : (m : ℕ) → m ≢ n → EndsDoomed r m → EndsDoomed (ended_as r n res bytes cancelled) m
-  ends_doomed_kept m differ d = grind (arith, list_any_push, or_from, and_left, ne_eqb)
+  ends_doomed_kept m differ d = grind (arith, list_any_push)
 
   -- the first end of a doomed request
   ends_doomed_first : has_ended r n ≡ false → res ≡ doomed_result r n → EndsDoomed (ended_as r n res bytes cancelled) n
@@ -83,7 +89,8 @@ module _ (r : Requests) (n : ℕ) (res : ℤ) (bytes : List ℕ) (cancelled : Li
       → IsSoundManual r → IsSoundManual (ended_as r n res bytes cancelled)
   end_manual outstanding how s = record {
     started_free = λ m e. grind (arith, outstanding_tells, (free_kept m), (s.started_free m e));
-    ended_how = λ m e. grind (arith, outstanding_tells, (any_new (λ x. x.number == m) r.ended (record { number = n; res = res; bytes = bytes }) e), (s.ended_how m), ends_doomed_kept, ends_doomed_first, free_kept, eqb-true);
+    ended_how = λ m e. grind (arith, outstanding_tells, (any_new (λ x. x.number == m) r.ended (record { number = n; res = res; bytes = bytes }) e),
+        (s.ended_how m), ends_doomed_kept, ends_doomed_first, free_kept, eqb-true);
   }
 
 -- nothing is chosen where a running request ends
@@ -105,7 +112,8 @@ chose_so : (r : Requests) (n : ℕ) (res : ℤ) (m : ℕ) → is_cancel (entry_o
     → is_success (entry_of r n) res ≡ true → list_any (λ k. k == m) (choices_of r n) ≡ true
     → Chose r n res m
 chose_so r n res m cancel success there =
-    cond_both (is_cancel_all (entry_of r n)) (targets_of r n) (option_to_list (target_of r n)) (λ xs. list_any (λ k. k == m) xs ≡ true → Chose r n res m)
+    cond_both (is_cancel_all (entry_of r n)) (targets_of r n) (option_to_list (target_of r n))
+    (λ xs. list_any (λ k. k == m) xs ≡ true → Chose r n res m)
     (λ all among. grind (arith, (all_success (entry_of r n) res all), (target_in r n m among)))
     (λ one among. grind (arith, (one_success (entry_of r n) res cancel one), (Decides-int_eq res (pos 0)), or_cases, eqb-true))
     there
@@ -129,7 +137,8 @@ module _ (r : Requests) (n : ℕ) where
   pub choice_of : (res : ℤ) → (res ≡ doomed_result r n) ⊎ (res ≡ cancel_result r n)
       → IsChoice r n (r.cancelled ++ chosen_by r n res)
   choice_of res how =
-      grind (arith, (λ (m : ℕ). any_kept (λ k. k == m) r.cancelled (chosen_by r n res)), (λ (m : ℕ). any_both (λ k. k == m) r.cancelled (chosen_by r n res)), (chose r n res), (doomed_fails r n), is_chosen)
+      grind (arith, (λ (m : ℕ). any_kept (λ k. k == m) r.cancelled (chosen_by r n res)),
+          (λ (m : ℕ). any_both (λ k. k == m) r.cancelled (chosen_by r n res)), (chose r n res), (doomed_fails r n), is_chosen)
 
 pub doom_manual : (r : Requests) (n : ℕ) → is_outstanding r n ≡ true → IsSoundManual r
     → IsSoundManual (with_issued_end r n (doomed_result r n))

@@ -65,11 +65,13 @@ ready_first r n ready k lt joined = waited r n k ready lt (or_left _ _ (or_left 
 pub start_sound : (r : Requests) (n : ℕ) → is_outstanding r n ≡ true → is_running r n ≡ false
     → is_faulty (entry_of r n) ≡ false → IsSoundRequests r → IsSoundRequests (with_started r n)
 start_sound r n outstanding idle right s =
-    let o = outstanding_tells r n outstanding in
-    let fresh = idle_tells r n idle o.1 in
-    let within : (m : ℕ) → has_started (with_started r n) m ≡ true → m < length r.accepted = λ m e. grind (arith, list_any_push, eqb-true) in
-    let once : (m : ℕ) → count_by (λ k. k == m) (with_started r n).started ≤ 1 = λ m. count_once_more (λ k. k == m) r.started n (s.starts_once m) (λ same. grind (arith, eqb-true)) in
-    let faultless : (m : ℕ) → has_started (with_started r n) m ≡ true → is_faulty (entry_of r m) ≡ false = λ m e. grind (arith, list_any_push, eqb-true) in
+    let within : (m : ℕ) → has_started (with_started r n) m ≡ true → m < length r.accepted =
+        λ m e. grind (arith, list_any_push, eqb-true, outstanding_tells) in
+    let once : (m : ℕ) → count_by (λ k. k == m) (with_started r n).started ≤ 1 =
+        λ m. count_once_more (λ k. k == m) r.started n (s.starts_once m)
+        (λ same. grind (arith, eqb-true, outstanding_tells, idle_tells)) in
+    let faultless : (m : ℕ) → has_started (with_started r n) m ≡ true → is_faulty (entry_of r m) ≡ false =
+        λ m e. grind (arith, list_any_push, eqb-true) in
     assumption (s, within, once, faultless)
 
 pub start_manual : (r : Requests) (n : ℕ) → is_doomed r n ≡ false → is_ready r n ≡ true

@@ -1,4 +1,4 @@
--- Whether an entry that was taken asks for skipped success, from step to step.
+-- The entries that submission calls took, from step to step.
 use Rattle.std.proofs.Common.{◌≡◌, ℕ, ◌+◌, ◌≤◌, [], ◌++◌, length, take, List, Option, Some, slice_get, arith, IfSome}
 use Rattle.uring_core.proofs.Common.{Call, Place, Sqe, Submission, cons_option, entries_of, get_or_from_slice_get, pending, slice_get_within, sum_by_push, take-append-le, take_more, taken, taken_entries, with_closed, with_published}
 use Rattle.std.proofs.lemmas.List.Elements.{filter_map-append}
