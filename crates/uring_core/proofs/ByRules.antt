@@ -1,51 +1,16 @@
 -- What is so by the manual pages' rules and by Linux's.
 -- Stable: other crates may import all of it.
-use Rattle.std.proofs.Common.{◌≡◌, ℕ, ◌<◌, Bool, true, false, not, ◌&&◌, ◌||◌, length, ap, sym, subst}
-use Rattle.uring_core.proofs.Common.{LinuxRequests, Setup, and_parts, both_ways, by_manual, ends_doomed, entry_of, false_from_ne_true, is_deferred, is_doomed_own_fault, is_faulty, is_in_turn, is_issuable, is_outstanding, is_running, may_start, not-true}
-use Rattle.uring_linux.specs.LinuxRequests as kernel
+use Rattle.std.proofs.Common.{◌≡◌, ℕ, ◌<◌, Bool, true, false, length, ap, sym, subst, arith}
+use Rattle.uring_core.proofs.Common.{LinuxRequests, Setup, both_ways, by_manual, ends_doomed, entry_of, false_from_ne_true, is_doomed_own_fault, is_faulty, may_start}
 use Rattle.uring_linux.proofs.Standings.{healthy}
-
--- what doesn't end as doomed though it is in its turn is spared
-spared_in_turn : (turn doomed deferred : Bool) → (turn && doomed) ≡ false
-    → (turn && not deferred) ≡ true → doomed ≡ false
-spared_in_turn true doomed deferred spared free = spared
-spared_in_turn false doomed deferred spared free =
-    absurd (let f : false ≡ true = free in cc)
 
 -- what starts has no fault
 pub starts_right : (linux : Bool) (l : LinuxRequests) (n : ℕ) → n < length l.requests.accepted
     → ends_doomed linux l.requests n ≡ false → may_start linux l n ≡ true
     → is_faulty (entry_of l.requests n) ≡ false
-starts_right true l n within spared free =
-    healthy l.requests n within (spared_in_turn (is_in_turn l.requests n) (kernel.is_doomed l.requests n) (is_deferred l n) spared free)
+starts_right true l n within spared free = healthy l.requests n within (grind arith)
 starts_right false l n within spared free =
     false_from_ne_true _ (λ faulty. both_ways _ spared (is_doomed_own_fault l.requests n within faulty))
-
--- What can be issued is outstanding, doesn't run, and is to end as doomed or may start.
-pub record CanBeIssued (linux : Bool) (l : LinuxRequests) (n : ℕ) : Type 0 where
-  pub outstanding : is_outstanding l.requests n ≡ true
-  pub idle : is_running l.requests n ≡ false
-  pub goes : (ends_doomed linux l.requests n || may_start linux l n) ≡ true
-
-goes_in_turn : (turn doomed deferred : Bool) → (turn && (doomed || not deferred)) ≡ true
-    → ((turn && doomed) || (turn && not deferred)) ≡ true
-goes_in_turn true doomed deferred goes = goes
-goes_in_turn false doomed deferred goes = goes
-
-pub issuable_tells : (linux : Bool) (l : LinuxRequests) (n : ℕ) → is_issuable linux l n ≡ true
-    → CanBeIssued linux l n
-issuable_tells true l n issuable =
-    let p = and_parts _ _ issuable in
-    let q = and_parts _ _ p.1 in
-    record {
-      outstanding = p.0;
-      idle = not-true _ q.0;
-      goes = goes_in_turn (is_in_turn l.requests n) (kernel.is_doomed l.requests n) (is_deferred l n) q.1;
-    }
-issuable_tells false l n issuable =
-    let p = and_parts _ _ issuable in
-    let q = and_parts _ _ p.0 in
-    record { outstanding = q.0; idle = not-true _ q.1; goes = p.1 }
 
 -- A set-up of the manual pages' rules.
 

@@ -3,7 +3,7 @@
 -- From the definitions of the answers alone.
 -- Stable: other crates may import `Change` with its cases and `change_of`.
 use Rattle.std.proofs.Common.{◌≡◌, ℕ, ◌+◌, ℤ, Bool, true, false, not, nat_lt, eqb, List, length, Option, Some, None, is_some, if◌then◌else◌, slice_get, refl, sym, subst, inl, inr, rules}
-use Rattle.uring_core.proofs.Common.{Answer, Call, CalledForApart, Cqe, Event, FinishesApart, OrAgain, Place, Setup, Sqe, Step, World, accepted_by, call_length, closes_call, closes_ring, end_answer_in, end_told_by, ends_doomed, entries_of, entry_answer, entry_of, entry_taken_by, filled_by, happens, is_busy, is_cancel, is_flush, is_full, is_load_cq_tail, is_load_head, is_outstanding, is_running, is_spent, is_store_cq_head, is_store_tail, may_start, next_answer_of, next_to_reap, no_bytes, opened_by, opens_call, place_answer, places_from, reap_answer_of, reaped_by, requests_of, staged_by, started_by, take_answer_in, taken, takes_in, takes_position}
+use Rattle.uring_core.proofs.Common.{Answer, Call, CalledForApart, Cqe, Event, FinishesApart, OrAgain, Place, Setup, Sqe, Step, World, accepted_by, call_length, closes_call, closes_ring, cond_both, end_answer_in, end_told_by, ends_doomed, entries_of, entry_answer, entry_of, entry_taken_by, filled_by, happens, is_busy, is_cancel, is_flush, is_full, is_load_cq_tail, is_load_head, is_outstanding, is_running, is_spent, is_store_cq_head, is_store_tail, may_start, next_answer_of, next_to_reap, no_bytes, opened_by, opens_call, place_answer, places_from, reap_answer_of, reaped_by, requests_of, staged_by, started_by, take_answer_in, taken, takes_in, takes_position}
 use Rattle.uring_rules.specs.Rules.{doomed_result, cancel_result}
 use Rattle.uring_core.specs.declared.step.Step.TheVariants as step
 use Rattle.uring_core.specs.declared.answer.Answer.TheVariants as answer
@@ -55,48 +55,19 @@ not_some o e = search rules
 
 -- A refusal tells nothing, as it computes.
 module _ (g : Setup) (w : World) where
-  fill_of : (slot : ℕ) (entry : Sqe) (beyond busy : Bool) → is_busy w.submission slot ≡ busy → Change g w (step.Fill slot entry) (if beyond then answer.NoSlot else (if busy then answer.Busy else answer.Filled))
-  fill_of slot entry true busy e = refuses _ _ (λ v. refl) (search rules)
-  fill_of slot entry false true e = refuses _ _ (λ v. refl) (search rules)
-  fill_of slot entry false false e = fills slot entry e
+  by_test : (s : Step) (b : Bool) (x y : Answer) → (b ≡ true → Change g w s x) → (b ≡ false → Change g w s y) → Change g w s (if b then x else y)
+  by_test s b x y so not_so = cond_both b x y (Change g w s) so not_so
 
-  index_of : (word : ℕ) (full : Bool) → is_full g.sq w.submission ≡ full → Change g w (step.Index word) (if full then answer.Full else answer.Staged)
-  index_of word true e = refuses _ _ (λ v. refl) (search rules)
-  index_of word false e = stages word e
-
-  again : (count : ℕ) → Change g w (step.Begin count) answer.Again
-  again count = refuses _ _ (λ v. refl) (search rules)
+  by_option : {A : Type 0} (s : Step) (o : Option A) (f : Option A → Answer) → (o ≡ None → Change g w s (f None))
+      → ((x : A) → o ≡ Some x → Change g w s (f (Some x))) → Change g w s (f o)
+  by_option s None f none some = none refl
+  by_option s (Some x) f none some = some x refl
 
   begin_of : (count : ℕ) (a : Answer) (is_closed in_call spent : Bool) → w.is_closed ≡ is_closed → is_some w.submission.call ≡ in_call → is_spent w (call_length w.submission count) ≡ spent
       → OrAgain (if is_closed then answer.Closed else (if in_call then answer.InCall else (if spent then answer.Spent else answer.Call (call_length w.submission count)))) a → Change g w (step.Begin count) a
   begin_of count a false false false e f k (inl h) = subst (Change g w (step.Begin count)) (sym h) (begins count e (not_some w.submission.call f) k)
-  begin_of count a false false false e f k (inr h) = subst (Change g w (step.Begin count)) (sym h.0) (again count)
+  begin_of count a false false false e f k (inr h) = subst (Change g w (step.Begin count)) (sym h.0) (refuses _ _ (λ v. refl) (search rules))
   begin_of count a _ _ _ e f k h = subst (Change g w (step.Begin count)) (sym h) (refuses _ _ (λ v. refl) (search rules))
-
-  place_of : (call : Call) (place : Option Place) → w.submission.call ≡ Some call → eqb call.taken call.count ≡ false → slice_get w.submission.published (taken w.submission + call.taken) ≡ place → Change g w step.Take (place_answer place)
-  place_of call None e f h = refuses _ _ (λ v. refl) (search rules)
-  place_of call (Some place) e f h = entry_of_place place.entry refl where
-    entry_of_place : (entry : Option Sqe) → place.entry ≡ entry → Change g w step.Take (entry_answer entry)
-    entry_of_place None k = drops call place e f h k
-    entry_of_place (Some entry) k = takes entry call place e f h k
-
-  take_in_call : (call : Call) (full : Bool) → w.submission.call ≡ Some call → eqb call.taken call.count ≡ full
-      → Change g w step.Take (if full then answer.NoMore else place_answer (slice_get w.submission.published (taken w.submission + call.taken)))
-  take_in_call call true e f = refuses _ _ (λ v. refl) (search rules)
-  take_in_call call false e f = place_of call _ e f refl
-
-  take_of : (call : Option Call) → w.submission.call ≡ call → Change g w step.Take (take_answer_in w call)
-  take_of None e = refuses _ _ (λ v. refl) (search rules)
-  take_of (Some call) e = take_in_call call _ e refl
-
-  end_in_call : (call : Call) (few : Bool) (accepted missed head : ℕ) → w.submission.call ≡ Some call → nat_lt call.taken call.count ≡ few → accepted ≡ length (entries_of (places_from w.submission call.count))
-      → Change g w step.End (if few then answer.NotAll else answer.Taken accepted missed head)
-  end_in_call call true accepted missed head e f counted = refuses _ _ (λ v. refl) (search rules)
-  end_in_call call false accepted missed head e f counted = closes accepted missed head call e f counted
-
-  end_of : (call : Option Call) → w.submission.call ≡ call → Change g w step.End (end_answer_in g w call)
-  end_of None e = refuses _ _ (λ v. refl) (search rules)
-  end_of (Some call) e = end_in_call call _ _ _ _ e refl refl
 
   issue_of : (n : ℕ) (outstanding running doomed ready cancel : Bool) → is_outstanding w.requests n ≡ outstanding → is_running w.requests n ≡ running → ends_doomed g.linux w.requests n ≡ doomed → may_start g.linux (requests_of w) n ≡ ready → is_cancel (entry_of w.requests n) ≡ cancel
       → Change g w (step.Issue n)
@@ -111,31 +82,34 @@ module _ (g : Setup) (w : World) where
   finish_of n true (answer.Ended res bytes) e h = finishes n res bytes e
   finish_of n true _ e h = absurd h
 
-  reap_of : (completion : Option Cqe) → next_to_reap w.completions ≡ completion → Change g w step.Reap (reap_answer_of completion)
-  reap_of None e = refuses _ _ (λ v. refl) (search rules)
-  reap_of (Some completion) e = reaps completion e
-
-  close_of : (in_call : Bool) → is_some w.submission.call ≡ in_call → Change g w step.Close (if in_call then answer.InCall else answer.Shut)
-  close_of true e = refuses _ _ (λ v. refl) (search rules)
-  close_of false e = shuts (not_some w.submission.call e)
-
-  next_of_answer : (n : Option ℕ) → Change g w step.Next (next_answer_of n)
-  next_of_answer None = refuses _ _ (λ v. refl) (search rules)
-  next_of_answer (Some n) = refuses _ _ (λ v. refl) (search rules)
-
   pub change_of : (s : Step) (a : Answer) → CalledForApart g w s a → Change g w s a
-  change_of (step.Fill slot entry) a e = subst (Change g w (step.Fill slot entry)) (sym e) (fill_of slot entry _ _ refl)
-  change_of (step.Index word) a e = subst (Change g w (step.Index word)) (sym e) (index_of word _ refl)
+  change_of (step.Fill slot entry) a e =
+      subst (Change g w (step.Fill slot entry)) (sym e)
+      (by_test _ _ answer.NoSlot (if is_busy w.submission slot then answer.Busy else answer.Filled) (search (rules, refuses))
+      (λ _. by_test _ _ answer.Busy answer.Filled (search (rules, refuses)) (fills slot entry)))
+  change_of (step.Index word) a e =
+      subst (Change g w (step.Index word)) (sym e) (by_test _ _ answer.Full answer.Staged (search (rules, refuses)) (stages word))
   change_of step.StoreTail a e = subst (Change g w step.StoreTail) (sym e) (stores _)
   change_of step.LoadHead a e = subst (Change g w step.LoadHead) (sym e) (loads _)
   change_of (step.Begin count) a e = begin_of count a _ _ _ refl refl refl e
-  change_of step.Take a e = subst (Change g w step.Take) (sym e) (take_of _ refl)
-  change_of step.End a e = subst (Change g w step.End) (sym e) (end_of _ refl)
+  change_of step.Take a e =
+      subst (Change g w step.Take) (sym e)
+      (by_option _ w.submission.call (take_answer_in w) (search (rules, refuses)) (λ call opened.
+          by_test _ (eqb call.taken call.count) answer.NoMore
+          (place_answer (slice_get w.submission.published (taken w.submission + call.taken))) (search (rules, refuses)) (λ left.
+          by_option _ _ place_answer (search (rules, refuses)) (λ place at.
+              by_option _ place.entry entry_answer (drops call place opened left at) (λ entry. takes entry call place opened left at)))))
+  change_of step.End a e =
+      subst (Change g w step.End) (sym e)
+      (by_option _ w.submission.call (end_answer_in g w) (search (rules, refuses)) (λ call opened.
+          by_test _ _ answer.NotAll (answer.Taken _ _ _) (search (rules, refuses)) (λ all. closes _ _ _ call opened all refl)))
   change_of (step.Issue n) a e = subst (Change g w (step.Issue n)) (sym e) (issue_of n _ _ _ _ _ refl refl refl refl refl)
   change_of (step.Finish n) a e = finish_of n _ a refl e
   change_of step.Flush a e = subst (Change g w step.Flush) (sym e) (flushes _)
   change_of step.LoadCqTail a e = subst (Change g w step.LoadCqTail) (sym e) (sees_tail _)
-  change_of step.Reap a e = subst (Change g w step.Reap) (sym e) (reap_of _ refl)
+  change_of step.Reap a e = subst (Change g w step.Reap) (sym e) (by_option _ _ reap_answer_of (search (rules, refuses)) reaps)
   change_of step.StoreCqHead a e = subst (Change g w step.StoreCqHead) (sym e) (stores_head _)
-  change_of step.Close a e = subst (Change g w step.Close) (sym e) (close_of _ refl)
-  change_of step.Next a e = subst (Change g w step.Next) (sym e) (next_of_answer _)
+  change_of step.Close a e =
+      subst (Change g w step.Close) (sym e)
+      (by_test _ _ answer.InCall answer.Shut (search (rules, refuses)) (λ none. shuts (not_some _ none)))
+  change_of step.Next a e = subst (Change g w step.Next) (sym e) (by_option _ _ next_answer_of (search (rules, refuses)) (search (rules, refuses)))

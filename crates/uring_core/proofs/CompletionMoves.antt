@@ -1,11 +1,10 @@
 -- What an event makes of the completion ring, each with what is known of it because its answer was called for.
 -- `stays` is the frame of all that leave the ring as it was: whatever became of the rest, they tell nothing of it.
-use Rattle.std.proofs.Common.{◌≡◌, ℕ, ℤ, Bool, false, List, [], ◌∷◌, ◌++◌, Some, None, refl, sym, subst, append-nil, rules}
+use Rattle.std.proofs.Common.{◌≡◌, ◌∙◌, ℕ, ℤ, Bool, false, List, [], ◌∷◌, ◌++◌, Some, None, refl, sym, subst, append-nil, rules}
 use Rattle.uring_core.proofs.Common.{Answer, Cqe, Event, History, IsLawfulApart, LinuxRequests, Requests, Setup, Sqe, Step, Submission, World, end_told_by, ending_of, entries_of, happens, is_flush, is_load_cq_tail, is_store_cq_head, next_to_reap, no_bytes, places_from, reaped_by, requests_of, taking_entry_of, taking_of, with_end_of, with_flushed, with_head_stored, with_reaped, with_tail_loaded, world}
-use Rattle.uring_rules.specs.Rules.{with_issued_end}
 use Rattle.uring_core.specs.declared.step.Step.TheVariants as step
 use Rattle.uring_core.specs.declared.answer.Answer.TheVariants as answer
-use Rattle.uring_core.proofs.Changes.{Change, refuses as event_refuses, takes as event_takes, drops as event_drops, closes as event_closes, runs as event_runs, dooms as event_dooms, cancels as event_cancels, finishes as event_finishes, flushes as event_flushes, sees_tail as event_sees_tail, reaps as event_reaps, stores_head as event_stores_head, change_of}
+use Rattle.uring_core.proofs.Changes.{Change, refuses as event_refuses, takes as event_takes, drops as event_drops, closes as event_closes, finishes as event_finishes, reaps as event_reaps, change_of}
 
 -- an event that tells nothing of the completion ring's head and tail
 pub record IsOffCompletions (e : Event) : Type 0 where
@@ -34,44 +33,37 @@ pub data CompletionMove (g : Setup) (w : World) : Step → Answer → World → 
       → CompletionMove g w step.Reap (answer.Reaped completion) (record w { completions = with_reaped w.completions completion })
   stores_head : (head : ℕ) → CompletionMove g w step.StoreCqHead (answer.Head head) (record w { completions = with_head_stored w.completions })
 
-same_ends : (r : Requests) → LeavesEnds r r
-same_ends r = record { more = []; accepted = sym (append-nil r.accepted); ended = refl }
+-- what ends no request, and is off the completion ring, leaves both as they were
+keeps_ends : (g : Setup) (w : World) (s : Step) (a : Answer) (v : World) → IsOffCompletions (s, a)
+    → end_told_by (s, a) ≡ None → v.requests.accepted ≡ w.requests.accepted → v.requests.ended ≡ w.requests.ended
+    → CompletionMove g w s a (record v { completions = w.completions })
+keeps_ends g w s a v off no_end accepted ended =
+    stays s a v.submission (requests_of v) v.is_closed off no_end
+    (record { more = []; accepted = accepted ∙ sym (append-nil w.requests.accepted); ended = ended })
 
 -- an end as a request is issued, by either's rules
-issued_accepted : (linux : Bool) (r : Requests) (n : ℕ) (res : ℤ)
-    → (with_issued_end linux r n res).accepted ≡ r.accepted
-issued_accepted linux r n res = search rules
-
-issued_ended : (linux : Bool) (r : Requests) (n : ℕ) (res : ℤ) → (with_issued_end linux r n res).ended
-    ≡ r.ended ++ record { number = n; res = res; bytes = no_bytes } ∷ []
-issued_ended linux r n res = search rules
-
 ends_issued : (g : Setup) (w : World) (n : ℕ) (res : ℤ)
     → CompletionMove g w (step.Issue n) (answer.Ended res no_bytes) (happens g w (step.Issue n) (answer.Ended res no_bytes))
 ends_issued g w n res =
-    ends _ _ n res no_bytes (requests_of (happens g w (step.Issue n) (answer.Ended res no_bytes))) (search rules) refl
-    (issued_accepted g.linux w.requests n res) (issued_ended g.linux w.requests n res)
+    ends _ _ n res no_bytes (requests_of (happens g w (step.Issue n) (answer.Ended res no_bytes))) (search rules) refl (search rules) (search rules)
 
 completion_by : (g : Setup) (w : World) (s : Step) (a : Answer) → Change g w s a
     → CompletionMove g w s a (happens g w s a)
 completion_by g w s a (event_refuses _ _ same i) =
-    subst (CompletionMove g w s a) (sym (same w)) (stays s a w.submission (requests_of w) w.is_closed (assumption i) i.ends (same_ends w.requests))
+    subst (CompletionMove g w s a) (sym (same w)) (keeps_ends g w s a w (assumption i) i.ends refl refl)
 completion_by g w s a (event_takes entry call place opened left at valid) =
-    subst (λ o. CompletionMove g w step.Take (answer.Entry entry) (taking_entry_of g w entry o)) (sym opened) (stays _ _ _ (requests_of w) _ (search rules) refl (same_ends w.requests))
+    subst (λ o. CompletionMove g w step.Take (answer.Entry entry) (taking_entry_of g w entry o)) (sym opened)
+    (keeps_ends g w _ _ (taking_entry_of g w entry (Some call)) (search rules) refl refl refl)
 completion_by g w s a (event_drops call place opened left at invalid) =
-    subst (λ o. CompletionMove g w step.Take answer.Dropped (taking_of g w o)) (sym opened) (stays _ _ _ (requests_of w) _ (search rules) refl (same_ends w.requests))
+    subst (λ o. CompletionMove g w step.Take answer.Dropped (taking_of g w o)) (sym opened)
+    (keeps_ends g w _ _ (taking_of g w (Some call)) (search rules) refl refl refl)
 completion_by g w s a (event_closes accepted missed head call opened all counted) =
     subst (λ o. CompletionMove g w step.End (answer.Taken accepted missed head) (ending_of g w o)) (sym opened) (stays _ _ _ (requests_of (ending_of g w (Some call))) _ (search rules) refl (record { more = entries_of (places_from w.submission call.count); accepted = refl; ended = refl }))
-completion_by g w s a (event_runs n outstanding idle spared ready no_cancel) = stays _ _ _ (requests_of (happens g w (step.Issue n) answer.Run)) _ (search rules) refl (record { more = []; accepted = sym (append-nil w.requests.accepted); ended = refl })
-completion_by g w s a (event_dooms n outstanding idle doomed) = search (rules, ends_issued)
-completion_by g w s a (event_cancels n outstanding idle spared ready cancel) = search (rules, ends_issued)
 completion_by g w s a (event_finishes n res bytes running) =
     ends _ _ n res bytes (requests_of (happens g w (step.Finish n) (answer.Ended res bytes))) (search rules) refl refl refl
-completion_by g w s a (event_flushes moved) = flushes moved
-completion_by g w s a (event_sees_tail tail) = sees_tail tail
 completion_by g w s a (event_reaps completion next) = reaps completion next
-completion_by g w s a (event_stores_head head) = stores_head head
-completion_by g w s a _ = stays _ _ _ (requests_of w) _ (search rules) refl (same_ends w.requests)
+completion_by g w s a _ =
+    first_of (search (rules, flushes, sees_tail, stores_head, ends_issued), search (rules, (keeps_ends g w s a (happens g w s a))))
 
 pub completion_move : (g : Setup) (s : Step) (a : Answer) (h : History)
     → IsLawfulApart g ((s, a) ∷ h) → CompletionMove g (world g h) s a (world g ((s, a) ∷ h))

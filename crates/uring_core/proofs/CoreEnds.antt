@@ -1,8 +1,7 @@
 -- What a core shows as a submission call closes, as a request ends, and as it is made.
-use Rattle.std.proofs.Common.{◌≡◌, ℕ, ◌+◌, ◌≤◌, ℤ, Bool, true, false, not, cond, eqb, if◌then◌else◌, List, [], ◌∷◌, length, Option, Some, None, refl, sym, ap, subst, ◌∙◌, arith}
-use Rattle.uring_core.proofs.Common.{Answer, Call, Completions, Core, Cq, FinishesApart, FitsApart, History, IsFinished, LinuxRequests, Op, Setup, ShowsCompletions, ShowsSubmission, ShowsWorld, Sq, Sqe, Submission, World, cond_some, dropped, end_answer_in, ending_of, ends_doomed, entries_of, entry_of, eqb-true, held_by, is_cancel, is_outstanding, is_running, issue_answer, issue_told, length-append, may_start, no_bytes, no_completion, no_submission, operation_of, places_from, positions_of, requests_of, sum_by_push, taken, with_closed, with_end_of, with_told, word_of, world, happens}
+use Rattle.std.proofs.Common.{◌≡◌, ℕ, ◌+◌, ◌≤◌, ℤ, true, false, List, [], ◌∷◌, length, Option, Some, None, refl, sym, arith}
+use Rattle.uring_core.proofs.Common.{Answer, Call, Completions, Core, Cq, FitsApart, History, IsFinished, LinuxRequests, Op, Setup, ShowsCompletions, ShowsSubmission, ShowsWorld, Sq, Sqe, Submission, World, cond_some, dropped, end_answer_in, ending_of, is_running, issue_answer, issue_told, length-append, no_bytes, no_completion, no_submission, requests_of, sum_by_push, with_closed, with_end_of, with_told, world, happens}
 use Rattle.uring_linux.specs.LinuxRequests.{no_request, with_started}
-use Rattle.uring_rules.specs.Rules.{doomed_result, cancel_result}
 use Rattle.uring_entry.specs.declared.operation.Outcome.{Outcome}
 use Rattle.uring_rings.specs.SqAnswers as ring
 use Rattle.uring_rings.specs.declared.answers.EndAnswer.TheVariants as ended_as
@@ -30,42 +29,16 @@ pub record Accepts (p : Core) (d : Rules) : Type 0 where
   pub between : d.is_between_calls ≡ true
 
 -- what the end of a call shows and answers, by the call that is open
-pub record Ends (p : Core) (w : World) (q : Sq) (d : Rules) (a : Answer) (c : Option Call) : Type 0 where
-  pub shows : ShowsWorld (record p { sq = q; dispatch = d; held = [] }) (ending_of p.setup w c)
-  pub answered : a ≡ end_answer_in p.setup w c
-
--- what is told of a call that took all its positions
-abbrev taken_by : Setup → Submission → Call → Taken
-taken_by g l call =
-    record { accepted = length (entries_of (places_from l call.count)); dropped = dropped (with_closed l call); head = word_of g.start (taken (with_closed l call)) }
-
--- a call that closes took all its positions, and this is told of it
-taken_as : (all : Bool) (t told : Taken)
-    → ended_as.Taken t ≡ cond all (ended_as.Taken told) ended_as.NotAll → (all ≡ true) × (t ≡ told)
-taken_as all t told e = grind arith
-
-closed_shows : (p : Core) (w : World) (q : Sq) (d : Rules) (call : Call) → ShowsWorld p w
-    → w.submission.call ≡ Some call → call.taken ≡ call.count → Accepts p d
-    → length p.held ≤ call.count → ShowsSubmission p.setup q (with_closed w.submission call)
-    → ShowsWorld (record p { sq = q; dispatch = d; held = [] }) (ending_of p.setup w (Some call))
-closed_shows p w q d call s is all accepts few shown = grind (arith, closed_entries)
-
-closed_answer : (g : Setup) (w : World) (call : Call) (t : Taken)
-    → ended_as.Taken t ≡ ring.end_of g w.submission (Some call)
-    → answer.Taken t.accepted t.dropped t.head ≡ end_answer_in g w (Some call)
-closed_answer g w call t e = grind (arith, with_closed, sum_by_push)
-
-end_taken : (p : Core) (w : World) (q : Sq) (d : Rules) (t : Taken) (c : Option Call)
-    → ShowsWorld p w → w.submission.call ≡ c → Accepts p d
-    → length p.held ≤ positions_of w.submission.call
-    → ended_as.Taken t ≡ ring.end_of p.setup w.submission c
+end_shows : (p : Core) (w : World) (q : Sq) (d : Rules) (t : Taken) (c : Option Call) → ShowsWorld p w
+    → w.submission.call ≡ c → Accepts p d → ended_as.Taken t ≡ ring.end_of p.setup w.submission c
     → ShowsSubmission p.setup q (ring.closed_on w.submission c)
-    → Ends p w q d (answer.Taken t.accepted t.dropped t.head) c
-end_taken p w q d t None s is accepts few e shown = grind arith
-end_taken p w q d t (Some call) s is accepts few e shown = record {
-  shows = closed_shows p w q d call s is (eqb-true call.taken call.count (taken_as (eqb call.taken call.count) t (taken_by p.setup w.submission call) e).0) accepts (subst (λ c. length p.held ≤ positions_of c) is few) shown;
-  answered = closed_answer p.setup w call t e;
-}
+    → ShowsWorld (record p { sq = q; dispatch = d; held = [] }) (ending_of p.setup w c)
+end_shows p w q d t None s is accepts e shown = grind arith
+end_shows p w q d t (Some call) s is accepts e shown = grind (arith, closed_entries, held_within)
+
+end_called : (g : Setup) (w : World) (t : Taken) (c : Option Call) → ended_as.Taken t ≡ ring.end_of g w.submission c
+    → answer.Taken t.accepted t.dropped t.head ≡ end_answer_in g w c
+end_called g w t c e = grind (arith, with_closed, sum_by_push)
 
 pub end_goes : (p : Core) (q : Sq) (d : Rules) (t : Taken)
     → ((g : Setup) (l : Submission) → ShowsSubmission g p.sq l → ended_as.Taken t ≡ ring.end_answer g l)
@@ -76,10 +49,11 @@ pub end_goes : (p : Core) (q : Sq) (d : Rules) (t : Taken)
 end_goes p q d t answered shown accepts h f =
     let w = world p.setup h in
     let s = f.shows in
-    let held = held_within w.submission p.setup.sq w.submission.call s.submission.call_fits in
-    let same : length p.held ≡ length (held_by w.submission w.submission.call) = ap length s.held in
-    let e = end_taken p w q d t w.submission.call s refl accepts (omega arith) (answered p.setup w.submission s.submission) (shown p.setup w.submission s.submission) in
-    record { shows = e.shows; lawful = (e.answered, f.lawful) }
+    let e = answered p.setup w.submission s.submission in
+    record {
+      shows = end_shows p w q d t w.submission.call s refl accepts e (shown p.setup w.submission s.submission);
+      lawful = (end_called p.setup w t w.submission.call e, f.lawful);
+    }
 
 pub end_not_all_goes : (p : Core) (q : Sq)
     → ((g : Setup) (l : Submission) → ShowsSubmission g p.sq l → ended_as.NotAll ≡ ring.end_answer g l)
@@ -96,11 +70,6 @@ pub told_end : (g : Setup) (w : World) (n : ℕ) (res : ℤ) (bytes : List ℕ)
     ≡ with_end_of g w n res bytes
 told_end g w n res bytes = grind arith
 
--- an end posts one completion at most
-few_posted : (g : Setup) (w : World) (n : ℕ) (res : ℤ) (bytes : List ℕ)
-    → length (with_end_of g w n res bytes).posted ≤ length w.completions.posted + 1
-few_posted g w n res bytes = grind (arith, length-append)
-
 -- The parts after an end: one request less is outstanding, and one promised post less is left at most.
 ended_shows : (p : Core) (w : World) (d : Rules) (q : Cq) (r : LinuxRequests) (n : ℕ) (res : ℤ) (bytes : List ℕ)
     → ShowsWorld p w
@@ -111,31 +80,14 @@ ended_shows : (p : Core) (w : World) (d : Rules) (q : Cq) (r : LinuxRequests) (n
     → p.cq.room ≤ q.room + 1 → (p.cq.room ≤ p.cq.spare → q.room ≤ q.spare)
     → ShowsWorld (record p { dispatch = d; cq = q }) (record w { requests = r.requests; drains = r.drains; completions = with_end_of p.setup w n res bytes })
 ended_shows p w d q r n res bytes s shows same_rules accepted outstanding room between shown left promised =
-    grind (arith, few_posted)
+    grind (arith, length-append)
 
 -- Issue.
 
--- a chain of tests goes through
-told_chain : (a b c d e : Bool) (x y z u v t : Issued)
-    → issue_told (cond a x (cond b y (cond c z (cond d u (cond e v t)))))
-    ≡ cond a (issue_told x) (cond b (issue_told y) (cond c (issue_told z) (cond d (issue_told u) (cond e (issue_told v) (issue_told t)))))
-told_chain a b c d e x y z u v t = grind arith
-
-issue_same : (g : Setup) (w : World) (n : ℕ)
-    → issue_told (issued g.linux (requests_of w) n) ≡ issue_answer g w n
-issue_same g w n = told_chain (not (is_outstanding w.requests n)) (is_running w.requests n) (ends_doomed g.linux w.requests n) (not (may_start g.linux (requests_of w) n)) (is_cancel (entry_of w.requests n)) issue.Unknown issue.Running (issue.Ended (doomed_result g.linux w.requests n) (posts_of g.linux w.requests n (doomed_result g.linux w.requests n))) issue.NotReady (issue.Ended (cancel_result g.linux w.requests n) (posts_of g.linux w.requests n (cancel_result g.linux w.requests n))) (issue.Run (operation_of (entry_of w.requests n)))
-
--- what ends as it is issued posts what its end posts
-posts_chain : (a b c d e : Bool) (x z : ℤ) (posted_with : ℤ → Posts) (op : Op) (res : ℤ) (posted : Posts)
-    → issue.Ended res posted
-    ≡ cond a issue.Unknown (cond b issue.Running (cond c (issue.Ended x (posted_with x)) (cond d issue.NotReady (cond e (issue.Ended z (posted_with z)) (issue.Run op)))))
-    → posted ≡ posted_with res
-posts_chain a b c d e x z posted_with op res posted is = grind arith
-
-issue_posts : (g : Setup) (w : World) (n : ℕ) (res : ℤ) (posted : Posts)
+issue_ended : (g : Setup) (w : World) (n : ℕ) (res : ℤ) (posted : Posts)
     → issue.Ended res posted ≡ issued g.linux (requests_of w) n
-    → posted ≡ posts_of g.linux w.requests n res
-issue_posts g w n res posted is = posts_chain (not (is_outstanding w.requests n)) (is_running w.requests n) (ends_doomed g.linux w.requests n) (not (may_start g.linux (requests_of w) n)) (is_cancel (entry_of w.requests n)) (doomed_result g.linux w.requests n) (cancel_result g.linux w.requests n) (posts_of g.linux w.requests n) (operation_of (entry_of w.requests n)) res posted is
+    → (answer.Ended res no_bytes ≡ issue_answer g w n) × (posted ≡ posts_of g.linux w.requests n res)
+issue_ended g w n res posted is = grind arith
 
 pub run_goes : (p : Core) (d : Rules) (n : ℕ) (op : Op)
     → ((l : LinuxRequests) → ShowsRequests p.dispatch l → issue.Run op ≡ issued p.dispatch.linux l n)
@@ -164,13 +116,13 @@ pub issue_ended_goes : (p : Core) (d : Rules) (q : Cq) (n : ℕ) (res : ℤ) (po
 issue_ended_goes p d q n res posted answered shows counts shown left promised h f =
     let w = world p.setup h in
     let s = f.shows in
-    let called = subst (λ linux. issue.Ended res posted ≡ issued linux (requests_of w) n) s.rules (answered (requests_of w) s.requests) in
-    let ended = subst (λ linux. ShowsRequests d (ended_at_issue linux (requests_of w) n res)) s.rules (shows (requests_of w) s.requests) in
-    let told = subst (λ x. ShowsCompletions p.setup q (with_told p.setup.cq w.completions x res no_bytes)) (issue_posts p.setup w n res posted called) (shown p.setup w.completions s.completions) in
+    let called = issue_ended p.setup w n res posted (rw s.rules at (answered (requests_of w) s.requests)) in
+    let ended = rw s.rules at (shows (requests_of w) s.requests) in
+    let told = rw called.1 at (shown p.setup w.completions s.completions) in
     record {
       shows = ended_shows p w d q (ended_at_issue p.setup.linux (requests_of w) n res) n res no_bytes s ended counts.linux counts.accepted counts.outstanding counts.room counts.between
-          (subst (ShowsCompletions p.setup q) (told_end p.setup w n res no_bytes) told) left promised;
-      lawful = (ap issue_told called ∙ issue_same p.setup w n, f.lawful);
+          (rw (← told_end p.setup w n res no_bytes) told) left promised;
+      lawful = (called.0, f.lawful);
     }
 
 -- Finish.
@@ -192,14 +144,13 @@ pub finish_goes : (p : Core) (d : Rules) (q : Cq) (n : ℕ) (res : ℤ) (bytes :
 finish_goes p d q n res bytes posted answered shows counts shown left promised h f =
     let w = world p.setup h in
     let s = f.shows in
-    let called = subst (λ linux. Some posted ≡ posted_by linux (requests_of w) n res) s.rules (answered (requests_of w) s.requests) in
-    let ended = ended_running p.setup w n res posted called in
-    let gone = subst (λ linux. ShowsRequests d (ended_by linux (requests_of w) n res bytes)) s.rules (shows (requests_of w) bytes s.requests) in
-    let told = subst (λ x. ShowsCompletions p.setup q (with_told p.setup.cq w.completions x res bytes)) ended.1 (shown p.setup w.completions s.completions) in
+    let ended = ended_running p.setup w n res posted (rw s.rules at (answered (requests_of w) s.requests)) in
+    let gone = rw s.rules at (shows (requests_of w) bytes s.requests) in
+    let told = rw ended.1 at (shown p.setup w.completions s.completions) in
     record {
       shows = ended_shows p w d q (ended_by p.setup.linux (requests_of w) n res bytes) n res bytes s gone counts.linux counts.accepted counts.outstanding counts.room counts.between
-          (subst (ShowsCompletions p.setup q) (told_end p.setup w n res bytes) told) left promised;
-      lawful = (subst (λ b. FinishesApart b (answer.Ended res bytes)) (sym ended.0) tt, f.lawful);
+          (rw (← told_end p.setup w n res bytes) told) left promised;
+      lawful = (rw ended.0 tt, f.lawful);
     }
 
 -- the entries accepted are those held
@@ -222,4 +173,4 @@ new_fits p submission completions none_promised requests rules between held none
 pub ended_as_posted : (g : Setup) (w : World) (n : ℕ) (outcome : Outcome) (posted : Posts) (a : Answer)
     → Some posted ≡ posted_by g.linux (requests_of w) n outcome.res
     → a ≡ answer.Ended outcome.res outcome.bytes → IsFinished w n outcome a
-ended_as_posted g w n outcome posted a told is = is ∙ ap (λ b. if b then answer.Ended outcome.res outcome.bytes else answer.NotRunning) (sym (ended_running g w n outcome.res posted told).0)
+ended_as_posted g w n outcome posted a told is = grind arith

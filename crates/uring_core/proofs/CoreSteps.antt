@@ -1,12 +1,11 @@
 -- What a core shows after a step on one ring alone, from what that ring shows. Each such step goes on from here in its function's answers.
-use Rattle.std.proofs.Common.{◌≡◌, ◌+◌, ◌-◌, ◌^◌, ◌≤◌, Bool, true, false, cond, ◌∷◌, length, refl, sym, ap, subst, ◌∙◌}
-use Rattle.uring_core.proofs.Common.{Completions, Core, Cq, Event, FitsApart, History, IsCore, IsWithinLimits, KeepsMemory, Setup, ShowsCompletions, ShowsSubmission, ShowsWorld, Sq, Submission, World, held_by, positions_of, some_skips, taken_entries}
+use Rattle.std.proofs.Common.{◌≡◌, Bool, cond, ◌∷◌, arith}
+use Rattle.uring_core.proofs.Common.{Completions, Core, Cq, Event, FitsApart, History, IsCore, KeepsMemory, Setup, ShowsCompletions, ShowsSubmission, ShowsWorld, Sq, Submission, World, held_by, taken_entries}
 
 -- a core that fits one event more is a core
 pub core_after : (p q : Core) (e : Event) → q.setup ≡ p.setup
     → ((h : History) → FitsApart p h → FitsApart q (e ∷ h)) → IsCore p → IsCore q
-core_after p q e same goes core =
-    (subst IsWithinLimits (sym same) core.0, e ∷ core.1, goes core.1 core.2)
+core_after p q e same goes core = grind arith
 
 -- A change of the submission ring alone, which leaves the open call and what it took as they were.
 pub on_submission : (p : Core) (w : World) (q : Sq) (l : Submission) → ShowsWorld p w
@@ -14,23 +13,14 @@ pub on_submission : (p : Core) (w : World) (q : Sq) (l : Submission) → ShowsWo
     → held_by l l.call ≡ held_by w.submission w.submission.call
     → taken_entries l ≡ taken_entries w.submission
     → ShowsWorld (record p { sq = q }) (record w { submission = l })
-on_submission p w q l s shows call held took =
-    let same_held = s.held ∙ sym held in
-    let same_skipped = s.skipped ∙ ap some_skips (sym took) in
-    let to_post = subst (λ c. p.dispatch.outstanding + positions_of c ≤ p.cq.room) (sym call) s.room_to_post in
-    let to_accept = subst (λ c. positions_of c ≤ p.dispatch.room) (sym call) s.room_to_accept in
-    let numbers = subst (λ c. p.dispatch.accepted + positions_of c ≤ 2 ^ 63 - 1) (sym call) s.numbers in
-    assumption (s, shows, same_held, same_skipped, to_post, to_accept, numbers)
+on_submission p w q l s shows call held took = grind arith
 
 -- A change of the completion ring alone, which posts nothing.
 pub on_completions : (p : Core) (w : World) (q : Cq) (l : Completions) → ShowsWorld p w
     → ShowsCompletions p.setup q l → q.room ≡ p.cq.room → KeepsMemory p.cq q
     → l.posted ≡ w.completions.posted
     → ShowsWorld (record p { cq = q }) (record w { completions = l })
-on_completions p w q l s shows room memory posted =
-    let to_post = subst (λ r. p.dispatch.outstanding + positions_of w.submission.call ≤ r) (sym room) s.room_to_post in
-    let posts = subst (λ cs. length cs + p.dispatch.outstanding ≤ p.dispatch.accepted) (sym posted) s.posts in
-    assumption (s, shows, to_post, memory, posts)
+on_completions p w q l s shows room memory posted = grind arith
 
 -- A step on the submission ring alone, from what the ring answers and what it shows then.
 abbrev pub SubmissionStep : Core → Sq → Event → (Setup → Submission → Type 0)
@@ -49,5 +39,4 @@ CompletionStep p q e Answered after =
 
 -- what is told of a choice is a choice of what is told
 pub told_if : {A B : Type 0} (f : A → B) (b : Bool) (x y : A) → f (cond b x y) ≡ cond b (f x) (f y)
-told_if f true x y = refl
-told_if f false x y = refl
+told_if f b x y = grind arith

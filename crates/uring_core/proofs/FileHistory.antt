@@ -1,8 +1,8 @@
 -- What an event makes of the files of a history: a Finish that ends its request does what its operation does (`files_ended`), and no other step changes a file (`files_kept`).
 -- From `Moves`: doomed requests end with a fault and cancels are on no file, so their ends change none.
 -- Stable: other crates may import `files_ended`, `files_kept` and `files_kept_from`.
-use Rattle.std.proofs.Common.{◌≡◌, ℕ, ℤ, negsuc, ◌==◌, List, [], ◌∷◌, ◌++◌, Bool, true, false, cond, refl, ◌∙◌, ap}
-use Rattle.uring_core.proofs.Common.{Answer, Ending, History, IsLawfulApart, IsNoFinish, LinuxRequests, Requests, Setup, Sqe, Step, cond_both, entry_of, eq-eqb, is_cancel, is_faulty, is_refused_drain, list_any, no_bytes, operation_of, or_left, or_right, requests_of, with_call, with_ended, with_started, world}
+use Rattle.std.proofs.Common.{if◌then◌else◌, ◌≡◌, ℕ, ℤ, negsuc, ◌==◌, List, [], ◌∷◌, ◌++◌, Bool, true, cond, refl, ◌∙◌, ap, arith}
+use Rattle.uring_core.proofs.Common.{Answer, Ending, History, IsLawfulApart, IsNoFinish, LinuxRequests, Op, Requests, Setup, Step, entry_of, is_faulty, is_refused_drain, list_any, operation_of, requests_of, with_call, with_ended, world}
 use Rattle.uring_rules.specs.Rules.{doomed_result, cancel_result, with_issued_end}
 use Rattle.uring_entry.proofs.Preparations.{asks_cancel}
 use Rattle.uring_files.specs.Contents.{FileContents, empty_files}
@@ -19,9 +19,7 @@ files_same : (r q : Requests) (files : List FileContents) (ends : List Ending)
     → ((n : ℕ) → list_any (λ e. e.number == n) ends ≡ true → entry_of q n ≡ entry_of r n)
     → files_after q files ends ≡ files_after r files ends
 files_same r q files [] same = refl
-files_same r q files (e ∷ later) same =
-    ap (λ x. files_after q (after files (operation_of x) e.res) later) (same e.number (or_left _ _ (eq-eqb e.number e.number refl)))
-    ∙ files_same r q (after files (operation_of (entry_of r e.number)) e.res) later (λ n there. same n (or_right (e.number == n) _ there))
+files_same r q files (e ∷ later) same = grind (arith, (files_same r q (after files (operation_of (entry_of r e.number)) e.res) later))
 
 -- the last end comes last
 files_more : (r : Requests) (files : List FileContents) (ends : List Ending) (e : Ending)
@@ -33,44 +31,33 @@ files_more r files (first ∷ later) e =
 
 -- Ends that change no file.
 
-doomed_changes_none : (linux : Bool) (files : List FileContents) (r : Requests) (n : ℕ)
-    → after files (operation_of (entry_of r n)) (doomed_result linux r n) ≡ files
-doomed_changes_none true files r n =
-    cond_both (is_refused_drain r n) (negsuc 94) (cond (is_faulty (entry_of r n)) (negsuc 21) (negsuc 124)) (λ res. after files (operation_of (entry_of r n)) res ≡ files) (λ _. failed files (operation_of (entry_of r n)) 94)
-    (λ _. cond_both (is_faulty (entry_of r n)) (negsuc 21) (negsuc 124) (λ res. after files (operation_of (entry_of r n)) res ≡ files) (λ _. failed files (operation_of (entry_of r n)) 21) (λ _. failed files (operation_of (entry_of r n)) 124))
-doomed_changes_none false files r n =
-    cond_both (is_faulty (entry_of r n)) (negsuc 21) (negsuc 124) (λ res. after files (operation_of (entry_of r n)) res ≡ files) (λ _. failed files (operation_of (entry_of r n)) 21) (λ _. failed files (operation_of (entry_of r n)) 124)
-
-cancel_changes_none : (files : List FileContents) (e : Sqe) (res : ℤ) → is_cancel e ≡ true
-    → after files (operation_of e) res ≡ files
-cancel_changes_none files e res cancel = ap (λ op. after files op res) (asks_cancel e cancel)
+doomed_changes_none : (files : List FileContents) (op : Op) (drain faulty linux : Bool)
+    → after files op (if linux then cond drain (negsuc 94) (cond faulty (negsuc 21) (negsuc 124)) else cond faulty (negsuc 21) (negsuc 124)) ≡ files
+doomed_changes_none files op drain faulty linux = grind (arith, failed)
 
 -- what an end makes of the files
 pub files_ended : (r : Requests) (n : ℕ) (res : ℤ) (bytes : List ℕ) (files : List FileContents)
     → files_after (with_ended r n res bytes) files (with_ended r n res bytes).ended
     ≡ after (files_after r files r.ended) (operation_of (entry_of r n)) res
-files_ended r n res bytes files =
-    files_same r (with_ended r n res bytes) files (with_ended r n res bytes).ended (λ m there. refl)
-    ∙ files_more r files r.ended (record { number = n; res = res; bytes = bytes })
+files_ended r n res bytes files = grind (arith, files_same, files_more)
 
 issued_end : (linux : Bool) (r : Requests) (n : ℕ) (res : ℤ) (files : List FileContents)
     → files_after (with_issued_end linux r n res) files (with_issued_end linux r n res).ended
     ≡ after (files_after r files r.ended) (operation_of (entry_of r n)) res
-issued_end true r n res files = files_ended r n res no_bytes files
-issued_end false r n res files =
-    files_same r (with_issued_end false r n res) files (with_issued_end false r n res).ended (λ m there. refl)
-    ∙ files_more r files r.ended (record { number = n; res = res; bytes = no_bytes })
+issued_end linux r n res files = grind (arith, files_same, files_more)
 
 move_keeps : (linux : Bool) (l : LinuxRequests) (q : Requests) (s : Step) (a : Answer) (files : List FileContents)
     → Move linux l s a q → IsNoFinish s → IsSoundRequests l.requests
     → files_after q files q.ended ≡ files_after l.requests files l.requests.ended
 move_keeps linux l q s a files (stays _ _ no_start no_end) other i = refl
 move_keeps linux l q s a files (accepts accepted missed head entries) other i = files_same l.requests (with_call l.requests entries) files l.requests.ended (λ n there. entry_stays l.requests entries n (i.ended_accepted n there))
-move_keeps linux l q s a files (starts n outstanding idle spared ready no_cancel) other i =
-    files_same l.requests (with_started l.requests n) files l.requests.ended (λ m there. refl)
+move_keeps linux l q s a files (starts n outstanding idle spared ready no_cancel) other i = grind (arith, files_same)
 move_keeps linux l q s a files (ends_doomed n outstanding) other i =
-    issued_end linux l.requests n (doomed_result linux l.requests n) files ∙ doomed_changes_none linux (files_after l.requests files l.requests.ended) l.requests n
-move_keeps linux l q s a files (ends_cancel n outstanding spared ready cancel) other i = issued_end linux l.requests n (cancel_result linux l.requests n) files ∙ cancel_changes_none (files_after l.requests files l.requests.ended) (entry_of l.requests n) (cancel_result linux l.requests n) cancel
+    issued_end linux l.requests n (doomed_result linux l.requests n) files
+    ∙ doomed_changes_none _ (operation_of (entry_of l.requests n)) (is_refused_drain l.requests n) (is_faulty (entry_of l.requests n)) linux
+move_keeps linux l q s a files (ends_cancel n outstanding spared ready cancel) other i =
+    issued_end linux l.requests n (cancel_result linux l.requests n) files
+    ∙ ap (λ op. after (files_after l.requests files l.requests.ended) op (cancel_result linux l.requests n)) (asks_cancel (entry_of l.requests n) cancel)
 move_keeps linux l q s a files (ends_run n res bytes running) other i = absurd other
 
 -- a step but a finish leaves the files as they are, whatever files there were at first

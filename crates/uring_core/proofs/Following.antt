@@ -25,9 +25,8 @@ zip_snoc : (steps : List Step) (answers : List Answer) (s : Step) (a : Answer)
     → length steps ≡ length answers
     → zip (steps ++ s ∷ []) (answers ++ a ∷ []) ≡ zip steps answers ++ (s, a) ∷ []
 zip_snoc [] [] s a e = refl
-zip_snoc [] (first ∷ answers) s a e = absurd (omega (arith, e))
-zip_snoc (first ∷ steps) [] s a e = absurd (omega (arith, e))
 zip_snoc (first ∷ steps) (answer ∷ answers) s a e = grind (arith, (zip_snoc steps answers s a (omega (arith, e))))
+zip_snoc _ _ s a e = absurd (omega (arith, e))
 
 -- one step more, with its answer
 pub zip_next : (steps : List Step) (i : ℕ) (answers pushed : List Answer) (s : Step) (a : Answer)

@@ -1,8 +1,7 @@
 -- A call accepts entries, and closes: what stands before it stays.
-use Rattle.std.proofs.Common.{◌≡◌, ℕ, ◌+◌, ◌-◌, ◌==◌, ◌<◌, ◌≤◌, min, max, neg_ℤ, if◌then◌else◌, List, length, Bool, true, false, not, ◌&&◌, leb, sym, ◌∙◌, ap, arith, ◌⊎◌, inl, inr}
-use Rattle.uring_core.proofs.Common.{Requests, Sqe, and_left, entry_of, eq-eqb, get_or_append_left, has_failed, int_eq, is_after_failure, is_doomed, is_faulty, is_in_group, is_joined, is_joined_no, is_last, length-append, list_any, list_any_push, ne_eqb, some_member, with_call, zero_entry}
+use Rattle.std.proofs.Common.{◌≡◌, ℕ, ◌+◌, ◌-◌, ◌==◌, ◌<◌, ◌≤◌, min, max, neg_ℤ, if◌then◌else◌, List, length, Bool, true, false, not, ◌&&◌, leb, ◌∙◌, ap, arith, ◌⊎◌}
+use Rattle.uring_core.proofs.Common.{Requests, Sqe, entry_of, eq-eqb, get_or_append_left, int_eq, is_after_failure, is_doomed, is_faulty, is_in_group, is_joined, is_joined_no, is_last, length-append, list_any, list_any_push, ne_eqb, some_member, with_call, zero_entry}
 use Rattle.uring_entry.specs.declared.errno.TheConstants.{EINVAL, ECANCELED}
-use Rattle.uring_entry.specs.Success.{is_success}
 use Rattle.uring_entry.proofs.BelowLemmas.{some_below_same, some_below_between}
 use Rattle.uring_core.proofs.SoundRequests.{IsSoundRequests, IsSoundManual, IsFree, EndsDoomed}
 use Rattle.uring_core.proofs.ListCounts.{any_kept}
@@ -26,31 +25,26 @@ module _ (r : Requests) (entries : List Sqe) (cut : (length r.accepted ≡ 0) �
   unfolding is_joined
   join_kept m n lt = ap not (some_below_same (λ k. leb m k && is_last (with_call r entries) k) (λ k. leb m k && is_last r k) n (λ k below. ap (λ b. leb m k && b) (last_kept k (omega arith))))
 
-  -- what is accepted now is of no group before
-  apart : (m n : ℕ) → m < length r.accepted → length r.accepted ≤ n → is_joined (with_call r entries) m n ≡ false
-  apart m n lt le = is_joined_no (with_call r entries) m n (length r.accepted - 1) (omega arith) (omega arith) (last_before (length r.accepted - 1) (omega arith))
-
   group_kept : (m n : ℕ) → m < length r.accepted → n < length r.accepted → is_in_group (with_call r entries) m n ≡ is_in_group r m n
   group_kept m n lt below = join_kept (min m n) (max m n) (omega arith)
 
+  -- what is accepted now is of no group before
   group_apart : (m n : ℕ) → length r.accepted ≤ m → n < length r.accepted → is_in_group (with_call r entries) m n ≡ false
-  group_apart m n le below = apart (min m n) (max m n) (omega arith) (omega arith)
+  group_apart m n le below =
+      grind (arith, (is_joined_no (with_call r entries) (min m n) (max m n) (length r.accepted - 1)),
+          (last_before (length r.accepted - 1)))
 
   pub member_kept : (p : Sqe → Bool) (n : ℕ) → n < length r.accepted
       → some_member (with_call r entries) p n ≡ some_member r p n
   unfolding some_member
   member_kept p n below =
       some_below_between (λ m. is_in_group (with_call r entries) m n && p (entry_of (with_call r entries) m)) (length r.accepted) (length (with_call r entries).accepted) longer
-      (λ k le lt. and_left _ _ (group_apart k n le below))
-      ∙ some_below_same (λ m. is_in_group (with_call r entries) m n && p (entry_of (with_call r entries) m)) (λ m. is_in_group r m n && p (entry_of r m)) (length r.accepted)
-      (λ k lt. ap (λ b. b && p (entry_of (with_call r entries) k)) (group_kept k n lt below) ∙ ap (λ e. is_in_group r k n && p e) (entry_kept k lt))
-
-  failed_kept : (k : ℕ) → k < length r.accepted → has_failed (with_call r entries) k ≡ has_failed r k
-  failed_kept k lt = ap (λ e. list_any (λ x. (x.number == k) && not (is_success e x.res)) r.ended) (entry_kept k lt)
+      (λ k le lt. grind (arith, group_apart))
+      ∙ some_below_same _ (λ m. is_in_group r m n && p (entry_of r m)) (length r.accepted) (λ k lt. grind (arith, group_kept, entry_kept))
 
   after_kept : (n : ℕ) → n < length r.accepted → is_after_failure (with_call r entries) n ≡ is_after_failure r n
   unfolding is_after_failure
-  after_kept n below = grind (arith, some_below_same, join_kept, entry_kept, failed_kept)
+  after_kept n below = grind (arith, some_below_same, join_kept, entry_kept)
 
   pub doom_kept : (n : ℕ) → n < length r.accepted
       → is_doomed (with_call r entries) n ≡ is_doomed r n
@@ -58,7 +52,7 @@ module _ (r : Requests) (entries : List Sqe) (cut : (length r.accepted ≡ 0) �
   doom_kept n below = grind (arith, member_kept, after_kept)
 
   call_free : (n : ℕ) → n < length r.accepted → IsFree r n → IsFree (with_call r entries) n
-  call_free n below f = record { spared = doom_kept n below ∙ f.spared; first = λ k lt e. f.first k lt (sym (join_kept k n below) ∙ e) }
+  call_free n below f = grind (arith, doom_kept, join_kept)
 
   ends_kept : (n : ℕ) → n < length r.accepted → EndsDoomed r n → EndsDoomed (with_call r entries) n
   ends_kept n below d = ap (λ e. list_any (λ x. (x.number == n) && not (int_eq x.res (if is_faulty e then neg_ℤ EINVAL else neg_ℤ ECANCELED))) r.ended) (entry_kept n below) ∙ d
@@ -67,8 +61,4 @@ module _ (r : Requests) (entries : List Sqe) (cut : (length r.accepted ≡ 0) �
   call_sound s = grind (arith, longer, list_any_push, eq-eqb, entry_kept)
 
   pub call_manual : IsSoundRequests r → IsSoundManual r → IsSoundManual (with_call r entries)
-  call_manual s m =
-      record {
-        started_free = λ n e. call_free n (s.started_accepted n e) (m.started_free n e);
-        ended_how = λ n e. elim (m.ended_how n e) [ inl doomed ↦ inl (ends_kept n (s.ended_accepted n e) doomed) | inr free ↦ inr (call_free n (s.ended_accepted n e) free) ];
-      }
+  call_manual s m = grind (arith, (λ (n : ℕ). call_free n), (λ (n : ℕ). ends_kept n))

@@ -1,6 +1,6 @@
 -- By Linux's rules a lawful history is one of submission calls, starts and ends, where nobody starts that is doomed: so that what is so whatever happened is so of its requests.
-use Rattle.std.proofs.Common.{◌≡◌, Bool, true, false, not, ◌&&◌, ◌||◌, List, [], ◌∷◌, refl, sym, ◌∙◌, ap, subst}
-use Rattle.uring_core.proofs.Common.{Answer, History, IsLawfulApart, LinuxRequests, Setup, Step, World, ending_of, entries_from, happens, is_deferred, is_in_turn, is_outstanding, is_running, no_bytes, or_left, or_right, requests_of, taking_entry_of, taking_of, world}
+use Rattle.std.proofs.Common.{◌≡◌, true, false, List, [], ◌∷◌, refl, sym, ◌∙◌, ap, subst, arith}
+use Rattle.uring_core.proofs.Common.{Answer, History, IsLawfulApart, LinuxRequests, Setup, Step, World, entries_from, happens, no_bytes, or_left, requests_of, world}
 use Rattle.uring_linux.specs.LinuxRequests.{is_doomed}
 use Rattle.uring_linux.specs.Happenings.{Happening, Call, Start, End, after, made_by, MayHappen, MayHaveHappened}
 use Rattle.uring_rules.proofs.Calls.{whole_call}
@@ -37,46 +37,19 @@ happens_more l later h so may spared is = record {
 abbrev pub by_linux : Setup → Setup
 by_linux g = record g { linux = true }
 
--- what starts can be issued, and isn't doomed
-can_start : (outstanding running turn doomed deferred : Bool) → outstanding ≡ true → running ≡ false
-    → (turn && doomed) ≡ false → (turn && not deferred) ≡ true
-    → ((outstanding && (not running && (turn && (doomed || not deferred)))) ≡ true) × (doomed ≡ false)
-can_start true false true false false o r s f = (refl, refl)
-can_start true false true doomed true o r s f = absurd (let e : false ≡ true = f in cc)
-can_start true false true true deferred o r s f = absurd (let e : true ≡ false = s in cc)
-can_start true false false doomed deferred o r s f = absurd (let e : false ≡ true = f in cc)
-can_start true true turn doomed deferred o r s f = absurd (let e : true ≡ false = r in cc)
-can_start false running turn doomed deferred o r s f = absurd (let e : false ≡ true = o in cc)
-
--- what ends as doomed can be issued
-can_end : (outstanding running turn doomed deferred : Bool) → outstanding ≡ true → running ≡ false
-    → (turn && doomed) ≡ true
-    → (outstanding && (not running && (turn && (doomed || not deferred)))) ≡ true
-can_end true false true true deferred o r d = refl
-can_end true false true false deferred o r d = absurd (let e : false ≡ true = d in cc)
-can_end true false false doomed deferred o r d = absurd (let e : false ≡ true = d in cc)
-can_end true true turn doomed deferred o r d = absurd (let e : true ≡ false = r in cc)
-can_end false running turn doomed deferred o r d = absurd (let e : false ≡ true = o in cc)
-
 change_happens : (g : Setup) (w : World) (s : Step) (a : Answer) → Change (by_linux g) w s a
     → HasHappened (requests_of w) → HasHappened (requests_of (happens (by_linux g) w s a))
-change_happens g w s a (refuses _ _ same silent) so = subst (λ (v : World). HasHappened (requests_of v)) (sym (same w)) so
-change_happens g w s a (takes entry call place opened left at valid) so =
-    subst (λ o. HasHappened (requests_of (taking_entry_of (by_linux g) w entry o))) (sym opened) so
-change_happens g w s a (drops call place opened left at invalid) so =
-    subst (λ o. HasHappened (requests_of (taking_of (by_linux g) w o))) (sym opened) so
+change_happens g w s a (refuses _ _ same silent) so = rw same so
+change_happens g w s a (takes entry call place opened left at valid) so = rw opened so
+change_happens g w s a (drops call place opened left at invalid) so = rw opened so
 change_happens g w s a (closes accepted missed head call opened all told) so =
-    subst (λ o. HasHappened (requests_of (ending_of (by_linux g) w o))) (sym opened)
-    (happens_more (requests_of w) _ (Call (entries_from w.submission call.count)) so tt tt (whole_call true (requests_of w) (entries_from w.submission call.count)))
+    rw opened (happens_more (requests_of w) _ (Call (entries_from w.submission call.count)) so tt tt
+    (whole_call true (requests_of w) (entries_from w.submission call.count)))
 change_happens g w s a (runs n outstanding idle spared ready no_cancel) so =
-    let can = can_start (is_outstanding w.requests n) (is_running w.requests n) (is_in_turn w.requests n) (is_doomed w.requests n) (is_deferred (requests_of w) n) outstanding idle spared ready in
-    happens_more (requests_of w) _ (Start n) so can.0 can.1 refl
-change_happens g w s a (dooms n outstanding idle doomed) so =
-    let can = can_end (is_outstanding w.requests n) (is_running w.requests n) (is_in_turn w.requests n) (is_doomed w.requests n) (is_deferred (requests_of w) n) outstanding idle doomed in
-    happens_more (requests_of w) _ (End n _ no_bytes) so (or_right _ _ can) tt refl
+    happens_more (requests_of w) _ (Start n) so (grind arith) (grind arith) refl
+change_happens g w s a (dooms n outstanding idle doomed) so = happens_more (requests_of w) _ (End n _ no_bytes) so (grind arith) tt refl
 change_happens g w s a (cancels n outstanding idle spared ready cancel) so =
-    let can = can_start (is_outstanding w.requests n) (is_running w.requests n) (is_in_turn w.requests n) (is_doomed w.requests n) (is_deferred (requests_of w) n) outstanding idle spared ready in
-    happens_more (requests_of w) _ (End n _ no_bytes) so (or_right _ _ can.0) tt refl
+    happens_more (requests_of w) _ (End n _ no_bytes) so (grind arith) tt refl
 change_happens g w s a (finishes n res bytes running) so =
     happens_more (requests_of w) _ (End n res bytes) so (or_left _ _ running) tt (end_by_linux (requests_of w) n res bytes)
 change_happens g w s a _ so = so

@@ -1,6 +1,6 @@
 -- What passes a test in a list that grows.
-use Rattle.std.proofs.Common.{◌&&◌, ◌≡◌, ℕ, ◌≤◌, List, [], ◌∷◌, ◌++◌, Bool, true, false, count_by, cond, refl, sym, ◌∙◌, ap, arith, ◌⊎◌, inl, inr}
-use Rattle.uring_core.proofs.Common.{and_parts, list_any, list_any_push, or_cases, or_left, or_parts, or_right, sum_by-cons, sum_by_push}
+use Rattle.std.proofs.Common.{◌&&◌, ◌≡◌, ◌≤◌, List, [], ◌∷◌, ◌++◌, Bool, true, false, count_by, cond, refl, sym, ◌∙◌, arith, ◌⊎◌}
+use Rattle.uring_core.proofs.Common.{list_any, list_any_push, or_cases, or_left, sum_by-cons, sum_by_push}
 use Rattle.std.proofs.lemmas.List.Folds.{list_any-append}
 
 -- what passes stays, and what passes newly is the new element
@@ -16,21 +16,13 @@ any_new p xs x e = or_cases _ _ (sym (list_any_push p xs x) ∙ e)
 pub count_none : {X : Type 0} (p : X → Bool) (xs : List X) → list_any p xs ≡ false
     → count_by p xs ≡ 0
 count_none p [] e = refl
-count_none p (x ∷ xs) e =
-    let b = or_parts _ _ e in
-    let none : ◌≡◌ {A = ℕ} (cond (p x) 1 0) 0 = ap (λ t. cond t 1 0) b.0 in
-    omega (arith, sum_by-cons (λ y. cond (p y) 1 0) x xs, count_none p xs b.1)
+count_none p (x ∷ xs) e = grind (arith, sum_by-cons, (count_none p xs))
 
 pub count_some : {X : Type 0} (p : X → Bool) (xs : List X) → list_any p xs ≡ true
     → 1 ≤ count_by p xs
 count_some p [] e = absurd (let f : false ≡ true = e in cc)
 count_some p (x ∷ xs) e =
-    elim (or_cases _ _ e) [
-      | inl here ↦
-          let one : ◌≡◌ {A = ℕ} (cond (p x) 1 0) 1 = ap (λ t. cond t 1 0) here in
-          omega (arith, sum_by-cons (λ y. cond (p y) 1 0) x xs)
-      | inr later ↦ omega (arith, sum_by-cons (λ y. cond (p y) 1 0) x xs, count_some p xs later)
-    ]
+    grind (arith, (sum_by-cons (λ y. cond (p y) 1 0) x xs), (or_cases (p x) (list_any p xs) e), (count_some p xs))
 
 -- at most once, also with one more that wasn't there
 pub count_once_more : {X : Type 0} (p : X → Bool) (xs : List X) (x : X) → count_by p xs ≤ 1
@@ -41,8 +33,4 @@ count_once_more p xs x once absent = grind (arith, sum_by_push, count_none)
 pub any_looser : {X : Type 0} (p q : X → Bool) (xs : List X) → list_any (λ x. p x && q x) xs ≡ true
     → list_any p xs ≡ true
 any_looser p q [] e = e
-any_looser p q (x ∷ xs) e =
-    elim (or_cases (p x && q x) _ e) [
-      | inl here ↦ or_left (p x) _ (and_parts (p x) (q x) here).0
-      | inr later ↦ or_right (p x) _ (any_looser p q xs later)
-    ]
+any_looser p q (x ∷ xs) e = grind (arith, (any_looser p q xs))

@@ -1,6 +1,6 @@
 -- What an event makes of the requests, each with what is known of it because its answer was called for.
-use Rattle.std.proofs.Common.{◌≡◌, ℕ, ℤ, Bool, true, false, List, None, refl, sym, subst, ◌∷◌}
-use Rattle.uring_core.proofs.Common.{Answer, History, IsLawfulApart, LinuxRequests, Requests, Setup, Sqe, Step, World, end_told_by, ending_of, entries_of, entry_of, happens, is_cancel, is_outstanding, is_running, may_start, no_bytes, places_from, requests_of, started_by, taking_entry_of, taking_of, with_call, with_ended, with_started, world}
+use Rattle.std.proofs.Common.{◌≡◌, ℕ, ℤ, Bool, true, false, List, None, refl, ◌∷◌}
+use Rattle.uring_core.proofs.Common.{Answer, History, IsLawfulApart, LinuxRequests, Requests, Setup, Sqe, Step, World, end_told_by, entries_of, entry_of, happens, is_cancel, is_outstanding, is_running, may_start, no_bytes, places_from, requests_of, started_by, with_call, with_ended, with_started, world}
 use Rattle.uring_rules.specs.Rules.{doomed_result, cancel_result, with_issued_end}
 use Rattle.uring_rules.specs.Rules as by_rules
 use Rattle.uring_core.specs.declared.step.Step.TheVariants as step
@@ -21,12 +21,11 @@ pub data Move (linux : Bool) (l : LinuxRequests) : Step → Answer → Requests 
 
 move_by : (g : Setup) (w : World) (s : Step) (a : Answer) → Change g w s a
     → Move g.linux (requests_of w) s a (happens g w s a).requests
-move_by g w s a (refuses _ _ same silent) =
-    subst (λ v. Move g.linux (requests_of w) s a v.requests) (sym (same w)) (stays s a silent.starts silent.ends)
-move_by g w s a (takes entry call place opened left at valid) = subst (λ o. Move g.linux (requests_of w) s a (taking_entry_of g w entry o).requests) (sym opened) (stays _ _ refl refl)
-move_by g w s a (drops call place opened left at invalid) =
-    subst (λ o. Move g.linux (requests_of w) s a (taking_of g w o).requests) (sym opened) (stays _ _ refl refl)
-move_by g w s a (closes accepted missed head call opened all told) = subst (λ o. Move g.linux (requests_of w) s a (ending_of g w o).requests) (sym opened) (accepts accepted missed head (entries_of (places_from w.submission call.count)))
+move_by g w s a (refuses _ _ same silent) = rw same (stays s a silent.starts silent.ends)
+move_by g w s a (takes entry call place opened left at valid) = rw opened (stays _ _ refl refl)
+move_by g w s a (drops call place opened left at invalid) = rw opened (stays _ _ refl refl)
+move_by g w s a (closes accepted missed head call opened all told) =
+    rw opened (accepts accepted missed head (entries_of (places_from w.submission call.count)))
 move_by g w s a (runs n outstanding idle spared ready no_cancel) =
     starts n outstanding idle spared ready no_cancel
 move_by g w s a (dooms n outstanding idle doomed) = ends_doomed n outstanding

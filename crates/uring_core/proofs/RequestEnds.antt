@@ -1,14 +1,14 @@
 -- What holds of the requests stays as one ends.
-use Rattle.std.proofs.Common.{◌≡◌, ◌≢◌, ℕ, ◌==◌, ◌<◌, ℤ, pos, neg_ℤ, List, [], ◌∷◌, ◌++◌, length, Bool, true, false, not, ◌&&◌, eqb, Option, Some, None, cond, refl, sym, subst, ap, ◌∙◌, ◌⊎◌, inl, inr, negsuc}
-use Rattle.uring_core.proofs.Common.{Chose, Requests, all_success, and_from, and_left, and_parts, and_right, both_ways, cancel_result, cases_Bool, cases_eq, choices_of, chosen_by, cond_both, count_result, doomed_result, entry_of, eqb-false, eqb-true, false_from_ne_true, has_ended, has_failed, has_started, int_eq, int_le, is_cancel, is_cancel_all, is_cancelled, is_candidate, is_doomed, is_doomed_after, is_doomed_cancelled, is_doomed_faulty, is_faulty, is_in_faulty_group, is_joined, is_outstanding, is_ready, is_running, list_any, list_any_push, lt-ltb, ne_eqb, never_success, no_bytes, not-true, not_from_true, one_success, option_to_list, or_cases, or_from, result_for, some_member, target_in, target_of, targets_of, with_ended, with_issued_end}
+use Rattle.std.proofs.Common.{◌≡◌, count_by, ◌≤◌, ◌≢◌, ℕ, ◌==◌, ◌<◌, ℤ, pos, neg_ℤ, List, [], ◌∷◌, ◌++◌, length, Bool, true, false, not, refl, sym, ◌∙◌, ◌⊎◌, inl, inr, arith}
+use Rattle.uring_core.proofs.Common.{Chose, Requests, all_success, and_from, and_parts, cancel_result, choices_of, chosen_by, cond_both, doomed_result, entry_of, eqb-true, has_ended, has_started, int_eq, is_cancel, is_cancel_all, is_cancelled, is_doomed, is_doomed_after, is_doomed_cancelled, is_doomed_faulty, is_faulty, is_joined, is_outstanding, is_ready, is_running, list_any, list_any_push, lt-ltb, never_success, no_bytes, one_success, option_to_list, or_cases, some_member, target_in, target_of, targets_of, with_ended, with_issued_end}
 use Rattle.std.proofs.lemmas.Bool.Decides.{Decides-int_eq}
 use Rattle.std.proofs.lemmas.List.Folds.{list_any-append}
 use Rattle.uring_entry.specs.Success.{is_success}
-use Rattle.uring_entry.specs.declared.errno.TheConstants.{EINVAL, EALREADY, ECANCELED}
+use Rattle.uring_entry.specs.declared.errno.TheConstants.{EINVAL, ECANCELED}
 use Rattle.uring_rules.specs.Rules as by_rules
 use Rattle.uring_core.proofs.ListCounts.{any_looser, any_kept, any_new, count_once_more}
 use Rattle.uring_entry.proofs.EventLemmas.{is_doomed_tells, is_after_failure_tells, is_after_failure_from, target_of_tells}
-use Rattle.uring_core.proofs.SoundRequests.{IsFree, is_otherwise, EndsDoomed, IsSoundRequests, IsSoundManual, outstanding_tells, idle_tells, ready_first}
+use Rattle.uring_core.proofs.SoundRequests.{IsFree, EndsDoomed, IsSoundRequests, IsSoundManual, outstanding_tells, idle_tells, ready_first}
 
 -- A request ends, and these are the ones that cancels chose so far.
 abbrev pub ended_as : Requests → ℕ → ℤ → List ℕ → List ℕ → Requests
@@ -18,30 +18,22 @@ pub end_sound : (r : Requests) (n : ℕ) (res : ℤ) (bytes : List ℕ) (cancell
     → is_outstanding r n ≡ true → IsSoundRequests r
     → IsSoundRequests (ended_as r n res bytes cancelled)
 end_sound r n res bytes cancelled outstanding s =
-    let o = outstanding_tells r n outstanding in
-    record {
-      started_accepted = s.started_accepted;
-      ended_accepted = λ m e. elim (any_new (λ x. x.number == m) r.ended (record { number = n; res = res; bytes = bytes }) e) [ inl old ↦ s.ended_accepted m old | inr new ↦ subst (λ k. k < length r.accepted) (eqb-true _ _ new) o.0 ];
-      starts_once = s.starts_once;
-      ends_once = λ m. count_once_more (λ x. x.number == m) r.ended (record { number = n; res = res; bytes = bytes }) (s.ends_once m) (λ same. subst (λ k. has_ended r k ≡ false) (eqb-true _ _ same) o.1);
-      cut_at_end = s.cut_at_end;
-      started_right = s.started_right;
-    }
+    let within : (m : ℕ) → has_ended (ended_as r n res bytes cancelled) m ≡ true → m < length r.accepted =
+        λ m e. grind (arith, list_any_push, eqb-true, outstanding_tells) in
+    let once : (m : ℕ) → count_by (λ e. e.number == m) (ended_as r n res bytes cancelled).ended ≤ 1 =
+        λ m. count_once_more (λ x. x.number == m) r.ended _ (s.ends_once m) (λ same. grind (arith, eqb-true, outstanding_tells)) in
+    assumption (s, within, once)
 
 -- a request ends as it is issued, by either's rules
 pub issued_end_sound : (linux : Bool) (r : Requests) (n : ℕ) (res : ℤ) → is_outstanding r n ≡ true
     → IsSoundRequests r → IsSoundRequests (by_rules.with_issued_end linux r n res)
-issued_end_sound true r n res outstanding s =
-    end_sound r n res no_bytes r.cancelled outstanding s
-issued_end_sound false r n res outstanding s =
-    end_sound r n res no_bytes (r.cancelled ++ chosen_by r n res) outstanding s
+issued_end_sound linux r n res outstanding s =
+    grind (arith, (end_sound r n res no_bytes r.cancelled), (end_sound r n res no_bytes (r.cancelled ++ chosen_by r n res)))
 
 -- a running request ends
 pub finish_sound : (r : Requests) (n : ℕ) (res : ℤ) (bytes : List ℕ) → is_running r n ≡ true
     → IsSoundRequests r → IsSoundRequests (with_ended r n res bytes)
-finish_sound r n res bytes running s =
-    let p = and_parts _ _ running in
-    end_sound r n res bytes r.cancelled (and_from _ _ (lt-ltb _ _ (s.started_accepted n p.0)) p.1) s
+finish_sound r n res bytes running s = end_sound r n res bytes r.cancelled (grind (arith, lt-ltb)) s
 
 -- a cancel chose m, which is another request than n, and has neither started nor ended
 pub record IsChosen (r : Requests) (n m : ℕ) : Type 0 where
@@ -61,109 +53,45 @@ module _ (r : Requests) (n : ℕ) (res : ℤ) (bytes : List ℕ) (cancelled : Li
   unfolding is_joined
   end_join k m = refl
 
-  end_fault : (m : ℕ) → is_in_faulty_group (ended_as r n res bytes cancelled) m ≡ is_in_faulty_group r m
-  unfolding some_member is_joined
-  end_fault m = refl
-
-  end_kept : (m : ℕ) → has_ended r m ≡ true → has_ended (ended_as r n res bytes cancelled) m ≡ true
-  end_kept m e = any_kept (λ x. x.number == m) r.ended _ e
-
-  fail_other : (k : ℕ) → k ≢ n → has_failed (ended_as r n res bytes cancelled) k ≡ true → has_failed r k ≡ true
-  fail_other k differ e =
-      elim (any_new (λ x. (x.number == k) && not (is_success (entry_of r k) x.res)) r.ended (record { number = n; res = res; bytes = bytes }) e) [
-        | inl old ↦ old
-        | inr new ↦ absurd (differ (sym (eqb-true _ _ (and_parts _ _ new).0)))
-      ]
-
-  fail_kept : (k : ℕ) → has_failed r k ≡ true → has_failed (ended_as r n res bytes cancelled) k ≡ true
-  fail_kept k e = any_kept (λ x. (x.number == k) && not (is_success (entry_of r k) x.res)) r.ended _ e
-
   -- who is doomed stays doomed
   pub end_doom : (m : ℕ) → is_doomed r m ≡ true
       → is_doomed (ended_as r n res bytes cancelled) m ≡ true
+  unfolding is_joined some_member
   end_doom m doomed =
-      elim (is_doomed_tells r m doomed) [
-        | inl faulty ↦ is_doomed_faulty (ended_as r n res bytes cancelled) m (end_fault m ∙ faulty)
-        | inr (inl after) ↦
-            let t = is_after_failure_tells r m after in
-            let f = t.1 in
-            is_doomed_after (ended_as r n res bytes cancelled) m (is_after_failure_from (ended_as r n res bytes cancelled) m t.0 (record { before = f.before; joined = end_join t.0 m ∙ f.joined; soft = f.soft; failed = fail_kept t.0 f.failed }))
-        | inr (inr gone) ↦ is_doomed_cancelled (ended_as r n res bytes cancelled) m (choice.kept m gone)
-      ]
+      grind (arith, (is_doomed_tells r m doomed), (is_doomed_faulty (ended_as r n res bytes cancelled) m),
+          (is_after_failure_tells r m), (is_after_failure_from (ended_as r n res bytes cancelled) m),
+          (is_doomed_after (ended_as r n res bytes cancelled) m), (is_doomed_cancelled (ended_as r n res bytes cancelled) m),
+          list_any_push, (choice.kept m))
 
   -- who is doomed newly is a later member of n's group, or chosen
   end_doomed : (m : ℕ) → is_doomed (ended_as r n res bytes cancelled) m ≡ true → (is_doomed r m ≡ true) ⊎ (((n < m) × (is_joined r n m ≡ true)) ⊎ IsChosen r n m)
+  unfolding is_joined some_member
   end_doomed m doomed =
-      elim (is_doomed_tells (ended_as r n res bytes cancelled) m doomed) [
-        | inl faulty ↦ inl (is_doomed_faulty r m (sym (end_fault m) ∙ faulty))
-        | inr (inl after) ↦
-            let t = is_after_failure_tells (ended_as r n res bytes cancelled) m after in
-            let k = t.0 in
-            let f = t.1 in
-            let joined : is_joined r k m ≡ true = sym (end_join k m) ∙ f.joined in
-            elim (cases_eq k n) [
-              | inl same ↦ inr (inl (subst (λ j. (j < m) × (is_joined r j m ≡ true)) same (f.before, joined)))
-              | inr differ ↦ inl (is_doomed_after r m (is_after_failure_from r m k (record { before = f.before; joined = joined; soft = f.soft; failed = fail_other k differ f.failed })))
-            ]
-        | inr (inr gone) ↦
-            elim (choice.added m gone) [
-              | inl old ↦ inl (is_doomed_cancelled r m old)
-              | inr new ↦ inr (inr new)
-            ]
-      ]
+      grind (arith, (is_doomed_tells (ended_as r n res bytes cancelled) m doomed), (is_doomed_faulty r m),
+          (is_after_failure_tells (ended_as r n res bytes cancelled) m), (is_after_failure_from r m), (is_doomed_after r m),
+          (is_doomed_cancelled r m), list_any_push, eqb-true, (choice.added m))
 
   -- who is free stays free, unless chosen
   free_kept : (m : ℕ) → has_ended r n ≡ false → (IsChosen r n m → ⊥) → IsFree r m → IsFree (ended_as r n res bytes cancelled) m
-  free_kept m unended unchosen f =
-      record {
-        spared =
-            elim (cases_Bool (is_doomed (ended_as r n res bytes cancelled) m)) [
-              | inl doomed ↦
-                  absurd
-                  (elim (end_doomed m doomed) [
-                    | inl old ↦ both_ways _ f.spared old
-                    | inr (inl later) ↦ both_ways _ unended (f.first n later.0 later.1)
-                    | inr (inr chosen) ↦ unchosen chosen
-                  ])
-              | inr spared ↦ spared
-            ];
-        first = λ k lt e. end_kept k (f.first k lt (sym (end_join k m) ∙ e));
-      }
+  free_kept m unended unchosen f = grind (arith, end_doomed, end_join, list_any_push)
 
   -- the ends of another stay its ends
   ends_doomed_kept : (m : ℕ) → m ≢ n → EndsDoomed r m → EndsDoomed (ended_as r n res bytes cancelled) m
-  ends_doomed_kept m differ d =
-      list_any_push (is_otherwise r m) r.ended (record { number = n; res = res; bytes = bytes })
-      ∙ or_from _ _ d (and_left (eqb n m) _ (ne_eqb n m (λ same. differ (sym same))))
+  ends_doomed_kept m differ d = grind (arith, list_any_push)
 
   -- the first end of a doomed request
   ends_doomed_first : has_ended r n ≡ false → res ≡ doomed_result r n → EndsDoomed (ended_as r n res bytes cancelled) n
   ends_doomed_first unended is =
-      list_any_push (is_otherwise r n) r.ended (record { number = n; res = res; bytes = bytes })
-      ∙ or_from _ _ (false_from_ne_true _ (λ some. both_ways _ unended (any_looser (λ e. e.number == n) (λ e. not (int_eq e.res (doomed_result r n))) r.ended some)))
-      (and_right (eqb n n) _ (not_from_true _ ((Decides-int_eq res (doomed_result r n)).1 is)))
+      grind (arith, list_any_push, (any_looser (λ e. e.number == n) (λ e. not (int_eq e.res (doomed_result r n))) r.ended), Decides-int_eq)
 
   -- how the end of n came: n was doomed, with that result, or free
   pub end_manual : is_outstanding r n ≡ true → (res ≡ doomed_result r n) ⊎ IsFree r n
       → IsSoundManual r → IsSoundManual (ended_as r n res bytes cancelled)
-  end_manual outstanding how s =
-      let o = outstanding_tells r n outstanding in
-      record {
-        started_free = λ m e. free_kept m o.1 (λ chosen. both_ways _ chosen.unstarted e) (s.started_free m e);
-        ended_how = λ m e. elim (any_new (λ x. x.number == m) r.ended (record { number = n; res = res; bytes = bytes }) e) [
-          | inl old ↦
-              elim (s.ended_how m old) [
-                | inl doomed ↦ inl (ends_doomed_kept m (λ same. both_ways _ o.1 (subst (λ k. has_ended r k ≡ true) same old)) doomed)
-                | inr free ↦ inr (free_kept m o.1 (λ chosen. both_ways _ chosen.unended old) free)
-              ]
-          | inr new ↦
-              subst (λ k. EndsDoomed (ended_as r n res bytes cancelled) k ⊎ IsFree (ended_as r n res bytes cancelled) k) (eqb-true _ _ new)
-              (elim how [
-                | inl is ↦ inl (ends_doomed_first o.1 is)
-                | inr free ↦ inr (free_kept n o.1 (λ chosen. chosen.other refl) free)
-              ])
-        ];
-      }
+  end_manual outstanding how s = record {
+    started_free = λ m e. grind (arith, outstanding_tells, (free_kept m), (s.started_free m e));
+    ended_how = λ m e. grind (arith, outstanding_tells, (any_new (λ x. x.number == m) r.ended (record { number = n; res = res; bytes = bytes }) e),
+        (s.ended_how m), ends_doomed_kept, ends_doomed_first, free_kept, eqb-true);
+  }
 
 -- nothing is chosen where a running request ends
 pub no_choice : (r : Requests) (n : ℕ) → IsChoice r n r.cancelled
@@ -171,10 +99,7 @@ no_choice r n = record { kept = λ m e. e; added = λ m e. inl e }
 
 pub finish_manual : (r : Requests) (n : ℕ) (res : ℤ) (bytes : List ℕ) → is_running r n ≡ true
     → IsSoundRequests r → IsSoundManual r → IsSoundManual (with_ended r n res bytes)
-finish_manual r n res bytes running s m =
-    let p = and_parts _ _ running in
-    let within = s.started_accepted n p.0 in
-    end_manual r n res bytes r.cancelled (no_choice r n) (and_from _ _ (lt-ltb _ _ within) p.1) (inr (m.started_free n p.0)) m
+finish_manual r n res bytes running s m = grind (arith, and_parts, end_manual, no_choice, and_from, lt-ltb)
 
 -- What a cancel chooses.
 
@@ -182,100 +107,45 @@ pub any_both : {X : Type 0} (p : X → Bool) (xs ys : List X) → list_any p (xs
     → (list_any p xs ≡ true) ⊎ (list_any p ys ≡ true)
 any_both p xs ys e = or_cases _ _ (sym (list_any-append p xs ys) ∙ e)
 
-only_one : (target : Option ℕ) (m : ℕ) → list_any (λ k. k == m) (option_to_list target) ≡ true
-    → target ≡ Some m
-only_one None m e = absurd (let f : false ≡ true = e in cc)
-only_one (Some t) m e = elim (or_cases (t == m) false e) [ inl here ↦ ap Some (eqb-true t m here) | inr none ↦ absurd (let f : false ≡ true = none in cc) ]
-
-a_number : (res : ℤ) → int_le (pos 0) res ≡ true → (count : ℕ) × (res ≡ pos count)
-a_number (pos count) e = (count, refl)
-a_number (negsuc below) e = absurd (let f : false ≡ true = e in cc)
-
 -- whom a cancel chose that succeeded with this result
 chose_so : (r : Requests) (n : ℕ) (res : ℤ) (m : ℕ) → is_cancel (entry_of r n) ≡ true
     → is_success (entry_of r n) res ≡ true → list_any (λ k. k == m) (choices_of r n) ≡ true
     → Chose r n res m
-chose_so r n res m cancel success there = by_all (is_cancel_all (entry_of r n)) refl there where
-  by_all : (all : Bool) → is_cancel_all (entry_of r n) ≡ all → list_any (λ k. k == m) (cond all (targets_of r n) (option_to_list (target_of r n))) ≡ true → Chose r n res m
-  by_all true is among =
-      let number = a_number res (sym (all_success (entry_of r n) res is) ∙ success) in
-      inr (record { all = is; count = number.0; result = number.1; target = target_in r n m among })
-  by_all false is among =
-      inl
-      (record {
-        cancel = cancel;
-        one = is;
-        result = (Decides-int_eq res (pos 0)).0 (sym (one_success (entry_of r n) res cancel is) ∙ success);
-        target = only_one (target_of r n) m among;
-      })
+chose_so r n res m cancel success there =
+    cond_both (is_cancel_all (entry_of r n)) (targets_of r n) (option_to_list (target_of r n))
+    (λ xs. list_any (λ k. k == m) xs ≡ true → Chose r n res m)
+    (λ all among. grind (arith, (all_success (entry_of r n) res all), (target_in r n m among)))
+    (λ one among. grind (arith, (one_success (entry_of r n) res cancel one), (Decides-int_eq res (pos 0)), or_cases, eqb-true))
+    there
 
 -- who is chosen with a result
 pub chose : (r : Requests) (n : ℕ) (res : ℤ) (m : ℕ)
     → list_any (λ k. k == m) (chosen_by r n res) ≡ true
     → (is_success (entry_of r n) res ≡ true) × Chose r n res m
-chose r n res m e = by_test (is_cancel (entry_of r n) && is_success (entry_of r n) res) refl e where
-  by_test : (chooses : Bool) → (is_cancel (entry_of r n) && is_success (entry_of r n) res) ≡ chooses → list_any (λ k. k == m) (cond chooses (choices_of r n) []) ≡ true → (is_success (entry_of r n) res ≡ true) × Chose r n res m
-  by_test false is none = absurd (let f : false ≡ true = none in cc)
-  by_test true is there = let p = and_parts _ _ is in (p.1, chose_so r n res m p.0 p.1 there)
+chose r n res m e = grind (arith, (chose_so r n res m))
 
 -- no doomed request succeeds
 pub doomed_fails : (r : Requests) (n : ℕ) → is_success (entry_of r n) (doomed_result r n) ≡ false
 doomed_fails r n = cond_both (is_faulty (entry_of r n)) (neg_ℤ EINVAL) (neg_ℤ ECANCELED) (λ res. is_success (entry_of r n) res ≡ false) (λ _. never_success (entry_of r n) 21) (λ _. never_success (entry_of r n) 124)
 
--- a cancel that ends with 0 found its target at rest
-result_tells : (r : Requests) (m : ℕ) → int_eq (result_for r (Some m)) (pos 0) ≡ true
-    → is_running r m ≡ false
-result_tells r m e = by_running (is_running r m) e where
-  by_running : (running : Bool) → int_eq (cond running (neg_ℤ EALREADY) (pos 0)) (pos 0) ≡ true → running ≡ false
-  by_running true f = absurd (let g : false ≡ true = f in cc)
-  by_running false f = refl
-
 module _ (r : Requests) (n : ℕ) where
-  -- what a cancel may choose is chosen, if it isn't running
-  chosen_at : (m : ℕ) → is_candidate r n m ≡ true → is_running r m ≡ false → IsChosen r n m
-  chosen_at m candidate idle =
-      let p = and_parts _ _ candidate in
-      let q = and_parts _ _ p.0 in
-      let u = and_parts _ _ q.0 in
-      let o = outstanding_tells r m u.0 in
-      record {
-        other = eqb-false _ _ (not-true _ u.1);
-        unstarted = idle_tells r m idle o.1;
-        unended = o.1;
-        accepted = o.0;
-      }
-
   -- whom a cancel chose
   is_chosen : (m : ℕ) → Chose r n (cancel_result r n) m → IsChosen r n m
-  is_chosen m (inl c) =
-      let result : result_for r (Some m) ≡ cancel_result r n = ap (result_for r) (sym c.target) ∙ sym (ap (λ b. cond b (count_result (length (targets_of r n))) (result_for r (target_of r n))) c.one) in
-      chosen_at m (target_of_tells r n m c.target).holds (result_tells r m ((Decides-int_eq (result_for r (Some m)) (pos 0)).1 (result ∙ c.result)))
-  is_chosen m (inr c) = let p = and_parts _ _ c.target in chosen_at m p.0 (not-true _ p.1)
+  is_chosen m c = grind (arith, (target_of_tells r n m), (outstanding_tells r m), (idle_tells r m), Decides-int_eq)
 
   -- who is chosen by the end of n with this result
   pub choice_of : (res : ℤ) → (res ≡ doomed_result r n) ⊎ (res ≡ cancel_result r n)
       → IsChoice r n (r.cancelled ++ chosen_by r n res)
   choice_of res how =
-      record {
-        kept = λ m e. any_kept (λ k. k == m) r.cancelled (chosen_by r n res) e;
-        added = λ m e. elim (any_both (λ k. k == m) r.cancelled (chosen_by r n res) e) [
-          | inl old ↦ inl old
-          | inr new ↦
-              let c = chose r n res m new in
-              elim how [
-                | inl doomed ↦ absurd (both_ways _ (doomed_fails r n) (subst (λ x. is_success (entry_of r n) x ≡ true) doomed c.0))
-                | inr cancels ↦ inr (is_chosen m (subst (λ x. Chose r n x m) cancels c.1))
-              ]
-        ];
-      }
+      grind (arith, (λ (m : ℕ). any_kept (λ k. k == m) r.cancelled (chosen_by r n res)),
+          (λ (m : ℕ). any_both (λ k. k == m) r.cancelled (chosen_by r n res)), (chose r n res), (doomed_fails r n), is_chosen)
 
 pub doom_manual : (r : Requests) (n : ℕ) → is_outstanding r n ≡ true → IsSoundManual r
     → IsSoundManual (with_issued_end r n (doomed_result r n))
-doom_manual r n outstanding s =
-    end_manual r n (doomed_result r n) no_bytes (r.cancelled ++ chosen_by r n (doomed_result r n)) (choice_of r n (doomed_result r n) (inl refl)) outstanding (inl refl) s
+doom_manual r n outstanding s = end_manual r n _ no_bytes _ (choice_of r n _ (inl refl)) outstanding (inl refl) s
 
 pub cancel_manual : (r : Requests) (n : ℕ) → is_outstanding r n ≡ true → is_doomed r n ≡ false
     → is_ready r n ≡ true → IsSoundManual r
     → IsSoundManual (with_issued_end r n (cancel_result r n))
 cancel_manual r n outstanding spared ready s =
-    end_manual r n (cancel_result r n) no_bytes (r.cancelled ++ chosen_by r n (cancel_result r n)) (choice_of r n (cancel_result r n) (inr refl)) outstanding (inr (record { spared = spared; first = ready_first r n ready })) s
+    end_manual r n _ no_bytes _ (choice_of r n _ (inr refl)) outstanding (inr (record { spared = spared; first = ready_first r n ready })) s

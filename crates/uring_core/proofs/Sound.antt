@@ -1,10 +1,10 @@
 -- What holds of everything that a lawful history has made.
-use Rattle.std.proofs.Common.{◌≡◌, ◌+◌, Bool, false, [], ◌∷◌, refl, subst, arith}
-use Rattle.uring_core.proofs.Common.{Answer, History, IsLawfulApart, LinuxRequests, Requests, Setup, Step, World, at_first, requests_of, stops_there, with_taken, world}
+use Rattle.std.proofs.Common.{◌≡◌, Bool, false, [], ◌∷◌, subst, arith}
+use Rattle.uring_core.proofs.Common.{Answer, History, IsLawfulApart, LinuxRequests, Requests, Setup, Step, World, requests_of, world}
 use Rattle.uring_core.proofs.Moves.{Move, stays, accepts, starts, ends_doomed, ends_cancel, ends_run, move_of}
-use Rattle.uring_core.proofs.SubmissionMoves.{SubmissionMove, stays as stays_off_submission, fills, stages, stores, takes, drops, closes, submission_move}
-use Rattle.uring_core.proofs.CompletionMoves.{CompletionMove, stays as stays_off_completions, ends, reaps, completion_move}
-use Rattle.uring_core.proofs.SoundRings.{IsSoundCompletions, IsSoundSubmission, end_sound, reap_sound, stage_sound, store_sound, take_sound, stop_sound, close_sound}
+use Rattle.uring_core.proofs.SubmissionMoves.{SubmissionMove, stages, takes, drops, closes, submission_move}
+use Rattle.uring_core.proofs.CompletionMoves.{CompletionMove, completion_move}
+use Rattle.uring_core.proofs.SoundRings.{IsSoundCompletions, IsSoundSubmission, end_sound, reap_sound, stage_sound, store_sound, take_sound, close_sound}
 use Rattle.uring_core.proofs.SoundRequests.{IsSoundRequests, IsSoundManual, start_sound, start_manual, outstanding_tells}
 use Rattle.uring_core.proofs.ByRules.{starts_right}
 use Rattle.uring_core.proofs.RequestEnds.{finish_sound, issued_end_sound, finish_manual, doom_manual, cancel_manual}
@@ -16,32 +16,22 @@ pub record IsSound (g : Setup) (w : World) : Type 0 where
   pub requests : IsSoundRequests w.requests
   pub manual : g.linux ≡ false → IsSoundManual w.requests
 
-first_sound : (g : Setup) → IsSound g at_first
-first_sound g = grind arith
-
 -- a change keeps the submission ring sound
 submission_kept : (g : Setup) (w : World) (s : Step) (a : Answer) (v : World)
     → SubmissionMove g w s a v → IsSoundSubmission g.sq w.submission
     → IsSoundSubmission g.sq v.submission
-submission_kept g w s a v (stays_off_submission _ _ r c is_closed off left) i = i
-submission_kept g w s a v (fills slot entry) i = assumption i
 submission_kept g w s a v (stages word room) i = stage_sound g.sq w.submission word room i
-submission_kept g w s a v (stores tail) i = store_sound g.sq w.submission i
-submission_kept g w s a v (takes entry call place opened left at valid) i =
-    stop_sound g.sq (with_taken w.submission call) (record call { taken = call.taken + 1 }) (stops_there g w.submission entry) refl (take_sound g.sq w.submission call opened left i)
+submission_kept g w s a v (takes entry call place opened left at valid) i = take_sound g.sq w.submission call _ opened left i
 submission_kept g w s a v (drops call place opened left at invalid) i = grind arith
 submission_kept g w s a v (closes accepted missed head call opened all counted) i =
     close_sound g.sq w.submission call opened i
-submission_kept g w s a v _ i = grind arith
+submission_kept g w s a v _ i = grind (arith, store_sound)
 
 -- a change keeps the completion ring sound
 completions_kept : (g : Setup) (w : World) (s : Step) (a : Answer) (v : World)
     → CompletionMove g w s a v → IsSoundCompletions g.cq w.completions
     → IsSoundCompletions g.cq v.completions
-completions_kept g w s a v (stays_off_completions _ _ l r is_closed off no_end left) i = i
-completions_kept g w s a v (ends _ _ n res bytes r off told same_accepted one_more) i = grind (arith, end_sound)
-completions_kept g w s a v (reaps completion next) i = grind (arith, (reap_sound g.cq w.completions completion next i))
-completions_kept g w s a v _ i = grind arith
+completions_kept g w s a v move i = grind (arith, (end_sound g.cq w.completions), (reap_sound g.cq w.completions))
 
 -- a change keeps the requests sound
 requests_kept : (linux : Bool) (l : LinuxRequests) (s : Step) (a : Answer) (later : Requests)
@@ -68,7 +58,7 @@ manual_kept l s a later (ends_cancel n outstanding spared ready cancel) i m = gr
 manual_kept l s a later (ends_run n res bytes running) i m = grind (arith, finish_manual)
 
 pub sound_of : (g : Setup) (h : History) → IsLawfulApart g h → IsSound g (world g h)
-sound_of g [] lawful = first_sound g
+sound_of g [] lawful = grind arith
 sound_of g ((s, a) ∷ before) lawful =
     let i = sound_of g before lawful.1 in
     let move = move_of g s a before lawful in

@@ -1,6 +1,6 @@
 -- What holds of the requests of every lawful history, and stays as one starts.
-use Rattle.std.proofs.Common.{◌≡◌, ℕ, ◌==◌, ◌<◌, ◌≤◌, length, Bool, true, false, not, ◌&&◌, count_by, subst, arith, ◌⊎◌, inl, inr}
-use Rattle.uring_core.proofs.Common.{Ending, Requests, and_cases, and_parts, doomed_result, entry_of, eqb-true, has_ended, has_started, int_eq, is_doomed, is_faulty, is_joined, is_outstanding, is_ready, is_ready_inside, is_running, list_any, ltb-true, no_request, not-true, or_left, waits_for, with_started}
+use Rattle.std.proofs.Common.{◌≡◌, ℕ, ◌==◌, ◌<◌, ◌≤◌, length, Bool, true, false, not, ◌&&◌, count_by, arith, ◌⊎◌}
+use Rattle.uring_core.proofs.Common.{Ending, Requests, and_cases, and_parts, doomed_result, entry_of, eqb-true, has_ended, has_started, int_eq, is_doomed, is_faulty, is_joined, is_outstanding, is_ready, is_ready_inside, is_running, list_any, list_any_push, ltb-true, no_request, not-true, or_left, waits_for, with_started}
 use Rattle.uring_entry.proofs.EventLemmas.{is_doomed_started, is_joined_started}
 use Rattle.uring_core.proofs.ListCounts.{any_new, count_once_more}
 
@@ -41,10 +41,6 @@ first_manual = grind arith
 
 -- A request starts.
 
--- a start changes neither groups nor who is doomed
-start_free : (r : Requests) (n m : ℕ) → IsFree r m → IsFree (with_started r n) m
-start_free r n m f = grind (arith, is_doomed_started, is_joined_started)
-
 -- what is outstanding is accepted, and hasn't ended
 pub outstanding_tells : (r : Requests) (n : ℕ) → is_outstanding r n ≡ true
     → (n < length r.accepted) × (has_ended r n ≡ false)
@@ -69,21 +65,15 @@ ready_first r n ready k lt joined = waited r n k ready lt (or_left _ _ (or_left 
 pub start_sound : (r : Requests) (n : ℕ) → is_outstanding r n ≡ true → is_running r n ≡ false
     → is_faulty (entry_of r n) ≡ false → IsSoundRequests r → IsSoundRequests (with_started r n)
 start_sound r n outstanding idle right s =
-    let o = outstanding_tells r n outstanding in
-    let fresh = idle_tells r n idle o.1 in
-    record {
-      started_accepted = λ m e. elim (any_new (λ k. k == m) r.started n e) [ inl old ↦ s.started_accepted m old | inr new ↦ subst (λ k. k < length r.accepted) (eqb-true _ _ new) o.0 ];
-      ended_accepted = s.ended_accepted;
-      starts_once = λ m. count_once_more (λ k. k == m) r.started n (s.starts_once m) (λ same. subst (λ k. has_started r k ≡ false) (eqb-true _ _ same) fresh);
-      ends_once = s.ends_once;
-      cut_at_end = s.cut_at_end;
-      started_right = λ m e. elim (any_new (λ k. k == m) r.started n e) [ inl old ↦ s.started_right m old | inr new ↦ subst (λ k. is_faulty (entry_of r k) ≡ false) (eqb-true _ _ new) right ];
-    }
+    let within : (m : ℕ) → has_started (with_started r n) m ≡ true → m < length r.accepted =
+        λ m e. grind (arith, list_any_push, eqb-true, outstanding_tells) in
+    let once : (m : ℕ) → count_by (λ k. k == m) (with_started r n).started ≤ 1 =
+        λ m. count_once_more (λ k. k == m) r.started n (s.starts_once m)
+        (λ same. grind (arith, eqb-true, outstanding_tells, idle_tells)) in
+    let faultless : (m : ℕ) → has_started (with_started r n) m ≡ true → is_faulty (entry_of r m) ≡ false =
+        λ m e. grind (arith, list_any_push, eqb-true) in
+    assumption (s, within, once, faultless)
 
 pub start_manual : (r : Requests) (n : ℕ) → is_doomed r n ≡ false → is_ready r n ≡ true
     → IsSoundManual r → IsSoundManual (with_started r n)
-start_manual r n spared ready s =
-    record {
-      started_free = λ m e. start_free r n m (elim (any_new (λ k. k == m) r.started n e) [ inl old ↦ s.started_free m old | inr new ↦ subst (IsFree r) (eqb-true _ _ new) (record { spared = spared; first = ready_first r n ready }) ]);
-      ended_how = λ m e. elim (s.ended_how m e) [ inl doomed ↦ inl doomed | inr free ↦ inr (start_free r n m free) ];
-    }
+start_manual r n spared ready s = grind (arith, is_doomed_started, is_joined_started, any_new, eqb-true, ready_first)

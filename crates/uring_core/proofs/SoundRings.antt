@@ -1,6 +1,6 @@
 -- What holds of both rings' lists in every lawful history.
-use Rattle.std.proofs.Common.{◌≡◌, ℕ, ◌+◌, ◌-◌, ◌<◌, ◌≤◌, Bool, true, false, eqb, List, [], ◌∷◌, ◌++◌, length, take, Option, Some, None, slice_get, cond, refl, sym, ap, ◌∙◌, arith}
-use Rattle.uring_core.proofs.Common.{Call, Completions, Cqe, Submission, and_parts, eqb-false, eqb-true, get_or_from_slice_get, has_room, is_full, length-append, length-map, length_push, ltb-true, next_to_reap, open_taken, slice_get_within, staged, sum_by_push, take-append-le, take_more, taken, with_closed, with_posted, with_published, with_reaped, with_staged, with_stopped, with_taken}
+use Rattle.std.proofs.Common.{◌≡◌, ℕ, ◌+◌, ◌<◌, ◌≤◌, Bool, false, eqb, length, take, Option, Some, None, cond, arith}
+use Rattle.uring_core.proofs.Common.{Call, Completions, Cqe, Submission, and_parts, eqb-true, get_or_from_slice_get, is_full, length-append, length-map, length_push, ltb-true, next_to_reap, open_taken, slice_get_within, staged, sum_by_push, take-append-le, take_more, taken, with_closed, with_posted, with_published, with_reaped, with_staged, with_stopped, with_taken}
 
 -- The completion ring.
 
@@ -14,41 +14,15 @@ pub record IsSoundCompletions (size : ℕ) (l : Completions) : Type 0 where
   pub fits : l.put ≤ l.seen_head + size
   pub full_ring : l.put < length l.posted → l.put ≡ l.seen_head + size
 
-posted_begins : (xs ys : List Cqe) (c : Cqe) → length xs ≤ length ys → xs ≡ take (length xs) ys
-    → xs ≡ take (length xs) (ys ++ c ∷ [])
-posted_begins xs ys c within e = e ∙ sym (take-append-le (length xs) ys (c ∷ []) within)
-
-post_sound : (size : ℕ) (l : Completions) (c : Cqe) → IsSoundCompletions size l
-    → IsSoundCompletions size (with_posted size l c)
-post_sound size l c s = by_room (has_room size l) refl where
-  room_tells : has_room size l ≡ true → (l.put ≡ length l.posted) × (l.put - l.seen_head < size)
-  room_tells e = let p = and_parts _ _ e in (eqb-true _ _ p.0, ltb-true _ _ p.1)
-
-  no_room : has_room size l ≡ false → l.put ≡ l.seen_head + size
-  no_room e = grind arith
-
-  by_room : (room : Bool) → has_room size l ≡ room → IsSoundCompletions size (record l { posted = l.posted ++ c ∷ []; put = cond room (l.put + 1) l.put })
-  by_room room e = grind (arith, posted_begins, length_push)
-
 pub end_sound : (size : ℕ) (l : Completions) (c : Cqe) (told : Bool) → IsSoundCompletions size l
     → IsSoundCompletions size (cond told (with_posted size l c) l)
-end_sound size l c true s = post_sound size l c s
-end_sound size l c false s = s
-
-next_tells : (l : Completions) (c : Cqe) → next_to_reap l ≡ Some c
-    → (eqb (length l.reaped) l.seen_tail ≡ false) × (slice_get l.posted (length l.reaped) ≡ Some c)
-next_tells l c e = grind arith
+end_sound size l c told s = grind (arith, and_parts, eqb-true, ltb-true, take-append-le, length_push)
 
 pub reap_sound : (size : ℕ) (l : Completions) (c : Cqe) → next_to_reap l ≡ Some c
     → IsSoundCompletions size l → IsSoundCompletions size (with_reaped l c)
 reap_sound size l c e s =
-    let t = next_tells l c e in
-    let differ = eqb-false _ _ t.0 in
-    let within = slice_get_within _ _ _ t.1 in
-    let n = length_push l.reaped c in
-    let begins : l.reaped ++ c ∷ [] ≡ take (length (l.reaped ++ c ∷ [])) l.posted =
-    ap (λ xs. xs ++ c ∷ []) s.begins ∙ ap (λ x. take (length l.reaped) l.posted ++ x ∷ []) (sym (get_or_from_slice_get l.posted (length l.reaped) c c t.1)) ∙ sym (take_more l.posted (length l.reaped) c within) ∙ ap (λ k. take k l.posted) (sym n) in
-    grind (arith, begins, n)
+    grind (arith, (slice_get_within l.posted (length l.reaped) c), (get_or_from_slice_get l.posted (length l.reaped) c c),
+        (take_more l.posted (length l.reaped) c), (length_push l.reaped c))
 
 -- The submission ring.
 
@@ -71,14 +45,10 @@ pub store_sound : (size : ℕ) (l : Submission) → IsSoundSubmission size l
     → IsSoundSubmission size (with_published size l)
 store_sound size l s = grind (arith, length-append, length-map)
 
-pub take_sound : (size : ℕ) (l : Submission) (call : Call) → l.call ≡ Some call
+pub take_sound : (size : ℕ) (l : Submission) (call : Call) (stops : Bool) → l.call ≡ Some call
     → eqb call.taken call.count ≡ false → IsSoundSubmission size l
-    → IsSoundSubmission size (with_taken l call)
-take_sound size l call e f s = grind arith
-
-pub stop_sound : (size : ℕ) (l : Submission) (call : Call) (stops : Bool) → l.call ≡ Some call
-    → IsSoundSubmission size l → IsSoundSubmission size (with_stopped stops l)
-stop_sound size l call stops e s = grind arith
+    → IsSoundSubmission size (with_stopped stops (with_taken l call))
+take_sound size l call stops e f s = grind arith
 
 pub close_sound : (size : ℕ) (l : Submission) (call : Call) → l.call ≡ Some call
     → IsSoundSubmission size l → IsSoundSubmission size (with_closed l call)

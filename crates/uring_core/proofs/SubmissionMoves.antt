@@ -1,11 +1,10 @@
 -- What an event makes of the submission ring, each with what is known of it because its answer was called for.
 -- `stays` is the frame of all that leave the ring as it was: whatever became of the rest, they tell nothing of it.
-use Rattle.std.proofs.Common.{◌≡◌, ℕ, ℤ, Bool, true, false, ◌||◌, nat_lt, eqb, ◌+◌, length, Some, None, slice_get, refl, sym, subst, ap, rules, ◌∷◌}
-use Rattle.uring_core.proofs.Common.{Answer, Call, Completions, Event, History, IsLawfulApart, LinuxRequests, Place, Requests, Setup, Sqe, Step, World, accepted_by, call_length, closes_call, closes_ring, ending_of, entries_of, entry_taken_by, filled_by, happens, is_full, is_load_head, is_spent, is_store_tail, no_bytes, opened_by, opens_call, places_from, requests_of, staged_by, taken, takes_in, takes_position, taking_entry_of, taking_of, with_begun, with_filled, with_head_loaded, with_published, with_staged, world}
-use Rattle.uring_rules.specs.Rules.{with_issued_end}
+use Rattle.std.proofs.Common.{◌≡◌, ℕ, Bool, false, ◌||◌, nat_lt, eqb, ◌+◌, length, Some, None, slice_get, sym, subst, rules, ◌∷◌, arith}
+use Rattle.uring_core.proofs.Common.{Answer, Call, Completions, Event, History, IsLawfulApart, LinuxRequests, Place, Setup, Sqe, Step, World, accepted_by, call_length, closes_call, closes_ring, ending_of, entries_of, entry_taken_by, filled_by, happens, is_full, is_load_head, is_spent, is_store_tail, opened_by, opens_call, places_from, requests_of, staged_by, taken, takes_in, takes_position, taking_entry_of, taking_of, with_begun, with_filled, with_head_loaded, with_published, with_staged, world}
 use Rattle.uring_core.specs.declared.step.Step.TheVariants as step
 use Rattle.uring_core.specs.declared.answer.Answer.TheVariants as answer
-use Rattle.uring_core.proofs.Changes.{Change, IsSilent, refuses as event_refuses, fills as event_fills, stages as event_stages, stores as event_stores, loads as event_loads, begins as event_begins, takes as event_takes, drops as event_drops, closes as event_closes, dooms as event_dooms, cancels as event_cancels, change_of}
+use Rattle.uring_core.proofs.Changes.{Change, fills as event_fills, stores as event_stores, loads as event_loads, refuses as event_refuses, stages as event_stages, begins as event_begins, takes as event_takes, drops as event_drops, closes as event_closes, change_of}
 
 -- an event that tells nothing of the submission ring
 pub record IsOffSubmission (e : Event) : Type 0 where
@@ -48,26 +47,10 @@ pub data SubmissionMove (g : Setup) (w : World) : Step → Answer → World → 
       → accepted ≡ length (entries_of (places_from w.submission call.count))
       → SubmissionMove g w step.End (answer.Taken accepted missed head) (ending_of g w (Some call))
 
-off_silent : {e : Event} → IsSilent e → IsOffSubmission e
-off_silent i = assumption i
-
--- an end as a request is issued, by either's rules
-leaves_issued : (g : Setup) (w : World) (n : ℕ) (res : ℤ)
-    → SubmissionMove g w (step.Issue n) (answer.Ended res no_bytes) (happens g w (step.Issue n) (answer.Ended res no_bytes))
-leaves_issued g w n res =
-    stays _ _ (requests_of (happens g w (step.Issue n) (answer.Ended res no_bytes))) _ _ (search rules)
-    (record { accepted = same_accepted g.linux w.requests; cuts = same_cuts g.linux w.requests; shut = refl }) where
-      same_accepted : (linux : Bool) (r : Requests) → (with_issued_end linux r n res).accepted ≡ r.accepted
-      same_accepted true r = refl
-      same_accepted false r = refl
-
-      same_cuts : (linux : Bool) (r : Requests) → (with_issued_end linux r n res).cuts ≡ r.cuts
-      same_cuts linux r = search rules
-
 submission_by : (g : Setup) (w : World) (s : Step) (a : Answer) → Change g w s a
     → SubmissionMove g w s a (happens g w s a)
 submission_by g w s a (event_refuses _ _ same silent) =
-    subst (SubmissionMove g w s a) (sym (same w)) (stays s a (requests_of w) w.completions w.is_closed (off_silent silent) (record { accepted = refl; cuts = refl; shut = sym (ap (λ b. b || w.is_closed) silent.shuts_none) }))
+    rw same (stays s a (requests_of w) w.completions w.is_closed (assumption silent) (grind arith))
 submission_by g w s a (event_fills slot entry free) = fills slot entry
 submission_by g w s a (event_stages word room) = stages word room
 submission_by g w s a (event_stores tail) = stores tail
@@ -80,9 +63,7 @@ submission_by g w s a (event_drops call place opened left at invalid) =
     subst (λ o. SubmissionMove g w step.Take answer.Dropped (taking_of g w o)) (sym opened) (drops call place opened left at invalid)
 submission_by g w s a (event_closes accepted missed head call opened all counted) =
     subst (λ o. SubmissionMove g w step.End (answer.Taken accepted missed head) (ending_of g w o)) (sym opened) (closes accepted missed head call opened all counted)
-submission_by g w s a (event_dooms n outstanding idle doomed) = search (rules, leaves_issued)
-submission_by g w s a (event_cancels n outstanding idle spared ready cancel) = search (rules, leaves_issued)
-submission_by g w s a _ = stays _ _ (requests_of (happens g w s a)) _ _ (search rules) (search rules)
+submission_by g w s a _ = stays _ _ (requests_of (happens g w s a)) _ _ (search rules) (grind arith)
 
 pub submission_move : (g : Setup) (s : Step) (a : Answer) (h : History)
     → IsLawfulApart g ((s, a) ∷ h) → SubmissionMove g (world g h) s a (world g ((s, a) ∷ h))

@@ -1,5 +1,5 @@
 -- Rows of steps that are made at once: one entry, one take or one completion more at their end, and what their answers are known to be.
-use Rattle.std.proofs.Common.{◌≡◌, ℕ, suc, ◌+◌, ◌≤◌, ◌<◌, List, [], ◌∷◌, ◌++◌, length, take, set, get_or, refl, ap, ◌∙◌, arith}
+use Rattle.std.proofs.Common.{◌≡◌, ℕ, ◌+◌, ◌≤◌, ◌<◌, List, [], ◌∷◌, ◌++◌, length, take, set, get_or, refl, ap, ◌∙◌, arith}
 use Rattle.uring_core.proofs.Common.{Answer, CalledForApart, Core, Cqe, Err, FitsApart, HasNoLessMemory, History, IsShortFor, OrAgain, Result, Setup, Sqe, Step, World, after_entries, after_fill, after_index, after_reaps, after_takes, begin_answer, call_length, common_steps, elements_for_call, length-take-le, take_answer, take_more, world, after_refused}
 use Rattle.uring_core.specs.declared.cores.submit.NotSubmitted.{NotSubmitted}
 use Rattle.uring_core.specs.declared.cores.submit.NotSubmitted.TheVariants as refused
@@ -16,11 +16,9 @@ as_called p g s a b h same told f = grind arith
 pub after_entries_snoc : (g : Setup) (slot : ℕ) (entries : List Sqe) (entry : Sqe) (h : History)
     → after_entries g slot (entries ++ entry ∷ []) h
     ≡ after_index g (slot + length entries) (after_fill g (slot + length entries) entry (after_entries g slot entries h))
-after_entries_snoc g slot [] entry h =
-    ap (λ s. after_index g s (after_fill g s entry h)) (omega arith)
+after_entries_snoc g slot [] entry h = grind arith
 after_entries_snoc g slot (first ∷ later) entry h =
-    after_entries_snoc g (slot + 1) later entry (after_index g slot (after_fill g slot first h))
-    ∙ ap (λ s. after_index g s (after_fill g s entry (after_entries g (slot + 1) later (after_index g slot (after_fill g slot first h))))) (omega arith)
+    grind (arith, (after_entries_snoc g (slot + 1) later entry (after_index g slot (after_fill g slot first h))))
 
 -- the entry of this place is put in
 pub entries_next : (g : Setup) (entries : List Sqe) (i slot : ℕ) (entry : Sqe) (h : History)
@@ -34,7 +32,7 @@ entries_next g entries i slot entry h at within is =
 pub takes_next : (g : Setup) (n : ℕ) (h : History)
     → after_takes g (n + 1) h
     ≡ (step.Take, take_answer (world g (after_takes g n h))) ∷ after_takes g n h
-takes_next g n h = ap (λ k. after_takes g k h) (let one : n + 1 ≡ suc n = omega arith in one)
+takes_next g n h = grind arith
 
 -- the last completion is reaped last
 pub after_reaps_snoc : (completions : List Cqe) (completion : Cqe) (h : History)
@@ -49,9 +47,7 @@ pub reaps_next : (completions : List Cqe) (i : ℕ) (completion : Cqe) (h : Hist
     → i < length completions
     → after_reaps (take (i + 1) (set completions i completion)) h
     ≡ (step.Reap, answer.Reaped completion) ∷ after_reaps (take i completions) h
-reaps_next completions i completion h within =
-    let next : take (i + 1) (set completions i completion) ≡ take i completions ++ completion ∷ [] = grind (arith, common_steps) in
-    ap (λ xs. after_reaps xs h) next ∙ after_reaps_snoc (take i completions) completion h
+reaps_next completions i completion h within = grind (arith, common_steps, after_reaps_snoc)
 
 -- A change of the submission ring alone, and then another.
 pub submission_then : (p q r : Core) → q ≡ record p { sq = q.sq } → r ≡ record q { sq = r.sq }
