@@ -105,8 +105,8 @@ module _ (a b c : Kept) (done : List ℕ) (rest : ℕ) (h : HaveMade a b done re
       → Appends b c (calls_counted 1) → HaveMade a c (done ++ n ∷ []) (rest - n)
   one_made n e first p =
       record {
-        world = e ∙ ap₂ (λ (g : Setup) w. after_call g w n) h.appends.setup h.world ∙ sym (after_snoc a.setup (now a) done n);
-        calls = append_assoc done (n ∷ []) (calls_left a.setup (now c).submission) ∙ ap (λ ns. done ++ ns) (sym (next_left n first)) ∙ h.calls;
+        world = rw (e, h.world, h.appends.setup, after_snoc);
+        calls = rw append_assoc (ap (λ ns. done ++ ns) (sym (next_left n first)) ∙ h.calls);
         stands = first.3;
         begun = h.begun + 1;
         appends = appends_then a b c (calls_counted h.begun) (calls_counted 1) (calls_counted (h.begun + 1)) h.appends p refl;
@@ -118,8 +118,8 @@ module _ (a b c : Kept) (done : List ℕ) (rest : ℕ) (h : HaveMade a b done re
   one_refused e p =
       record {
         world = e ∙ h.world;
-        calls = ap (λ (w : World). done ++ calls_left a.setup w.submission) e ∙ h.calls;
-        stands = subst (λ (w : World). Stands w.submission [] rest) (sym e) h.stands;
+        calls = rw e h.calls;
+        stands = rw e h.stands;
         begun = h.begun + 1;
         appends = appends_then a b c (calls_counted h.begun) (calls_counted 1) (calls_counted (h.begun + 1)) h.appends p refl;
         idle = λ none. absurd (omega (arith, none));
@@ -159,12 +159,6 @@ pub begun_all : (a b : Kept) (done : List ℕ) (rest : ℕ) → rest ≡ 0 → H
 unfolding refused_row
 begun_all a b done rest none h p = grind (arith, append-nil, none_left)
 
--- the calls that were left as these were begun
-begun_of : (a b : Kept) (x : Intake) (calls : List ℕ) (h : HasBegun a b x)
-    → calls_left a.setup (now a).submission ≡ calls
-    → AreBegun calls (calls_row h.made (calls_left a.setup (now b).submission) ++ refused_row (calls_left a.setup (now b).submission))
-begun_of a b x calls h are = grind arith
-
 -- what waited was begun again
 pub row_begun : (a r b : Kept) (x : Intake) → IsUnmoved a r → HasBegun r b x
     → (steps : List Step) × AreBegun (calls_left a.setup (now a).submission) steps × Records a b steps
@@ -176,4 +170,4 @@ pub row_taken : (a p b : Kept) (items : List Item) (x : Intake) → Stands (now 
     → now p ≡ with_items_published a.setup.sq (now a) (all_published_as items)
     → Records a p (items_row 0 items ++ step.StoreTail ∷ []) → HasBegun p b x
     → (steps : List Step) × AreTaken a.setup items steps × Records a b steps
-row_taken a p b items x s few same at published h = grind (arith, begun_of, published_left, append_assoc)
+row_taken a p b items x s few same at published h = grind (arith, published_left, append_assoc)

@@ -1,19 +1,19 @@
 -- What is sent and taken in, as a result is taken in: the operation is the last of its worker's, and all else stays; and how many results of each worker a turn takes in.
 use Rattle.std.proofs.Common.{◌≡◌, ℕ, ◌+◌, ◌<◌, arith, Bool, true, false, List, [], ◌∷◌, ◌++◌, length, refl, sym, subst, ap, ap₂, ◌∙◌, inl, inr, ◌*◌, ◌≤◌, get_or}
-use Rattle.uring_threads.proofs.Common.{Answer, Appends, AreSameLanes, AreTakenIn, CanBeTaken, Collects, CollectsNext, CollectsSeen, Done, Grows, HaveCarried, IsLawfulApart, IsTakenIn, IsUnmoved, JobResult, Kept, NextStays, NoneComes, OnErr, OnlyPosts, OnlyReceives, Repeats, Result, Setup, TakesFewResults, TakesSeen, Tally, Wait, WorkLanes, World, cases_lt, done_by_worker, done_in, entry_of, finish_of, finishes_counted, history, is_running, jobs_to, length_push, map-append, most_results, now, operation_of, place_of, result_of, results_of, results_received, results_seen, results_taken_in, set, with_ended}
+use Rattle.uring_threads.proofs.Common.{Answer, Appends, AreSameLanes, AreTakenIn, CanBeTaken, Collects, CollectsNext, CollectsSeen, Done, Grows, HaveCarried, IsLawfulApart, IsTakenIn, IsUnmoved, JobResult, Kept, NextStays, NoneComes, OnErr, OnlyPosts, OnlyReceives, Repeats, Result, Setup, TakesFewResults, TakesSeen, Tally, Wait, WorkLanes, World, cases_lt, done_by_worker, done_in, entry_of, finish_of, finishes_counted, history, is_running, length_push, map-append, most_results, now, operation_of, place_of, results_of, results_received, results_seen, results_taken_in, set, with_ended}
 use mathlib.Core.List.{IsPrefix}
 use Rattle.uring_entry.proofs.RequestLemmas.{is_running_ended_same, is_running_ended_other}
 use Rattle.uring_core.specs.Core.{IsFinished}
 use Rattle.uring_core.specs.declared.step.Step.TheVariants as step
 use Rattle.uring_core.specs.declared.answer.Answer.TheVariants as answer
 use Rattle.uring_threads.proofs.Sent.{one_more_at, none_more_at}
-use Rattle.uring_threads.proofs.Posting.{end_posts}
 use Rattle.uring_threads.proofs.Recording.{records_one}
 use Rattle.uring_threads.proofs.Repeating.{repeats_none, repeats_then}
 use Rattle.uring_threads.proofs.Settling.{results_run}
 use Rattle.uring_threads.proofs.TraceSteps.{grown, grown_history, appends_one, unmoved_is}
 use Rattle.uring_threads.proofs.Carrying.{carried_set, done_stays}
 use Rattle.uring_threads.proofs.SameLanes.{lanes_then, lanes_set, set_cases}
+use Rattle.uring_threads.proofs.Posting.{posts_only}
 
 -- a result of a request that runs is taken in by the Finish that the trace has then
 pub takes_in : (a b : Kept) (r : JobResult) (x : Answer) → is_running (now a).requests r.number ≡ true
@@ -32,12 +32,6 @@ pub none_stays : (kept : Kept) (workers place : ℕ) (seen : List JobResult) →
 none_stays kept workers place seen none = grind arith
 
 -- Several results.
-
--- the end of a request posts a completion, or none
-posts_end : (a b : Kept) (r : JobResult) → Grows a b (finish_of r) → OnlyPosts (now a) (now b)
-posts_end a b r g =
-    let p = end_posts a.setup (now a) r.number r.outcome.res r.outcome.bytes in
-    subst (OnlyPosts (now a)) (sym (grown a b (step.Finish r.number) (answer.Ended r.outcome.res r.outcome.bytes) g)) (record { submission = refl; accepted = refl; is_closed = refl; reaped = p.0; head = p.1 })
 
 -- what couldn't be taken in still can't where a request ended: no other runs by it
 end_comes : (a b : Kept) (workers : ℕ) (r : JobResult) → Grows a b (finish_of r)
@@ -68,14 +62,12 @@ collects_first {a} {b} {workers} {place} r can grows =
         numbers = r.number ∷ [];
         row = records_one a b (step.Finish r.number) (answer.Ended r.outcome.res r.outcome.bytes) grows;
         tally = appends_one a b (finish_of r) (finishes_counted 1) grows refl refl;
-        posts = posts_end a b r grows;
+        posts = subst (OnlyPosts (now a)) (sym (grown a b (step.Finish r.number) _ grows)) (posts_only a.setup (now a) r.number (answer.Ended r.outcome.res r.outcome.bytes)).1;
       };
-      own =
-          ap length (ap₂ (λ g h. done_by_worker g workers place h) grows.setup longer ∙ one_more_at at place (done_in a.setup (history a)) end can.own)
-          ∙ length_push (done_by_worker a.setup workers place (history a)) end;
+      own = rw (grows.setup, longer, one_more_at at place (done_in a.setup (history a)) end can.own) (length_push _ end);
       others = record {
-        jobs = λ k. ap₂ (λ g h. jobs_to g workers k h) grows.setup longer;
-        results = λ k other. ap₂ (λ g h. done_by_worker g workers k h) grows.setup longer ∙ none_more_at at k (done_in a.setup (history a)) end (λ same. other (sym same ∙ can.own));
+        jobs = λ k. rw (grows.setup, longer);
+        results = λ k other. rw (grows.setup, longer) (none_more_at at k (done_in a.setup (history a)) end (λ same. other (sym same ∙ can.own)));
       };
       none_comes = end_comes a b workers r grows;
     }
@@ -87,12 +79,8 @@ pub taken_in_more : {a u b : Kept} {workers place : ℕ} {before after : List Jo
 taken_in_more {a} {u} {b} {workers} {place} {before} {after} r can unmoved grows taken more =
     let end : Done = record { number = r.number; op = operation_of (entry_of (now u).requests r.number); outcome = r.outcome } in
     let at : Done → ℕ = λ d. place_of workers u.setup.files d.op in
-    let done = done_by_worker u.setup workers place (history u) in
-    let all : done_by_worker b.setup workers place (history b) ≡ done ++ end ∷ [] =
-    ap₂ (λ g h. done_by_worker g workers place h) grows.setup (grown_history u b (finish_of r) grows) ∙ one_more_at at place (done_in u.setup (history u)) end can.own
-    in
-    let known : before ≡ results_of done = subst (λ (k : Kept). AreTakenIn k workers place before) (sym (unmoved_is a u unmoved)) taken in
-    more ∙ ap (λ rs. rs ++ r ∷ []) known ∙ sym (ap results_of all ∙ map-append result_of done (end ∷ []))
+    let known : before ≡ results_of (done_by_worker u.setup workers place (history u)) = subst (λ (k : Kept). AreTakenIn k workers place before) (sym (unmoved_is a u unmoved)) taken in
+    rw (grows.setup, grown_history u b (finish_of r) grows, one_more_at at place (done_in u.setup (history u)) end can.own, map-append, more, known)
 
 pub collects_then : {a b c : Kept} {workers place n m : ℕ} → Collects a b workers place n
     → Collects b c workers place m → Collects a c workers place (n + m)
@@ -108,13 +96,13 @@ pub collects_more : {a b c : Kept} {workers place n : ℕ} (seen : List JobResul
     → more ≡ true → Collects a b workers place n → CollectsNext b c workers place seen more
     → Collects a c workers place (n + 1)
 collects_more seen true e p q = collects_then p q
-collects_more seen false e p q = absurd (let f : false ≡ true = e in cc)
+collects_more seen false e p q = absurd cc
 
 pub collects_no_more : {a b c : Kept} {workers place n : ℕ} (seen : List JobResult) (more : Bool)
     → more ≡ false → n < 64 → Collects a b workers place n
     → CollectsNext b c workers place seen more → CollectsSeen a c workers place n seen
 collects_no_more {a} {b} {c} {workers} {place} {n} seen false e few p q = grind (arith, (collects_then p q.0))
-collects_no_more seen true e few p q = absurd (let f : true ≡ false = e in cc)
+collects_no_more seen true e few p q = absurd cc
 
 -- what holds anyway holds of an error
 pub on_err : {X E P : Type 0} (result : Result X E) → P → OnErr result P

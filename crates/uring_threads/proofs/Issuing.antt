@@ -1,6 +1,6 @@
 -- How the Issue of the next request is answered, and the loop of issues: lanes are looked at, and then a request is issued.
-use Rattle.std.proofs.Common.{◌≡◌, ℕ, Bool, true, List, [], ◌∷◌, Option, Some, None, count_by, length, ℤ, refl, sym, subst, ap, ◌∙◌, cond, ◌+◌, ◌<◌, ◌≤◌, get_or, arith}
-use Rattle.uring_threads.proofs.Common.{Answer, AreSameLanes, CalledForApart, Grows, HasCarried, HaveCarried, IsEnded, IsIssued, IsLookedAt, IsUnmoved, Kept, OnlyPosts, Repeats, WorkLanes, count_by-le-length, entry_of, is_issuable, is_refused, is_running, issues_counted, length-append, next_in, next_of, none_counted, now, operation_of, operation_running, requests_of, results_received, tally_of, Op, World}
+use Rattle.std.proofs.Common.{◌≡◌, ℕ, Bool, true, List, [], ◌∷◌, Option, Some, None, length, ℤ, refl, sym, subst, ap, ◌∙◌, cond, ◌+◌, ◌<◌, ◌≤◌, get_or, arith}
+use Rattle.uring_threads.proofs.Common.{Answer, AreSameLanes, CalledForApart, Grows, HasCarried, HaveCarried, IsEnded, IsIssued, IsLookedAt, IsUnmoved, Kept, OnlyPosts, Op, Repeats, WorkLanes, World, count_by-le-length, entry_of, is_issuable, is_running, issues_counted, issues_request, length-append, next_in, next_of, none_counted, now, operation_of, operation_running, requests_of, results_received}
 use Rattle.std.proofs.lemmas.Option.{cond_some}
 use Rattle.uring_linux.specs.LinuxRequests.{LinuxRequests}
 use Rattle.uring_entry.proofs.RequestLemmas.{is_running_started_same}
@@ -11,9 +11,10 @@ use Rattle.uring_core.specs.declared.step.Step.TheVariants as step
 use Rattle.uring_core.specs.declared.answer.Answer.TheVariants as answer
 use Rattle.uring_threads.proofs.TraceSteps.{grown, appends_none, appends_one}
 use Rattle.uring_workers.proofs.LaneFacts.{looked_results}
-use Rattle.uring_threads.proofs.Carrying.{IssuedAs, quiet_stays, carried_stays, issued_posts}
+use Rattle.uring_threads.proofs.Carrying.{IssuedAs, quiet_stays, carried_stays}
 use Rattle.uring_threads.proofs.Recording.{records_one}
 use Rattle.uring_threads.proofs.SameLanes.{lanes_then}
+use Rattle.uring_threads.proofs.Posting.{posts_only}
 
 -- the next can be issued
 next_issuable : (linux : Bool) (l : LinuxRequests) (n : ℕ) → next_of linux l ≡ Some n
@@ -47,20 +48,22 @@ started_op a b n op grows some =
     sym (cond_some (is_running (now b).requests n) (operation_of (entry_of (now b).requests n)) op (sym some)).1 ∙ ap (λ (w : World). operation_of (entry_of w.requests n)) (grown a b (step.Issue n) answer.Run grows)
 
 -- and that is one issue
+one_issue : (a b : Kept) (n : ℕ) (x : Answer) → Grows a b (step.Issue n, x)
+    → issues_request (step.Issue n, x) ≡ true → Repeats a b step.Issue (issues_counted 1)
+one_issue a b n x g served = record {
+  numbers = n ∷ [];
+  row = records_one a b (step.Issue n) x g;
+  tally = appends_one a b (step.Issue n, x) (issues_counted 1) g (rw served) (rw served);
+  posts = subst (OnlyPosts (now a)) (sym (grown a b (step.Issue n) x g)) (posts_only a.setup (now a) n x).0;
+}
+
+end_issues : (n : ℕ) (x : Answer) → IsEnded x → issues_request (step.Issue n, x) ≡ true
+end_issues n x ended = grind arith
+
 pub issued_repeats : (a b : Kept) (n : ℕ) (told : Option Op) → IssuedAs a b n told
     → Repeats a b step.Issue (issues_counted 1)
-issued_repeats a b n told issued = by_told told issued (issued_posts a b n told issued) where
-  one : (x : Answer) → Grows a b (step.Issue n, x) → tally_of ((step.Issue n, x) ∷ []) ≡ issues_counted 1 → count_by is_refused ((step.Issue n, x) ∷ []) ≡ 0 → OnlyPosts (now a) (now b)
-      → Repeats a b step.Issue (issues_counted 1)
-  one x g counted served posts = record { numbers = n ∷ []; row = records_one a b (step.Issue n) x g; tally = appends_one a b (step.Issue n, x) (issues_counted 1) g counted served; posts = posts }
-
-  by_answer : (x : Answer) → Grows a b (step.Issue n, x) → IsEnded x → OnlyPosts (now a) (now b) → Repeats a b step.Issue (issues_counted 1)
-  by_answer (answer.Ended res bytes) g ended posts = one (answer.Ended res bytes) g refl refl posts
-  by_answer _ g ended posts = absurd ended
-
-  by_told : (told : Option Op) → IssuedAs a b n told → OnlyPosts (now a) (now b) → Repeats a b step.Issue (issues_counted 1)
-  by_told (Some op) issued posts = one answer.Run issued.0 refl refl posts
-  by_told None issued posts = by_answer issued.0 issued.1 issued.2 posts
+issued_repeats a b n (Some op) issued = one_issue a b n answer.Run issued.0 refl
+issued_repeats a b n None issued = one_issue a b n issued.0 issued.1 (end_issues n issued.0 issued.2)
 
 -- Room was asked for, and the lanes were looked at.
 pub looked_on : (k r : Kept) (first old new : List WorkLanes) → IsUnmoved k r

@@ -1,6 +1,6 @@
 -- What a list of items makes of a ring that stands between calls: it stands after each of them, and after they are published.
 use Rattle.std.proofs.Common.{◌≡◌, ℕ, ◌+◌, ◌<◌, ◌≤◌, List, [], ◌∷◌, ◌++◌, length, take, get_or, refl, sym, subst, ap, ◌∙◌, arith}
-use Rattle.uring_threads.proofs.Common.{Answer, Grows, Item, Kept, Published, Stands, Submission, World, all_published_as, bad_word, happens, length-map, length-take-le, length_push, map-append, now, on_submission, published_as, tail_publishes, take_more, with_entry, with_item, with_item_put, with_items, with_items_published, with_items_put}
+use Rattle.uring_threads.proofs.Common.{Answer, Grows, Item, Kept, Published, Stands, Submission, World, all_published_as, bad_word, happens, length-map, length-take-le, length_push, map-append, now, published_as, tail_publishes, take_more, with_entry, with_item, with_item_put, with_items, with_items_published, with_items_put}
 use Rattle.uring_core.specs.declared.step.Step.TheVariants as step
 use Rattle.uring_threads.proofs.TraceSteps.{grown}
 
@@ -38,8 +38,7 @@ pub items_more : (w : World) (items : List Item) (i slot : ℕ) (item : Item) �
 items_more w items i slot item at within is =
     let before : List Published = all_published_as (take i items) in
     let many : slot ≡ 0 + length before = omega (arith, at, length-map (take i items) published_as, length-take-le i items (omega arith)) in
-    rw (take_more items i item within, ← is)
-    (ap (on_submission w) (ap (λ s. with_item (with_items w.submission 0 before) s (published_as item)) many ∙ sym (with_items_snoc w.submission 0 before (published_as item)) ∙ ap (with_items w.submission 0) (sym (map-append published_as (take i items) (item ∷ [])))))
+    rw (take_more items i item within, ← is, map-append, with_items_snoc, ← many)
 
 -- a store of the tail published them, and so many positions wait
 pub published_now : (a b : Kept) (w : World) (items : List Item) (x : Answer)

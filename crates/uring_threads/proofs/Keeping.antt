@@ -8,6 +8,7 @@ use Rattle.uring_threads.specs.declared.brief.BriefAnswer.TheVariants as told
 use Rattle.uring_threads.specs.declared.store.Store.{Store}
 use Rattle.uring_threads.specs.Events.{Events}
 use Rattle.uring_threads.specs.Store.{step_of, answer_of, event_of, events_of, IsStepWithin, IsAnswerWithin, IsWithin, Stays, Goes, IsSame, HasRoom, AreStored}
+use Rattle.std.proofs.ByRecursion.{All-push}
 
 -- Lists that grow.
 
@@ -58,17 +59,7 @@ events_stay s t [] stays all = refl
 events_stay s t (first ∷ later) stays all =
     λ i. (event_stays s t first stays all.0).0 i ∷ events_stay s t later stays all.1 i
 
--- what is so of all is so with one more
-all_more : {A : Type 0} (P : A → Type 0) (xs : List A) (x : A) → AllByRecursion P xs → P x
-    → AllByRecursion P (xs ++ x ∷ [])
-all_more P [] x all last = (last, tt)
-all_more P (y ∷ xs) x all last = (all.0, all_more P xs x all.1 last)
-
 -- More memory.
-
--- what is the same stays
-same_stays : (s t : Store) → IsSame s t → Stays s t
-same_stays s t same = grind arith
 
 -- the same events are kept
 pub same_events : (s t : Store) (briefs now : List Brief) → IsSame s t
@@ -87,7 +78,8 @@ pub more_room : (s t : Store) (briefs now : List Brief) (capacity more room coun
     → length now + count ≤ more
     → AreStored t now more (len + count)
 more_room s t briefs now capacity more room count len kept same has is many fits =
-    grind (arith, (all_stay s t briefs (same_stays s t same) kept.within))
+    let stays : Stays s t = grind arith in
+    grind (arith, (all_stay s t briefs stays kept.within))
 
 -- One event more.
 
@@ -129,7 +121,7 @@ pub one_more : (s u : Store) (briefs now : List Brief) (b : Brief) (capacity roo
     → now ≡ briefs ++ b ∷ []
     → length briefs < room
     → AreStored u now capacity room
-one_more s u briefs now b capacity room kept grown last is less = grind (arith, length-append, all_more, all_stay)
+one_more s u briefs now b capacity room kept grown last is less = grind (arith, length-append, All-push, all_stay)
 
 -- the events are the same, with one more
 pub events_more : (s u : Store) (briefs now : List Brief) (b : Brief) (event : Event) → Stays s u

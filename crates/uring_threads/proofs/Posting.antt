@@ -1,14 +1,14 @@
 -- What ends of requests and a delivery leave of the rings: ends leave them as they were, but for what is posted.
-use Rattle.std.proofs.Common.{◌≡◌, ℕ, ℤ, ◌+◌, ◌-◌, ◌≤◌, List, length, refl, ◌∙◌, sym, subst, ap, arith}
+use Rattle.std.proofs.Common.{◌≡◌, ℕ, ◌+◌, ◌-◌, ◌≤◌, List, length, refl, sym, subst, arith}
 use Rattle.std.specs.Prelude.{min}
-use Rattle.uring_threads.proofs.Common.{Answer, Appends, Cqe, DeliversMost, Grows, IsDelivered, IsUnmoved, KeepsAllBut, Kept, OnlyPosts, Setup, World, none_counted, now, on_completions, reaps_counted, with_end_of, with_flushed, with_head_stored, with_reaped_all, with_tail_loaded}
+use Rattle.uring_threads.proofs.Common.{Answer, Appends, Cqe, DeliversMost, Grows, IsDelivered, IsUnmoved, KeepsAllBut, Kept, OnlyPosts, Setup, World, happens, none_counted, now, on_completions, reaps_counted, with_flushed, with_head_stored, with_reaped_all, with_tail_loaded}
 use Rattle.uring_core.specs.declared.step.Step.TheVariants as step
 use Rattle.uring_threads.proofs.TraceSteps.{grown, unmoved_now, appends_one, appends_then, appends_after, both_none, none_both}
 
-pub end_posts : (g : Setup) (w : World) (n : ℕ) (res : ℤ) (bytes : List ℕ)
-    → ((with_end_of g w n res bytes).reaped ≡ w.completions.reaped)
-    × ((with_end_of g w n res bytes).head ≡ w.completions.head)
-end_posts g w n res bytes = grind arith
+-- the Issue or the end of a request posts a completion, or none
+pub posts_only : (g : Setup) (w : World) (n : ℕ) (x : Answer)
+    → OnlyPosts w (happens g w (step.Issue n) x) × OnlyPosts w (happens g w (step.Finish n) x)
+posts_only g w n x = grind arith
 
 pub posts_none : (w : World) → OnlyPosts w w
 posts_none w = record { submission = refl; accepted = refl; is_closed = refl; reaped = refl; head = refl }
@@ -20,10 +20,7 @@ posts_then w v u p q = grind arith
 module _ (a room flushed loaded reaped b : Kept) (x y z : Answer) (all : List Cqe) (u : IsUnmoved a room) (flush : Grows room flushed (step.Flush, x)) (load : Grows flushed loaded (step.LoadCqTail, y))
     (reap : now reaped ≡ on_completions (now loaded) (with_reaped_all (now loaded).completions all)) (store : Grows reaped b (step.StoreCqHead, z)) where
   row : now b ≡ on_completions (now a) (with_head_stored (with_reaped_all (with_tail_loaded (with_flushed room.setup.cq (now a).completions)) all))
-  row =
-      grown reaped b step.StoreCqHead z store
-      ∙ ap (λ (w : World). on_completions w (with_head_stored w.completions)) (reap ∙ ap (λ (w : World). on_completions w (with_reaped_all w.completions all)) (grown flushed loaded step.LoadCqTail y load
-      ∙ ap (λ (w : World). on_completions w (with_tail_loaded w.completions)) (grown room flushed step.Flush x flush ∙ ap (λ (w : World). on_completions w (with_flushed room.setup.cq w.completions)) (unmoved_now a room u))))
+  row = simp (grown reaped b step.StoreCqHead z store, reap, grown flushed loaded step.LoadCqTail y load, grown room flushed step.Flush x flush, unmoved_now a room u)
 
   pub row_keeps : KeepsAllBut (now a) (now b)
   row_keeps = subst (λ w. KeepsAllBut (now a) w) (sym row) (record { submission = refl; requests = refl; drains = refl; is_closed = refl; posted = refl })

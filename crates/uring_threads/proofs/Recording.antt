@@ -1,5 +1,5 @@
 -- What each event adds to the steps of the trace, and how rows of steps add up.
-use Rattle.std.proofs.Common.{◌≡◌, ℕ, ◌+◌, ◌<◌, List, [], ◌∷◌, ◌++◌, map, take, length, get_or, replicate, sum, zero, suc, refl, sym, subst, ap, ap₂, ◌∙◌, arith, append_assoc, append-nil}
+use Rattle.std.proofs.Common.{◌≡◌, ℕ, ◌+◌, ◌<◌, List, [], ◌∷◌, ◌++◌, map, take, length, get_or, replicate, sum, zero, suc, refl, sym, subst, ap, ◌∙◌, arith, append_assoc, append-nil}
 use Rattle.uring_threads.proofs.Common.{Answer, AreOfTurn, Grows, IfOk, Intake, IsAgain, IsPulled, IsTaken, IsUnmoved, Item, Kept, Pulls, Put, Records, RecordsIntake, RecordsTurn, Repeats, Result, Setup, Step, Submission, Tally, Turn, call_row, calls_row, delivery_row, item_row, items_row, length-take-le, map-append, now, refused_row, replicate_more, step_of, steps_of, sum_by-cons, sum_by_push, take_more}
 use Rattle.uring_core.specs.declared.step.Step.TheVariants as step
 use Rattle.uring_ports.specs.declared.pulled.Pulled.{Pulled}
@@ -36,9 +36,7 @@ pub items_recorded : (a b c : Kept) (items : List Item) (i slot : ℕ) (item : I
     → Records b c (item_row slot item) → Records a c (items_row 0 (take (i + 1) items))
 items_recorded a b c items i slot item at within is p q =
     let many : slot ≡ 0 + length (take i items) = omega (arith, at, length-take-le i items (omega arith)) in
-    rw (take_more items i item within, ← is)
-    (records_then a b c (items_row 0 (take i items)) (item_row slot item) p q
-    ∙ ap (λ zs. steps_of a ++ zs) (ap (λ s. items_row 0 (take i items) ++ item_row s item) many ∙ sym (items_row_snoc 0 (take i items) item)))
+    rw (take_more items i item within, ← is, items_row_snoc, ← many) (records_then a b c _ _ p q)
 
 -- a call that opened: it took positions, closed, and the application loaded the head
 pub call_recorded : (a b c d e : Kept) (count n : ℕ) (x y z : Answer) → Grows a b (step.Begin count, x)
@@ -46,9 +44,7 @@ pub call_recorded : (a b c d e : Kept) (count n : ℕ) (x y z : Answer) → Grow
     → Grows d e (step.LoadHead, z)
     → Records a e (call_row count (made.Taken n))
 call_recorded a b c d e count n x y z g p h k =
-    records_then a b e (step.Begin count ∷ []) (replicate n step.Take ++ step.End ∷ step.LoadHead ∷ []) (records_one a b (step.Begin count) x g)
-    (records_then b c e (replicate n step.Take) (step.End ∷ step.LoadHead ∷ []) p
-    (records_then c d e (step.End ∷ []) (step.LoadHead ∷ []) (records_one c d step.End y h) (records_one d e step.LoadHead z k)))
+    simp (k.trace, h.trace, g.trace, p, map-append, append_assoc)
 
 -- one call more was made
 calls_row_snoc : (done : List ℕ) (n : ℕ) (left : List ℕ)
@@ -56,17 +52,15 @@ calls_row_snoc : (done : List ℕ) (n : ℕ) (left : List ℕ)
 unfolding calls_row
 calls_row_snoc [] n left = ap (λ k. step.Begin k ∷ replicate n step.Take ++ step.End ∷ step.LoadHead ∷ []) (omega arith)
 calls_row_snoc (first ∷ more) n left =
-    ap₂ (λ k later. step.Begin k ∷ replicate first step.Take ++ step.End ∷ step.LoadHead ∷ later) (omega (arith, sum_by_push (λ x. x) more n, sum_by-cons (λ x. x) n left)) (calls_row_snoc more n left)
-    ∙ ap (λ zs. step.Begin (first + (sum more + sum (n ∷ left))) ∷ zs) (sym (append_assoc (replicate first step.Take) (step.End ∷ step.LoadHead ∷ calls_row more (n ∷ left)) (call_row (n + sum left) (made.Taken n))))
+    let many : sum (more ++ n ∷ []) + sum left ≡ sum more + sum (n ∷ left) = omega (arith, sum_by_push (λ x. x) more n, sum_by-cons (λ x. x) n left) in
+    rw (many, calls_row_snoc more n left, append_assoc)
 
 pub call_more : (a b c : Kept) (done : List ℕ) (n : ℕ) (left calls : List ℕ) (count : ℕ)
     → Records a b (calls_row done calls) → calls ≡ n ∷ left → sum calls ≡ count
     → Records b c (call_row count (made.Taken n))
     → Records a c (calls_row (done ++ n ∷ []) left)
 call_more a b c done n left calls count p is many q =
-    records_then a b c (calls_row done (n ∷ left)) (call_row (n + sum left) (made.Taken n)) (p ∙ ap (λ ns. steps_of a ++ calls_row done ns) is)
-    (subst (λ k. Records b c (call_row k (made.Taken n))) (sym many ∙ ap sum is ∙ sum_by-cons (λ x. x) n left ∙ omega arith) q)
-    ∙ ap (λ zs. steps_of a ++ zs) (sym (calls_row_snoc done n left))
+    rw calls_row_snoc (records_then a b c _ _ (rw is at p) (subst (λ k. Records b c (call_row k (made.Taken n))) (omega (arith, many, ap sum is, sum_by-cons (λ x. x) n left)) q))
 
 -- and the next didn't open
 pub call_refused : (a b c : Kept) (done calls : List ℕ) (count : ℕ) → 0 < count → sum calls ≡ count
@@ -87,10 +81,7 @@ pub delivery_recorded : (a b c d e f : Kept) (n : ℕ) (x y z : Answer) → 0 < 
     → Records a f (delivery_row n)
 delivery_recorded a b c d e f zero x y z some u g h p k = absurd (omega (arith, some))
 delivery_recorded a b c d e f (suc n) x y z some u g h p k =
-    records_then a b f [] (delivery_row (suc n)) (records_none a b u)
-    (records_then b c f (step.Flush ∷ []) (step.LoadCqTail ∷ replicate (suc n) step.Reap ++ step.StoreCqHead ∷ []) (records_one b c step.Flush x g)
-    (records_then c d f (step.LoadCqTail ∷ []) (replicate (suc n) step.Reap ++ step.StoreCqHead ∷ []) (records_one c d step.LoadCqTail y h)
-    (records_then d e f (replicate (suc n) step.Reap) (step.StoreCqHead ∷ []) p (records_one e f step.StoreCqHead z k))))
+    simp (k.trace, p, h.trace, g.trace, u.trace, map-append, append_assoc)
 
 -- nothing was begun again, and nothing was pulled
 pub none_again : (g : Setup) (l : Submission) (i : Intake) → IsAgain g l i []

@@ -1,6 +1,6 @@
 -- One kind of step, so many times: results that are taken in, and requests that are issued.
-use Rattle.std.proofs.Common.{◌≡◌, ℕ, ◌+◌, Bool, true, not, cond, List, [], ◌∷◌, ◌++◌, map, length, count_by, suc, refl, sym, subst, ap, ◌∙◌, arith, append-nil}
-use Rattle.uring_threads.proofs.Common.{Event, IsUnmoved, Kept, Repeats, Step, Tally, append_cancel_left, both, finishes_counted, is_refused, issues_counted, issues_request, length-map, map-append, nil_from_length, none_counted, now, step_of, steps_of, sum_by-append, takes_result}
+use Rattle.std.proofs.Common.{◌≡◌, ℕ, ◌+◌, Bool, true, List, [], ◌∷◌, ◌++◌, map, length, count_by, suc, refl, sym, subst, ap, ◌∙◌, arith, append-nil, drop, false, cond}
+use Rattle.uring_threads.proofs.Common.{Answer, Event, IsUnmoved, Kept, Repeats, Step, Tally, append_cancel_left, both, finishes_counted, is_refused, issues_counted, issues_request, length-map, map-append, nil_from_length, none_counted, now, step_of, steps_of, sum_by-cons, takes_result}
 use Rattle.uring_core.specs.declared.step.Step.TheVariants as step
 use Rattle.uring_threads.proofs.Posting.{posts_then}
 use Rattle.uring_threads.proofs.Recording.{records_none, records_then}
@@ -41,39 +41,28 @@ repeats_idle {a} {b} {kind} p none =
 
 -- As many Finishes and Issues as were counted.
 
-finish_steps : (events : List Event) (numbers : List ℕ)
-    → map step_of events ≡ map step.Finish numbers
-    → length numbers ≡ count_by takes_result events
-finish_steps [] [] e = refl
-finish_steps ((s, a) ∷ es) (n ∷ ns) e =
-    let first : s ≡ step.Finish n = cc in
-    let rest : map step_of es ≡ map step.Finish ns = cc in
-    let one : count_by takes_result ((step.Finish n, a) ∷ es) ≡ 1 + count_by takes_result es = sum_by-append (λ e. cond (takes_result e) 1 0) ((step.Finish n, a) ∷ []) es in
-    subst (λ s. suc (length ns) ≡ count_by takes_result ((s, a) ∷ es)) (sym first) (omega (arith, one, finish_steps es ns rest))
-finish_steps _ _ e = absurd (cc)
+-- the first of these events, if it wasn't refused, is one of those
+one_step : (p : Event → Bool) (e : Event) (es : List Event) (n : ℕ)
+    → (is_refused e ≡ false → p e ≡ true) → count_by is_refused (e ∷ es) ≡ 0
+    → (count_by is_refused es ≡ 0 → n ≡ count_by p es) → suc n ≡ count_by p (e ∷ es)
+one_step p e es n here served rest =
+    grind (arith, (sum_by-cons (λ x. cond (p x) 1 0) e es), (sum_by-cons (λ x. cond (is_refused x) 1 0) e es))
 
--- an Issue that wasn't refused
-issued_or : (b : Bool) → ◌≡◌ {A = ℕ} (cond (not b) 1 0) 0 → b ≡ true
-issued_or b e = grind arith
-
-issue_steps : (events : List Event) (numbers : List ℕ)
-    → map step_of events ≡ map step.Issue numbers → count_by is_refused events ≡ 0
-    → length numbers ≡ count_by issues_request events
-issue_steps [] [] e served = refl
-issue_steps ((s, a) ∷ es) (n ∷ ns) e served =
-    let first : s ≡ step.Issue n = cc in
-    let rest : map step_of es ≡ map step.Issue ns = cc in
-    let fine : count_by is_refused ((step.Issue n, a) ∷ es) ≡ 0 = subst (λ s. count_by is_refused ((s, a) ∷ es) ≡ 0) first served in
-    let parts : count_by is_refused ((step.Issue n, a) ∷ es) ≡ 0 + cond (not (issues_request (step.Issue n, a))) 1 0 + count_by is_refused es = sum_by-append (λ e. cond (is_refused e) 1 0) ((step.Issue n, a) ∷ []) es in
-    let one : issues_request (step.Issue n, a) ≡ true = issued_or (issues_request (step.Issue n, a)) (omega (arith, fine, parts)) in
-    let many : count_by issues_request ((step.Issue n, a) ∷ es) ≡ 1 + count_by issues_request es = sum_by-append (λ e. cond (issues_request e) 1 0) ((step.Issue n, a) ∷ []) es ∙ ap (λ (b : Bool). 0 + cond b 1 0 + count_by issues_request es) one in
-    subst (λ s. suc (length ns) ≡ count_by issues_request ((s, a) ∷ es)) (sym first) (omega (arith, many, issue_steps es ns rest (omega (arith, fine, parts))))
-issue_steps _ _ e served = absurd (cc)
+kind_steps : (kind : ℕ → Step) (p : Event → Bool) (events : List Event) (numbers : List ℕ)
+    → ((n : ℕ) (a : Answer) → is_refused (kind n, a) ≡ false → p (kind n, a) ≡ true)
+    → map step_of events ≡ map kind numbers → count_by is_refused events ≡ 0
+    → length numbers ≡ count_by p events
+kind_steps kind p [] [] passes e served = refl
+kind_steps kind p ((s, a) ∷ es) (n ∷ ns) passes e served =
+    let first : s ≡ kind n = cc in
+    let here : is_refused (s, a) ≡ false → p (s, a) ≡ true = subst (λ t. is_refused (t, a) ≡ false → p (t, a) ≡ true) (sym first) (passes n a) in
+    one_step p (s, a) es (length ns) here served (kind_steps kind p es ns passes (ap (drop 1) e))
+kind_steps kind p _ _ passes e served = absurd cc
 
 pub finishes_many : {a b : Kept} {n : ℕ} (p : Repeats a b step.Finish (finishes_counted n))
     → length p.numbers ≡ n
-finishes_many p = finish_steps p.tally.events p.numbers (appended p) ∙ ap (λ (t : Tally). t.finishes) p.tally.tally
+finishes_many p = kind_steps step.Finish takes_result p.tally.events p.numbers (λ n a e. refl) (appended p) p.tally.served ∙ ap (λ (t : Tally). t.finishes) p.tally.tally
 
 pub issues_many : {a b : Kept} {n : ℕ} (p : Repeats a b step.Issue (issues_counted n))
     → length p.numbers ≡ n
-issues_many p = issue_steps p.tally.events p.numbers (appended p) p.tally.served ∙ ap (λ (t : Tally). t.issues) p.tally.tally
+issues_many p = kind_steps step.Issue issues_request p.tally.events p.numbers (λ n a e. grind arith) (appended p) p.tally.served ∙ ap (λ (t : Tally). t.issues) p.tally.tally

@@ -1,6 +1,7 @@
 -- What is reported once all ends are settled, from what ties them to the trace.
 use Rattle.std.proofs.Common.{◌≡◌, ◌↔◌, ℕ, ℤ, zero, suc, ◌+◌, ◌<◌, ◌≤◌, ◌==◌, Bool, Some, true, false, List, [], ◌∷◌, ◌++◌, length, map, flat_map, take, drop, get_or, All, count_by, cond, if◌then◌else◌, refl, sym, subst, ap, ◌∙◌, arith, inl, inr, append_assoc, append-nil, length-drop}
-use Rattle.uring_threads.proofs.Common.{AreItems, AreSettled, AreTogether, BeginsCalls, ClosesOnlyAllTaken, Completions, Cqe, DeliversReaped, Event, FinishesAll, HasOneClose, HaveLooked, HaveSeenAll, Intake, IsItem, IsKernel, IsLawful, IsSameKernel, Item, Job, JobResult, Kept, Kernel, LeavesCompletions, LeavesItems, LeavesRunning, OnlyPosts, PublishesItems, Put, Report, Setup, Sizes, Stands, Submission, TakesAll, Tied, WorkLanes, Worker, World, all_published_as, all_untaken, all_waiting, calls_of, closes_ring, completion_for, entry_of, finish_of, flat_map-append, has_job, history, history_of, history_of_snoc, is_running, is_shut, items_of_calls, job_of, jobs_of, left_by, length-append, length-map, list_any, map-append, now, or_cases, or_right, posts, published_as, published_items, sum_by-cons, take_all, take_more, taken, unreaped, untaken_at, waiting_in, with_end_of, with_posted, world}
+use Rattle.uring_threads.proofs.Common.{AreItems, AreSettled, AreTogether, BeginsCalls, ClosesOnlyAllTaken, Completions, Cqe, DeliversReaped, FinishesAll, HasOneClose, HaveLooked, HaveSeenAll, History, Intake, IsItem, IsKernel, IsLawful, IsSameKernel, Item, Job, JobResult, Kept, Kernel, LeavesCompletions, LeavesItems, LeavesRunning, OnlyPosts, PublishesItems, Put, Report, Setup, Sizes, Stands, Submission, TakesAll, Tied, WorkLanes, Worker, World, all_published_as, all_untaken, all_waiting, calls_of, closes_ring, finish_of, flat_map-append, has_job, history, history_of_cons, is_running, is_shut, items_of_calls, job_of, jobs_of, left_by, length-append, length-map, list_any, map-append, now, or_cases, or_right, posts, published_as, published_items, sum_by-cons, take_all, take_more, taken, unreaped, untaken_at, waiting_in, with_end_of, with_taken_in, world}
+use Rattle.uring_core.specs.declared.answer.Answer.TheVariants as answer
 use Rattle.std.specs.List.{slice_get}
 use Rattle.std.proofs.Math.Seq.{drop-append_seam, take-append_seam}
 use Rattle.std.proofs.lemmas.Option.{slice_get_within, get_or_from_slice_get}
@@ -10,20 +11,27 @@ use Rattle.std.proofs.lemmas.List.Folds.{list_any-append}
 use Rattle.uring_threads.specs.declared.intake.Intake.TheVariants as intake
 use Rattle.uring_threads.proofs.CallsMade.{none_left}
 use Rattle.uring_threads.proofs.Tying.{closes_append, all_first}
-use Rattle.uring_threads.proofs.Posting.{posts_none, posts_then, end_posts}
+use Rattle.uring_threads.proofs.Posting.{posts_none, posts_then, posts_only}
 use Rattle.uring_threads.proofs.SameEnds.{together_same}
+use Rattle.uring_threads.proofs.TraceSteps.{longer_history}
+use Rattle.std.proofs.lemmas.List.{reverse-append}
 
 -- Finishes leave the rings, but for what is posted.
 
-finishes_post : (g : Setup) (events : List Event) (rs : List JobResult)
-    → OnlyPosts (world g (history_of events)) (world g (history_of (events ++ map finish_of rs)))
-finishes_post g events [] = subst (λ es. OnlyPosts (world g (history_of events)) (world g (history_of es))) (sym (append-nil events)) (posts_none (world g (history_of events)))
-finishes_post g events (r ∷ rs) =
-    let w : World = world g (history_of events) in
-    let p = end_posts g w r.number r.outcome.res r.outcome.bytes in
-    let one : OnlyPosts w (world g (history_of (events ++ finish_of r ∷ []))) = subst (λ h. OnlyPosts w (world g h)) (sym (history_of_snoc events (finish_of r))) (record { submission = refl; accepted = refl; is_closed = refl; reaped = p.0; head = p.1 }) in
-    subst (λ es. OnlyPosts w (world g (history_of es))) (append_assoc events (finish_of r ∷ []) (map finish_of rs))
-    (posts_then w (world g (history_of (events ++ finish_of r ∷ []))) (world g (history_of ((events ++ finish_of r ∷ []) ++ map finish_of rs))) one (finishes_post g (events ++ finish_of r ∷ []) rs))
+-- each posts at most one completion
+one_end : (g : Setup) (w : World) (n : ℕ) (res : ℤ) (bytes : List ℕ)
+    → length (unreaped (with_end_of g w n res bytes)) ≤ length (unreaped w.completions) + 1
+one_end g w n res bytes = grind (arith, length-drop, length-append)
+
+finishes_post : (g : Setup) (rs : List JobResult) (h : History)
+    → OnlyPosts (world g h) (world g (with_taken_in rs h))
+    × (length (unreaped (world g (with_taken_in rs h)).completions)
+    ≤ length (unreaped (world g h).completions) + length rs)
+finishes_post g [] h = (posts_none (world g h), omega arith)
+finishes_post g (r ∷ rs) h =
+    let next = finishes_post g rs (finish_of r ∷ h) in
+    rw (history_of_cons (finish_of r) (map finish_of rs) h)
+    (posts_then _ _ _ (posts_only g (world g h) r.number (answer.Ended r.outcome.res r.outcome.bytes)).1 next.0, omega (arith, next.1, one_end g (world g h) r.number r.outcome.res r.outcome.bytes))
 
 -- What the application submitted.
 
@@ -74,22 +82,20 @@ one_if b = if b then 1 else 0
 any_of : (p : Job → Bool) (ls : List WorkLanes) (ws : List Worker) (d : WorkLanes) (e : Worker)
     → length ws ≡ length ls → list_any p (all_untaken ls ws) ≡ true
     → (k : ℕ) × (k < length ws) × (list_any p (untaken_at (get_or ls k d) (get_or ws k e)) ≡ true)
-any_of p [] [] d e many some = absurd (let f : false ≡ true = some in cc)
 any_of p (l ∷ ls) (w ∷ ws) d e many some =
     elim (or_cases _ _ (sym (list_any-append p (untaken_at l w) (all_untaken ls ws)) ∙ some)) [
       | inl here ↦ (0, omega arith, here)
       | inr later ↦ let one = any_of p ls ws d e (omega (arith, many)) later in (suc one.0, omega (arith, one.1), one.2)
     ]
-any_of p _ _ d e many some = absurd (omega (arith, many))
+any_of p _ _ d e many some = grind arith
 
 of_any : (p : Job → Bool) (ls : List WorkLanes) (ws : List Worker) (d : WorkLanes) (e : Worker) (k : ℕ)
     → length ws ≡ length ls → k < length ws
     → list_any p (untaken_at (get_or ls k d) (get_or ws k e)) ≡ true
     → list_any p (all_untaken ls ws) ≡ true
-of_any p [] [] d e k many low some = absurd (omega (arith, low))
 of_any p (l ∷ ls) (w ∷ ws) d e zero many low some = grind (arith, list_any-append)
 of_any p (l ∷ ls) (w ∷ ws) d e (suc k) many low some = list_any-append p (untaken_at l w) (all_untaken ls ws) ∙ or_right _ _ (of_any p ls ws d e k (omega (arith, many)) (omega (arith, low)) some)
-of_any p _ _ d e k many low some = absurd (omega (arith, many))
+of_any p _ _ d e k many low some = absurd (omega (arith, many, low))
 
 module _ (k : Kept) (ls : List WorkLanes) (ws vs : List Worker) (settled : AreSettled k vs) (looked : HaveLooked ws vs) (seen : HaveSeenAll ls vs) (many : length ws ≡ length ls) where
   -- what a worker has seen and not taken is what was sent to it and not taken
@@ -113,10 +119,9 @@ module _ (k : Kept) (ls : List WorkLanes) (ws vs : List Worker) (settled : AreSe
 pub all_run : (k : Kept) (ls : List WorkLanes) (ws vs : List Worker) → 0 < length ls
     → AreSettled k vs → HaveLooked ws vs → HaveSeenAll ls vs → length ws ≡ length ls → (n : ℕ)
     → (is_running (now k).requests n ≡ true) ↔ (has_job (all_untaken ls ws) n ≡ true)
-all_run k [] ws vs some settled looked seen many = absurd (omega (arith, some))
-all_run k (l ∷ ls) [] vs some settled looked seen many = absurd (omega (arith, many))
 all_run k (l ∷ ls) (w ∷ ws) vs some settled looked seen many =
     runs_untaken k (l ∷ ls) (w ∷ ws) vs settled looked seen many l w
+all_run k _ _ vs some settled looked seen many = absurd (omega (arith, some, many))
 
 -- What waits.
 
@@ -141,34 +146,11 @@ all_listed size l items k law so_far many =
     let rest : unreaped l ≡ in_ring l ++ in_overflow l = ap (drop (length l.reaped)) law.in_order ∙ drop-append_seam l.reaped (in_ring l ++ in_overflow l) in
     ap (λ xs. l.reaped ++ xs) (so_far ∙ take_all k (unreaped l) (omega (arith, length-drop (length l.reaped) l.posted, many)) ∙ rest) ∙ sym law.in_order
 
--- Each result that is taken in posts at most one completion.
-one_end : (g : Setup) (w : World) (n : ℕ) (res : ℤ) (bytes : List ℕ)
-    → length (unreaped (with_end_of g w n res bytes)) ≤ length (unreaped w.completions) + 1
-one_end g w n res bytes = by_posts (posts g.linux w.requests n res) where
-  l : Completions
-  l = w.completions
-
-  c : Cqe
-  c = completion_for (entry_of w.requests n) res bytes
-
-  by_posts : (told : Bool) → length (unreaped (if told then with_posted g.cq l c else l)) ≤ length (unreaped l) + 1
-  by_posts told = grind (arith, length-drop, length-append)
-
-each_posts : (g : Setup) (events : List Event) (rs : List JobResult)
-    → length (unreaped (world g (history_of (events ++ map finish_of rs))).completions)
-    ≤ length (unreaped (world g (history_of events)).completions) + length rs
-each_posts g events [] = subst (λ es. length (unreaped (world g (history_of es)).completions) ≤ length (unreaped (world g (history_of events)).completions) + 0) (sym (append-nil events)) (omega arith)
-each_posts g events (r ∷ rs) =
-    let w : World = world g (history_of events) in
-    let one : length (unreaped (world g (history_of (events ++ finish_of r ∷ []))).completions) ≤ length (unreaped w.completions) + 1 =
-    subst (λ h. length (unreaped (world g h).completions) ≤ length (unreaped w.completions) + 1) (sym (history_of_snoc events (finish_of r))) (one_end g w r.number r.outcome.res r.outcome.bytes) in
-    subst (λ es. length (unreaped (world g (history_of es)).completions) ≤ length (unreaped w.completions) + length (r ∷ rs)) (append_assoc events (finish_of r ∷ []) (map finish_of rs))
-    (omega (arith, one, each_posts g (events ++ finish_of r ∷ []) rs))
-
 pub few_unreaped : (a b : Kept) (rs : List JobResult) (most : ℕ) → TakesAll a b rs
     → length b.trace ≤ length a.trace + most
     → length (unreaped (now b).completions) ≤ length (unreaped (now a).completions) + most
-few_unreaped a b rs most all few = grind (arith, length-append, map, length-map, each_posts)
+few_unreaped a b rs most all few =
+    grind (arith, (finishes_post a.setup rs (history a)).1, (longer_history a b (map finish_of rs) all.trace), length-append, length-map)
 
 -- a list after which others stand is taken whole
 pub take_whole : {X : Type 0} (n : ℕ) (xs others : List X) → length xs ≡ n
@@ -204,7 +186,7 @@ tells_ends app kernel same workers kept lanes unsent undelivered r t s is keeps 
     let goes_on : FinishesAll same.kept.trace lanes workers r = subst (λ (k : Kept). FinishesAll k.trace lanes workers r) keeps trace in
     let of : r.setup ≡ same.kept.setup = setup ∙ ap (λ (k : Kept). k.setup) keeps in
     let results : List JobResult = all_waiting lanes workers in
-    let posts : OnlyPosts (now same.kept) (left_by r) = grind (arith, finishes_post) in
+    let posts : OnlyPosts (now same.kept) (left_by r) = rw (of, goes_on, reverse-append) (finishes_post same.kept.setup results (history same.kept)).0 in
     let left : LeavesItems app.submitted same.pulled r.unsent = subst (LeavesItems app.submitted same.pulled) (sym rests.0) items in
     let size : app.sizes.sq ≡ same.kept.setup.sq = ap (λ (z : Sizes). z.sq) (sym (together_same app kernel same workers s t).sizes) ∙ is.sq in
     let tied = is.ties.tied in

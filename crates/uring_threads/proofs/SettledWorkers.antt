@@ -1,24 +1,21 @@
 -- Settling the workers: all results that wait at one are taken in, one after the other, and then those of the next, while the others' wait.
-use Rattle.std.proofs.Common.{◌≡◌, ℕ, ◌+◌, ◌<◌, ◌≤◌, List, [], ◌∷◌, ◌++◌, length, map, refl, sym, subst, ap, ◌∙◌, arith, append_assoc, append-nil, ap₂, ◌*◌, take, drop, get_or}
-use Rattle.uring_threads.proofs.Common.{AreDone, Done, Grows, HasCarried, HaveCarried, HaveSeenAll, History, IsLawfulApart, IsRight, IsSettled, IsSettledAt, IsWork, Job, JobResult, Kept, Looks, Setup, TakesAll, Wait, WorkLanes, Worker, all_waiting, done_by_worker, finish_of, get_or-set_other, get_or_default, history, history_of_cons, jobs_of, jobs_sent, jobs_to, length-append, length-map, length-set, length-take-le, map-append, nil_from_length, results_held, results_of, results_received, settled_work, slice_set, take_all, take_more, waiting_at, with_taken_in, works_of}
-use Rattle.uring_threads.proofs.Settling.{IsDrained, drain, none_waits, same_work}
+use Rattle.std.proofs.Common.{◌≡◌, ℕ, ◌+◌, ◌<◌, ◌≤◌, List, [], ◌∷◌, ◌++◌, length, map, refl, sym, subst, ap, ◌∙◌, arith, append_assoc, append-nil, ap₂, ◌*◌, take, get_or, zero, suc, add-one}
+use Rattle.uring_threads.proofs.Common.{AreDone, Done, Grows, HasCarried, HaveCarried, HaveSeenAll, History, IsLawfulApart, IsRight, IsSettled, IsSettledAt, IsWork, Job, JobResult, Kept, Looks, Setup, TakesAll, Wait, WorkLanes, Worker, all_waiting, finish_of, get_or-set_other, get_or_default, history, history_of_cons, jobs_of, jobs_sent, jobs_to, length-append, length-map, length-set, map-append, nil_from_length, results_held, results_of, results_received, settled_work, slice_set, take_all, waiting_at, with_taken_in, works_of}
+use Rattle.uring_threads.proofs.Settling.{drain, none_waits, same_work}
 use Rattle.uring_threads.proofs.TraceSteps.{longer_history}
 use Rattle.uring_workers.specs.Opened.{AreLanesOf}
 use Rattle.uring_workers.specs.Pairings.{pairing_of}
 use Rattle.uring_files.specs.Contents.{empty_files}
 use Rattle.uring_threads.proofs.SameLanes.{set_cases}
 use Rattle.uring_threads.proofs.Carrying.{others_carried}
+use Rattle.std.proofs.Math.Seq.{drop-append_seam}
 
 -- Results taken in one after the other.
 
 pub takes_then : (a b c : Kept) (first second : List JobResult) → TakesAll a b first
     → TakesAll b c second → TakesAll a c (first ++ second)
 takes_then a b c first second p q =
-    record {
-      trace = q.trace ∙ ap (λ es. es ++ map finish_of second) p.trace ∙ append_assoc a.trace (map finish_of first) (map finish_of second) ∙ ap (λ es. a.trace ++ es) (sym (map-append finish_of first second));
-      setup = q.setup ∙ p.setup;
-      room = omega (arith, p.room, q.room);
-    }
+    record { trace = simp (q.trace, p.trace, map-append, append_assoc); setup = q.setup ∙ p.setup; room = omega arith }
 
 -- The loop.
 
@@ -35,13 +32,8 @@ pub drains_none : (first : Kept) (seen before : List JobResult) → Wait first s
 drains_none first seen before left = grind (arith, append-nil)
 
 -- the next one
-abbrev pub OneMore : Kept → Kept → List JobResult → List JobResult → List JobResult → List JobResult
-    → Type 0
-OneMore a b known later received now =
-    (r : JobResult) × (known ≡ r ∷ later) × (now ≡ received ++ r ∷ []) × Grows a b (finish_of r)
-
 pub drains_one : (first a b : Kept) (seen known later before received now : List JobResult) (count : ℕ)
-    → Drains first a seen known before received count → OneMore a b known later received now
+    → Drains first a seen known before received count → (r : JobResult) × (known ≡ r ∷ later) × (now ≡ received ++ r ∷ []) × Grows a b (finish_of r)
     → Wait b later
     → Drains first b seen later before now (count + 1)
 drains_one first a b seen known later before received now count d (r, next, came, grows) left =
@@ -76,56 +68,27 @@ jobs_keep g workers k (r ∷ rs) h = ap (jobs_to g workers k) (history_of_cons (
 module _ (a b : Kept) (workers k : ℕ) (done : List Done) (untaken : List Job) (waiting : List JobResult) (lanes : WorkLanes)
     (lawful : IsLawfulApart a.setup (history a)) (carried : HasCarried a workers k lanes)
     (jobs : jobs_of done ++ untaken ≡ jobs_sent lanes) (results : results_received lanes ++ waiting ≡ results_of done) (all : TakesAll a b waiting) where
-  work : IsWork a.setup workers (history a) k (record { done = done; untaken = untaken; waiting = waiting })
-  work = record { jobs = jobs ∙ carried.jobs; results = ap (λ rs. rs ++ waiting) (sym carried.results) ∙ results }
-
-  one_drained : IsDrained a.setup workers (history a) (with_taken_in waiting (history a)) k (record { done = done; untaken = untaken; waiting = waiting })
-  one_drained = drain a.setup workers (history a) k done untaken waiting lawful work
-
-  later : history b ≡ with_taken_in waiting (history a)
-  later = longer_history a b (map finish_of waiting) all.trace
-
-  jobs_stay : (j : ℕ) → jobs_to b.setup workers j (history b) ≡ jobs_to a.setup workers j (history a)
-  jobs_stay j = ap₂ (λ g h. jobs_to g workers j h) all.setup later ∙ one_drained.sent j
-
-  settled : IsWork b.setup workers (history b) k (record { done = done; untaken = untaken; waiting = [] })
-  settled =
-      subst (λ h. IsWork b.setup workers h k (record { done = done; untaken = untaken; waiting = [] })) (sym later)
-      (subst (λ g. IsWork g workers (with_taken_in waiting (history a)) k (record { done = done; untaken = untaken; waiting = [] })) (sym all.setup) one_drained.own)
-
   pub settled_at : (now : WorkLanes) → jobs_sent now ≡ jobs_sent lanes
       → results_received now ≡ results_received lanes ++ waiting
       → IsSettledAt a b workers k now done untaken
   settled_at now same came =
+      let one = drain a.setup workers (history a) k done untaken waiting lawful (record { jobs = jobs ∙ carried.jobs; results = ap (λ rs. rs ++ waiting) (sym carried.results) ∙ results }) in
+      let later : history b ≡ with_taken_in waiting (history a) = longer_history a b (map finish_of waiting) all.trace in
       record {
-        work = settled;
-        carried = record { jobs = same ∙ carried.jobs ∙ sym (jobs_stay k); results = came ∙ results ∙ sym settled.results ∙ append-nil (results_of (done_by_worker b.setup workers k (history b))) };
-        others = record { jobs = jobs_stay; results = λ j other. ap₂ (λ g h. done_by_worker g workers j h) all.setup later ∙ one_drained.others j other };
+        work = rw (all.setup, later) one.own;
+        carried = record { jobs = rw (all.setup, later) (same ∙ carried.jobs ∙ sym (one.sent k)); results = rw (all.setup, later) (came ∙ results ∙ sym one.own.results ∙ append-nil _) };
+        others = record { jobs = λ j. rw (all.setup, later) (one.sent j); results = λ j other. rw (all.setup, later) (one.others j other) };
       }
-
--- what wasn't received waits
-waits_after : (before waiting all : List JobResult) → all ≡ before ++ waiting
-    → drop (length before) all ≡ waiting
-waits_after before waiting all same = ap (drop (length before)) same ∙ later before waiting where
-  later : (xs ys : List JobResult) → drop (length xs) (xs ++ ys) ≡ ys
-  later [] ys = refl
-  later (x ∷ xs) ys = later xs ys
-
-waiting_append : (ls ms : List WorkLanes) (ws vs : List Worker) → length ls ≡ length ws
-    → all_waiting (ls ++ ms) (ws ++ vs) ≡ all_waiting ls ws ++ all_waiting ms vs
-waiting_append [] ms [] vs same = refl
-waiting_append (l ∷ ls) ms (w ∷ ws) vs same = ap (λ rs. waiting_at l w ++ rs) (waiting_append ls ms ws vs (omega (arith, same))) ∙ sym (append_assoc (waiting_at l w) (all_waiting ls ws) (all_waiting ms vs))
-waiting_append _ ms _ vs same = absurd (omega (arith, same))
 
 -- one worker more
 waiting_more : (ls : List WorkLanes) (ws : List Worker) (d : WorkLanes) (e : Worker) (k : ℕ)
     → length ws ≡ length ls → k < length ls
-    → all_waiting (take (k + 1) ls) (take (k + 1) ws)
+    → all_waiting (take (suc k) ls) (take (suc k) ws)
     ≡ all_waiting (take k ls) (take k ws) ++ waiting_at (get_or ls k d) (get_or ws k e)
-waiting_more ls ws d e k many lt =
-    rw (take_more ls k d lt, take_more ws k e (omega (arith, many, lt)))
-    (waiting_append (take k ls) (get_or ls k d ∷ []) (take k ws) (get_or ws k e ∷ []) (length-take-le k ls (omega arith) ∙ sym (length-take-le k ws (omega (arith, many, lt))))
-    ∙ ap (λ rs. all_waiting (take k ls) (take k ws) ++ rs) (append-nil (waiting_at (get_or ls k d) (get_or ws k e))))
+waiting_more (l ∷ ls) (w ∷ ws) d e zero many lt = append-nil (waiting_at l w)
+waiting_more (l ∷ ls) (w ∷ ws) d e (suc k) many lt =
+    ap (λ rs. waiting_at l w ++ rs) (waiting_more ls ws d e k (omega arith) (omega arith)) ∙ sym (append_assoc (waiting_at l w) (all_waiting (take k ls) (take k ws)) _)
+waiting_more _ _ d e k many lt = absurd (omega arith)
 
 -- The loop: the first workers are settled.
 
@@ -184,8 +147,8 @@ module _ (a b c : Kept) (ls ms : List WorkLanes) (ws vs : List Worker) (count fi
 
   took : TakesAll a c (all_waiting (take (count + 1) ls) (take (count + 1) ws))
   took =
-      let waits : waiting_at (get_or ls count d) (get_or ws count e) ≡ one.trace.0 = grind (arith, waits_after) in
-      subst (TakesAll a c) (ap (λ rs. all_waiting (take count ls) (take count ws) ++ rs) (sym waits) ∙ sym (waiting_more ls ws d e count of.many lt))
+      let waits : waiting_at (get_or ls count d) (get_or ws count e) ≡ one.trace.0 = grind (arith, drop-append_seam) in
+      rw (add-one, waiting_more ls ws d e count of.many lt, waits)
       (takes_then a b c (all_waiting (take count ls) (take count ws)) one.trace.0 s.recorded one.trace.2)
 
   pub one_more : SoFar a c ls (slice_set ms count now) ws (slice_set vs count after) (count + 1)

@@ -1,6 +1,6 @@
 -- How often a test passes in a list, counted by the list's form: in two lists together, and with one more element.
-use Rattle.std.proofs.Common.{◌≡◌, ℕ, ◌+◌, ◌≤◌, List, [], ◌∷◌, ◌++◌, Bool, true, false, cond, count_by, Option, refl, arith, inl, inr}
-use Rattle.uring_threads.proofs.Common.{cases_Bool, cond-false, cond-true, list_any, or_cases, or_left, or_parts, or_right, sum_by-cons, with_told}
+use Rattle.std.proofs.Common.{◌≡◌, ℕ, ◌+◌, ◌≤◌, List, [], ◌∷◌, ◌++◌, Bool, true, false, cond, count_by, refl, arith, inl, inr}
+use Rattle.uring_threads.proofs.Common.{cases_Bool, cond-false, cond-true, list_any, or_cases, or_left, or_right, sum_by-cons}
 
 abbrev pub times : {X : Type 0} → (X → Bool) → List X → ℕ
 times p [] = 0
@@ -32,16 +32,3 @@ times_any p (x ∷ xs) some =
       | inl here ↦ or_left _ _ here
       | inr other ↦ let none = cond-false {A = ℕ} (p x) 1 0 other in or_right _ _ (times_any p xs (omega arith))
     ]
-
--- what is told comes after what was told
-pub times_told : {X : Type 0} (p : X → Bool) (xs : List X) (o : Option X)
-    → times p xs ≤ times p (with_told xs o)
-times_told p xs o = grind (arith, times_append)
-
--- none passes
-pub none_passes : {X : Type 0} (p : X → Bool) (xs : List X) → list_any p xs ≡ false → times p xs ≡ 0
-none_passes p [] e = refl
-none_passes p (x ∷ xs) e =
-    let parts = or_parts _ _ e in
-    let none = cond-false {A = ℕ} (p x) 1 0 parts.0 in
-    omega (arith, none_passes p xs parts.1)

@@ -1,6 +1,6 @@
 -- The parts of a turn put together: what went through the dispatcher's hands stays tied to its trace, and what they appended adds up.
-use Rattle.std.proofs.Common.{add-zero, zero-add, ◌≡◌, ℕ, List, refl, sym, subst, ap, ◌∙◌, arith, false, true}
-use Rattle.uring_threads.proofs.Common.{Appends, AreOfTurn, AreSameLanes, AreTies, ClosesOnce, Counts, Cqe, HasServed, HaveCarried, IfOk, IfOk-from_err, IfOk-weaker, Intake, IsDelivered, IsErr, IsKernel, IsOk, IsUnmoved, KeepsAllBut, Kept, Kernel, OnErr, OnlyPosts, Put, Records, RecordsIntake, RecordsTurn, Repeats, Requests, Result, TakesFewResults, TakesIn, Tally, Tied, Turn, Turns, WorkLanes, World, delivery_row, false≢true, finishes_counted, issues_counted, length, next_in, now, reaps_counted}
+use Rattle.std.proofs.Common.{add-zero, zero-add, ◌≡◌, ℕ, List, refl, sym, subst, ◌∙◌, arith, false, true}
+use Rattle.uring_threads.proofs.Common.{Appends, AreOfTurn, AreSameLanes, AreTies, ClosesOnce, Counts, Cqe, HasServed, HaveCarried, IfOk, IfOk-from_err, IfOk-weaker, Intake, IsDelivered, IsErr, IsKernel, IsOk, IsUnmoved, KeepsAllBut, Kept, Kernel, OnErr, OnlyPosts, Put, Records, RecordsIntake, RecordsTurn, Repeats, Result, TakesFewResults, TakesIn, Tally, Tied, Turn, Turns, WorkLanes, World, delivery_row, false≢true, finishes_counted, issues_counted, length, next_in, now, reaps_counted}
 use Rattle.uring_core.specs.declared.step.Step.TheVariants as step
 use Rattle.uring_threads.proofs.Carrying.{quiet_stays, carried_stays, next_is_none}
 use Rattle.uring_threads.proofs.Tying.{once_stays}
@@ -24,14 +24,6 @@ pub has_taken : (old : Kernel) (b : Kept) (pulled : Put) (reaped : List Cqe) (i 
     → HasTaken old b pulled reaped i n
 has_taken old b pulled reaped i n t p row tied once same none = grind (arith, (quiet_stays old.kept b _ p.appends refl refl))
 
--- what waits and what was pulled stay tied where the submission ring stays, and no request is accepted
-tied_stays : (a b : Kept) (pulled : Put) (i : Intake) → b.setup ≡ a.setup
-    → (now b).submission ≡ (now a).submission
-    → (now b).requests.accepted ≡ (now a).requests.accepted
-    → (now b).is_closed ≡ (now a).is_closed → Tied a.setup (now a) pulled i
-    → Tied b.setup (now b) pulled i
-tied_stays a b pulled i setup ring accepted closed t = grind arith
-
 -- results were taken in, or requests issued
 ties_posted : {a b : Kept} {pulled : Put} {reaped : List Cqe} {i : Intake} {lanes later : List WorkLanes} (t : Tally)
     → AreTies a pulled reaped i lanes → Appends a b t → t.closes ≡ 0 → OnlyPosts (now a) (now b)
@@ -54,7 +46,7 @@ ties_delivered : {a b : Kept} {pulled : Put} {before reaped : List Cqe} {i : Int
     → AreTies a pulled before i lanes → HasDelivered a b n reaped → AreTies b pulled reaped i lanes
 ties_delivered {a} {b} {pulled} {before} {reaped} {i} {lanes} s d =
     record {
-      tied = tied_stays a b pulled i d.tally.setup d.keeps.submission (ap (λ (r : Requests). r.accepted) d.keeps.requests) d.keeps.is_closed s.tied;
+      tied = grind arith;
       once = once_stays a b _ i d.tally refl s.once;
       delivered = d.delivered;
       carried = carried_stays a b lanes (quiet_stays a b _ d.tally refl refl) s.carried;

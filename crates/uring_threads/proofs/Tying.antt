@@ -1,6 +1,6 @@
 -- What ties the dispatcher's lists to its trace: what was pulled stays tied to the submission ring, and the trace has one Close once the close mark was pulled, and none before.
 use Rattle.std.proofs.Common.{◌≡◌, ℕ, ◌+◌, ◌<◌, ◌≤◌, true, false, List, [], ◌∷◌, ◌++◌, length, map, flat_map, refl, sym, subst, ap, ap₂, ◌∙◌, arith, append_assoc, append-nil, count_by, cond}
-use Rattle.uring_threads.proofs.Common.{All, Answer, Appends, ClosesOnce, Event, Grows, HasBegun, HaveMade, Intake, IsGivenUpAsSpent, IsItem, IsUnmoved, Item, Kept, None, Place, Published, Pulls, Put, Setup, Stands, Submission, TakesIn, Tally, Tied, World, all_published_as, awaits_memory, calls_of, close_answer, closes_ring, closing, flat_map-append, get_or_append_left, if◌then◌else◌, is_shut, is_some, is_spent, item_of, items_of_calls, items_published, length-append, length-map, map-append, now, published_as, sum_by-append, tail_publishes, with_close, with_items, with_items_published}
+use Rattle.uring_threads.proofs.Common.{All, Answer, Appends, ClosesOnce, Event, Grows, HasBegun, HaveMade, Intake, IsItem, IsUnmoved, Item, Kept, None, Place, Published, Pulls, Put, Setup, Stands, Submission, TakesIn, Tally, Tied, World, all_published_as, awaits_memory, calls_of, close_answer, closes_ring, closing, flat_map-append, get_or_append_left, if◌then◌else◌, is_shut, is_some, item_of, items_of_calls, items_published, length-append, length-map, map-append, now, published_as, sum_by-append, tail_publishes, with_close, with_items, with_items_published}
 use Rattle.uring_ports.specs.Ports.{with_call}
 use Rattle.uring_ports.specs.declared.pulled.Pulled.{Pulled}
 use Rattle.uring_threads.proofs.CallsMade.{items_keep_calls, none_left, published_left, calls_add_up, kept_after}
@@ -12,10 +12,6 @@ use Rattle.std.proofs.lemmas.List.Elements.{All-tail}
 use Rattle.uring_threads.specs.declared.intake.Intake.TheVariants as intake
 
 -- calls were begun that take what waited
-given_up : (w : World) (i : Intake) → ((count : ℕ) → i ≡ intake.Spent count → is_spent w count ≡ true)
-    → IsGivenUpAsSpent w i
-given_up w i spent = grind arith
-
 pub tied_begun : (a b : Kept) (put : Put) (count : ℕ) (x : Intake)
     → Tied a.setup (now a) put (intake.Waiting count) → HasBegun a b x
     → Tied a.setup (now b) put x
@@ -26,16 +22,10 @@ tied_begun a b put count x t h =
       published = λ good. ap (λ ps. map (λ (p : Place). item_of p.word p.entry) ps) (ap (λ (v : World). v.submission.published) h.have.world ∙ kept_after a.setup (λ (v : World). v.submission.published) (λ v n. refl) w m) ∙ t.published good;
       calls = grind (arith, calls_add_up, append_assoc);
       stands = h.have.stands;
-      spent = given_up (now b) x h.spent;
+      spent = grind arith;
       closed = ap (λ (v : World). v.is_closed) h.have.world ∙ kept_after a.setup (λ (v : World). v.is_closed) (λ v n. refl) w m ∙ t.closed;
       shut = h.not_shut ∙ t.shut;
     }
-
--- the items of calls with one more
-items_of_calls_snoc : (calls : List (List Item)) (items : List Item)
-    → items_of_calls (calls ++ items ∷ []) ≡ items_of_calls calls ++ items
-items_of_calls_snoc [] items = append-nil items
-items_of_calls_snoc (call ∷ later) items = ap (λ xs. call ++ xs) (items_of_calls_snoc later items) ∙ sym (append_assoc call (items_of_calls later) items)
 
 -- what holds of all of two lists holds of all of each
 pub all_first : {X : Type 0} (P : X → Type 0) (xs ys : List X) → All P (xs ++ ys) → All P xs
@@ -54,7 +44,7 @@ tied_published g w put items t not_closed few =
     let shown : List Published = all_published_as items in
     let put_stands = items_stand l 0 shown (record { fresh = refl; call = t.stands.call; head = t.stands.head; waiting = t.stands.waiting }) in
     let many : length (with_items l 0 shown).fresh ≡ length items = omega (arith, put_stands.1, ap length t.stands.fresh, length-map items published_as) in
-    let whole : all_published_as (items_of_calls (put.calls ++ items ∷ [])) ≡ all_published_as (items_of_calls put.calls) ++ shown = ap all_published_as (items_of_calls_snoc put.calls items) ∙ map-append published_as (items_of_calls put.calls) items in
+    let whole : all_published_as (items_of_calls (put.calls ++ items ∷ [])) ≡ all_published_as (items_of_calls put.calls) ++ shown = simp (flat_map-append, map-append, append-nil) in
     let before_is : l.calls ≡ flat_map (calls_of g) put.calls = sym (append-nil l.calls) ∙ ap (λ ns. l.calls ++ ns) (sym (none_left g l t.stands)) ∙ t.calls in
     record {
       published = λ good.
