@@ -95,10 +95,9 @@ carried_run a b n place op old new issued carried at low many was_sent others = 
 -- Results of a worker were taken in.
 
 -- what was carried of another's stays
-pub others_carried : (a b : Kept) (workers place k : ℕ) (lanes : WorkLanes)
-    → OthersStay a b workers place → k ≢ place → HasCarried a workers k lanes
-    → HasCarried b workers k lanes
-others_carried a b workers place k lanes stay other has = grind arith
+pub others_carried : {a b : Kept} {workers place k : ℕ} {lanes : WorkLanes} → HasCarried a workers k lanes
+    → OthersStay a b workers place → k ≢ place → HasCarried b workers k lanes
+others_carried has stay other = grind arith
 
 -- with these lanes in their place
 pub carried_set : (a b : Kept) (n place : ℕ) (old : List WorkLanes) (y d : WorkLanes)
@@ -110,7 +109,7 @@ carried_set a b n place old y d carried low p jobs taken = λ k e within.
     subst (λ m. HasCarried b m k (get_or (set old place y) k e)) (sym long)
     (set_cases (HasCarried b (length old)) old place y k e low
     (record { jobs = ap (λ q. jobs_sent (record y { jobs = q })) jobs ∙ (carried place d low).jobs ∙ sym (p.others.jobs place); results = taken })
-    (λ other. others_carried a b (length old) place k (get_or old k e) p.others other (carried k e (omega (arith, within, long)))))
+    (λ other. others_carried (carried k e (omega (arith, within, long))) p.others other))
 
 -- each request that starts sends a job
 told_length : (g : Setup) (e : Event) (h : History)

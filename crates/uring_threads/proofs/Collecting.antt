@@ -1,6 +1,6 @@
 -- What is sent and taken in, as a result is taken in: the operation is the last of its worker's, and all else stays; and how many results of each worker a turn takes in.
-use Rattle.std.proofs.Common.{◌≡◌, ℕ, ◌+◌, ◌<◌, arith, Bool, true, false, List, [], ◌∷◌, ◌++◌, length, refl, sym, subst, ap, ap₂, ◌∙◌, inl, inr, ◌*◌, ◌≤◌, get_or}
-use Rattle.uring_threads.proofs.Common.{Answer, Appends, AreSameLanes, AreTakenIn, CanBeTaken, Collects, CollectsNext, CollectsSeen, Done, Grows, HaveCarried, IsLawfulApart, IsTakenIn, IsUnmoved, JobResult, Kept, NextStays, NoneComes, OnErr, OnlyPosts, OnlyReceives, Repeats, Result, Setup, TakesFewResults, TakesSeen, Tally, Wait, WorkLanes, World, cases_lt, done_by_worker, done_in, entry_of, finish_of, finishes_counted, history, is_running, length_push, map-append, most_results, now, operation_of, place_of, results_of, results_received, results_seen, results_taken_in, set, with_ended}
+use Rattle.std.proofs.Common.{◌≡◌, ℕ, ◌+◌, ◌<◌, arith, Bool, true, false, List, [], ◌∷◌, ◌++◌, length, refl, sym, subst, ap, ◌∙◌, inl, inr, ◌*◌, ◌≤◌, get_or, add-zero}
+use Rattle.uring_threads.proofs.Common.{Answer, AreSameLanes, AreTakenIn, CanBeTaken, Collects, CollectsNext, CollectsSeen, Done, Grows, HaveCarried, IsLawfulApart, IsTakenIn, IsUnmoved, JobResult, Kept, NextStays, NoneComes, OnErr, OnlyPosts, OnlyReceives, Repeats, Result, TakesFewResults, TakesSeen, Wait, WorkLanes, cases_lt, done_by_worker, done_in, entry_of, finish_of, finishes_counted, history, is_running, length_push, map-append, most_results, now, operation_of, place_of, results_of, results_received, results_seen, results_taken_in, set}
 use mathlib.Core.List.{IsPrefix}
 use Rattle.uring_entry.proofs.RequestLemmas.{is_running_ended_same, is_running_ended_other}
 use Rattle.uring_core.specs.Core.{IsFinished}
@@ -11,7 +11,7 @@ use Rattle.uring_threads.proofs.Recording.{records_one}
 use Rattle.uring_threads.proofs.Repeating.{repeats_none, repeats_then}
 use Rattle.uring_threads.proofs.Settling.{results_run}
 use Rattle.uring_threads.proofs.TraceSteps.{grown, grown_history, appends_one, unmoved_is}
-use Rattle.uring_threads.proofs.Carrying.{carried_set, done_stays}
+use Rattle.uring_threads.proofs.Carrying.{carried_set}
 use Rattle.uring_threads.proofs.SameLanes.{lanes_then, lanes_set, set_cases}
 use Rattle.uring_threads.proofs.Posting.{posts_only}
 
@@ -37,15 +37,9 @@ none_stays kept workers place seen none = grind arith
 end_comes : (a b : Kept) (workers : ℕ) (r : JobResult) → Grows a b (finish_of r)
     → NoneComes a b workers
 end_comes a b workers r grows = λ k number can.
-    let n = r.number in
-    let res = r.outcome.res in
-    let bytes = r.outcome.bytes in
-    let ended = grown a b (step.Finish n) (answer.Ended res bytes) grows in
-    let runs : is_running (with_ended (now a).requests n res bytes) number ≡ true = subst (λ (w : World). is_running w.requests number ≡ true) ended can.runs in
-    record {
-      runs = grind (arith, is_running_ended_same, is_running_ended_other);
-      own = sym (ap₂ (λ (g : Setup) (w : World). place_of workers g.files (operation_of (entry_of w.requests number))) grows.setup ended) ∙ can.own;
-    }
+    let ended = grown a b (step.Finish r.number) (answer.Ended r.outcome.res r.outcome.bytes) grows in
+    let runs = rw ended at can.runs in
+    record { runs = grind (arith, is_running_ended_same, is_running_ended_other); own = rw (ended, grows.setup) at can.own }
 
 -- none, and one more
 pub collects_none : (workers place : ℕ) {a b : Kept} → IsUnmoved a b → Collects a b workers place 0
@@ -95,14 +89,14 @@ collects_then {a} {b} {c} {workers} {place} {n} {m} p q = record {
 pub collects_more : {a b c : Kept} {workers place n : ℕ} (seen : List JobResult) (more : Bool)
     → more ≡ true → Collects a b workers place n → CollectsNext b c workers place seen more
     → Collects a c workers place (n + 1)
-collects_more seen true e p q = collects_then p q
-collects_more seen false e p q = absurd cc
+collects_more seen more e p q = collects_then p (rw e at q)
 
 pub collects_no_more : {a b c : Kept} {workers place n : ℕ} (seen : List JobResult) (more : Bool)
     → more ≡ false → n < 64 → Collects a b workers place n
     → CollectsNext b c workers place seen more → CollectsSeen a c workers place n seen
-collects_no_more {a} {b} {c} {workers} {place} {n} seen false e few p q = grind (arith, (collects_then p q.0))
-collects_no_more seen true e few p q = absurd cc
+collects_no_more seen more e few p q =
+    let next = rw e at q in
+    record { collected = rw add-zero at (collects_then p next.0); most = omega arith; rest = λ less. next.1 }
 
 -- what holds anyway holds of an error
 pub on_err : {X E P : Type 0} (result : Result X E) → P → OnErr result P
@@ -121,11 +115,6 @@ pub next_waits : (a b : Kept) (r : JobResult) (later : List JobResult)
     → IsLawfulApart a.setup (history a) → Wait a (r ∷ later) → Grows a b (finish_of r)
     → Wait b later
 next_waits a b r later lawful w grows = grind (arith, (grown_history a b (finish_of r) grows), (first_waits a r later lawful w))
-
--- by events none of which takes a result in
-none_taken_in : (a b : Kept) (t : Tally) → Appends a b t → t.finishes ≡ 0 → (workers k : ℕ)
-    → results_taken_in workers k b ≡ results_taken_in workers k a
-none_taken_in a b t p none workers k = ap length (done_stays a b t p none workers k)
 
 -- Results of the workers before this place were taken in, few of each, and of the others none.
 pub record CollectsBefore (first : List WorkLanes) (a : Kept) (place count : ℕ) (b : Kept) (lanes : List WorkLanes) : Type 0 where
@@ -198,12 +187,3 @@ seen_at {first} {a} {place} {count} {n} {b} {c} {lanes} y p within q seen = λ k
 pub seen_in_all : {first lanes : List WorkLanes} {place : ℕ} (a b : Kept) → AreSameLanes first lanes
     → place ≡ length first → SeenBefore (length first) place a b lanes → TakesSeen a b lanes
 seen_in_all {first} {lanes} a b same end seen = grind arith
-
--- and by a turn, no other part of which takes any in
-pub few_between : (workers : ℕ) (a b c d : Kept) (t u : Tally) → Appends a b t → t.finishes ≡ 0
-    → TakesFewResults workers b c → Appends c d u → u.finishes ≡ 0 → TakesFewResults workers a d
-few_between workers a b c d t u p none few q no_more = λ k.
-    let before = none_taken_in a b t p none workers k in
-    let some = few k in
-    let after = none_taken_in c d u q no_more workers k in
-    omega (arith, before, some, after)

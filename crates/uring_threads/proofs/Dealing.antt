@@ -1,5 +1,5 @@
 -- The laws of `workers_join`: work is dealt out by files, and joined by the laws of uring_laws on places.
-use Rattle.std.proofs.Common.{◌≡◌, ℕ, ◌<◌, ℤ, true, sym, ◌∙◌, arith}
+use Rattle.std.proofs.Common.{◌≡◌, ℕ, ℤ, true, sym, ◌∙◌, arith}
 use Rattle.uring_threads.proofs.Common.{DealtByFile, FilesByWorker, IsDealtByFile, Op, Setup, WorkersJoin, place_of, place_of_file}
 use Rattle.uring_files.specs.Laws.{is_on}
 use Rattle.uring_laws.proofs.FileLaws.{places_join, files_by_place}
@@ -8,11 +8,6 @@ use Rattle.uring_laws.proofs.FileLaws.{places_join, files_by_place}
 on_place : (workers files : ℕ) (fd : ℤ) (op : Op) → is_on fd op ≡ true
     → place_of workers files op ≡ place_of_file workers files fd
 on_place workers files fd op on = grind arith
-
--- one of the workers
-pub file_within : (workers files : ℕ) (fd : ℤ) → 0 < workers
-    → place_of_file workers files fd < workers
-file_within workers files fd some = grind arith
 
 pub dealt_by_file : DealtByFile
 dealt_by_file workers files some =

@@ -1,18 +1,18 @@
 -- What a lawful history tells of jobs and of operations: each is that of a request's entry, and of each request as many jobs were sent as operations were carried out, and one more while it runs.
 -- And of what is left at a place: of the jobs sent to it, those after the operations that were carried out are of the requests that run.
 -- By `Moves` and induction over the history, and by counting how often a number stands among what was sent and carried out.
-use Rattle.std.proofs.Common.{◌≡◌, ℕ, ◌<◌, ◌==◌, ℤ, List, [], ◌∷◌, ◌++◌, length, Bool, true, false, cond, None, refl, ◌∙◌, ap, arith, ◌≢◌, ◌+◌, append-nil}
-use Rattle.uring_threads.proofs.Common.{AllByRecursion, Answer, CalledForApart, Done, History, IsLawfulApart, Job, Op, Requests, Setup, Sqe, Step, World, and_parts, done_at, done_by, done_in, eq-eqb, eqb-true, filter, is_outstanding, is_running, issue_answer, job_by, job_of, jobs_at, jobs_in, jobs_of, length-append, list_any, operation_of, requests_of, slice_index_or, with_call, with_ended, with_issued_end, with_told, world, zero_entry}
+use Rattle.std.proofs.Common.{◌≡◌, ℕ, ◌<◌, ◌==◌, ℤ, List, [], ◌∷◌, ◌++◌, length, Bool, true, false, cond, None, refl, ◌∙◌, ap, arith, ◌≢◌, ◌+◌, append-nil, count_by}
+use Rattle.uring_threads.proofs.Common.{AllByRecursion, Answer, CalledForApart, Done, History, IsLawfulApart, Job, Op, Requests, Setup, Sqe, Step, World, and_parts, done_at, done_by, done_in, eq-eqb, eqb-true, filter, is_outstanding, is_running, issue_answer, job_by, job_in, job_of, jobs_at, jobs_in, jobs_of, length-append, list_any, operation_of, requests_of, slice_index_or, sum_by-append, sum_by-cons, sum_by_push, with_call, with_ended, with_issued_end, with_told, world, zero_entry}
 use Rattle.std.proofs.ByRecursion.{All-push, All-weaker}
 use Rattle.uring_entry.specs.Requests.{with_started}
 use Rattle.uring_core.specs.Events.{end_told_by}
 use Rattle.uring_core.specs.declared.answer.Answer.TheVariants as answer
-use Rattle.uring_core.proofs.Moves.{Move, stays, accepts, starts, ends_doomed, ends_cancel, ends_run, move_of}
+use Rattle.uring_core.proofs.Moves.{Move, stays, accepts, starts, ends_run, move_of}
 use Rattle.uring_core.proofs.Running.{entry_stays}
 use Rattle.uring_core.proofs.Sound.{sound_of}
 use Rattle.uring_core.proofs.SoundRequests.{IsSoundRequests, outstanding_tells}
 use Rattle.uring_entry.proofs.RequestLemmas.{is_running_ended_same, is_running_ended_other, is_running_started_same, is_running_started_other}
-use Rattle.uring_threads.proofs.Times.{times, times_append, times_some, times_any}
+use Rattle.uring_core.proofs.ListCounts.{count_none, count_some}
 use Rattle.std.proofs.lemmas.List.Elements.{filter-append}
 
 -- the operation of a request, where these entries were accepted
@@ -27,8 +27,8 @@ IsOf accepted j = (j.number < length accepted) × (j.op ≡ op_at accepted j.num
 pub record Accounts (r : Requests) (jobs : List Job) (done : List Done) : Type 0 where
   pub sent : AllByRecursion (IsOf r.accepted) jobs
   pub carried : AllByRecursion (λ d. IsOf r.accepted (job_of d)) done
-  pub counts : (n : ℕ) → times (λ j. j.number == n) jobs
-      ≡ times (λ d. d.number == n) done + cond (is_running r n) 1 0
+  pub counts : (n : ℕ) → count_by (λ j. j.number == n) jobs
+      ≡ count_by (λ d. d.number == n) done + cond (is_running r n) 1 0
 
 -- as more entries are accepted
 of_call : (r : Requests) (entries : List Sqe) (j : Job) → IsOf r.accepted j → IsOf (with_call r entries).accepted j
@@ -45,9 +45,8 @@ end_counts r m n res bytes running = grind (arith, is_running_ended_same, is_run
 
 -- what ends as it is issued doesn't run
 not_running : (g : Setup) (w : World) (n : ℕ) (res : ℤ) (bytes : List ℕ)
-    → answer.Ended res bytes ≡ issue_answer g w n → is_outstanding w.requests n ≡ true
-    → is_running w.requests n ≡ false
-not_running g w n res bytes called outstanding = grind arith
+    → answer.Ended res bytes ≡ issue_answer g w n → is_running w.requests n ≡ false
+not_running g w n res bytes called = grind arith
 
 -- what tells no end carries no operation out
 silent_none : (w : World) (s : Step) (a : Answer) → end_told_by (s, a) ≡ None
@@ -82,18 +81,16 @@ accounts_then g w q s a jobs done (starts m outstanding idle spared ready no_can
     record {
       sent = All-push (IsOf w.requests.accepted) jobs _ all.sent ((outstanding_tells w.requests m outstanding).0, refl);
       carried = all.carried;
-      counts = λ n. times_append (λ (j : Job). j.number == n) jobs _ ∙ omega (arith, all.counts n, start_counts w.requests m n outstanding idle);
+      counts = λ n. omega (arith, all.counts n, start_counts w.requests m n outstanding idle, sum_by_push (λ (j : Job). cond (j.number == n) 1 0) jobs (job_in w.requests m));
     }
 accounts_then g w q s a jobs done (ends_run m res bytes running) called i all =
     record {
       sent = all.sent;
       carried = All-push (λ d. IsOf w.requests.accepted (job_of d)) done _ all.carried (i.started_accepted m (and_parts _ _ running).0, refl);
-      counts = λ n. grind (arith, times_append, all.counts n, end_counts);
+      counts = λ n. omega (arith, all.counts n, end_counts w.requests m n res bytes running, sum_by_push (λ (d : Done). cond (d.number == n) 1 0) done (record { number = m; op = op_at w.requests.accepted m; outcome = record { res = res; bytes = bytes } }));
     }
-accounts_then g w q s a jobs done (ends_doomed m outstanding) called i all =
-    issued_accounts g.linux w.requests m _ jobs done (not_running g w m _ _ called outstanding) all
-accounts_then g w q s a jobs done (ends_cancel m outstanding spared ready cancel) called i all =
-    issued_accounts g.linux w.requests m _ jobs done (not_running g w m _ _ called outstanding) all
+accounts_then g w q s a jobs done _ called i all =
+    issued_accounts g.linux w.requests _ _ jobs done (not_running g w _ _ _ called) all
 
 pub accounts : (g : Setup) (h : History) → IsLawfulApart g h
     → Accounts (world g h).requests (jobs_in g h) (done_in g h)
@@ -104,24 +101,26 @@ accounts g ((s, a) ∷ h) lawful = accounts_then g (world g h) _ s a (jobs_in g 
 
 -- what passes a test is kept, or not, as one element more is
 one_kept : {X : Type 0} (p : X → Bool) (x : X) (xs kept : List X) (here there : Bool) → (p x ≡ true → here ≡ there)
-    → times p kept ≡ cond there (times p xs) 0
-    → times p (cond here (x ∷ kept) kept) ≡ cond there (times p (x ∷ xs)) 0
-one_kept p x xs kept here there same rest = grind arith
+    → count_by p kept ≡ cond there (count_by p xs) 0
+    → count_by p (cond here (x ∷ kept) kept) ≡ cond there (count_by p (x ∷ xs)) 0
+one_kept p x xs kept here there same rest =
+    grind (arith, (sum_by-cons (λ y. cond (p y) 1 0) x xs), (sum_by-cons (λ y. cond (p y) 1 0) x kept))
 
 -- what is of a request is all at its place
 at_place : {X : Type 0} (job : X → Job) (place : Op → ℕ) (k n : ℕ) (accepted : List Sqe) (xs : List X)
     → AllByRecursion (λ x. IsOf accepted (job x)) xs
-    → times (λ x. (job x).number == n) (filter (λ x. place (job x).op == k) xs)
-    ≡ cond (place (op_at accepted n) == k) (times (λ x. (job x).number == n) xs) 0
+    → count_by (λ x. (job x).number == n) (filter (λ x. place (job x).op == k) xs)
+    ≡ cond (place (op_at accepted n) == k) (count_by (λ x. (job x).number == n) xs) 0
 at_place job place k n accepted [] all = grind arith
 at_place job place k n accepted (x ∷ xs) all =
     one_kept (λ y. (job y).number == n) x xs _ _ _ (λ same. ap (λ op. place op == k) (all.0.1 ∙ ap (op_at accepted) (eqb-true _ _ same))) (at_place job place k n accepted xs all.1)
 
 -- jobs have the numbers of their operations
 jobs_times : (n : ℕ) (ds : List Done)
-    → times (λ j. j.number == n) (jobs_of ds) ≡ times (λ d. d.number == n) ds
+    → count_by (λ j. j.number == n) (jobs_of ds) ≡ count_by (λ d. d.number == n) ds
 jobs_times n [] = refl
-jobs_times n (d ∷ ds) = omega (arith, jobs_times n ds)
+jobs_times n (d ∷ ds) =
+    omega (arith, jobs_times n ds, sum_by-cons (λ (j : Job). cond (j.number == n) 1 0) (job_of d) (jobs_of ds), sum_by-cons (λ (d : Done). cond (d.number == n) 1 0) d ds)
 
 -- What is left.
 
@@ -132,22 +131,24 @@ left_count own runs jobs done sent carried later s c counts all = grind arith
 
 module _ (g : Setup) (h : History) (lawful : IsLawfulApart g h) (place : Op → ℕ) (k : ℕ) (later : List Job) (all : jobs_at place k (jobs_in g h) ≡ jobs_of (done_at place k (done_in g h)) ++ later) where
   -- a job for each request of the place that runs
-  left_times : (n : ℕ) → times (λ j. j.number == n) later ≡ cond (place (op_at (world g h).requests.accepted n) == k) (cond (is_running (world g h).requests n) 1 0) 0
+  left_times : (n : ℕ) → count_by (λ j. j.number == n) later ≡ cond (place (op_at (world g h).requests.accepted n) == k) (cond (is_running (world g h).requests n) 1 0) 0
   left_times n =
       let a = accounts g h lawful in
       let sent = at_place (λ j. j) place k n (world g h).requests.accepted (jobs_in g h) a.sent in
       let carried = at_place job_of place k n (world g h).requests.accepted (done_in g h) a.carried in
-      left_count _ _ _ _ _ _ _ sent carried (a.counts n) (ap (times (λ j. j.number == n)) all ∙ times_append _ _ later ∙ ap (λ m. m + times (λ j. j.number == n) later) (jobs_times n _))
+      let ds : List Done = done_at place k (done_in g h) in
+      left_count _ _ _ _ _ _ _ sent carried (a.counts n)
+      (ap (count_by (λ j. j.number == n)) all ∙ omega (arith, sum_by-append (λ (j : Job). cond (j.number == n) 1 0) (jobs_of ds) later, jobs_times n ds))
 
   -- what is left is the place's own, and runs
   pub left_runs : (n : ℕ) → list_any (λ j. j.number == n) later ≡ true
       → (place (op_at (world g h).requests.accepted n) ≡ k) × (is_running (world g h).requests n ≡ true)
-  left_runs n some = grind (arith, (left_times n), (times_some (λ j. j.number == n) later some), eqb-true)
+  left_runs n some = grind (arith, (left_times n), (count_some (λ (j : Job). j.number == n) later some), eqb-true)
 
   -- what runs and is the place's own is left
   pub runs_left : (n : ℕ) → place (op_at (world g h).requests.accepted n) ≡ k
       → is_running (world g h).requests n ≡ true → list_any (λ j. j.number == n) later ≡ true
-  runs_left n own running = grind (arith, left_times, times_any, eq-eqb)
+  runs_left n own running = grind (arith, (left_times n), (count_none (λ (j : Job). j.number == n) later), eq-eqb)
 
 -- What is of a place, with one element more: of that place, or of another.
 

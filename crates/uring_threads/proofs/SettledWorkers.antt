@@ -1,7 +1,7 @@
 -- Settling the workers: all results that wait at one are taken in, one after the other, and then those of the next, while the others' wait.
 use Rattle.std.proofs.Common.{◌≡◌, ℕ, ◌+◌, ◌<◌, ◌≤◌, List, [], ◌∷◌, ◌++◌, length, map, refl, sym, subst, ap, ◌∙◌, arith, append_assoc, append-nil, ap₂, ◌*◌, take, get_or, zero, suc, add-one}
 use Rattle.uring_threads.proofs.Common.{AreDone, Done, Grows, HasCarried, HaveCarried, HaveSeenAll, History, IsLawfulApart, IsRight, IsSettled, IsSettledAt, IsWork, Job, JobResult, Kept, Looks, Setup, TakesAll, Wait, WorkLanes, Worker, all_waiting, finish_of, get_or-set_other, get_or_default, history, history_of_cons, jobs_of, jobs_sent, jobs_to, length-append, length-map, length-set, map-append, nil_from_length, results_held, results_of, results_received, settled_work, slice_set, take_all, waiting_at, with_taken_in, works_of}
-use Rattle.uring_threads.proofs.Settling.{drain, none_waits, same_work}
+use Rattle.uring_threads.proofs.Settling.{drain, none_waits}
 use Rattle.uring_threads.proofs.TraceSteps.{longer_history}
 use Rattle.uring_workers.specs.Opened.{AreLanesOf}
 use Rattle.uring_workers.specs.Pairings.{pairing_of}
@@ -134,35 +134,24 @@ pub record SettlesOne (b c : Kept) (m now : WorkLanes) (v after : Worker) : Type
 
 module _ (a b c : Kept) (ls ms : List WorkLanes) (ws vs : List Worker) (count files : ℕ) (d : WorkLanes) (e : Worker) (now : WorkLanes) (after : Worker)
     (s : SoFar a b ls ms ws vs count) (lt : count < length ls) (of : AreLanesOf files ls ws) (one : SettlesOne b c (get_or ms count d) now (get_or vs count e) after) where
-  at_count : IsSettledAt b c (length ls) count now (get_or vs count e).done after.seen
-  at_count = one.settled (length ls) count (s.carried count d lt)
-
-  worker_there : count < length vs
-  worker_there = omega (arith, s.many_workers, of.many, lt)
-
-  looks_here : (f : Worker) → Looks (get_or ws count f) after
-  looks_here f =
-      let v : get_or vs count e ≡ get_or ws count f = s.workers_stay count e (omega arith) ∙ get_or_default ws count e f (omega (arith, of.many, lt)) in
-      subst (λ w. Looks w after) v one.looks
-
-  took : TakesAll a c (all_waiting (take (count + 1) ls) (take (count + 1) ws))
-  took =
-      let waits : waiting_at (get_or ls count d) (get_or ws count e) ≡ one.trace.0 = grind (arith, drop-append_seam) in
-      rw (add-one, waiting_more ls ws d e count of.many lt, waits)
-      (takes_then a b c (all_waiting (take count ls) (take count ws)) one.trace.0 s.recorded one.trace.2)
-
   pub one_more : SoFar a c ls (slice_set ms count now) ws (slice_set vs count after) (count + 1)
   one_more =
+      let at_count = one.settled (length ls) count (s.carried count d lt) in
+      let there : count < length vs = omega (arith, s.many_workers, of.many, lt) in
+      let was : (f : Worker) → get_or vs count e ≡ get_or ws count f = λ f. s.workers_stay count e (omega arith) ∙ get_or_default ws count e f (omega (arith, of.many, lt)) in
+      let waits : waiting_at (get_or ls count d) (get_or ws count e) ≡ one.trace.0 = grind (arith, drop-append_seam) in
       record {
         many = length-set ms count now ∙ s.many;
         many_workers = length-set vs count after ∙ s.many_workers;
         lanes_stay = λ k f from. get_or-set_other ms count k now f (λ same. omega (arith, same, from)) ∙ s.lanes_stay k f (omega (arith, from));
         workers_stay = λ k f from. get_or-set_other vs count k after f (λ same. omega (arith, same, from)) ∙ s.workers_stay k f (omega (arith, from));
-        looked = λ k f. set_cases (λ j w. Looks (get_or ws j f) w) vs count after k f worker_there (looks_here f) (λ other. s.looked k f);
-        carried = λ k f within. set_cases (HasCarried c (length ls)) ms count now k f (omega (arith, s.many, lt)) at_count.carried (λ other. others_carried b c (length ls) count k (get_or ms k f) at_count.others other (s.carried k f within));
-        settled = λ k f below. set_cases (λ j w. IsWork c.setup (length ls) (history c) j (settled_work w)) vs count after k f worker_there (subst (λ ds. IsWork c.setup (length ls) (history c) count (record { done = ds; untaken = after.seen; waiting = [] })) (sym (ap (λ w. w.done) one.looks.same)) at_count.work) (λ other. same_work b.setup c.setup (length ls) (history b) (history c) k (settled_work (get_or vs k f)) (at_count.others.jobs k) (at_count.others.results k other) (s.settled k f (omega (arith, other, below))));
-        right = λ k f below. set_cases (λ _ w. IsRight w) vs count after k f worker_there one.right (λ other. s.right k f (omega (arith, other, below)));
-        recorded = took;
+        looked = λ k f. set_cases (λ j w. Looks (get_or ws j f) w) vs count after k f there (rw (was f) at one.looks) (λ other. s.looked k f);
+        carried = λ k f within. set_cases (HasCarried c (length ls)) ms count now k f (omega (arith, s.many, lt)) at_count.carried (λ other. others_carried (s.carried k f within) at_count.others other);
+        settled = λ k f below. set_cases (λ j w. IsWork c.setup (length ls) (history c) j (settled_work w)) vs count after k f there (subst (λ ds. IsWork c.setup (length ls) (history c) count (record { done = ds; untaken = after.seen; waiting = [] })) (sym (ap (λ w. w.done) one.looks.same)) at_count.work) (λ other.
+            let w = s.settled k f (omega (arith, other, below)) in
+            record { jobs = w.jobs ∙ sym (at_count.others.jobs k); results = rw (at_count.others.results k other) w.results });
+        right = λ k f below. set_cases (λ _ w. IsRight w) vs count after k f there one.right (λ other. s.right k f (omega (arith, other, below)));
+        recorded = rw (add-one, waiting_more ls ws d e count of.many lt, waits) (takes_then a b c (all_waiting (take count ls) (take count ws)) one.trace.0 s.recorded one.trace.2);
         few = omega (arith, s.few, one.few, next_short a b ls ms ws vs count files d e s lt of);
       }
 

@@ -3,7 +3,7 @@
 use Rattle.std.proofs.Common.{◌≡◌, ◌≢◌, ℕ, zero, suc, ◌+◌, ◌<◌, ◌≤◌, ◌==◌, List, [], ◌∷◌, ◌++◌, map, drop, true, refl, sym, subst, ◌∙◌, ap, arith, inl, inr, append_assoc, append-nil}
 use Rattle.uring_threads.proofs.Common.{AllByRecursion, AreDone, Done, FinishesApart, History, IsDealtByFile, IsLawfulApart, IsWork, Job, JobResult, NoneWaits, Op, ResultsRun, Settles, Setup, Sqe, Work, cases_eq, done_by_worker, done_in, entry_of, eq-eqb, file_of, files_left, finish_of, first_files, history_of_append, history_of_cons, job_of, jobs_in, jobs_of, jobs_to, length, length-map, list_any, map-append, nil_from_length, operation_of, or_left, place_of, place_of_file, result_of, results_of, waiting_of, with_taken_in, world}
 use Rattle.uring_core.specs.declared.answer.Answer.TheVariants as answer
-use Rattle.uring_threads.proofs.Dealing.{dealt_by_file, workers_join, files_by_worker, file_within}
+use Rattle.uring_threads.proofs.Dealing.{dealt_by_file, workers_join, files_by_worker}
 use Rattle.uring_threads.proofs.Sent.{IsOf, accounts, left_runs, runs_left, one_more_at, none_more_at}
 use Rattle.std.proofs.ByRecursion.{all_kept_by}
 
@@ -81,7 +81,8 @@ none_waits g workers h works some lawful are done none =
       lawful = workers_join g workers h some lawful (λ k lt. subst (AreDone (first_files g)) (sym (came k lt).0) (done k lt));
       files = λ fd.
           let k : ℕ = place_of_file workers g.files fd in
-          files_by_worker g workers h fd lawful ∙ ap (λ ds. file_of (files_left (first_files g) ds) fd) (came k (file_within workers g.files fd some)).0;
+          let lt : k < workers = grind arith in
+          files_by_worker g workers h fd lawful ∙ ap (λ ds. file_of (files_left (first_files g) ds) fd) (came k lt).0;
       running = λ n. (
         (λ running.
             let op : Op = operation_of (entry_of (world g h).requests n) in
@@ -111,12 +112,10 @@ drain g workers h k done untaken (r ∷ later) lawful is =
     let rest = drain g workers (finish_of r ∷ h) k done untaken later next one.later in
     rw (history_of_cons (finish_of r) (map finish_of later) h) (record { lawful = rest.lawful; own = rest.own; sent = λ j. rest.sent j ∙ one.sent j; others = λ j unlike. rest.others j unlike ∙ one.others j unlike })
 
--- the work of a worker of which nothing was taken in
-pub same_work : (g f : Setup) (workers : ℕ) (h later : History) (k : ℕ) (work : Work)
-    → jobs_to f workers k later ≡ jobs_to g workers k h
-    → done_by_worker f workers k later ≡ done_by_worker g workers k h → IsWork g workers h k work
-    → IsWork f workers later k work
-same_work g f workers h later k work sent taken is = grind arith
+-- of another worker nothing was taken in
+other_work : {g : Setup} {workers : ℕ} {h later : History} {k j : ℕ} {work other : Work}
+    → IsDrained g workers h later k work → IsWork g workers h j other → j ≢ k → IsWork g workers later j other
+other_work {j = j} one is unlike = record { jobs = is.jobs ∙ sym (one.sent j); results = rw (one.others j unlike) is.results }
 
 -- a history into which the results of the first workers were taken
 record AreDrained (g : Setup) (workers : ℕ) (h : History) (works : ℕ → Work) (count : ℕ) : Type 0 where
@@ -138,9 +137,9 @@ drain_first g workers h works lawful are (suc count) le =
       lawful = one.lawful;
       before = λ k lt. elim (cases_eq k count) [
         | inl same ↦ subst (λ j. IsWork g workers (with_taken_in work.waiting there) j (record (works j) { waiting = [] })) (sym same) one.own
-        | inr other ↦ same_work g g workers there (with_taken_in work.waiting there) k (record (works k) { waiting = [] }) (one.sent k) (one.others k other) (so_far.before k (omega arith))
+        | inr other ↦ other_work one (so_far.before k (omega arith)) other
       ];
-      after = λ k from lt. same_work g g workers there (with_taken_in work.waiting there) k (works k) (one.sent k) (one.others k (λ same. omega (arith, same))) (so_far.after k (omega arith) lt);
+      after = λ k from lt. other_work one (so_far.after k (omega arith) lt) (λ same. omega (arith, same));
     })
 
 pub settles : (g : Setup) → Settles g

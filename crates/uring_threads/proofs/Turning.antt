@@ -1,10 +1,10 @@
 -- The parts of a turn put together: what went through the dispatcher's hands stays tied to its trace, and what they appended adds up.
-use Rattle.std.proofs.Common.{add-zero, zero-add, ◌≡◌, ℕ, List, refl, sym, subst, ◌∙◌, arith, false, true}
+use Rattle.std.proofs.Common.{add-zero, zero-add, ◌≡◌, ℕ, List, refl, sym, subst, ◌∙◌, arith, false, true, ap}
 use Rattle.uring_threads.proofs.Common.{Appends, AreOfTurn, AreSameLanes, AreTies, ClosesOnce, Counts, Cqe, HasServed, HaveCarried, IfOk, IfOk-from_err, IfOk-weaker, Intake, IsDelivered, IsErr, IsKernel, IsOk, IsUnmoved, KeepsAllBut, Kept, Kernel, OnErr, OnlyPosts, Put, Records, RecordsIntake, RecordsTurn, Repeats, Result, TakesFewResults, TakesIn, Tally, Tied, Turn, Turns, WorkLanes, World, delivery_row, false≢true, finishes_counted, issues_counted, length, next_in, now, reaps_counted}
 use Rattle.uring_core.specs.declared.step.Step.TheVariants as step
-use Rattle.uring_threads.proofs.Carrying.{quiet_stays, carried_stays, next_is_none}
+use Rattle.uring_threads.proofs.Carrying.{quiet_stays, carried_stays, next_is_none, done_stays}
 use Rattle.uring_threads.proofs.Tying.{once_stays}
-use Rattle.uring_threads.proofs.Collecting.{on_err, few_between}
+use Rattle.uring_threads.proofs.Collecting.{on_err}
 use Rattle.uring_threads.proofs.Recording.{records_none, turn_recorded}
 use Rattle.uring_threads.proofs.Repeating.{finishes_many, issues_many, repeats_idle, repeats_none}
 use Rattle.uring_threads.proofs.SameLanes.{hold_stays, lanes_none, lanes_then}
@@ -91,7 +91,7 @@ module _ {E : Type 0} {answer : Result Turn E} {old : Kernel} {b c : Kept} {pull
           ties = ties_delivered (ties_posted (issues_counted s) (ties_posted (finishes_counted f) t.ties p.tally refl p.posts carried) q.tally refl q.posts later) r;
           counts = counts_all old.kept b c d e n f s k t.taken p.tally (λ none. repeats_idle p (finished ∙ none)) q.tally (λ none. repeats_idle q (issued ∙ none)) r.tally r.idle;
           rows = turn_recorded old.kept b c d e old.intake old.pulled pulled k answer _ _ t.row p q r.row (IfOk-weaker answer _ _ (λ made is. subst (λ m. AreOfTurn m p.numbers q.numbers k) (sym is) (record { finishes = finished; issues = issued; reaps = refl })) told);
-          few = few_between (length old.lanes) old.kept b c e _ _ t.taken.appends refl few (appends_then c d e _ _ _ q.tally r.tally refl) refl;
+          few = λ k. omega (arith, few k, ap length (done_stays old.kept b _ t.taken.appends refl (length old.lanes) k), ap length (done_stays c e _ (appends_then c d e _ _ _ q.tally r.tally refl) refl (length old.lanes) k));
           same = lanes_then old.lanes ms ns same others;
         }
 
