@@ -1,5 +1,5 @@
 -- What calls that are made one after the other leave: which are left, how the ring stands, what they append, and which rows of steps they are.
-use Rattle.std.proofs.Common.{◌≡◌, ℕ, zero, suc, ◌+◌, ◌-◌, ◌≤◌, Bool, true, false, not, ◌&&◌, List, [], ◌∷◌, ◌++◌, length, map, drop, sum, Some, None, is_some, if◌then◌else◌, nat_lt, nat_le, refl, sym, subst, ap, ap₂, ◌∙◌, arith, append_assoc, append-nil, length-drop, ◌<◌}
+use Rattle.std.proofs.Common.{◌≡◌, ℕ, zero, suc, ◌+◌, ◌-◌, ◌≤◌, Bool, true, false, not, ◌&&◌, List, [], ◌∷◌, ◌++◌, length, map, sum, Some, None, is_some, if◌then◌else◌, nat_lt, nat_le, refl, sym, subst, ap, ap₂, ◌∙◌, arith, append_assoc, append-nil, length-drop, ◌<◌}
 use Rattle.uring_threads.proofs.Common.{Appends, AreBegun, AreTaken, HasBegun, HaveMade, Intake, IsFirst, IsUnmoved, Item, Kept, Published, Records, Setup, Sqe, Stands, Step, Submission, World, after_call, after_calls, all_published_as, bad_word, call_row, calls_after, calls_counted, calls_left, calls_of, calls_row, drop_of_length-le, ends_after_item, ends_of, is_spent, items_fresh, items_keep, items_row, length-map, lt-ltb, now, refused_row, sum_by-cons, taken, with_entry, with_item, with_items, with_items_published, with_published, words_of}
 use Rattle.uring_entry.specs.Submission.{place_of}
 use Rattle.std.proofs.Math.Seq.{drop-append_seam}
@@ -58,12 +58,10 @@ pub published_left : (g : Setup) (l : Submission) (items : List Item) → l.fres
     → length items ≤ g.sq
     → calls_left g (with_published g.sq (with_items l 0 (all_published_as items))) ≡ calls_of g items
 published_left g l items fresh s few =
-    let l' : Submission = with_items l 0 (all_published_as items) in
-    let words = items_fresh l 0 (all_published_as items) ∙ ap (λ ws. ws ++ words_of 0 (all_published_as items)) fresh in
-    let whole : (with_published g.sq l').published ≡ l.published ++ map (place_of g.sq l'.content) (words_of 0 (all_published_as items)) = ap₂ (λ ps ws. ps ++ map (place_of g.sq l'.content) ws) (items_keep l 0 (all_published_as items)) words in
-    let from : taken l' ≡ length l.published = ap sum (items_keep_calls l 0 (all_published_as items)) ∙ omega (arith, s.waiting) in
-    let after : drop (taken l') (with_published g.sq l').published ≡ map (place_of g.sq l'.content) (words_of 0 (all_published_as items)) = ap₂ drop from whole ∙ drop-append_seam l.published (map (place_of g.sq l'.content) (words_of 0 (all_published_as items))) in
-    ap (λ places. calls_after (ends_of g places) 0) after ∙ ap (λ ends. calls_after ends 0) (ends_published g l'.content 0 items (omega arith))
+    let from : taken l ≡ length l.published = omega (arith, s.waiting) in
+    let shown : List Published = all_published_as items in
+    let words = items_fresh l 0 shown ∙ ap (λ ws. ws ++ words_of 0 shown) fresh in
+    rw (items_keep_calls l 0 shown, items_keep l 0 shown, words, from, drop-append_seam, ends_published g (with_items l 0 shown).content 0 items (omega arith))
 
 -- The world after calls.
 

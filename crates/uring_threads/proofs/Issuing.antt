@@ -1,6 +1,6 @@
 -- How the Issue of the next request is answered, and the loop of issues: lanes are looked at, and then a request is issued.
-use Rattle.std.proofs.Common.{◌≡◌, ℕ, Bool, true, List, [], ◌∷◌, Option, Some, None, length, ℤ, refl, sym, subst, ap, ◌∙◌, cond, ◌+◌, ◌<◌, ◌≤◌, get_or, arith}
-use Rattle.uring_threads.proofs.Common.{Answer, AreSameLanes, CalledForApart, Grows, HasCarried, HaveCarried, IsEnded, IsIssued, IsLookedAt, IsUnmoved, Kept, OnlyPosts, Op, Repeats, WorkLanes, World, count_by-le-length, entry_of, is_issuable, is_running, issues_counted, issues_request, length-append, next_in, next_of, none_counted, now, operation_of, operation_running, requests_of, results_received}
+use Rattle.std.proofs.Common.{◌≡◌, ℕ, Bool, true, List, [], ◌∷◌, Option, Some, None, length, ℤ, refl, sym, subst, ap, ◌∙◌, ◌+◌, ◌<◌, ◌≤◌, get_or, arith}
+use Rattle.uring_threads.proofs.Common.{Answer, AreSameLanes, CalledForApart, Grows, HasCarried, HaveCarried, IsEnded, IsLookedAt, IsUnmoved, Kept, OnlyPosts, Op, Repeats, WorkLanes, World, count_by-le-length, entry_of, is_issuable, is_running, issues_counted, issues_request, length-append, next_in, next_of, none_counted, now, operation_of, operation_running, requests_of, results_received}
 use Rattle.std.proofs.lemmas.Option.{cond_some}
 use Rattle.uring_linux.specs.LinuxRequests.{LinuxRequests}
 use Rattle.uring_entry.proofs.RequestLemmas.{is_running_started_same}
@@ -26,20 +26,17 @@ pub issue_cases : (a : Kept) (n : ℕ) (x : Answer) → next_in a ≡ Some n
     → CalledForApart a.setup (now a) (step.Issue n) x → (x ≡ answer.Run → ⊥)
     → ((res : ℤ) (bytes : List ℕ) → x ≡ answer.Ended res bytes → ⊥) → ⊥
 issue_cases a n x next called not_run not_ended =
-    no_end x not_ended (issued_ends x (subst IsIssued (sym called) (issue_goes a.setup (now a) n (next_issuable a.setup.linux (requests_of (now a)) n next))) not_run) where
-      no_end : (y : Answer) → ((res : ℤ) (bytes : List ℕ) → y ≡ answer.Ended res bytes → ⊥) → IsEnded y → ⊥
-      no_end (answer.Ended res bytes) other ended = other res bytes refl
-      no_end _ other ended = ended
+    let ended = issued_ends x (rw called (issue_goes a.setup (now a) n (next_issuable a.setup.linux (requests_of (now a)) n next))) not_run in
+    grind (arith, ended, not_ended)
 
 -- what it starts runs
 pub started_runs : (a b : Kept) (n : ℕ) → next_in a ≡ Some n
     → Grows a b (step.Issue n, answer.Run) → operation_running (now b).requests n ≡ None → ⊥
 started_runs a b n next grows none =
     let waits = issuable_outstanding a.setup.linux (requests_of (now a)) n (next_issuable a.setup.linux (requests_of (now a)) n next) in
-    let unended = (outstanding_tells (now a).requests n waits).1 in
-    let runs : is_running (now b).requests n ≡ true = ap (λ w. is_running w.requests n) (grown a b (step.Issue n) answer.Run grows) ∙ is_running_started_same (now a).requests n unended in
-    let some : operation_running (now b).requests n ≡ Some (operation_of (entry_of (now b).requests n)) = ap (λ x. cond x (Some (operation_of (entry_of (now b).requests n))) None) runs in
-    absurd (let no : None ≡ Some (operation_of (entry_of (now b).requests n)) = sym none ∙ some in cc)
+    let runs = is_running_started_same (now a).requests n (outstanding_tells (now a).requests n waits).1 in
+    let nothing = rw (grown a b (step.Issue n) answer.Run grows, runs) at none in
+    absurd cc
 
 -- and it is the operation of its entry
 pub started_op : (a b : Kept) (n : ℕ) (op : Op) → Grows a b (step.Issue n, answer.Run)
@@ -76,11 +73,7 @@ looked_on k r first old new u many looked carried same = (
       let had = carried_stays k r old (quiet_stays k r none_counted (appends_none k r u) refl refl) carried j d before in
       subst (λ n. HasCarried r n j (get_or new j d)) (sym many) (record { jobs = (looked j d before).jobs ∙ had.jobs; results = ap (λ rs. results_received (record (get_or old j d) { results = rs })) (looked j d before).results ∙ had.results }),
   lanes_then first old new same
-      (record {
-        many = many;
-        jobs = λ j d low. (looked j d low).ring;
-        results = λ j d low. looked_results (get_or old j d) (get_or new j d) (looked j d low);
-      }),
+      (record { many = many; jobs = λ j d low. (looked j d low).ring; results = λ j d low. looked_results _ _ (looked j d low) }),
 )
 
 -- one request more was issued

@@ -46,18 +46,14 @@ stays_then s t u a b = record {
 
 -- Lists of events.
 
--- what is long in each is still kept
+-- what is long in each is still kept, and the events are the same
 all_stay : (s t : Store) (briefs : List Brief) → Stays s t → AllByRecursion (IsWithin s) briefs
-    → AllByRecursion (IsWithin t) briefs
-all_stay s t [] stays all = tt
-all_stay s t (first ∷ later) stays all = grind (arith, (event_stays s t first stays all.0), (all_stay s t later stays all.1))
-
--- the events are the same
-events_stay : (s t : Store) (briefs : List Brief) → Stays s t → AllByRecursion (IsWithin s) briefs
-    → events_of t briefs ≡ events_of s briefs
-events_stay s t [] stays all = refl
-events_stay s t (first ∷ later) stays all =
-    λ i. (event_stays s t first stays all.0).0 i ∷ events_stay s t later stays all.1 i
+    → (events_of t briefs ≡ events_of s briefs) × AllByRecursion (IsWithin t) briefs
+all_stay s t [] stays all = (refl, tt)
+all_stay s t (first ∷ later) stays all =
+    let one = event_stays s t first stays all.0 in
+    let rest = all_stay s t later stays all.1 in
+    (λ i. one.0 i ∷ rest.0 i, (one.1, rest.1))
 
 -- More memory.
 
@@ -121,7 +117,7 @@ pub one_more : (s u : Store) (briefs now : List Brief) (b : Brief) (capacity roo
     → now ≡ briefs ++ b ∷ []
     → length briefs < room
     → AreStored u now capacity room
-one_more s u briefs now b capacity room kept grown last is less = grind (arith, length-append, All-push, all_stay)
+one_more s u briefs now b capacity room kept grown last is less = grind (arith, length-append, All-push, (all_stay s u briefs grown.stays kept.within))
 
 -- the events are the same, with one more
 pub events_more : (s u : Store) (briefs now : List Brief) (b : Brief) (event : Event) → Stays s u
@@ -130,4 +126,4 @@ pub events_more : (s u : Store) (briefs now : List Brief) (b : Brief) (event : E
     → event_of u b ≡ event
     → events_of u now ≡ events_of s briefs ++ event ∷ []
 events_more s u briefs now b event stays all is told =
-    ap (events_of u) is ∙ map-append (event_of u) briefs (b ∷ []) ∙ (λ i. events_stay s u briefs stays all i ++ told i ∷ [])
+    ap (events_of u) is ∙ map-append (event_of u) briefs (b ∷ []) ∙ (λ i. (all_stay s u briefs stays all).0 i ++ told i ∷ [])

@@ -1,6 +1,6 @@
 -- What is reported once all ends are settled, from what ties them to the trace.
-use Rattle.std.proofs.Common.{◌≡◌, ◌↔◌, ℕ, ℤ, zero, suc, ◌+◌, ◌<◌, ◌≤◌, ◌==◌, Bool, Some, true, false, List, [], ◌∷◌, ◌++◌, length, map, flat_map, take, drop, get_or, All, count_by, cond, if◌then◌else◌, refl, sym, subst, ap, ◌∙◌, arith, inl, inr, append_assoc, append-nil, length-drop}
-use Rattle.uring_threads.proofs.Common.{AreItems, AreSettled, AreTogether, BeginsCalls, ClosesOnlyAllTaken, Completions, Cqe, DeliversReaped, FinishesAll, HasOneClose, HaveLooked, HaveSeenAll, History, Intake, IsItem, IsKernel, IsLawful, IsSameKernel, Item, Job, JobResult, Kept, Kernel, LeavesCompletions, LeavesItems, LeavesRunning, OnlyPosts, PublishesItems, Put, Report, Setup, Sizes, Stands, Submission, TakesAll, Tied, WorkLanes, Worker, World, all_published_as, all_untaken, all_waiting, calls_of, closes_ring, finish_of, flat_map-append, has_job, history, history_of_cons, is_running, is_shut, items_of_calls, job_of, jobs_of, left_by, length-append, length-map, list_any, map-append, now, or_cases, or_right, posts, published_as, published_items, sum_by-cons, take_all, take_more, taken, unreaped, untaken_at, waiting_in, with_end_of, with_taken_in, world}
+use Rattle.std.proofs.Common.{◌≡◌, ◌↔◌, ℕ, ℤ, zero, suc, ◌+◌, ◌<◌, ◌≤◌, ◌==◌, Bool, Some, true, List, [], ◌∷◌, ◌++◌, length, map, take, drop, get_or, count_by, cond, refl, sym, subst, ap, ◌∙◌, arith, inl, inr, append_assoc, append-nil, length-drop, add-zero}
+use Rattle.uring_threads.proofs.Common.{AreItems, AreSettled, AreTogether, BeginsCalls, ClosesOnlyAllTaken, Completions, Cqe, DeliversReaped, FinishesAll, HasOneClose, HaveLooked, HaveSeenAll, History, Intake, IsItem, IsKernel, IsLawful, IsSameKernel, Item, Job, JobResult, Kept, Kernel, LeavesCompletions, LeavesItems, LeavesRunning, OnlyPosts, PublishesItems, Put, Report, Setup, Sizes, TakesAll, Tied, WorkLanes, Worker, World, all_published_as, all_untaken, all_waiting, calls_of, closes_ring, finish_of, flat_map-append, has_job, history, history_of_cons, is_running, items_of_calls, job_of, jobs_of, left_by, length-append, length-map, list_any, map-append, now, or_cases, or_right, posts, sum_by-cons, take_all, take_more, taken, unreaped, untaken_at, waiting_in, with_end_of, with_taken_in, world}
 use Rattle.uring_core.specs.declared.answer.Answer.TheVariants as answer
 use Rattle.std.specs.List.{slice_get}
 use Rattle.std.proofs.Math.Seq.{drop-append_seam, take-append_seam}
@@ -8,7 +8,6 @@ use Rattle.std.proofs.lemmas.Option.{slice_get_within, get_or_from_slice_get}
 use Rattle.uring_laws.specs.Laws.{ReapedBeginPosted, in_ring, in_overflow}
 use Rattle.uring_ports.specs.AppEnd.{AppEnd}
 use Rattle.std.proofs.lemmas.List.Folds.{list_any-append}
-use Rattle.uring_threads.specs.declared.intake.Intake.TheVariants as intake
 use Rattle.uring_threads.proofs.CallsMade.{none_left}
 use Rattle.uring_threads.proofs.Tying.{closes_append, all_first}
 use Rattle.uring_threads.proofs.Posting.{posts_none, posts_then, posts_only}
@@ -38,12 +37,8 @@ finishes_post g (r ∷ rs) h =
 module _ (g : Setup) (w : World) (put pulled : Put) (i : Intake) (r : Report) (same : r.setup ≡ g) (t : Tied g w pulled i) (posts : OnlyPosts w (left_by r)) (leaves : LeavesItems put pulled r.unsent) where
   pub publishes : AreItems g.sq (items_of_calls put.calls) → PublishesItems put r
   publishes good =
-      let cut : items_of_calls put.calls ≡ items_of_calls pulled.calls ++ items_of_calls leaves.rest = ap items_of_calls (sym leaves.calls) ∙ flat_map-append (λ (call : List _). call) pulled.calls leaves.rest in
-      let whole : all_published_as (items_of_calls put.calls) ≡ all_published_as (items_of_calls pulled.calls) ++ all_published_as (items_of_calls leaves.rest) = ap all_published_as cut ∙ map-append published_as (items_of_calls pulled.calls) (items_of_calls leaves.rest) in
-      ap (λ l. published_items l ++ all_published_as r.unsent) posts.submission
-      ∙ ap (λ ps. ps ++ all_published_as r.unsent) (t.published (all_first (IsItem g.sq) (all_published_as (items_of_calls pulled.calls)) (all_published_as (items_of_calls leaves.rest)) (subst (All (IsItem g.sq)) whole good)))
-      ∙ ap (λ items. all_published_as (items_of_calls pulled.calls) ++ all_published_as items) leaves.items
-      ∙ sym whole
+      let whole : all_published_as (items_of_calls put.calls) ≡ all_published_as (items_of_calls pulled.calls) ++ all_published_as (items_of_calls leaves.rest) = rw (← leaves.calls) (simp (flat_map-append, map-append)) in
+      rw (posts.submission, leaves.items, t.published (all_first (IsItem g.sq) _ _ (rw whole at good)), whole)
 
   pub begins_calls : BeginsCalls put r
   begins_calls = grind (arith, (flat_map-append (calls_of g) pulled.calls leaves.rest), append_assoc)
@@ -51,30 +46,22 @@ module _ (g : Setup) (w : World) (put pulled : Put) (i : Intake) (r : Report) (s
   pub closes_all : ClosesOnlyAllTaken put r
   closes_all = λ closed.
       let pulled_closed : pulled.closed ≡ true = sym t.closed ∙ sym posts.is_closed ∙ closed in
-      let none : waiting_in i ≡ 0 = none_after i (t.shut ∙ pulled_closed) in
-      let stands : Stands w.submission [] 0 = subst (Stands w.submission []) none t.stands in
+      let none : waiting_in i ≡ 0 = grind (arith, t.shut) in
+      let stands = rw none at t.stands in
       let last = leaves.closed pulled_closed in
-      let calls : pulled.calls ≡ put.calls = sym (append-nil pulled.calls) ∙ ap (λ rest. pulled.calls ++ rest) (sym last.1) ∙ leaves.calls in
+      let calls = rw (last.1, append-nil) at leaves.calls in
       record {
         closed = last.0;
-        unsent = leaves.items ∙ ap items_of_calls last.1;
-        calls = ap (λ (l : Submission). l.calls) posts.submission ∙ sym (append-nil w.submission.calls) ∙ ap (λ ns. w.submission.calls ++ ns) (sym (none_left g w.submission stands)) ∙ t.calls ∙ ap (flat_map (calls_of g)) calls
-            ∙ ap (λ (s : Setup). flat_map (calls_of s) put.calls) (sym same);
-        taken = ap taken posts.submission ∙ omega (arith, stands.waiting) ∙ ap (λ (l : Submission). length l.published) (sym posts.submission);
-      } where
-        none_after : (i : Intake) → is_shut i ≡ true → waiting_in i ≡ 0
-        none_after (intake.Waiting count) shut = absurd (let f : false ≡ true = shut in cc)
-        none_after (intake.Spent count) shut = absurd (let f : false ≡ true = shut in cc)
-        none_after _ shut = refl
+        unsent = rw last.1 at leaves.items;
+        calls = rw (posts.submission, same, ← calls, ← t.calls, none_left g w.submission stands, append-nil);
+        taken = rw posts.submission (omega (arith, stands.waiting));
+      }
 
 -- The ring is closed once, if at all.
 
 no_close : (rs : List JobResult) → count_by closes_ring (map finish_of rs) ≡ 0
 no_close [] = refl
 no_close (r ∷ rs) = omega (arith, sum_by-cons (λ e. cond (closes_ring e) 1 0) (finish_of r) (map finish_of rs), no_close rs)
-
-abbrev one_if : Bool → ℕ
-one_if b = if b then 1 else 0
 
 -- What runs.
 
@@ -194,7 +181,7 @@ tells_ends app kernel same workers kept lanes unsent undelivered r t s is keeps 
       running = subst (λ ls. LeavesRunning ls workers r) (these ∙ ap (λ (k : Kernel). k.lanes) s.others) running;
       items = publishes same.kept.setup (now same.kept) app.submitted same.pulled same.intake r of tied posts left (subst (λ n. AreItems n (items_of_calls app.submitted.calls)) size good);
       calls = begins_calls same.kept.setup (now same.kept) app.submitted same.pulled same.intake r of tied posts left;
-      once = ap (count_by closes_ring) goes_on ∙ closes_append same.kept.trace (map finish_of results) ∙ omega (arith, no_close results) ∙ is.ties.once ∙ ap one_if (tied.shut ∙ sym tied.closed ∙ sym posts.is_closed);
+      once = rw (posts.is_closed, tied.closed, ← tied.shut, goes_on, closes_append, no_close results, add-zero) is.ties.once;
       closed = closes_all same.kept.setup (now same.kept) app.submitted same.pulled same.intake r of tied posts left;
       reaped = sym (subst (LeavesCompletions same.reaped app.received) (sym rests.1) completions) ∙ sym is.ties.delivered.reaped ∙ sym posts.reaped;
     }

@@ -29,15 +29,13 @@ same_told f g xs ys k d e same low =
 pub same_numbers : (old new : List WorkLanes) → AreSameLanes old new
     → numbers_of_lanes new ≡ numbers_of_lanes old
 same_numbers old new same =
-    told_same (λ (l : WorkLanes). pairing_of l.jobs l.results) (λ (l : WorkLanes). pairing_of l.jobs l.results) new old same.many (λ k d e low. at k d e (omega (arith, low, same.many))) where
-      at : (k : ℕ) (d e : WorkLanes) → k < length old → pairing_of (get_or new k d).jobs (get_or new k d).results ≡ pairing_of (get_or old k e).jobs (get_or old k e).results
-      at k d e low =
-          let jobs = (same.jobs k d low).0 in
-          let results = (same.results k d low).0 in
-          let l : WorkLanes = get_or old k d in
-          let m : WorkLanes = get_or new k d in
-          ap₂ (λ xs ys. xs ∷ ys ∷ []) (same_ring m.jobs.end l.jobs.end jobs.0 jobs.1 jobs.2) (same_ring m.results.end l.results.end results.0 results.1 results.2)
-          ∙ ap (λ (x : WorkLanes). pairing_of x.jobs x.results) (get_or_default old k d e low)
+    told_same (λ (l : WorkLanes). pairing_of l.jobs l.results) (λ (l : WorkLanes). pairing_of l.jobs l.results) new old same.many (λ k d e low.
+    let within : k < length old = omega (arith, low, same.many) in
+    let jobs = (same.jobs k e within).0 in
+    let results = (same.results k e within).0 in
+    let l : WorkLanes = get_or old k e in
+    let m : WorkLanes = get_or new k e in
+    rw (get_or_default new k d e low) (ap₂ (λ xs ys. xs ∷ ys ∷ []) (same_ring m.jobs.end l.jobs.end jobs.0 jobs.1 jobs.2) (same_ring m.results.end l.results.end results.0 results.1 results.2)))
 
 -- the dispatcher's lanes are those of the workers
 pub lanes_of_workers : (app : AppEnd) (kernel : Kernel) (workers : List Worker)
