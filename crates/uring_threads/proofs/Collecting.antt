@@ -1,16 +1,15 @@
 -- What is sent and taken in, as a result is taken in: the operation is the last of its worker's, and all else stays; and how many results of each worker a turn takes in.
 use Rattle.std.proofs.Common.{◌≡◌, ℕ, ◌+◌, ◌<◌, arith, Bool, true, false, List, [], ◌∷◌, ◌++◌, length, refl, sym, subst, ap, ◌∙◌, inl, inr, ◌*◌, ◌≤◌, get_or, add-zero}
-use Rattle.uring_threads.proofs.Common.{Answer, AreSameLanes, AreTakenIn, CanBeTaken, Collects, CollectsNext, CollectsSeen, Done, Grows, HaveCarried, IsLawfulApart, IsTakenIn, IsUnmoved, JobResult, Kept, NextStays, NoneComes, OnErr, OnlyPosts, OnlyReceives, Repeats, Result, TakesFewResults, TakesSeen, Wait, WorkLanes, cases_lt, done_by_worker, done_in, entry_of, finish_of, finishes_counted, history, is_running, length_push, map-append, most_results, now, operation_of, place_of, results_of, results_received, results_seen, results_taken_in, set}
+use Rattle.uring_threads.proofs.Common.{Answer, AreSameLanes, AreTakenIn, CanBeTaken, Collects, CollectsNext, CollectsSeen, Done, Grows, HaveCarried, IsLawfulApart, IsTakenIn, IsUnmoved, JobResult, Kept, NextStays, NoneComes, OnErr, OnlyReceives, Repeats, Result, TakesFewResults, TakesSeen, Wait, WorkLanes, cases_lt, done_by_worker, done_in, entry_of, finish_of, finishes_counted, history, is_running, length_push, map-append, most_results, now, operation_of, place_of, results_of, results_received, results_seen, results_taken_in, set}
 use mathlib.Core.List.{IsPrefix}
 use Rattle.uring_entry.proofs.RequestLemmas.{is_running_ended_same, is_running_ended_other}
 use Rattle.uring_core.specs.Core.{IsFinished}
 use Rattle.uring_core.specs.declared.step.Step.TheVariants as step
 use Rattle.uring_core.specs.declared.answer.Answer.TheVariants as answer
 use Rattle.uring_threads.proofs.Sent.{one_more_at, none_more_at}
-use Rattle.uring_threads.proofs.Recording.{records_one}
-use Rattle.uring_threads.proofs.Repeating.{repeats_none, repeats_then}
+use Rattle.uring_threads.proofs.Repeating.{repeats_none, repeats_then, repeats_one}
 use Rattle.uring_threads.proofs.Settling.{results_run}
-use Rattle.uring_threads.proofs.TraceSteps.{grown, grown_history, appends_one, unmoved_is}
+use Rattle.uring_threads.proofs.TraceSteps.{grown, grown_history, unmoved_is}
 use Rattle.uring_threads.proofs.Carrying.{carried_set}
 use Rattle.uring_threads.proofs.SameLanes.{lanes_then, lanes_set, set_cases}
 use Rattle.uring_threads.proofs.Posting.{posts_only}
@@ -52,12 +51,7 @@ collects_first {a} {b} {workers} {place} r can grows =
     let at : Done → ℕ = λ d. place_of workers a.setup.files d.op in
     let longer = grown_history a b (finish_of r) grows in
     record {
-      repeats = record {
-        numbers = r.number ∷ [];
-        row = records_one a b (step.Finish r.number) (answer.Ended r.outcome.res r.outcome.bytes) grows;
-        tally = appends_one a b (finish_of r) (finishes_counted 1) grows refl refl;
-        posts = subst (OnlyPosts (now a)) (sym (grown a b (step.Finish r.number) _ grows)) (posts_only a.setup (now a) r.number (answer.Ended r.outcome.res r.outcome.bytes)).1;
-      };
+      repeats = repeats_one step.Finish r.number (answer.Ended r.outcome.res r.outcome.bytes) (finishes_counted 1) grows refl refl (posts_only a.setup (now a) r.number (answer.Ended r.outcome.res r.outcome.bytes)).1;
       own = rw (grows.setup, longer, one_more_at at place (done_in a.setup (history a)) end can.own) (length_push _ end);
       others = record {
         jobs = λ k. rw (grows.setup, longer);

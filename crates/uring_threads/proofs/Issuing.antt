@@ -1,6 +1,6 @@
 -- How the Issue of the next request is answered, and the loop of issues: lanes are looked at, and then a request is issued.
-use Rattle.std.proofs.Common.{◌≡◌, ℕ, Bool, true, List, [], ◌∷◌, Option, Some, None, length, ℤ, refl, sym, subst, ap, ◌∙◌, ◌+◌, ◌<◌, ◌≤◌, get_or, arith}
-use Rattle.uring_threads.proofs.Common.{Answer, AreSameLanes, CalledForApart, Grows, HasCarried, HaveCarried, IsEnded, IsLookedAt, IsUnmoved, Kept, OnlyPosts, Op, Repeats, WorkLanes, World, count_by-le-length, entry_of, is_issuable, is_running, issues_counted, issues_request, length-append, next_in, next_of, none_counted, now, operation_of, operation_running, requests_of, results_received}
+use Rattle.std.proofs.Common.{◌≡◌, ℕ, Bool, true, List, Option, Some, None, length, ℤ, refl, sym, subst, ap, ◌∙◌, ◌+◌, ◌<◌, ◌≤◌, get_or, arith}
+use Rattle.uring_threads.proofs.Common.{Answer, AreSameLanes, CalledForApart, Grows, HasCarried, HaveCarried, IsEnded, IsLookedAt, IsUnmoved, Kept, Op, Repeats, WorkLanes, World, count_by-le-length, entry_of, is_issuable, is_running, issues_counted, issues_request, length-append, next_in, next_of, none_counted, now, operation_of, operation_running, requests_of, results_received}
 use Rattle.std.proofs.lemmas.Option.{cond_some}
 use Rattle.uring_linux.specs.LinuxRequests.{LinuxRequests}
 use Rattle.uring_entry.proofs.RequestLemmas.{is_running_started_same}
@@ -9,12 +9,12 @@ use Rattle.uring_core.proofs.Issuable.{issue_goes, issued_ends, issuable_outstan
 use Rattle.uring_core.proofs.SoundRequests.{outstanding_tells}
 use Rattle.uring_core.specs.declared.step.Step.TheVariants as step
 use Rattle.uring_core.specs.declared.answer.Answer.TheVariants as answer
-use Rattle.uring_threads.proofs.TraceSteps.{grown, appends_none, appends_one}
+use Rattle.uring_threads.proofs.TraceSteps.{grown, appends_none}
 use Rattle.uring_workers.proofs.LaneFacts.{looked_results}
 use Rattle.uring_threads.proofs.Carrying.{IssuedAs, quiet_stays, carried_stays}
-use Rattle.uring_threads.proofs.Recording.{records_one}
 use Rattle.uring_threads.proofs.SameLanes.{lanes_then}
 use Rattle.uring_threads.proofs.Posting.{posts_only}
+use Rattle.uring_threads.proofs.Repeating.{repeats_one}
 
 -- the next can be issued
 next_issuable : (linux : Bool) (l : LinuxRequests) (n : ℕ) → next_of linux l ≡ Some n
@@ -47,12 +47,8 @@ started_op a b n op grows some =
 -- and that is one issue
 one_issue : (a b : Kept) (n : ℕ) (x : Answer) → Grows a b (step.Issue n, x)
     → issues_request (step.Issue n, x) ≡ true → Repeats a b step.Issue (issues_counted 1)
-one_issue a b n x g served = record {
-  numbers = n ∷ [];
-  row = records_one a b (step.Issue n) x g;
-  tally = appends_one a b (step.Issue n, x) (issues_counted 1) g (rw served) (rw served);
-  posts = subst (OnlyPosts (now a)) (sym (grown a b (step.Issue n) x g)) (posts_only a.setup (now a) n x).0;
-}
+one_issue a b n x g served =
+    repeats_one step.Issue n x (issues_counted 1) g (rw served) (rw served) (posts_only a.setup (now a) n x).0
 
 end_issues : (n : ℕ) (x : Answer) → IsEnded x → issues_request (step.Issue n, x) ≡ true
 end_issues n x ended = grind arith

@@ -1,6 +1,6 @@
 -- What each event adds to the steps of the trace, and how rows of steps add up.
 use Rattle.std.proofs.Common.{◌≡◌, ℕ, ◌+◌, ◌<◌, List, [], ◌∷◌, ◌++◌, map, take, length, get_or, replicate, sum, zero, suc, refl, sym, subst, ap, ◌∙◌, arith, append_assoc, append-nil}
-use Rattle.uring_threads.proofs.Common.{Answer, AreOfTurn, Grows, IfOk, Intake, IsAgain, IsPulled, IsTaken, IsUnmoved, Item, Kept, Pulls, Put, Records, RecordsIntake, RecordsTurn, Repeats, Result, Setup, Step, Submission, Tally, Turn, call_row, calls_row, delivery_row, item_row, items_row, length-take-le, map-append, now, refused_row, replicate_more, step_of, steps_of, sum_by-cons, sum_by_push, take_more}
+use Rattle.uring_threads.proofs.Common.{Answer, Grows, Intake, IsAgain, IsPulled, IsTaken, IsUnmoved, Item, Kept, Pulls, Put, Records, RecordsIntake, Setup, Step, Submission, call_row, calls_row, delivery_row, item_row, items_row, length-take-le, map-append, now, refused_row, replicate_more, step_of, steps_of, sum_by-cons, sum_by_push, take_more}
 use Rattle.uring_core.specs.declared.step.Step.TheVariants as step
 use Rattle.uring_ports.specs.declared.pulled.Pulled.{Pulled}
 use Rattle.uring_ports.specs.declared.pulled.Pulled.TheVariants as pulled
@@ -108,21 +108,3 @@ pub again_recorded : (a b : Kept) (i : Intake) (put : Put)
     → (steps : List Step) × IsAgain a.setup (now a).submission i steps × Records a b steps
     → RecordsIntake a b i put put
 again_recorded a b i put r = grind (arith, append-nil)
-
--- a whole turn
-pub turn_recorded : {E : Type 0} (a b c d e : Kept) (i : Intake) (before after : Put) (n : ℕ) (answer : Result Turn E) (t u : Tally)
-    → RecordsIntake a b i before after → (f : Repeats b c step.Finish t)
-    → (s : Repeats c d step.Issue u) → Records d e (delivery_row n)
-    → IfOk answer (λ turn. AreOfTurn turn f.numbers s.numbers n) → RecordsTurn a e i before after answer
-turn_recorded a b c d e i before after n answer t u r f s q told =
-    record {
-      again = r.again;
-      pulled = r.pulled;
-      finished = f.numbers;
-      issued = s.numbers;
-      delivered = n;
-      is_again = r.is_again;
-      is_pulled = r.is_pulled;
-      row = grind (arith, records_then);
-      told = told;
-    }

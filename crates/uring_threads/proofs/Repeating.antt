@@ -1,14 +1,21 @@
 -- One kind of step, so many times: results that are taken in, and requests that are issued.
 use Rattle.std.proofs.Common.{◌≡◌, ℕ, ◌+◌, Bool, true, List, [], ◌∷◌, ◌++◌, map, length, count_by, suc, refl, sym, subst, ap, ◌∙◌, arith, append-nil, drop, false, cond}
-use Rattle.uring_threads.proofs.Common.{Answer, Event, IsUnmoved, Kept, Repeats, Step, Tally, append_cancel_left, both, finishes_counted, is_refused, issues_counted, issues_request, length-map, map-append, nil_from_length, none_counted, now, step_of, steps_of, sum_by-cons, takes_result}
+use Rattle.uring_threads.proofs.Common.{Answer, Event, Grows, IsUnmoved, Kept, OnlyPosts, Repeats, Step, Tally, append_cancel_left, both, finishes_counted, happens, is_refused, issues_counted, issues_request, length-map, map-append, nil_from_length, none_counted, now, step_of, steps_of, sum_by-cons, takes_result, tally_of}
 use Rattle.uring_core.specs.declared.step.Step.TheVariants as step
 use Rattle.uring_threads.proofs.Posting.{posts_then}
-use Rattle.uring_threads.proofs.Recording.{records_none, records_then}
-use Rattle.uring_threads.proofs.TraceSteps.{appends_none, appends_then, both_none}
+use Rattle.uring_threads.proofs.Recording.{records_none, records_then, records_one}
+use Rattle.uring_threads.proofs.TraceSteps.{appends_none, appends_then, both_none, appends_one, grown}
 
 -- not once
 pub repeats_none : (kind : ℕ → Step) {a b : Kept} → IsUnmoved a b → Repeats a b kind none_counted
 repeats_none kind {a} {b} u = grind (arith, (records_none a b u), (appends_none a b u))
+
+-- once
+pub repeats_one : {a b : Kept} (kind : ℕ → Step) (n : ℕ) (x : Answer) (t : Tally) → Grows a b (kind n, x)
+    → tally_of ((kind n, x) ∷ []) ≡ t → count_by is_refused ((kind n, x) ∷ []) ≡ 0
+    → OnlyPosts (now a) (happens a.setup (now a) (kind n) x) → Repeats a b kind t
+repeats_one {a} {b} kind n x t g counted served posts =
+    record { numbers = n ∷ []; row = records_one a b (kind n) x g; tally = appends_one a b (kind n, x) t g counted served; posts = rw (grown a b (kind n) x g) posts }
 
 -- and then some more
 pub repeats_then : {a b c : Kept} {kind : ℕ → Step} {t u : Tally} → Repeats a b kind t

@@ -84,31 +84,27 @@ of_any p (l ∷ ls) (w ∷ ws) d e zero many low some = grind (arith, list_any-a
 of_any p (l ∷ ls) (w ∷ ws) d e (suc k) many low some = list_any-append p (untaken_at l w) (all_untaken ls ws) ∙ or_right _ _ (of_any p ls ws d e k (omega (arith, many)) (omega (arith, low)) some)
 of_any p _ _ d e k many low some = absurd (omega (arith, many, low))
 
-module _ (k : Kept) (ls : List WorkLanes) (ws vs : List Worker) (settled : AreSettled k vs) (looked : HaveLooked ws vs) (seen : HaveSeenAll ls vs) (many : length ws ≡ length ls) where
-  -- what a worker has seen and not taken is what was sent to it and not taken
-  untaken_seen : (j : ℕ) (d : WorkLanes) (e : Worker) → j < length ws → untaken_at (get_or ls j d) (get_or ws j e) ≡ (get_or vs j e).seen
-  untaken_seen j d e low =
-      grind (arith, (get_or vs j e), (length-map (get_or vs j e).done job_of), (drop-append_seam (jobs_of (get_or vs j e).done) (get_or vs j e).seen))
-
-  pub runs_untaken : (d : WorkLanes) (e : Worker) (n : ℕ)
-      → (is_running (now k).requests n ≡ true) ↔ (has_job (all_untaken ls ws) n ≡ true)
-  runs_untaken d e n =
-      let p : Job → Bool = λ job. job.number == n in
-      let both = (settled e).running n in (
-        λ runs.
-            let one = both.0 runs in
-            of_any p ls ws d e one.0 many (omega (arith, one.1, looked.many)) (ap (list_any p) (untaken_seen one.0 d e (omega (arith, one.1, looked.many))) ∙ one.2),
-        λ some.
-            let one = any_of p ls ws d e many some in
-            both.1 (one.0, omega (arith, one.1, looked.many), ap (list_any p) (sym (untaken_seen one.0 d e one.1)) ∙ one.2),
-      )
+-- what a worker has seen and not taken is what was sent to it and not taken
+untaken_seen : (ls : List WorkLanes) (ws vs : List Worker) → HaveLooked ws vs → HaveSeenAll ls vs
+    → length ws ≡ length ls → (j : ℕ) (d : WorkLanes) (e : Worker) → j < length ws
+    → untaken_at (get_or ls j d) (get_or ws j e) ≡ (get_or vs j e).seen
+untaken_seen ls ws vs looked seen many j d e low =
+    grind (arith, (get_or vs j e), (length-map (get_or vs j e).done job_of), (drop-append_seam (jobs_of (get_or vs j e).done) (get_or vs j e).seen))
 
 pub all_run : (k : Kept) (ls : List WorkLanes) (ws vs : List Worker) → 0 < length ls
     → AreSettled k vs → HaveLooked ws vs → HaveSeenAll ls vs → length ws ≡ length ls → (n : ℕ)
     → (is_running (now k).requests n ≡ true) ↔ (has_job (all_untaken ls ws) n ≡ true)
-all_run k (l ∷ ls) (w ∷ ws) vs some settled looked seen many =
-    runs_untaken k (l ∷ ls) (w ∷ ws) vs settled looked seen many l w
-all_run k _ _ vs some settled looked seen many = absurd (omega (arith, some, many))
+all_run k (l ∷ ls) (w ∷ ws) vs some settled looked seen many n =
+    let p : Job → Bool = λ job. job.number == n in
+    let both = (settled w).running n in
+    let here = λ (j : ℕ) (low : j < length (w ∷ ws)). ap (list_any p) (untaken_seen (l ∷ ls) (w ∷ ws) vs looked seen many j l w low) in (
+      λ runs.
+          let one = both.0 runs in
+          let low : one.0 < length (w ∷ ws) = omega (arith, one.1, looked.many) in
+          of_any p (l ∷ ls) (w ∷ ws) l w one.0 many low (here one.0 low ∙ one.2),
+      λ job. let one = any_of p (l ∷ ls) (w ∷ ws) l w many job in both.1 (one.0, omega (arith, one.1, looked.many), sym (here one.0 one.1) ∙ one.2),
+    )
+all_run k _ _ vs some settled looked seen many n = absurd (omega (arith, some, many))
 
 -- What waits.
 

@@ -1,11 +1,11 @@
 -- The parts of a turn put together: what went through the dispatcher's hands stays tied to its trace, and what they appended adds up.
-use Rattle.std.proofs.Common.{add-zero, zero-add, ◌≡◌, ℕ, List, refl, sym, subst, ◌∙◌, arith, false, true, ap}
-use Rattle.uring_threads.proofs.Common.{Appends, AreOfTurn, AreSameLanes, AreTies, ClosesOnce, Counts, Cqe, HasServed, HaveCarried, IfOk, IfOk-from_err, IfOk-weaker, Intake, IsDelivered, IsErr, IsKernel, IsOk, IsUnmoved, KeepsAllBut, Kept, Kernel, OnErr, OnlyPosts, Put, Records, RecordsIntake, RecordsTurn, Repeats, Result, TakesFewResults, TakesIn, Tally, Tied, Turn, Turns, WorkLanes, World, delivery_row, false≢true, finishes_counted, issues_counted, length, next_in, now, reaps_counted}
+use Rattle.std.proofs.Common.{add-zero, zero-add, ◌≡◌, ℕ, List, refl, ◌∙◌, arith, false, true, ap, append_assoc}
+use Rattle.uring_threads.proofs.Common.{Appends, AreSameLanes, AreTies, ClosesOnce, Counts, Cqe, HasServed, HaveCarried, IfOk, IfOk-from_err, IfOk-weaker, Intake, IsDelivered, IsErr, IsKernel, IsOk, IsUnmoved, KeepsAllBut, Kept, Kernel, OnErr, OnlyPosts, Put, Records, RecordsIntake, RecordsTurn, Repeats, Result, TakesFewResults, TakesIn, Tally, Tied, Turn, Turns, WorkLanes, delivery_row, false≢true, finishes_counted, issues_counted, length, next_in, now, reaps_counted}
 use Rattle.uring_core.specs.declared.step.Step.TheVariants as step
 use Rattle.uring_threads.proofs.Carrying.{quiet_stays, carried_stays, next_is_none, done_stays}
 use Rattle.uring_threads.proofs.Tying.{once_stays}
 use Rattle.uring_threads.proofs.Collecting.{on_err}
-use Rattle.uring_threads.proofs.Recording.{records_none, turn_recorded}
+use Rattle.uring_threads.proofs.Recording.{records_none}
 use Rattle.uring_threads.proofs.Repeating.{finishes_many, issues_many, repeats_idle, repeats_none}
 use Rattle.uring_threads.proofs.SameLanes.{hold_stays, lanes_none, lanes_then}
 use Rattle.uring_threads.proofs.TraceSteps.{appends_none, appends_then, still}
@@ -52,21 +52,6 @@ ties_delivered {a} {b} {pulled} {before} {reaped} {i} {lanes} s d =
       carried = carried_stays a b lanes (quiet_stays a b _ d.tally refl refl) s.carried;
     }
 
--- the four parts of a turn add up
-counts_all : (a b c d e : Kept) (n f s k : ℕ) → TakesIn a b n → Appends b c (finishes_counted f)
-    → (f ≡ 0 → c.trace ≡ b.trace) → Appends c d (issues_counted s) → (s ≡ 0 → d.trace ≡ c.trace)
-    → Appends d e (reaps_counted k) → (k ≡ 0 → e.trace ≡ d.trace)
-    → Counts a e (record { popped = n; issued = s; finished = f; delivered = k })
-counts_all a b c d e n f s k p q q_idle r r_idle t t_idle =
-    let qr : Appends b d (record { items = 0; issues = s; finishes = f; reaps = 0; calls = 0; closes = 0 }) = appends_then b c d _ _ _ q r (simp (add-zero, zero-add)) in
-    let rest : Appends b e (record { items = 0; issues = s; finishes = f; reaps = k; calls = 0; closes = 0 }) = appends_then b d e _ _ _ qr t (simp (add-zero, zero-add)) in
-    record {
-      calls = p.calls;
-      closes = p.closes;
-      appends = appends_then a b e _ _ _ p.appends rest (simp (add-zero, zero-add));
-      idle = λ none. t_idle (omega (arith, none)) ∙ r_idle (omega (arith, none)) ∙ q_idle (omega (arith, none)) ∙ p.idle (omega (arith, none));
-    }
-
 -- What the parts of a turn have done, up to where it ends with an answer, which if it is Ok is this turn.
 pub record Goes {E : Type 0} (old : Kernel) (kept : Kept) (pulled : Put) (reaped : List Cqe) (i : Intake) (lanes : List WorkLanes) (turn : Turn) (answer : Result Turn E) : Type 0 where
   pub ties : AreTies kept pulled reaped i lanes
@@ -74,9 +59,6 @@ pub record Goes {E : Type 0} (old : Kernel) (kept : Kept) (pulled : Put) (reaped
   pub rows : RecordsTurn old.kept kept old.intake old.pulled pulled answer
   pub few : TakesFewResults (length old.lanes) old.kept kept
   pub same : AreSameLanes old.lanes lanes
-
-keeps_all : (w : World) → KeepsAllBut w w
-keeps_all w = record { submission = refl; requests = refl; drains = refl; is_closed = refl; posted = refl }
 
 module _ {E : Type 0} {answer : Result Turn E} {old : Kernel} {b c : Kept} {pulled : Put} {before : List Cqe} {i : Intake} {ms : List WorkLanes} {n f : ℕ}
     (t : HasTaken old b pulled before i n) (p : Repeats b c step.Finish (finishes_counted f)) (few : TakesFewResults (length old.lanes) b c) (carried : HaveCarried c ms) (same : AreSameLanes old.lanes ms) where
@@ -87,11 +69,28 @@ module _ {E : Type 0} {answer : Result Turn E} {old : Kernel} {b c : Kept} {pull
     goes {e} {reaped} {k} r told =
         let finished = finishes_many p in
         let issued = issues_many q in
+        let last : Appends c e (record { items = 0; issues = s; finishes = 0; reaps = k; calls = 0; closes = 0 }) = appends_then c d e _ _ _ q.tally r.tally (simp (add-zero, zero-add)) in
+        let rest : Appends b e (record { items = 0; issues = s; finishes = f; reaps = k; calls = 0; closes = 0 }) = appends_then b c e _ _ _ p.tally last (simp (add-zero, zero-add)) in
         record {
           ties = ties_delivered (ties_posted (issues_counted s) (ties_posted (finishes_counted f) t.ties p.tally refl p.posts carried) q.tally refl q.posts later) r;
-          counts = counts_all old.kept b c d e n f s k t.taken p.tally (λ none. repeats_idle p (finished ∙ none)) q.tally (λ none. repeats_idle q (issued ∙ none)) r.tally r.idle;
-          rows = turn_recorded old.kept b c d e old.intake old.pulled pulled k answer _ _ t.row p q r.row (IfOk-weaker answer _ _ (λ made is. subst (λ m. AreOfTurn m p.numbers q.numbers k) (sym is) (record { finishes = finished; issues = issued; reaps = refl })) told);
-          few = λ k. omega (arith, few k, ap length (done_stays old.kept b _ t.taken.appends refl (length old.lanes) k), ap length (done_stays c e _ (appends_then c d e _ _ _ q.tally r.tally refl) refl (length old.lanes) k));
+          counts = record {
+            calls = t.taken.calls;
+            closes = t.taken.closes;
+            appends = appends_then old.kept b e _ _ _ t.taken.appends rest (simp (add-zero, zero-add));
+            idle = λ none. r.idle (omega (arith, none)) ∙ repeats_idle q (issued ∙ omega (arith, none)) ∙ repeats_idle p (finished ∙ omega (arith, none)) ∙ t.taken.idle (omega (arith, none));
+          };
+          rows = record {
+            again = t.row.again;
+            pulled = t.row.pulled;
+            finished = p.numbers;
+            issued = q.numbers;
+            delivered = k;
+            is_again = t.row.is_again;
+            is_pulled = t.row.is_pulled;
+            row = rw (r.row, q.row, p.row, t.row.row) (simp append_assoc);
+            told = IfOk-weaker answer _ _ (λ made is. rw is (record { finishes = finished; issues = issued; reaps = refl })) told;
+          };
+          few = λ k. omega (arith, few k, ap length (done_stays old.kept b _ t.taken.appends refl (length old.lanes) k), ap length (done_stays c e _ last refl (length old.lanes) k));
           same = lanes_then old.lanes ms ns same others;
         }
 
@@ -100,7 +99,7 @@ module _ {E : Type 0} {answer : Result Turn E} {old : Kernel} {b c : Kept} {pull
         → Goes old d pulled before i ns (record { popped = n; issued = s; finished = f; delivered = 0 }) answer
     goes_issued =
         let ties = ties_posted (issues_counted s) (ties_posted (finishes_counted f) t.ties p.tally refl p.posts carried) q.tally refl q.posts later in
-        goes (delivers_none (still d) (keeps_all (now d)) ties.delivered)
+        goes (delivers_none (still d) (record { submission = refl; requests = refl; drains = refl; is_closed = refl; posted = refl }) ties.delivered)
 
   pub goes_collected : IfOk answer (λ made. made ≡ record { popped = n; issued = 0; finished = f; delivered = 0 })
       → Goes old c pulled before i ms (record { popped = n; issued = 0; finished = f; delivered = 0 }) answer
