@@ -94,10 +94,8 @@ pub closed_now : (a t e b : Kept) (count n : ℕ) (y z : Answer) → Stands (now
     → CalledForApart t.setup (now t) step.End y → Grows e b (step.LoadHead, z)
     → t.setup ≡ a.setup → now b ≡ after_call a.setup (now a) n
 closed_now a t e b count n y z s few at end called load same =
-    grown e b step.LoadHead z load
-    ∙ ap (λ w. happens t.setup w step.LoadHead z) (grown t e step.End y end ∙ ap (λ w. happens t.setup w step.End y) at)
-    ∙ (call_closes t.setup (now a) count n (count - n) y z s (omega arith) (subst (λ w. CalledForApart t.setup w step.End y) at called)).0
-    ∙ ap (λ (g : Setup). after_call g (now a) n) same
+    rw (grown e b step.LoadHead z load, grown t e step.End y end, at, same)
+    (rw same at (call_closes t.setup (now a) count n (count - n) y z s (omega arith) (rw at at called)).0)
 
 -- which was the first of the calls that were left, as it was said of the world in which it had opened
 pub opened_first : (g : Setup) (w o v : World) (count n : ℕ) → o ≡ in_call w count 0

@@ -9,7 +9,7 @@ use Rattle.uring_threads.specs.declared.calls.CallMade.TheVariants as made
 use Rattle.uring_threads.proofs.TraceSteps.{appends_none, appends_then, still}
 use Rattle.uring_core.specs.declared.step.Step.TheVariants as step
 use Rattle.uring_threads.specs.declared.intake.Intake.TheVariants as intake
-use Rattle.uring_threads.proofs.Recording.{call_more, call_refused, records_none}
+use Rattle.uring_threads.proofs.Recording.{records_none, calls_row_snoc, refused_is, records_then}
 
 -- Lengths of calls.
 
@@ -136,14 +136,14 @@ module _ (a b c : Kept) (done : List ℕ) (rest : ℕ) (h : HaveMade a b done re
       → Records b c (call_row rest (made.Taken n))
       → Records a c (calls_row (done ++ n ∷ []) (calls_left a.setup (now c).submission))
   next_recorded n first q =
-      call_more a b c done n (calls_left a.setup (now c).submission) (calls_left a.setup (now b).submission) rest p (next_left a b c done rest h n first) (sum_left a.setup (now b).submission rest h.stands) q
+      let next = next_left a b c done rest h n first in
+      let many : rest ≡ n + sum (calls_left a.setup (now c).submission) = omega (arith, sum_left a.setup (now b).submission rest h.stands, ap sum next, sum_by-cons (λ x. x) n (calls_left a.setup (now c).submission)) in
+      rw calls_row_snoc (records_then a b c _ _ (rw next at p) (rw many at q))
 
   -- or the next didn't open
   module _ (some : 0 < rest) (e : now c ≡ now b) (t : Appends b c (calls_counted 1)) (q : Records b c (step.Begin rest ∷ [])) where
     refused_recorded : Records a c (calls_row done (calls_left a.setup (now c).submission) ++ refused_row (calls_left a.setup (now c).submission))
-    refused_recorded =
-        subst (λ (w : World). Records a c (calls_row done (calls_left a.setup w.submission) ++ refused_row (calls_left a.setup w.submission))) (sym e)
-        (call_refused a b c done (calls_left a.setup (now b).submission) rest some (sum_left a.setup (now b).submission rest h.stands) p q)
+    refused_recorded = rw (e, refused_is _ rest (sum_left a.setup (now b).submission rest h.stands) some) (records_then a b c _ _ p q)
 
     pub begun_again : HasBegun a c (intake.Waiting rest)
     begun_again = grind (arith, one_refused, refused_recorded)

@@ -1,10 +1,9 @@
 -- What is kept stays in its place, so that events that were recorded stay as they are.
 use Rattle.std.proofs.Common.{◌≡◌, ℕ, ◌+◌, ◌<◌, ◌≤◌, List, [], ◌∷◌, ◌++◌, length, refl, ap, arith, ◌∙◌, length-append}
 use Rattle.uring_threads.proofs.Common.{AllByRecursion, Event, length-map, map-append, vec_capacity}
-use Rattle.uring_core.specs.declared.answer.Answer.TheVariants as answer
 use Rattle.uring_threads.specs.declared.brief.Brief.{Brief}
-use Rattle.uring_threads.specs.declared.brief.BriefAnswer.{BriefAnswer}
 use Rattle.uring_threads.specs.declared.brief.BriefAnswer.TheVariants as told
+use Rattle.uring_threads.specs.declared.brief.BriefAnswer.{BriefAnswer}
 use Rattle.uring_threads.specs.declared.store.Store.{Store}
 use Rattle.uring_threads.specs.Events.{Events}
 use Rattle.uring_threads.specs.Store.{step_of, answer_of, event_of, events_of, IsStepWithin, IsAnswerWithin, IsWithin, Stays, Goes, IsSame, HasRoom, AreStored}
@@ -17,17 +16,10 @@ use Rattle.std.proofs.ByRecursion.{All-push}
 -- an answer that was kept is the same
 pub answer_stays : (s t : Store) (b : BriefAnswer) → Stays s t → IsAnswerWithin s b
     → (answer_of t b ≡ answer_of s b) × IsAnswerWithin t b
-answer_stays s t (told.Entry place) stays within =
-    let there = stays.filled place within in (ap answer.Entry there.0, there.1)
-answer_stays s t (told.Other place) stays within =
-    let there = stays.others place within in (ap answer.Entry there.0, there.1)
-answer_stays s t (told.Ended res place) stays within =
-    let there = stays.bytes place within in (ap (answer.Ended res) there.0, there.1)
-answer_stays s t (told.Reaped res named place) stays within =
-    let there = stays.bytes place within in (
-      ap (λ (bytes : List ℕ). answer.Reaped (record { user_data = named; res = res; payload = bytes })) there.0,
-      there.1,
-    )
+answer_stays s t (told.Entry place) stays within = (rw (stays.filled place within).0, (stays.filled place within).1)
+answer_stays s t (told.Other place) stays within = (rw (stays.others place within).0, (stays.others place within).1)
+answer_stays s t (told.Ended res place) stays within = (rw (stays.bytes place within).0, (stays.bytes place within).1)
+answer_stays s t (told.Reaped res named place) stays within = (rw (stays.bytes place within).0, (stays.bytes place within).1)
 answer_stays s t _ stays within = (refl, tt)
 
 -- an event that was kept is the same

@@ -1,5 +1,5 @@
 -- What each event adds to the steps of the trace, and how rows of steps add up.
-use Rattle.std.proofs.Common.{◌≡◌, ℕ, ◌+◌, ◌<◌, List, [], ◌∷◌, ◌++◌, map, take, length, get_or, replicate, sum, zero, suc, refl, sym, subst, ap, ◌∙◌, arith, append_assoc, append-nil}
+use Rattle.std.proofs.Common.{◌≡◌, ℕ, ◌+◌, ◌<◌, List, [], ◌∷◌, ◌++◌, map, take, length, get_or, replicate, sum, zero, suc, refl, sym, ap, ◌∙◌, arith, append_assoc, append-nil}
 use Rattle.uring_threads.proofs.Common.{Answer, Grows, Intake, IsAgain, IsPulled, IsTaken, IsUnmoved, Item, Kept, Pulls, Put, Records, RecordsIntake, Setup, Step, Submission, call_row, calls_row, delivery_row, item_row, items_row, length-take-le, map-append, now, refused_row, replicate_more, step_of, steps_of, sum_by-cons, sum_by_push, take_more}
 use Rattle.uring_core.specs.declared.step.Step.TheVariants as step
 use Rattle.uring_ports.specs.declared.pulled.Pulled.{Pulled}
@@ -47,7 +47,7 @@ call_recorded a b c d e count n x y z g p h k =
     simp (k.trace, h.trace, g.trace, p, map-append, append_assoc)
 
 -- one call more was made
-calls_row_snoc : (done : List ℕ) (n : ℕ) (left : List ℕ)
+pub calls_row_snoc : (done : List ℕ) (n : ℕ) (left : List ℕ)
     → calls_row (done ++ n ∷ []) left ≡ calls_row done (n ∷ left) ++ call_row (n + sum left) (made.Taken n)
 unfolding calls_row
 calls_row_snoc [] n left = ap (λ k. step.Begin k ∷ replicate n step.Take ++ step.End ∷ step.LoadHead ∷ []) (omega arith)
@@ -55,22 +55,13 @@ calls_row_snoc (first ∷ more) n left =
     let many : sum (more ++ n ∷ []) + sum left ≡ sum more + sum (n ∷ left) = omega (arith, sum_by_push (λ x. x) more n, sum_by-cons (λ x. x) n left) in
     rw (many, calls_row_snoc more n left, append_assoc)
 
-pub call_more : (a b c : Kept) (done : List ℕ) (n : ℕ) (left calls : List ℕ) (count : ℕ)
-    → Records a b (calls_row done calls) → calls ≡ n ∷ left → sum calls ≡ count
-    → Records b c (call_row count (made.Taken n))
-    → Records a c (calls_row (done ++ n ∷ []) left)
-call_more a b c done n left calls count p is many q =
-    rw calls_row_snoc (records_then a b c _ _ (rw is at p) (subst (λ k. Records b c (call_row k (made.Taken n))) (omega (arith, many, ap sum is, sum_by-cons (λ x. x) n left)) q))
-
--- and the next didn't open
-pub call_refused : (a b c : Kept) (done calls : List ℕ) (count : ℕ) → 0 < count → sum calls ≡ count
-    → Records a b (calls_row done calls) → Records b c (step.Begin count ∷ [])
-    → Records a c (calls_row done calls ++ refused_row calls)
+-- the next call that is left is begun and doesn't open
+pub refused_is : (calls : List ℕ) (count : ℕ) → sum calls ≡ count → 0 < count
+    → refused_row calls ≡ step.Begin count ∷ []
 unfolding refused_row
-call_refused a b c done [] count some many p q = absurd (omega (arith, some, many))
-call_refused a b c done (n ∷ later) count some many p q =
-    records_then a b c (calls_row done (n ∷ later)) (step.Begin (n + sum later) ∷ []) p
-    (subst (λ k. Records b c (step.Begin k ∷ [])) (sym many ∙ sum_by-cons (λ x. x) n later ∙ omega arith) q)
+refused_is [] count many some = absurd (omega (arith, many, some))
+refused_is (n ∷ later) count many some =
+    ap (λ k. step.Begin k ∷ []) (omega (arith, many, sum_by-cons (λ x. x) n later))
 
 -- completions that were delivered, one or more
 pub delivery_recorded : (a b c d e f : Kept) (n : ℕ) (x y z : Answer) → 0 < n → IsUnmoved a b

@@ -1,11 +1,10 @@
 -- Settling the workers: all results that wait at one are taken in, one after the other, and then those of the next, while the others' wait.
 use Rattle.std.proofs.Common.{◌≡◌, ℕ, ◌+◌, ◌<◌, ◌≤◌, List, [], ◌∷◌, ◌++◌, length, map, refl, sym, subst, ap, ◌∙◌, arith, append_assoc, append-nil, ap₂, ◌*◌, take, get_or, zero, suc, add-one}
-use Rattle.uring_threads.proofs.Common.{AreDone, Done, Grows, HasCarried, HaveCarried, HaveSeenAll, History, IsLawfulApart, IsRight, IsSettled, IsSettledAt, IsWork, Job, JobResult, Kept, Looks, Setup, TakesAll, Wait, WorkLanes, Worker, all_waiting, finish_of, get_or-set_other, get_or_default, history, history_of_cons, jobs_of, jobs_sent, jobs_to, length-append, length-map, length-set, map-append, nil_from_length, results_held, results_of, results_received, settled_work, slice_set, take_all, waiting_at, with_taken_in, works_of}
+use Rattle.uring_threads.proofs.Common.{Done, Grows, HasCarried, HaveCarried, HaveSeenAll, History, IsLawfulApart, IsRight, IsSettled, IsSettledAt, IsWork, Job, JobResult, Kept, Looks, Setup, TakesAll, Wait, WorkLanes, Worker, all_waiting, finish_of, get_or-set_other, get_or_default, history, history_of_cons, jobs_of, jobs_sent, jobs_to, length-append, length-map, length-set, map-append, nil_from_length, results_held, results_of, results_received, settled_work, slice_set, take_all, waiting_at, with_taken_in, works_of}
 use Rattle.uring_threads.proofs.Settling.{drain, none_waits}
 use Rattle.uring_threads.proofs.TraceSteps.{longer_history}
 use Rattle.uring_workers.specs.Opened.{AreLanesOf}
 use Rattle.uring_workers.specs.Pairings.{pairing_of}
-use Rattle.uring_files.specs.Contents.{empty_files}
 use Rattle.uring_threads.proofs.SameLanes.{set_cases}
 use Rattle.uring_threads.proofs.Carrying.{others_carried}
 use Rattle.std.proofs.Math.Seq.{drop-append_seam}
@@ -147,7 +146,7 @@ module _ (a b c : Kept) (ls ms : List WorkLanes) (ws vs : List Worker) (count fi
         workers_stay = λ k f from. get_or-set_other vs count k after f (λ same. omega (arith, same, from)) ∙ s.workers_stay k f (omega (arith, from));
         looked = λ k f. set_cases (λ j w. Looks (get_or ws j f) w) vs count after k f there (rw (was f) at one.looks) (λ other. s.looked k f);
         carried = λ k f within. set_cases (HasCarried c (length ls)) ms count now k f (omega (arith, s.many, lt)) at_count.carried (λ other. others_carried (s.carried k f within) at_count.others other);
-        settled = λ k f below. set_cases (λ j w. IsWork c.setup (length ls) (history c) j (settled_work w)) vs count after k f there (subst (λ ds. IsWork c.setup (length ls) (history c) count (record { done = ds; untaken = after.seen; waiting = [] })) (sym (ap (λ w. w.done) one.looks.same)) at_count.work) (λ other.
+        settled = λ k f below. set_cases (λ j w. IsWork c.setup (length ls) (history c) j (settled_work w)) vs count after k f there (rw (ap (λ w. w.done) one.looks.same) at_count.work) (λ other.
             let w = s.settled k f (omega (arith, other, below)) in
             record { jobs = w.jobs ∙ sym (at_count.others.jobs k); results = rw (at_count.others.results k other) w.results });
         right = λ k f below. set_cases (λ _ w. IsRight w) vs count after k f there one.right (λ other. s.right k f (omega (arith, other, below)));
@@ -165,14 +164,9 @@ pub all_settled : (a b : Kept) (ls ms : List WorkLanes) (ws vs : List Worker) (e
     → SoFar a b ls ms ws vs (length ls) → 0 < length ls → AreLanesOf a.setup.files ls ws
     → IsLawfulApart b.setup (history b) → IsSettled b.setup (length vs) (history b) (works_of vs e)
 all_settled a b ls ms ws vs e s some of lawful =
-    subst (λ n. IsSettled b.setup n (history b) (works_of vs e)) (sym (s.many_workers ∙ of.many))
-    (none_waits b.setup (length ls) (history b) (works_of vs e) some lawful
+    rw (s.many_workers, of.many) (none_waits b.setup (length ls) (history b) (works_of vs e) some lawful
     (λ k lt. s.settled k e lt)
-    (λ k lt.
-    let right = s.right k e lt in
-    let same : length (get_or vs k e).files ≡ length (get_or ws k e).files = ap (λ w. length w.files) (s.looked k e).same in
-    let many : length (get_or vs k e).files ≡ b.setup.files = same ∙ of.have k e lt ∙ ap (λ g. g.files) (sym s.recorded.setup) in
-    subst (λ n. AreDone (empty_files n) (get_or vs k e).done) many right.done)
+    (λ k lt. rw (ap (λ w. length w.files) (s.looked k e).same, of.have k e lt, ← s.recorded.setup) at (s.right k e lt).done)
     (λ k lt. refl))
 
 -- Each has seen all that was sent to it.
@@ -181,6 +175,4 @@ pub all_seen : (a b : Kept) (ls ms : List WorkLanes) (ws vs : List Worker)
     → SoFar a b ls ms ws vs (length ls) → HaveCarried a ls → HaveSeenAll ls vs
 all_seen a b ls ms ws vs s carried = λ k d e low.
     let taken : List JobResult = all_waiting (take (length ls) ls) (take (length ls) ws) in
-    (s.settled k e low).jobs
-    ∙ ap₂ (λ g h. jobs_to g (length ls) k h) s.recorded.setup (longer_history a b (map finish_of taken) s.recorded.trace)
-    ∙ jobs_keep a.setup (length ls) k taken (history a) ∙ sym (carried k d low).jobs
+    rw (s.recorded.setup, longer_history a b (map finish_of taken) s.recorded.trace, jobs_keep a.setup (length ls) k taken (history a), ← (carried k d low).jobs) at (s.settled k e low).jobs
