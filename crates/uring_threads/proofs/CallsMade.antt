@@ -1,8 +1,7 @@
 -- What calls that are made one after the other leave: which are left, how the ring stands, what they append, and which rows of steps they are.
-use Rattle.std.proofs.Common.{◌≡◌, ℕ, zero, suc, ◌+◌, ◌-◌, ◌≤◌, Bool, true, false, not, ◌&&◌, List, [], ◌∷◌, ◌++◌, length, map, sum, Some, None, is_some, if◌then◌else◌, nat_lt, nat_le, refl, sym, subst, ap, ap₂, ◌∙◌, arith, append_assoc, append-nil, length-drop, ◌<◌}
+use Rattle.std.proofs.Common.{◌≡◌, ℕ, zero, suc, ◌+◌, ◌-◌, ◌≤◌, Bool, true, false, not, ◌&&◌, List, [], ◌∷◌, ◌++◌, length, map, sum, Some, None, is_some, if◌then◌else◌, nat_lt, nat_le, refl, sym, subst, ap, ap₂, ◌∙◌, arith, append_assoc, append-nil, length-drop, ◌<◌, drop_at}
 use Rattle.uring_threads.proofs.Common.{Appends, AreBegun, AreTaken, HasBegun, HaveMade, Intake, IsFirst, IsUnmoved, Item, Kept, Published, Records, Setup, Sqe, Stands, Step, Submission, World, after_call, after_calls, all_published_as, bad_word, call_row, calls_after, calls_counted, calls_left, calls_of, calls_row, drop_of_length-le, ends_after_item, ends_of, is_spent, items_fresh, items_keep, items_row, length-map, lt-ltb, now, refused_row, sum_by-cons, taken, with_entry, with_item, with_items, with_items_published, with_published, words_of}
 use Rattle.uring_entry.specs.Submission.{place_of}
-use Rattle.std.proofs.Math.Seq.{drop-append_seam}
 use Rattle.uring_core.specs.Stops.{stops_at_word}
 use Rattle.uring_ports.specs.declared.item.Item.TheVariants as item
 use Rattle.uring_threads.specs.declared.calls.CallMade.TheVariants as made
@@ -61,7 +60,7 @@ published_left g l items fresh s few =
     let from : taken l ≡ length l.published = omega (arith, s.waiting) in
     let shown : List Published = all_published_as items in
     let words = items_fresh l 0 shown ∙ ap (λ ws. ws ++ words_of 0 shown) fresh in
-    rw (items_keep_calls l 0 shown, items_keep l 0 shown, words, from, drop-append_seam, ends_published g (with_items l 0 shown).content 0 items (omega arith))
+    rw (items_keep_calls l 0 shown, items_keep l 0 shown, words, from, drop_at l.published _ _ refl, ends_published g (with_items l 0 shown).content 0 items (omega arith))
 
 -- The world after calls.
 

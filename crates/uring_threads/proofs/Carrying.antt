@@ -1,5 +1,5 @@
 -- What the lanes of the workers have carried, as the trace goes on; a lane for jobs that shows no room has carried as many as it holds, so as many requests were started.
-use Rattle.std.proofs.Common.{◌≡◌, ◌≢◌, ℕ, ◌<◌, ◌==◌, cond, List, [], ◌∷◌, ◌++◌, length, get_or, count_by, Option, Some, None, refl, sym, subst, ap, ◌∙◌, inl, inr, arith, ◌+◌, ◌≤◌, false, append-nil}
+use Rattle.std.proofs.Common.{◌≡◌, ◌≢◌, ℕ, ◌<◌, ◌==◌, cond, List, [], ◌∷◌, ◌++◌, length, get_or, count_by, Option, Some, None, refl, sym, ap, ◌∙◌, inl, inr, arith, ◌+◌, ◌≤◌, false, append-nil}
 use Rattle.uring_threads.proofs.Common.{Answer, Appends, AreTakenIn, Bool, Collects, Event, Grows, HasCarried, HaveCarried, History, HoldJobs, IfOk, IsEnded, IsSent, Job, Kept, None, Op, OthersStay, Result, Setup, SomeIsFull, Tally, WorkLanes, cases_eq, count_by-le-length, done_by_worker, done_in, entry_of, history, history_of, history_of_cons, issues_request, jobs_in, jobs_sent, jobs_to, length-append, length-filter, length-set, next_in, now, operation_of, place_of, results_received, set, starts_request, sum_by-cons, takes_result, ◌⊎◌}
 use Rattle.uring_core.specs.declared.step.Step.TheVariants as step
 use Rattle.uring_core.specs.declared.answer.Answer.TheVariants as answer
@@ -105,11 +105,9 @@ pub carried_set : (a b : Kept) (n place : ℕ) (old : List WorkLanes) (y d : Wor
     → y.jobs ≡ (get_or old place d).jobs → AreTakenIn b (length old) place (results_received y)
     → HaveCarried b (set old place y)
 carried_set a b n place old y d carried low p jobs taken = λ k e within.
-    let long = length-set old place y in
-    subst (λ m. HasCarried b m k (get_or (set old place y) k e)) (sym long)
-    (set_cases (HasCarried b (length old)) old place y k e low
+    rw (length-set old place y) (set_cases (HasCarried b (length old)) old place y k e low
     (record { jobs = ap (λ q. jobs_sent (record y { jobs = q })) jobs ∙ (carried place d low).jobs ∙ sym (p.others.jobs place); results = taken })
-    (λ other. others_carried (carried k e (omega (arith, within, long))) p.others other))
+    (λ other. others_carried (carried k e (rw (length-set old place y) at within)) p.others other))
 
 -- each request that starts sends a job
 told_length : (g : Setup) (e : Event) (h : History)

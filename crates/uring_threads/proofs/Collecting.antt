@@ -1,8 +1,7 @@
 -- What is sent and taken in, as a result is taken in: the operation is the last of its worker's, and all else stays; and how many results of each worker a turn takes in.
 use Rattle.std.proofs.Common.{◌≡◌, ℕ, ◌+◌, ◌<◌, arith, Bool, true, false, List, [], ◌∷◌, ◌++◌, length, refl, sym, subst, ap, ◌∙◌, inl, inr, ◌*◌, ◌≤◌, get_or, add-zero}
-use Rattle.uring_threads.proofs.Common.{Answer, AreSameLanes, AreTakenIn, CanBeTaken, Collects, CollectsNext, CollectsSeen, Done, Grows, HaveCarried, IsLawfulApart, IsTakenIn, IsUnmoved, JobResult, Kept, NextStays, NoneComes, OnErr, OnlyReceives, Repeats, Result, TakesFewResults, TakesSeen, Wait, WorkLanes, cases_lt, done_by_worker, done_in, entry_of, finish_of, finishes_counted, history, is_running, length_push, map-append, most_results, now, operation_of, place_of, results_of, results_received, results_seen, results_taken_in, set}
+use Rattle.uring_threads.proofs.Common.{Answer, AreSameLanes, AreTakenIn, CanBeTaken, Collects, CollectsNext, CollectsSeen, Done, Grows, HaveCarried, IsLawfulApart, IsTakenIn, IsUnmoved, JobResult, Kept, NextStays, NoneComes, OnErr, OnlyReceives, Repeats, Result, TakesFewResults, TakesSeen, Wait, WorkLanes, cases_lt, done_by_worker, done_in, entry_of, finish_of, finishes_counted, history, is_running, is_running_ended_other, is_running_ended_same, length_push, map-append, most_results, now, operation_of, place_of, results_of, results_received, results_seen, results_taken_in, set}
 use mathlib.Core.List.{IsPrefix}
-use Rattle.uring_entry.proofs.RequestLemmas.{is_running_ended_same, is_running_ended_other}
 use Rattle.uring_core.specs.Core.{IsFinished}
 use Rattle.uring_core.specs.declared.step.Step.TheVariants as step
 use Rattle.uring_core.specs.declared.answer.Answer.TheVariants as answer
@@ -167,14 +166,9 @@ pub seen_at : {first : List WorkLanes} {a : Kept} {place count n : ℕ} {b c : K
     → SeenBefore (length first) place a b lanes
     → SeenBefore (length first) (place + 1) a c (set lanes place y)
 seen_at {first} {a} {place} {count} {n} {b} {c} {lanes} y p within q seen = λ k low fewer d.
-    let workers : ℕ = length first in
-    set_cases (λ j (l : WorkLanes). results_taken_in workers j c < results_taken_in workers j a + most_results → NextStays c workers j (results_seen l)) lanes place y k d within
-    (λ few.
-    let none = p.others place (omega arith) in
-    q.rest (omega (arith, few, none, q.collected.own)))
-    (λ other few.
-    let same = ap length (q.collected.others.results k other) in
-    next_stays b c workers k (results_seen (get_or lanes k d)) q.collected.none_comes (seen k (omega (arith, low, other)) (omega (arith, few, same)) d))
+    set_cases (λ j (l : WorkLanes). results_taken_in (length first) j c < results_taken_in (length first) j a + most_results → NextStays c (length first) j (results_seen l)) lanes place y k d within
+    (λ few. q.rest (omega (arith, few, p.others place (omega arith), q.collected.own)))
+    (λ other few. next_stays b c (length first) k _ q.collected.none_comes (seen k (omega (arith, low, other)) (omega (arith, few, ap length (q.collected.others.results k other))) d))
     fewer
 
 -- of all

@@ -1,12 +1,10 @@
 -- How the Issue of the next request is answered, and the loop of issues: lanes are looked at, and then a request is issued.
 use Rattle.std.proofs.Common.{◌≡◌, ℕ, Bool, true, List, Option, Some, None, length, ℤ, refl, sym, subst, ap, ◌∙◌, ◌+◌, ◌<◌, ◌≤◌, get_or, arith}
-use Rattle.uring_threads.proofs.Common.{Answer, AreSameLanes, CalledForApart, Grows, HasCarried, HaveCarried, IsEnded, IsLookedAt, IsUnmoved, Kept, Op, Repeats, WorkLanes, World, count_by-le-length, entry_of, is_issuable, is_running, issues_counted, issues_request, length-append, next_in, next_of, none_counted, now, operation_of, operation_running, requests_of, results_received}
+use Rattle.uring_threads.proofs.Common.{Answer, AreSameLanes, CalledForApart, Grows, HasCarried, HaveCarried, IsEnded, IsLookedAt, IsUnmoved, Kept, Op, Repeats, WorkLanes, World, count_by-le-length, entry_of, is_issuable, is_running, is_running_started_same, issues_counted, issues_request, length-append, next_in, next_of, none_counted, now, operation_of, operation_running, outstanding_tells, requests_of, results_received}
 use Rattle.std.proofs.lemmas.Option.{cond_some}
 use Rattle.uring_linux.specs.LinuxRequests.{LinuxRequests}
-use Rattle.uring_entry.proofs.RequestLemmas.{is_running_started_same}
 use Rattle.uring_entry.proofs.BelowLemmas.{least_below_tells}
 use Rattle.uring_core.proofs.Issuable.{issue_goes, issued_ends, issuable_outstanding}
-use Rattle.uring_core.proofs.SoundRequests.{outstanding_tells}
 use Rattle.uring_core.specs.declared.step.Step.TheVariants as step
 use Rattle.uring_core.specs.declared.answer.Answer.TheVariants as answer
 use Rattle.uring_threads.proofs.TraceSteps.{grown, appends_none}

@@ -1,13 +1,12 @@
 -- What is kept stays in its place, so that events that were recorded stay as they are.
 use Rattle.std.proofs.Common.{◌≡◌, ℕ, ◌+◌, ◌<◌, ◌≤◌, List, [], ◌∷◌, ◌++◌, length, refl, ap, arith, ◌∙◌, length-append}
-use Rattle.uring_threads.proofs.Common.{AllByRecursion, Event, length-map, map-append, vec_capacity}
+use Rattle.uring_threads.proofs.Common.{All-push, AllByRecursion, Event, length-map, map-append, vec_capacity}
 use Rattle.uring_threads.specs.declared.brief.Brief.{Brief}
 use Rattle.uring_threads.specs.declared.brief.BriefAnswer.TheVariants as told
 use Rattle.uring_threads.specs.declared.brief.BriefAnswer.{BriefAnswer}
 use Rattle.uring_threads.specs.declared.store.Store.{Store}
 use Rattle.uring_threads.specs.Events.{Events}
 use Rattle.uring_threads.specs.Store.{step_of, answer_of, event_of, events_of, IsStepWithin, IsAnswerWithin, IsWithin, Stays, Goes, IsSame, HasRoom, AreStored}
-use Rattle.std.proofs.ByRecursion.{All-push}
 
 -- Lists that grow.
 

@@ -1,12 +1,9 @@
 -- What is reported once all ends are settled, from what ties them to the trace.
-use Rattle.std.proofs.Common.{◌≡◌, ◌↔◌, ℕ, ℤ, zero, suc, ◌+◌, ◌<◌, ◌≤◌, ◌==◌, Bool, Some, true, List, [], ◌∷◌, ◌++◌, length, map, take, drop, get_or, count_by, cond, refl, sym, subst, ap, ◌∙◌, arith, inl, inr, append_assoc, append-nil, length-drop, add-zero}
-use Rattle.uring_threads.proofs.Common.{AreItems, AreSettled, AreTogether, BeginsCalls, ClosesOnlyAllTaken, Completions, Cqe, DeliversReaped, FinishesAll, HasOneClose, HaveLooked, HaveSeenAll, History, Intake, IsItem, IsKernel, IsLawful, IsSameKernel, Item, Job, JobResult, Kept, Kernel, LeavesCompletions, LeavesItems, LeavesRunning, OnlyPosts, PublishesItems, Put, Report, Setup, Sizes, TakesAll, Tied, WorkLanes, Worker, World, all_published_as, all_untaken, all_waiting, calls_of, closes_ring, finish_of, flat_map-append, has_job, history, history_of_cons, is_running, items_of_calls, job_of, jobs_of, left_by, length-append, length-map, list_any, map-append, now, or_cases, or_right, posts, sum_by-cons, take_all, take_more, taken, unreaped, untaken_at, waiting_in, with_end_of, with_taken_in, world}
+use Rattle.std.proofs.Common.{◌≡◌, ◌↔◌, ℕ, ℤ, zero, suc, ◌+◌, ◌<◌, ◌≤◌, ◌==◌, Bool, Some, true, List, [], ◌∷◌, ◌++◌, length, map, take, drop, get_or, count_by, cond, refl, sym, subst, ap, ◌∙◌, arith, inl, inr, append_assoc, append-nil, length-drop, add-zero, drop_at, take_at}
+use Rattle.uring_threads.proofs.Common.{AppEnd, AreItems, AreSettled, AreTogether, BeginsCalls, ClosesOnlyAllTaken, Completions, Cqe, DeliversReaped, FinishesAll, HasOneClose, HaveLooked, HaveSeenAll, History, Intake, IsItem, IsKernel, IsLawful, IsSameKernel, Item, Job, JobResult, Kept, Kernel, LeavesCompletions, LeavesItems, LeavesRunning, OnlyPosts, PublishesItems, Put, Report, Setup, Sizes, TakesAll, Tied, WorkLanes, Worker, World, all_published_as, all_untaken, all_waiting, calls_of, closes_ring, finish_of, flat_map-append, has_job, history, history_of_cons, is_running, items_of_calls, job_of, jobs_of, left_by, length-append, length-map, list_any, map-append, now, or_cases, or_right, posts, slice_get, sum_by-cons, take_all, take_more, taken, unreaped, untaken_at, waiting_in, with_end_of, with_taken_in, world}
 use Rattle.uring_core.specs.declared.answer.Answer.TheVariants as answer
-use Rattle.std.specs.List.{slice_get}
-use Rattle.std.proofs.Math.Seq.{drop-append_seam, take-append_seam}
 use Rattle.std.proofs.lemmas.Option.{slice_get_within, get_or_from_slice_get}
 use Rattle.uring_laws.specs.Laws.{ReapedBeginPosted, in_ring, in_overflow}
-use Rattle.uring_ports.specs.AppEnd.{AppEnd}
 use Rattle.std.proofs.lemmas.List.Folds.{list_any-append}
 use Rattle.uring_threads.proofs.CallsMade.{none_left}
 use Rattle.uring_threads.proofs.Tying.{closes_append, all_first}
@@ -89,7 +86,7 @@ untaken_seen : (ls : List WorkLanes) (ws vs : List Worker) → HaveLooked ws vs 
     → length ws ≡ length ls → (j : ℕ) (d : WorkLanes) (e : Worker) → j < length ws
     → untaken_at (get_or ls j d) (get_or ws j e) ≡ (get_or vs j e).seen
 untaken_seen ls ws vs looked seen many j d e low =
-    grind (arith, (get_or vs j e), (length-map (get_or vs j e).done job_of), (drop-append_seam (jobs_of (get_or vs j e).done) (get_or vs j e).seen))
+    grind (arith, (drop_at (jobs_of (get_or vs j e).done) (get_or vs j e).seen _ (length-map (get_or vs j e).done job_of)))
 
 pub all_run : (k : Kept) (ls : List WorkLanes) (ws vs : List Worker) → 0 < length ls
     → AreSettled k vs → HaveLooked ws vs → HaveSeenAll ls vs → length ws ≡ length ls → (n : ℕ)
@@ -126,7 +123,7 @@ pub all_listed : (size : ℕ) (l : Completions) (items : List Cqe) (k : ℕ) →
     → items ≡ take k (unreaped l) → length l.posted ≤ length l.reaped + k
     → l.reaped ++ items ≡ l.posted
 all_listed size l items k law so_far many =
-    let rest : unreaped l ≡ in_ring l ++ in_overflow l = ap (drop (length l.reaped)) law.in_order ∙ drop-append_seam l.reaped (in_ring l ++ in_overflow l) in
+    let rest : unreaped l ≡ in_ring l ++ in_overflow l = ap (drop (length l.reaped)) law.in_order ∙ drop_at l.reaped (in_ring l ++ in_overflow l) _ refl in
     ap (λ xs. l.reaped ++ xs) (so_far ∙ take_all k (unreaped l) (omega (arith, length-drop (length l.reaped) l.posted, many)) ∙ rest) ∙ sym law.in_order
 
 pub few_unreaped : (a b : Kept) (rs : List JobResult) (most : ℕ) → TakesAll a b rs
@@ -138,7 +135,7 @@ few_unreaped a b rs most all few =
 -- a list after which others stand is taken whole
 pub take_whole : {X : Type 0} (n : ℕ) (xs others : List X) → length xs ≡ n
     → take n (xs ++ others) ≡ xs
-take_whole n xs others same = grind (arith, take-append_seam)
+take_whole n xs others same = take_at xs others n same
 
 -- The history is lawful.
 

@@ -1,13 +1,10 @@
 -- Settling the workers: all results that wait at one are taken in, one after the other, and then those of the next, while the others' wait.
-use Rattle.std.proofs.Common.{◌≡◌, ℕ, ◌+◌, ◌<◌, ◌≤◌, List, [], ◌∷◌, ◌++◌, length, map, refl, sym, subst, ap, ◌∙◌, arith, append_assoc, append-nil, ap₂, ◌*◌, take, get_or, zero, suc, add-one}
-use Rattle.uring_threads.proofs.Common.{Done, Grows, HasCarried, HaveCarried, HaveSeenAll, History, IsLawfulApart, IsRight, IsSettled, IsSettledAt, IsWork, Job, JobResult, Kept, Looks, Setup, TakesAll, Wait, WorkLanes, Worker, all_waiting, finish_of, get_or-set_other, get_or_default, history, history_of_cons, jobs_of, jobs_sent, jobs_to, length-append, length-map, length-set, map-append, nil_from_length, results_held, results_of, results_received, settled_work, slice_set, take_all, waiting_at, with_taken_in, works_of}
+use Rattle.std.proofs.Common.{◌≡◌, ℕ, ◌+◌, ◌<◌, ◌≤◌, List, [], ◌∷◌, ◌++◌, length, map, refl, sym, subst, ap, ◌∙◌, arith, append_assoc, append-nil, ap₂, ◌*◌, take, get_or, zero, suc, add-one, drop_at}
+use Rattle.uring_threads.proofs.Common.{AreLanesOf, Done, Grows, HasCarried, HaveCarried, HaveSeenAll, History, IsLawfulApart, IsRight, IsSettled, IsSettledAt, IsWork, Job, JobResult, Kept, Looks, Setup, TakesAll, Wait, WorkLanes, Worker, all_waiting, finish_of, get_or-set_other, get_or_default, history, history_of_cons, jobs_of, jobs_sent, jobs_to, length-append, length-map, length-set, map-append, nil_from_length, pairing_of, results_held, results_of, results_received, settled_work, slice_set, take_all, waiting_at, with_taken_in, works_of}
 use Rattle.uring_threads.proofs.Settling.{drain, none_waits}
 use Rattle.uring_threads.proofs.TraceSteps.{longer_history}
-use Rattle.uring_workers.specs.Opened.{AreLanesOf}
-use Rattle.uring_workers.specs.Pairings.{pairing_of}
 use Rattle.uring_threads.proofs.SameLanes.{set_cases}
 use Rattle.uring_threads.proofs.Carrying.{others_carried}
-use Rattle.std.proofs.Math.Seq.{drop-append_seam}
 
 -- Results taken in one after the other.
 
@@ -138,7 +135,7 @@ module _ (a b c : Kept) (ls ms : List WorkLanes) (ws vs : List Worker) (count fi
       let at_count = one.settled (length ls) count (s.carried count d lt) in
       let there : count < length vs = omega (arith, s.many_workers, of.many, lt) in
       let was : (f : Worker) → get_or vs count e ≡ get_or ws count f = λ f. s.workers_stay count e (omega arith) ∙ get_or_default ws count e f (omega (arith, of.many, lt)) in
-      let waits : waiting_at (get_or ls count d) (get_or ws count e) ≡ one.trace.0 = grind (arith, drop-append_seam) in
+      let waits : waiting_at (get_or ls count d) (get_or ws count e) ≡ one.trace.0 = grind (arith, drop_at) in
       record {
         many = length-set ms count now ∙ s.many;
         many_workers = length-set vs count after ∙ s.many_workers;
