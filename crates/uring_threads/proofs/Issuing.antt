@@ -1,6 +1,6 @@
 -- How the Issue of the next request is answered, and the loop of issues: lanes are looked at, and then a request is issued.
 use Rattle.std.proofs.Common.{◌≡◌, ℕ, Bool, true, List, Option, Some, None, length, ℤ, refl, sym, subst, ap, ◌∙◌, ◌+◌, ◌<◌, ◌≤◌, get_or, arith}
-use Rattle.uring_threads.proofs.Common.{Answer, AreSameLanes, CalledForApart, Grows, HasCarried, HaveCarried, IsEnded, IsLookedAt, IsUnmoved, Kept, Op, Repeats, WorkLanes, World, count_by-le-length, entry_of, is_issuable, is_running, is_running_started_same, issues_counted, issues_request, length-append, next_in, next_of, none_counted, now, operation_of, operation_running, outstanding_tells, requests_of, results_received}
+use Rattle.uring_threads.proofs.Common.{Answer, AreSameLanes, CalledForApart, Grows, HasCarried, HaveCarried, IsLookedAt, IsUnmoved, Kept, Op, Repeats, WorkLanes, World, count_by-le-length, entry_of, is_issuable, is_running, is_running_started_same, issues_counted, issues_request, length-append, next_in, next_of, none_counted, now, operation_of, operation_running, outstanding_tells, requests_of, results_received}
 use Rattle.std.proofs.lemmas.Option.{cond_some}
 use Rattle.uring_linux.specs.LinuxRequests.{LinuxRequests}
 use Rattle.uring_entry.proofs.BelowLemmas.{least_below_tells}
@@ -48,13 +48,10 @@ one_issue : (a b : Kept) (n : ℕ) (x : Answer) → Grows a b (step.Issue n, x)
 one_issue a b n x g served =
     repeats_one step.Issue n x (issues_counted 1) g (rw served) (rw served) (posts_only a.setup (now a) n x).0
 
-end_issues : (n : ℕ) (x : Answer) → IsEnded x → issues_request (step.Issue n, x) ≡ true
-end_issues n x ended = grind arith
-
 pub issued_repeats : (a b : Kept) (n : ℕ) (told : Option Op) → IssuedAs a b n told
     → Repeats a b step.Issue (issues_counted 1)
 issued_repeats a b n (Some op) issued = one_issue a b n answer.Run issued.0 refl
-issued_repeats a b n None issued = one_issue a b n issued.0 issued.1 (end_issues n issued.0 issued.2)
+issued_repeats a b n None issued = one_issue a b n issued.0 issued.1 (grind arith)
 
 -- Room was asked for, and the lanes were looked at.
 pub looked_on : (k r : Kept) (first old new : List WorkLanes) → IsUnmoved k r

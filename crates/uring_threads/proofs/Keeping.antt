@@ -8,8 +8,6 @@ use Rattle.uring_threads.specs.declared.store.Store.{Store}
 use Rattle.uring_threads.specs.Events.{Events}
 use Rattle.uring_threads.specs.Store.{step_of, answer_of, event_of, events_of, IsStepWithin, IsAnswerWithin, IsWithin, Stays, Goes, IsSame, HasRoom, AreStored}
 
--- Lists that grow.
-
 -- Stores that grow.
 
 -- an answer that was kept is the same
@@ -25,15 +23,6 @@ answer_stays s t _ stays within = (refl, tt)
 event_stays : (s t : Store) (b : Brief) → Stays s t → IsWithin s b
     → (event_of t b ≡ event_of s b) × IsWithin t b
 event_stays s t b stays within = grind (arith, (answer_stays s t b.answer stays within.1))
-
--- Stores stay as they are, and grow twice.
-
-pub stays_then : (s t u : Store) → Stays s t → Stays t u → Stays s u
-stays_then s t u a b = record {
-  filled = grind arith;
-  others = grind arith;
-  bytes = grind arith;
-}
 
 -- Lists of events.
 
@@ -83,7 +72,9 @@ pub record Grew (s u : Store) : Type 0 where
 pub grew : (s t u : Store) → Goes s t → t ≡ record s { filled = t.filled } → Goes t u
     → u.filled ≡ t.filled
     → Grew s u
-grew s t u one same other filled = grind (arith, stays_then)
+grew s t u one same other filled =
+    let stays : Stays s u = record { filled = grind arith; others = grind arith; bytes = grind arith } in
+    grind arith
 
 -- what is long in the event is kept, and it is the event of this step and this answer
 pub kept_event : (t u : Store) (b : Brief) (event : Event) → Goes t u → IsStepWithin t b.step

@@ -42,9 +42,8 @@ appended {a} {b} {kind} p = append_cancel_left (steps_of a) (map step_of p.tally
 pub repeats_idle : {a b : Kept} {kind : ℕ → Step} {t : Tally} (p : Repeats a b kind t)
     → length p.numbers ≡ 0 → b.trace ≡ a.trace
 repeats_idle {a} {b} {kind} p none =
-    let events = p.tally.events in
-    let nothing : events ≡ [] = nil_from_length events (omega (arith, length-map events step_of, ap length (appended p), length-map p.numbers kind, none)) in
-    p.tally.trace ∙ ap (λ es. a.trace ++ es) nothing ∙ append-nil a.trace
+    let nothing : p.tally.events ≡ [] = nil_from_length _ (omega (arith, length-map p.tally.events step_of, ap length (appended p), length-map p.numbers kind, none)) in
+    rw (p.tally.trace, nothing, append-nil)
 
 -- As many Finishes and Issues as were counted.
 

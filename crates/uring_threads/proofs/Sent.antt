@@ -1,16 +1,16 @@
 -- What a lawful history tells of jobs and of operations: each is that of a request's entry, and of each request as many jobs were sent as operations were carried out, and one more while it runs.
 -- And of what is left at a place: of the jobs sent to it, those after the operations that were carried out are of the requests that run.
 -- By `Moves` and induction over the history, and by counting how often a number stands among what was sent and carried out.
-use Rattle.std.proofs.Common.{◌≡◌, ℕ, ◌<◌, ◌==◌, ℤ, List, [], ◌∷◌, ◌++◌, length, Bool, true, false, cond, None, refl, ◌∙◌, ap, arith, ◌≢◌, ◌+◌, append-nil, count_by}
+use Rattle.std.proofs.Common.{◌≡◌, ℕ, ◌<◌, ◌==◌, ℤ, List, [], ◌∷◌, ◌++◌, length, Bool, true, false, cond, refl, ◌∙◌, ap, arith, ◌≢◌, ◌+◌, append-nil, count_by}
 use Rattle.uring_threads.proofs.Common.{All-push, All-weaker, AllByRecursion, Answer, CalledForApart, Done, History, IsLawfulApart, IsSoundRequests, Job, Op, Requests, Setup, Sqe, Step, World, and_parts, done_at, done_by, done_in, eq-eqb, eqb-true, filter, is_outstanding, is_running, is_running_ended_other, is_running_ended_same, is_running_started_other, is_running_started_same, issue_answer, job_by, job_in, job_of, jobs_at, jobs_in, jobs_of, length-append, list_any, operation_of, outstanding_tells, requests_of, slice_index_or, sum_by-append, sum_by-cons, sum_by_push, with_call, with_ended, with_issued_end, with_told, world, zero_entry}
 use Rattle.uring_entry.specs.Requests.{with_started}
-use Rattle.uring_core.specs.Events.{end_told_by}
 use Rattle.uring_core.specs.declared.answer.Answer.TheVariants as answer
 use Rattle.uring_core.proofs.Moves.{Move, stays, accepts, starts, ends_run, move_of}
 use Rattle.uring_core.proofs.Running.{entry_stays}
 use Rattle.uring_core.proofs.Sound.{sound_of}
 use Rattle.uring_core.proofs.ListCounts.{count_none, count_some}
 use Rattle.std.proofs.lemmas.List.Elements.{filter-append}
+use Rattle.std.proofs.lemmas.List.Folds.{fold-map}
 
 -- the operation of a request, where these entries were accepted
 abbrev pub op_at : List Sqe → ℕ → Op
@@ -45,11 +45,6 @@ not_running : (g : Setup) (w : World) (n : ℕ) (res : ℤ) (bytes : List ℕ)
     → answer.Ended res bytes ≡ issue_answer g w n → is_running w.requests n ≡ false
 not_running g w n res bytes called = grind arith
 
--- what tells no end carries no operation out
-silent_none : (w : World) (s : Step) (a : Answer) → end_told_by (s, a) ≡ None
-    → done_by w (s, a) ≡ None
-silent_none w s a e = grind arith
-
 -- an end of what doesn't run changes nothing of it
 issued_runs : (linux : Bool) (r : Requests) (m n : ℕ) (res : ℤ) → is_running r m ≡ false
     → is_running (with_issued_end linux r m res) n ≡ is_running r n
@@ -67,7 +62,7 @@ accounts_then : (g : Setup) (w : World) (q : Requests) (s : Step) (a : Answer) (
     → Accounts w.requests jobs done
     → Accounts q (with_told jobs (job_by w (s, a))) (with_told done (done_by w (s, a)))
 accounts_then g w q s a jobs done (stays _ _ no_start no_end) called i all =
-    rw (no_start, silent_none w s a no_end) all
+    grind arith
 accounts_then g w q s a jobs done (accepts accepted missed head entries) called i all =
     record {
       sent = All-weaker _ _ (of_call w.requests entries) jobs all.sent;
@@ -112,13 +107,6 @@ at_place job place k n accepted [] all = grind arith
 at_place job place k n accepted (x ∷ xs) all =
     one_kept (λ y. (job y).number == n) x xs _ _ _ (λ same. ap (λ op. place op == k) (all.0.1 ∙ ap (op_at accepted) (eqb-true _ _ same))) (at_place job place k n accepted xs all.1)
 
--- jobs have the numbers of their operations
-jobs_times : (n : ℕ) (ds : List Done)
-    → count_by (λ j. j.number == n) (jobs_of ds) ≡ count_by (λ d. d.number == n) ds
-jobs_times n [] = refl
-jobs_times n (d ∷ ds) =
-    omega (arith, jobs_times n ds, sum_by-cons (λ (j : Job). cond (j.number == n) 1 0) (job_of d) (jobs_of ds), sum_by-cons (λ (d : Done). cond (d.number == n) 1 0) d ds)
-
 -- What is left.
 
 left_count : (own runs : Bool) (jobs done sent carried later : ℕ) → sent ≡ cond own jobs 0
@@ -135,7 +123,7 @@ module _ (g : Setup) (h : History) (lawful : IsLawfulApart g h) (place : Op → 
       let carried = at_place job_of place k n (world g h).requests.accepted (done_in g h) a.carried in
       let ds : List Done = done_at place k (done_in g h) in
       left_count _ _ _ _ _ _ _ sent carried (a.counts n)
-      (ap (count_by (λ j. j.number == n)) all ∙ omega (arith, sum_by-append (λ (j : Job). cond (j.number == n) 1 0) (jobs_of ds) later, jobs_times n ds))
+      (ap (count_by (λ j. j.number == n)) all ∙ omega (arith, sum_by-append (λ (j : Job). cond (j.number == n) 1 0) (jobs_of ds) later, fold-map (λ (m : ℕ) (j : Job). m + cond (j.number == n) 1 0) job_of 0 ds))
 
   -- what is left is the place's own, and runs
   pub left_runs : (n : ℕ) → list_any (λ j. j.number == n) later ≡ true

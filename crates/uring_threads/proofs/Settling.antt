@@ -1,7 +1,7 @@
 -- The laws of settling: a result that waits can be taken in, and once none waits the history is settled.
 -- From what is left at a place (`LeftAt`), worker by worker.
 use Rattle.std.proofs.Common.{◌≡◌, ◌≢◌, ℕ, zero, suc, ◌+◌, ◌<◌, ◌≤◌, ◌==◌, List, [], ◌∷◌, ◌++◌, map, drop, true, refl, sym, subst, ◌∙◌, ap, arith, inl, inr, append_assoc, append-nil}
-use Rattle.uring_threads.proofs.Common.{AllByRecursion, AreDone, Done, FinishesApart, History, IsDealtByFile, IsLawfulApart, IsWork, Job, JobResult, NoneWaits, Op, ResultsRun, Settles, Setup, Sqe, Work, all_kept_by, cases_eq, done_by_worker, done_in, entry_of, eq-eqb, file_of, files_left, finish_of, first_files, history_of_append, history_of_cons, job_of, jobs_in, jobs_of, jobs_to, length, length-map, list_any, map-append, nil_from_length, operation_of, or_left, place_of, place_of_file, result_of, results_of, waiting_of, with_taken_in, world}
+use Rattle.uring_threads.proofs.Common.{AllByRecursion, Done, FinishesApart, History, IsDealtByFile, IsLawfulApart, IsWork, Job, JobResult, NoneWaits, Op, ResultsRun, Settles, Setup, Sqe, Work, all_kept_by, cases_eq, done_by_worker, done_in, entry_of, eq-eqb, finish_of, history_of_append, history_of_cons, job_of, jobs_in, jobs_of, jobs_to, length, length-map, list_any, map-append, nil_from_length, operation_of, or_left, place_of, place_of_file, result_of, results_of, waiting_of, with_taken_in, world}
 use Rattle.uring_core.specs.declared.answer.Answer.TheVariants as answer
 use Rattle.uring_threads.proofs.Dealing.{dealt_by_file, workers_join, files_by_worker}
 use Rattle.uring_threads.proofs.Sent.{IsOf, accounts, left_runs, runs_left, one_more_at, none_more_at}
@@ -77,16 +77,12 @@ none_waits g workers h works some lawful are done none =
     let dealt : IsDealtByFile workers g.files = dealt_by_file workers g.files some in
     let came = λ (k : ℕ) (lt : k < workers). all_came g workers h k (works k) lawful (are k lt) (none k lt) in
     record {
-      lawful = workers_join g workers h some lawful (λ k lt. subst (AreDone (first_files g)) (sym (came k lt).0) (done k lt));
-      files = λ fd.
-          let k : ℕ = place_of_file workers g.files fd in
-          let lt : k < workers = grind arith in
-          files_by_worker g workers h fd lawful ∙ ap (λ ds. file_of (files_left (first_files g) ds) fd) (came k lt).0;
+      lawful = workers_join g workers h some lawful (λ k lt. rw (came k lt).0 (done k lt));
+      files = λ fd. rw (came (place_of_file workers g.files fd) (grind arith)).0 at (files_by_worker g workers h fd lawful);
       running = λ n. (
         (λ running.
             let op : Op = operation_of (entry_of (world g h).requests n) in
-            let lt = dealt.within op in
-            (place op, lt, runs_left g h lawful place (place op) _ (came (place op) lt).1 n refl running)),
+            (place op, dealt.within op, runs_left g h lawful place (place op) _ (came (place op) (dealt.within op)).1 n refl running)),
         (λ there. (left_runs g h lawful place there.0 _ (came there.0 there.1).1 n there.2).1),
       );
     }

@@ -120,22 +120,10 @@ pub turned : {E : Type 0} (granted : Type 0) (old new : Kernel) (turn : Turn) (a
 turned granted old new turn answer is g pairing sizes served not_stored ok =
     let setup = g.counts.appends.setup in
     let hold = hold_stays old.lanes new.lanes g.same is.hold in
-    record {
-      is = grind arith;
-      turned = record {
-        served = served;
-        next = next_is_none answer new.kept new.lanes (IfOk-weaker answer _ _ (λ made s. s.none_left) served) g.ties.carried hold;
-        err = on_err answer (_, g.counts.appends);
-        rows = g.rows;
-        few_results = g.few;
-        not_stored = not_stored;
-      };
-      setup = setup;
-      lanes = g.same;
-      pairing = pairing;
-      sizes = sizes;
-      ok = ok;
-    }
+    let kernel : IsKernel new = grind arith in
+    let next = next_is_none answer new.kept new.lanes (IfOk-weaker answer _ _ (λ made s. s.none_left) served) g.ties.carried hold in
+    let err : OnErr answer ((t : Tally) × Appends old.kept new.kept t) = on_err answer (_, g.counts.appends) in
+    assumption (kernel, next, err)
 
 -- if memory was refused
 pub refused : {E : Type 0} (granted : Type 0) (old new : Kernel) (turn : Turn) (answer : Result Turn E)
