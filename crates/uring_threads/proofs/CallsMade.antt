@@ -1,6 +1,6 @@
 -- What calls that are made one after the other leave: which are left, how the ring stands, what they append, and which rows of steps they are.
 use Rattle.std.proofs.Common.{◌≡◌, ℕ, zero, suc, ◌+◌, ◌-◌, ◌≤◌, Bool, true, false, not, ◌&&◌, List, [], ◌∷◌, ◌++◌, length, map, sum, Some, None, is_some, if◌then◌else◌, nat_lt, nat_le, refl, sym, subst, ap, ap₂, ◌∙◌, arith, append_assoc, append-nil, length-drop, ◌<◌, drop_at}
-use Rattle.uring_threads.proofs.Common.{Appends, AreBegun, AreTaken, HasBegun, HaveMade, Intake, IsFirst, IsUnmoved, Item, Kept, Published, Records, Setup, Sqe, Stands, Step, Submission, World, after_call, after_calls, all_published_as, bad_word, call_row, calls_after, calls_counted, calls_left, calls_of, calls_row, drop_of_length-le, ends_after_item, ends_of, is_spent, items_fresh, items_keep, items_row, length-map, lt-ltb, now, refused_row, sum_by-cons, taken, with_entry, with_item, with_items, with_items_published, with_published, words_of}
+use Rattle.uring_threads.proofs.Common.{Appends, AreBegun, AreTaken, HasBegun, HaveMade, Intake, IsFirst, IsUnmoved, Item, Kept, Published, Records, Setup, Sqe, Stands, Step, Submission, World, after_call, after_calls, all_published_as, call_row, calls_after, calls_counted, calls_left, calls_of, calls_row, drop_of_length-le, ends_after_item, ends_of, is_spent, items_fresh, items_keep, items_row, length-map, lt-ltb, now, refused_row, sum_by-cons, taken, with_items, with_items_published, with_published, words_of}
 use Rattle.uring_entry.specs.Submission.{place_of}
 use Rattle.uring_core.specs.Stops.{stops_at_word}
 use Rattle.uring_ports.specs.declared.item.Item.TheVariants as item
@@ -9,6 +9,7 @@ use Rattle.uring_threads.proofs.TraceSteps.{appends_none, appends_then, still}
 use Rattle.uring_core.specs.declared.step.Step.TheVariants as step
 use Rattle.uring_threads.specs.declared.intake.Intake.TheVariants as intake
 use Rattle.uring_threads.proofs.Recording.{records_none, calls_row_snoc, refused_is, records_then}
+use Rattle.uring_threads.proofs.ItemSteps.{items_stand}
 
 -- Lengths of calls.
 
@@ -43,15 +44,6 @@ ends_published g content slot (item.Entry entry ∷ later) few =
     ap₂ (λ b bs. b ∷ bs) (ap (λ b. not (is_some (if b then Some (content slot) else None)) && stops_at_word g) (lt-ltb slot g.sq (omega arith))) (ends_published g content (slot + 1) later (omega arith))
 ends_published g content slot (item.Bad word ∷ later) few = ap₂ (λ b bs. b ∷ bs) (word_ends g.sq word (stops_at_word g) (content word)) (ends_published g content (slot + 1) later (omega arith))
 
--- items that are put leave the calls
-pub items_keep_calls : (l : Submission) (slot : ℕ) (items : List Published)
-    → (with_items l slot items).calls ≡ l.calls
-items_keep_calls l slot [] = refl
-items_keep_calls l slot (with_entry entry ∷ later) =
-    items_keep_calls (with_item l slot (with_entry entry)) (slot + 1) later
-items_keep_calls l slot (bad_word word ∷ later) =
-    items_keep_calls (with_item l slot (bad_word word)) (slot + 1) later
-
 -- the calls that are left once items are published are those of the items
 pub published_left : (g : Setup) (l : Submission) (items : List Item) → l.fresh ≡ [] → Stands l [] 0
     → length items ≤ g.sq
@@ -60,7 +52,7 @@ published_left g l items fresh s few =
     let from : taken l ≡ length l.published = omega (arith, s.waiting) in
     let shown : List Published = all_published_as items in
     let words = items_fresh l 0 shown ∙ ap (λ ws. ws ++ words_of 0 shown) fresh in
-    rw (items_keep_calls l 0 shown, items_keep l 0 shown, words, from, drop_at l.published _ _ refl, ends_published g (with_items l 0 shown).content 0 items (omega arith))
+    rw ((items_stand l [] 0 items s).2, items_keep l 0 shown, words, from, drop_at l.published _ _ refl, ends_published g (with_items l 0 shown).content 0 items (omega arith))
 
 -- The world after calls.
 

@@ -1,6 +1,6 @@
 -- What is reported once all ends are settled, from what ties them to the trace.
-use Rattle.std.proofs.Common.{◌≡◌, ◌↔◌, ℕ, ℤ, zero, suc, ◌+◌, ◌<◌, ◌≤◌, ◌==◌, Bool, Some, true, List, [], ◌∷◌, ◌++◌, length, map, take, drop, get_or, count_by, cond, refl, sym, subst, ap, ◌∙◌, arith, inl, inr, append_assoc, append-nil, length-drop, add-zero, drop_at, take_at}
-use Rattle.uring_threads.proofs.Common.{AppEnd, AreItems, AreSettled, AreTogether, BeginsCalls, ClosesOnlyAllTaken, Completions, Cqe, DeliversReaped, FinishesAll, HasOneClose, HaveLooked, HaveSeenAll, History, Intake, IsItem, IsKernel, IsLawful, IsSameKernel, Item, Job, JobResult, Kept, Kernel, LeavesCompletions, LeavesItems, LeavesRunning, OnlyPosts, PublishesItems, Put, Report, Setup, Sizes, TakesAll, Tied, WorkLanes, Worker, World, all_published_as, all_untaken, all_waiting, calls_of, closes_ring, finish_of, flat_map-append, has_job, history, history_of_cons, is_running, items_of_calls, job_of, jobs_of, left_by, length-append, length-map, list_any, map-append, now, or_cases, or_right, posts, slice_get, sum_by-cons, take_all, take_more, taken, unreaped, untaken_at, waiting_in, with_end_of, with_taken_in, world}
+use Rattle.std.proofs.Common.{◌≡◌, ◌↔◌, ℕ, ℤ, zero, suc, ◌+◌, ◌<◌, ◌≤◌, ◌==◌, Bool, Some, true, List, [], ◌∷◌, ◌++◌, length, map, take, drop, get_or, count_by, cond, refl, sym, subst, ap, ◌∙◌, arith, inl, inr, append_assoc, append-nil, length-drop, add-zero, drop_at, take_at, flat_map}
+use Rattle.uring_threads.proofs.Common.{AppEnd, AreItems, AreSettled, AreTogether, BeginsCalls, ClosesOnlyAllTaken, Completions, Cqe, DeliversReaped, FinishesAll, HasOneClose, HaveLooked, HaveSeenAll, History, Intake, IsItem, IsKernel, IsLawful, IsSameKernel, Item, Job, JobResult, Kept, Kernel, LeavesCompletions, LeavesItems, LeavesRunning, OnlyPosts, PublishesItems, Report, Setup, Sizes, TakesAll, WorkLanes, Worker, World, all_published_as, all_untaken, all_waiting, calls_left, calls_of, closes_ring, finish_of, flat_map-append, has_job, history, history_of_cons, is_running, is_shut, items_of_calls, job_of, jobs_of, left_by, length-append, length-map, list_any, map-append, now, or_cases, or_right, posts, slice_get, sum_by-cons, take_all, take_more, taken, unreaped, untaken_at, waiting_in, with_end_of, with_taken_in, world}
 use Rattle.uring_core.specs.declared.answer.Answer.TheVariants as answer
 use Rattle.std.proofs.lemmas.Option.{slice_get_within, get_or_from_slice_get}
 use Rattle.uring_laws.specs.Laws.{ReapedBeginPosted, in_ring, in_overflow}
@@ -28,31 +28,6 @@ finishes_post g (r ∷ rs) h =
     let next = finishes_post g rs (finish_of r ∷ h) in
     rw (history_of_cons (finish_of r) (map finish_of rs) h)
     (posts_then _ _ _ (posts_only g (world g h) r.number (answer.Ended r.outcome.res r.outcome.bytes)).1 next.0, omega (arith, next.1, one_end g (world g h) r.number r.outcome.res r.outcome.bytes))
-
--- What the application submitted.
-
-module _ (g : Setup) (w : World) (put pulled : Put) (i : Intake) (r : Report) (same : r.setup ≡ g) (t : Tied g w pulled i) (posts : OnlyPosts w (left_by r)) (leaves : LeavesItems put pulled r.unsent) where
-  pub publishes : AreItems g.sq (items_of_calls put.calls) → PublishesItems put r
-  publishes good =
-      let whole : all_published_as (items_of_calls put.calls) ≡ all_published_as (items_of_calls pulled.calls) ++ all_published_as (items_of_calls leaves.rest) = rw (← leaves.calls) (simp (flat_map-append, map-append)) in
-      rw (posts.submission, leaves.items, t.published (all_first (IsItem g.sq) _ _ (rw whole at good)), whole)
-
-  pub begins_calls : BeginsCalls put r
-  begins_calls = grind (arith, (flat_map-append (calls_of g) pulled.calls leaves.rest), append_assoc)
-
-  pub closes_all : ClosesOnlyAllTaken put r
-  closes_all = λ closed.
-      let pulled_closed : pulled.closed ≡ true = sym t.closed ∙ sym posts.is_closed ∙ closed in
-      let none : waiting_in i ≡ 0 = grind (arith, t.shut) in
-      let stands = rw none at t.stands in
-      let last = leaves.closed pulled_closed in
-      let calls = rw (last.1, append-nil) at leaves.calls in
-      record {
-        closed = last.0;
-        unsent = rw last.1 at leaves.items;
-        calls = rw (posts.submission, same, ← calls, ← t.calls, none_left g w.submission stands, append-nil);
-        taken = rw posts.submission (omega (arith, stands.waiting));
-      }
 
 -- The ring is closed once, if at all.
 
@@ -146,6 +121,9 @@ settled_lawful k (w ∷ ws) some settled = (settled w).lawful
 
 -- All of it, of ends in hand.
 
+none_waiting : (i : Intake) → is_shut i ≡ true → waiting_in i ≡ 0
+none_waiting i shut = grind arith
+
 pub record TellsEnds (app : AppEnd) (kernel : Kernel) (workers : List Worker) (r : Report) : Type 0 where
   pub running : LeavesRunning kernel.lanes workers r
   pub items : PublishesItems app.submitted r
@@ -163,18 +141,32 @@ pub tells_ends : (app : AppEnd) (kernel same : Kernel) (workers : List Worker) (
     → r.setup ≡ kept.setup → FinishesAll kept.trace lanes workers r → LeavesRunning lanes workers r
     → (r.unsent ≡ unsent) × (r.undelivered ≡ undelivered) → TellsEnds app kernel workers r
 tells_ends app kernel same workers kept lanes unsent undelivered r t s is keeps these items completions good setup trace running rests =
-    let goes_on : FinishesAll same.kept.trace lanes workers r = subst (λ (k : Kept). FinishesAll k.trace lanes workers r) keeps trace in
-    let of : r.setup ≡ same.kept.setup = setup ∙ ap (λ (k : Kept). k.setup) keeps in
+    let goes_on : FinishesAll same.kept.trace lanes workers r = rw keeps at trace in
+    let of : r.setup ≡ same.kept.setup = rw keeps at setup in
     let results : List JobResult = all_waiting lanes workers in
     let posts : OnlyPosts (now same.kept) (left_by r) = rw (of, goes_on, reverse-append) (finishes_post same.kept.setup results (history same.kept)).0 in
     let left : LeavesItems app.submitted same.pulled r.unsent = subst (LeavesItems app.submitted same.pulled) (sym rests.0) items in
     let size : app.sizes.sq ≡ same.kept.setup.sq = ap (λ (z : Sizes). z.sq) (sym (together_same app kernel same workers s t).sizes) ∙ is.sq in
     let tied = is.ties.tied in
+    let more = calls_left same.kept.setup (now same.kept).submission in
+    let later = flat_map (calls_of same.kept.setup) left.rest in
+    let whole : all_published_as (items_of_calls app.submitted.calls) ≡ all_published_as (items_of_calls same.pulled.calls) ++ all_published_as (items_of_calls left.rest) = rw (← left.calls) (simp (flat_map-append, map-append)) in
     record {
       running = subst (λ ls. LeavesRunning ls workers r) (these ∙ ap (λ (k : Kernel). k.lanes) s.others) running;
-      items = publishes same.kept.setup (now same.kept) app.submitted same.pulled same.intake r of tied posts left (subst (λ n. AreItems n (items_of_calls app.submitted.calls)) size good);
-      calls = begins_calls same.kept.setup (now same.kept) app.submitted same.pulled same.intake r of tied posts left;
+      items = rw (posts.submission, left.items, tied.published (all_first (IsItem same.kept.setup.sq) _ _ (rw (size, whole) at good)), whole);
+      calls = (more ++ later, rw (posts.submission, of, ← left.calls, flat_map-append, ← tied.calls) (sym (append_assoc (now same.kept).submission.calls more later)));
       once = rw (posts.is_closed, tied.closed, ← tied.shut, goes_on, closes_append, no_close results, add-zero) is.ties.once;
-      closed = closes_all same.kept.setup (now same.kept) app.submitted same.pulled same.intake r of tied posts left;
+      closed = λ closed.
+          let pulled_closed : same.pulled.closed ≡ true = sym tied.closed ∙ sym posts.is_closed ∙ closed in
+          let none : waiting_in same.intake ≡ 0 = none_waiting same.intake (tied.shut ∙ pulled_closed) in
+          let stands = rw none at tied.stands in
+          let last = left.closed pulled_closed in
+          let calls = rw (last.1, append-nil) at left.calls in
+          record {
+            closed = last.0;
+            unsent = rw last.1 at left.items;
+            calls = rw (posts.submission, of, ← calls, ← tied.calls, none_left same.kept.setup (now same.kept).submission stands, append-nil);
+            taken = rw posts.submission (omega (arith, stands.waiting));
+          };
       reaped = sym (subst (LeavesCompletions same.reaped app.received) (sym rests.1) completions) ∙ sym is.ties.delivered.reaped ∙ sym posts.reaped;
     }

@@ -1,9 +1,9 @@
 -- What ties the dispatcher's lists to its trace: what was pulled stays tied to the submission ring, and the trace has one Close once the close mark was pulled, and none before.
-use Rattle.std.proofs.Common.{◌≡◌, ℕ, ◌+◌, ◌<◌, ◌≤◌, true, false, List, [], ◌∷◌, ◌++◌, length, refl, sym, subst, ap, ◌∙◌, arith, append_assoc, append-nil, count_by, cond}
-use Rattle.uring_threads.proofs.Common.{All, Answer, Appends, ClosesOnce, Event, Grows, HasBegun, HaveMade, Intake, IsItem, IsUnmoved, Item, Kept, None, Published, Pulls, Put, Setup, Stands, Submission, TakesIn, Tally, Tied, World, all_published_as, awaits_memory, close_answer, closes_ring, closing, flat_map-append, get_or_append_left, if◌then◌else◌, is_shut, is_some, items_of_calls, items_published, length-append, length-map, map-append, now, published_as, sum_by-append, tail_publishes, with_close, with_items, with_items_published}
+use Rattle.std.proofs.Common.{◌≡◌, ℕ, ◌+◌, ◌<◌, ◌≤◌, true, false, List, [], ◌∷◌, ◌++◌, length, refl, sym, subst, ap, ◌∙◌, arith, append_assoc, append-nil, count_by, cond, zero-add}
+use Rattle.uring_threads.proofs.Common.{All, Answer, Appends, ClosesOnce, Event, Grows, HasBegun, HaveMade, Intake, IsItem, IsUnmoved, Item, Kept, None, Published, Pulls, Put, Setup, Stands, Submission, TakesIn, Tally, Tied, World, all_published_as, awaits_memory, close_answer, closes_ring, closing, flat_map-append, get_or_append_left, if◌then◌else◌, is_shut, is_some, items_of_calls, items_published, length-append, length-map, map-append, now, published_as, sum_by-append, tail_publishes, with_close, with_items_published}
 use Rattle.uring_ports.specs.Ports.{with_call}
 use Rattle.uring_ports.specs.declared.pulled.Pulled.{Pulled}
-use Rattle.uring_threads.proofs.CallsMade.{items_keep_calls, none_left, published_left, calls_add_up, kept_after}
+use Rattle.uring_threads.proofs.CallsMade.{none_left, published_left, calls_add_up, kept_after}
 use Rattle.uring_core.specs.declared.step.Step.TheVariants as step
 use Rattle.uring_core.specs.declared.answer.Answer.TheVariants as answer
 use Rattle.uring_threads.proofs.ItemSteps.{items_stand}
@@ -40,8 +40,7 @@ pub tied_published : (g : Setup) (w : World) (put : Put) (items : List Item)
 tied_published g w put items t not_closed few =
     let l : Submission = w.submission in
     let shown : List Published = all_published_as items in
-    let put_stands = items_stand l 0 shown (record { fresh = refl; call = t.stands.call; head = t.stands.head; waiting = t.stands.waiting }) in
-    let many : length (with_items l 0 shown).fresh ≡ length items = omega (arith, put_stands.1, ap length t.stands.fresh, length-map items published_as) in
+    let stand = items_stand l [] 0 items t.stands in
     let whole : all_published_as (items_of_calls (put.calls ++ items ∷ [])) ≡ all_published_as (items_of_calls put.calls) ++ shown = simp (flat_map-append, map-append, append-nil) in
     let before_is = rw (none_left g l t.stands, append-nil) at t.calls in
     record {
@@ -49,8 +48,8 @@ tied_published g w put items t not_closed few =
           let before : List Published = all_published_as (items_of_calls put.calls) in
           let all = rw whole at good in
           rw (whole, items_published l g.sq shown t.stands.fresh (omega (arith, few, length-map items published_as)) (all_last (IsItem g.sq) before shown all), t.published (all_first (IsItem g.sq) before shown all));
-      calls = rw (published_left g l items t.stands.fresh t.stands few, items_keep_calls l 0 shown, before_is, flat_map-append, append-nil);
-      stands = rw many at (tail_publishes g _ _ put_stands.0);
+      calls = rw (published_left g l items t.stands.fresh t.stands few, stand.2, before_is, flat_map-append, append-nil);
+      stands = rw (stand.1, zero-add) at (tail_publishes g _ _ stand.0);
       spent = tt;
       closed = t.closed;
       shut = sym not_closed;
