@@ -1,5 +1,5 @@
 -- What calls that are made one after the other leave: which are left, how the ring stands, what they append, and which rows of steps they are.
-use Rattle.std.proofs.Common.{◌≡◌, ℕ, zero, suc, ◌+◌, ◌-◌, ◌≤◌, Bool, true, false, not, ◌&&◌, List, [], ◌∷◌, ◌++◌, length, map, sum, Some, None, is_some, if◌then◌else◌, nat_lt, nat_le, refl, sym, subst, ap, ap₂, ◌∙◌, arith, append_assoc, append-nil, length-drop, ◌<◌, drop_at}
+use Rattle.std.proofs.Common.{◌≡◌, ℕ, zero, suc, ◌+◌, ◌-◌, ◌≤◌, Bool, true, false, not, ◌&&◌, List, [], ◌∷◌, ◌++◌, length, map, sum, Some, None, is_some, if◌then◌else◌, refl, sym, subst, ap, ap₂, ◌∙◌, arith, append_assoc, append-nil, length-drop, ◌<◌, drop_at}
 use Rattle.uring_threads.proofs.Common.{Appends, AreBegun, AreTaken, HasBegun, HaveMade, Intake, IsFirst, IsUnmoved, Item, Kept, Published, Records, Setup, Sqe, Stands, Step, Submission, World, after_call, after_calls, all_published_as, call_row, calls_after, calls_counted, calls_left, calls_of, calls_row, drop_of_length-le, ends_after_item, ends_of, is_spent, items_fresh, items_keep, items_row, length-map, lt-ltb, now, refused_row, sum_by-cons, taken, with_items, with_items_published, with_published, words_of}
 use Rattle.uring_entry.specs.Submission.{place_of}
 use Rattle.uring_core.specs.Stops.{stops_at_word}
@@ -30,11 +30,6 @@ pub none_left : (g : Setup) (l : Submission) → Stands l [] 0 → calls_left g 
 unfolding calls_after
 none_left g l s = ap (λ places. calls_after (ends_of g places) 0) (drop_of_length-le l.published (let q = s.waiting in omega arith))
 
--- a word that names no slot
-word_ends : (size word : ℕ) (linux : Bool) (entry : Sqe)
-    → (not (is_some (if nat_lt word size then Some entry else None)) && linux) ≡ (nat_le size word && linux)
-word_ends size word linux entry = grind arith
-
 -- a call ends after the positions of its items as it does after these
 ends_published : (g : Setup) (content : ℕ → Sqe) (slot : ℕ) (items : List Item) → slot + length items ≤ g.sq
     → ends_of g (map (place_of g.sq content) (words_of slot (all_published_as items)))
@@ -42,7 +37,7 @@ ends_published : (g : Setup) (content : ℕ → Sqe) (slot : ℕ) (items : List 
 ends_published g content slot [] few = refl
 ends_published g content slot (item.Entry entry ∷ later) few =
     ap₂ (λ b bs. b ∷ bs) (ap (λ b. not (is_some (if b then Some (content slot) else None)) && stops_at_word g) (lt-ltb slot g.sq (omega arith))) (ends_published g content (slot + 1) later (omega arith))
-ends_published g content slot (item.Bad word ∷ later) few = ap₂ (λ b bs. b ∷ bs) (word_ends g.sq word (stops_at_word g) (content word)) (ends_published g content (slot + 1) later (omega arith))
+ends_published g content slot (item.Bad word ∷ later) few = ap₂ (λ b bs. b ∷ bs) (grind arith) (ends_published g content (slot + 1) later (omega arith))
 
 -- the calls that are left once items are published are those of the items
 pub published_left : (g : Setup) (l : Submission) (items : List Item) → l.fresh ≡ [] → Stands l [] 0

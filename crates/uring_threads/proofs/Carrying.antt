@@ -10,29 +10,19 @@ use Rattle.uring_workers.proofs.LaneFacts.{lane_full}
 
 -- Nothing is sent by events that issue no request, and nothing taken in by those that finish none.
 
-none_first : {X : Type 0} (p : X → Bool) (x : X) (xs : List X) → count_by p (x ∷ xs) ≡ 0
-    → (p x ≡ false) × (count_by p xs ≡ 0)
-none_first p x xs none = grind (arith, (sum_by-cons (λ y. cond (p y) 1 0) x xs))
-
 -- what only some events add to stays where none of them is
 none_told : {X : Type 0} (told : History → X) (p : Event → Bool)
     → ((e : Event) (h : History) → p e ≡ false → told (e ∷ h) ≡ told h) → (events : List Event) (h : History)
     → count_by p events ≡ 0 → told (history_of events ++ h) ≡ told h
 none_told told p stays [] h none = refl
 none_told told p stays (e ∷ later) h none =
-    let none_here = none_first p e later none in
-    ap told (history_of_cons e later h) ∙ none_told told p stays later (e ∷ h) none_here.1 ∙ stays e h none_here.0
-
-no_job : (g : Setup) (e : Event) (h : History) → issues_request e ≡ false → jobs_in g (e ∷ h) ≡ jobs_in g h
-no_job g e h none = grind arith
-
-no_result : (g : Setup) (e : Event) (h : History) → takes_result e ≡ false → done_in g (e ∷ h) ≡ done_in g h
-no_result g e h none = grind arith
+    let both = sum_by-cons (λ x. cond (p x) 1 0) e later in
+    ap told (history_of_cons e later h) ∙ none_told told p stays later (e ∷ h) (omega (arith, none, both)) ∙ stays e h (grind (arith, none, both))
 
 pub done_stays : (a b : Kept) (t : Tally) → Appends a b t → t.finishes ≡ 0 → (workers k : ℕ)
     → done_by_worker b.setup workers k (history b) ≡ done_by_worker a.setup workers k (history a)
 done_stays a b t p none workers k =
-    rw (p.setup, longer_history a b p.events p.trace, none_told (done_in a.setup) takes_result (no_result a.setup) p.events (history a) (ap (λ (u : Tally). u.finishes) p.tally ∙ none))
+    rw (p.setup, longer_history a b p.events p.trace, none_told (done_in a.setup) takes_result (λ e h none. grind arith) p.events (history a) (ap (λ (u : Tally). u.finishes) p.tally ∙ none))
 
 -- the jobs sent and the operations done stay
 pub record WorkStays (old new : Kept) : Type 0 where
@@ -46,7 +36,7 @@ pub quiet_stays : (a b : Kept) (t : Tally) → Appends a b t → t.issues ≡ 0 
     → WorkStays a b
 quiet_stays a b t p none idle =
     record {
-      jobs = λ workers k. rw (p.setup, longer_history a b p.events p.trace, none_told (jobs_in a.setup) issues_request (no_job a.setup) p.events (history a) (ap (λ (u : Tally). u.issues) p.tally ∙ none));
+      jobs = λ workers k. rw (p.setup, longer_history a b p.events p.trace, none_told (jobs_in a.setup) issues_request (λ e h none. grind arith) p.events (history a) (ap (λ (u : Tally). u.issues) p.tally ∙ none));
       done = done_stays a b t p idle;
     }
 
@@ -110,15 +100,12 @@ carried_set a b n place old y d carried low p jobs taken = λ k e within.
     (λ other. others_carried (carried k e (rw (length-set old place y) at within)) p.others other))
 
 -- each request that starts sends a job
-told_length : (g : Setup) (e : Event) (h : History)
-    → length (jobs_in g (e ∷ h)) ≡ cond (starts_request e) 1 0 + length (jobs_in g h)
-told_length g e h = grind (arith, length-append)
-
 jobs_count : (g : Setup) (events : List Event) (h : History)
     → length (jobs_in g (history_of events ++ h)) ≡ count_by starts_request events + length (jobs_in g h)
 jobs_count g [] h = omega arith
 jobs_count g (e ∷ later) h =
-    ap (λ l. length (jobs_in g l)) (history_of_cons e later h) ∙ omega (arith, jobs_count g later (e ∷ h), told_length g e h, sum_by-cons (λ x. cond (starts_request x) 1 0) e later)
+    let one : length (jobs_in g (e ∷ h)) ≡ cond (starts_request e) 1 0 + length (jobs_in g h) = grind (arith, length-append) in
+    ap (λ l. length (jobs_in g l)) (history_of_cons e later h) ∙ omega (arith, jobs_count g later (e ∷ h), one, sum_by-cons (λ x. cond (starts_request x) 1 0) e later)
 
 some_full : (k : Kept) (lanes : List WorkLanes) → HaveCarried k lanes → HoldJobs lanes
     → SomeIsFull lanes → 64 ≤ count_by starts_request k.trace

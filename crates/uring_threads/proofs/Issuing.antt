@@ -43,15 +43,13 @@ started_op a b n op grows some =
     sym (cond_some (is_running (now b).requests n) (operation_of (entry_of (now b).requests n)) op (sym some)).1 ∙ ap (λ (w : World). operation_of (entry_of w.requests n)) (grown a b (step.Issue n) answer.Run grows)
 
 -- and that is one issue
-one_issue : (a b : Kept) (n : ℕ) (x : Answer) → Grows a b (step.Issue n, x)
-    → issues_request (step.Issue n, x) ≡ true → Repeats a b step.Issue (issues_counted 1)
-one_issue a b n x g served =
-    repeats_one step.Issue n x (issues_counted 1) g (rw served) (rw served) (posts_only a.setup (now a) n x).0
-
 pub issued_repeats : (a b : Kept) (n : ℕ) (told : Option Op) → IssuedAs a b n told
     → Repeats a b step.Issue (issues_counted 1)
-issued_repeats a b n (Some op) issued = one_issue a b n answer.Run issued.0 refl
-issued_repeats a b n None issued = one_issue a b n issued.0 issued.1 (grind arith)
+issued_repeats a b n (Some op) issued =
+    repeats_one step.Issue n answer.Run (issues_counted 1) issued.0 refl refl (posts_only a.setup (now a) n answer.Run).0
+issued_repeats a b n None issued =
+    let served : issues_request (step.Issue n, issued.0) ≡ true = grind arith in
+    repeats_one step.Issue n issued.0 (issues_counted 1) issued.1 (rw served) (rw served) (posts_only a.setup (now a) n issued.0).0
 
 -- Room was asked for, and the lanes were looked at.
 pub looked_on : (k r : Kept) (first old new : List WorkLanes) → IsUnmoved k r

@@ -29,9 +29,9 @@ module _ (a room flushed loaded reaped b : Kept) (x y z : Answer) (all : List Cq
 
   pub row_counts : (n : ℕ) → Appends loaded reaped (reaps_counted n) → Appends a b (reaps_counted n)
   row_counts n p =
-      let last : Appends loaded b (reaps_counted n) = appends_then loaded reaped b (reaps_counted n) none_counted (reaps_counted n) p (appends_one reaped b (step.StoreCqHead, z) none_counted store refl refl) (both_none (reaps_counted n)) in
-      let later : Appends flushed b (reaps_counted n) = appends_then flushed loaded b none_counted (reaps_counted n) (reaps_counted n) (appends_one flushed loaded (step.LoadCqTail, y) none_counted load refl refl) last (none_both (reaps_counted n)) in
-      appends_after a room b (reaps_counted n) u (appends_then room flushed b none_counted (reaps_counted n) (reaps_counted n) (appends_one room flushed (step.Flush, x) none_counted flush refl refl) later (none_both (reaps_counted n)))
+      appends_after a room b _ u (appends_then room flushed b _ _ _ (appends_one room flushed _ none_counted flush refl refl)
+      (appends_then flushed loaded b _ _ _ (appends_one flushed loaded _ none_counted load refl refl)
+      (appends_then loaded reaped b _ _ _ p (appends_one reaped b _ none_counted store refl refl) (both_none (reaps_counted n))) (none_both (reaps_counted n))) (none_both (reaps_counted n)))
 
   -- the least was delivered of what waited, of what there was space for, and of what the ring holds
   pub row_most : (posted reaped space free size n : ℕ) → reaped ≤ posted

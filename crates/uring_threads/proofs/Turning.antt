@@ -2,7 +2,7 @@
 use Rattle.std.proofs.Common.{add-zero, zero-add, ◌≡◌, ℕ, List, refl, ◌∙◌, arith, false, true, ap, append_assoc}
 use Rattle.uring_threads.proofs.Common.{Appends, AreSameLanes, AreTies, ClosesOnce, Counts, Cqe, HasServed, HaveCarried, IfOk, IfOk-from_err, IfOk-weaker, Intake, IsDelivered, IsErr, IsKernel, IsOk, IsUnmoved, KeepsAllBut, Kept, Kernel, OnErr, OnlyPosts, Put, Records, RecordsIntake, RecordsTurn, Repeats, Result, TakesFewResults, TakesIn, Tally, Tied, Turn, Turns, WorkLanes, delivery_row, false≢true, finishes_counted, issues_counted, length, next_in, now, reaps_counted}
 use Rattle.uring_core.specs.declared.step.Step.TheVariants as step
-use Rattle.uring_threads.proofs.Carrying.{quiet_stays, carried_stays, next_is_none, done_stays}
+use Rattle.uring_threads.proofs.Carrying.{quiet_stays, next_is_none, done_stays}
 use Rattle.uring_threads.proofs.Tying.{once_stays}
 use Rattle.uring_threads.proofs.Collecting.{on_err}
 use Rattle.uring_threads.proofs.Recording.{records_none}
@@ -44,13 +44,8 @@ delivers_none {a} {b} u keeps delivered = grind (arith, appends_none, records_no
 
 ties_delivered : {a b : Kept} {pulled : Put} {before reaped : List Cqe} {i : Intake} {lanes : List WorkLanes} {n : ℕ}
     → AreTies a pulled before i lanes → HasDelivered a b n reaped → AreTies b pulled reaped i lanes
-ties_delivered {a} {b} {pulled} {before} {reaped} {i} {lanes} s d =
-    record {
-      tied = grind arith;
-      once = once_stays a b _ i d.tally refl s.once;
-      delivered = d.delivered;
-      carried = carried_stays a b lanes (quiet_stays a b _ d.tally refl refl) s.carried;
-    }
+ties_delivered {a} {b} {i = i} s d =
+    grind (arith, (quiet_stays a b _ d.tally refl refl), (once_stays a b _ i d.tally refl s.once))
 
 -- What the parts of a turn have done, up to where it ends with an answer, which if it is Ok is this turn.
 pub record Goes {E : Type 0} (old : Kernel) (kept : Kept) (pulled : Put) (reaped : List Cqe) (i : Intake) (lanes : List WorkLanes) (turn : Turn) (answer : Result Turn E) : Type 0 where
