@@ -1,6 +1,6 @@
 -- What the lanes of the workers have carried, as the trace goes on; a lane for jobs that shows no room has carried as many as it holds, so as many requests were started.
 use Rattle.std.proofs.Common.{◌≡◌, ◌≢◌, ℕ, ◌<◌, ◌==◌, cond, List, [], ◌∷◌, ◌++◌, length, get_or, count_by, Option, Some, None, refl, sym, ap, ◌∙◌, inl, inr, arith, ◌+◌, ◌≤◌, false, append-nil}
-use Rattle.uring_threads.proofs.Common.{Answer, Appends, AreTakenIn, Bool, Collects, Event, Grows, HasCarried, HaveCarried, History, HoldJobs, IfOk, IsEnded, IsSent, Job, Kept, None, Op, OthersStay, Result, Setup, SomeIsFull, Tally, WorkLanes, cases_eq, count_by-le-length, done_by_worker, done_in, entry_of, history, history_of, history_of_cons, issues_request, jobs_in, jobs_sent, jobs_to, length-append, length-filter, length-set, next_in, now, operation_of, place_of, results_received, set, starts_request, sum_by-cons, takes_result, ◌⊎◌}
+use Rattle.uring_threads.proofs.Common.{Answer, Appends, AreTakenIn, Bool, Collects, Event, Grows, HasCarried, HaveCarried, History, HoldJobs, IsEnded, IsSent, Job, Kept, None, Op, OthersStay, Setup, SomeIsFull, Tally, WorkLanes, cases_eq, count_by-le-length, done_by_worker, done_in, entry_of, history, history_of, history_of_cons, issues_request, jobs_in, jobs_sent, jobs_to, length-append, length-filter, length-set, now, operation_of, place_of, results_received, set, starts_request, sum_by-cons, takes_result}
 use Rattle.uring_core.specs.declared.step.Step.TheVariants as step
 use Rattle.uring_core.specs.declared.answer.Answer.TheVariants as answer
 use Rattle.uring_threads.proofs.TraceSteps.{grown_history, longer_history}
@@ -107,7 +107,8 @@ jobs_count g (e ∷ later) h =
     let one : length (jobs_in g (e ∷ h)) ≡ cond (starts_request e) 1 0 + length (jobs_in g h) = grind (arith, length-append) in
     ap (λ l. length (jobs_in g l)) (history_of_cons e later h) ∙ omega (arith, jobs_count g later (e ∷ h), one, sum_by-cons (λ x. cond (starts_request x) 1 0) e later)
 
-some_full : (k : Kept) (lanes : List WorkLanes) → HaveCarried k lanes → HoldJobs lanes
+-- a lane that shows no room has carried 64 jobs
+pub some_full : (k : Kept) (lanes : List WorkLanes) → HaveCarried k lanes → HoldJobs lanes
     → SomeIsFull lanes → 64 ≤ count_by starts_request k.trace
 some_full k [] carried hold full = absurd (omega (arith, full.1))
 some_full k (d ∷ lanes) carried hold full =
@@ -115,10 +116,3 @@ some_full k (d ∷ lanes) carried hold full =
     let few = count_by-le-length (λ (j : Job). place_of (length (d ∷ lanes)) k.setup.files j.op == full.0) (jobs_in k.setup (history k)) in
     let all = rw append-nil at (jobs_count k.setup k.trace []) in
     omega (arith, lane_full (get_or (d ∷ lanes) full.0 d) (hold full.0 d full.1) (full.2 d), ap length here.jobs, length-filter {X = Job}, few, all)
-
--- so as long as fewer requests were started, no lane keeps one from being issued
-pub next_is_none : {X E : Type 0} (r : Result X E) (k : Kept) (lanes : List WorkLanes)
-    → IfOk r (λ turn. (next_in k ≡ None) ⊎ SomeIsFull lanes) → HaveCarried k lanes
-    → HoldJobs lanes
-    → IfOk r (λ turn. count_by starts_request k.trace < 64 → next_in k ≡ None)
-next_is_none r k lanes left carried hold = grind (arith, some_full)

@@ -31,14 +31,6 @@ none_stays kept workers place seen none = grind arith
 
 -- Several results.
 
--- what couldn't be taken in still can't where a request ended: no other runs by it
-end_comes : (a b : Kept) (workers : ℕ) (r : JobResult) → Grows a b (finish_of r)
-    → NoneComes a b workers
-end_comes a b workers r grows = λ k number can.
-    let ended = grown a b (step.Finish r.number) (answer.Ended r.outcome.res r.outcome.bytes) grows in
-    let runs = rw ended at can.runs in
-    record { runs = grind (arith, is_running_ended_same, is_running_ended_other); own = rw (ended, grows.setup) at can.own }
-
 -- none, and one more
 pub collects_none : (workers place : ℕ) {a b : Kept} → IsUnmoved a b → Collects a b workers place 0
 collects_none workers place {a} {b} u = grind (arith, repeats_none)
@@ -56,7 +48,10 @@ collects_first {a} {b} {workers} {place} r can grows =
         jobs = λ k. rw (grows.setup, longer);
         results = λ k other. rw (grows.setup, longer) (none_more_at at k (done_in a.setup (history a)) end (λ same. other (sym same ∙ can.own)));
       };
-      none_comes = end_comes a b workers r grows;
+      none_comes = λ k number left.
+          let ended = grown a b (step.Finish r.number) (answer.Ended r.outcome.res r.outcome.bytes) grows in
+          let runs = rw ended at left.runs in
+          record { runs = grind (arith, is_running_ended_same, is_running_ended_other); own = rw (ended, grows.setup) at left.own };
     }
 
 -- and it is the last of those that the trace has taken in

@@ -4,7 +4,7 @@ pub use Rattle.std.proofs.Math.ListN.{drop_of_length-le, set}
 pub use Rattle.std.proofs.lemmas.Bool.{and_parts, cases_eq, cases_lt, eq-eqb, eqb-true, false≢true, lt-ltb, or_cases, or_left, or_right}
 pub use Rattle.std.proofs.lemmas.Grind.{common_steps, flat_map-append}
 pub use Rattle.std.proofs.lemmas.List.Sums.{count_by-le-length, length-filter, sum_by-append, sum_by-cons, sum_by_push}
-pub use Rattle.std.proofs.lemmas.List.{append_cancel_left, drop_more, get_or-map, get_or-set_other, get_or-set_same, get_or_append_left, get_or_default, length-append, length-map, length-set, length-take-le, length_push, map-append, nil_from_length, replicate_more, take_all, take_more}
+pub use Rattle.std.proofs.lemmas.List.{append_cancel_left, drop_more, get_or-map, get_or-set_other, get_or-set_same, get_or_append_left, get_or_default, length-append, length-map, length-set, length-take-le, length_push, map-append, nil_from_length, replicate_more, reverse-append, take_all, take_more}
 pub use Rattle.std.proofs.lemmas.Result.{IfOk-from_err, IfOk-weaker}
 pub use Rattle.std.specs.List.{AllByRecursion, filter, list_any}
 pub use Rattle.std.specs.Option.{option_and_then, option_map}

@@ -1,8 +1,7 @@
 -- How the Issue of the next request is answered, and the loop of issues: lanes are looked at, and then a request is issued.
-use Rattle.std.proofs.Common.{◌≡◌, ℕ, Bool, true, List, Option, Some, None, length, ℤ, refl, sym, subst, ap, ◌∙◌, ◌+◌, ◌<◌, ◌≤◌, get_or, arith}
-use Rattle.uring_threads.proofs.Common.{Answer, AreSameLanes, CalledForApart, Grows, HasCarried, HaveCarried, IsLookedAt, IsUnmoved, Kept, Op, Repeats, WorkLanes, World, count_by-le-length, entry_of, is_issuable, is_running, is_running_started_same, issues_counted, issues_request, length-append, next_in, next_of, none_counted, now, operation_of, operation_running, outstanding_tells, requests_of, results_received}
+use Rattle.std.proofs.Common.{◌≡◌, ℕ, true, List, Option, Some, None, length, ℤ, refl, sym, subst, ap, ◌∙◌, ◌+◌, ◌<◌, ◌≤◌, get_or, arith}
+use Rattle.uring_threads.proofs.Common.{Answer, AreSameLanes, CalledForApart, Grows, HasCarried, HaveCarried, IsLookedAt, IsUnmoved, Kept, Op, Repeats, WorkLanes, World, count_by-le-length, entry_of, is_issuable, is_running, is_running_started_same, issues_counted, issues_request, length-append, next_in, none_counted, now, operation_of, operation_running, outstanding_tells, requests_of, results_received}
 use Rattle.std.proofs.lemmas.Option.{cond_some}
-use Rattle.uring_linux.specs.LinuxRequests.{LinuxRequests}
 use Rattle.uring_entry.proofs.BelowLemmas.{least_below_tells}
 use Rattle.uring_core.proofs.Issuable.{issue_goes, issued_ends, issuable_outstanding}
 use Rattle.uring_core.specs.declared.step.Step.TheVariants as step
@@ -14,24 +13,21 @@ use Rattle.uring_threads.proofs.SameLanes.{lanes_then}
 use Rattle.uring_threads.proofs.Posting.{posts_only}
 use Rattle.uring_threads.proofs.Repeating.{repeats_one}
 
--- the next can be issued
-next_issuable : (linux : Bool) (l : LinuxRequests) (n : ℕ) → next_of linux l ≡ Some n
-    → is_issuable linux l n ≡ true
-next_issuable linux l n next = grind (arith, least_below_tells)
-
 -- its Issue is answered in one of two ways
 pub issue_cases : (a : Kept) (n : ℕ) (x : Answer) → next_in a ≡ Some n
     → CalledForApart a.setup (now a) (step.Issue n) x → (x ≡ answer.Run → ⊥)
     → ((res : ℤ) (bytes : List ℕ) → x ≡ answer.Ended res bytes → ⊥) → ⊥
 issue_cases a n x next called not_run not_ended =
-    let ended = issued_ends x (rw called (issue_goes a.setup (now a) n (next_issuable a.setup.linux (requests_of (now a)) n next))) not_run in
+    let issuable : is_issuable a.setup.linux (requests_of (now a)) n ≡ true = grind (arith, least_below_tells) in
+    let ended = issued_ends x (rw called (issue_goes a.setup (now a) n issuable)) not_run in
     grind (arith, ended, not_ended)
 
 -- what it starts runs
 pub started_runs : (a b : Kept) (n : ℕ) → next_in a ≡ Some n
     → Grows a b (step.Issue n, answer.Run) → operation_running (now b).requests n ≡ None → ⊥
 started_runs a b n next grows none =
-    let waits = issuable_outstanding a.setup.linux (requests_of (now a)) n (next_issuable a.setup.linux (requests_of (now a)) n next) in
+    let issuable : is_issuable a.setup.linux (requests_of (now a)) n ≡ true = grind (arith, least_below_tells) in
+    let waits = issuable_outstanding a.setup.linux (requests_of (now a)) n issuable in
     let runs = is_running_started_same (now a).requests n (outstanding_tells (now a).requests n waits).1 in
     let nothing = rw (grown a b (step.Issue n) answer.Run grows, runs) at none in
     absurd cc

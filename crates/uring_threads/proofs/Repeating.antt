@@ -1,5 +1,5 @@
 -- One kind of step, so many times: results that are taken in, and requests that are issued.
-use Rattle.std.proofs.Common.{◌≡◌, ℕ, ◌+◌, Bool, true, List, [], ◌∷◌, ◌++◌, map, length, count_by, suc, refl, sym, subst, ap, ◌∙◌, arith, append-nil, drop, false, cond}
+use Rattle.std.proofs.Common.{◌≡◌, ℕ, ◌+◌, Bool, true, List, [], ◌∷◌, ◌++◌, map, length, count_by, refl, sym, subst, ap, ◌∙◌, arith, append-nil, drop, false, cond}
 use Rattle.uring_threads.proofs.Common.{Answer, Event, Grows, IsUnmoved, Kept, OnlyPosts, Repeats, Step, Tally, append_cancel_left, both, finishes_counted, happens, is_refused, issues_counted, issues_request, length-map, map-append, nil_from_length, none_counted, now, step_of, steps_of, sum_by-cons, takes_result, tally_of}
 use Rattle.uring_core.specs.declared.step.Step.TheVariants as step
 use Rattle.uring_threads.proofs.Posting.{posts_then}
@@ -47,13 +47,6 @@ repeats_idle {a} {b} {kind} p none =
 
 -- As many Finishes and Issues as were counted.
 
--- the first of these events, if it wasn't refused, is one of those
-one_step : (p : Event → Bool) (e : Event) (es : List Event) (n : ℕ)
-    → (is_refused e ≡ false → p e ≡ true) → count_by is_refused (e ∷ es) ≡ 0
-    → (count_by is_refused es ≡ 0 → n ≡ count_by p es) → suc n ≡ count_by p (e ∷ es)
-one_step p e es n here served rest =
-    grind (arith, (sum_by-cons (λ x. cond (p x) 1 0) e es), (sum_by-cons (λ x. cond (is_refused x) 1 0) e es))
-
 kind_steps : (kind : ℕ → Step) (p : Event → Bool) (events : List Event) (numbers : List ℕ)
     → ((n : ℕ) (a : Answer) → is_refused (kind n, a) ≡ false → p (kind n, a) ≡ true)
     → map step_of events ≡ map kind numbers → count_by is_refused events ≡ 0
@@ -62,7 +55,7 @@ kind_steps kind p [] [] passes e served = refl
 kind_steps kind p ((s, a) ∷ es) (n ∷ ns) passes e served =
     let first : s ≡ kind n = cc in
     let here : is_refused (s, a) ≡ false → p (s, a) ≡ true = subst (λ t. is_refused (t, a) ≡ false → p (t, a) ≡ true) (sym first) (passes n a) in
-    one_step p (s, a) es (length ns) here served (kind_steps kind p es ns passes (ap (drop 1) e))
+    grind (arith, here, served, (kind_steps kind p es ns passes (ap (drop 1) e)), (sum_by-cons (λ x. cond (p x) 1 0) (s, a) es), (sum_by-cons (λ x. cond (is_refused x) 1 0) (s, a) es))
 kind_steps kind p _ _ passes e served = absurd cc
 
 pub finishes_many : {a b : Kept} {n : ℕ} (p : Repeats a b step.Finish (finishes_counted n))

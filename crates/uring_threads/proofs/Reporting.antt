@@ -1,6 +1,6 @@
 -- What is reported once all ends are settled, from what ties them to the trace.
-use Rattle.std.proofs.Common.{◌≡◌, ◌↔◌, ℕ, ℤ, zero, suc, ◌+◌, ◌<◌, ◌≤◌, ◌==◌, Bool, Some, true, List, [], ◌∷◌, ◌++◌, length, map, take, drop, get_or, count_by, cond, refl, sym, subst, ap, ◌∙◌, arith, inl, inr, append_assoc, append-nil, length-drop, add-zero, drop_at, take_at, flat_map}
-use Rattle.uring_threads.proofs.Common.{AppEnd, AreItems, AreSettled, AreTogether, BeginsCalls, ClosesOnlyAllTaken, Completions, Cqe, DeliversReaped, FinishesAll, HasOneClose, HaveLooked, HaveSeenAll, History, Intake, IsItem, IsKernel, IsLawful, IsSameKernel, Item, Job, JobResult, Kept, Kernel, LeavesCompletions, LeavesItems, LeavesRunning, OnlyPosts, PublishesItems, Report, Setup, Sizes, TakesAll, WorkLanes, Worker, World, all_published_as, all_untaken, all_waiting, calls_left, calls_of, closes_ring, finish_of, flat_map-append, has_job, history, history_of_cons, is_running, is_shut, items_of_calls, job_of, jobs_of, left_by, length-append, length-map, list_any, map-append, now, or_cases, or_right, posts, slice_get, sum_by-cons, take_all, take_more, taken, unreaped, untaken_at, waiting_in, with_end_of, with_taken_in, world}
+use Rattle.std.proofs.Common.{◌≡◌, ◌↔◌, ℕ, zero, suc, ◌+◌, ◌<◌, ◌≤◌, ◌==◌, Bool, Some, true, List, [], ◌∷◌, ◌++◌, length, map, take, drop, get_or, count_by, cond, refl, sym, subst, ap, ◌∙◌, arith, inl, inr, append_assoc, append-nil, length-drop, add-zero, drop_at, take_at, flat_map}
+use Rattle.uring_threads.proofs.Common.{AppEnd, AreItems, AreSettled, AreTogether, BeginsCalls, ClosesOnlyAllTaken, Completions, Cqe, DeliversReaped, FinishesAll, HasOneClose, HaveLooked, HaveSeenAll, History, IsItem, IsKernel, IsLawful, IsSameKernel, Item, Job, JobResult, Kept, Kernel, LeavesCompletions, LeavesItems, LeavesRunning, OnlyPosts, PublishesItems, Report, Setup, Sizes, TakesAll, WorkLanes, Worker, World, all_published_as, all_untaken, all_waiting, calls_left, calls_of, closes_ring, finish_of, flat_map-append, has_job, history, history_of_cons, is_running, items_of_calls, job_of, jobs_of, left_by, length-append, length-map, list_any, map-append, now, or_cases, or_right, posts, reverse-append, slice_get, sum_by-cons, take_all, take_more, taken, unreaped, untaken_at, waiting_in, with_end_of, with_taken_in, world}
 use Rattle.uring_core.specs.declared.answer.Answer.TheVariants as answer
 use Rattle.std.proofs.lemmas.Option.{slice_get_within, get_or_from_slice_get}
 use Rattle.uring_laws.specs.Laws.{ReapedBeginPosted, in_ring, in_overflow}
@@ -10,14 +10,8 @@ use Rattle.uring_threads.proofs.Tying.{closes_append, all_first}
 use Rattle.uring_threads.proofs.Posting.{posts_none, posts_then, posts_only}
 use Rattle.uring_threads.proofs.SameEnds.{together_same}
 use Rattle.uring_threads.proofs.TraceSteps.{longer_history}
-use Rattle.std.proofs.lemmas.List.{reverse-append}
 
 -- Finishes leave the rings, but for what is posted.
-
--- each posts at most one completion
-one_end : (g : Setup) (w : World) (n : ℕ) (res : ℤ) (bytes : List ℕ)
-    → length (unreaped (with_end_of g w n res bytes)) ≤ length (unreaped w.completions) + 1
-one_end g w n res bytes = grind (arith, length-drop, length-append)
 
 finishes_post : (g : Setup) (rs : List JobResult) (h : History)
     → OnlyPosts (world g h) (world g (with_taken_in rs h))
@@ -26,8 +20,10 @@ finishes_post : (g : Setup) (rs : List JobResult) (h : History)
 finishes_post g [] h = (posts_none (world g h), omega arith)
 finishes_post g (r ∷ rs) h =
     let next = finishes_post g rs (finish_of r ∷ h) in
+    let w : World = world g h in
+    let one : length (unreaped (with_end_of g w r.number r.outcome.res r.outcome.bytes)) ≤ length (unreaped w.completions) + 1 = grind (arith, length-drop, length-append) in
     rw (history_of_cons (finish_of r) (map finish_of rs) h)
-    (posts_then _ _ _ (posts_only g (world g h) r.number (answer.Ended r.outcome.res r.outcome.bytes)).1 next.0, omega (arith, next.1, one_end g (world g h) r.number r.outcome.res r.outcome.bytes))
+    (posts_then _ _ _ (posts_only g (world g h) r.number (answer.Ended r.outcome.res r.outcome.bytes)).1 next.0, omega (arith, next.1, one))
 
 -- The ring is closed once, if at all.
 
@@ -56,20 +52,14 @@ of_any p (l ∷ ls) (w ∷ ws) d e zero many low some = grind (arith, list_any-a
 of_any p (l ∷ ls) (w ∷ ws) d e (suc k) many low some = list_any-append p (untaken_at l w) (all_untaken ls ws) ∙ or_right _ _ (of_any p ls ws d e k (omega (arith, many)) (omega (arith, low)) some)
 of_any p _ _ d e k many low some = absurd (omega (arith, many, low))
 
--- what a worker has seen and not taken is what was sent to it and not taken
-untaken_seen : (ls : List WorkLanes) (ws vs : List Worker) → HaveLooked ws vs → HaveSeenAll ls vs
-    → length ws ≡ length ls → (j : ℕ) (d : WorkLanes) (e : Worker) → j < length ws
-    → untaken_at (get_or ls j d) (get_or ws j e) ≡ (get_or vs j e).seen
-untaken_seen ls ws vs looked seen many j d e low =
-    grind (arith, (drop_at (jobs_of (get_or vs j e).done) (get_or vs j e).seen _ (length-map (get_or vs j e).done job_of)))
-
 pub all_run : (k : Kept) (ls : List WorkLanes) (ws vs : List Worker) → 0 < length ls
     → AreSettled k vs → HaveLooked ws vs → HaveSeenAll ls vs → length ws ≡ length ls → (n : ℕ)
     → (is_running (now k).requests n ≡ true) ↔ (has_job (all_untaken ls ws) n ≡ true)
 all_run k (l ∷ ls) (w ∷ ws) vs some settled looked seen many n =
     let p : Job → Bool = λ job. job.number == n in
     let both = (settled w).running n in
-    let here = λ (j : ℕ) (low : j < length (w ∷ ws)). ap (list_any p) (untaken_seen (l ∷ ls) (w ∷ ws) vs looked seen many j l w low) in (
+    let same : (j : ℕ) → j < length (w ∷ ws) → untaken_at (get_or (l ∷ ls) j l) (get_or (w ∷ ws) j w) ≡ (get_or vs j w).seen = λ j low. grind (arith, (get_or vs j w), (drop_at (jobs_of (get_or vs j w).done) (get_or vs j w).seen _ (length-map (get_or vs j w).done job_of))) in
+    let here = λ (j : ℕ) (low : j < length (w ∷ ws)). ap (list_any p) (same j low) in (
       λ runs.
           let one = both.0 runs in
           let low : one.0 < length (w ∷ ws) = omega (arith, one.1, looked.many) in
@@ -121,9 +111,6 @@ settled_lawful k (w ∷ ws) some settled = (settled w).lawful
 
 -- All of it, of ends in hand.
 
-none_waiting : (i : Intake) → is_shut i ≡ true → waiting_in i ≡ 0
-none_waiting i shut = grind arith
-
 pub record TellsEnds (app : AppEnd) (kernel : Kernel) (workers : List Worker) (r : Report) : Type 0 where
   pub running : LeavesRunning kernel.lanes workers r
   pub items : PublishesItems app.submitted r
@@ -158,7 +145,7 @@ tells_ends app kernel same workers kept lanes unsent undelivered r t s is keeps 
       once = rw (posts.is_closed, tied.closed, ← tied.shut, goes_on, closes_append, no_close results, add-zero) is.ties.once;
       closed = λ closed.
           let pulled_closed : same.pulled.closed ≡ true = sym tied.closed ∙ sym posts.is_closed ∙ closed in
-          let none : waiting_in same.intake ≡ 0 = none_waiting same.intake (tied.shut ∙ pulled_closed) in
+          let none : waiting_in same.intake ≡ 0 = grind (arith, tied.shut, pulled_closed) in
           let stands = rw none at tied.stands in
           let last = left.closed pulled_closed in
           let calls = rw (last.1, append-nil) at left.calls in

@@ -34,12 +34,6 @@ same_numbers old new same =
     let m : WorkLanes = get_or new k e in
     rw (get_or_default new k d e low) (ap₂ (λ xs ys. xs ∷ ys ∷ []) (same_ring m.jobs.end l.jobs.end jobs.0 jobs.1 jobs.2) (same_ring m.results.end l.results.end results.0 results.1 results.2)))
 
--- the dispatcher's lanes are those of the workers
-pub lanes_of_workers : (app : AppEnd) (kernel : Kernel) (workers : List Worker)
-    → AreTogether app kernel workers → IsKernel kernel
-    → AreLanesOf kernel.kept.setup.files kernel.lanes workers
-lanes_of_workers app kernel workers together is = grind (arith, length-map, same_told)
-
 -- the ends of a set-up, as they are opened
 pub opened_together : (files : ℕ) (app : AppEnd) (kernel : Kernel) (workers : List Worker)
     → kernel.pairing ≡ app.pairing → kernel.sizes ≡ app.sizes → kernel.kept.setup.files ≡ files
@@ -86,7 +80,7 @@ pub lanes_to_settle : (app : AppEnd) (kernel same : Kernel) (workers : List Work
     → AreTogether app kernel workers → IsSameKernel kernel same → IsKernel same → kept ≡ same.kept
     → lanes ≡ same.lanes → AreLanesOf kept.setup.files lanes workers
 lanes_to_settle app kernel same workers kept lanes t s is keeps these =
-    grind (arith, (lanes_of_workers app same workers (together_same app kernel same workers s t) is))
+    grind (arith, length-map, same_told, (together_same app kernel same workers s t))
 
 pub carried_to_settle : (same : Kernel) (kept : Kept) (lanes : List WorkLanes) → IsKernel same
     → kept ≡ same.kept → lanes ≡ same.lanes → HaveCarried kept lanes

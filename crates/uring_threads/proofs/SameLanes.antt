@@ -1,6 +1,6 @@
 -- Lanes that stay the same, as they are looked at and as jobs and results go through them.
 use Rattle.std.proofs.Common.{◌≡◌, ◌≢◌, ℕ, ◌<◌, List, length, get_or, arith, refl}
-use Rattle.uring_threads.proofs.Common.{AreSameLanes, HoldJobs, IsSent, Job, OnlyReceives, WorkLanes, get_or-set_other, get_or-set_same, get_or_default, length-set, set}
+use Rattle.uring_threads.proofs.Common.{AreSameLanes, IsSent, Job, OnlyReceives, WorkLanes, get_or-set_other, get_or-set_same, get_or_default, length-set, set}
 
 -- what holds of one element that is set, and of each other as it was
 pub set_cases : {X : Type 0} (P : ℕ → X → Type 0) (xs : List X) (i : ℕ) (x : X) (k : ℕ) (d : X)
@@ -32,7 +32,3 @@ lanes_sent old new place j many sent others = grind arith
 -- results were received twice
 pub receives_then : (a b c : WorkLanes) → OnlyReceives a b → OnlyReceives b c → OnlyReceives a c
 receives_then a b c p q = grind arith
-
--- the same lanes hold as many jobs
-pub hold_stays : (old new : List WorkLanes) → AreSameLanes old new → HoldJobs old → HoldJobs new
-hold_stays old new same hold = grind arith

@@ -2,7 +2,7 @@
 -- And of what is left at a place: of the jobs sent to it, those after the operations that were carried out are of the requests that run.
 -- By `Moves` and induction over the history, and by counting how often a number stands among what was sent and carried out.
 use Rattle.std.proofs.Common.{◌≡◌, ℕ, ◌<◌, ◌==◌, ℤ, List, [], ◌∷◌, ◌++◌, length, Bool, true, false, cond, refl, ◌∙◌, ap, arith, ◌≢◌, ◌+◌, append-nil, count_by}
-use Rattle.uring_threads.proofs.Common.{All-push, All-weaker, AllByRecursion, Answer, CalledForApart, Done, History, IsLawfulApart, IsSoundRequests, Job, Op, Requests, Setup, Sqe, Step, World, and_parts, done_at, done_by, done_in, eq-eqb, eqb-true, filter, is_outstanding, is_running, is_running_ended_other, is_running_ended_same, is_running_started_other, is_running_started_same, issue_answer, job_by, job_in, job_of, jobs_at, jobs_in, jobs_of, length-append, list_any, operation_of, outstanding_tells, requests_of, slice_index_or, sum_by-append, sum_by-cons, sum_by_push, with_call, with_ended, with_issued_end, with_told, world, zero_entry}
+use Rattle.uring_threads.proofs.Common.{All-push, All-weaker, AllByRecursion, Answer, CalledForApart, Done, History, IsLawfulApart, IsSoundRequests, Job, Op, Requests, Setup, Sqe, Step, World, and_parts, done_at, done_by, done_in, eq-eqb, eqb-true, filter, is_running, is_running_ended_other, is_running_ended_same, is_running_started_other, is_running_started_same, issue_answer, job_by, job_in, job_of, jobs_at, jobs_in, jobs_of, length-append, list_any, operation_of, outstanding_tells, requests_of, slice_index_or, sum_by-append, sum_by-cons, sum_by_push, with_call, with_ended, with_issued_end, with_told, world, zero_entry}
 use Rattle.uring_entry.specs.Requests.{with_started}
 use Rattle.uring_core.specs.declared.answer.Answer.TheVariants as answer
 use Rattle.uring_core.proofs.Moves.{Move, stays, accepts, starts, ends_run, move_of}
@@ -30,15 +30,6 @@ pub record Accounts (r : Requests) (jobs : List Job) (done : List Done) : Type 0
 -- as more entries are accepted
 of_call : (r : Requests) (entries : List Sqe) (j : Job) → IsOf r.accepted j → IsOf (with_call r entries).accepted j
 of_call r entries j of = grind (arith, entry_stays, length-append)
-
--- a request that isn't running starts to, and one that runs or doesn't ends
-start_counts : (r : Requests) (m n : ℕ) → is_outstanding r m ≡ true → is_running r m ≡ false
-    → cond (is_running (with_started r m) n) 1 0 ≡ cond (is_running r n) 1 0 + cond (m == n) 1 0
-start_counts r m n outstanding idle = grind (arith, outstanding_tells, is_running_started_same, is_running_started_other, eqb-true)
-
-end_counts : (r : Requests) (m n : ℕ) (res : ℤ) (bytes : List ℕ) → is_running r m ≡ true
-    → cond (is_running r n) 1 0 ≡ cond (is_running (with_ended r m res bytes) n) 1 0 + cond (m == n) 1 0
-end_counts r m n res bytes running = grind (arith, is_running_ended_same, is_running_ended_other, eqb-true)
 
 -- what ends as it is issued doesn't run
 not_running : (g : Setup) (w : World) (n : ℕ) (res : ℤ) (bytes : List ℕ)
@@ -70,16 +61,20 @@ accounts_then g w q s a jobs done (accepts accepted missed head entries) called 
       counts = all.counts;
     }
 accounts_then g w q s a jobs done (starts m outstanding idle spared ready no_cancel) called i all =
+    let r : Requests = w.requests in
+    let more : (n : ℕ) → cond (is_running (with_started r m) n) 1 0 ≡ cond (is_running r n) 1 0 + cond (m == n) 1 0 = λ n. grind (arith, outstanding_tells, is_running_started_same, is_running_started_other, eqb-true) in
     record {
       sent = All-push (IsOf w.requests.accepted) jobs _ all.sent ((outstanding_tells w.requests m outstanding).0, refl);
       carried = all.carried;
-      counts = λ n. omega (arith, all.counts n, start_counts w.requests m n outstanding idle, sum_by_push (λ (j : Job). cond (j.number == n) 1 0) jobs (job_in w.requests m));
+      counts = λ n. omega (arith, all.counts n, more n, sum_by_push (λ (j : Job). cond (j.number == n) 1 0) jobs (job_in w.requests m));
     }
 accounts_then g w q s a jobs done (ends_run m res bytes running) called i all =
+    let r : Requests = w.requests in
+    let less : (n : ℕ) → cond (is_running r n) 1 0 ≡ cond (is_running (with_ended r m res bytes) n) 1 0 + cond (m == n) 1 0 = λ n. grind (arith, is_running_ended_same, is_running_ended_other, eqb-true) in
     record {
       sent = all.sent;
       carried = All-push (λ d. IsOf w.requests.accepted (job_of d)) done _ all.carried (i.started_accepted m (and_parts _ _ running).0, refl);
-      counts = λ n. omega (arith, all.counts n, end_counts w.requests m n res bytes running, sum_by_push (λ (d : Done). cond (d.number == n) 1 0) done (record { number = m; op = op_at w.requests.accepted m; outcome = record { res = res; bytes = bytes } }));
+      counts = λ n. omega (arith, all.counts n, less n, sum_by_push (λ (d : Done). cond (d.number == n) 1 0) done (record { number = m; op = op_at w.requests.accepted m; outcome = record { res = res; bytes = bytes } }));
     }
 accounts_then g w q s a jobs done _ called i all =
     issued_accounts g.linux w.requests _ _ jobs done (not_running g w _ _ _ called) all
@@ -91,13 +86,6 @@ accounts g ((s, a) ∷ h) lawful = accounts_then g (world g h) _ s a (jobs_in g 
 
 -- What was sent to a place, and what was carried out of it.
 
--- what passes a test is kept, or not, as one element more is
-one_kept : {X : Type 0} (p : X → Bool) (x : X) (xs kept : List X) (here there : Bool) → (p x ≡ true → here ≡ there)
-    → count_by p kept ≡ cond there (count_by p xs) 0
-    → count_by p (cond here (x ∷ kept) kept) ≡ cond there (count_by p (x ∷ xs)) 0
-one_kept p x xs kept here there same rest =
-    grind (arith, (sum_by-cons (λ y. cond (p y) 1 0) x xs), (sum_by-cons (λ y. cond (p y) 1 0) x kept))
-
 -- what is of a request is all at its place
 at_place : {X : Type 0} (job : X → Job) (place : Op → ℕ) (k n : ℕ) (accepted : List Sqe) (xs : List X)
     → AllByRecursion (λ x. IsOf accepted (job x)) xs
@@ -105,7 +93,9 @@ at_place : {X : Type 0} (job : X → Job) (place : Op → ℕ) (k n : ℕ) (acce
     ≡ cond (place (op_at accepted n) == k) (count_by (λ x. (job x).number == n) xs) 0
 at_place job place k n accepted [] all = grind arith
 at_place job place k n accepted (x ∷ xs) all =
-    one_kept (λ y. (job y).number == n) x xs _ _ _ (λ same. ap (λ op. place op == k) (all.0.1 ∙ ap (op_at accepted) (eqb-true _ _ same))) (at_place job place k n accepted xs all.1)
+    let kept = filter (λ y. place (job y).op == k) xs in
+    let here : ((job x).number == n) ≡ true → (place (job x).op == k) ≡ (place (op_at accepted n) == k) = λ same. ap (λ op. place op == k) (all.0.1 ∙ ap (op_at accepted) (eqb-true _ _ same)) in
+    grind (arith, here, (at_place job place k n accepted xs all.1), (sum_by-cons (λ y. cond ((job y).number == n) 1 0) x xs), (sum_by-cons (λ y. cond ((job y).number == n) 1 0) x kept))
 
 -- What is left.
 

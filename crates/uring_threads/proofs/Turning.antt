@@ -1,13 +1,13 @@
 -- The parts of a turn put together: what went through the dispatcher's hands stays tied to its trace, and what they appended adds up.
-use Rattle.std.proofs.Common.{add-zero, zero-add, ◌≡◌, ℕ, List, refl, ◌∙◌, arith, false, true, ap, append_assoc}
-use Rattle.uring_threads.proofs.Common.{Appends, AreSameLanes, AreTies, ClosesOnce, Counts, Cqe, HasServed, HaveCarried, IfOk, IfOk-from_err, IfOk-weaker, Intake, IsDelivered, IsErr, IsKernel, IsOk, IsUnmoved, KeepsAllBut, Kept, Kernel, OnErr, OnlyPosts, Put, Records, RecordsIntake, RecordsTurn, Repeats, Result, TakesFewResults, TakesIn, Tally, Tied, Turn, Turns, WorkLanes, delivery_row, false≢true, finishes_counted, issues_counted, length, next_in, now, reaps_counted}
+use Rattle.std.proofs.Common.{add-zero, zero-add, ◌≡◌, ℕ, List, refl, ◌∙◌, arith, false, true, ap, append_assoc, count_by, ◌<◌}
+use Rattle.uring_threads.proofs.Common.{Appends, AreSameLanes, AreTies, ClosesOnce, Counts, Cqe, HasServed, HaveCarried, HoldJobs, IfOk, IfOk-from_err, IfOk-weaker, Intake, IsDelivered, IsErr, IsKernel, IsOk, IsUnmoved, KeepsAllBut, Kept, Kernel, None, OnErr, OnlyPosts, Put, Records, RecordsIntake, RecordsTurn, Repeats, Result, TakesFewResults, TakesIn, Tally, Tied, Turn, Turns, WorkLanes, delivery_row, false≢true, finishes_counted, issues_counted, length, next_in, now, reaps_counted, starts_request}
 use Rattle.uring_core.specs.declared.step.Step.TheVariants as step
-use Rattle.uring_threads.proofs.Carrying.{quiet_stays, next_is_none, done_stays}
+use Rattle.uring_threads.proofs.Carrying.{quiet_stays, done_stays, some_full}
 use Rattle.uring_threads.proofs.Tying.{once_stays}
 use Rattle.uring_threads.proofs.Collecting.{on_err}
 use Rattle.uring_threads.proofs.Recording.{records_none}
 use Rattle.uring_threads.proofs.Repeating.{finishes_many, issues_many, repeats_idle, repeats_none}
-use Rattle.uring_threads.proofs.SameLanes.{hold_stays, lanes_none, lanes_then}
+use Rattle.uring_threads.proofs.SameLanes.{lanes_none, lanes_then}
 use Rattle.uring_threads.proofs.TraceSteps.{appends_none, appends_then, still}
 
 -- What was taken in: a call, or the close mark.
@@ -114,9 +114,9 @@ pub turned : {E : Type 0} (granted : Type 0) (old new : Kernel) (turn : Turn) (a
     → (granted → IsOk answer) → Turns granted old new answer
 turned granted old new turn answer is g pairing sizes served not_stored ok =
     let setup = g.counts.appends.setup in
-    let hold = hold_stays old.lanes new.lanes g.same is.hold in
+    let hold : HoldJobs new.lanes = grind arith in
     let kernel : IsKernel new = grind arith in
-    let next = next_is_none answer new.kept new.lanes (IfOk-weaker answer _ _ (λ made s. s.none_left) served) g.ties.carried hold in
+    let next : IfOk answer (λ made. count_by starts_request new.kept.trace < 64 → next_in new.kept ≡ None) = grind (arith, some_full, g.ties.carried) in
     let err : OnErr answer ((t : Tally) × Appends old.kept new.kept t) = on_err answer (_, g.counts.appends) in
     assumption (kernel, next, err)
 

@@ -1,6 +1,6 @@
 -- What ties the dispatcher's lists to its trace: what was pulled stays tied to the submission ring, and the trace has one Close once the close mark was pulled, and none before.
-use Rattle.std.proofs.Common.{◌≡◌, ℕ, ◌+◌, ◌<◌, ◌≤◌, true, false, List, [], ◌∷◌, ◌++◌, length, refl, sym, subst, ap, ◌∙◌, arith, append_assoc, append-nil, count_by, cond, zero-add}
-use Rattle.uring_threads.proofs.Common.{All, Answer, Appends, ClosesOnce, Event, Grows, HasBegun, HaveMade, Intake, IsItem, IsUnmoved, Item, Kept, None, Published, Pulls, Put, Setup, Stands, Submission, TakesIn, Tally, Tied, World, all_published_as, awaits_memory, close_answer, closes_ring, closing, flat_map-append, get_or_append_left, if◌then◌else◌, is_shut, is_some, items_of_calls, items_published, length-append, length-map, map-append, now, published_as, sum_by-append, tail_publishes, with_close, with_items_published}
+use Rattle.std.proofs.Common.{◌≡◌, ℕ, ◌+◌, ◌<◌, ◌≤◌, true, false, List, [], ◌∷◌, ◌++◌, length, refl, sym, subst, ap, ◌∙◌, arith, append_assoc, append-nil, count_by, cond, zero-add, take_at, drop_at}
+use Rattle.uring_threads.proofs.Common.{All, Answer, Appends, ClosesOnce, Event, Grows, HasBegun, HaveMade, Intake, IsItem, IsUnmoved, Item, Kept, None, Published, Pulls, Put, Setup, Stands, Submission, TakesIn, Tally, Tied, World, all_published_as, awaits_memory, close_answer, closes_ring, closing, flat_map-append, if◌then◌else◌, is_shut, is_some, items_of_calls, items_published, length-map, map-append, now, published_as, sum_by-append, tail_publishes, with_close, with_items_published}
 use Rattle.uring_ports.specs.Ports.{with_call}
 use Rattle.uring_ports.specs.declared.pulled.Pulled.{Pulled}
 use Rattle.uring_threads.proofs.CallsMade.{none_left, published_left, calls_add_up, kept_after}
@@ -8,7 +8,7 @@ use Rattle.uring_core.specs.declared.step.Step.TheVariants as step
 use Rattle.uring_core.specs.declared.answer.Answer.TheVariants as answer
 use Rattle.uring_threads.proofs.ItemSteps.{items_stand}
 use Rattle.uring_threads.proofs.TraceSteps.{grown, unmoved_now, appends_none, appends_then}
-use Rattle.std.proofs.lemmas.List.Elements.{All-tail}
+use Rattle.std.proofs.lemmas.List.Elements.{All-drop, All-take}
 use Rattle.uring_threads.specs.declared.intake.Intake.TheVariants as intake
 
 -- calls were begun that take what waited
@@ -25,13 +25,9 @@ tied_begun a b put count x t h =
       shut = h.not_shut ∙ t.shut;
     }
 
--- what holds of all of two lists holds of all of each
+-- what holds of all of two lists holds of all of the first
 pub all_first : {X : Type 0} (P : X → Type 0) (xs ys : List X) → All P (xs ++ ys) → All P xs
-all_first P xs ys all = λ k d low. subst P (get_or_append_left xs ys d k low) (all k d (omega (arith, low, length-append xs ys)))
-
-all_last : {X : Type 0} (P : X → Type 0) (xs ys : List X) → All P (xs ++ ys) → All P ys
-all_last P [] ys all = all
-all_last P (x ∷ xs) ys all = all_last P xs ys (All-tail P x (xs ++ ys) all)
+all_first P xs ys all = rw (take_at xs ys (length xs) refl) at (All-take P (length xs) (xs ++ ys) all)
 
 -- a call was pulled and published, and waits to be begun
 pub tied_published : (g : Setup) (w : World) (put : Put) (items : List Item)
@@ -47,7 +43,7 @@ tied_published g w put items t not_closed few =
       published = λ good.
           let before : List Published = all_published_as (items_of_calls put.calls) in
           let all = rw whole at good in
-          rw (whole, items_published l g.sq shown t.stands.fresh (omega (arith, few, length-map items published_as)) (all_last (IsItem g.sq) before shown all), t.published (all_first (IsItem g.sq) before shown all));
+          rw (whole, items_published l g.sq shown t.stands.fresh (omega (arith, few, length-map items published_as)) (rw (drop_at before shown (length before) refl) at (All-drop (IsItem g.sq) (length before) (before ++ shown) all)), t.published (all_first (IsItem g.sq) before shown all));
       calls = rw (published_left g l items t.stands.fresh t.stands few, stand.2, before_is, flat_map-append, append-nil);
       stands = rw (stand.1, zero-add) at (tail_publishes g _ _ stand.0);
       spent = tt;
