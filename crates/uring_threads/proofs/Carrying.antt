@@ -1,6 +1,6 @@
 -- What the lanes of the workers have carried, as the trace goes on; a lane for jobs that shows no room has carried as many as it holds, so as many requests were started.
 use Rattle.std.proofs.Common.{◌≡◌, ◌≢◌, ℕ, ◌<◌, ◌==◌, cond, List, [], ◌∷◌, ◌++◌, length, get_or, count_by, Option, Some, None, refl, sym, ap, ◌∙◌, inl, inr, arith, ◌+◌, ◌≤◌, false, append-nil}
-use Rattle.uring_threads.proofs.Common.{Answer, Appends, AreTakenIn, Bool, Collects, Event, Grows, HasCarried, HaveCarried, History, HoldJobs, IsEnded, IsSent, Job, Kept, None, Op, OthersStay, Setup, SomeIsFull, Tally, WorkLanes, cases_eq, count_by-le-length, done_by_worker, done_in, entry_of, history, history_of, history_of_cons, issues_request, jobs_in, jobs_sent, jobs_to, length-append, length-filter, length-set, now, operation_of, place_of, results_received, set, starts_request, sum_by-cons, takes_result}
+use Rattle.uring_threads.proofs.Common.{Answer, Appends, AreTakenIn, Bool, Collects, Event, Grows, HasCarried, HaveCarried, History, HoldJobs, IsEnded, IsSent, Job, Kept, None, Op, Setup, SomeIsFull, Tally, WorkLanes, cases_eq, count_by-le-length, done_by_worker, done_in, entry_of, history, history_of, history_of_cons, issues_request, jobs_in, jobs_sent, jobs_to, length-append, length-filter, length-set, now, operation_of, place_of, results_received, set, starts_request, sum_by-cons, takes_result}
 use Rattle.uring_core.specs.declared.step.Step.TheVariants as step
 use Rattle.uring_core.specs.declared.answer.Answer.TheVariants as answer
 use Rattle.uring_threads.proofs.TraceSteps.{grown_history, longer_history}
@@ -84,11 +84,6 @@ carried_run a b n place op old new issued carried at low many was_sent others = 
 
 -- Results of a worker were taken in.
 
--- what was carried of another's stays
-pub others_carried : {a b : Kept} {workers place k : ℕ} {lanes : WorkLanes} → HasCarried a workers k lanes
-    → OthersStay a b workers place → k ≢ place → HasCarried b workers k lanes
-others_carried has stay other = grind arith
-
 -- with these lanes in their place
 pub carried_set : (a b : Kept) (n place : ℕ) (old : List WorkLanes) (y d : WorkLanes)
     → HaveCarried a old → place < length old → Collects a b (length old) place n
@@ -97,7 +92,7 @@ pub carried_set : (a b : Kept) (n place : ℕ) (old : List WorkLanes) (y d : Wor
 carried_set a b n place old y d carried low p jobs taken = λ k e within.
     rw (length-set old place y) (set_cases (HasCarried b (length old)) old place y k e low
     (record { jobs = ap (λ q. jobs_sent (record y { jobs = q })) jobs ∙ (carried place d low).jobs ∙ sym (p.others.jobs place); results = taken })
-    (λ other. others_carried (carried k e (rw (length-set old place y) at within)) p.others other))
+    (λ other. grind (arith, (carried k e (rw (length-set old place y) at within)), p.others)))
 
 -- each request that starts sends a job
 jobs_count : (g : Setup) (events : List Event) (h : History)

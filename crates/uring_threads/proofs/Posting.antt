@@ -9,9 +9,6 @@ pub posts_only : (g : Setup) (w : World) (n : ℕ) (x : Answer)
     → OnlyPosts w (happens g w (step.Issue n) x) × OnlyPosts w (happens g w (step.Finish n) x)
 posts_only g w n x = grind arith
 
-pub posts_none : (w : World) → OnlyPosts w w
-posts_none w = record { submission = refl; accepted = refl; is_closed = refl; reaped = refl; head = refl }
-
 pub posts_then : (w v u : World) → OnlyPosts w v → OnlyPosts v u → OnlyPosts w u
 posts_then w v u p q = grind arith
 

@@ -1,7 +1,6 @@
 -- One kind of step, so many times: results that are taken in, and requests that are issued.
 use Rattle.std.proofs.Common.{◌≡◌, ℕ, ◌+◌, Bool, true, List, [], ◌∷◌, ◌++◌, map, length, count_by, refl, sym, subst, ap, ◌∙◌, arith, append-nil, drop, false, cond}
-use Rattle.uring_threads.proofs.Common.{Answer, Event, Grows, IsUnmoved, Kept, OnlyPosts, Repeats, Step, Tally, append_cancel_left, both, finishes_counted, happens, is_refused, issues_counted, issues_request, length-map, map-append, nil_from_length, none_counted, now, step_of, steps_of, sum_by-cons, takes_result, tally_of}
-use Rattle.uring_core.specs.declared.step.Step.TheVariants as step
+use Rattle.uring_threads.proofs.Common.{Answer, Event, Grows, IsUnmoved, Kept, OnlyPosts, Repeats, Step, Tally, append_cancel_left, both, happens, is_refused, length-map, map-append, nil_from_length, none_counted, now, step_of, steps_of, sum_by-cons, tally_of}
 use Rattle.uring_threads.proofs.Posting.{posts_then}
 use Rattle.uring_threads.proofs.Recording.{records_none, records_then, records_one}
 use Rattle.uring_threads.proofs.TraceSteps.{appends_none, appends_then, both_none, appends_one, grown}
@@ -34,7 +33,7 @@ pub repeats_still : {a k r : Kept} {kind : ℕ → Step} {t : Tally} → Repeats
 repeats_still {a} {k} {r} {kind} {t} p u = subst (Repeats a r kind) (both_none t) (repeats_then p (repeats_none kind u))
 
 -- the steps of the events that were appended
-appended : {a b : Kept} {kind : ℕ → Step} {t : Tally} (p : Repeats a b kind t)
+pub appended : {a b : Kept} {kind : ℕ → Step} {t : Tally} (p : Repeats a b kind t)
     → map step_of p.tally.events ≡ map kind p.numbers
 appended {a} {b} {kind} p = append_cancel_left (steps_of a) (map step_of p.tally.events) (map kind p.numbers) (sym (ap (map step_of) p.tally.trace ∙ map-append step_of a.trace p.tally.events) ∙ p.row)
 
@@ -47,7 +46,7 @@ repeats_idle {a} {b} {kind} p none =
 
 -- As many Finishes and Issues as were counted.
 
-kind_steps : (kind : ℕ → Step) (p : Event → Bool) (events : List Event) (numbers : List ℕ)
+pub kind_steps : (kind : ℕ → Step) (p : Event → Bool) (events : List Event) (numbers : List ℕ)
     → ((n : ℕ) (a : Answer) → is_refused (kind n, a) ≡ false → p (kind n, a) ≡ true)
     → map step_of events ≡ map kind numbers → count_by is_refused events ≡ 0
     → length numbers ≡ count_by p events
@@ -57,11 +56,3 @@ kind_steps kind p ((s, a) ∷ es) (n ∷ ns) passes e served =
     let here : is_refused (s, a) ≡ false → p (s, a) ≡ true = subst (λ t. is_refused (t, a) ≡ false → p (t, a) ≡ true) (sym first) (passes n a) in
     grind (arith, here, served, (kind_steps kind p es ns passes (ap (drop 1) e)), (sum_by-cons (λ x. cond (p x) 1 0) (s, a) es), (sum_by-cons (λ x. cond (is_refused x) 1 0) (s, a) es))
 kind_steps kind p _ _ passes e served = absurd cc
-
-pub finishes_many : {a b : Kept} {n : ℕ} (p : Repeats a b step.Finish (finishes_counted n))
-    → length p.numbers ≡ n
-finishes_many p = kind_steps step.Finish takes_result p.tally.events p.numbers (λ n a e. refl) (appended p) p.tally.served ∙ ap (λ (t : Tally). t.finishes) p.tally.tally
-
-pub issues_many : {a b : Kept} {n : ℕ} (p : Repeats a b step.Issue (issues_counted n))
-    → length p.numbers ≡ n
-issues_many p = kind_steps step.Issue issues_request p.tally.events p.numbers (λ n a e. grind arith) (appended p) p.tally.served ∙ ap (λ (t : Tally). t.issues) p.tally.tally

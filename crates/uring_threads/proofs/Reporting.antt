@@ -7,7 +7,7 @@ use Rattle.uring_laws.specs.Laws.{ReapedBeginPosted, in_ring, in_overflow}
 use Rattle.std.proofs.lemmas.List.Folds.{list_any-append}
 use Rattle.uring_threads.proofs.CallsMade.{none_left}
 use Rattle.uring_threads.proofs.Tying.{closes_append, all_first}
-use Rattle.uring_threads.proofs.Posting.{posts_none, posts_then, posts_only}
+use Rattle.uring_threads.proofs.Posting.{posts_then, posts_only}
 use Rattle.uring_threads.proofs.SameEnds.{together_same}
 use Rattle.uring_threads.proofs.TraceSteps.{longer_history}
 
@@ -17,7 +17,7 @@ finishes_post : (g : Setup) (rs : List JobResult) (h : History)
     → OnlyPosts (world g h) (world g (with_taken_in rs h))
     × (length (unreaped (world g (with_taken_in rs h)).completions)
     ≤ length (unreaped (world g h).completions) + length rs)
-finishes_post g [] h = (posts_none (world g h), omega arith)
+finishes_post g [] h = (grind arith, omega arith)
 finishes_post g (r ∷ rs) h =
     let next = finishes_post g rs (finish_of r ∷ h) in
     let w : World = world g h in

@@ -2,7 +2,7 @@
 -- And of what is left at a place: of the jobs sent to it, those after the operations that were carried out are of the requests that run.
 -- By `Moves` and induction over the history, and by counting how often a number stands among what was sent and carried out.
 use Rattle.std.proofs.Common.{◌≡◌, ℕ, ◌<◌, ◌==◌, ℤ, List, [], ◌∷◌, ◌++◌, length, Bool, true, false, cond, refl, ◌∙◌, ap, arith, ◌≢◌, ◌+◌, append-nil, count_by}
-use Rattle.uring_threads.proofs.Common.{All-push, All-weaker, AllByRecursion, Answer, CalledForApart, Done, History, IsLawfulApart, IsSoundRequests, Job, Op, Requests, Setup, Sqe, Step, World, and_parts, done_at, done_by, done_in, eq-eqb, eqb-true, filter, is_running, is_running_ended_other, is_running_ended_same, is_running_started_other, is_running_started_same, issue_answer, job_by, job_in, job_of, jobs_at, jobs_in, jobs_of, length-append, list_any, operation_of, outstanding_tells, requests_of, slice_index_or, sum_by-append, sum_by-cons, sum_by_push, with_call, with_ended, with_issued_end, with_told, world, zero_entry}
+use Rattle.uring_threads.proofs.Common.{All-push, All-weaker, AllByRecursion, Answer, CalledForApart, Done, History, IsLawfulApart, IsSoundRequests, Job, Op, Requests, Setup, Sqe, Step, World, and_parts, done_at, done_by, done_in, eq-eqb, eqb-true, filter, is_running, is_running_ended_other, is_running_ended_same, is_running_started_other, is_running_started_same, issue_answer, job_by, job_in, job_of, jobs_at, jobs_in, jobs_of, length-append, list_any, operation_of, outstanding_tells, requests_of, slice_index_or, sum_by-append, sum_by-cons, sum_by_push, with_ended, with_issued_end, with_told, world, zero_entry}
 use Rattle.uring_entry.specs.Requests.{with_started}
 use Rattle.uring_core.specs.declared.answer.Answer.TheVariants as answer
 use Rattle.uring_core.proofs.Moves.{Move, stays, accepts, starts, ends_run, move_of}
@@ -27,26 +27,18 @@ pub record Accounts (r : Requests) (jobs : List Job) (done : List Done) : Type 0
   pub counts : (n : ℕ) → count_by (λ j. j.number == n) jobs
       ≡ count_by (λ d. d.number == n) done + cond (is_running r n) 1 0
 
--- as more entries are accepted
-of_call : (r : Requests) (entries : List Sqe) (j : Job) → IsOf r.accepted j → IsOf (with_call r entries).accepted j
-of_call r entries j of = grind (arith, entry_stays, length-append)
-
 -- what ends as it is issued doesn't run
 not_running : (g : Setup) (w : World) (n : ℕ) (res : ℤ) (bytes : List ℕ)
     → answer.Ended res bytes ≡ issue_answer g w n → is_running w.requests n ≡ false
 not_running g w n res bytes called = grind arith
 
 -- an end of what doesn't run changes nothing of it
-issued_runs : (linux : Bool) (r : Requests) (m n : ℕ) (res : ℤ) → is_running r m ≡ false
-    → is_running (with_issued_end linux r m res) n ≡ is_running r n
-issued_runs linux r m n res idle = grind (arith, is_running_ended_same, is_running_ended_other)
-
 issued_accounts : (linux : Bool) (r : Requests) (m : ℕ) (res : ℤ) (jobs : List Job) (done : List Done)
     → is_running r m ≡ false → Accounts r jobs done → Accounts (with_issued_end linux r m res) jobs done
 issued_accounts true r m res jobs done idle a =
-    record { sent = a.sent; carried = a.carried; counts = λ n. rw (issued_runs true r m n res idle) (a.counts n) }
+    record { sent = a.sent; carried = a.carried; counts = λ n. grind (arith, (a.counts n), is_running_ended_same, is_running_ended_other) }
 issued_accounts false r m res jobs done idle a =
-    record { sent = a.sent; carried = a.carried; counts = λ n. rw (issued_runs false r m n res idle) (a.counts n) }
+    record { sent = a.sent; carried = a.carried; counts = λ n. grind (arith, (a.counts n), is_running_ended_same, is_running_ended_other) }
 
 accounts_then : (g : Setup) (w : World) (q : Requests) (s : Step) (a : Answer) (jobs : List Job) (done : List Done)
     → Move g.linux (requests_of w) s a q → CalledForApart g w s a → IsSoundRequests w.requests
@@ -55,9 +47,10 @@ accounts_then : (g : Setup) (w : World) (q : Requests) (s : Step) (a : Answer) (
 accounts_then g w q s a jobs done (stays _ _ no_start no_end) called i all =
     grind arith
 accounts_then g w q s a jobs done (accepts accepted missed head entries) called i all =
+    let stay : (j : Job) → IsOf w.requests.accepted j → IsOf (w.requests.accepted ++ entries) j = λ j of. grind (arith, entry_stays, length-append) in
     record {
-      sent = All-weaker _ _ (of_call w.requests entries) jobs all.sent;
-      carried = All-weaker _ _ (λ d. of_call w.requests entries (job_of d)) done all.carried;
+      sent = All-weaker _ _ stay jobs all.sent;
+      carried = All-weaker _ _ (λ d. stay (job_of d)) done all.carried;
       counts = all.counts;
     }
 accounts_then g w q s a jobs done (starts m outstanding idle spared ready no_cancel) called i all =

@@ -59,23 +59,17 @@ results_run g workers h k done untaken r later lawful is =
       others = λ j unlike. none_more_at (λ (d : Done). place d.op) j (done_in g h) end (λ same. unlike (sym same ∙ left.0));
     }
 
--- None waits.
-
--- then all that a worker carried out was taken in
-all_came : (g : Setup) (workers : ℕ) (h : History) (k : ℕ) (work : Work) → IsLawfulApart g h
-    → IsWork g workers h k work → work.waiting ≡ []
-    → (done_by_worker g workers k h ≡ work.done)
-    × (jobs_to g workers k h ≡ jobs_of (done_by_worker g workers k h) ++ work.untaken)
-all_came g workers h k work lawful is none =
-    let more = work_begins g workers h k lawful work is in
-    let no_more : more.0 ≡ [] = nil_from_length more.0 (sym (length-map more.0 result_of) ∙ ap length (more.2 ∙ none)) in
-    grind (arith, more.1, no_more, append-nil, is.jobs)
+-- None waits: then all that a worker carried out was taken in.
 
 pub none_waits : (g : Setup) → NoneWaits g
 none_waits g workers h works some lawful are done none =
     let place : Op → ℕ = place_of workers g.files in
     let dealt : IsDealtByFile workers g.files = dealt_by_file workers g.files some in
-    let came = λ (k : ℕ) (lt : k < workers). all_came g workers h k (works k) lawful (are k lt) (none k lt) in
+    let came : (k : ℕ) → k < workers → (done_by_worker g workers k h ≡ (works k).done) × (jobs_to g workers k h ≡ jobs_of (done_by_worker g workers k h) ++ (works k).untaken) = λ k lt.
+    let more = work_begins g workers h k lawful (works k) (are k lt) in
+    let no_more : more.0 ≡ [] = nil_from_length more.0 (sym (length-map more.0 result_of) ∙ ap length (more.2 ∙ none k lt)) in
+    grind (arith, more.1, no_more, append-nil, (are k lt).jobs)
+    in
     record {
       lawful = workers_join g workers h some lawful (λ k lt. rw (came k lt).0 (done k lt));
       files = λ fd. rw (came (place_of_file workers g.files fd) (grind arith)).0 at (files_by_worker g workers h fd lawful);
@@ -107,11 +101,6 @@ drain g workers h k done untaken (r ∷ later) lawful is =
     let rest = drain g workers (finish_of r ∷ h) k done untaken later next one.later in
     rw (history_of_cons (finish_of r) (map finish_of later) h) (record { lawful = rest.lawful; own = rest.own; sent = λ j. rest.sent j ∙ one.sent j; others = λ j unlike. rest.others j unlike ∙ one.others j unlike })
 
--- of another worker nothing was taken in
-other_work : {g : Setup} {workers : ℕ} {h later : History} {k j : ℕ} {work other : Work}
-    → IsDrained g workers h later k work → IsWork g workers h j other → j ≢ k → IsWork g workers later j other
-other_work {j = j} one is unlike = record { jobs = is.jobs ∙ sym (one.sent j); results = rw (one.others j unlike) is.results }
-
 -- a history into which the results of the first workers were taken
 record AreDrained (g : Setup) (workers : ℕ) (h : History) (works : ℕ → Work) (count : ℕ) : Type 0 where
   lawful : IsLawfulApart g h
@@ -132,9 +121,9 @@ drain_first g workers h works lawful are (suc count) le =
       lawful = one.lawful;
       before = λ k lt. elim (cases_eq k count) [
         | inl same ↦ subst (λ j. IsWork g workers (with_taken_in work.waiting there) j (record (works j) { waiting = [] })) (sym same) one.own
-        | inr other ↦ other_work one (so_far.before k (omega arith)) other
+        | inr other ↦ grind (arith, (so_far.before k (omega arith)), one)
       ];
-      after = λ k from lt. other_work one (so_far.after k (omega arith) lt) (λ same. omega (arith, same));
+      after = λ k from lt. grind (arith, (so_far.after k (omega arith) lt), one);
     })
 
 pub settles : (g : Setup) → Settles g

@@ -1,12 +1,12 @@
 -- The parts of a turn put together: what went through the dispatcher's hands stays tied to its trace, and what they appended adds up.
 use Rattle.std.proofs.Common.{add-zero, zero-add, ◌≡◌, ℕ, List, refl, ◌∙◌, arith, false, true, ap, append_assoc, count_by, ◌<◌}
-use Rattle.uring_threads.proofs.Common.{Appends, AreSameLanes, AreTies, ClosesOnce, Counts, Cqe, HasServed, HaveCarried, HoldJobs, IfOk, IfOk-from_err, IfOk-weaker, Intake, IsDelivered, IsErr, IsKernel, IsOk, IsUnmoved, KeepsAllBut, Kept, Kernel, None, OnErr, OnlyPosts, Put, Records, RecordsIntake, RecordsTurn, Repeats, Result, TakesFewResults, TakesIn, Tally, Tied, Turn, Turns, WorkLanes, delivery_row, false≢true, finishes_counted, issues_counted, length, next_in, now, reaps_counted, starts_request}
+use Rattle.uring_threads.proofs.Common.{Appends, AreSameLanes, AreTies, ClosesOnce, Counts, Cqe, HasServed, HaveCarried, HoldJobs, IfOk, IfOk-from_err, IfOk-weaker, Intake, IsDelivered, IsErr, IsKernel, IsOk, IsUnmoved, KeepsAllBut, Kept, Kernel, None, OnErr, OnlyPosts, Put, Records, RecordsIntake, RecordsTurn, Repeats, Result, TakesFewResults, TakesIn, Tally, Tied, Turn, Turns, WorkLanes, delivery_row, false≢true, finishes_counted, issues_counted, issues_request, length, next_in, now, reaps_counted, starts_request, takes_result}
 use Rattle.uring_core.specs.declared.step.Step.TheVariants as step
 use Rattle.uring_threads.proofs.Carrying.{quiet_stays, done_stays, some_full}
 use Rattle.uring_threads.proofs.Tying.{once_stays}
 use Rattle.uring_threads.proofs.Collecting.{on_err}
 use Rattle.uring_threads.proofs.Recording.{records_none}
-use Rattle.uring_threads.proofs.Repeating.{finishes_many, issues_many, repeats_idle, repeats_none}
+use Rattle.uring_threads.proofs.Repeating.{repeats_idle, repeats_none, kind_steps, appended}
 use Rattle.uring_threads.proofs.SameLanes.{lanes_none, lanes_then}
 use Rattle.uring_threads.proofs.TraceSteps.{appends_none, appends_then, still}
 
@@ -42,11 +42,6 @@ pub delivers_none : {a b : Kept} {reaped : List Cqe} → IsUnmoved a b → Keeps
     → IsDelivered (now b).completions reaped → HasDelivered a b 0 reaped
 delivers_none {a} {b} u keeps delivered = grind (arith, appends_none, records_none)
 
-ties_delivered : {a b : Kept} {pulled : Put} {before reaped : List Cqe} {i : Intake} {lanes : List WorkLanes} {n : ℕ}
-    → AreTies a pulled before i lanes → HasDelivered a b n reaped → AreTies b pulled reaped i lanes
-ties_delivered {a} {b} {i = i} s d =
-    grind (arith, (quiet_stays a b _ d.tally refl refl), (once_stays a b _ i d.tally refl s.once))
-
 -- What the parts of a turn have done, up to where it ends with an answer, which if it is Ok is this turn.
 pub record Goes {E : Type 0} (old : Kernel) (kept : Kept) (pulled : Put) (reaped : List Cqe) (i : Intake) (lanes : List WorkLanes) (turn : Turn) (answer : Result Turn E) : Type 0 where
   pub ties : AreTies kept pulled reaped i lanes
@@ -62,12 +57,13 @@ module _ {E : Type 0} {answer : Result Turn E} {old : Kernel} {b c : Kept} {pull
         → IfOk answer (λ made. made ≡ record { popped = n; issued = s; finished = f; delivered = k })
         → Goes old e pulled reaped i ns (record { popped = n; issued = s; finished = f; delivered = k }) answer
     goes {e} {reaped} {k} r told =
-        let finished = finishes_many p in
-        let issued = issues_many q in
+        let finished : length p.numbers ≡ f = kind_steps step.Finish takes_result p.tally.events p.numbers (λ n a e. refl) (appended p) p.tally.served ∙ ap (λ (t : Tally). t.finishes) p.tally.tally in
+        let issued : length q.numbers ≡ s = kind_steps step.Issue issues_request q.tally.events q.numbers (λ n a e. grind arith) (appended q) q.tally.served ∙ ap (λ (t : Tally). t.issues) q.tally.tally in
+        let posted = ties_posted (issues_counted s) (ties_posted (finishes_counted f) t.ties p.tally refl p.posts carried) q.tally refl q.posts later in
         let last : Appends c e (record { items = 0; issues = s; finishes = 0; reaps = k; calls = 0; closes = 0 }) = appends_then c d e _ _ _ q.tally r.tally (simp (add-zero, zero-add)) in
         let rest : Appends b e (record { items = 0; issues = s; finishes = f; reaps = k; calls = 0; closes = 0 }) = appends_then b c e _ _ _ p.tally last (simp (add-zero, zero-add)) in
         record {
-          ties = ties_delivered (ties_posted (issues_counted s) (ties_posted (finishes_counted f) t.ties p.tally refl p.posts carried) q.tally refl q.posts later) r;
+          ties = grind (arith, posted, (quiet_stays d e _ r.tally refl refl), (once_stays d e _ i r.tally refl posted.once));
           counts = record {
             calls = t.taken.calls;
             closes = t.taken.closes;
