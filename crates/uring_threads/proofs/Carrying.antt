@@ -1,11 +1,10 @@
 -- What the lanes of the workers have carried, as the trace goes on; a lane for jobs that shows no room has carried as many as it holds, so as many requests were started.
 use Rattle.std.proofs.Common.{◌≡◌, ◌≢◌, ℕ, ◌<◌, ◌==◌, cond, List, [], ◌∷◌, ◌++◌, length, get_or, count_by, Option, Some, None, refl, sym, ap, ◌∙◌, inl, inr, arith, ◌+◌, ◌≤◌, false, append-nil}
-use Rattle.uring_threads.proofs.Common.{Answer, Appends, AreTakenIn, Bool, Collects, Event, Grows, HasCarried, HaveCarried, History, HoldJobs, IsEnded, IsSent, Job, Kept, None, Op, Setup, SomeIsFull, Tally, WorkLanes, cases_eq, count_by-le-length, done_by_worker, done_in, entry_of, history, history_of, history_of_cons, issues_request, jobs_in, jobs_sent, jobs_to, length-append, length-filter, length-set, now, operation_of, place_of, results_received, set, starts_request, sum_by-cons, takes_result}
+use Rattle.uring_threads.proofs.Common.{Answer, Appends, Bool, Event, Grows, HaveCarried, History, HoldJobs, IsEnded, IsSent, Job, Kept, None, Op, Setup, SomeIsFull, Tally, WorkLanes, cases_eq, count_by-le-length, done_by_worker, done_in, entry_of, history, history_of, history_of_cons, issues_request, jobs_in, jobs_to, length-append, length-filter, now, operation_of, place_of, starts_request, sum_by-cons, takes_result}
 use Rattle.uring_core.specs.declared.step.Step.TheVariants as step
 use Rattle.uring_core.specs.declared.answer.Answer.TheVariants as answer
 use Rattle.uring_threads.proofs.TraceSteps.{grown_history, longer_history}
 use Rattle.uring_threads.proofs.Sent.{one_more_at, none_more_at}
-use Rattle.uring_threads.proofs.SameLanes.{set_cases}
 use Rattle.uring_workers.proofs.LaneFacts.{lane_full}
 
 -- Nothing is sent by events that issue no request, and nothing taken in by those that finish none.
@@ -81,18 +80,6 @@ carried_run a b n place op old new issued carried at low many was_sent others = 
             results = rw (issued.0.setup, longer) before.results;
           })
     ])
-
--- Results of a worker were taken in.
-
--- with these lanes in their place
-pub carried_set : (a b : Kept) (n place : ℕ) (old : List WorkLanes) (y d : WorkLanes)
-    → HaveCarried a old → place < length old → Collects a b (length old) place n
-    → y.jobs ≡ (get_or old place d).jobs → AreTakenIn b (length old) place (results_received y)
-    → HaveCarried b (set old place y)
-carried_set a b n place old y d carried low p jobs taken = λ k e within.
-    rw (length-set old place y) (set_cases (HasCarried b (length old)) old place y k e low
-    (record { jobs = ap (λ q. jobs_sent (record y { jobs = q })) jobs ∙ (carried place d low).jobs ∙ sym (p.others.jobs place); results = taken })
-    (λ other. grind (arith, (carried k e (rw (length-set old place y) at within)), p.others)))
 
 -- each request that starts sends a job
 jobs_count : (g : Setup) (events : List Event) (h : History)

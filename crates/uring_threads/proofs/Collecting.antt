@@ -1,6 +1,6 @@
 -- What is sent and taken in, as a result is taken in: the operation is the last of its worker's, and all else stays; and how many results of each worker a turn takes in.
 use Rattle.std.proofs.Common.{◌≡◌, ℕ, ◌+◌, ◌<◌, arith, Bool, true, false, List, [], ◌∷◌, ◌++◌, length, refl, sym, subst, ap, ◌∙◌, inl, inr, ◌*◌, ◌≤◌, get_or, add-zero}
-use Rattle.uring_threads.proofs.Common.{Answer, AreSameLanes, AreTakenIn, CanBeTaken, Collects, CollectsNext, CollectsSeen, Done, Grows, HaveCarried, IsLawfulApart, IsTakenIn, IsUnmoved, JobResult, Kept, NextStays, NoneComes, OnErr, OnlyReceives, Repeats, Result, TakesFewResults, TakesSeen, Wait, WorkLanes, cases_lt, done_by_worker, done_in, entry_of, finish_of, finishes_counted, history, is_running, is_running_ended_other, is_running_ended_same, length_push, map-append, most_results, now, operation_of, place_of, results_of, results_received, results_seen, results_taken_in, set}
+use Rattle.uring_threads.proofs.Common.{Answer, AreSameLanes, AreTakenIn, CanBeTaken, Collects, CollectsNext, CollectsSeen, Done, Grows, HasCarried, HaveCarried, IsLawfulApart, IsTakenIn, IsUnmoved, JobResult, Kept, NextStays, NoneComes, OnErr, OnlyReceives, Repeats, Result, TakesFewResults, TakesSeen, Wait, WorkLanes, cases_lt, done_by_worker, done_in, entry_of, finish_of, finishes_counted, history, is_running, is_running_ended_other, is_running_ended_same, length-set, length_push, map-append, most_results, now, operation_of, place_of, results_of, results_received, results_seen, results_taken_in, set}
 use mathlib.Core.List.{IsPrefix}
 use Rattle.uring_core.specs.Core.{IsFinished}
 use Rattle.uring_core.specs.declared.step.Step.TheVariants as step
@@ -9,7 +9,6 @@ use Rattle.uring_threads.proofs.Sent.{one_more_at, none_more_at}
 use Rattle.uring_threads.proofs.Repeating.{repeats_none, repeats_then, repeats_one}
 use Rattle.uring_threads.proofs.Settling.{results_run}
 use Rattle.uring_threads.proofs.TraceSteps.{grown, grown_history, unmoved_is}
-use Rattle.uring_threads.proofs.Carrying.{carried_set}
 use Rattle.uring_threads.proofs.SameLanes.{lanes_then, lanes_set, set_cases}
 use Rattle.uring_threads.proofs.Posting.{posts_only}
 
@@ -126,10 +125,13 @@ pub collects_at : {first : List WorkLanes} {a : Kept} {place count n : ℕ} {b c
     → AreTakenIn c (length first) place (results_received y)
     → CollectsBefore first a (place + 1) (count + n) c (set lanes place y)
 collects_at {first} {a} {place} {count} {n} {b} {c} {lanes} y d p low q most receives taken =
+    let had = rw p.same.many at p.carried in
     record {
       most = omega (arith, p.most, most);
       repeats = repeats_then p.repeats q.repeats;
-      carried = carried_set b c n place lanes y d p.carried low (subst (λ m. Collects b c m place n) (sym p.same.many) q) receives.jobs (subst (λ m. AreTakenIn c m place (results_received y)) (sym p.same.many) taken);
+      carried = λ k e within. rw (length-set lanes place y, p.same.many) (set_cases (HasCarried c (length first)) lanes place y k e low
+          (record { jobs = rw receives.jobs ((had place d (rw p.same.many at low)).jobs ∙ sym (q.others.jobs place)); results = taken })
+          (λ other. grind (arith, (had k e (rw (length-set lanes place y, p.same.many) at within)), q.others)));
       same = lanes_then first lanes (set lanes place y) p.same (lanes_set lanes place y d low receives);
       before = grind arith;
       others = λ k high. ap length (q.others.results k (λ here. absurd (omega (arith, here, high)))) ∙ p.others k (omega (arith, high));

@@ -2,9 +2,8 @@
 -- And of what is left at a place: of the jobs sent to it, those after the operations that were carried out are of the requests that run.
 -- By `Moves` and induction over the history, and by counting how often a number stands among what was sent and carried out.
 use Rattle.std.proofs.Common.{◌≡◌, ℕ, ◌<◌, ◌==◌, ℤ, List, [], ◌∷◌, ◌++◌, length, Bool, true, false, cond, refl, ◌∙◌, ap, arith, ◌≢◌, ◌+◌, append-nil, count_by}
-use Rattle.uring_threads.proofs.Common.{All-push, All-weaker, AllByRecursion, Answer, CalledForApart, Done, History, IsLawfulApart, IsSoundRequests, Job, Op, Requests, Setup, Sqe, Step, World, and_parts, done_at, done_by, done_in, eq-eqb, eqb-true, filter, is_running, is_running_ended_other, is_running_ended_same, is_running_started_other, is_running_started_same, issue_answer, job_by, job_in, job_of, jobs_at, jobs_in, jobs_of, length-append, list_any, operation_of, outstanding_tells, requests_of, slice_index_or, sum_by-append, sum_by-cons, sum_by_push, with_ended, with_issued_end, with_told, world, zero_entry}
+use Rattle.uring_threads.proofs.Common.{All-push, All-weaker, AllByRecursion, Answer, CalledForApart, Done, History, IsLawfulApart, IsSoundRequests, Job, Op, Requests, Setup, Sqe, Step, World, and_parts, done_at, done_by, done_in, eq-eqb, eqb-true, filter, is_running, is_running_ended_other, is_running_ended_same, is_running_started_other, is_running_started_same, job_by, job_in, job_of, jobs_at, jobs_in, jobs_of, length-append, list_any, operation_of, outstanding_tells, requests_of, slice_index_or, sum_by-append, sum_by-cons, sum_by_push, with_ended, with_issued_end, with_told, world, zero_entry}
 use Rattle.uring_entry.specs.Requests.{with_started}
-use Rattle.uring_core.specs.declared.answer.Answer.TheVariants as answer
 use Rattle.uring_core.proofs.Moves.{Move, stays, accepts, starts, ends_run, move_of}
 use Rattle.uring_core.proofs.Running.{entry_stays}
 use Rattle.uring_core.proofs.Sound.{sound_of}
@@ -26,11 +25,6 @@ pub record Accounts (r : Requests) (jobs : List Job) (done : List Done) : Type 0
   pub carried : AllByRecursion (λ d. IsOf r.accepted (job_of d)) done
   pub counts : (n : ℕ) → count_by (λ j. j.number == n) jobs
       ≡ count_by (λ d. d.number == n) done + cond (is_running r n) 1 0
-
--- what ends as it is issued doesn't run
-not_running : (g : Setup) (w : World) (n : ℕ) (res : ℤ) (bytes : List ℕ)
-    → answer.Ended res bytes ≡ issue_answer g w n → is_running w.requests n ≡ false
-not_running g w n res bytes called = grind arith
 
 -- an end of what doesn't run changes nothing of it
 issued_accounts : (linux : Bool) (r : Requests) (m : ℕ) (res : ℤ) (jobs : List Job) (done : List Done)
@@ -70,7 +64,7 @@ accounts_then g w q s a jobs done (ends_run m res bytes running) called i all =
       counts = λ n. omega (arith, all.counts n, less n, sum_by_push (λ (d : Done). cond (d.number == n) 1 0) done (record { number = m; op = op_at w.requests.accepted m; outcome = record { res = res; bytes = bytes } }));
     }
 accounts_then g w q s a jobs done _ called i all =
-    issued_accounts g.linux w.requests _ _ jobs done (not_running g w _ _ _ called) all
+    issued_accounts g.linux w.requests _ _ jobs done (grind (arith, called)) all
 
 pub accounts : (g : Setup) (h : History) → IsLawfulApart g h
     → Accounts (world g h).requests (jobs_in g h) (done_in g h)
