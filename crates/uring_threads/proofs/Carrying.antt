@@ -94,7 +94,6 @@ pub some_full : (k : Kept) (lanes : List WorkLanes) → HaveCarried k lanes → 
     → SomeIsFull lanes → 64 ≤ count_by starts_request k.trace
 some_full k [] carried hold full = absurd (omega (arith, full.1))
 some_full k (d ∷ lanes) carried hold full =
-    let here = carried full.0 d full.1 in
     let few = count_by-le-length (λ (j : Job). place_of (length (d ∷ lanes)) k.setup.files j.op == full.0) (jobs_in k.setup (history k)) in
     let all = rw append-nil at (jobs_count k.setup k.trace []) in
-    omega (arith, lane_full (get_or (d ∷ lanes) full.0 d) (hold full.0 d full.1) (full.2 d), ap length here.jobs, length-filter {X = Job}, few, all)
+    omega (arith, lane_full (get_or (d ∷ lanes) full.0 d) (hold full.0 d full.1) (full.2 d), ap length (carried full.0 d full.1).jobs, length-filter {X = Job}, few, all)

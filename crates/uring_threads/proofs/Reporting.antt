@@ -1,10 +1,10 @@
 -- What is reported once all ends are settled, from what ties them to the trace.
-use Rattle.std.proofs.Common.{◌≡◌, ◌↔◌, ℕ, zero, suc, ◌+◌, ◌<◌, ◌≤◌, ◌==◌, Bool, Some, true, List, [], ◌∷◌, ◌++◌, length, map, take, drop, get_or, count_by, cond, refl, sym, subst, ap, ◌∙◌, arith, inl, inr, append_assoc, append-nil, length-drop, add-zero, drop_at, take_at, flat_map}
-use Rattle.uring_threads.proofs.Common.{AppEnd, AreItems, AreSettled, AreTogether, BeginsCalls, ClosesOnlyAllTaken, Completions, Cqe, DeliversReaped, FinishesAll, HasOneClose, HaveLooked, HaveSeenAll, History, IsItem, IsKernel, IsLawful, IsSameKernel, Item, Job, JobResult, Kept, Kernel, LeavesCompletions, LeavesItems, LeavesRunning, OnlyPosts, PublishesItems, Report, Setup, Sizes, TakesAll, WorkLanes, Worker, World, all_published_as, all_untaken, all_waiting, calls_left, calls_of, closes_ring, finish_of, flat_map-append, has_job, history, history_of_cons, is_running, items_of_calls, job_of, jobs_of, left_by, length-append, length-map, list_any, map-append, now, or_cases, or_right, posts, reverse-append, slice_get, sum_by-cons, take_all, take_more, taken, unreaped, untaken_at, waiting_in, with_end_of, with_taken_in, world}
+use Rattle.std.proofs.Common.{◌≡◌, ◌↔◌, ℕ, zero, suc, ◌+◌, ◌<◌, ◌≤◌, ◌==◌, Bool, Some, true, List, [], ◌∷◌, ◌++◌, length, map, take, drop, get_or, cond, refl, sym, subst, ap, ◌∙◌, arith, inl, inr, append_assoc, append-nil, length-drop, add-zero, drop_at, take_at, flat_map}
+use Rattle.uring_threads.proofs.Common.{AppEnd, AreItems, AreSettled, AreTogether, BeginsCalls, ClosesOnlyAllTaken, Completions, Cqe, DeliversReaped, Event, FinishesAll, HasOneClose, HaveLooked, HaveSeenAll, History, IsItem, IsKernel, IsLawful, IsSameKernel, Item, Job, JobResult, Kept, Kernel, LeavesCompletions, LeavesItems, LeavesRunning, OnlyPosts, PublishesItems, Report, Setup, Sizes, TakesAll, WorkLanes, Worker, World, all_published_as, all_untaken, all_waiting, calls_left, calls_of, closes_ring, finish_of, flat_map-append, has_job, history, history_of_cons, is_running, items_of_calls, job_of, jobs_of, left_by, length-append, length-map, list_any, map-append, now, or_cases, or_right, posts, reverse-append, slice_get, take_all, take_more, taken, unreaped, untaken_at, waiting_in, with_end_of, with_taken_in, world}
 use Rattle.uring_core.specs.declared.answer.Answer.TheVariants as answer
 use Rattle.std.proofs.lemmas.Option.{slice_get_within, get_or_from_slice_get}
 use Rattle.uring_laws.specs.Laws.{ReapedBeginPosted, in_ring, in_overflow}
-use Rattle.std.proofs.lemmas.List.Folds.{list_any-append}
+use Rattle.std.proofs.lemmas.List.Folds.{fold-map, fold_stays, list_any-append}
 use Rattle.uring_threads.proofs.CallsMade.{none_left}
 use Rattle.uring_threads.proofs.Tying.{closes_append, all_first}
 use Rattle.uring_threads.proofs.Posting.{posts_then, posts_only}
@@ -24,12 +24,6 @@ finishes_post g (r ∷ rs) h =
     let one : length (unreaped (with_end_of g w r.number r.outcome.res r.outcome.bytes)) ≤ length (unreaped w.completions) + 1 = grind (arith, length-drop, length-append) in
     rw (history_of_cons (finish_of r) (map finish_of rs) h)
     (posts_then _ _ _ (posts_only g (world g h) r.number (answer.Ended r.outcome.res r.outcome.bytes)).1 next.0, omega (arith, next.1, one))
-
--- The ring is closed once, if at all.
-
-no_close : (rs : List JobResult) → count_by closes_ring (map finish_of rs) ≡ 0
-no_close [] = refl
-no_close (r ∷ rs) = omega (arith, sum_by-cons (λ e. cond (closes_ring e) 1 0) (finish_of r) (map finish_of rs), no_close rs)
 
 -- What runs.
 
@@ -135,6 +129,7 @@ tells_ends app kernel same workers kept lanes unsent undelivered r t s is keeps 
     let left : LeavesItems app.submitted same.pulled r.unsent = subst (LeavesItems app.submitted same.pulled) (sym rests.0) items in
     let size : app.sizes.sq ≡ same.kept.setup.sq = ap (λ (z : Sizes). z.sq) (sym (together_same app kernel same workers s t).sizes) ∙ is.sq in
     let tied = is.ties.tied in
+    let no_close = fold-map (λ (n : ℕ) (e : Event). n + cond (closes_ring e) 1 0) finish_of 0 results ∙ fold_stays (λ (n : ℕ) (r : JobResult). n + 0) 0 (λ r. refl) results in
     let more = calls_left same.kept.setup (now same.kept).submission in
     let later = flat_map (calls_of same.kept.setup) left.rest in
     let whole : all_published_as (items_of_calls app.submitted.calls) ≡ all_published_as (items_of_calls same.pulled.calls) ++ all_published_as (items_of_calls left.rest) = rw (← left.calls) (simp (flat_map-append, map-append)) in
@@ -142,7 +137,7 @@ tells_ends app kernel same workers kept lanes unsent undelivered r t s is keeps 
       running = subst (λ ls. LeavesRunning ls workers r) (these ∙ ap (λ (k : Kernel). k.lanes) s.others) running;
       items = rw (posts.submission, left.items, tied.published (all_first (IsItem same.kept.setup.sq) _ _ (rw (size, whole) at good)), whole);
       calls = (more ++ later, rw (posts.submission, of, ← left.calls, flat_map-append, ← tied.calls) (sym (append_assoc (now same.kept).submission.calls more later)));
-      once = rw (posts.is_closed, tied.closed, ← tied.shut, goes_on, closes_append, no_close results, add-zero) is.ties.once;
+      once = rw (posts.is_closed, tied.closed, ← tied.shut, goes_on, closes_append, no_close, add-zero) is.ties.once;
       closed = λ closed.
           let pulled_closed : same.pulled.closed ≡ true = sym tied.closed ∙ sym posts.is_closed ∙ closed in
           let none : waiting_in same.intake ≡ 0 = grind (arith, tied.shut, pulled_closed) in
