@@ -52,7 +52,8 @@ pub all_run : (k : Kept) (ls : List WorkLanes) (ws vs : List Worker) → 0 < len
 all_run k (l ∷ ls) (w ∷ ws) vs some settled looked seen many n =
     let p : Job → Bool = λ job. job.number == n in
     let both = (settled w).running n in
-    let same : (j : ℕ) → j < length (w ∷ ws) → untaken_at (get_or (l ∷ ls) j l) (get_or (w ∷ ws) j w) ≡ (get_or vs j w).seen = λ j low. grind (arith, (get_or vs j w), (drop_at (jobs_of (get_or vs j w).done) (get_or vs j w).seen _ (length-map (get_or vs j w).done job_of))) in
+    let same : (j : ℕ) → j < length (w ∷ ws) → untaken_at (get_or (l ∷ ls) j l) (get_or (w ∷ ws) j w) ≡ (get_or vs j w).seen =
+    λ j low. grind (arith, (get_or vs j w), (drop_at (jobs_of (get_or vs j w).done) (get_or vs j w).seen _ (length-map (get_or vs j w).done job_of))) in
     let here = λ (j : ℕ) (low : j < length (w ∷ ws)). ap (list_any p) (same j low) in (
       λ runs.
           let one = both.0 runs in
@@ -132,7 +133,8 @@ tells_ends app kernel same workers kept lanes unsent undelivered r t s is keeps 
     let no_close = fold-map (λ (n : ℕ) (e : Event). n + cond (closes_ring e) 1 0) finish_of 0 results ∙ fold_stays (λ (n : ℕ) (r : JobResult). n + 0) 0 (λ r. refl) results in
     let more = calls_left same.kept.setup (now same.kept).submission in
     let later = flat_map (calls_of same.kept.setup) left.rest in
-    let whole : all_published_as (items_of_calls app.submitted.calls) ≡ all_published_as (items_of_calls same.pulled.calls) ++ all_published_as (items_of_calls left.rest) = rw (← left.calls) (simp (flat_map-append, map-append)) in
+    let whole : all_published_as (items_of_calls app.submitted.calls) ≡ all_published_as (items_of_calls same.pulled.calls) ++ all_published_as (items_of_calls left.rest) =
+    rw (← left.calls) (simp (flat_map-append, map-append)) in
     record {
       running = subst (λ ls. LeavesRunning ls workers r) (these ∙ ap (λ (k : Kernel). k.lanes) s.others) running;
       items = rw (posts.submission, left.items, tied.published (all_first (IsItem same.kept.setup.sq) _ _ (rw (size, whole) at good)), whole);

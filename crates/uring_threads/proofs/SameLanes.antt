@@ -19,7 +19,9 @@ lanes_then a b c p q = grind arith
 pub lanes_set : (lanes : List WorkLanes) (place : ℕ) (y d : WorkLanes) → place < length lanes
     → OnlyReceives (get_or lanes place d) y → AreSameLanes lanes (set lanes place y)
 lanes_set lanes place y d low receives =
-    let all : (k : ℕ) (e : WorkLanes) → OnlyReceives (get_or lanes k e) (get_or (set lanes place y) k e) = λ k e. set_cases (λ j l. OnlyReceives (get_or lanes j e) l) lanes place y k e low (rw (get_or_default lanes place e d low) receives) (λ other. record { jobs = refl; ring = ((refl, refl, refl, refl), refl) }) in
+    let all : (k : ℕ) (e : WorkLanes) → OnlyReceives (get_or lanes k e) (get_or (set lanes place y) k e) =
+    λ k e. set_cases (λ j l. OnlyReceives (get_or lanes j e) l) lanes place y k e low
+    (rw (get_or_default lanes place e d low) receives) (λ other. record { jobs = refl; ring = ((refl, refl, refl, refl), refl) }) in
     grind (arith, length-set, all)
 
 -- lanes of which one was sent a job

@@ -49,7 +49,8 @@ accounts_then g w q s a jobs done (accepts accepted missed head entries) called 
     }
 accounts_then g w q s a jobs done (starts m outstanding idle spared ready no_cancel) called i all =
     let r : Requests = w.requests in
-    let more : (n : ℕ) → cond (is_running (with_started r m) n) 1 0 ≡ cond (is_running r n) 1 0 + cond (m == n) 1 0 = λ n. grind (arith, outstanding_tells, is_running_started_same, is_running_started_other, eqb-true) in
+    let more : (n : ℕ) → cond (is_running (with_started r m) n) 1 0 ≡ cond (is_running r n) 1 0 + cond (m == n) 1 0 =
+    λ n. grind (arith, outstanding_tells, is_running_started_same, is_running_started_other, eqb-true) in
     record {
       sent = All-push (IsOf w.requests.accepted) jobs _ all.sent ((outstanding_tells w.requests m outstanding).0, refl);
       carried = all.carried;
@@ -57,7 +58,8 @@ accounts_then g w q s a jobs done (starts m outstanding idle spared ready no_can
     }
 accounts_then g w q s a jobs done (ends_run m res bytes running) called i all =
     let r : Requests = w.requests in
-    let less : (n : ℕ) → cond (is_running r n) 1 0 ≡ cond (is_running (with_ended r m res bytes) n) 1 0 + cond (m == n) 1 0 = λ n. grind (arith, is_running_ended_same, is_running_ended_other, eqb-true) in
+    let less : (n : ℕ) → cond (is_running r n) 1 0 ≡ cond (is_running (with_ended r m res bytes) n) 1 0 + cond (m == n) 1 0 =
+    λ n. grind (arith, is_running_ended_same, is_running_ended_other, eqb-true) in
     record {
       sent = all.sent;
       carried = All-push (λ d. IsOf w.requests.accepted (job_of d)) done _ all.carried (i.started_accepted m (and_parts _ _ running).0, refl);

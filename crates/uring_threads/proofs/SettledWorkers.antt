@@ -147,7 +147,8 @@ module _ (a b c : Kept) (ls ms : List WorkLanes) (ws vs : List Worker) (count fi
         workers_stay = λ k f from. get_or-set_other vs count k after f (λ same. omega (arith, same, from)) ∙ s.workers_stay k f (omega (arith, from));
         looked = λ k f. set_cases (λ j w. Looks (get_or ws j f) w) vs count after k f there (rw (was f) at one.looks) (λ other. s.looked k f);
         carried = λ k f within. set_cases (HasCarried c (length ls)) ms count now k f (omega (arith, s.many, lt)) at_count.carried (λ other. grind (arith, (s.carried k f within), at_count.others));
-        settled = λ k f below. set_cases (λ j w. IsWork c.setup (length ls) (history c) j (settled_work w)) vs count after k f there (rw (ap (λ w. w.done) one.looks.same) at_count.work) (λ other. grind (arith, (s.settled k f (omega (arith, other, below))), at_count.others));
+        settled = λ k f below. set_cases (λ j w. IsWork c.setup (length ls) (history c) j (settled_work w)) vs count after k f there
+            (rw (ap (λ w. w.done) one.looks.same) at_count.work) (λ other. grind (arith, (s.settled k f (omega (arith, other, below))), at_count.others));
         right = λ k f below. set_cases (λ _ w. IsRight w) vs count after k f there one.right (λ other. s.right k f (omega (arith, other, below)));
         recorded = rw (add-one, waiting_more ls ws d e count of.many lt, waits) (takes_then a b c (all_waiting (take count ls) (take count ws)) one.trace.0 s.recorded one.trace.2);
         few = omega (arith, s.few, one.few, next_short a b ls ms ws vs count files d e s lt of);

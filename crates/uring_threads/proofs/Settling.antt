@@ -99,7 +99,8 @@ drain g workers h k done untaken (r ∷ later) lawful is =
     let one = results_run g workers h k done untaken r later lawful is in
     let next : IsLawfulApart g (finish_of r ∷ h) = (subst (λ b. FinishesApart b (answer.Ended r.outcome.res r.outcome.bytes)) (sym one.runs) tt, lawful) in
     let rest = drain g workers (finish_of r ∷ h) k done untaken later next one.later in
-    rw (history_of_cons (finish_of r) (map finish_of later) h) (record { lawful = rest.lawful; own = rest.own; sent = λ j. rest.sent j ∙ one.sent j; others = λ j unlike. rest.others j unlike ∙ one.others j unlike })
+    rw (history_of_cons (finish_of r) (map finish_of later) h)
+    (record { lawful = rest.lawful; own = rest.own; sent = λ j. rest.sent j ∙ one.sent j; others = λ j unlike. rest.others j unlike ∙ one.others j unlike })
 
 -- a history into which the results of the first workers were taken
 record AreDrained (g : Setup) (workers : ℕ) (h : History) (works : ℕ → Work) (count : ℕ) : Type 0 where
