@@ -1,5 +1,5 @@
 -- How the steps of a submission call are answered, and what they make: from the laws of the call of the positions that wait.
-use Rattle.std.proofs.Common.{◌≡◌, ℕ, ◌+◌, ◌-◌, ◌<◌, ◌≤◌, false, true, Bool, List, [], ◌∷◌, length, drop, get_or, Some, None, if◌then◌else◌, refl, sym, subst, ap, ◌∙◌, arith}
+use Rattle.std.proofs.Common.{◌≡◌, ℕ, ◌+◌, ◌-◌, ◌<◌, ◌≤◌, false, true, Bool, List, [], ◌∷◌, length, drop, get_or, Some, None, if◌then◌else◌, refl, subst, ap, ◌∙◌, arith, add-one}
 use Rattle.uring_threads.proofs.Common.{Answer, Appends, CalledForApart, Grows, IsFirst, Kept, Place, Setup, Stands, Submission, World, after_call, beginning, call_closes, call_opens, calls_after, calls_counted, calls_left, drop_more, drop_of_length-le, ends_after, ends_of, happens, in_call, is_spent, none_counted, now, place_answer, position_taken, sum_by_push, taken}
 use Rattle.std.proofs.lemmas.Option.{slice_get-get_or}
 use Rattle.uring_core.specs.declared.step.Step.TheVariants as step
@@ -67,18 +67,15 @@ ends_as b g s w count done x ended is same tests e t = grind arith
 
 -- What is left of a list of places, seen from one place of it.
 module _ (g : Setup) (before after : List Place) (place : Place) (done : ℕ) (calls : List ℕ) (is : before ≡ place ∷ after) (at : calls_after (ends_of g before) done ≡ calls) where
-  ends_next : (ends : Bool) → ends_after g (Some place) ≡ ends → calls_after (ends ∷ ends_of g after) done ≡ calls
-  ends_next ends e = ap (λ b. calls_after (b ∷ ends_of g after) done) (sym e) ∙ ap (λ xs. calls_after (ends_of g xs) done) (sym is) ∙ at
-
   -- the call ends after it
   pub ended_there : ends_after g (Some place) ≡ true → calls ≡ (done + 1) ∷ calls_after (ends_of g after) 0
   unfolding calls_after
-  ended_there e = sym (ends_next true e) ∙ ap (λ n. n ∷ calls_after (ends_of g after) 0) (omega arith)
+  ended_there e = rw (← at, is, e, add-one)
 
   -- or goes on
   pub gone_on : ends_after g (Some place) ≡ false → calls_after (ends_of g after) (done + 1) ≡ calls
   unfolding calls_after
-  gone_on e = ap (calls_after (ends_of g after)) (omega arith) ∙ ends_next false e
+  gone_on e = rw (← at, is, e, add-one)
 
 -- or took all
 pub all_taken : (g : Setup) (left : List Place) (count : ℕ) (calls : List ℕ) → 0 < count → left ≡ []
@@ -97,10 +94,8 @@ pub closed_now : (a t e b : Kept) (count n : ℕ) (y z : Answer) → Stands (now
     → CalledForApart t.setup (now t) step.End y → Grows e b (step.LoadHead, z)
     → t.setup ≡ a.setup → now b ≡ after_call a.setup (now a) n
 closed_now a t e b count n y z s few at end called load same =
-    grown e b step.LoadHead z load
-    ∙ ap (λ w. happens t.setup w step.LoadHead z) (grown t e step.End y end ∙ ap (λ w. happens t.setup w step.End y) at)
-    ∙ (call_closes t.setup (now a) count n (count - n) y z s (omega arith) (subst (λ w. CalledForApart t.setup w step.End y) at called)).0
-    ∙ ap (λ (g : Setup). after_call g (now a) n) same
+    rw (grown e b step.LoadHead z load, grown t e step.End y end, at, same)
+    (rw same at (call_closes t.setup (now a) count n (count - n) y z s (omega arith) (rw at at called)).0)
 
 -- which was the first of the calls that were left, as it was said of the world in which it had opened
 pub opened_first : (g : Setup) (w o v : World) (count n : ℕ) → o ≡ in_call w count 0
@@ -115,5 +110,5 @@ pub call_counts : (a o t e b : Kept) (count : ℕ) (x y z : Answer) → Grows a 
     → Appends o t none_counted → Grows t e (step.End, y) → Grows e b (step.LoadHead, z)
     → Appends a b (calls_counted 1)
 call_counts a o t e b count x y z begin take end load =
-    let last : Appends t b none_counted = appends_then t e b none_counted none_counted none_counted (appends_one t e (step.End, y) none_counted end refl refl) (appends_one e b (step.LoadHead, z) none_counted load refl refl) refl in
-    appends_then a o b (calls_counted 1) none_counted (calls_counted 1) (appends_one a o (step.Begin count, x) (calls_counted 1) begin refl refl) (appends_then o t b none_counted none_counted none_counted take last refl) refl
+    appends_then a o b _ _ _ (appends_one a o _ (calls_counted 1) begin refl refl) (appends_then o t b _ _ _ take
+    (appends_then t e b _ _ _ (appends_one t e _ none_counted end refl refl) (appends_one e b _ none_counted load refl refl) refl) refl) refl

@@ -1,15 +1,15 @@
 -- What calls that are made one after the other leave: which are left, how the ring stands, what they append, and which rows of steps they are.
-use Rattle.std.proofs.Common.{◌≡◌, ℕ, zero, suc, ◌+◌, ◌-◌, ◌≤◌, Bool, true, false, not, ◌&&◌, List, [], ◌∷◌, ◌++◌, length, map, drop, sum, Some, None, is_some, if◌then◌else◌, nat_lt, nat_le, refl, sym, subst, ap, ap₂, ◌∙◌, arith, append_assoc, append-nil, length-drop, ◌<◌}
-use Rattle.uring_threads.proofs.Common.{Appends, AreBegun, AreTaken, HasBegun, HaveMade, Intake, IsFirst, IsUnmoved, Item, Kept, Published, Records, Setup, Sqe, Stands, Step, Submission, World, after_call, after_calls, all_published_as, bad_word, call_row, calls_after, calls_counted, calls_left, calls_of, calls_row, drop_of_length-le, ends_after_item, ends_of, is_spent, items_fresh, items_keep, items_row, length-map, lt-ltb, now, refused_row, sum_by-cons, taken, with_entry, with_item, with_items, with_items_published, with_published, words_of}
+use Rattle.std.proofs.Common.{◌≡◌, ℕ, zero, suc, ◌+◌, ◌-◌, ◌≤◌, Bool, true, false, not, ◌&&◌, List, [], ◌∷◌, ◌++◌, length, map, sum, Some, None, is_some, if◌then◌else◌, refl, sym, subst, ap, ap₂, ◌∙◌, arith, append_assoc, append-nil, length-drop, ◌<◌, drop_at}
+use Rattle.uring_threads.proofs.Common.{Appends, AreBegun, AreTaken, HasBegun, HaveMade, Intake, IsFirst, IsUnmoved, Item, Kept, Published, Records, Setup, Sqe, Stands, Step, Submission, World, after_call, after_calls, all_published_as, call_row, calls_after, calls_counted, calls_left, calls_of, calls_row, drop_of_length-le, ends_after_item, ends_of, is_spent, items_fresh, items_keep, items_row, length-map, lt-ltb, now, refused_row, sum_by-cons, taken, with_items, with_items_published, with_published, words_of}
 use Rattle.uring_entry.specs.Submission.{place_of}
-use Rattle.std.proofs.Math.Seq.{drop-append_seam}
 use Rattle.uring_core.specs.Stops.{stops_at_word}
 use Rattle.uring_ports.specs.declared.item.Item.TheVariants as item
 use Rattle.uring_threads.specs.declared.calls.CallMade.TheVariants as made
 use Rattle.uring_threads.proofs.TraceSteps.{appends_none, appends_then, still}
 use Rattle.uring_core.specs.declared.step.Step.TheVariants as step
 use Rattle.uring_threads.specs.declared.intake.Intake.TheVariants as intake
-use Rattle.uring_threads.proofs.Recording.{call_more, call_refused, records_none}
+use Rattle.uring_threads.proofs.Recording.{records_none, calls_row_snoc, refused_is, records_then}
+use Rattle.uring_threads.proofs.ItemSteps.{items_stand}
 
 -- Lengths of calls.
 
@@ -30,11 +30,6 @@ pub none_left : (g : Setup) (l : Submission) → Stands l [] 0 → calls_left g 
 unfolding calls_after
 none_left g l s = ap (λ places. calls_after (ends_of g places) 0) (drop_of_length-le l.published (let q = s.waiting in omega arith))
 
--- a word that names no slot
-word_ends : (size word : ℕ) (linux : Bool) (entry : Sqe)
-    → (not (is_some (if nat_lt word size then Some entry else None)) && linux) ≡ (nat_le size word && linux)
-word_ends size word linux entry = grind arith
-
 -- a call ends after the positions of its items as it does after these
 ends_published : (g : Setup) (content : ℕ → Sqe) (slot : ℕ) (items : List Item) → slot + length items ≤ g.sq
     → ends_of g (map (place_of g.sq content) (words_of slot (all_published_as items)))
@@ -42,28 +37,17 @@ ends_published : (g : Setup) (content : ℕ → Sqe) (slot : ℕ) (items : List 
 ends_published g content slot [] few = refl
 ends_published g content slot (item.Entry entry ∷ later) few =
     ap₂ (λ b bs. b ∷ bs) (ap (λ b. not (is_some (if b then Some (content slot) else None)) && stops_at_word g) (lt-ltb slot g.sq (omega arith))) (ends_published g content (slot + 1) later (omega arith))
-ends_published g content slot (item.Bad word ∷ later) few = ap₂ (λ b bs. b ∷ bs) (word_ends g.sq word (stops_at_word g) (content word)) (ends_published g content (slot + 1) later (omega arith))
-
--- items that are put leave the calls
-pub items_keep_calls : (l : Submission) (slot : ℕ) (items : List Published)
-    → (with_items l slot items).calls ≡ l.calls
-items_keep_calls l slot [] = refl
-items_keep_calls l slot (with_entry entry ∷ later) =
-    items_keep_calls (with_item l slot (with_entry entry)) (slot + 1) later
-items_keep_calls l slot (bad_word word ∷ later) =
-    items_keep_calls (with_item l slot (bad_word word)) (slot + 1) later
+ends_published g content slot (item.Bad word ∷ later) few = ap₂ (λ b bs. b ∷ bs) (grind arith) (ends_published g content (slot + 1) later (omega arith))
 
 -- the calls that are left once items are published are those of the items
 pub published_left : (g : Setup) (l : Submission) (items : List Item) → l.fresh ≡ [] → Stands l [] 0
     → length items ≤ g.sq
     → calls_left g (with_published g.sq (with_items l 0 (all_published_as items))) ≡ calls_of g items
 published_left g l items fresh s few =
-    let l' : Submission = with_items l 0 (all_published_as items) in
-    let words = items_fresh l 0 (all_published_as items) ∙ ap (λ ws. ws ++ words_of 0 (all_published_as items)) fresh in
-    let whole : (with_published g.sq l').published ≡ l.published ++ map (place_of g.sq l'.content) (words_of 0 (all_published_as items)) = ap₂ (λ ps ws. ps ++ map (place_of g.sq l'.content) ws) (items_keep l 0 (all_published_as items)) words in
-    let from : taken l' ≡ length l.published = ap sum (items_keep_calls l 0 (all_published_as items)) ∙ omega (arith, s.waiting) in
-    let after : drop (taken l') (with_published g.sq l').published ≡ map (place_of g.sq l'.content) (words_of 0 (all_published_as items)) = ap₂ drop from whole ∙ drop-append_seam l.published (map (place_of g.sq l'.content) (words_of 0 (all_published_as items))) in
-    ap (λ places. calls_after (ends_of g places) 0) after ∙ ap (λ ends. calls_after ends 0) (ends_published g l'.content 0 items (omega arith))
+    let from : taken l ≡ length l.published = omega (arith, s.waiting) in
+    let shown : List Published = all_published_as items in
+    let words = items_fresh l 0 shown ∙ ap (λ ws. ws ++ words_of 0 shown) fresh in
+    rw ((items_stand l [] 0 items s).2, items_keep l 0 shown, words, from, drop_at l.published _ _ refl, ends_published g (with_items l 0 shown).content 0 items (omega arith))
 
 -- The world after calls.
 
@@ -105,8 +89,8 @@ module _ (a b c : Kept) (done : List ℕ) (rest : ℕ) (h : HaveMade a b done re
       → Appends b c (calls_counted 1) → HaveMade a c (done ++ n ∷ []) (rest - n)
   one_made n e first p =
       record {
-        world = e ∙ ap₂ (λ (g : Setup) w. after_call g w n) h.appends.setup h.world ∙ sym (after_snoc a.setup (now a) done n);
-        calls = append_assoc done (n ∷ []) (calls_left a.setup (now c).submission) ∙ ap (λ ns. done ++ ns) (sym (next_left n first)) ∙ h.calls;
+        world = rw (e, h.world, h.appends.setup, after_snoc);
+        calls = rw append_assoc (ap (λ ns. done ++ ns) (sym (next_left n first)) ∙ h.calls);
         stands = first.3;
         begun = h.begun + 1;
         appends = appends_then a b c (calls_counted h.begun) (calls_counted 1) (calls_counted (h.begun + 1)) h.appends p refl;
@@ -118,8 +102,8 @@ module _ (a b c : Kept) (done : List ℕ) (rest : ℕ) (h : HaveMade a b done re
   one_refused e p =
       record {
         world = e ∙ h.world;
-        calls = ap (λ (w : World). done ++ calls_left a.setup w.submission) e ∙ h.calls;
-        stands = subst (λ (w : World). Stands w.submission [] rest) (sym e) h.stands;
+        calls = rw e h.calls;
+        stands = rw e h.stands;
         begun = h.begun + 1;
         appends = appends_then a b c (calls_counted h.begun) (calls_counted 1) (calls_counted (h.begun + 1)) h.appends p refl;
         idle = λ none. absurd (omega (arith, none));
@@ -138,14 +122,14 @@ module _ (a b c : Kept) (done : List ℕ) (rest : ℕ) (h : HaveMade a b done re
       → Records b c (call_row rest (made.Taken n))
       → Records a c (calls_row (done ++ n ∷ []) (calls_left a.setup (now c).submission))
   next_recorded n first q =
-      call_more a b c done n (calls_left a.setup (now c).submission) (calls_left a.setup (now b).submission) rest p (next_left a b c done rest h n first) (sum_left a.setup (now b).submission rest h.stands) q
+      let next = next_left a b c done rest h n first in
+      let many : rest ≡ n + sum (calls_left a.setup (now c).submission) = omega (arith, sum_left a.setup (now b).submission rest h.stands, ap sum next, sum_by-cons (λ x. x) n (calls_left a.setup (now c).submission)) in
+      rw calls_row_snoc (records_then a b c _ _ (rw next at p) (rw many at q))
 
   -- or the next didn't open
   module _ (some : 0 < rest) (e : now c ≡ now b) (t : Appends b c (calls_counted 1)) (q : Records b c (step.Begin rest ∷ [])) where
     refused_recorded : Records a c (calls_row done (calls_left a.setup (now c).submission) ++ refused_row (calls_left a.setup (now c).submission))
-    refused_recorded =
-        subst (λ (w : World). Records a c (calls_row done (calls_left a.setup w.submission) ++ refused_row (calls_left a.setup w.submission))) (sym e)
-        (call_refused a b c done (calls_left a.setup (now b).submission) rest some (sum_left a.setup (now b).submission rest h.stands) p q)
+    refused_recorded = rw (e, refused_is _ rest (sum_left a.setup (now b).submission rest h.stands) some) (records_then a b c _ _ p q)
 
     pub begun_again : HasBegun a c (intake.Waiting rest)
     begun_again = grind (arith, one_refused, refused_recorded)
@@ -159,12 +143,6 @@ pub begun_all : (a b : Kept) (done : List ℕ) (rest : ℕ) → rest ≡ 0 → H
 unfolding refused_row
 begun_all a b done rest none h p = grind (arith, append-nil, none_left)
 
--- the calls that were left as these were begun
-begun_of : (a b : Kept) (x : Intake) (calls : List ℕ) (h : HasBegun a b x)
-    → calls_left a.setup (now a).submission ≡ calls
-    → AreBegun calls (calls_row h.made (calls_left a.setup (now b).submission) ++ refused_row (calls_left a.setup (now b).submission))
-begun_of a b x calls h are = grind arith
-
 -- what waited was begun again
 pub row_begun : (a r b : Kept) (x : Intake) → IsUnmoved a r → HasBegun r b x
     → (steps : List Step) × AreBegun (calls_left a.setup (now a).submission) steps × Records a b steps
@@ -176,4 +154,4 @@ pub row_taken : (a p b : Kept) (items : List Item) (x : Intake) → Stands (now 
     → now p ≡ with_items_published a.setup.sq (now a) (all_published_as items)
     → Records a p (items_row 0 items ++ step.StoreTail ∷ []) → HasBegun p b x
     → (steps : List Step) × AreTaken a.setup items steps × Records a b steps
-row_taken a p b items x s few same at published h = grind (arith, begun_of, published_left, append_assoc)
+row_taken a p b items x s few same at published h = grind (arith, published_left, append_assoc)

@@ -1,19 +1,16 @@
 -- What is sent and taken in, as a result is taken in: the operation is the last of its worker's, and all else stays; and how many results of each worker a turn takes in.
-use Rattle.std.proofs.Common.{◌≡◌, ℕ, ◌+◌, ◌<◌, arith, Bool, true, false, List, [], ◌∷◌, ◌++◌, length, refl, sym, subst, ap, ap₂, ◌∙◌, inl, inr, ◌*◌, ◌≤◌, get_or}
-use Rattle.uring_threads.proofs.Common.{Answer, Appends, AreSameLanes, AreTakenIn, CanBeTaken, Collects, CollectsNext, CollectsSeen, Done, Grows, HaveCarried, IsLawfulApart, IsTakenIn, IsUnmoved, JobResult, Kept, NextStays, NoneComes, OnErr, OnlyPosts, OnlyReceives, Repeats, Result, Setup, TakesFewResults, TakesSeen, Tally, Wait, WorkLanes, World, cases_lt, done_by_worker, done_in, entry_of, finish_of, finishes_counted, history, is_running, jobs_to, length_push, map-append, most_results, now, operation_of, place_of, result_of, results_of, results_received, results_seen, results_taken_in, set, with_ended}
+use Rattle.std.proofs.Common.{◌≡◌, ℕ, ◌+◌, ◌<◌, arith, Bool, true, false, List, [], ◌∷◌, ◌++◌, length, refl, sym, subst, ap, ◌∙◌, inl, inr, ◌*◌, ◌≤◌, get_or, add-zero}
+use Rattle.uring_threads.proofs.Common.{Answer, AreSameLanes, AreTakenIn, CanBeTaken, Collects, CollectsNext, CollectsSeen, Done, Grows, HasCarried, HaveCarried, IsLawfulApart, IsTakenIn, IsUnmoved, JobResult, Kept, NextStays, NoneComes, OnErr, OnlyReceives, Repeats, Result, TakesFewResults, TakesSeen, Wait, WorkLanes, cases_lt, done_by_worker, done_in, entry_of, finish_of, finishes_counted, history, is_running, is_running_ended_other, is_running_ended_same, length-set, length_push, map-append, most_results, now, operation_of, place_of, results_of, results_received, results_seen, results_taken_in, set}
 use mathlib.Core.List.{IsPrefix}
-use Rattle.uring_entry.proofs.RequestLemmas.{is_running_ended_same, is_running_ended_other}
 use Rattle.uring_core.specs.Core.{IsFinished}
 use Rattle.uring_core.specs.declared.step.Step.TheVariants as step
 use Rattle.uring_core.specs.declared.answer.Answer.TheVariants as answer
 use Rattle.uring_threads.proofs.Sent.{one_more_at, none_more_at}
-use Rattle.uring_threads.proofs.Posting.{end_posts}
-use Rattle.uring_threads.proofs.Recording.{records_one}
-use Rattle.uring_threads.proofs.Repeating.{repeats_none, repeats_then}
+use Rattle.uring_threads.proofs.Repeating.{repeats_none, repeats_then, repeats_one}
 use Rattle.uring_threads.proofs.Settling.{results_run}
-use Rattle.uring_threads.proofs.TraceSteps.{grown, grown_history, appends_one, unmoved_is}
-use Rattle.uring_threads.proofs.Carrying.{carried_set, done_stays}
+use Rattle.uring_threads.proofs.TraceSteps.{grown, grown_history, unmoved_is}
 use Rattle.uring_threads.proofs.SameLanes.{lanes_then, lanes_set, set_cases}
+use Rattle.uring_threads.proofs.Posting.{posts_only}
 
 -- a result of a request that runs is taken in by the Finish that the trace has then
 pub takes_in : (a b : Kept) (r : JobResult) (x : Answer) → is_running (now a).requests r.number ≡ true
@@ -33,26 +30,6 @@ none_stays kept workers place seen none = grind arith
 
 -- Several results.
 
--- the end of a request posts a completion, or none
-posts_end : (a b : Kept) (r : JobResult) → Grows a b (finish_of r) → OnlyPosts (now a) (now b)
-posts_end a b r g =
-    let p = end_posts a.setup (now a) r.number r.outcome.res r.outcome.bytes in
-    subst (OnlyPosts (now a)) (sym (grown a b (step.Finish r.number) (answer.Ended r.outcome.res r.outcome.bytes) g)) (record { submission = refl; accepted = refl; is_closed = refl; reaped = p.0; head = p.1 })
-
--- what couldn't be taken in still can't where a request ended: no other runs by it
-end_comes : (a b : Kept) (workers : ℕ) (r : JobResult) → Grows a b (finish_of r)
-    → NoneComes a b workers
-end_comes a b workers r grows = λ k number can.
-    let n = r.number in
-    let res = r.outcome.res in
-    let bytes = r.outcome.bytes in
-    let ended = grown a b (step.Finish n) (answer.Ended res bytes) grows in
-    let runs : is_running (with_ended (now a).requests n res bytes) number ≡ true = subst (λ (w : World). is_running w.requests number ≡ true) ended can.runs in
-    record {
-      runs = grind (arith, is_running_ended_same, is_running_ended_other);
-      own = sym (ap₂ (λ (g : Setup) (w : World). place_of workers g.files (operation_of (entry_of w.requests number))) grows.setup ended) ∙ can.own;
-    }
-
 -- none, and one more
 pub collects_none : (workers place : ℕ) {a b : Kept} → IsUnmoved a b → Collects a b workers place 0
 collects_none workers place {a} {b} u = grind (arith, repeats_none)
@@ -64,20 +41,16 @@ collects_first {a} {b} {workers} {place} r can grows =
     let at : Done → ℕ = λ d. place_of workers a.setup.files d.op in
     let longer = grown_history a b (finish_of r) grows in
     record {
-      repeats = record {
-        numbers = r.number ∷ [];
-        row = records_one a b (step.Finish r.number) (answer.Ended r.outcome.res r.outcome.bytes) grows;
-        tally = appends_one a b (finish_of r) (finishes_counted 1) grows refl refl;
-        posts = posts_end a b r grows;
-      };
-      own =
-          ap length (ap₂ (λ g h. done_by_worker g workers place h) grows.setup longer ∙ one_more_at at place (done_in a.setup (history a)) end can.own)
-          ∙ length_push (done_by_worker a.setup workers place (history a)) end;
+      repeats = repeats_one step.Finish r.number (answer.Ended r.outcome.res r.outcome.bytes) (finishes_counted 1) grows refl refl (posts_only a.setup (now a) r.number (answer.Ended r.outcome.res r.outcome.bytes)).1;
+      own = rw (grows.setup, longer, one_more_at at place (done_in a.setup (history a)) end can.own) (length_push _ end);
       others = record {
-        jobs = λ k. ap₂ (λ g h. jobs_to g workers k h) grows.setup longer;
-        results = λ k other. ap₂ (λ g h. done_by_worker g workers k h) grows.setup longer ∙ none_more_at at k (done_in a.setup (history a)) end (λ same. other (sym same ∙ can.own));
+        jobs = λ k. rw (grows.setup, longer);
+        results = λ k other. rw (grows.setup, longer) (none_more_at at k (done_in a.setup (history a)) end (λ same. other (sym same ∙ can.own)));
       };
-      none_comes = end_comes a b workers r grows;
+      none_comes = λ k number left.
+          let ended = grown a b (step.Finish r.number) (answer.Ended r.outcome.res r.outcome.bytes) grows in
+          let runs = rw ended at left.runs in
+          record { runs = grind (arith, is_running_ended_same, is_running_ended_other); own = rw (ended, grows.setup) at left.own };
     }
 
 -- and it is the last of those that the trace has taken in
@@ -87,12 +60,8 @@ pub taken_in_more : {a u b : Kept} {workers place : ℕ} {before after : List Jo
 taken_in_more {a} {u} {b} {workers} {place} {before} {after} r can unmoved grows taken more =
     let end : Done = record { number = r.number; op = operation_of (entry_of (now u).requests r.number); outcome = r.outcome } in
     let at : Done → ℕ = λ d. place_of workers u.setup.files d.op in
-    let done = done_by_worker u.setup workers place (history u) in
-    let all : done_by_worker b.setup workers place (history b) ≡ done ++ end ∷ [] =
-    ap₂ (λ g h. done_by_worker g workers place h) grows.setup (grown_history u b (finish_of r) grows) ∙ one_more_at at place (done_in u.setup (history u)) end can.own
-    in
-    let known : before ≡ results_of done = subst (λ (k : Kept). AreTakenIn k workers place before) (sym (unmoved_is a u unmoved)) taken in
-    more ∙ ap (λ rs. rs ++ r ∷ []) known ∙ sym (ap results_of all ∙ map-append result_of done (end ∷ []))
+    let known : before ≡ results_of (done_by_worker u.setup workers place (history u)) = subst (λ (k : Kept). AreTakenIn k workers place before) (sym (unmoved_is a u unmoved)) taken in
+    rw (grows.setup, grown_history u b (finish_of r) grows, one_more_at at place (done_in u.setup (history u)) end can.own, map-append, more, known)
 
 pub collects_then : {a b c : Kept} {workers place n m : ℕ} → Collects a b workers place n
     → Collects b c workers place m → Collects a c workers place (n + m)
@@ -107,14 +76,14 @@ collects_then {a} {b} {c} {workers} {place} {n} {m} p q = record {
 pub collects_more : {a b c : Kept} {workers place n : ℕ} (seen : List JobResult) (more : Bool)
     → more ≡ true → Collects a b workers place n → CollectsNext b c workers place seen more
     → Collects a c workers place (n + 1)
-collects_more seen true e p q = collects_then p q
-collects_more seen false e p q = absurd (let f : false ≡ true = e in cc)
+collects_more seen more e p q = collects_then p (rw e at q)
 
 pub collects_no_more : {a b c : Kept} {workers place n : ℕ} (seen : List JobResult) (more : Bool)
     → more ≡ false → n < 64 → Collects a b workers place n
     → CollectsNext b c workers place seen more → CollectsSeen a c workers place n seen
-collects_no_more {a} {b} {c} {workers} {place} {n} seen false e few p q = grind (arith, (collects_then p q.0))
-collects_no_more seen true e few p q = absurd (let f : true ≡ false = e in cc)
+collects_no_more seen more e few p q =
+    let next = rw e at q in
+    record { collected = rw add-zero at (collects_then p next.0); most = omega arith; rest = λ less. next.1 }
 
 -- what holds anyway holds of an error
 pub on_err : {X E P : Type 0} (result : Result X E) → P → OnErr result P
@@ -133,11 +102,6 @@ pub next_waits : (a b : Kept) (r : JobResult) (later : List JobResult)
     → IsLawfulApart a.setup (history a) → Wait a (r ∷ later) → Grows a b (finish_of r)
     → Wait b later
 next_waits a b r later lawful w grows = grind (arith, (grown_history a b (finish_of r) grows), (first_waits a r later lawful w))
-
--- by events none of which takes a result in
-none_taken_in : (a b : Kept) (t : Tally) → Appends a b t → t.finishes ≡ 0 → (workers k : ℕ)
-    → results_taken_in workers k b ≡ results_taken_in workers k a
-none_taken_in a b t p none workers k = ap length (done_stays a b t p none workers k)
 
 -- Results of the workers before this place were taken in, few of each, and of the others none.
 pub record CollectsBefore (first : List WorkLanes) (a : Kept) (place count : ℕ) (b : Kept) (lanes : List WorkLanes) : Type 0 where
@@ -161,10 +125,13 @@ pub collects_at : {first : List WorkLanes} {a : Kept} {place count n : ℕ} {b c
     → AreTakenIn c (length first) place (results_received y)
     → CollectsBefore first a (place + 1) (count + n) c (set lanes place y)
 collects_at {first} {a} {place} {count} {n} {b} {c} {lanes} y d p low q most receives taken =
+    let had = rw p.same.many at p.carried in
     record {
       most = omega (arith, p.most, most);
       repeats = repeats_then p.repeats q.repeats;
-      carried = carried_set b c n place lanes y d p.carried low (subst (λ m. Collects b c m place n) (sym p.same.many) q) receives.jobs (subst (λ m. AreTakenIn c m place (results_received y)) (sym p.same.many) taken);
+      carried = λ k e within. rw (length-set lanes place y, p.same.many) (set_cases (HasCarried c (length first)) lanes place y k e low
+          (record { jobs = rw receives.jobs ((had place d (rw p.same.many at low)).jobs ∙ sym (q.others.jobs place)); results = taken })
+          (λ other. grind (arith, (had k e (rw (length-set lanes place y, p.same.many) at within)), q.others)));
       same = lanes_then first lanes (set lanes place y) p.same (lanes_set lanes place y d low receives);
       before = grind arith;
       others = λ k high. ap length (q.others.results k (λ here. absurd (omega (arith, here, high)))) ∙ p.others k (omega (arith, high));
@@ -196,26 +163,12 @@ pub seen_at : {first : List WorkLanes} {a : Kept} {place count n : ℕ} {b c : K
     → SeenBefore (length first) place a b lanes
     → SeenBefore (length first) (place + 1) a c (set lanes place y)
 seen_at {first} {a} {place} {count} {n} {b} {c} {lanes} y p within q seen = λ k low fewer d.
-    let workers : ℕ = length first in
-    set_cases (λ j (l : WorkLanes). results_taken_in workers j c < results_taken_in workers j a + most_results → NextStays c workers j (results_seen l)) lanes place y k d within
-    (λ few.
-    let none = p.others place (omega arith) in
-    q.rest (omega (arith, few, none, q.collected.own)))
-    (λ other few.
-    let same = ap length (q.collected.others.results k other) in
-    next_stays b c workers k (results_seen (get_or lanes k d)) q.collected.none_comes (seen k (omega (arith, low, other)) (omega (arith, few, same)) d))
+    set_cases (λ j (l : WorkLanes). results_taken_in (length first) j c < results_taken_in (length first) j a + most_results → NextStays c (length first) j (results_seen l)) lanes place y k d within
+    (λ few. q.rest (omega (arith, few, p.others place (omega arith), q.collected.own)))
+    (λ other few. next_stays b c (length first) k _ q.collected.none_comes (seen k (omega (arith, low, other)) (omega (arith, few, ap length (q.collected.others.results k other))) d))
     fewer
 
 -- of all
 pub seen_in_all : {first lanes : List WorkLanes} {place : ℕ} (a b : Kept) → AreSameLanes first lanes
     → place ≡ length first → SeenBefore (length first) place a b lanes → TakesSeen a b lanes
 seen_in_all {first} {lanes} a b same end seen = grind arith
-
--- and by a turn, no other part of which takes any in
-pub few_between : (workers : ℕ) (a b c d : Kept) (t u : Tally) → Appends a b t → t.finishes ≡ 0
-    → TakesFewResults workers b c → Appends c d u → u.finishes ≡ 0 → TakesFewResults workers a d
-few_between workers a b c d t u p none few q no_more = λ k.
-    let before = none_taken_in a b t p none workers k in
-    let some = few k in
-    let after = none_taken_in c d u q no_more workers k in
-    omega (arith, before, some, after)

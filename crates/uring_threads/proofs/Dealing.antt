@@ -1,33 +1,19 @@
 -- The laws of `workers_join`: work is dealt out by files, and joined by the laws of uring_laws on places.
-use Rattle.std.proofs.Common.{◌≡◌, ℕ, ◌<◌, ℤ, true, false, Option, sym, ◌∙◌, arith}
-use Rattle.uring_threads.proofs.Common.{DealtByFile, FilesByWorker, IsDealtByFile, Op, Setup, WorkersJoin, file_asked, option_map_or, place_of, place_of_file}
-use Rattle.std.specs.Ordering.{int_eq}
+use Rattle.std.proofs.Common.{◌≡◌, ℕ, ℤ, true, sym, ◌∙◌, arith}
+use Rattle.uring_threads.proofs.Common.{DealtByFile, FilesByWorker, IsDealtByFile, Op, Setup, WorkersJoin, place_of, place_of_file}
 use Rattle.uring_files.specs.Laws.{is_on}
 use Rattle.uring_laws.proofs.FileLaws.{places_join, files_by_place}
 
 -- what is on a file is its worker's
-on_asked : (workers files : ℕ) (fd : ℤ) (asked : Option ℤ) → option_map_or (int_eq fd) asked false ≡ true
-    → option_map_or (place_of_file workers files) asked 0 ≡ place_of_file workers files fd
-on_asked workers files fd asked on = grind arith
-
 on_place : (workers files : ℕ) (fd : ℤ) (op : Op) → is_on fd op ≡ true
     → place_of workers files op ≡ place_of_file workers files fd
-on_place workers files fd op on = on_asked workers files fd (file_asked op) on
-
--- one of the workers
-pub file_within : (workers files : ℕ) (fd : ℤ) → 0 < workers
-    → place_of_file workers files fd < workers
-file_within workers files fd some = grind arith
-
-within_asked : (workers files : ℕ) (asked : Option ℤ) → 0 < workers
-    → option_map_or (place_of_file workers files) asked 0 < workers
-within_asked workers files asked some = grind arith
+on_place workers files fd op on = grind arith
 
 pub dealt_by_file : DealtByFile
 dealt_by_file workers files some =
     record {
       by_file = λ fd op other on also. on_place workers files fd op on ∙ sym (on_place workers files fd other also);
-      within = λ op. within_asked workers files (file_asked op) some;
+      within = λ op. grind arith;
     }
 
 pub workers_join : (g : Setup) → WorkersJoin g

@@ -1,44 +1,36 @@
 -- How the Issue of the next request is answered, and the loop of issues: lanes are looked at, and then a request is issued.
-use Rattle.std.proofs.Common.{◌≡◌, ℕ, Bool, true, List, [], ◌∷◌, Option, Some, None, count_by, length, ℤ, refl, sym, subst, ap, ◌∙◌, cond, ◌+◌, ◌<◌, ◌≤◌, get_or, arith}
-use Rattle.uring_threads.proofs.Common.{Answer, AreSameLanes, CalledForApart, Grows, HasCarried, HaveCarried, IsEnded, IsIssued, IsLookedAt, IsUnmoved, Kept, OnlyPosts, Repeats, WorkLanes, count_by-le-length, entry_of, is_issuable, is_refused, is_running, issues_counted, length-append, next_in, next_of, none_counted, now, operation_of, operation_running, requests_of, results_received, tally_of, Op, World}
+use Rattle.std.proofs.Common.{◌≡◌, ℕ, true, List, Option, Some, None, length, ℤ, refl, sym, subst, ap, ◌∙◌, ◌+◌, ◌<◌, ◌≤◌, get_or, arith}
+use Rattle.uring_threads.proofs.Common.{Answer, AreSameLanes, CalledForApart, Grows, HasCarried, HaveCarried, IsLookedAt, IsUnmoved, Kept, Op, Repeats, WorkLanes, World, count_by-le-length, entry_of, is_issuable, is_running, is_running_started_same, issues_counted, issues_request, length-append, next_in, none_counted, now, operation_of, operation_running, outstanding_tells, requests_of, results_received}
 use Rattle.std.proofs.lemmas.Option.{cond_some}
-use Rattle.uring_linux.specs.LinuxRequests.{LinuxRequests}
-use Rattle.uring_entry.proofs.RequestLemmas.{is_running_started_same}
 use Rattle.uring_entry.proofs.BelowLemmas.{least_below_tells}
 use Rattle.uring_core.proofs.Issuable.{issue_goes, issued_ends, issuable_outstanding}
-use Rattle.uring_core.proofs.SoundRequests.{outstanding_tells}
 use Rattle.uring_core.specs.declared.step.Step.TheVariants as step
 use Rattle.uring_core.specs.declared.answer.Answer.TheVariants as answer
-use Rattle.uring_threads.proofs.TraceSteps.{grown, appends_none, appends_one}
+use Rattle.uring_threads.proofs.TraceSteps.{grown, appends_none}
 use Rattle.uring_workers.proofs.LaneFacts.{looked_results}
-use Rattle.uring_threads.proofs.Carrying.{IssuedAs, quiet_stays, carried_stays, issued_posts}
-use Rattle.uring_threads.proofs.Recording.{records_one}
+use Rattle.uring_threads.proofs.Carrying.{IssuedAs, quiet_stays, carried_stays}
 use Rattle.uring_threads.proofs.SameLanes.{lanes_then}
-
--- the next can be issued
-next_issuable : (linux : Bool) (l : LinuxRequests) (n : ℕ) → next_of linux l ≡ Some n
-    → is_issuable linux l n ≡ true
-next_issuable linux l n next = grind (arith, least_below_tells)
+use Rattle.uring_threads.proofs.Posting.{posts_only}
+use Rattle.uring_threads.proofs.Repeating.{repeats_one}
 
 -- its Issue is answered in one of two ways
 pub issue_cases : (a : Kept) (n : ℕ) (x : Answer) → next_in a ≡ Some n
     → CalledForApart a.setup (now a) (step.Issue n) x → (x ≡ answer.Run → ⊥)
     → ((res : ℤ) (bytes : List ℕ) → x ≡ answer.Ended res bytes → ⊥) → ⊥
 issue_cases a n x next called not_run not_ended =
-    no_end x not_ended (issued_ends x (subst IsIssued (sym called) (issue_goes a.setup (now a) n (next_issuable a.setup.linux (requests_of (now a)) n next))) not_run) where
-      no_end : (y : Answer) → ((res : ℤ) (bytes : List ℕ) → y ≡ answer.Ended res bytes → ⊥) → IsEnded y → ⊥
-      no_end (answer.Ended res bytes) other ended = other res bytes refl
-      no_end _ other ended = ended
+    let issuable : is_issuable a.setup.linux (requests_of (now a)) n ≡ true = grind (arith, least_below_tells) in
+    let ended = issued_ends x (rw called (issue_goes a.setup (now a) n issuable)) not_run in
+    grind (arith, ended, not_ended)
 
 -- what it starts runs
 pub started_runs : (a b : Kept) (n : ℕ) → next_in a ≡ Some n
     → Grows a b (step.Issue n, answer.Run) → operation_running (now b).requests n ≡ None → ⊥
 started_runs a b n next grows none =
-    let waits = issuable_outstanding a.setup.linux (requests_of (now a)) n (next_issuable a.setup.linux (requests_of (now a)) n next) in
-    let unended = (outstanding_tells (now a).requests n waits).1 in
-    let runs : is_running (now b).requests n ≡ true = ap (λ w. is_running w.requests n) (grown a b (step.Issue n) answer.Run grows) ∙ is_running_started_same (now a).requests n unended in
-    let some : operation_running (now b).requests n ≡ Some (operation_of (entry_of (now b).requests n)) = ap (λ x. cond x (Some (operation_of (entry_of (now b).requests n))) None) runs in
-    absurd (let no : None ≡ Some (operation_of (entry_of (now b).requests n)) = sym none ∙ some in cc)
+    let issuable : is_issuable a.setup.linux (requests_of (now a)) n ≡ true = grind (arith, least_below_tells) in
+    let waits = issuable_outstanding a.setup.linux (requests_of (now a)) n issuable in
+    let runs = is_running_started_same (now a).requests n (outstanding_tells (now a).requests n waits).1 in
+    let nothing = rw (grown a b (step.Issue n) answer.Run grows, runs) at none in
+    absurd cc
 
 -- and it is the operation of its entry
 pub started_op : (a b : Kept) (n : ℕ) (op : Op) → Grows a b (step.Issue n, answer.Run)
@@ -49,18 +41,11 @@ started_op a b n op grows some =
 -- and that is one issue
 pub issued_repeats : (a b : Kept) (n : ℕ) (told : Option Op) → IssuedAs a b n told
     → Repeats a b step.Issue (issues_counted 1)
-issued_repeats a b n told issued = by_told told issued (issued_posts a b n told issued) where
-  one : (x : Answer) → Grows a b (step.Issue n, x) → tally_of ((step.Issue n, x) ∷ []) ≡ issues_counted 1 → count_by is_refused ((step.Issue n, x) ∷ []) ≡ 0 → OnlyPosts (now a) (now b)
-      → Repeats a b step.Issue (issues_counted 1)
-  one x g counted served posts = record { numbers = n ∷ []; row = records_one a b (step.Issue n) x g; tally = appends_one a b (step.Issue n, x) (issues_counted 1) g counted served; posts = posts }
-
-  by_answer : (x : Answer) → Grows a b (step.Issue n, x) → IsEnded x → OnlyPosts (now a) (now b) → Repeats a b step.Issue (issues_counted 1)
-  by_answer (answer.Ended res bytes) g ended posts = one (answer.Ended res bytes) g refl refl posts
-  by_answer _ g ended posts = absurd ended
-
-  by_told : (told : Option Op) → IssuedAs a b n told → OnlyPosts (now a) (now b) → Repeats a b step.Issue (issues_counted 1)
-  by_told (Some op) issued posts = one answer.Run issued.0 refl refl posts
-  by_told None issued posts = by_answer issued.0 issued.1 issued.2 posts
+issued_repeats a b n (Some op) issued =
+    repeats_one step.Issue n answer.Run (issues_counted 1) issued.0 refl refl (posts_only a.setup (now a) n answer.Run).0
+issued_repeats a b n None issued =
+    let served : issues_request (step.Issue n, issued.0) ≡ true = grind arith in
+    repeats_one step.Issue n issued.0 (issues_counted 1) issued.1 (rw served) (rw served) (posts_only a.setup (now a) n issued.0).0
 
 -- Room was asked for, and the lanes were looked at.
 pub looked_on : (k r : Kept) (first old new : List WorkLanes) → IsUnmoved k r
@@ -73,11 +58,7 @@ looked_on k r first old new u many looked carried same = (
       let had = carried_stays k r old (quiet_stays k r none_counted (appends_none k r u) refl refl) carried j d before in
       subst (λ n. HasCarried r n j (get_or new j d)) (sym many) (record { jobs = (looked j d before).jobs ∙ had.jobs; results = ap (λ rs. results_received (record (get_or old j d) { results = rs })) (looked j d before).results ∙ had.results }),
   lanes_then first old new same
-      (record {
-        many = many;
-        jobs = λ j d low. (looked j d low).ring;
-        results = λ j d low. looked_results (get_or old j d) (get_or new j d) (looked j d low);
-      }),
+      (record { many = many; jobs = λ j d low. (looked j d low).ring; results = λ j d low. looked_results _ _ (looked j d low) }),
 )
 
 -- one request more was issued

@@ -1,20 +1,22 @@
 -- What a list of items makes of a ring that stands between calls: it stands after each of them, and after they are published.
-use Rattle.std.proofs.Common.{◌≡◌, ℕ, ◌+◌, ◌<◌, ◌≤◌, List, [], ◌∷◌, ◌++◌, length, take, get_or, refl, sym, subst, ap, ◌∙◌, arith}
-use Rattle.uring_threads.proofs.Common.{Answer, Grows, Item, Kept, Published, Stands, Submission, World, all_published_as, bad_word, happens, length-map, length-take-le, length_push, map-append, now, on_submission, published_as, tail_publishes, take_more, with_entry, with_item, with_item_put, with_items, with_items_published, with_items_put}
+use Rattle.std.proofs.Common.{◌≡◌, ℕ, ◌+◌, ◌<◌, ◌≤◌, List, [], ◌∷◌, ◌++◌, length, take, get_or, refl, ap, ◌∙◌, arith, zero-add}
+use Rattle.uring_threads.proofs.Common.{Answer, Grows, Item, Kept, Published, Stands, Submission, World, all_published_as, bad_word, length-map, length-take-le, length_push, map-append, now, published_as, tail_publishes, take_more, with_entry, with_item, with_item_put, with_items, with_items_published, with_items_put}
 use Rattle.uring_core.specs.declared.step.Step.TheVariants as step
+use Rattle.uring_ports.specs.declared.item.Item.TheVariants as item
 use Rattle.uring_threads.proofs.TraceSteps.{grown}
 
--- the ring stands after items are put, with a word staged for each
-pub items_stand : (l : Submission) (slot : ℕ) (items : List Published) → Stands l l.fresh 0
-    → Stands (with_items l slot items) (with_items l slot items).fresh 0
-    × (length (with_items l slot items).fresh ≡ length l.fresh + length items)
-items_stand l slot [] s = (s, omega arith)
-items_stand l slot (with_entry entry ∷ later) s =
-    let next = items_stand (with_item l slot (with_entry entry)) (slot + 1) later (record { fresh = refl; call = s.call; head = s.head; waiting = s.waiting }) in
-    (next.0, omega (arith, next.1, length_push l.fresh slot))
-items_stand l slot (bad_word word ∷ later) s =
-    let next = items_stand (with_item l slot (bad_word word)) (slot + 1) later (record { fresh = refl; call = s.call; head = s.head; waiting = s.waiting }) in
-    (next.0, omega (arith, next.1, length_push l.fresh word))
+-- the ring stands after items are put, with a word staged for each, and has the same calls
+pub items_stand : (l : Submission) (words : List ℕ) (slot : ℕ) (items : List Item) → Stands l words 0
+    → Stands (with_items l slot (all_published_as items)) (with_items l slot (all_published_as items)).fresh 0
+    × (length (with_items l slot (all_published_as items)).fresh ≡ length words + length items)
+    × ((with_items l slot (all_published_as items)).calls ≡ l.calls)
+items_stand l words slot [] s = (record { fresh = refl; call = s.call; head = s.head; waiting = s.waiting }, omega (arith, ap length s.fresh), refl)
+items_stand l words slot (item.Entry entry ∷ later) s =
+    let next = items_stand (with_item l slot (with_entry entry)) (words ++ slot ∷ []) (slot + 1) later (record { fresh = ap (λ ws. ws ++ slot ∷ []) s.fresh; call = s.call; head = s.head; waiting = s.waiting }) in
+    (next.0, omega (arith, next.1, length_push words slot), next.2)
+items_stand l words slot (item.Bad word ∷ later) s =
+    let next = items_stand (with_item l slot (bad_word word)) (words ++ word ∷ []) (slot + 1) later (record { fresh = ap (λ ws. ws ++ word ∷ []) s.fresh; call = s.call; head = s.head; waiting = s.waiting }) in
+    (next.0, omega (arith, next.1, length_push words word), next.2)
 
 -- the last item is put last
 with_items_snoc : (l : Submission) (slot : ℕ) (items : List Published) (item : Published)
@@ -28,7 +30,9 @@ pub put_stands : (w : World) (items : List Item) (i : ℕ) → Stands w.submissi
     → i ≤ length items
     → Stands (with_items_put w (all_published_as (take i items))).submission (with_items_put w (all_published_as (take i items))).submission.fresh 0
     × (length (with_items_put w (all_published_as (take i items))).submission.fresh ≡ i)
-put_stands w items i s within = grind (arith, items_stand, length-map, length-take-le)
+put_stands w items i s within =
+    let put = items_stand w.submission [] 0 (take i items) s in
+    (put.0, omega (arith, put.1, length-take-le i items within))
 
 -- the next one is put
 pub items_more : (w : World) (items : List Item) (i slot : ℕ) (item : Item) → slot ≡ i
@@ -38,8 +42,7 @@ pub items_more : (w : World) (items : List Item) (i slot : ℕ) (item : Item) �
 items_more w items i slot item at within is =
     let before : List Published = all_published_as (take i items) in
     let many : slot ≡ 0 + length before = omega (arith, at, length-map (take i items) published_as, length-take-le i items (omega arith)) in
-    rw (take_more items i item within, ← is)
-    (ap (on_submission w) (ap (λ s. with_item (with_items w.submission 0 before) s (published_as item)) many ∙ sym (with_items_snoc w.submission 0 before (published_as item)) ∙ ap (with_items w.submission 0) (sym (map-append published_as (take i items) (item ∷ [])))))
+    rw (take_more items i item within, ← is, map-append, with_items_snoc, ← many)
 
 -- a store of the tail published them, and so many positions wait
 pub published_now : (a b : Kept) (w : World) (items : List Item) (x : Answer)
@@ -48,8 +51,6 @@ pub published_now : (a b : Kept) (w : World) (items : List Item) (x : Answer)
     → (now b ≡ with_items_published a.setup.sq w (all_published_as items))
     × Stands (now b).submission [] (length items)
 published_now a b w items x s at g =
-    let l : Submission = w.submission in
-    let put = items_stand l 0 (all_published_as items) (record { fresh = refl; call = s.call; head = s.head; waiting = s.waiting }) in
-    let made : now b ≡ with_items_published a.setup.sq w (all_published_as items) = grown a b step.StoreTail x g ∙ ap (λ v. happens a.setup v step.StoreTail x) at in
-    let many : length (with_items l 0 (all_published_as items)).fresh ≡ length items = omega (arith, put.1, ap length s.fresh, length-map items published_as) in
-    (made, subst (λ (v : World). Stands v.submission [] (length items)) (sym made) (subst (Stands _ []) many (tail_publishes a.setup _ _ put.0)))
+    let put = items_stand w.submission [] 0 items s in
+    let made : now b ≡ with_items_published a.setup.sq w (all_published_as items) = rw (grown a b step.StoreTail x g, at) refl in
+    (made, rw (made, ← (zero-add (length items)), ← put.1) (tail_publishes a.setup _ _ put.0))

@@ -1,32 +1,22 @@
 -- What is kept stays in its place, so that events that were recorded stay as they are.
 use Rattle.std.proofs.Common.{◌≡◌, ℕ, ◌+◌, ◌<◌, ◌≤◌, List, [], ◌∷◌, ◌++◌, length, refl, ap, arith, ◌∙◌, length-append}
-use Rattle.uring_threads.proofs.Common.{AllByRecursion, Event, length-map, map-append, vec_capacity}
-use Rattle.uring_core.specs.declared.answer.Answer.TheVariants as answer
+use Rattle.uring_threads.proofs.Common.{All-push, AllByRecursion, Event, length-map, map-append, vec_capacity}
 use Rattle.uring_threads.specs.declared.brief.Brief.{Brief}
-use Rattle.uring_threads.specs.declared.brief.BriefAnswer.{BriefAnswer}
 use Rattle.uring_threads.specs.declared.brief.BriefAnswer.TheVariants as told
+use Rattle.uring_threads.specs.declared.brief.BriefAnswer.{BriefAnswer}
 use Rattle.uring_threads.specs.declared.store.Store.{Store}
 use Rattle.uring_threads.specs.Events.{Events}
 use Rattle.uring_threads.specs.Store.{step_of, answer_of, event_of, events_of, IsStepWithin, IsAnswerWithin, IsWithin, Stays, Goes, IsSame, HasRoom, AreStored}
-
--- Lists that grow.
 
 -- Stores that grow.
 
 -- an answer that was kept is the same
 pub answer_stays : (s t : Store) (b : BriefAnswer) → Stays s t → IsAnswerWithin s b
     → (answer_of t b ≡ answer_of s b) × IsAnswerWithin t b
-answer_stays s t (told.Entry place) stays within =
-    let there = stays.filled place within in (ap answer.Entry there.0, there.1)
-answer_stays s t (told.Other place) stays within =
-    let there = stays.others place within in (ap answer.Entry there.0, there.1)
-answer_stays s t (told.Ended res place) stays within =
-    let there = stays.bytes place within in (ap (answer.Ended res) there.0, there.1)
-answer_stays s t (told.Reaped res named place) stays within =
-    let there = stays.bytes place within in (
-      ap (λ (bytes : List ℕ). answer.Reaped (record { user_data = named; res = res; payload = bytes })) there.0,
-      there.1,
-    )
+answer_stays s t (told.Entry place) stays within = (rw (stays.filled place within).0, (stays.filled place within).1)
+answer_stays s t (told.Other place) stays within = (rw (stays.others place within).0, (stays.others place within).1)
+answer_stays s t (told.Ended res place) stays within = (rw (stays.bytes place within).0, (stays.bytes place within).1)
+answer_stays s t (told.Reaped res named place) stays within = (rw (stays.bytes place within).0, (stays.bytes place within).1)
 answer_stays s t _ stays within = (refl, tt)
 
 -- an event that was kept is the same
@@ -34,41 +24,18 @@ event_stays : (s t : Store) (b : Brief) → Stays s t → IsWithin s b
     → (event_of t b ≡ event_of s b) × IsWithin t b
 event_stays s t b stays within = grind (arith, (answer_stays s t b.answer stays within.1))
 
--- Stores stay as they are, and grow twice.
-
-pub stays_then : (s t u : Store) → Stays s t → Stays t u → Stays s u
-stays_then s t u a b = record {
-  filled = grind arith;
-  others = grind arith;
-  bytes = grind arith;
-}
-
 -- Lists of events.
 
--- what is long in each is still kept
+-- what is long in each is still kept, and the events are the same
 all_stay : (s t : Store) (briefs : List Brief) → Stays s t → AllByRecursion (IsWithin s) briefs
-    → AllByRecursion (IsWithin t) briefs
-all_stay s t [] stays all = tt
-all_stay s t (first ∷ later) stays all = grind (arith, (event_stays s t first stays all.0), (all_stay s t later stays all.1))
-
--- the events are the same
-events_stay : (s t : Store) (briefs : List Brief) → Stays s t → AllByRecursion (IsWithin s) briefs
-    → events_of t briefs ≡ events_of s briefs
-events_stay s t [] stays all = refl
-events_stay s t (first ∷ later) stays all =
-    λ i. (event_stays s t first stays all.0).0 i ∷ events_stay s t later stays all.1 i
-
--- what is so of all is so with one more
-all_more : {A : Type 0} (P : A → Type 0) (xs : List A) (x : A) → AllByRecursion P xs → P x
-    → AllByRecursion P (xs ++ x ∷ [])
-all_more P [] x all last = (last, tt)
-all_more P (y ∷ xs) x all last = (all.0, all_more P xs x all.1 last)
+    → (events_of t briefs ≡ events_of s briefs) × AllByRecursion (IsWithin t) briefs
+all_stay s t [] stays all = (refl, tt)
+all_stay s t (first ∷ later) stays all =
+    let one = event_stays s t first stays all.0 in
+    let rest = all_stay s t later stays all.1 in
+    (λ i. one.0 i ∷ rest.0 i, (one.1, rest.1))
 
 -- More memory.
-
--- what is the same stays
-same_stays : (s t : Store) → IsSame s t → Stays s t
-same_stays s t same = grind arith
 
 -- the same events are kept
 pub same_events : (s t : Store) (briefs now : List Brief) → IsSame s t
@@ -87,7 +54,8 @@ pub more_room : (s t : Store) (briefs now : List Brief) (capacity more room coun
     → length now + count ≤ more
     → AreStored t now more (len + count)
 more_room s t briefs now capacity more room count len kept same has is many fits =
-    grind (arith, (all_stay s t briefs (same_stays s t same) kept.within))
+    let stays : Stays s t = grind arith in
+    grind (arith, (all_stay s t briefs stays kept.within))
 
 -- One event more.
 
@@ -104,7 +72,9 @@ pub record Grew (s u : Store) : Type 0 where
 pub grew : (s t u : Store) → Goes s t → t ≡ record s { filled = t.filled } → Goes t u
     → u.filled ≡ t.filled
     → Grew s u
-grew s t u one same other filled = grind (arith, stays_then)
+grew s t u one same other filled =
+    let stays : Stays s u = record { filled = grind arith; others = grind arith; bytes = grind arith } in
+    grind arith
 
 -- what is long in the event is kept, and it is the event of this step and this answer
 pub kept_event : (t u : Store) (b : Brief) (event : Event) → Goes t u → IsStepWithin t b.step
@@ -129,7 +99,7 @@ pub one_more : (s u : Store) (briefs now : List Brief) (b : Brief) (capacity roo
     → now ≡ briefs ++ b ∷ []
     → length briefs < room
     → AreStored u now capacity room
-one_more s u briefs now b capacity room kept grown last is less = grind (arith, length-append, all_more, all_stay)
+one_more s u briefs now b capacity room kept grown last is less = grind (arith, length-append, All-push, (all_stay s u briefs grown.stays kept.within))
 
 -- the events are the same, with one more
 pub events_more : (s u : Store) (briefs now : List Brief) (b : Brief) (event : Event) → Stays s u
@@ -138,4 +108,4 @@ pub events_more : (s u : Store) (briefs now : List Brief) (b : Brief) (event : E
     → event_of u b ≡ event
     → events_of u now ≡ events_of s briefs ++ event ∷ []
 events_more s u briefs now b event stays all is told =
-    ap (events_of u) is ∙ map-append (event_of u) briefs (b ∷ []) ∙ (λ i. events_stay s u briefs stays all i ++ told i ∷ [])
+    ap (events_of u) is ∙ map-append (event_of u) briefs (b ∷ []) ∙ (λ i. (all_stay s u briefs stays all).0 i ++ told i ∷ [])

@@ -15,7 +15,6 @@ pub mod Issuing
 pub mod Posting
 pub mod Turning
 -- Jobs and results, by workers:
-mod Times
 pub mod Dealing
 mod Sent
 pub mod Carrying

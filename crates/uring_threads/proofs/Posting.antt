@@ -1,17 +1,13 @@
 -- What ends of requests and a delivery leave of the rings: ends leave them as they were, but for what is posted.
-use Rattle.std.proofs.Common.{◌≡◌, ℕ, ℤ, ◌+◌, ◌-◌, ◌≤◌, List, length, refl, ◌∙◌, sym, subst, ap, arith}
-use Rattle.std.specs.Prelude.{min}
-use Rattle.uring_threads.proofs.Common.{Answer, Appends, Cqe, DeliversMost, Grows, IsDelivered, IsUnmoved, KeepsAllBut, Kept, OnlyPosts, Setup, World, none_counted, now, on_completions, reaps_counted, with_end_of, with_flushed, with_head_stored, with_reaped_all, with_tail_loaded}
+use Rattle.std.proofs.Common.{◌≡◌, ℕ, ◌+◌, ◌-◌, ◌≤◌, List, length, refl, sym, subst, arith, min}
+use Rattle.uring_threads.proofs.Common.{Answer, Appends, Cqe, DeliversMost, Grows, IsDelivered, IsUnmoved, KeepsAllBut, Kept, OnlyPosts, Setup, World, happens, none_counted, now, on_completions, reaps_counted, with_flushed, with_head_stored, with_reaped_all, with_tail_loaded}
 use Rattle.uring_core.specs.declared.step.Step.TheVariants as step
 use Rattle.uring_threads.proofs.TraceSteps.{grown, unmoved_now, appends_one, appends_then, appends_after, both_none, none_both}
 
-pub end_posts : (g : Setup) (w : World) (n : ℕ) (res : ℤ) (bytes : List ℕ)
-    → ((with_end_of g w n res bytes).reaped ≡ w.completions.reaped)
-    × ((with_end_of g w n res bytes).head ≡ w.completions.head)
-end_posts g w n res bytes = grind arith
-
-pub posts_none : (w : World) → OnlyPosts w w
-posts_none w = record { submission = refl; accepted = refl; is_closed = refl; reaped = refl; head = refl }
+-- the Issue or the end of a request posts a completion, or none
+pub posts_only : (g : Setup) (w : World) (n : ℕ) (x : Answer)
+    → OnlyPosts w (happens g w (step.Issue n) x) × OnlyPosts w (happens g w (step.Finish n) x)
+posts_only g w n x = grind arith
 
 pub posts_then : (w v u : World) → OnlyPosts w v → OnlyPosts v u → OnlyPosts w u
 posts_then w v u p q = grind arith
@@ -20,10 +16,7 @@ posts_then w v u p q = grind arith
 module _ (a room flushed loaded reaped b : Kept) (x y z : Answer) (all : List Cqe) (u : IsUnmoved a room) (flush : Grows room flushed (step.Flush, x)) (load : Grows flushed loaded (step.LoadCqTail, y))
     (reap : now reaped ≡ on_completions (now loaded) (with_reaped_all (now loaded).completions all)) (store : Grows reaped b (step.StoreCqHead, z)) where
   row : now b ≡ on_completions (now a) (with_head_stored (with_reaped_all (with_tail_loaded (with_flushed room.setup.cq (now a).completions)) all))
-  row =
-      grown reaped b step.StoreCqHead z store
-      ∙ ap (λ (w : World). on_completions w (with_head_stored w.completions)) (reap ∙ ap (λ (w : World). on_completions w (with_reaped_all w.completions all)) (grown flushed loaded step.LoadCqTail y load
-      ∙ ap (λ (w : World). on_completions w (with_tail_loaded w.completions)) (grown room flushed step.Flush x flush ∙ ap (λ (w : World). on_completions w (with_flushed room.setup.cq w.completions)) (unmoved_now a room u))))
+  row = simp (grown reaped b step.StoreCqHead z store, reap, grown flushed loaded step.LoadCqTail y load, grown room flushed step.Flush x flush, unmoved_now a room u)
 
   pub row_keeps : KeepsAllBut (now a) (now b)
   row_keeps = subst (λ w. KeepsAllBut (now a) w) (sym row) (record { submission = refl; requests = refl; drains = refl; is_closed = refl; posted = refl })
@@ -33,9 +26,9 @@ module _ (a room flushed loaded reaped b : Kept) (x y z : Answer) (all : List Cq
 
   pub row_counts : (n : ℕ) → Appends loaded reaped (reaps_counted n) → Appends a b (reaps_counted n)
   row_counts n p =
-      let last : Appends loaded b (reaps_counted n) = appends_then loaded reaped b (reaps_counted n) none_counted (reaps_counted n) p (appends_one reaped b (step.StoreCqHead, z) none_counted store refl refl) (both_none (reaps_counted n)) in
-      let later : Appends flushed b (reaps_counted n) = appends_then flushed loaded b none_counted (reaps_counted n) (reaps_counted n) (appends_one flushed loaded (step.LoadCqTail, y) none_counted load refl refl) last (none_both (reaps_counted n)) in
-      appends_after a room b (reaps_counted n) u (appends_then room flushed b none_counted (reaps_counted n) (reaps_counted n) (appends_one room flushed (step.Flush, x) none_counted flush refl refl) later (none_both (reaps_counted n)))
+      appends_after a room b _ u (appends_then room flushed b _ _ _ (appends_one room flushed _ none_counted flush refl refl)
+      (appends_then flushed loaded b _ _ _ (appends_one flushed loaded _ none_counted load refl refl)
+      (appends_then loaded reaped b _ _ _ p (appends_one reaped b _ none_counted store refl refl) (both_none (reaps_counted n))) (none_both (reaps_counted n))) (none_both (reaps_counted n)))
 
   -- the least was delivered of what waited, of what there was space for, and of what the ring holds
   pub row_most : (posted reaped space free size n : ℕ) → reaped ≤ posted

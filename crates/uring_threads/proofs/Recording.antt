@@ -1,6 +1,6 @@
 -- What each event adds to the steps of the trace, and how rows of steps add up.
-use Rattle.std.proofs.Common.{◌≡◌, ℕ, ◌+◌, ◌<◌, List, [], ◌∷◌, ◌++◌, map, take, length, get_or, replicate, sum, zero, suc, refl, sym, subst, ap, ap₂, ◌∙◌, arith, append_assoc, append-nil}
-use Rattle.uring_threads.proofs.Common.{Answer, AreOfTurn, Grows, IfOk, Intake, IsAgain, IsPulled, IsTaken, IsUnmoved, Item, Kept, Pulls, Put, Records, RecordsIntake, RecordsTurn, Repeats, Result, Setup, Step, Submission, Tally, Turn, call_row, calls_row, delivery_row, item_row, items_row, length-take-le, map-append, now, refused_row, replicate_more, step_of, steps_of, sum_by-cons, sum_by_push, take_more}
+use Rattle.std.proofs.Common.{◌≡◌, ℕ, ◌+◌, ◌<◌, List, [], ◌∷◌, ◌++◌, map, take, length, get_or, replicate, sum, zero, suc, refl, sym, ap, ◌∙◌, arith, append_assoc, append-nil}
+use Rattle.uring_threads.proofs.Common.{Answer, Grows, Intake, IsAgain, IsPulled, IsTaken, IsUnmoved, Item, Kept, Pulls, Put, Records, RecordsIntake, Setup, Step, Submission, call_row, calls_row, delivery_row, item_row, items_row, length-take-le, map-append, now, refused_row, replicate_more, step_of, steps_of, sum_by-cons, sum_by_push, take_more}
 use Rattle.uring_core.specs.declared.step.Step.TheVariants as step
 use Rattle.uring_ports.specs.declared.pulled.Pulled.{Pulled}
 use Rattle.uring_ports.specs.declared.pulled.Pulled.TheVariants as pulled
@@ -36,9 +36,7 @@ pub items_recorded : (a b c : Kept) (items : List Item) (i slot : ℕ) (item : I
     → Records b c (item_row slot item) → Records a c (items_row 0 (take (i + 1) items))
 items_recorded a b c items i slot item at within is p q =
     let many : slot ≡ 0 + length (take i items) = omega (arith, at, length-take-le i items (omega arith)) in
-    rw (take_more items i item within, ← is)
-    (records_then a b c (items_row 0 (take i items)) (item_row slot item) p q
-    ∙ ap (λ zs. steps_of a ++ zs) (ap (λ s. items_row 0 (take i items) ++ item_row s item) many ∙ sym (items_row_snoc 0 (take i items) item)))
+    rw (take_more items i item within, ← is, items_row_snoc, ← many) (records_then a b c _ _ p q)
 
 -- a call that opened: it took positions, closed, and the application loaded the head
 pub call_recorded : (a b c d e : Kept) (count n : ℕ) (x y z : Answer) → Grows a b (step.Begin count, x)
@@ -46,37 +44,24 @@ pub call_recorded : (a b c d e : Kept) (count n : ℕ) (x y z : Answer) → Grow
     → Grows d e (step.LoadHead, z)
     → Records a e (call_row count (made.Taken n))
 call_recorded a b c d e count n x y z g p h k =
-    records_then a b e (step.Begin count ∷ []) (replicate n step.Take ++ step.End ∷ step.LoadHead ∷ []) (records_one a b (step.Begin count) x g)
-    (records_then b c e (replicate n step.Take) (step.End ∷ step.LoadHead ∷ []) p
-    (records_then c d e (step.End ∷ []) (step.LoadHead ∷ []) (records_one c d step.End y h) (records_one d e step.LoadHead z k)))
+    simp (k.trace, h.trace, g.trace, p, map-append, append_assoc)
 
 -- one call more was made
-calls_row_snoc : (done : List ℕ) (n : ℕ) (left : List ℕ)
+pub calls_row_snoc : (done : List ℕ) (n : ℕ) (left : List ℕ)
     → calls_row (done ++ n ∷ []) left ≡ calls_row done (n ∷ left) ++ call_row (n + sum left) (made.Taken n)
 unfolding calls_row
 calls_row_snoc [] n left = ap (λ k. step.Begin k ∷ replicate n step.Take ++ step.End ∷ step.LoadHead ∷ []) (omega arith)
 calls_row_snoc (first ∷ more) n left =
-    ap₂ (λ k later. step.Begin k ∷ replicate first step.Take ++ step.End ∷ step.LoadHead ∷ later) (omega (arith, sum_by_push (λ x. x) more n, sum_by-cons (λ x. x) n left)) (calls_row_snoc more n left)
-    ∙ ap (λ zs. step.Begin (first + (sum more + sum (n ∷ left))) ∷ zs) (sym (append_assoc (replicate first step.Take) (step.End ∷ step.LoadHead ∷ calls_row more (n ∷ left)) (call_row (n + sum left) (made.Taken n))))
+    let many : sum (more ++ n ∷ []) + sum left ≡ sum more + sum (n ∷ left) = omega (arith, sum_by_push (λ x. x) more n, sum_by-cons (λ x. x) n left) in
+    rw (many, calls_row_snoc more n left, append_assoc)
 
-pub call_more : (a b c : Kept) (done : List ℕ) (n : ℕ) (left calls : List ℕ) (count : ℕ)
-    → Records a b (calls_row done calls) → calls ≡ n ∷ left → sum calls ≡ count
-    → Records b c (call_row count (made.Taken n))
-    → Records a c (calls_row (done ++ n ∷ []) left)
-call_more a b c done n left calls count p is many q =
-    records_then a b c (calls_row done (n ∷ left)) (call_row (n + sum left) (made.Taken n)) (p ∙ ap (λ ns. steps_of a ++ calls_row done ns) is)
-    (subst (λ k. Records b c (call_row k (made.Taken n))) (sym many ∙ ap sum is ∙ sum_by-cons (λ x. x) n left ∙ omega arith) q)
-    ∙ ap (λ zs. steps_of a ++ zs) (sym (calls_row_snoc done n left))
-
--- and the next didn't open
-pub call_refused : (a b c : Kept) (done calls : List ℕ) (count : ℕ) → 0 < count → sum calls ≡ count
-    → Records a b (calls_row done calls) → Records b c (step.Begin count ∷ [])
-    → Records a c (calls_row done calls ++ refused_row calls)
+-- the next call that is left is begun and doesn't open
+pub refused_is : (calls : List ℕ) (count : ℕ) → sum calls ≡ count → 0 < count
+    → refused_row calls ≡ step.Begin count ∷ []
 unfolding refused_row
-call_refused a b c done [] count some many p q = absurd (omega (arith, some, many))
-call_refused a b c done (n ∷ later) count some many p q =
-    records_then a b c (calls_row done (n ∷ later)) (step.Begin (n + sum later) ∷ []) p
-    (subst (λ k. Records b c (step.Begin k ∷ [])) (sym many ∙ sum_by-cons (λ x. x) n later ∙ omega arith) q)
+refused_is [] count many some = absurd (omega (arith, many, some))
+refused_is (n ∷ later) count many some =
+    ap (λ k. step.Begin k ∷ []) (omega (arith, many, sum_by-cons (λ x. x) n later))
 
 -- completions that were delivered, one or more
 pub delivery_recorded : (a b c d e f : Kept) (n : ℕ) (x y z : Answer) → 0 < n → IsUnmoved a b
@@ -87,10 +72,7 @@ pub delivery_recorded : (a b c d e f : Kept) (n : ℕ) (x y z : Answer) → 0 < 
     → Records a f (delivery_row n)
 delivery_recorded a b c d e f zero x y z some u g h p k = absurd (omega (arith, some))
 delivery_recorded a b c d e f (suc n) x y z some u g h p k =
-    records_then a b f [] (delivery_row (suc n)) (records_none a b u)
-    (records_then b c f (step.Flush ∷ []) (step.LoadCqTail ∷ replicate (suc n) step.Reap ++ step.StoreCqHead ∷ []) (records_one b c step.Flush x g)
-    (records_then c d f (step.LoadCqTail ∷ []) (replicate (suc n) step.Reap ++ step.StoreCqHead ∷ []) (records_one c d step.LoadCqTail y h)
-    (records_then d e f (replicate (suc n) step.Reap) (step.StoreCqHead ∷ []) p (records_one e f step.StoreCqHead z k))))
+    simp (k.trace, p, h.trace, g.trace, u.trace, map-append, append_assoc)
 
 -- nothing was begun again, and nothing was pulled
 pub none_again : (g : Setup) (l : Submission) (i : Intake) → IsAgain g l i []
@@ -117,21 +99,3 @@ pub again_recorded : (a b : Kept) (i : Intake) (put : Put)
     → (steps : List Step) × IsAgain a.setup (now a).submission i steps × Records a b steps
     → RecordsIntake a b i put put
 again_recorded a b i put r = grind (arith, append-nil)
-
--- a whole turn
-pub turn_recorded : {E : Type 0} (a b c d e : Kept) (i : Intake) (before after : Put) (n : ℕ) (answer : Result Turn E) (t u : Tally)
-    → RecordsIntake a b i before after → (f : Repeats b c step.Finish t)
-    → (s : Repeats c d step.Issue u) → Records d e (delivery_row n)
-    → IfOk answer (λ turn. AreOfTurn turn f.numbers s.numbers n) → RecordsTurn a e i before after answer
-turn_recorded a b c d e i before after n answer t u r f s q told =
-    record {
-      again = r.again;
-      pulled = r.pulled;
-      finished = f.numbers;
-      issued = s.numbers;
-      delivered = n;
-      is_again = r.is_again;
-      is_pulled = r.is_pulled;
-      row = grind (arith, records_then);
-      told = told;
-    }

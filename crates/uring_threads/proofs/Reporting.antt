@@ -1,72 +1,29 @@
 -- What is reported once all ends are settled, from what ties them to the trace.
-use Rattle.std.proofs.Common.{◌≡◌, ◌↔◌, ℕ, ℤ, zero, suc, ◌+◌, ◌<◌, ◌≤◌, ◌==◌, Bool, Some, true, false, List, [], ◌∷◌, ◌++◌, length, map, flat_map, take, drop, get_or, All, count_by, cond, if◌then◌else◌, refl, sym, subst, ap, ◌∙◌, arith, inl, inr, append_assoc, append-nil, length-drop}
-use Rattle.uring_threads.proofs.Common.{AreItems, AreSettled, AreTogether, BeginsCalls, ClosesOnlyAllTaken, Completions, Cqe, DeliversReaped, Event, FinishesAll, HasOneClose, HaveLooked, HaveSeenAll, Intake, IsItem, IsKernel, IsLawful, IsSameKernel, Item, Job, JobResult, Kept, Kernel, LeavesCompletions, LeavesItems, LeavesRunning, OnlyPosts, PublishesItems, Put, Report, Setup, Sizes, Stands, Submission, TakesAll, Tied, WorkLanes, Worker, World, all_published_as, all_untaken, all_waiting, calls_of, closes_ring, completion_for, entry_of, finish_of, flat_map-append, has_job, history, history_of, history_of_snoc, is_running, is_shut, items_of_calls, job_of, jobs_of, left_by, length-append, length-map, list_any, map-append, now, or_cases, or_right, posts, published_as, published_items, sum_by-cons, take_all, take_more, taken, unreaped, untaken_at, waiting_in, with_end_of, with_posted, world}
-use Rattle.std.specs.List.{slice_get}
-use Rattle.std.proofs.Math.Seq.{drop-append_seam, take-append_seam}
+use Rattle.std.proofs.Common.{◌≡◌, ◌↔◌, ℕ, zero, suc, ◌+◌, ◌<◌, ◌≤◌, ◌==◌, Bool, Some, true, List, [], ◌∷◌, ◌++◌, length, map, take, drop, get_or, cond, refl, sym, subst, ap, ◌∙◌, arith, inl, inr, append_assoc, append-nil, length-drop, add-zero, drop_at, take_at, flat_map}
+use Rattle.uring_threads.proofs.Common.{AppEnd, AreItems, AreSettled, AreTogether, BeginsCalls, ClosesOnlyAllTaken, Completions, Cqe, DeliversReaped, Event, FinishesAll, HasOneClose, HaveLooked, HaveSeenAll, History, IsItem, IsKernel, IsLawful, IsSameKernel, Item, Job, JobResult, Kept, Kernel, LeavesCompletions, LeavesItems, LeavesRunning, OnlyPosts, PublishesItems, Report, Setup, Sizes, TakesAll, WorkLanes, Worker, World, all_published_as, all_untaken, all_waiting, calls_left, calls_of, closes_ring, finish_of, flat_map-append, has_job, history, history_of_cons, is_running, items_of_calls, job_of, jobs_of, left_by, length-append, length-map, list_any, map-append, now, or_cases, or_right, posts, reverse-append, slice_get, take_all, take_more, taken, unreaped, untaken_at, waiting_in, with_end_of, with_taken_in, world}
+use Rattle.uring_core.specs.declared.answer.Answer.TheVariants as answer
 use Rattle.std.proofs.lemmas.Option.{slice_get_within, get_or_from_slice_get}
 use Rattle.uring_laws.specs.Laws.{ReapedBeginPosted, in_ring, in_overflow}
-use Rattle.uring_ports.specs.AppEnd.{AppEnd}
-use Rattle.std.proofs.lemmas.List.Folds.{list_any-append}
-use Rattle.uring_threads.specs.declared.intake.Intake.TheVariants as intake
+use Rattle.std.proofs.lemmas.List.Folds.{fold-map, fold_stays, list_any-append}
 use Rattle.uring_threads.proofs.CallsMade.{none_left}
 use Rattle.uring_threads.proofs.Tying.{closes_append, all_first}
-use Rattle.uring_threads.proofs.Posting.{posts_none, posts_then, end_posts}
+use Rattle.uring_threads.proofs.Posting.{posts_then, posts_only}
 use Rattle.uring_threads.proofs.SameEnds.{together_same}
+use Rattle.uring_threads.proofs.TraceSteps.{longer_history}
 
 -- Finishes leave the rings, but for what is posted.
 
-finishes_post : (g : Setup) (events : List Event) (rs : List JobResult)
-    → OnlyPosts (world g (history_of events)) (world g (history_of (events ++ map finish_of rs)))
-finishes_post g events [] = subst (λ es. OnlyPosts (world g (history_of events)) (world g (history_of es))) (sym (append-nil events)) (posts_none (world g (history_of events)))
-finishes_post g events (r ∷ rs) =
-    let w : World = world g (history_of events) in
-    let p = end_posts g w r.number r.outcome.res r.outcome.bytes in
-    let one : OnlyPosts w (world g (history_of (events ++ finish_of r ∷ []))) = subst (λ h. OnlyPosts w (world g h)) (sym (history_of_snoc events (finish_of r))) (record { submission = refl; accepted = refl; is_closed = refl; reaped = p.0; head = p.1 }) in
-    subst (λ es. OnlyPosts w (world g (history_of es))) (append_assoc events (finish_of r ∷ []) (map finish_of rs))
-    (posts_then w (world g (history_of (events ++ finish_of r ∷ []))) (world g (history_of ((events ++ finish_of r ∷ []) ++ map finish_of rs))) one (finishes_post g (events ++ finish_of r ∷ []) rs))
-
--- What the application submitted.
-
-module _ (g : Setup) (w : World) (put pulled : Put) (i : Intake) (r : Report) (same : r.setup ≡ g) (t : Tied g w pulled i) (posts : OnlyPosts w (left_by r)) (leaves : LeavesItems put pulled r.unsent) where
-  pub publishes : AreItems g.sq (items_of_calls put.calls) → PublishesItems put r
-  publishes good =
-      let cut : items_of_calls put.calls ≡ items_of_calls pulled.calls ++ items_of_calls leaves.rest = ap items_of_calls (sym leaves.calls) ∙ flat_map-append (λ (call : List _). call) pulled.calls leaves.rest in
-      let whole : all_published_as (items_of_calls put.calls) ≡ all_published_as (items_of_calls pulled.calls) ++ all_published_as (items_of_calls leaves.rest) = ap all_published_as cut ∙ map-append published_as (items_of_calls pulled.calls) (items_of_calls leaves.rest) in
-      ap (λ l. published_items l ++ all_published_as r.unsent) posts.submission
-      ∙ ap (λ ps. ps ++ all_published_as r.unsent) (t.published (all_first (IsItem g.sq) (all_published_as (items_of_calls pulled.calls)) (all_published_as (items_of_calls leaves.rest)) (subst (All (IsItem g.sq)) whole good)))
-      ∙ ap (λ items. all_published_as (items_of_calls pulled.calls) ++ all_published_as items) leaves.items
-      ∙ sym whole
-
-  pub begins_calls : BeginsCalls put r
-  begins_calls = grind (arith, (flat_map-append (calls_of g) pulled.calls leaves.rest), append_assoc)
-
-  pub closes_all : ClosesOnlyAllTaken put r
-  closes_all = λ closed.
-      let pulled_closed : pulled.closed ≡ true = sym t.closed ∙ sym posts.is_closed ∙ closed in
-      let none : waiting_in i ≡ 0 = none_after i (t.shut ∙ pulled_closed) in
-      let stands : Stands w.submission [] 0 = subst (Stands w.submission []) none t.stands in
-      let last = leaves.closed pulled_closed in
-      let calls : pulled.calls ≡ put.calls = sym (append-nil pulled.calls) ∙ ap (λ rest. pulled.calls ++ rest) (sym last.1) ∙ leaves.calls in
-      record {
-        closed = last.0;
-        unsent = leaves.items ∙ ap items_of_calls last.1;
-        calls = ap (λ (l : Submission). l.calls) posts.submission ∙ sym (append-nil w.submission.calls) ∙ ap (λ ns. w.submission.calls ++ ns) (sym (none_left g w.submission stands)) ∙ t.calls ∙ ap (flat_map (calls_of g)) calls
-            ∙ ap (λ (s : Setup). flat_map (calls_of s) put.calls) (sym same);
-        taken = ap taken posts.submission ∙ omega (arith, stands.waiting) ∙ ap (λ (l : Submission). length l.published) (sym posts.submission);
-      } where
-        none_after : (i : Intake) → is_shut i ≡ true → waiting_in i ≡ 0
-        none_after (intake.Waiting count) shut = absurd (let f : false ≡ true = shut in cc)
-        none_after (intake.Spent count) shut = absurd (let f : false ≡ true = shut in cc)
-        none_after _ shut = refl
-
--- The ring is closed once, if at all.
-
-no_close : (rs : List JobResult) → count_by closes_ring (map finish_of rs) ≡ 0
-no_close [] = refl
-no_close (r ∷ rs) = omega (arith, sum_by-cons (λ e. cond (closes_ring e) 1 0) (finish_of r) (map finish_of rs), no_close rs)
-
-abbrev one_if : Bool → ℕ
-one_if b = if b then 1 else 0
+finishes_post : (g : Setup) (rs : List JobResult) (h : History)
+    → OnlyPosts (world g h) (world g (with_taken_in rs h))
+    × (length (unreaped (world g (with_taken_in rs h)).completions)
+    ≤ length (unreaped (world g h).completions) + length rs)
+finishes_post g [] h = (grind arith, omega arith)
+finishes_post g (r ∷ rs) h =
+    let next = finishes_post g rs (finish_of r ∷ h) in
+    let w : World = world g h in
+    let one : length (unreaped (with_end_of g w r.number r.outcome.res r.outcome.bytes)) ≤ length (unreaped w.completions) + 1 = grind (arith, length-drop, length-append) in
+    rw (history_of_cons (finish_of r) (map finish_of rs) h)
+    (posts_then _ _ _ (posts_only g (world g h) r.number (answer.Ended r.outcome.res r.outcome.bytes)).1 next.0, omega (arith, next.1, one))
 
 -- What runs.
 
@@ -74,49 +31,37 @@ one_if b = if b then 1 else 0
 any_of : (p : Job → Bool) (ls : List WorkLanes) (ws : List Worker) (d : WorkLanes) (e : Worker)
     → length ws ≡ length ls → list_any p (all_untaken ls ws) ≡ true
     → (k : ℕ) × (k < length ws) × (list_any p (untaken_at (get_or ls k d) (get_or ws k e)) ≡ true)
-any_of p [] [] d e many some = absurd (let f : false ≡ true = some in cc)
 any_of p (l ∷ ls) (w ∷ ws) d e many some =
     elim (or_cases _ _ (sym (list_any-append p (untaken_at l w) (all_untaken ls ws)) ∙ some)) [
       | inl here ↦ (0, omega arith, here)
       | inr later ↦ let one = any_of p ls ws d e (omega (arith, many)) later in (suc one.0, omega (arith, one.1), one.2)
     ]
-any_of p _ _ d e many some = absurd (omega (arith, many))
+any_of p _ _ d e many some = grind arith
 
 of_any : (p : Job → Bool) (ls : List WorkLanes) (ws : List Worker) (d : WorkLanes) (e : Worker) (k : ℕ)
     → length ws ≡ length ls → k < length ws
     → list_any p (untaken_at (get_or ls k d) (get_or ws k e)) ≡ true
     → list_any p (all_untaken ls ws) ≡ true
-of_any p [] [] d e k many low some = absurd (omega (arith, low))
 of_any p (l ∷ ls) (w ∷ ws) d e zero many low some = grind (arith, list_any-append)
 of_any p (l ∷ ls) (w ∷ ws) d e (suc k) many low some = list_any-append p (untaken_at l w) (all_untaken ls ws) ∙ or_right _ _ (of_any p ls ws d e k (omega (arith, many)) (omega (arith, low)) some)
-of_any p _ _ d e k many low some = absurd (omega (arith, many))
-
-module _ (k : Kept) (ls : List WorkLanes) (ws vs : List Worker) (settled : AreSettled k vs) (looked : HaveLooked ws vs) (seen : HaveSeenAll ls vs) (many : length ws ≡ length ls) where
-  -- what a worker has seen and not taken is what was sent to it and not taken
-  untaken_seen : (j : ℕ) (d : WorkLanes) (e : Worker) → j < length ws → untaken_at (get_or ls j d) (get_or ws j e) ≡ (get_or vs j e).seen
-  untaken_seen j d e low =
-      grind (arith, (get_or vs j e), (length-map (get_or vs j e).done job_of), (drop-append_seam (jobs_of (get_or vs j e).done) (get_or vs j e).seen))
-
-  pub runs_untaken : (d : WorkLanes) (e : Worker) (n : ℕ)
-      → (is_running (now k).requests n ≡ true) ↔ (has_job (all_untaken ls ws) n ≡ true)
-  runs_untaken d e n =
-      let p : Job → Bool = λ job. job.number == n in
-      let both = (settled e).running n in (
-        λ runs.
-            let one = both.0 runs in
-            of_any p ls ws d e one.0 many (omega (arith, one.1, looked.many)) (ap (list_any p) (untaken_seen one.0 d e (omega (arith, one.1, looked.many))) ∙ one.2),
-        λ some.
-            let one = any_of p ls ws d e many some in
-            both.1 (one.0, omega (arith, one.1, looked.many), ap (list_any p) (sym (untaken_seen one.0 d e one.1)) ∙ one.2),
-      )
+of_any p _ _ d e k many low some = absurd (omega (arith, many, low))
 
 pub all_run : (k : Kept) (ls : List WorkLanes) (ws vs : List Worker) → 0 < length ls
     → AreSettled k vs → HaveLooked ws vs → HaveSeenAll ls vs → length ws ≡ length ls → (n : ℕ)
     → (is_running (now k).requests n ≡ true) ↔ (has_job (all_untaken ls ws) n ≡ true)
-all_run k [] ws vs some settled looked seen many = absurd (omega (arith, some))
-all_run k (l ∷ ls) [] vs some settled looked seen many = absurd (omega (arith, many))
-all_run k (l ∷ ls) (w ∷ ws) vs some settled looked seen many =
-    runs_untaken k (l ∷ ls) (w ∷ ws) vs settled looked seen many l w
+all_run k (l ∷ ls) (w ∷ ws) vs some settled looked seen many n =
+    let p : Job → Bool = λ job. job.number == n in
+    let both = (settled w).running n in
+    let same : (j : ℕ) → j < length (w ∷ ws) → untaken_at (get_or (l ∷ ls) j l) (get_or (w ∷ ws) j w) ≡ (get_or vs j w).seen =
+    λ j low. grind (arith, (get_or vs j w), (drop_at (jobs_of (get_or vs j w).done) (get_or vs j w).seen _ (length-map (get_or vs j w).done job_of))) in
+    let here = λ (j : ℕ) (low : j < length (w ∷ ws)). ap (list_any p) (same j low) in (
+      λ runs.
+          let one = both.0 runs in
+          let low : one.0 < length (w ∷ ws) = omega (arith, one.1, looked.many) in
+          of_any p (l ∷ ls) (w ∷ ws) l w one.0 many low (here one.0 low ∙ one.2),
+      λ job. let one = any_of p (l ∷ ls) (w ∷ ws) l w many job in both.1 (one.0, omega (arith, one.1, looked.many), sym (here one.0 one.1) ∙ one.2),
+    )
+all_run k _ _ vs some settled looked seen many n = absurd (omega (arith, some, many))
 
 -- What waits.
 
@@ -138,42 +83,19 @@ pub all_listed : (size : ℕ) (l : Completions) (items : List Cqe) (k : ℕ) →
     → items ≡ take k (unreaped l) → length l.posted ≤ length l.reaped + k
     → l.reaped ++ items ≡ l.posted
 all_listed size l items k law so_far many =
-    let rest : unreaped l ≡ in_ring l ++ in_overflow l = ap (drop (length l.reaped)) law.in_order ∙ drop-append_seam l.reaped (in_ring l ++ in_overflow l) in
+    let rest : unreaped l ≡ in_ring l ++ in_overflow l = ap (drop (length l.reaped)) law.in_order ∙ drop_at l.reaped (in_ring l ++ in_overflow l) _ refl in
     ap (λ xs. l.reaped ++ xs) (so_far ∙ take_all k (unreaped l) (omega (arith, length-drop (length l.reaped) l.posted, many)) ∙ rest) ∙ sym law.in_order
-
--- Each result that is taken in posts at most one completion.
-one_end : (g : Setup) (w : World) (n : ℕ) (res : ℤ) (bytes : List ℕ)
-    → length (unreaped (with_end_of g w n res bytes)) ≤ length (unreaped w.completions) + 1
-one_end g w n res bytes = by_posts (posts g.linux w.requests n res) where
-  l : Completions
-  l = w.completions
-
-  c : Cqe
-  c = completion_for (entry_of w.requests n) res bytes
-
-  by_posts : (told : Bool) → length (unreaped (if told then with_posted g.cq l c else l)) ≤ length (unreaped l) + 1
-  by_posts told = grind (arith, length-drop, length-append)
-
-each_posts : (g : Setup) (events : List Event) (rs : List JobResult)
-    → length (unreaped (world g (history_of (events ++ map finish_of rs))).completions)
-    ≤ length (unreaped (world g (history_of events)).completions) + length rs
-each_posts g events [] = subst (λ es. length (unreaped (world g (history_of es)).completions) ≤ length (unreaped (world g (history_of events)).completions) + 0) (sym (append-nil events)) (omega arith)
-each_posts g events (r ∷ rs) =
-    let w : World = world g (history_of events) in
-    let one : length (unreaped (world g (history_of (events ++ finish_of r ∷ []))).completions) ≤ length (unreaped w.completions) + 1 =
-    subst (λ h. length (unreaped (world g h).completions) ≤ length (unreaped w.completions) + 1) (sym (history_of_snoc events (finish_of r))) (one_end g w r.number r.outcome.res r.outcome.bytes) in
-    subst (λ es. length (unreaped (world g (history_of es)).completions) ≤ length (unreaped w.completions) + length (r ∷ rs)) (append_assoc events (finish_of r ∷ []) (map finish_of rs))
-    (omega (arith, one, each_posts g (events ++ finish_of r ∷ []) rs))
 
 pub few_unreaped : (a b : Kept) (rs : List JobResult) (most : ℕ) → TakesAll a b rs
     → length b.trace ≤ length a.trace + most
     → length (unreaped (now b).completions) ≤ length (unreaped (now a).completions) + most
-few_unreaped a b rs most all few = grind (arith, length-append, map, length-map, each_posts)
+few_unreaped a b rs most all few =
+    grind (arith, (finishes_post a.setup rs (history a)).1, (longer_history a b (map finish_of rs) all.trace), length-append, length-map)
 
 -- a list after which others stand is taken whole
 pub take_whole : {X : Type 0} (n : ℕ) (xs others : List X) → length xs ≡ n
     → take n (xs ++ others) ≡ xs
-take_whole n xs others same = grind (arith, take-append_seam)
+take_whole n xs others same = take_at xs others n same
 
 -- The history is lawful.
 
@@ -201,18 +123,34 @@ pub tells_ends : (app : AppEnd) (kernel same : Kernel) (workers : List Worker) (
     → r.setup ≡ kept.setup → FinishesAll kept.trace lanes workers r → LeavesRunning lanes workers r
     → (r.unsent ≡ unsent) × (r.undelivered ≡ undelivered) → TellsEnds app kernel workers r
 tells_ends app kernel same workers kept lanes unsent undelivered r t s is keeps these items completions good setup trace running rests =
-    let goes_on : FinishesAll same.kept.trace lanes workers r = subst (λ (k : Kept). FinishesAll k.trace lanes workers r) keeps trace in
-    let of : r.setup ≡ same.kept.setup = setup ∙ ap (λ (k : Kept). k.setup) keeps in
+    let goes_on : FinishesAll same.kept.trace lanes workers r = rw keeps at trace in
+    let of : r.setup ≡ same.kept.setup = rw keeps at setup in
     let results : List JobResult = all_waiting lanes workers in
-    let posts : OnlyPosts (now same.kept) (left_by r) = grind (arith, finishes_post) in
+    let posts : OnlyPosts (now same.kept) (left_by r) = rw (of, goes_on, reverse-append) (finishes_post same.kept.setup results (history same.kept)).0 in
     let left : LeavesItems app.submitted same.pulled r.unsent = subst (LeavesItems app.submitted same.pulled) (sym rests.0) items in
     let size : app.sizes.sq ≡ same.kept.setup.sq = ap (λ (z : Sizes). z.sq) (sym (together_same app kernel same workers s t).sizes) ∙ is.sq in
     let tied = is.ties.tied in
+    let no_close = fold-map (λ (n : ℕ) (e : Event). n + cond (closes_ring e) 1 0) finish_of 0 results ∙ fold_stays (λ (n : ℕ) (r : JobResult). n + 0) 0 (λ r. refl) results in
+    let more = calls_left same.kept.setup (now same.kept).submission in
+    let later = flat_map (calls_of same.kept.setup) left.rest in
+    let whole : all_published_as (items_of_calls app.submitted.calls) ≡ all_published_as (items_of_calls same.pulled.calls) ++ all_published_as (items_of_calls left.rest) =
+    rw (← left.calls) (simp (flat_map-append, map-append)) in
     record {
       running = subst (λ ls. LeavesRunning ls workers r) (these ∙ ap (λ (k : Kernel). k.lanes) s.others) running;
-      items = publishes same.kept.setup (now same.kept) app.submitted same.pulled same.intake r of tied posts left (subst (λ n. AreItems n (items_of_calls app.submitted.calls)) size good);
-      calls = begins_calls same.kept.setup (now same.kept) app.submitted same.pulled same.intake r of tied posts left;
-      once = ap (count_by closes_ring) goes_on ∙ closes_append same.kept.trace (map finish_of results) ∙ omega (arith, no_close results) ∙ is.ties.once ∙ ap one_if (tied.shut ∙ sym tied.closed ∙ sym posts.is_closed);
-      closed = closes_all same.kept.setup (now same.kept) app.submitted same.pulled same.intake r of tied posts left;
+      items = rw (posts.submission, left.items, tied.published (all_first (IsItem same.kept.setup.sq) _ _ (rw (size, whole) at good)), whole);
+      calls = (more ++ later, rw (posts.submission, of, ← left.calls, flat_map-append, ← tied.calls) (sym (append_assoc (now same.kept).submission.calls more later)));
+      once = rw (posts.is_closed, tied.closed, ← tied.shut, goes_on, closes_append, no_close, add-zero) is.ties.once;
+      closed = λ closed.
+          let pulled_closed : same.pulled.closed ≡ true = sym tied.closed ∙ sym posts.is_closed ∙ closed in
+          let none : waiting_in same.intake ≡ 0 = grind (arith, tied.shut, pulled_closed) in
+          let stands = rw none at tied.stands in
+          let last = left.closed pulled_closed in
+          let calls = rw (last.1, append-nil) at left.calls in
+          record {
+            closed = last.0;
+            unsent = rw last.1 at left.items;
+            calls = rw (posts.submission, of, ← calls, ← tied.calls, none_left same.kept.setup (now same.kept).submission stands, append-nil);
+            taken = rw posts.submission (omega (arith, stands.waiting));
+          };
       reaped = sym (subst (LeavesCompletions same.reaped app.received) (sym rests.1) completions) ∙ sym is.ties.delivered.reaped ∙ sym posts.reaped;
     }

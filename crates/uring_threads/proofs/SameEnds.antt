@@ -1,11 +1,8 @@
 -- Lanes and workers by their numbers: whoever has the same numbers is the other end.
 use Rattle.std.proofs.Common.{◌≡◌, ℕ, suc, ◌<◌, ◌≤◌, List, [], ◌∷◌, length, map, get_or, refl, sym, subst, ap, ap₂, ◌∙◌, arith}
-use Rattle.uring_threads.proofs.Common.{AreSameLanes, AreTogether, HaveCarried, HaveCarriedNone, HaveFiles, HaveLooked, HoldJobs, HoldResults, IsKernel, IsSameKernel, Kept, Kernel, Setup, WorkLanes, Worker, calls_after, get_or-map, get_or_default, length-map, length-set, nothing_put, numbers_of_lanes, sizes_of, slice_set}
-use Rattle.uring_ports.specs.AppEnd.{AppEnd}
+use Rattle.uring_threads.proofs.Common.{AppEnd, AreLanesOf, AreSameLanes, AreTogether, HaveCarried, HaveCarriedNone, HaveFiles, HaveLooked, HoldJobs, HoldResults, IsKernel, IsSameKernel, Kept, Kernel, Setup, WorkLanes, Worker, calls_after, get_or-map, get_or_default, length-map, length-set, nothing_put, numbers_of_lanes, pairing_of, sizes_of, slice_set}
 use Rattle.uring_threads.specs.Opening.{kernel_at_first}
 use Rattle.uring_threads.specs.declared.intake.Intake.TheVariants as intake
-use Rattle.uring_workers.specs.Pairings.{pairing_of}
-use Rattle.uring_workers.specs.Opened.{AreLanesOf}
 use Rattle.uring_workers.proofs.Working.{same_ring}
 use Rattle.uring_threads.proofs.SameLanes.{set_cases}
 
@@ -29,21 +26,13 @@ same_told f g xs ys k d e same low =
 pub same_numbers : (old new : List WorkLanes) → AreSameLanes old new
     → numbers_of_lanes new ≡ numbers_of_lanes old
 same_numbers old new same =
-    told_same (λ (l : WorkLanes). pairing_of l.jobs l.results) (λ (l : WorkLanes). pairing_of l.jobs l.results) new old same.many (λ k d e low. at k d e (omega (arith, low, same.many))) where
-      at : (k : ℕ) (d e : WorkLanes) → k < length old → pairing_of (get_or new k d).jobs (get_or new k d).results ≡ pairing_of (get_or old k e).jobs (get_or old k e).results
-      at k d e low =
-          let jobs = (same.jobs k d low).0 in
-          let results = (same.results k d low).0 in
-          let l : WorkLanes = get_or old k d in
-          let m : WorkLanes = get_or new k d in
-          ap₂ (λ xs ys. xs ∷ ys ∷ []) (same_ring m.jobs.end l.jobs.end jobs.0 jobs.1 jobs.2) (same_ring m.results.end l.results.end results.0 results.1 results.2)
-          ∙ ap (λ (x : WorkLanes). pairing_of x.jobs x.results) (get_or_default old k d e low)
-
--- the dispatcher's lanes are those of the workers
-pub lanes_of_workers : (app : AppEnd) (kernel : Kernel) (workers : List Worker)
-    → AreTogether app kernel workers → IsKernel kernel
-    → AreLanesOf kernel.kept.setup.files kernel.lanes workers
-lanes_of_workers app kernel workers together is = grind (arith, length-map, same_told)
+    told_same (λ (l : WorkLanes). pairing_of l.jobs l.results) (λ (l : WorkLanes). pairing_of l.jobs l.results) new old same.many (λ k d e low.
+    let within : k < length old = omega (arith, low, same.many) in
+    let jobs = (same.jobs k e within).0 in
+    let results = (same.results k e within).0 in
+    let l : WorkLanes = get_or old k e in
+    let m : WorkLanes = get_or new k e in
+    rw (get_or_default new k d e low) (ap₂ (λ xs ys. xs ∷ ys ∷ []) (same_ring m.jobs.end l.jobs.end jobs.0 jobs.1 jobs.2) (same_ring m.results.end l.results.end results.0 results.1 results.2)))
 
 -- the ends of a set-up, as they are opened
 pub opened_together : (files : ℕ) (app : AppEnd) (kernel : Kernel) (workers : List Worker)
@@ -91,7 +80,7 @@ pub lanes_to_settle : (app : AppEnd) (kernel same : Kernel) (workers : List Work
     → AreTogether app kernel workers → IsSameKernel kernel same → IsKernel same → kept ≡ same.kept
     → lanes ≡ same.lanes → AreLanesOf kept.setup.files lanes workers
 lanes_to_settle app kernel same workers kept lanes t s is keeps these =
-    grind (arith, (lanes_of_workers app same workers (together_same app kernel same workers s t) is))
+    grind (arith, length-map, same_told, (together_same app kernel same workers s t))
 
 pub carried_to_settle : (same : Kernel) (kept : Kept) (lanes : List WorkLanes) → IsKernel same
     → kept ≡ same.kept → lanes ≡ same.lanes → HaveCarried kept lanes

@@ -1,6 +1,6 @@
 -- Lanes that stay the same, as they are looked at and as jobs and results go through them.
-use Rattle.std.proofs.Common.{◌≡◌, ◌≢◌, ℕ, ◌<◌, List, length, get_or, refl, arith, inl, inr}
-use Rattle.uring_threads.proofs.Common.{AreSameLanes, HoldJobs, IsSent, Job, OnlyReceives, WorkLanes, cases_eq, get_or-set_other, get_or-set_same, get_or_default, length-set, set}
+use Rattle.std.proofs.Common.{◌≡◌, ◌≢◌, ℕ, ◌<◌, List, length, get_or, arith, refl}
+use Rattle.uring_threads.proofs.Common.{AreSameLanes, IsSent, Job, OnlyReceives, WorkLanes, get_or-set_other, get_or-set_same, get_or_default, length-set, set}
 
 -- what holds of one element that is set, and of each other as it was
 pub set_cases : {X : Type 0} (P : ℕ → X → Type 0) (xs : List X) (i : ℕ) (x : X) (k : ℕ) (d : X)
@@ -19,19 +19,10 @@ lanes_then a b c p q = grind arith
 pub lanes_set : (lanes : List WorkLanes) (place : ℕ) (y d : WorkLanes) → place < length lanes
     → OnlyReceives (get_or lanes place d) y → AreSameLanes lanes (set lanes place y)
 lanes_set lanes place y d low receives =
-    record {
-      many = length-set lanes place y;
-      jobs = λ k e within.
-          elim (cases_eq k place) [
-            | inl here ↦ rw (here, get_or-set_same lanes place y e low, receives.jobs, get_or_default lanes place d e low) ((refl, refl, refl, refl), refl)
-            | inr other ↦ rw (get_or-set_other lanes place k y e other) ((refl, refl, refl, refl), refl)
-          ];
-      results = λ k e within.
-          elim (cases_eq k place) [
-            | inl here ↦ rw (here, get_or-set_same lanes place y e low, get_or_default lanes place e d low) receives.ring
-            | inr other ↦ rw (get_or-set_other lanes place k y e other) ((refl, refl, refl, refl), refl)
-          ];
-    }
+    let all : (k : ℕ) (e : WorkLanes) → OnlyReceives (get_or lanes k e) (get_or (set lanes place y) k e) =
+    λ k e. set_cases (λ j l. OnlyReceives (get_or lanes j e) l) lanes place y k e low
+    (rw (get_or_default lanes place e d low) receives) (λ other. record { jobs = refl; ring = ((refl, refl, refl, refl), refl) }) in
+    grind (arith, length-set, all)
 
 -- lanes of which one was sent a job
 pub lanes_sent : (old new : List WorkLanes) (place : ℕ) (j : Job) → length new ≡ length old
@@ -43,7 +34,3 @@ lanes_sent old new place j many sent others = grind arith
 -- results were received twice
 pub receives_then : (a b c : WorkLanes) → OnlyReceives a b → OnlyReceives b c → OnlyReceives a c
 receives_then a b c p q = grind arith
-
--- the same lanes hold as many jobs
-pub hold_stays : (old new : List WorkLanes) → AreSameLanes old new → HoldJobs old → HoldJobs new
-hold_stays old new same hold = grind arith

@@ -1,24 +1,16 @@
 -- Settling the workers: all results that wait at one are taken in, one after the other, and then those of the next, while the others' wait.
-use Rattle.std.proofs.Common.{◌≡◌, ℕ, ◌+◌, ◌<◌, ◌≤◌, List, [], ◌∷◌, ◌++◌, length, map, refl, sym, subst, ap, ◌∙◌, arith, append_assoc, append-nil, ap₂, ◌*◌, take, drop, get_or}
-use Rattle.uring_threads.proofs.Common.{AreDone, Done, Grows, HasCarried, HaveCarried, HaveSeenAll, History, IsLawfulApart, IsRight, IsSettled, IsSettledAt, IsWork, Job, JobResult, Kept, Looks, Setup, TakesAll, Wait, WorkLanes, Worker, all_waiting, done_by_worker, finish_of, get_or-set_other, get_or_default, history, history_of_cons, jobs_of, jobs_sent, jobs_to, length-append, length-map, length-set, length-take-le, map-append, nil_from_length, results_held, results_of, results_received, settled_work, slice_set, take_all, take_more, waiting_at, with_taken_in, works_of}
-use Rattle.uring_threads.proofs.Settling.{IsDrained, drain, none_waits, same_work}
+use Rattle.std.proofs.Common.{◌≡◌, ℕ, ◌+◌, ◌<◌, ◌≤◌, List, [], ◌∷◌, ◌++◌, length, map, refl, sym, subst, ap, ◌∙◌, arith, append_assoc, append-nil, ap₂, ◌*◌, take, get_or, zero, suc, add-one, drop_at}
+use Rattle.uring_threads.proofs.Common.{AreLanesOf, Done, Grows, HasCarried, HaveCarried, HaveSeenAll, History, IsLawfulApart, IsRight, IsSettled, IsSettledAt, IsWork, Job, JobResult, Kept, Looks, Setup, TakesAll, Wait, WorkLanes, Worker, all_waiting, finish_of, get_or-set_other, get_or_default, history, history_of_cons, jobs_of, jobs_sent, jobs_to, length-append, length-map, length-set, map-append, nil_from_length, pairing_of, results_held, results_of, results_received, settled_work, slice_set, take_all, waiting_at, with_taken_in, works_of}
+use Rattle.uring_threads.proofs.Settling.{drain, none_waits}
 use Rattle.uring_threads.proofs.TraceSteps.{longer_history}
-use Rattle.uring_workers.specs.Opened.{AreLanesOf}
-use Rattle.uring_workers.specs.Pairings.{pairing_of}
-use Rattle.uring_files.specs.Contents.{empty_files}
 use Rattle.uring_threads.proofs.SameLanes.{set_cases}
-use Rattle.uring_threads.proofs.Carrying.{others_carried}
 
 -- Results taken in one after the other.
 
 pub takes_then : (a b c : Kept) (first second : List JobResult) → TakesAll a b first
     → TakesAll b c second → TakesAll a c (first ++ second)
 takes_then a b c first second p q =
-    record {
-      trace = q.trace ∙ ap (λ es. es ++ map finish_of second) p.trace ∙ append_assoc a.trace (map finish_of first) (map finish_of second) ∙ ap (λ es. a.trace ++ es) (sym (map-append finish_of first second));
-      setup = q.setup ∙ p.setup;
-      room = omega (arith, p.room, q.room);
-    }
+    record { trace = simp (q.trace, p.trace, map-append, append_assoc); setup = q.setup ∙ p.setup; room = omega arith }
 
 -- The loop.
 
@@ -76,56 +68,27 @@ jobs_keep g workers k (r ∷ rs) h = ap (jobs_to g workers k) (history_of_cons (
 module _ (a b : Kept) (workers k : ℕ) (done : List Done) (untaken : List Job) (waiting : List JobResult) (lanes : WorkLanes)
     (lawful : IsLawfulApart a.setup (history a)) (carried : HasCarried a workers k lanes)
     (jobs : jobs_of done ++ untaken ≡ jobs_sent lanes) (results : results_received lanes ++ waiting ≡ results_of done) (all : TakesAll a b waiting) where
-  work : IsWork a.setup workers (history a) k (record { done = done; untaken = untaken; waiting = waiting })
-  work = record { jobs = jobs ∙ carried.jobs; results = ap (λ rs. rs ++ waiting) (sym carried.results) ∙ results }
-
-  one_drained : IsDrained a.setup workers (history a) (with_taken_in waiting (history a)) k (record { done = done; untaken = untaken; waiting = waiting })
-  one_drained = drain a.setup workers (history a) k done untaken waiting lawful work
-
-  later : history b ≡ with_taken_in waiting (history a)
-  later = longer_history a b (map finish_of waiting) all.trace
-
-  jobs_stay : (j : ℕ) → jobs_to b.setup workers j (history b) ≡ jobs_to a.setup workers j (history a)
-  jobs_stay j = ap₂ (λ g h. jobs_to g workers j h) all.setup later ∙ one_drained.sent j
-
-  settled : IsWork b.setup workers (history b) k (record { done = done; untaken = untaken; waiting = [] })
-  settled =
-      subst (λ h. IsWork b.setup workers h k (record { done = done; untaken = untaken; waiting = [] })) (sym later)
-      (subst (λ g. IsWork g workers (with_taken_in waiting (history a)) k (record { done = done; untaken = untaken; waiting = [] })) (sym all.setup) one_drained.own)
-
   pub settled_at : (now : WorkLanes) → jobs_sent now ≡ jobs_sent lanes
       → results_received now ≡ results_received lanes ++ waiting
       → IsSettledAt a b workers k now done untaken
   settled_at now same came =
+      let one = drain a.setup workers (history a) k done untaken waiting lawful (record { jobs = jobs ∙ carried.jobs; results = ap (λ rs. rs ++ waiting) (sym carried.results) ∙ results }) in
+      let later : history b ≡ with_taken_in waiting (history a) = longer_history a b (map finish_of waiting) all.trace in
       record {
-        work = settled;
-        carried = record { jobs = same ∙ carried.jobs ∙ sym (jobs_stay k); results = came ∙ results ∙ sym settled.results ∙ append-nil (results_of (done_by_worker b.setup workers k (history b))) };
-        others = record { jobs = jobs_stay; results = λ j other. ap₂ (λ g h. done_by_worker g workers j h) all.setup later ∙ one_drained.others j other };
+        work = rw (all.setup, later) one.own;
+        carried = record { jobs = rw (all.setup, later) (same ∙ carried.jobs ∙ sym (one.sent k)); results = rw (all.setup, later) (came ∙ results ∙ sym one.own.results ∙ append-nil _) };
+        others = record { jobs = λ j. rw (all.setup, later) (one.sent j); results = λ j other. rw (all.setup, later) (one.others j other) };
       }
-
--- what wasn't received waits
-waits_after : (before waiting all : List JobResult) → all ≡ before ++ waiting
-    → drop (length before) all ≡ waiting
-waits_after before waiting all same = ap (drop (length before)) same ∙ later before waiting where
-  later : (xs ys : List JobResult) → drop (length xs) (xs ++ ys) ≡ ys
-  later [] ys = refl
-  later (x ∷ xs) ys = later xs ys
-
-waiting_append : (ls ms : List WorkLanes) (ws vs : List Worker) → length ls ≡ length ws
-    → all_waiting (ls ++ ms) (ws ++ vs) ≡ all_waiting ls ws ++ all_waiting ms vs
-waiting_append [] ms [] vs same = refl
-waiting_append (l ∷ ls) ms (w ∷ ws) vs same = ap (λ rs. waiting_at l w ++ rs) (waiting_append ls ms ws vs (omega (arith, same))) ∙ sym (append_assoc (waiting_at l w) (all_waiting ls ws) (all_waiting ms vs))
-waiting_append _ ms _ vs same = absurd (omega (arith, same))
 
 -- one worker more
 waiting_more : (ls : List WorkLanes) (ws : List Worker) (d : WorkLanes) (e : Worker) (k : ℕ)
     → length ws ≡ length ls → k < length ls
-    → all_waiting (take (k + 1) ls) (take (k + 1) ws)
+    → all_waiting (take (suc k) ls) (take (suc k) ws)
     ≡ all_waiting (take k ls) (take k ws) ++ waiting_at (get_or ls k d) (get_or ws k e)
-waiting_more ls ws d e k many lt =
-    rw (take_more ls k d lt, take_more ws k e (omega (arith, many, lt)))
-    (waiting_append (take k ls) (get_or ls k d ∷ []) (take k ws) (get_or ws k e ∷ []) (length-take-le k ls (omega arith) ∙ sym (length-take-le k ws (omega (arith, many, lt))))
-    ∙ ap (λ rs. all_waiting (take k ls) (take k ws) ++ rs) (append-nil (waiting_at (get_or ls k d) (get_or ws k e))))
+waiting_more (l ∷ ls) (w ∷ ws) d e zero many lt = append-nil (waiting_at l w)
+waiting_more (l ∷ ls) (w ∷ ws) d e (suc k) many lt =
+    ap (λ rs. waiting_at l w ++ rs) (waiting_more ls ws d e k (omega arith) (omega arith)) ∙ sym (append_assoc (waiting_at l w) (all_waiting (take k ls) (take k ws)) _)
+waiting_more _ _ d e k many lt = absurd (omega arith)
 
 -- The loop: the first workers are settled.
 
@@ -171,35 +134,23 @@ pub record SettlesOne (b c : Kept) (m now : WorkLanes) (v after : Worker) : Type
 
 module _ (a b c : Kept) (ls ms : List WorkLanes) (ws vs : List Worker) (count files : ℕ) (d : WorkLanes) (e : Worker) (now : WorkLanes) (after : Worker)
     (s : SoFar a b ls ms ws vs count) (lt : count < length ls) (of : AreLanesOf files ls ws) (one : SettlesOne b c (get_or ms count d) now (get_or vs count e) after) where
-  at_count : IsSettledAt b c (length ls) count now (get_or vs count e).done after.seen
-  at_count = one.settled (length ls) count (s.carried count d lt)
-
-  worker_there : count < length vs
-  worker_there = omega (arith, s.many_workers, of.many, lt)
-
-  looks_here : (f : Worker) → Looks (get_or ws count f) after
-  looks_here f =
-      let v : get_or vs count e ≡ get_or ws count f = s.workers_stay count e (omega arith) ∙ get_or_default ws count e f (omega (arith, of.many, lt)) in
-      subst (λ w. Looks w after) v one.looks
-
-  took : TakesAll a c (all_waiting (take (count + 1) ls) (take (count + 1) ws))
-  took =
-      let waits : waiting_at (get_or ls count d) (get_or ws count e) ≡ one.trace.0 = grind (arith, waits_after) in
-      subst (TakesAll a c) (ap (λ rs. all_waiting (take count ls) (take count ws) ++ rs) (sym waits) ∙ sym (waiting_more ls ws d e count of.many lt))
-      (takes_then a b c (all_waiting (take count ls) (take count ws)) one.trace.0 s.recorded one.trace.2)
-
   pub one_more : SoFar a c ls (slice_set ms count now) ws (slice_set vs count after) (count + 1)
   one_more =
+      let at_count = one.settled (length ls) count (s.carried count d lt) in
+      let there : count < length vs = omega (arith, s.many_workers, of.many, lt) in
+      let was : (f : Worker) → get_or vs count e ≡ get_or ws count f = λ f. s.workers_stay count e (omega arith) ∙ get_or_default ws count e f (omega (arith, of.many, lt)) in
+      let waits : waiting_at (get_or ls count d) (get_or ws count e) ≡ one.trace.0 = grind (arith, drop_at) in
       record {
         many = length-set ms count now ∙ s.many;
         many_workers = length-set vs count after ∙ s.many_workers;
         lanes_stay = λ k f from. get_or-set_other ms count k now f (λ same. omega (arith, same, from)) ∙ s.lanes_stay k f (omega (arith, from));
         workers_stay = λ k f from. get_or-set_other vs count k after f (λ same. omega (arith, same, from)) ∙ s.workers_stay k f (omega (arith, from));
-        looked = λ k f. set_cases (λ j w. Looks (get_or ws j f) w) vs count after k f worker_there (looks_here f) (λ other. s.looked k f);
-        carried = λ k f within. set_cases (HasCarried c (length ls)) ms count now k f (omega (arith, s.many, lt)) at_count.carried (λ other. others_carried b c (length ls) count k (get_or ms k f) at_count.others other (s.carried k f within));
-        settled = λ k f below. set_cases (λ j w. IsWork c.setup (length ls) (history c) j (settled_work w)) vs count after k f worker_there (subst (λ ds. IsWork c.setup (length ls) (history c) count (record { done = ds; untaken = after.seen; waiting = [] })) (sym (ap (λ w. w.done) one.looks.same)) at_count.work) (λ other. same_work b.setup c.setup (length ls) (history b) (history c) k (settled_work (get_or vs k f)) (at_count.others.jobs k) (at_count.others.results k other) (s.settled k f (omega (arith, other, below))));
-        right = λ k f below. set_cases (λ _ w. IsRight w) vs count after k f worker_there one.right (λ other. s.right k f (omega (arith, other, below)));
-        recorded = took;
+        looked = λ k f. set_cases (λ j w. Looks (get_or ws j f) w) vs count after k f there (rw (was f) at one.looks) (λ other. s.looked k f);
+        carried = λ k f within. set_cases (HasCarried c (length ls)) ms count now k f (omega (arith, s.many, lt)) at_count.carried (λ other. grind (arith, (s.carried k f within), at_count.others));
+        settled = λ k f below. set_cases (λ j w. IsWork c.setup (length ls) (history c) j (settled_work w)) vs count after k f there
+            (rw (ap (λ w. w.done) one.looks.same) at_count.work) (λ other. grind (arith, (s.settled k f (omega (arith, other, below))), at_count.others));
+        right = λ k f below. set_cases (λ _ w. IsRight w) vs count after k f there one.right (λ other. s.right k f (omega (arith, other, below)));
+        recorded = rw (add-one, waiting_more ls ws d e count of.many lt, waits) (takes_then a b c (all_waiting (take count ls) (take count ws)) one.trace.0 s.recorded one.trace.2);
         few = omega (arith, s.few, one.few, next_short a b ls ms ws vs count files d e s lt of);
       }
 
@@ -213,14 +164,9 @@ pub all_settled : (a b : Kept) (ls ms : List WorkLanes) (ws vs : List Worker) (e
     → SoFar a b ls ms ws vs (length ls) → 0 < length ls → AreLanesOf a.setup.files ls ws
     → IsLawfulApart b.setup (history b) → IsSettled b.setup (length vs) (history b) (works_of vs e)
 all_settled a b ls ms ws vs e s some of lawful =
-    subst (λ n. IsSettled b.setup n (history b) (works_of vs e)) (sym (s.many_workers ∙ of.many))
-    (none_waits b.setup (length ls) (history b) (works_of vs e) some lawful
+    rw (s.many_workers, of.many) (none_waits b.setup (length ls) (history b) (works_of vs e) some lawful
     (λ k lt. s.settled k e lt)
-    (λ k lt.
-    let right = s.right k e lt in
-    let same : length (get_or vs k e).files ≡ length (get_or ws k e).files = ap (λ w. length w.files) (s.looked k e).same in
-    let many : length (get_or vs k e).files ≡ b.setup.files = same ∙ of.have k e lt ∙ ap (λ g. g.files) (sym s.recorded.setup) in
-    subst (λ n. AreDone (empty_files n) (get_or vs k e).done) many right.done)
+    (λ k lt. rw (ap (λ w. length w.files) (s.looked k e).same, of.have k e lt, ← s.recorded.setup) at (s.right k e lt).done)
     (λ k lt. refl))
 
 -- Each has seen all that was sent to it.
@@ -229,6 +175,4 @@ pub all_seen : (a b : Kept) (ls ms : List WorkLanes) (ws vs : List Worker)
     → SoFar a b ls ms ws vs (length ls) → HaveCarried a ls → HaveSeenAll ls vs
 all_seen a b ls ms ws vs s carried = λ k d e low.
     let taken : List JobResult = all_waiting (take (length ls) ls) (take (length ls) ws) in
-    (s.settled k e low).jobs
-    ∙ ap₂ (λ g h. jobs_to g (length ls) k h) s.recorded.setup (longer_history a b (map finish_of taken) s.recorded.trace)
-    ∙ jobs_keep a.setup (length ls) k taken (history a) ∙ sym (carried k d low).jobs
+    rw (s.recorded.setup, longer_history a b (map finish_of taken) s.recorded.trace, jobs_keep a.setup (length ls) k taken (history a), ← (carried k d low).jobs) at (s.settled k e low).jobs

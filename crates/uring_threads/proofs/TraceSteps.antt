@@ -1,6 +1,6 @@
 -- What a step makes of the trace's world, and how tallies add up.
-use Rattle.std.proofs.Common.{◌≡◌, ◌+◌, List, [], ◌∷◌, ◌++◌, length, count_by, refl, sym, ap, ap₂, ◌∙◌, arith, append_assoc, append-nil, add-zero, zero-add}
-use Rattle.uring_threads.proofs.Common.{Answer, Appends, Event, Grows, IsUnmoved, Kept, Setup, Step, Tally, both, happens, history, history_of, history_of_append, history_of_snoc, is_refused, length_push, none_counted, now, sum_by-append, tally_of, world}
+use Rattle.std.proofs.Common.{◌≡◌, ◌+◌, List, [], ◌∷◌, ◌++◌, length, count_by, refl, ap, ap₂, ◌∙◌, arith, append_assoc, append-nil, add-zero, zero-add}
+use Rattle.uring_threads.proofs.Common.{Answer, Appends, Event, Grows, IsUnmoved, Kept, Setup, Step, Tally, both, happens, history, history_of, history_of_snoc, is_refused, length_push, none_counted, now, reverse-append, sum_by-append, tally_of, world}
 
 -- the world after one event more
 pub grown : (a b : Kept) (s : Step) (x : Answer) → Grows a b (s, x)
@@ -17,8 +17,7 @@ grown_length a b e g = ap length g.trace ∙ length_push a.trace e
 -- the history where events were appended
 pub longer_history : (a b : Kept) (events : List Event) → b.trace ≡ a.trace ++ events
     → history b ≡ history_of events ++ history a
-longer_history a b events same =
-    ap history_of same ∙ sym (append-nil (history_of (a.trace ++ events))) ∙ history_of_append a.trace events [] ∙ ap (λ h. history_of events ++ h) (append-nil (history_of a.trace))
+longer_history a b events same = ap history_of same ∙ reverse-append a.trace events
 
 -- where nothing happened there is only more memory, and the world stays
 pub unmoved_is : (a b : Kept) → IsUnmoved a b → b ≡ record a { room = b.room }

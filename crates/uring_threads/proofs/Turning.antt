@@ -1,13 +1,13 @@
 -- The parts of a turn put together: what went through the dispatcher's hands stays tied to its trace, and what they appended adds up.
-use Rattle.std.proofs.Common.{add-zero, zero-add, ◌≡◌, ℕ, List, refl, sym, subst, ap, ◌∙◌, arith, false, true}
-use Rattle.uring_threads.proofs.Common.{Appends, AreOfTurn, AreSameLanes, AreTies, ClosesOnce, Counts, Cqe, HasServed, HaveCarried, IfOk, IfOk-from_err, IfOk-weaker, Intake, IsDelivered, IsErr, IsKernel, IsOk, IsUnmoved, KeepsAllBut, Kept, Kernel, OnErr, OnlyPosts, Put, Records, RecordsIntake, RecordsTurn, Repeats, Requests, Result, TakesFewResults, TakesIn, Tally, Tied, Turn, Turns, WorkLanes, World, delivery_row, false≢true, finishes_counted, issues_counted, length, next_in, now, reaps_counted}
+use Rattle.std.proofs.Common.{add-zero, zero-add, ◌≡◌, ℕ, List, refl, ◌∙◌, arith, false, true, ap, append_assoc, count_by, ◌<◌}
+use Rattle.uring_threads.proofs.Common.{Appends, AreSameLanes, AreTies, ClosesOnce, Counts, Cqe, HasServed, HaveCarried, HoldJobs, IfOk, IfOk-from_err, IfOk-weaker, Intake, IsDelivered, IsErr, IsKernel, IsOk, IsUnmoved, KeepsAllBut, Kept, Kernel, None, OnErr, OnlyPosts, Put, Records, RecordsIntake, RecordsTurn, Repeats, Result, TakesFewResults, TakesIn, Tally, Tied, Turn, Turns, WorkLanes, delivery_row, false≢true, finishes_counted, issues_counted, issues_request, length, next_in, now, reaps_counted, starts_request, takes_result}
 use Rattle.uring_core.specs.declared.step.Step.TheVariants as step
-use Rattle.uring_threads.proofs.Carrying.{quiet_stays, carried_stays, next_is_none}
+use Rattle.uring_threads.proofs.Carrying.{quiet_stays, done_stays, some_full}
 use Rattle.uring_threads.proofs.Tying.{once_stays}
-use Rattle.uring_threads.proofs.Collecting.{on_err, few_between}
-use Rattle.uring_threads.proofs.Recording.{records_none, turn_recorded}
-use Rattle.uring_threads.proofs.Repeating.{finishes_many, issues_many, repeats_idle, repeats_none}
-use Rattle.uring_threads.proofs.SameLanes.{hold_stays, lanes_none, lanes_then}
+use Rattle.uring_threads.proofs.Collecting.{on_err}
+use Rattle.uring_threads.proofs.Recording.{records_none}
+use Rattle.uring_threads.proofs.Repeating.{repeats_idle, repeats_none, kind_steps, appended}
+use Rattle.uring_threads.proofs.SameLanes.{lanes_none, lanes_then}
 use Rattle.uring_threads.proofs.TraceSteps.{appends_none, appends_then, still}
 
 -- What was taken in: a call, or the close mark.
@@ -23,14 +23,6 @@ pub has_taken : (old : Kernel) (b : Kept) (pulled : Put) (reaped : List Cqe) (i 
     → (now b).completions ≡ (now old.kept).completions → reaped ≡ old.reaped
     → HasTaken old b pulled reaped i n
 has_taken old b pulled reaped i n t p row tied once same none = grind (arith, (quiet_stays old.kept b _ p.appends refl refl))
-
--- what waits and what was pulled stay tied where the submission ring stays, and no request is accepted
-tied_stays : (a b : Kept) (pulled : Put) (i : Intake) → b.setup ≡ a.setup
-    → (now b).submission ≡ (now a).submission
-    → (now b).requests.accepted ≡ (now a).requests.accepted
-    → (now b).is_closed ≡ (now a).is_closed → Tied a.setup (now a) pulled i
-    → Tied b.setup (now b) pulled i
-tied_stays a b pulled i setup ring accepted closed t = grind arith
 
 -- results were taken in, or requests issued
 ties_posted : {a b : Kept} {pulled : Put} {reaped : List Cqe} {i : Intake} {lanes later : List WorkLanes} (t : Tally)
@@ -50,31 +42,6 @@ pub delivers_none : {a b : Kept} {reaped : List Cqe} → IsUnmoved a b → Keeps
     → IsDelivered (now b).completions reaped → HasDelivered a b 0 reaped
 delivers_none {a} {b} u keeps delivered = grind (arith, appends_none, records_none)
 
-ties_delivered : {a b : Kept} {pulled : Put} {before reaped : List Cqe} {i : Intake} {lanes : List WorkLanes} {n : ℕ}
-    → AreTies a pulled before i lanes → HasDelivered a b n reaped → AreTies b pulled reaped i lanes
-ties_delivered {a} {b} {pulled} {before} {reaped} {i} {lanes} s d =
-    record {
-      tied = tied_stays a b pulled i d.tally.setup d.keeps.submission (ap (λ (r : Requests). r.accepted) d.keeps.requests) d.keeps.is_closed s.tied;
-      once = once_stays a b _ i d.tally refl s.once;
-      delivered = d.delivered;
-      carried = carried_stays a b lanes (quiet_stays a b _ d.tally refl refl) s.carried;
-    }
-
--- the four parts of a turn add up
-counts_all : (a b c d e : Kept) (n f s k : ℕ) → TakesIn a b n → Appends b c (finishes_counted f)
-    → (f ≡ 0 → c.trace ≡ b.trace) → Appends c d (issues_counted s) → (s ≡ 0 → d.trace ≡ c.trace)
-    → Appends d e (reaps_counted k) → (k ≡ 0 → e.trace ≡ d.trace)
-    → Counts a e (record { popped = n; issued = s; finished = f; delivered = k })
-counts_all a b c d e n f s k p q q_idle r r_idle t t_idle =
-    let qr : Appends b d (record { items = 0; issues = s; finishes = f; reaps = 0; calls = 0; closes = 0 }) = appends_then b c d _ _ _ q r (simp (add-zero, zero-add)) in
-    let rest : Appends b e (record { items = 0; issues = s; finishes = f; reaps = k; calls = 0; closes = 0 }) = appends_then b d e _ _ _ qr t (simp (add-zero, zero-add)) in
-    record {
-      calls = p.calls;
-      closes = p.closes;
-      appends = appends_then a b e _ _ _ p.appends rest (simp (add-zero, zero-add));
-      idle = λ none. t_idle (omega (arith, none)) ∙ r_idle (omega (arith, none)) ∙ q_idle (omega (arith, none)) ∙ p.idle (omega (arith, none));
-    }
-
 -- What the parts of a turn have done, up to where it ends with an answer, which if it is Ok is this turn.
 pub record Goes {E : Type 0} (old : Kernel) (kept : Kept) (pulled : Put) (reaped : List Cqe) (i : Intake) (lanes : List WorkLanes) (turn : Turn) (answer : Result Turn E) : Type 0 where
   pub ties : AreTies kept pulled reaped i lanes
@@ -83,9 +50,6 @@ pub record Goes {E : Type 0} (old : Kernel) (kept : Kept) (pulled : Put) (reaped
   pub few : TakesFewResults (length old.lanes) old.kept kept
   pub same : AreSameLanes old.lanes lanes
 
-keeps_all : (w : World) → KeepsAllBut w w
-keeps_all w = record { submission = refl; requests = refl; drains = refl; is_closed = refl; posted = refl }
-
 module _ {E : Type 0} {answer : Result Turn E} {old : Kernel} {b c : Kept} {pulled : Put} {before : List Cqe} {i : Intake} {ms : List WorkLanes} {n f : ℕ}
     (t : HasTaken old b pulled before i n) (p : Repeats b c step.Finish (finishes_counted f)) (few : TakesFewResults (length old.lanes) b c) (carried : HaveCarried c ms) (same : AreSameLanes old.lanes ms) where
   module _ {d : Kept} {ns : List WorkLanes} {s : ℕ} (q : Repeats c d step.Issue (issues_counted s)) (later : HaveCarried d ns) (others : AreSameLanes ms ns) where
@@ -93,13 +57,31 @@ module _ {E : Type 0} {answer : Result Turn E} {old : Kernel} {b c : Kept} {pull
         → IfOk answer (λ made. made ≡ record { popped = n; issued = s; finished = f; delivered = k })
         → Goes old e pulled reaped i ns (record { popped = n; issued = s; finished = f; delivered = k }) answer
     goes {e} {reaped} {k} r told =
-        let finished = finishes_many p in
-        let issued = issues_many q in
+        let finished : length p.numbers ≡ f = kind_steps step.Finish takes_result p.tally.events p.numbers (λ n a e. refl) (appended p) p.tally.served ∙ ap (λ (t : Tally). t.finishes) p.tally.tally in
+        let issued : length q.numbers ≡ s = kind_steps step.Issue issues_request q.tally.events q.numbers (λ n a e. grind arith) (appended q) q.tally.served ∙ ap (λ (t : Tally). t.issues) q.tally.tally in
+        let posted = ties_posted (issues_counted s) (ties_posted (finishes_counted f) t.ties p.tally refl p.posts carried) q.tally refl q.posts later in
+        let last : Appends c e (record { items = 0; issues = s; finishes = 0; reaps = k; calls = 0; closes = 0 }) = appends_then c d e _ _ _ q.tally r.tally (simp (add-zero, zero-add)) in
+        let rest : Appends b e (record { items = 0; issues = s; finishes = f; reaps = k; calls = 0; closes = 0 }) = appends_then b c e _ _ _ p.tally last (simp (add-zero, zero-add)) in
         record {
-          ties = ties_delivered (ties_posted (issues_counted s) (ties_posted (finishes_counted f) t.ties p.tally refl p.posts carried) q.tally refl q.posts later) r;
-          counts = counts_all old.kept b c d e n f s k t.taken p.tally (λ none. repeats_idle p (finished ∙ none)) q.tally (λ none. repeats_idle q (issued ∙ none)) r.tally r.idle;
-          rows = turn_recorded old.kept b c d e old.intake old.pulled pulled k answer _ _ t.row p q r.row (IfOk-weaker answer _ _ (λ made is. subst (λ m. AreOfTurn m p.numbers q.numbers k) (sym is) (record { finishes = finished; issues = issued; reaps = refl })) told);
-          few = few_between (length old.lanes) old.kept b c e _ _ t.taken.appends refl few (appends_then c d e _ _ _ q.tally r.tally refl) refl;
+          ties = grind (arith, posted, (quiet_stays d e _ r.tally refl refl), (once_stays d e _ i r.tally refl posted.once));
+          counts = record {
+            calls = t.taken.calls;
+            closes = t.taken.closes;
+            appends = appends_then old.kept b e _ _ _ t.taken.appends rest (simp (add-zero, zero-add));
+            idle = λ none. r.idle (omega (arith, none)) ∙ repeats_idle q (issued ∙ omega (arith, none)) ∙ repeats_idle p (finished ∙ omega (arith, none)) ∙ t.taken.idle (omega (arith, none));
+          };
+          rows = record {
+            again = t.row.again;
+            pulled = t.row.pulled;
+            finished = p.numbers;
+            issued = q.numbers;
+            delivered = k;
+            is_again = t.row.is_again;
+            is_pulled = t.row.is_pulled;
+            row = rw (r.row, q.row, p.row, t.row.row) (simp append_assoc);
+            told = IfOk-weaker answer _ _ (λ made is. rw is (record { finishes = finished; issues = issued; reaps = refl })) told;
+          };
+          few = λ k. omega (arith, few k, ap length (done_stays old.kept b _ t.taken.appends refl (length old.lanes) k), ap length (done_stays c e _ last refl (length old.lanes) k));
           same = lanes_then old.lanes ms ns same others;
         }
 
@@ -108,7 +90,7 @@ module _ {E : Type 0} {answer : Result Turn E} {old : Kernel} {b c : Kept} {pull
         → Goes old d pulled before i ns (record { popped = n; issued = s; finished = f; delivered = 0 }) answer
     goes_issued =
         let ties = ties_posted (issues_counted s) (ties_posted (finishes_counted f) t.ties p.tally refl p.posts carried) q.tally refl q.posts later in
-        goes (delivers_none (still d) (keeps_all (now d)) ties.delivered)
+        goes (delivers_none (still d) (record { submission = refl; requests = refl; drains = refl; is_closed = refl; posted = refl }) ties.delivered)
 
   pub goes_collected : IfOk answer (λ made. made ≡ record { popped = n; issued = 0; finished = f; delivered = 0 })
       → Goes old c pulled before i ms (record { popped = n; issued = 0; finished = f; delivered = 0 }) answer
@@ -128,23 +110,11 @@ pub turned : {E : Type 0} (granted : Type 0) (old new : Kernel) (turn : Turn) (a
     → (granted → IsOk answer) → Turns granted old new answer
 turned granted old new turn answer is g pairing sizes served not_stored ok =
     let setup = g.counts.appends.setup in
-    let hold = hold_stays old.lanes new.lanes g.same is.hold in
-    record {
-      is = grind arith;
-      turned = record {
-        served = served;
-        next = next_is_none answer new.kept new.lanes (IfOk-weaker answer _ _ (λ made s. s.none_left) served) g.ties.carried hold;
-        err = on_err answer (_, g.counts.appends);
-        rows = g.rows;
-        few_results = g.few;
-        not_stored = not_stored;
-      };
-      setup = setup;
-      lanes = g.same;
-      pairing = pairing;
-      sizes = sizes;
-      ok = ok;
-    }
+    let hold : HoldJobs new.lanes = grind arith in
+    let kernel : IsKernel new = grind arith in
+    let next : IfOk answer (λ made. count_by starts_request new.kept.trace < 64 → next_in new.kept ≡ None) = grind (arith, some_full, g.ties.carried) in
+    let err : OnErr answer ((t : Tally) × Appends old.kept new.kept t) = on_err answer (_, g.counts.appends) in
+    assumption (kernel, next, err)
 
 -- if memory was refused
 pub refused : {E : Type 0} (granted : Type 0) (old new : Kernel) (turn : Turn) (answer : Result Turn E)

@@ -1,49 +1,33 @@
 -- What ties the dispatcher's lists to its trace: what was pulled stays tied to the submission ring, and the trace has one Close once the close mark was pulled, and none before.
-use Rattle.std.proofs.Common.{◌≡◌, ℕ, ◌+◌, ◌<◌, ◌≤◌, true, false, List, [], ◌∷◌, ◌++◌, length, map, flat_map, refl, sym, subst, ap, ap₂, ◌∙◌, arith, append_assoc, append-nil, count_by, cond}
-use Rattle.uring_threads.proofs.Common.{All, Answer, Appends, ClosesOnce, Event, Grows, HasBegun, HaveMade, Intake, IsGivenUpAsSpent, IsItem, IsUnmoved, Item, Kept, None, Place, Published, Pulls, Put, Setup, Stands, Submission, TakesIn, Tally, Tied, World, all_published_as, awaits_memory, calls_of, close_answer, closes_ring, closing, flat_map-append, get_or_append_left, if◌then◌else◌, is_shut, is_some, is_spent, item_of, items_of_calls, items_published, length-append, length-map, map-append, now, published_as, sum_by-append, tail_publishes, with_close, with_items, with_items_published}
+use Rattle.std.proofs.Common.{◌≡◌, ℕ, ◌+◌, ◌<◌, ◌≤◌, true, false, List, [], ◌∷◌, ◌++◌, length, refl, sym, subst, ap, ◌∙◌, arith, append_assoc, append-nil, count_by, cond, zero-add, take_at, drop_at}
+use Rattle.uring_threads.proofs.Common.{All, Answer, Appends, ClosesOnce, Event, Grows, HasBegun, HaveMade, Intake, IsItem, IsUnmoved, Item, Kept, None, Published, Pulls, Put, Setup, Stands, Submission, TakesIn, Tally, Tied, World, all_published_as, awaits_memory, close_answer, closes_ring, closing, flat_map-append, if◌then◌else◌, is_shut, is_some, items_of_calls, items_published, length-map, map-append, now, published_as, sum_by-append, tail_publishes, with_close, with_items_published}
 use Rattle.uring_ports.specs.Ports.{with_call}
 use Rattle.uring_ports.specs.declared.pulled.Pulled.{Pulled}
-use Rattle.uring_threads.proofs.CallsMade.{items_keep_calls, none_left, published_left, calls_add_up, kept_after}
+use Rattle.uring_threads.proofs.CallsMade.{none_left, published_left, calls_add_up, kept_after}
 use Rattle.uring_core.specs.declared.step.Step.TheVariants as step
 use Rattle.uring_core.specs.declared.answer.Answer.TheVariants as answer
 use Rattle.uring_threads.proofs.ItemSteps.{items_stand}
 use Rattle.uring_threads.proofs.TraceSteps.{grown, unmoved_now, appends_none, appends_then}
-use Rattle.std.proofs.lemmas.List.Elements.{All-tail}
+use Rattle.std.proofs.lemmas.List.Elements.{All-drop, All-take}
 use Rattle.uring_threads.specs.declared.intake.Intake.TheVariants as intake
 
 -- calls were begun that take what waited
-given_up : (w : World) (i : Intake) → ((count : ℕ) → i ≡ intake.Spent count → is_spent w count ≡ true)
-    → IsGivenUpAsSpent w i
-given_up w i spent = grind arith
-
 pub tied_begun : (a b : Kept) (put : Put) (count : ℕ) (x : Intake)
     → Tied a.setup (now a) put (intake.Waiting count) → HasBegun a b x
     → Tied a.setup (now b) put x
 tied_begun a b put count x t h =
-    let w : World = now a in
-    let m : List ℕ = h.made in
     record {
-      published = λ good. ap (λ ps. map (λ (p : Place). item_of p.word p.entry) ps) (ap (λ (v : World). v.submission.published) h.have.world ∙ kept_after a.setup (λ (v : World). v.submission.published) (λ v n. refl) w m) ∙ t.published good;
+      published = λ good. rw (h.have.world, kept_after a.setup (λ (v : World). v.submission.published) (λ v n. refl) (now a) h.made) (t.published good);
       calls = grind (arith, calls_add_up, append_assoc);
       stands = h.have.stands;
-      spent = given_up (now b) x h.spent;
-      closed = ap (λ (v : World). v.is_closed) h.have.world ∙ kept_after a.setup (λ (v : World). v.is_closed) (λ v n. refl) w m ∙ t.closed;
+      spent = grind arith;
+      closed = rw (h.have.world, kept_after a.setup (λ (v : World). v.is_closed) (λ v n. refl) (now a) h.made) t.closed;
       shut = h.not_shut ∙ t.shut;
     }
 
--- the items of calls with one more
-items_of_calls_snoc : (calls : List (List Item)) (items : List Item)
-    → items_of_calls (calls ++ items ∷ []) ≡ items_of_calls calls ++ items
-items_of_calls_snoc [] items = append-nil items
-items_of_calls_snoc (call ∷ later) items = ap (λ xs. call ++ xs) (items_of_calls_snoc later items) ∙ sym (append_assoc call (items_of_calls later) items)
-
--- what holds of all of two lists holds of all of each
+-- what holds of all of two lists holds of all of the first
 pub all_first : {X : Type 0} (P : X → Type 0) (xs ys : List X) → All P (xs ++ ys) → All P xs
-all_first P xs ys all = λ k d low. subst P (get_or_append_left xs ys d k low) (all k d (omega (arith, low, length-append xs ys)))
-
-all_last : {X : Type 0} (P : X → Type 0) (xs ys : List X) → All P (xs ++ ys) → All P ys
-all_last P [] ys all = all
-all_last P (x ∷ xs) ys all = all_last P xs ys (All-tail P x (xs ++ ys) all)
+all_first P xs ys all = rw (take_at xs ys (length xs) refl) at (All-take P (length xs) (xs ++ ys) all)
 
 -- a call was pulled and published, and waits to be begun
 pub tied_published : (g : Setup) (w : World) (put : Put) (items : List Item)
@@ -52,18 +36,17 @@ pub tied_published : (g : Setup) (w : World) (put : Put) (items : List Item)
 tied_published g w put items t not_closed few =
     let l : Submission = w.submission in
     let shown : List Published = all_published_as items in
-    let put_stands = items_stand l 0 shown (record { fresh = refl; call = t.stands.call; head = t.stands.head; waiting = t.stands.waiting }) in
-    let many : length (with_items l 0 shown).fresh ≡ length items = omega (arith, put_stands.1, ap length t.stands.fresh, length-map items published_as) in
-    let whole : all_published_as (items_of_calls (put.calls ++ items ∷ [])) ≡ all_published_as (items_of_calls put.calls) ++ shown = ap all_published_as (items_of_calls_snoc put.calls items) ∙ map-append published_as (items_of_calls put.calls) items in
-    let before_is : l.calls ≡ flat_map (calls_of g) put.calls = sym (append-nil l.calls) ∙ ap (λ ns. l.calls ++ ns) (sym (none_left g l t.stands)) ∙ t.calls in
+    let stand = items_stand l [] 0 items t.stands in
+    let whole : all_published_as (items_of_calls (put.calls ++ items ∷ [])) ≡ all_published_as (items_of_calls put.calls) ++ shown = simp (flat_map-append, map-append, append-nil) in
+    let before_is = rw (none_left g l t.stands, append-nil) at t.calls in
     record {
       published = λ good.
           let before : List Published = all_published_as (items_of_calls put.calls) in
-          let all : All (IsItem g.sq) (before ++ shown) = subst (All (IsItem g.sq)) whole good in
-          items_published l g.sq shown t.stands.fresh (omega (arith, few, length-map items published_as)) (all_last (IsItem g.sq) before shown all)
-          ∙ ap (λ xs. xs ++ shown) (t.published (all_first (IsItem g.sq) before shown all)) ∙ sym whole;
-      calls = ap₂ (λ xs ys. xs ++ ys) (items_keep_calls l 0 shown ∙ before_is) (published_left g l items t.stands.fresh t.stands few ∙ sym (append-nil (calls_of g items))) ∙ sym (flat_map-append (calls_of g) put.calls (items ∷ []));
-      stands = subst (Stands _ []) many (tail_publishes g _ _ put_stands.0);
+          let all = rw whole at good in
+          rw (whole, items_published l g.sq shown t.stands.fresh (omega (arith, few, length-map items published_as))
+          (rw (drop_at before shown (length before) refl) at (All-drop (IsItem g.sq) (length before) (before ++ shown) all)), t.published (all_first (IsItem g.sq) before shown all));
+      calls = rw (published_left g l items t.stands.fresh t.stands few, stand.2, before_is, flat_map-append, append-nil);
+      stands = rw (stand.1, zero-add) at (tail_publishes g _ _ stand.0);
       spent = tt;
       closed = t.closed;
       shut = sym not_closed;
@@ -112,8 +95,7 @@ pub tied_again : (a r b : Kept) (put : Put) (count : ℕ) (i x : Intake) → IsU
     → i ≡ intake.Waiting count → HasBegun r b x
     → Tied a.setup (now a) put i → Tied a.setup (now b) put x
 tied_again a r b put count i x u waits h t =
-    subst (λ (g : Setup). Tied g (now b) put x) u.setup
-    (tied_begun r b put count x (subst (λ (g : Setup). Tied g (now r) put (intake.Waiting count)) (sym u.setup) (tied_still a r put (intake.Waiting count) u (subst (Tied a.setup (now a) put) waits t))) h)
+    rw u.setup at (tied_begun r b put count x (subst (λ (g : Setup). Tied g (now r) put (intake.Waiting count)) (sym u.setup) (tied_still a r put (intake.Waiting count) u (rw waits at t))) h)
 
 pub begun_completions : (a b : Kept) (x : Intake) → HasBegun a b x
     → (now b).completions ≡ (now a).completions
@@ -136,10 +118,8 @@ pub tied_taken : (a p b : Kept) (before after : Put) (items : List Item) (i x : 
     × (after ≡ with_call before items)
     → Tied a.setup (now b) after x
 tied_taken a p b before after items i x ready same at h t pulled =
-    let published : Tied p.setup (now p) (with_call before items) (intake.Waiting (length items)) = subst (λ (g : Setup). Tied g (now p) (with_call before items) (intake.Waiting (length items))) (sym same) (subst (λ w. Tied a.setup w (with_call before items) (intake.Waiting (length items))) (sym at)
-    (tied_published a.setup (now a) before items (subst (Tied a.setup (now a) before) ready t) pulled.2 pulled.1)) in
-    subst (λ (g : Setup). Tied g (now b) after x) same
-    (subst (λ q. Tied p.setup (now b) q x) (sym pulled.3) (tied_begun p b (with_call before items) (length items) x published h))
+    let published = tied_published a.setup (now a) before items (rw ready at t) pulled.2 pulled.1 in
+    rw pulled.3 (rw same at (tied_begun p b (with_call before items) (length items) x (rw (at, same) published) h))
 
 -- the close mark, of a ring that is in no call
 pub closed_world : (a b : Kept) (x : Answer) → Grows a b (step.Close, x) → x ≡ close_answer (now a)
@@ -150,9 +130,8 @@ pub tied_shut : (a b : Kept) (x : Answer) (before after : Put) (i : Intake) → 
     → Grows a b (step.Close, x) → x ≡ close_answer (now a) → Tied a.setup (now a) before i
     → after ≡ with_close before → Tied a.setup (now b) after intake.Closed
 tied_shut a b x before after i ready g called tied pulled =
-    let t : Tied a.setup (now a) before intake.Ready = subst (Tied a.setup (now a) before) ready tied in
-    subst (λ w. Tied a.setup w after intake.Closed) (sym (closed_world a b x g called t.stands.call))
-    (subst (λ p. Tied a.setup (record (now a) { is_closed = true }) p intake.Closed) (sym pulled) (record { published = t.published; calls = t.calls; stands = t.stands; spent = tt; closed = refl; shut = refl }))
+    let t = rw ready at tied in
+    rw (closed_world a b x g called t.stands.call, pulled) (record { published = t.published; calls = t.calls; stands = t.stands; spent = tt; closed = refl; shut = refl })
 
 -- closes of two lists of events
 pub closes_append : (es fs : List Event)
