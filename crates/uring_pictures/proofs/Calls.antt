@@ -57,8 +57,7 @@ closed_by : (g : Setup) (w : World) (call : Option Call) (accepted missed head :
     → answer.Taken accepted missed head ≡ end_answer_in g w call
     → (entries : List Sqe) × ((ending g w (answer.Taken accepted missed head)).requests ≡ with_call w.requests entries)
 closed_by g w None accepted missed head opened is = absurd cc
-closed_by g w (Some call) accepted missed head opened is =
-    (entries_from w.submission call.count, ap (λ (c : Option Call). (ending_of g w c).requests) opened)
+closed_by g w (Some call) accepted missed head opened is = (entries_from w.submission call.count, rw opened)
 
 closed : (g : Setup) (h : History) (accepted missed head : ℕ)
     → IsLawfulApart g ((step.End, answer.Taken accepted missed head) ∷ h)
@@ -72,11 +71,7 @@ unended_by r n ended sound beyond is = grind arith
 
 -- the entries that are kept, seen from the requests after the call
 has_all : (r : Requests) (more : List Sqe) → IsSoundRequests r → HasAll r.accepted (with_call r more)
-has_all r more sound = record {
-  front = sym (take-append-le (length r.accepted) r.accepted more (omega arith) ∙ take_all (length r.accepted) r.accepted (omega arith));
-  fewer = let all = length-append r.accepted more in omega (arith, all);
-  unended = λ n beyond. unended_by r n (has_ended r n) sound beyond refl;
-}
+has_all r more sound = grind (arith, take-append-le, take_all, length-append, unended_by)
 
 -- a step by which a call closes, whose entries are added
 keeps_call : (old new : Accepted) (accepted missed head : ℕ) (h : History)
@@ -89,28 +84,16 @@ keeps_call old new accepted missed head h same fits adds marks k =
     let g = new.machine.core.setup in
     let now : Fits new.machine (e ∷ h) = fits h k.fits in
     let more = closed g h accepted missed head now.core.lawful in
-    let before : old.entries.items ≡ (world g h).requests.accepted = subst (λ (s : Setup). old.entries.items ≡ (world s h).requests.accepted) (sym same) k.entries in
-    let ends : old.cuts.items ≡ (world g h).requests.cuts = subst (λ (s : Setup). old.cuts.items ≡ (world s h).requests.cuts) (sym same) k.cuts in
-    let all : HasAll old.entries.items (world g (e ∷ h)).requests = subst (λ (q : Requests). HasAll old.entries.items q) (sym more.1) (subst (λ (xs : List Sqe). HasAll xs (with_call (world g h).requests more.0)) (sym before) (has_all (world g h).requests more.0 (sound_of g h now.core.lawful.1).requests)) in
-    let cuts_now : (world g (e ∷ h)).requests.cuts ≡ (world g h).requests.cuts ++ length (world g (e ∷ h)).requests.accepted ∷ [] = subst (λ (q : Requests). q.cuts ≡ (world g h).requests.cuts ++ length q.accepted ∷ []) (sym more.1) refl in
-    record {
-      fits = now;
-      entries = adds (e ∷ h) now all;
-      cuts = marks (e ∷ h) now ∙ ap (λ (ks : List ℕ). ks ++ length (world g (e ∷ h)).requests.accepted ∷ []) ends ∙ sym cuts_now;
-    }
+    let all : HasAll old.entries.items (world g (e ∷ h)).requests = rw (k.entries, ← same, more.1) (has_all (world g h).requests more.0 (sound_of g h now.core.lawful.1).requests) in
+    record { fits = now; entries = adds (e ∷ h) now all; cuts = marks (e ∷ h) now ∙ rw (k.cuts, ← same, more.1) }
 
 pub call_made : (old new : Accepted) (s : Step) (a : Answer) (accepted missed head : ℕ) → s ≡ step.End
     → a ≡ answer.Taken accepted missed head → new.machine.core.setup ≡ old.machine.core.setup
     → ((k : History) → Fits old.machine k → Fits new.machine ((s, a) ∷ k))
     → AddsAll old new → AddsCut old new → MakesStep old new s
 call_made old new s a accepted missed head ends is same fits adds marks =
-    let both : (s, a) ≡ (step.End, answer.Taken accepted missed head) = ap (λ (t : Step). (t, a)) ends ∙ ap (λ (b : Answer). (step.End, b)) is in
-    let fits_now = subst (λ (e : Event). (k : History) → Fits old.machine k → Fits new.machine (e ∷ k)) both fits in
-    record {
-      answer = a;
-      same = same;
-      keeps = λ h k. subst (λ (e : Event). Keeps new (e ∷ h)) (sym both) (keeps_call old new accepted missed head h same fits_now adds marks k);
-    }
+    let fits_now = rw (ends, is) at fits in
+    record { answer = a; same = same; keeps = λ h k. rw (ends, is) (keeps_call old new accepted missed head h same fits_now adds marks k) }
 
 -- a step by which none closes
 pub step_made : (old new : Accepted) (s : Step) (a : Answer) → new.machine.core.setup ≡ old.machine.core.setup
@@ -127,11 +110,7 @@ step_made old new s a same fits kept marked none = record {
 
 -- One entry more.
 
-outstanding_entry : (r : Requests) (n : ℕ) → n < length r.accepted → has_ended r n ≡ false
-    → entry_outstanding r n ≡ Some (entry_of r n)
-outstanding_entry r n within opened = grind arith
-
 pub entry_added : (r : Requests) (n : ℕ) (so after : List Sqe) (found : Option Sqe)
     → so ≡ take n r.accepted → after ≡ so ++ option_to_list found → found ≡ entry_outstanding r n
     → n < length r.accepted → has_ended r n ≡ false → after ≡ take (n + 1) r.accepted
-entry_added r n so after found front is has within opened = grind (arith, outstanding_entry, take_more)
+entry_added r n so after found front is has within opened = grind (arith, take_more)

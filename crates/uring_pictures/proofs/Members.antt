@@ -16,7 +16,7 @@ not_back : (r : Requests) (m n : ℕ) → is_joined r m n ≡ false → is_joine
 not_back r m n apart = grind (arith, back)
 
 alone : (r : Requests) (n : ℕ) → is_joined r n n ≡ true
-alone r n = is_joined_yes r n n (λ k le lt. absurd (omega (arith, le, lt)))
+alone r n = grind (arith, is_joined_yes)
 
 first_on : (r : Requests) (n : ℕ) (last : Bool) → is_last r n ≡ last → IsFirst r n (first_of r n)
     → IsFirst r (suc n) (if last then suc n else first_of r n)

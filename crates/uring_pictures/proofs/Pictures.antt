@@ -32,8 +32,8 @@ draws at setup bad m drawn a a' w w' x x' both same writes =
       exchanges = f.exchanges;
       first = f.taken;
       each = f.each;
-      lawful = subst (λ (g : Setup). IsLawful g h) f.same f.keeps.fits.lawful;
-      drawn = subst (λ (g : Setup). Appends w w' (graph_of g.linux (requests_of (world g h)))) f.same (subst (λ (d : Accepted). Appends w w' (graph_of (is_linux_at d) (linux_at d h))) same (writes h (subst (λ (d : Accepted). Keeps d h) (sym same) f.keeps)));
+      lawful = rw f.same at f.keeps.fits.lawful;
+      drawn = subst (λ (g : Setup). Appends w w' (graph_of g.linux (requests_of (world g h)))) f.same (subst (λ (d : Accepted). Appends w w' (graph_of (is_linux_at d) (linux_at d h))) same (writes h (rw same f.keeps)));
     }
 
 -- a text that was written
@@ -41,8 +41,7 @@ pub written_graph : (drawn : Accepted) (text none : List ℕ) (w w' : Known) →
     → ((h : History) → Keeps drawn h → text ≡ none ++ graph_of (is_linux_at drawn) (linux_at drawn h))
     → (written : List ℕ) × Appends w w' written × WritesText (Ok tt) text written
     → (h : History) → Keeps drawn h → Appends w w' (graph_of (is_linux_at drawn) (linux_at drawn h))
-written_graph drawn text none w w' start tells x = λ h keeps.
-    subst (λ (l : List ℕ). Appends w w' l) (x.2 ∙ tells h keeps ∙ ap (λ (l : List ℕ). l ++ graph_of (is_linux_at drawn) (linux_at drawn h)) start) x.1
+written_graph drawn text none w w' start tells x = λ h keeps. rw (x.2, tells h keeps, start) at x.1
 
 -- what was read, without a picture
 pub reads : (P : List ℕ → Type 0) (setup : Setup) (bad : Bool) (s : Explainer) (a a' x x' : Known)

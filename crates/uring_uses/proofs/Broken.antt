@@ -72,5 +72,4 @@ pub cancelled_after : (g : Setup) (h : History) (n below : ℕ) (bytes : List �
     → b ≡ issue_answer g (world g ((step.Finish n, a) ∷ h)) (n + 1)
     → b ≡ answer.Ended (doomed_result g.linux (world g h).requests (n + 1)) no_bytes
 cancelled_after g h n below bytes a b lawful next failed is =
-    let told : b ≡ issue_answer g (world g ((step.Finish n, answer.Ended (negsuc below) bytes) ∷ h)) (n + 1) = subst (λ d. b ≡ issue_answer g (world g ((step.Finish n, d) ∷ h)) (n + 1)) failed is in
-    told ∙ next_cancelled g (world g h) (world g ((step.Finish n, answer.Ended (negsuc below) bytes) ∷ h)) n below bytes next (runs_first g h n lawful next.runs) refl
+    rw failed at is ∙ next_cancelled g (world g h) (world g ((step.Finish n, answer.Ended (negsuc below) bytes) ∷ h)) n below bytes next (runs_first g h n lawful next.runs) refl

@@ -77,8 +77,7 @@ pub commit_keeps : (old new : Volume) (end : ℕ) (bytes : List ℕ) (n : ℕ) �
     → EndsBy end old.history → IsCommitted old new end bytes n
     → IsKept new.history (record { number = n; off = end; bytes = bytes })
 commit_keeps old new end bytes n sound after made =
-    subst (λ h. IsKept h (record { number = n; off = end; bytes = bytes })) (sym made.history)
-    (record_is_kept old.history (record { number = n; off = end; bytes = bytes }) made.s (next_is_open old n sound made.number) after)
+    rw made.history (record_is_kept old.history (record { number = n; off = end; bytes = bytes }) made.s (next_is_open old n sound made.number) after)
 
 pub commit_leaves : (old new : Volume) (end : ℕ) (bytes : List ℕ) (n : ℕ)
     → EndsBy end old.history → IsCommitted old new end bytes n

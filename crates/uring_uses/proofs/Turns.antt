@@ -195,10 +195,9 @@ run_more old new h ended same before last =
     record {
       events = last.events ++ before.events;
       issues_and_finishes = list_all-append is_issue_or_finish last.events before.events ∙ and_from _ _ last.issues_and_finishes before.issues_and_finishes;
-      fits = subst (λ k. FitsApart new k) (sym (append_assoc last.events before.events h)) last.fits;
-      quiet = subst (λ k. NoneRuns (world new.setup k)) (sym (append_assoc last.events before.events h)) last.quiet;
-      fewer = subst (λ k. outstanding_in (world new.setup k).requests + (ended + 1) ≡ outstanding_in (world new.setup h).requests) (sym (append_assoc last.events before.events h))
-          (omega (arith, last.fewer, before.fewer, ap (λ g. outstanding_in (world g (before.events ++ h)).requests) same, ap (λ g. outstanding_in (world g h).requests) same));
+      fits = rw append_assoc last.fits;
+      quiet = rw append_assoc last.quiet;
+      fewer = rw append_assoc (omega (arith, last.fewer, before.fewer, ap (λ g. outstanding_in (world g (before.events ++ h)).requests) same, ap (λ g. outstanding_in (world g h).requests) same));
     }
 
 pub run_all : (p : Core) (h : History) (ended : ℕ)

@@ -11,8 +11,4 @@ copied_some xs i x e = take_more xs i x (slice_get_within xs i x (sym e)) ∙ ap
 -- no element more
 pub copied_none : {X : Type 0} (xs : List X) (i : ℕ) → None ≡ slice_get xs i
     → take (i + 1) xs ≡ take i xs
-copied_none xs i e =
-    elim ((slice_get_cases xs i).1) [
-      | inl found ↦ absurd (let is = found.2 in cc)
-      | inr past ↦ take_all (i + 1) xs (omega (arith, past.0)) ∙ sym (take_all i xs past.0)
-    ]
+copied_none xs i e = grind (arith, slice_get_cases, take_all)

@@ -1,5 +1,5 @@
 -- A request that runs waits for nobody.
-use Rattle.std.proofs.Common.{◌≡◌, ℕ, ◌<◌, ℤ, Bool, true, false, not, ◌&&◌, if◌then◌else◌, refl, subst}
+use Rattle.std.proofs.Common.{◌≡◌, ℕ, ◌<◌, ℤ, Bool, true, false, not, ◌&&◌, if◌then◌else◌, refl, subst, arith}
 use Rattle.uring_uses.proofs.Common.{LinuxRequests, Requests, Setup, World, and_parts, by_manual, cancel_result, doomed_result, ends_doomed, entry_of, has_ended, is_cancel, is_doomed, is_joined, is_outstanding, is_ready, is_ready_inside, is_running, issue_answer, may_start, no_bytes, requests_of, waits_for}
 use Rattle.uring_rules.specs.Rules as by_rule
 use Rattle.uring_core.proofs.ByRules.{is_by_manual}
@@ -11,28 +11,17 @@ run_ready : (outstanding running doomed ready cancel : Bool) (as_doomed as_cance
     → answer.Run
     ≡ (if not outstanding then answer.Unknown else (if running then answer.Running else (if doomed then answer.Ended as_doomed no_bytes else (if not ready then answer.NotReady else (if cancel then answer.Ended as_cancel no_bytes else answer.Run)))))
     → ready ≡ true
-run_ready false running doomed ready cancel x y is = cc
-run_ready true true doomed ready cancel x y is = cc
-run_ready true false true ready cancel x y is = cc
-run_ready true false false false cancel x y is = cc
-run_ready true false false true cancel x y is = refl
+run_ready outstanding running doomed ready cancel x y is = grind arith
 
 ended_or : (ended waits : Bool) → (not ended && waits) ≡ false → waits ≡ true → ended ≡ true
-ended_or true waits back waiting = refl
-ended_or false waits back waiting = cc
+ended_or ended waits back waiting = grind arith
 
 -- by either's rules each earlier member of the group of a request that runs has ended
 run_first : (linux : Bool) (g : Setup) (w : World) (n m : ℕ)
     → answer.Run ≡ issue_answer (record g { linux = linux }) w n → m < n
     → is_joined w.requests m n ≡ true
     → has_ended w.requests m ≡ true
-run_first linux g w n m is lt joined =
-    let r : Requests = w.requests in
-    let l : LinuxRequests = requests_of w in
-    by_rules linux (run_ready (is_outstanding r n) (is_running r n) (ends_doomed linux r n) (may_start linux l n) (is_cancel (entry_of r n)) (by_rule.doomed_result linux r n) (by_rule.cancel_result linux r n) is) where
-      by_rules : (linux : Bool) → may_start linux (requests_of w) n ≡ true → has_ended w.requests m ≡ true
-      by_rules true ready = turn_first w.requests n (and_parts _ _ ready).0 m lt joined
-      by_rules false ready = ready_first w.requests n ready m lt joined
+run_first linux g w n m is lt joined = grind (arith, run_ready, and_parts, turn_first, ready_first)
 
 pub run_after_ended : (g : Setup) (w : World) (n m : ℕ) → answer.Run ≡ issue_answer g w n → m < n
     → is_joined w.requests m n ≡ true
