@@ -30,12 +30,8 @@ module _ {w v : Window} {g h : Groups} {entry : Sqe} {request : Request} (s : Is
   -- the group that was joined, or the new one
   joined_kept : (o : Option Group) → last_group g.records g.last ≡ o
       → IsKept v (with_member o (end_of w) (is_drain entry) (is_faulty entry))
-  joined_kept None e = record { from = omega arith; to = omega arith; end = omega (arith, a.end); over = λ m high low. absurd (omega arith); here = ap is_some a.changes.here }
-  joined_kept (Some q) e =
-      let old = s.kept request.group q (a.joins ∙ e) in
-      let top = joined_end e in
-      let k = kept_on old (omega (arith, a.end)) (λ m from to. ap is_some (a.changes.others m (λ same. absurd (omega (arith, old.to, same))))) in
-      record { from = k.from; to = omega (arith, k.to); end = omega (arith, a.end); over = k.over; here = k.here }
+  joined_kept None e = grind arith
+  joined_kept (Some q) e = grind (arith, kept_on, joined_end, (s.kept request.group q))
 
   pub accept_sound : IsSound v h
   accept_sound =

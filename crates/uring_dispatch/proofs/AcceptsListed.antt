@@ -18,9 +18,7 @@ low_member s o n d f own old = grind arith
 -- what is covered begins before each group's least member
 pub starts_least : (w : Window) (g : Groups) (s : Waiting) (key : ℕ) (q : Group) → IsSound w g
     → IsListed w g s → group_at g key ≡ Some q → Starts s q.least
-starts_least w g s key q sound l is =
-    let kept = sound.kept key q is in
-    record { heads = l.heads.low q.least kept.here; doomed = l.doomed.low q.least kept.here }
+starts_least w g s key q sound l is = grind (arith, (sound.kept key q is))
 
 reaches_accepted : (w v : Window) (s t : NumberSet) (n : ℕ) → Reaches w s
     → GrowsTo s t n → n ≡ end_of w → end_of v ≡ end_of w + 1

@@ -41,11 +41,7 @@ shown_same same old = grind arith
 pub shown_written : {w v : Window} {r s : Requests} {n : ℕ} {now : Request} → Changes w v n (Some now)
     → ((k : ℕ) (q : Request) → at w k ≡ Some q → IsShown r k q) → IsShown s n now
     → ((k : ℕ) → k ≢ n → IsSameAt r s k) → (k : ℕ) (q : Request) → at v k ≡ Some q → IsShown s k q
-shown_written c old here elsewhere k q e =
-    elim (before_write c e) [
-      | inl at_n ↦ rw (at_n.0, ← at_n.1) here
-      | inr was ↦ shown_same (elsewhere k was.0) (old k q was.1)
-    ]
+shown_written c old here elsewhere k q e = grind (arith, shown_same, (old k q), (before_write c e), (elsewhere k))
 
 -- Request n is written, and stays in its group.
 

@@ -28,16 +28,7 @@ one_chosen r n m is one chose = grind arith
 -- a cancel succeeds with a number
 pub cancel_succeeds : (r : Requests) (n : ℕ) → is_cancel (entry_of r n) ≡ true
     → is_success (entry_of r n) (cancel_result r n) ≡ int_le (pos 0) (cancel_result r n)
-cancel_succeeds r n is = by_all (is_cancel_all (entry_of r n)) refl
-  where
-    e : Sqe
-    e = entry_of r n
-
-    for_one : is_cancel_all e ≡ false → (m : Option ℕ) → is_success e (result_for r m) ≡ int_le (pos 0) (result_for r m)
-    for_one one m = grind arith
-
-    by_all : (b : Bool) → is_cancel_all e ≡ b → is_success e (cancel_result r n) ≡ int_le (pos 0) (cancel_result r n)
-    by_all b all = grind arith
+cancel_succeeds r n is = grind (arith, is_success)
 
 -- A cancel chooses one.
 

@@ -49,11 +49,7 @@ module _ {w v : Window} {g h : Groups} {n : ℕ} {request : Request} {q : Group}
 
   -- no member before the least is outstanding now
   over : (m : ℕ) → q.from ≤ m → m < least → at v m ≡ None
-  over m from low =
-      elim (cases_lt m q.least) [
-        | inl before ↦ gone_stays e.changes m (vacant w m ((s.kept request.group q e.group).over m from before))
-        | inr after ↦ e.next.over m after low
-      ]
+  over m from low = grind (arith, (cases_lt m q.least), (s.kept request.group q e.group))
 
   -- where another member is
   pub left_member : {k : ℕ} {x : Request} → at v k ≡ Some x → x.group ≡ request.group
@@ -107,20 +103,10 @@ module _ {w v : Window} {g h : Groups} {n : ℕ} {request : Request} {q : Group}
 module _ {w : Window} {g : Groups} {r : Requests} (n : ℕ) {request : Request} (res : ℤ) (bytes : List ℕ) (s : IsSound w g)
     (h : AreHeld w g r) (e : at w n ≡ Some request) where
   outstanding_less : outstanding_in (with_ended r n res bytes) + 1 ≡ outstanding_in r
-  outstanding_less =
-      let was : one_if (is_outstanding r n) ≡ 1 = ap one_if (outstanding_some s h _ e) in
-      let now : one_if (is_outstanding (with_ended r n res bytes) n) ≡ 0 = ap one_if (and_right _ _ (ap not (has_ended_same r n res bytes))) in
-      let change = count_below_changed (is_outstanding r) (is_outstanding (with_ended r n res bytes)) (length r.accepted) n (shown_within s h e)
-      (λ k ne. ap (λ b. ltb k (length r.accepted) && not b) (has_ended_other r n res bytes k ne))
-      in
-      omega (arith, change)
+  outstanding_less = grind (arith, outstanding_some, has_ended_same, has_ended_other, (shown_within s h e), (count_below_changed (is_outstanding r) (is_outstanding (with_ended r n res bytes)) (length r.accepted) n))
 
   running_less : running_in (with_ended r n res bytes) + one_if request.is_running ≡ running_in r
-  running_less =
-      let was : one_if (is_running r n) ≡ one_if request.is_running = ap one_if (running_some h _ e) in
-      let now : one_if (is_running (with_ended r n res bytes) n) ≡ 0 = ap one_if (is_running_ended_same r n res bytes) in
-      let change = count_below_changed (is_running r) (is_running (with_ended r n res bytes)) (length r.accepted) n (shown_within s h e) (λ k ne. is_running_ended_other r n res bytes k ne) in
-      omega (arith, change)
+  running_less = grind (arith, running_some, is_running_ended_same, is_running_ended_other, (shown_within s h e), (count_below_changed (is_running r) (is_running (with_ended r n res bytes)) (length r.accepted) n))
 
 module _ {w v : Window} {g h : Groups} {r : Requests} {n : ℕ} {request : Request} {q : Group} {least : ℕ} {broken : Option ℕ} (res : ℤ)
     (bytes : List ℕ) (s : IsSound w g) (e : Ends w v g h n request q least broken) (a : AreHeld w g r) where
@@ -140,15 +126,7 @@ module _ {w v : Window} {g h : Groups} {r : Requests} {n : ℕ} {request : Reque
 
   shown_elsewhere : {key : ℕ} {p : Group} → group_at g key ≡ Some p → key ≢ request.group
       → IsShownGroup (with_ended r n res bytes) p
-  shown_elsewhere {key} {p} is ne =
-      let shown = a.groups key p is in
-      record {
-        group = group_ended r n res bytes p.from p.end shown.group;
-        fault = shown.fault;
-        drain = shown.drain;
-        broken =
-            shown.broken ∙ sym (first_broken_elsewhere r n res bytes p.from p.end (λ m high low same. apart s e is ne (omega arith) (omega arith)));
-      }
+  shown_elsewhere {key} {p} is ne = grind (arith, group_ended, first_broken_elsewhere, apart, (a.groups key p is))
 
   pub end_held : HasLost w v (one_if request.is_running) → g.last ≡ None
       → (least < q.end → broken ≡ earlier_of q.broken (is_soft (entry_of r n) && not (is_success (entry_of r n) res)) n)

@@ -24,23 +24,13 @@ kept_on {q = q} k more same = grind arith
 module _ {w : Window} {g : Groups} {n : ℕ} {request : Request} (s : IsSound w g) (e : at w n ≡ Some request) where
   -- it is kept
   pub linked : HasGroup g request.group n
-  linked = go (group_at g request.group) refl (s.linked n request e)
-    where
-      go : (o : Option Group) → group_at g request.group ≡ o → has_member o n ≡ true → HasGroup g request.group n
-      go None f none = absurd (false≢true none)
-      go (Some p) f within =
-          let parts = and_parts (leb p.from n) (ltb n p.end) within in
-          record { group = p; found = f; from = leb-true p.from n parts.0; to = ltb-true n p.end parts.1 }
+  linked = grind (arith, (s.linked n request e))
 
   pub within_group : {q : Group} → group_at g request.group ≡ Some q → (q.from ≤ n) × (n < q.end)
   within_group {q} is = grind (arith, linked)
 
   pub least_before : {q : Group} → group_at g request.group ≡ Some q → q.least ≤ n
-  least_before {q} is =
-      elim (cases_lt n q.least) [
-        | inl low ↦ some_none (vacant w n ((s.kept request.group q is).over n (within_group is).0 low)) e
-        | inr high ↦ high
-      ]
+  least_before {q} is = grind (arith, within_group, (s.kept request.group q is))
 
 -- Numbers, by what is held.
 
@@ -161,12 +151,7 @@ pub plain_before : {w : Window} {g : Groups} {r : Requests} {from end m : ℕ} {
 plain_before {r = r} {from = from} {end = end} {m = m} {other = other} s h group free there low =
     let its = its_group s h there in
     let p : Group = its.0 in
-    draining_held its.1
-    ∙ none_drains p.drain
-    (λ d drains.
-    let inside = first_member_inside _ p.from p.end d (sym its.1.shown.drain ∙ drains) in
-    let high = free other.group d (ap drain_of its.1.found ∙ drains) in
-    groups_apart r p.from p.end from end m its.1.shown.group group its.1.from its.1.to low (omega (arith, inside.1)))
+    grind (arith, (draining_held its.1), first_member_inside, (free other.group), (groups_apart r p.from p.end from end m))
 
 module _ {w : Window} {g : Groups} {r : Requests} {n : ℕ} {request : Request} {q : Group} (i : InGroup w g r n request q) where
   -- What waits for nobody is ready.

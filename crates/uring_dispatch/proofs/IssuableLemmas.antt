@@ -19,9 +19,8 @@ lesser_least p q a b x y = grind arith
 
 least_is : (p q : ℕ → Bool) (n : ℕ) (o : Option ℕ) → IsLeastOf p o → ((k : ℕ) → q k ≡ p k)
     → ((k : ℕ) → q k ≡ true → k < n) → o ≡ least_below q n
-least_is p q n None least same within = sym (least_below_none q n (λ k lt. same k ∙ least k))
-least_is p q n (Some m) least same within =
-    let here = same m ∙ least.0 in sym (least_below_some q n m (within m here) here (λ k lt. same k ∙ least.1 k lt))
+least_is p q n None least same within = grind (arith, least_below_none)
+least_is p q n (Some m) least same within = grind (arith, (least_below_some q n m))
 
 -- The limit.
 
@@ -35,19 +34,7 @@ module _ {w : Window} {g : Groups} {r : Requests} {n : ℕ} {q : Request} {p : G
   group_after key {b} here after =
       let kept = i.sound.kept key b here in
       let shown = i.held.groups key b here in
-      elim (cases_lt p.from b.end) [
-        | inr past ↦ past
-        | inl lt ↦
-            elim (cases_lt b.from p.from) [
-              | inl low ↦ absurd (groups_apart r b.from b.end p.from p.end b.from shown.group i.shown.group (omega arith) (omega (arith, kept.from, kept.to)) low lt)
-              | inr le ↦
-                  let other = is_some_value (at w b.least) kept.here in
-                  let one = i.sound.members q.group p b.least other.0 i.found (omega (arith, kept.from)) (omega (arith, kept.to, i.to)) other.1 in
-                  let two = i.sound.members key b b.least other.0 here kept.from kept.to other.1 in
-                  let same : p ≡ b = same_Some p b (sym i.found ∙ ap (group_at g) (sym one ∙ two) ∙ here) in
-                  let ends : p.end ≡ b.end = ap (λ (x : Group). x.end) same in absurd (omega (arith, i.to))
-            ]
-      ]
+      grind (arith, (groups_apart r b.from b.end p.from p.end), (i.sound.members key b b.least), (i.sound.members q.group p b.least), is_some_value)
 
 -- where the first group drains from is inside it
 first_inside : {w : Window} {g : Groups} {r : Requests} {b : Group} → AreHeld w g r
@@ -101,19 +88,7 @@ module _ {w : Window} {g : Groups} {r : Requests} (s : IsSound w g) (h : AreHeld
   limit_ends {b} f alone n q p there found least =
       let inside = first_inside h f in
       let i = in_group s h there found in
-      elim (cases_lt n b.end) [
-        | inl here ↦
-            elim (cases_lt n b.from) [
-              | inl low ↦ some_none (alone n low) there
-              | inr high ↦
-                  let same = group_same i f.key f.here high here in
-                  ready_held (in_group s h there (found ∙ ap Some same)) (ap (λ (x : Group). x.least) (sym same) ∙ least)
-                  (λ key number d. let le = f.first key number d in omega (arith, inside.0))
-                  (λ drains. alone)
-                  ∙ sym (lt-ltb n b.end here)
-            ]
-        | inr past ↦ after_first i f past ∙ sym (le-ltb n b.end past)
-      ]
+      grind (arith, (ready_held i least), (group_same i f.key f.here), (after_first i f))
 
 -- The next from one number on.
 
@@ -185,19 +160,13 @@ module _ {w : Window} {g : Groups} {r : Requests} {s : Waiting} (limit : ℕ) (s
   -- all are counted up to the last
   pub count_end : (m : ℕ) → end_of w ≤ m → count_below (can_go s limit) m ≡ length (issuables_of r)
   count_end m le =
-      count_below_past (can_go s limit) (length r.accepted) m (omega (arith, h.count))
-      (λ k past. can_go_gone limit k l (at_past w k (omega (arith, h.count))))
-      ∙ count_below_same (can_go s limit) (is_issuable r) (length r.accepted) (λ k lt. can_go_is k)
-      ∙ sym (length_all_below (is_issuable r) (length r.accepted))
+      grind (arith, (count_below_past (can_go s limit) (length r.accepted) m), can_go_gone, at_past, (count_below_same (can_go s limit) (is_issuable r)), can_go_is, length_all_below)
 
   -- the one before which so many are counted
   pub nth_is : {n k : ℕ} → can_go s limit n ≡ true → count_below (can_go s limit) n ≡ k
       → Some n ≡ slice_get (issuables_of r) k
-  nth_is {n} told counted =
-      let is = sym (can_go_is n) ∙ told in
-      let before = count_below_same (can_go s limit) (is_issuable r) n (λ j lt. can_go_is j) in
-      sym (get_all_below (is_issuable r) (length r.accepted) n (issuable_within r n is) is)
-      ∙ ap (slice_get (issuables_of r)) (sym before ∙ counted)
+  nth_is {n} {k} told counted =
+      grind (arith, (count_below_same (can_go s limit) (is_issuable r) n), can_go_is, get_all_below, issuable_within)
 
 -- none is counted before the first that is outstanding
 pub count_start : {w : Window} {g : Groups} {s : Waiting} (limit first : ℕ) → IsListed w g s

@@ -1,6 +1,8 @@
 -- How many groups, barriers and outstanding requests are kept: no more than requests were accepted.
 use Rattle.std.proofs.Common.{◌≡◌, ◌≢◌, ℕ, suc, zero, ◌+◌, ◌<◌, ◌≤◌, cond, List, [], ◌∷◌, length, if◌then◌else◌, Bool, true, false, eqb, ltb, Option, Some, None, is_some, refl, sym, ◌∙◌, arith, inl, inr, get_or}
 use Rattle.uring_dispatch.proofs.Common.{AllByRecursion, AreHeld, Barrier, Group, Groups, IsBeyond, IsDistinct, IsSorted, IsSound, Requests, Window, and_parts, at, count_below, count_by, end_of, eqb-true, false≢true, is_some_value, list_all, list_any, ltb-true, ne_eqb, or_cases}
+use Rattle.uring_dispatch.proofs.Counting.{count_below_within}
+use Rattle.uring_dispatch.proofs.Common.{is_outstanding}
 use Rattle.std.proofs.lemmas.List.Recursion.{is_count_by}
 use Rattle.std.proofs.lemmas.Map.Steps.{length-le_from_distinct_below}
 
@@ -60,14 +62,7 @@ leasts_below (Some p ∷ rest) n m below any =
 
 -- each group that is kept has a member that no other has
 own_least : (w : Window) (g : Groups) → IsSound w g → HaveOwn g.records
-own_least w g s j k p q e f same =
-    let a = s.kept j p e in
-    let b = s.kept k q f in
-    let found = is_some_value (at w p.least) a.here in
-    let from = b.from in
-    let to = b.to in
-    sym (s.members j p p.least found.0 e a.from a.to found.1)
-    ∙ s.members k q p.least found.0 f (omega arith) (omega arith) found.1
+own_least w g s j k p q e f same = grind (arith, (s.kept j p e), (s.kept k q f), (s.members j p p.least), (s.members k q p.least))
 
 pub groups_few : (w : Window) (g : Groups) → IsSound w g → count_by is_some g.records ≤ end_of w
 groups_few w g s =
@@ -77,34 +72,16 @@ groups_few w g s =
     omega arith
 
 -- barriers in order, above one number and below another
-sorted_few : (barriers : List Barrier) (low n : ℕ) → low < n
-    → list_all (λ c. ltb low c.number) barriers ≡ true → IsSorted barriers → IsBeyond barriers n
-    → low + length barriers < n
-sorted_few [] low n lt above sorted beyond = omega arith
-sorted_few (b ∷ rest) low n lt above sorted beyond =
-    let x = ltb-true low b.number (and_parts (ltb low b.number) _ above).0 in
-    let parts = and_parts (ltb b.number n) _ beyond in
-    let y = ltb-true b.number n parts.0 in
-    let more = sorted_few rest b.number n y sorted.0 sorted.1 parts.1 in
-    omega arith
+sorted_few : (b : Barrier) (rest : List Barrier) (n : ℕ) → IsSorted (b ∷ rest) → IsBeyond (b ∷ rest) n
+    → b.number + suc (length rest) ≤ n
+sorted_few b [] n sorted beyond = grind (arith, ltb-true)
+sorted_few b (c ∷ rest) n sorted beyond = grind (arith, ltb-true, (sorted_few c rest n sorted.1))
 
 pub barriers_few : (barriers : List Barrier) (n : ℕ) → IsSorted barriers → IsBeyond barriers n
     → length barriers ≤ n
 barriers_few [] n sorted beyond = omega arith
-barriers_few (b ∷ rest) n sorted beyond =
-    let parts = and_parts (ltb b.number n) _ beyond in
-    let y = ltb-true b.number n parts.0 in
-    let more = sorted_few rest b.number n y sorted.0 sorted.1 parts.1 in
-    omega arith
-
-count_below_few : (p : ℕ → Bool) (n : ℕ) → count_below p n ≤ n
-count_below_few p zero = omega arith
-count_below_few p (suc n) = one_more (p n) _ (count_below_few p n)
-  where
-    one_more : (b : Bool) (k : ℕ) → k ≤ n → k + (if b then 1 else 0) ≤ suc n
-    one_more true k few = omega arith
-    one_more false k few = omega arith
+barriers_few (b ∷ rest) n sorted beyond = let few = sorted_few b rest n sorted beyond in omega arith
 
 pub window_few : (w : Window) (g : Groups) (r : Requests) → AreHeld w g r
     → w.outstanding ≤ end_of w
-window_few w g r h = grind (arith, count_below_few)
+window_few w g r h = grind (arith, (count_below_within (is_outstanding r) (length r.accepted)))

@@ -19,20 +19,12 @@ module _ {w : Window} {g : Groups} {r : Requests} {n m : ℕ} {request other : R
   pub joined_held : other.group ≡ request.group → is_joined r m n ≡ true
   joined_held same =
       let its = its_group s h e in
-      let q : Group = its.0 in
-      let near = within_group s f (ap (group_at g) same ∙ its.1.found) in
-      joined_member r q.from q.end m n its.1.shown.group its.1.from its.1.to (omega arith) ∙ le-leb q.from m near.0
+      grind (arith, (joined_member r its.0.from its.0.end m n its.1.shown.group), (within_group s f))
 
   pub joined_apart : other.group ≢ request.group → is_joined r m n ≡ false
   joined_apart ne =
       let its = its_group s h e in
-      let q : Group = its.0 in
-      let to = its.1.to in
-      joined_member r q.from q.end m n its.1.shown.group its.1.from to (omega arith)
-      ∙ elim (cases_lt m q.from) [
-        | inl before ↦ lt-leb q.from m before
-        | inr inside ↦ absurd (ne (s.members request.group q m other its.1.found inside (omega arith) f))
-      ]
+      grind (arith, (joined_member r its.0.from its.0.end m n its.1.shown.group), (s.members request.group its.0 m other its.1.found))
 
 module _ {w : Window} {g : Groups} {r : Requests} {n : ℕ} {request : Request} (s : IsSound w g) (h : AreHeld w g r) (e : at w n ≡ Some request) where
   -- a kept request that doesn't run
@@ -57,23 +49,16 @@ doom_own r n fault e = ap (λ o. first_doom o (faulty_member_of r n) (failed_mem
 
 module _ {w : Window} {g : Groups} {r : Requests} {n : ℕ} {request : Request} {q : Group} (i : InGroup w g r n request q)
     (right : fault_of request.entry ≡ None) where
-  doom_by : (fault failed : Option ℕ) → q.fault ≡ fault → failed_member_of r n ≡ failed
-      → doom_of r n ≡ first_doom None fault failed
-  doom_by fault failed own after =
-      let member : faulty_member_of r n ≡ fault = faulty_member_is r q.from q.end n i.shown.group i.from i.to ∙ sym i.shown.fault ∙ own in
-      ap (λ o. first_doom o (faulty_member_of r n) (failed_member_of r n)) (ap fault_of (sym (i.held.shown n request i.there).entry) ∙ right)
-      ∙ ap (λ o. first_doom None o (failed_member_of r n)) member ∙ ap (first_doom None fault) after
-
   pub doom_member : {m : ℕ} → q.fault ≡ Some m → doom_of r n ≡ FaultOf m
-  doom_member {m} found = doom_by (Some m) (failed_member_of r n) found refl
+  doom_member {m} found = grind (arith, (faulty_member_is r q.from q.end n), (i.held.shown n request i.there))
 
   pub doom_failed : {m : ℕ} → q.fault ≡ None → q.broken ≡ Some m → m < n → doom_of r n ≡ FailureOf m
   doom_failed {m} none found low =
-      doom_by None (Some m) none (failed_member_before r q.from q.end n m i.shown.group i.from i.to (sym i.shown.broken ∙ found) low)
+      grind (arith, (faulty_member_is r q.from q.end n), (failed_member_before r q.from q.end n m), (i.held.shown n request i.there))
 
   pub doom_else : q.fault ≡ None → is_before q.broken n ≡ false → doom_of r n ≡ Cancel
   doom_else none past =
-      doom_by None None none (failed_member_none r q.from q.end n i.shown.group i.from i.to (ap (λ o. is_before o n) (sym i.shown.broken) ∙ past))
+      grind (arith, (faulty_member_is r q.from q.end n), (failed_member_none r q.from q.end n), (i.held.shown n request i.there))
 
 -- The least request that it waits for.
 
@@ -91,11 +76,7 @@ module _ {w : Window} {g : Groups} {r : Requests} {n : ℕ} {request : Request} 
       go : (o : Option Request) → at w k ≡ o → holds_back r n k ≡ false
       go None e = let after = i.from in gone_free i.sound i.held i.there (omega arith) e
       go (Some other) e =
-          let after = i.from in
-          let joined : is_joined r k n ≡ false = joined_member r q.from q.end k n i.shown.group after i.to (omega arith) ∙ lt-leb q.from k (omega arith) in
-          let its = plain_before i.sound i.held group free e low in
-          let own : is_draining r n ≡ false = draining_held i ∙ plain in
-          and_right _ _ (or_from _ _ (or_from _ _ joined its) own)
+          grind (arith, (joined_member r q.from q.end k n i.shown.group i.from i.to), (plain_before i.sound i.held group free e low), (draining_held i), i.from)
 
   -- an earlier group is the first that drains
   pub first_draining_is : {b : Group} → is_some q.drain ≡ false → IsFirstDraining g b → b.from < q.from
@@ -134,10 +115,7 @@ module _ {w : Window} {g : Groups} {r : Requests} {n : ℕ} {request : Request} 
 
 pub waits_for : (r : Requests) (n m : ℕ) (since : Since) → m < n → IsFirstHolder r n m
     → since ≡ since_of r n m → Waits m since ≡ waiting_for r n (holder_of r n)
-waits_for r n m since low f e =
-    sym
-    (ap (waiting_for r n) (least_below_some (holds_back r n) n m low (f.here low) (λ k lt. f.before k lt (omega arith)))
-    ∙ ap (Waits m) (sym e))
+waits_for r n m since low f e = grind (arith, (least_below_some (holds_back r n) n m low (f.here low)))
 
 pub waits_for_none : (r : Requests) (n m : ℕ) → n ≤ m → IsFirstHolder r n m
     → MayStart ≡ waiting_for r n (holder_of r n)
