@@ -15,16 +15,6 @@ pub record IsAlike (w v : Window) (g h : Groups) : Type 0 where
   pub barriers : h.barriers ≡ g.barriers
   pub last : h.last ≡ g.last
 
-pub alike_room : (w : Window) (g : Groups) (a b : ℕ)
-    → IsAlike w (record w { room = a }) g (record g { room = b })
-alike_room w g a b =
-    record { rows = λ n. at_room w a n; end = refl; outstanding = refl; running = refl; groups = λ key. refl; barriers = refl; last = refl }
-
-pub alike_back : (w : Window) (g : Groups) (a b : ℕ)
-    → IsAlike (record w { room = a }) w (record g { room = b }) g
-alike_back w g a b =
-    record { rows = λ n. sym (at_room w a n); end = refl; outstanding = refl; running = refl; groups = λ key. refl; barriers = refl; last = refl }
-
 pub alike_from : (w v : Window) (g h : Groups) → record v { room = 0 } ≡ record w { room = 0 }
     → record h { room = 0 } ≡ record g { room = 0 } → IsAlike w v g h
 alike_from w v g h a b = record {

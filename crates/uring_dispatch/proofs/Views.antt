@@ -5,7 +5,7 @@ use Rattle.uring_dispatch.specs.Outstanding.{HasRoom, Stays}
 use Rattle.uring_dispatch.specs.declared.outstanding.Outstanding.{Outstanding}
 use Rattle.uring_dispatch.specs.declared.answers.Issued.{Issued}
 use Rattle.uring_dispatch.specs.declared.answers.Posts.{Posts}
-use Rattle.uring_dispatch.proofs.Alike.{held_alike, alike_room, alike_back}
+use Rattle.uring_dispatch.proofs.Alike.{alike_from, held_alike}
 use Rattle.uring_dispatch.proofs.HeldLemmas.{shown_within, outstanding_none, outstanding_some}
 use Rattle.uring_dispatch.specs.Cancels.{found_for, found_by, operation_outstanding}
 
@@ -13,19 +13,15 @@ pub shows_held : (w : Window) (g : Groups) (r : Requests) (room : ℕ) (between 
     → AreHeld w g r → ShowsRequests (dispatch_of w g room between) r
 unfolding StandsFor
 shows_held w g r room between h =
-    grind (arith, (held_alike w (record w { room = 0 }) g (record g { room = 0 }) r (alike_room w g 0 0) h))
-
-held_shows : (w : Window) (g : Groups) (r : Requests) (room : ℕ) (between : Bool)
-    → ShowsRequests (dispatch_of w g room between) r → AreHeld w g r
-unfolding StandsFor
-held_shows w g r room between s =
-    held_alike (record w { room = 0 }) w (record g { room = 0 }) g r (alike_back w g 0 0) s.held
+    grind (arith, (held_alike w (record w { room = 0 }) g (record g { room = 0 }) r (alike_from w (record w { room = 0 }) g (record g { room = 0 }) refl refl) h))
 
 -- what is held, where the value was opened
 pub held_from : (d : Dispatch) (w : Window) (g : Groups) (room : ℕ) (between : Bool) (r : Requests)
     → dispatch_of w g room between ≡ d → ShowsRequests d r → AreHeld w g r
+unfolding StandsFor
 held_from d w g room between r e s =
-    held_shows w g r room between (let P : Dispatch → Type 0 = λ x. ShowsRequests x r in subst P (sym e) s)
+    let P : Dispatch → Type 0 = λ x. ShowsRequests x r in
+    held_alike (record w { room = 0 }) w (record g { room = 0 }) g r (alike_from (record w { room = 0 }) w (record g { room = 0 }) g refl refl) (subst P (sym e) s).held
 
 -- What the queries answer.
 
