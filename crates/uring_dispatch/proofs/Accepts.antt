@@ -180,13 +180,7 @@ module _ {w v : Window} {g h : Groups} {r : Requests} {entry : Sqe} {request : R
       → IsShownGroup (with_accepted r entry) x
   elsewhere_shown x old closed =
       let none = (a.untouched (length r.accepted) (omega arith)).ended in
-      let within = old.group.accepted in
-      record {
-        group = group_accepted r entry x.from x.end old.group closed;
-        fault = old.fault ∙ sym (first_entry_accepted r entry is_faulty x.from x.end within);
-        drain = old.drain ∙ sym (first_entry_accepted r entry is_drain x.from x.end within);
-        broken = old.broken ∙ sym (first_broken_accepted r entry x.from x.end none within);
-      }
+      grind (arith, (group_accepted r entry x.from x.end), (first_entry_accepted r entry is_faulty x.from x.end), (first_entry_accepted r entry is_drain x.from x.end), (first_broken_accepted r entry x.from x.end none))
 
 pub accept_held : {w v : Window} {g h : Groups} {r : Requests} {entry : Sqe} {key : ℕ} → IsSound w g
     → AreHeld w g r → Accepts w v g h entry (new_request entry key)

@@ -24,22 +24,10 @@ reaches_accepted : (w v : Window) (s t : NumberSet) (n : ℕ) → Reaches w s
     → GrowsTo s t n → n ≡ end_of w → end_of v ≡ end_of w + 1
     → ((k : ℕ) → k ≢ end_of w → at v k ≡ at w k) → Reaches v t
 reaches_accepted w v s t n r grows is end others =
-    record {
-      start = omega arith;
-      stop = omega arith;
-      few = few (cases_lt n (stop_of s));
-      low = λ k there.
-          elim (cases_eq k (end_of w)) [
-            | inl same ↦ omega arith
-            | inr other ↦ let low = r.low k (ap is_some (sym (others k other)) ∙ there) in omega arith
-          ];
-    }
-  where
-    few : (n < stop_of s) ⊎ (stop_of s ≤ n) → stop_of t ≤ end_of v + 63
-    few (inl low) =
-        let most = grows.few (s.first + length s.blocks) (omega arith) (omega arith) in
-        omega (arith, r.few)
-    few (inr high) = let most = grows.few (n / 64 + 1) (omega arith) (omega arith) in omega arith
+    let old = r.few in
+    let a = grows.few (s.first + length s.blocks) in
+    let b = grows.few (n / 64 + 1) in
+    record { start = omega arith; stop = omega arith; few = omega arith; low = λ k there. grind (arith, (cases_eq k (end_of w)), (others k), (r.low k)) }
 
 pub accept_listed : (w v : Window) (g h : Groups) (entry : Sqe) (request : Request) (s t : Waiting) (n : ℕ)
     → IsSound w g → IsListed w g s → Accepts w v g h entry request → n ≡ end_of w

@@ -54,12 +54,8 @@ pub write_sound : {w v : Window} {g : Groups} {n : ℕ} {p q : Request} → IsSo
     → at w n ≡ Some p → Changes w v n (Some q) → q.group ≡ p.group → end_of v ≡ end_of w
     → IsSound v g
 write_sound {g = g} s there c same end = record {
-  linked = λ k x is.
-      let old = written there c same k is in
-      let link = linked s old.1 in
-      member _ link.group k (ap (group_at g) old.2 ∙ link.found) link.from link.to;
-  members = λ key y k x found from to is.
-      let old = written there c same k is in old.2 ∙ s.members key y k old.0 found from to old.1;
+  linked = λ k x is. grind (arith, (written there c same k is), s.linked);
+  members = λ key y k x found from to is. grind (arith, (written there c same k is), (s.members key y k));
   kept = λ key y found. kept_on (s.kept key y found) (omega (arith, end)) (λ m from to. still_there c (ap is_some there) m);
   beyond = rw end s.beyond;
   last = λ key y e found. s.last key y e found ∙ sym end;

@@ -115,14 +115,8 @@ module _ {w v : Window} {g h : Groups} {r : Requests} {n : ℕ} {request : Reque
   shown_left breaks =
       let shown = a.groups request.group q e.group in
       let inside = within_group s e.there e.group in
-      record {
-        group = group_ended r n res bytes q.from q.end shown.group;
-        fault = shown.fault;
-        drain = shown.drain;
-        broken =
-            breaks ∙ ap (λ b. earlier_of b (is_soft (entry_of r n) && not (is_success (entry_of r n) res)) n) shown.broken
-            ∙ sym (first_broken_ended r n res bytes q.from q.end inside.0 inside.1 (a.shown n request e.there).unended);
-      }
+      let old = a.shown n request e.there in
+      grind (arith, (group_ended r n res bytes q.from q.end), (first_broken_ended r n res bytes q.from q.end))
 
   shown_elsewhere : {key : ℕ} {p : Group} → group_at g key ≡ Some p → key ≢ request.group
       → IsShownGroup (with_ended r n res bytes) p

@@ -43,11 +43,7 @@ before_earlier o b n k h = grind arith
 pub stands_apart : (w v : Window) (g h : Groups) (k : ℕ) → at v k ≡ at w k
     → ((x : Request) → at w k ≡ Some x → group_at h x.group ≡ group_at g x.group)
     → StandsAsBefore w v g h k
-stands_apart w v g h k same others = go (at w k) refl
-  where
-    go : (o : Option Request) → at w k ≡ o → StandsAsBefore w v g h k
-    go None e = record { head = rw (same, e); doomed = rw (same, e) }
-    go (Some x) e = record { head = rw (same, e, others x e); doomed = rw (same, e, others x e) }
+stands_apart w v g h k same others = grind (arith, is_some_value)
 
 -- the request k of a group that leads and dooms it as before
 pub stands_in : (w v : Window) (g h : Groups) (k : ℕ) (x : Request) (p q : Group) → at v k ≡ at w k
@@ -65,33 +61,18 @@ pub stands_ended : {w v : Window} {g h : Groups} {n : ℕ} {request : Request} {
     → (least < q.end → k ≢ least) → StandsAsBefore w v g h k
 stands_ended {w} {v} {g} {h} {n} {request} {q} {least} {k} {broken} s e breaks broken_is after ne_n ne_least = go (at w k) refl
   where
-    same : at v k ≡ at w k
-    same = e.changes.others k ne_n
-
     go : (o : Option Request) → at w k ≡ o → StandsAsBefore w v g h k
-    go None is = stands_apart w v g h k same (λ x there. some_none is there)
+    go None is = grind (arith, (e.changes.others k ne_n))
     go (Some x) is =
-        elim (cases_eq x.group request.group) [
-          | inr apart ↦
-              stands_apart w v g h k same (λ y there. rw (same_Some y x (sym there ∙ is)) (e.exchange.others x.group apart))
-          | inl here ↦
-              let inside = left_member s e (same ∙ is) here in
-              let lt : least < q.end = omega (arith, inside.1, inside.2) in
-              let later = ne_least lt in
-              let led : q.least ≢ k = λ first. absurd (omega (arith, e.next.from_on, inside.1)) in
-              stands_in w v g h k x (left_with q least broken) q same is (ap (group_at g) here ∙ e.group) (ap (group_at h) here ∙ e.exchange.here ∙ e.some lt)
-              (ne_eqb least k (λ z. later (sym z)) ∙ sym (ne_eqb q.least k led))
-              (ap (λ b. is_some q.fault || is_before b k) (broken_is lt)
-              ∙ ap (λ b. is_some q.fault || b) (before_earlier q.broken breaks n k (λ t. after t inside.2)))
-        ]
+        let same = e.changes.others k ne_n in
+        grind (arith, (left_member s e), (e.exchange.others x.group), (before_earlier q.broken breaks n k), e.next.from_on)
 
 -- What is covered.
 
 -- what can be told of an outstanding request
 pub tell_outstanding : (w : Window) (g : Groups) (s : Waiting) (n : ℕ) → IsListed w g s
     → is_some (at w n) ≡ true → CanTell s n
-tell_outstanding w g s n l there =
-    omega (arith, l.heads.stop, l.doomed.stop, l.heads.low n there, l.doomed.low n there, within_end w n there)
+tell_outstanding w g s n l there = grind (arith, within_end)
 
 -- fewer requests are outstanding
 pub reaches_fewer : (w v : Window) (s t : NumberSet) → Reaches w s → end_of v ≡ end_of w
@@ -124,19 +105,10 @@ end_listed w v g h s t u n head stop first l c end others keeps own at_head betw
     λ k there. let q = is_some_value (at v k) there in ap is_some (before_end c q.1).1
     in
     record {
-      told = λ k. told_moved v h t u k first first (one k) x y;
+      told = λ k. told_moved v h t u k first first (grind (arith, (keeps.told k), (told_before w v g h s k (l.told k)), (others k))) x y;
       heads = reaches_moved v t.heads u.heads first (reaches_fewer w v s.heads t.heads l.heads end fewer keeps.heads) x within before;
       doomed = reaches_moved v t.doomed u.doomed first (reaches_fewer w v s.doomed t.doomed l.doomed end fewer keeps.doomed) y within before;
     }
-  where
-    P : ℕ → Type 0
-    P j = IsListedAt v h t j
-
-    stays : (k : ℕ) → k ≢ n → k ≢ head → (k < n) ⊎ (stop ≤ k) → IsListedAt v h t k
-    stays k a b z = keeps.told k (told_before w v g h s k (l.told k) (others k a b z))
-
-    one : (k : ℕ) → IsListedAt v h t k
-    one k = grind arith
 
 -- A request was written, and it was told of anew.
 pub restarted_listed : (w v : Window) (g h : Groups) (s t : Waiting) (n : ℕ) (q : Request)

@@ -63,24 +63,13 @@ module _ (w : Window) (requests : List (Option Request)) (n key outstanding : �
       → IsSameBut w.requests requests key → IsWindow (record w { requests = requests; outstanding = outstanding })
   choose_window = write_by chosen w.running (λ q is. ap (λ o. w.running + one_if (runs o)) is)
 
--- who runs is counted
-pub runs_counted : (w : Window) (n key : ℕ) → IsWindow w → key_at w.first w.keys n ≡ Some key
-    → one_if (runs (at w n)) ≤ w.running
-runs_counted w n key i e =
-    let inside = key_at_within w.first w.keys n key e in
-    let was = i.counted in
-    elim (cases_Bool (runs (at w n))) [
-      | inl going ↦ let some = count_below_some (λ m. runs (at w m)) (end_of w) n inside.1 going in let one : one_if (runs (at w n)) ≡ 1 = ap one_if going in omega arith
-      | inr still ↦ let none : one_if (runs (at w n)) ≡ 0 = ap one_if still in omega arith
-    ]
-
 pub one_is : (b : Bool) → from_bool b ≡ one_if b
 one_is b = grind arith
 
 pub ended_counted : (w : Window) (n key : ℕ) (q : Request) → IsWindow w
     → key_at w.first w.keys n ≡ Some key → get_or w.requests key None ≡ Some q
     → from_bool q.is_running ≤ w.running
-ended_counted w n key q i e is = grind (arith, runs_counted, by_key)
+ended_counted w n key q i e is = grind (arith, (key_at_within w.first w.keys n key e), (count_below_some (λ m. runs (at w m)) (end_of w) n), i.counted, by_key)
 
 -- past the end there is nothing
 pub at_past : (w : Window) (n : ℕ) → end_of w ≤ n → at w n ≡ None
