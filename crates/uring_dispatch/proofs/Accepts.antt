@@ -148,33 +148,22 @@ module _ {w v : Window} {g h : Groups} {r : Requests} {entry : Sqe} {request : R
         broken = old.broken ∙ ap (first_broken r q.from) end ∙ sym (first_broken_more r entry q.from none low);
       }
 
+  -- two groups don't end together
+  end_apart : {other : ℕ} {x : Group} → group_at g other ≡ Some x → other ≢ request.group
+      → (q : Group) → group_at g request.group ≡ Some q → q.end ≢ x.end
+  end_apart {other} {x} is ne q here end =
+      let kept = s.kept other x is in
+      let one = a.groups other x is in
+      let two = a.groups request.group q here in
+      let y = is_some_value (at w x.least) kept.here in
+      grind (arith, (same_from r x.from q.from x.end), (s.members other x x.least y.0 is), (s.members request.group q x.least y.0 here))
+
   -- a group of another key is closed
   closed_elsewhere : {other : ℕ} {x : Group} → group_at g other ≡ Some x → other ≢ request.group
       → (k : ℕ) → suc k ≡ x.end → is_last r k ≡ true
   closed_elsewhere {other} {x} is ne k e =
-      elim (cases_lt x.end (length r.accepted)) [
-        | inl low ↦ one.ends k e low
-        | inr high ↦ go (last_group g.records g.last) refl (omega (arith, one.accepted))
-      ]
-    where
-      one : IsGroup r x.from x.end
-      one = (a.groups other x is).group
-
-      go : (p : Option Group) → last_group g.records g.last ≡ p → x.end ≡ length r.accepted → is_last r k ≡ true
-      go None f top = a.last k (e ∙ top) ∙ ap not (sym c.kept ∙ ap is_some f)
-      go (Some q) f top =
-          let end : q.end ≡ x.end = joined_end s c f ∙ sym a.count ∙ sym top in
-          let two : IsGroup r q.from x.end = subst (λ z. IsGroup r q.from z) end (a.groups request.group q (c.joins ∙ f)).group in
-          let kept = s.kept other x is in
-          let y = is_some_value (at w x.least) kept.here in
-          elim (cases_lt x.from q.from) [
-            | inl before ↦ absurd (same_from r x.from q.from x.end one two before)
-            | inr after ↦
-                absurd
-                (ne
-                (sym (s.members other x x.least y.0 is kept.from kept.to y.1)
-                ∙ s.members request.group q x.least y.0 (c.joins ∙ f) (omega (arith, kept.from)) (omega (arith, kept.to)) y.1))
-          ]
+      let one = (a.groups other x is).group in
+      grind (arith, (one.ends k), (a.last k), (joined_end s c), (end_apart is ne), is_some_value)
 
   elsewhere_shown : (x : Group) → IsShownGroup r x → ((k : ℕ) → suc k ≡ x.end → is_last r k ≡ true)
       → IsShownGroup (with_accepted r entry) x

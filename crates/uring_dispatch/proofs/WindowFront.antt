@@ -46,22 +46,18 @@ running_fits w i = grind (arith, count_below_within)
 -- request n was started, or chosen
 module _ (w : Window) (requests : List (Option Request)) (n key outstanding : ℕ) (i : IsWindow w) (e : key_at w.first w.keys n ≡ Some key)
     (there : is_some (at w n) ≡ true) where
-  write_by : (f : Request → Request) (running : ℕ)
-      → ((q : Request) → at w n ≡ Some q → running + one_if (runs (at w n)) ≡ w.running + one_if (f q).is_running)
-      → ((q : Request) → get_or w.requests key None ≡ Some q → get_or requests key None ≡ Some (f q))
-      → IsSameBut w.requests requests key → IsWindow (record w { requests = requests; outstanding = outstanding; running = running })
-  write_by f running counts here others =
-      let found = is_some_value (at w n) there in
-      write_window w requests n key outstanding running (f found.0) i e (here found.0 (sym (by_key w n key e) ∙ found.1)) others (counts found.0 found.1)
-
   pub start_window : runs (at w n) ≡ false
       → ((q : Request) → get_or w.requests key None ≡ Some q → get_or requests key None ≡ Some (started q))
       → IsSameBut w.requests requests key → IsWindow (record w { requests = requests; outstanding = outstanding; running = w.running + 1 })
-  start_window waits = write_by started (w.running + 1) (λ q is. let one : one_if (runs (at w n)) ≡ 0 = ap one_if waits in omega arith)
+  start_window waits here others =
+      let found = is_some_value (at w n) there in
+      write_window w requests n key outstanding (w.running + 1) (started found.0) i e (here found.0 (sym (by_key w n key e) ∙ found.1)) others (grind arith)
 
   pub choose_window : ((q : Request) → get_or w.requests key None ≡ Some q → get_or requests key None ≡ Some (chosen q))
       → IsSameBut w.requests requests key → IsWindow (record w { requests = requests; outstanding = outstanding })
-  choose_window = write_by chosen w.running (λ q is. ap (λ o. w.running + one_if (runs o)) is)
+  choose_window here others =
+      let found = is_some_value (at w n) there in
+      write_window w requests n key outstanding w.running (chosen found.0) i e (here found.0 (sym (by_key w n key e) ∙ found.1)) others (grind arith)
 
 pub one_is : (b : Bool) → from_bool b ≡ one_if b
 one_is b = grind arith

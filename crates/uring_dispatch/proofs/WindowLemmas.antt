@@ -64,7 +64,6 @@ module _ (w : Window) (requests : List (Option Request)) (key outstanding room :
   pub push_window : q.is_running ≡ false → room + 1 ≡ w.room → IsWindow pushed
   push_window waits less =
       let longer : length (w.keys ++ Some key ∷ []) ≡ length w.keys + 1 = length-append w.keys (Some key ∷ []) in
-      let end : end_of pushed ≡ suc (end_of w) = omega arith in
       record {
         present = λ n k e. grind (arith, (push_cases n k e), (others k), (unused n k), (i.present n k));
         distinct = λ m n k a b. grind (arith, (push_cases m k a), (push_cases n k b), unused, (i.distinct m n k));
