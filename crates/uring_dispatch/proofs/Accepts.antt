@@ -10,12 +10,28 @@ use Rattle.uring_entry.specs.declared.fault.Fault.{Fault}
 use Rattle.uring_dispatch.proofs.Changes.{before_write, shown_written}
 use Rattle.uring_dispatch.proofs.Counting.{count_below_same}
 
-member_from : (o : Option Group) (n : ℕ) (d f : Bool) (k : ℕ) → (with_member o n d f).from ≤ k
-    → k < n → (q : Group) × (o ≡ Some q) × (q.from ≤ k)
-member_from o n d f k a b = grind arith
+-- where the group that is joined, or the new one, begins and ends
+member_is : (o : Option Group) (n : ℕ) (d f : Bool)
+    → ((with_member o n d f).end ≡ n + 1) × ((q : Group) → o ≡ Some q → (with_member o n d f).from ≡ q.from) × (o ≡ None → (with_member o n d f).from ≡ n)
+member_is o n d f = grind arith
 
-member_end : (o : Option Group) (n : ℕ) (d f : Bool) → (with_member o n d f).end ≡ n + 1
-member_end o n d f = grind arith
+-- The group p has one more member, the last request.
+joined_sound : {w v : Window} {g h : Groups} {request : Request} → IsSound w g
+    → Changes w v (end_of w) (Some request) → end_of v ≡ end_of w + 1 → IsBeyond h.barriers (end_of w + 1) → (p : Group)
+    → Exchanges g h request.group (Some p) → p.end ≡ end_of w + 1 → IsKept v p
+    → ((q : Group) → group_at g request.group ≡ Some q → (p.from ≡ q.from) × (q.end ≡ end_of w))
+    → (group_at g request.group ≡ None → p.from ≡ end_of w)
+    → ((key : ℕ) → h.last ≡ Some key → key ≡ request.group) → IsSound v h
+joined_sound {w} {v} {g} {h} {request} s c end beyond p e top own begins fresh only = record {
+  linked = λ k x is.
+      grind (arith, (before_write c is), (s.linked k x), (s.kept x.group), (cases_eq x.group request.group), (e.others x.group));
+  members = λ key x k y found from to is.
+      grind (arith, (before_write c is), (s.members key x k y), (cases_eq key request.group), (e.others key),
+        (λ (q : Group). s.members request.group q k y), (s.kept key x));
+  kept = λ key x found. grind (arith, (cases_eq key request.group), (e.others key), (s.kept key x), c.others);
+  beyond = rw end beyond;
+  last = λ key x is found. grind (arith, (only key is));
+}
 
 module _ {w v : Window} {g h : Groups} {entry : Sqe} {request : Request} (s : IsSound w g) (a : Accepts w v g h entry request) where
   -- the group that is joined ends where the window does
@@ -36,61 +52,11 @@ module _ {w v : Window} {g h : Groups} {entry : Sqe} {request : Request} (s : Is
   pub accept_sound : IsSound v h
   accept_sound =
       let o : Option Group = last_group g.records g.last in
-      let p : Group = with_member o (end_of w) (is_drain entry) (is_faulty entry) in
-      let top : p.end ≡ end_of w + 1 = member_end o (end_of w) (is_drain entry) (is_faulty entry) in
-      let own = joined_kept o refl in
-      record {
-        linked = λ k x is.
-            elim (before_write a.changes is) [
-              | inl new ↦
-                  let least = least_low o refl in
-                  member _ p k (ap (λ (z : Request). group_at h z.group) (sym new.1) ∙ a.exchange.here) (omega (arith, own.from, new.0)) (omega (arith, new.0))
-              | inr was ↦
-                  let link = linked s was.1 in
-                  let within = (s.kept x.group link.group link.found).end in
-                  elim (cases_eq x.group request.group) [
-                    | inl same ↦
-                        let begins : p.from ≡ link.group.from = ap (λ z. (with_member z (end_of w) (is_drain entry) (is_faulty entry)).from) (sym a.joins ∙ ap (group_at g) (sym same) ∙ link.found) in
-                        member _ p k (ap (group_at h) same ∙ a.exchange.here) (omega (arith, link.from)) (omega (arith, link.to))
-                    | inr other ↦ member _ link.group k (a.exchange.others x.group other ∙ link.found) link.from link.to
-                  ]
-            ];
-        members = λ key x k y found from to is.
-            elim (now key x found) [
-              | inr other ↦
-                  elim (before_write a.changes is) [
-                    | inl new ↦ absurd (omega (arith, (s.kept key x other.1).end, new.0))
-                    | inr was ↦ s.members key x k y other.1 from to was.1
-                  ]
-              | inl here ↦
-                  let begins : x.from ≡ p.from = ap (λ (z : Group). z.from) here.1 in
-                  let ends : x.end ≡ p.end = ap (λ (z : Group). z.end) here.1 in
-                  elim (before_write a.changes is) [
-                    | inl new ↦ ap (λ (z : Request). z.group) (sym new.1) ∙ sym here.0
-                    | inr was ↦
-                        let low : k < end_of w = lt_of_le_of_ne (omega arith) was.0 in
-                        let q = member_from o (end_of w) (is_drain entry) (is_faulty entry) k (omega arith) low in
-                        s.members request.group q.0 k y (a.joins ∙ q.1) q.2 (omega (arith, joined_end q.1)) was.1 ∙ sym here.0
-                  ]
-            ];
-        kept = λ key x found.
-            elim (now key x found) [
-              | inl here ↦ subst (λ (z : Group). IsKept v z) (sym here.1) own
-              | inr other ↦
-                  let k = s.kept key x other.1 in
-                  kept_on k (omega (arith, a.end)) (λ m from to. ap is_some (a.changes.others m (λ same. absurd (omega (arith, k.to, k.end, same)))))
-            ];
-        beyond = rw a.end a.beyond;
-        last = λ key x e found.
-            elim (now key x found) [
-              | inl here ↦ ap (λ (z : Group). z.end) here.1 ∙ top ∙ sym a.end
-              | inr other ↦ absurd (other.0 (only_key (is_linked entry) request.group key _ a.last e))
-            ];
-      }
-    where
-      least_low : (o : Option Group) → last_group g.records g.last ≡ o → (with_member o (end_of w) (is_drain entry) (is_faulty entry)).least ≤ end_of w
-      least_low None e = omega arith
-      least_low (Some q) e = let k = s.kept request.group q (a.joins ∙ e) in omega (arith, k.to, k.end)
+      let is = member_is o (end_of w) (is_drain entry) (is_faulty entry) in
+      joined_sound s a.changes a.end a.beyond (with_member o (end_of w) (is_drain entry) (is_faulty entry)) a.exchange is.0 (joined_kept o refl)
+      (λ q found. (is.1 q (sym a.joins ∙ found), joined_end (sym a.joins ∙ found)))
+      (λ none. is.2 (sym a.joins ∙ none))
+      (λ key found. only_key (is_linked entry) request.group key _ a.last found)
 
 -- The lists, when an entry is accepted.
 

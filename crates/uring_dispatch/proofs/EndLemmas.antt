@@ -59,44 +59,15 @@ module _ {w v : Window} {g h : Groups} {n : ℕ} {request : Request} {q : Group}
   pub end_sound : IsBeyond h.barriers (end_of w) → IsSound v h
   end_sound beyond = record {
     linked = λ k x there.
-        let link = linked s (before_end e.changes there).1 in
-        elim (cases_eq x.group request.group) [
-          | inl same ↦
-              let inside = left_member there same in
-              let lt : least < q.end = omega (arith, inside.1, inside.2) in
-              member _ (left_with q least broken) k (ap (group_at h) same ∙ e.exchange.here ∙ e.some lt) inside.0 inside.2
-          | inr other ↦ member _ link.group k (e.exchange.others x.group other ∙ link.found) link.from link.to
-        ];
+        grind (arith, (before_end e.changes there), (s.linked k x), (cases_eq x.group request.group), (e.exchange.others x.group), left_member,
+          e.exchange.here, e.some);
     members = λ key x k y found from to there.
-        let was = (before_end e.changes there).1 in
-        elim (now key x found) [
-          | inl left ↦
-              let begins : x.from ≡ q.from = ap (λ (z : Group). z.from) left.2 in
-              let ends : x.end ≡ q.end = ap (λ (z : Group). z.end) left.2 in
-              s.members key q k y (ap (group_at g) left.0 ∙ e.group) (omega arith) (omega arith) was
-          | inr kept ↦ s.members key x k y kept.1 from to was
-        ];
+        grind (arith, (before_end e.changes there), (now key x found), (s.members key x k y), (s.members key q k y));
     kept = λ key x found.
-        elim (now key x found) [
-          | inl left ↦ subst (λ (z : Group). IsKept v z) (sym left.2) (left_kept left.1)
-          | inr kept ↦
-              let k = s.kept key x kept.1 in
-              kept_on k (omega (arith, e.end)) (λ m from to. ap is_some (e.changes.others m (λ same. apart kept.1 kept.0 (omega arith) (omega (arith, k.to)))))
-        ];
-    beyond = subst (λ k. IsBeyond h.barriers k) (sym e.end) beyond;
+        grind (arith, (now key x found), (s.kept key x), (s.kept request.group q e.group), over, apart, e.changes.others);
+    beyond = rw e.end beyond;
     last = λ key x is found. some_none e.closed is;
   }
-    where
-      left_kept : least < q.end → IsKept v (left_with q least broken)
-      left_kept lt =
-          let kept = s.kept request.group q e.group in
-          record {
-            from = omega (arith, kept.from, e.next.from_on);
-            to = lt;
-            end = omega (arith, kept.end, e.end);
-            over = λ m from low. ap is_some (over m from low);
-            here = e.next.here lt;
-          }
 
 -- The lists.
 
