@@ -150,11 +150,7 @@ accept_held {w} {v} {g} {h} {r} {entry} {key} s a c outstanding running =
       count = omega (arith, c.end);
       outstanding = omega (arith, outstanding_more r entry fresh.ended, a.outstanding);
       running = running ∙ a.running ∙ sym (running_same r entry fresh.started);
-      ended = λ m e lt.
-          elim (cases_eq m (end_of w)) [
-            | inl same ↦ some_none e (ap (at v) same ∙ c.changes.here)
-            | inr other ↦ a.ended m (sym (c.changes.others m other) ∙ e) (lt_of_le_of_ne (omega (arith, top)) (λ k. other (k ∙ sym top)))
-          ];
+      ended = λ m e lt. grind (arith, (cases_eq m (end_of w)), (a.ended m), (c.changes.others m), c.changes.here);
       shown =
           shown_written c.changes a.shown
           (rw top
@@ -204,16 +200,10 @@ cut_held w g r h = record {
   running = h.running;
   ended = h.ended;
   shown = λ n q e. let old = h.shown n q e in assumption;
-  groups = λ key q e.
-      let old = h.groups key q e in
-      record { group = group_cut r q.from q.end old.group; fault = old.fault; drain = old.drain; broken = old.broken };
+  groups = λ key q e. let old = h.groups key q e in let group = group_cut r q.from q.end old.group in assumption;
   last = λ k e. is_last_cut_last r k e;
   untouched = λ n le.
       let old = h.untouched n le in
-      record {
-        started = old.started;
-        ended = old.ended;
-        cancelled = old.cancelled;
-        cut = added_other (λ cut. cut == n + 1) r.cuts (length r.accepted) (ne_eqb _ _ (λ e. absurd (omega arith))) ∙ old.cut;
-      };
+      let cut = added_other (λ cut. cut == n + 1) r.cuts (length r.accepted) (ne_eqb _ _ (λ e. absurd (omega arith))) in
+      grind arith;
 }

@@ -17,15 +17,7 @@ pub record IsAlike (w v : Window) (g h : Groups) : Type 0 where
 
 pub alike_from : (w v : Window) (g h : Groups) → record v { room = 0 } ≡ record w { room = 0 }
     → record h { room = 0 } ≡ record g { room = 0 } → IsAlike w v g h
-alike_from w v g h a b = record {
-  rows = λ n. sym (at_room v 0 n) ∙ ap (λ (z : Window). at z n) a ∙ at_room w 0 n;
-  end = ap (λ (z : Window). end_of z) a;
-  outstanding = ap (λ (z : Window). z.outstanding) a;
-  running = ap (λ (z : Window). z.running) a;
-  groups = λ key. ap (λ (z : Groups). group_at z key) b;
-  barriers = ap (λ (z : Groups). z.barriers) b;
-  last = ap (λ (z : Groups). z.last) b;
-}
+alike_from w v g h a b = grind (arith, (at_room v 0), (at_room w 0))
 
 pub alike_records : (d e : Grouped) → HasSameRecords d e
     → IsAlike d.window e.window d.groups e.groups

@@ -106,17 +106,13 @@ module _ {old now : Outstanding} {n user_data m count : ℕ} (c : AreChosen old 
       → AreChosen old next n user_data (m + 1) (count + 1)
   chosen_more {next} test chosen shows =
       let few = c.few in
-      let more : (r : Requests) → Shows old.grouped r → user_data ≡ addr_of (entry_of r n) → all_below (is_target r n) (m + 1) ≡ all_below (is_target r n) m ++ m ∷ [] =
-      λ r h named. one_more (is_target r n) m (target_tested test r h named)
-      in
       record {
         chosen = chosen_both old now next c.chosen chosen;
         few = omega arith;
-        count_is = λ r h named.
-            ap (λ k. k + 1) (c.count_is r h named) ∙ sym (length-append (all_below (is_target r n) m) (m ∷ []))
-            ∙ ap (λ (xs : List ℕ). length xs) (sym (more r h named));
+        count_is = λ r h named. grind (arith, (c.count_is r h named), (one_more (is_target r n) m), (target_tested test r h named), length-append);
         shows = λ r h named.
-            rw (more r h named, ← append_assoc r.cancelled (all_below (is_target r n) m) (m ∷ [])) (shows (with_cancelled r (all_below (is_target r n) m)) (c.shows r h named));
+            rw (one_more (is_target r n) m (target_tested test r h named), ← append_assoc r.cancelled (all_below (is_target r n) m) (m ∷ []))
+            (shows (with_cancelled r (all_below (is_target r n) m)) (c.shows r h named));
       }
 
   -- the next number is none
@@ -124,14 +120,11 @@ module _ {old now : Outstanding} {n user_data m count : ℕ} (c : AreChosen old 
       → AreChosen old now n user_data (m + 1) count
   chosen_past test =
       let few = c.few in
-      let same : (r : Requests) → Shows old.grouped r → user_data ≡ addr_of (entry_of r n) → all_below (is_target r n) (m + 1) ≡ all_below (is_target r n) m =
-      λ r h named. none_more (is_target r n) m (target_tested test r h named)
-      in
       record {
         chosen = c.chosen;
         few = omega arith;
-        count_is = λ r h named. c.count_is r h named ∙ ap (λ (xs : List ℕ). length xs) (sym (same r h named));
-        shows = λ r h named. rw (same r h named) (c.shows r h named);
+        count_is = λ r h named. grind (arith, (c.count_is r h named), (target_tested test r h named), none_more);
+        shows = λ r h named. rw (none_more (is_target r n) m (target_tested test r h named)) (c.shows r h named);
       }
 
 -- all numbers were tested

@@ -102,21 +102,13 @@ module _ {w v : Window} {g h : Groups} {r : Requests} {n : ℕ} {request : Reque
         count = a.count ∙ sym e.end;
         outstanding = omega (arith, lost.outstanding, a.outstanding, outstanding_less n res bytes s a e.there);
         running = omega (arith, lost.runs, a.running, running_less n res bytes s a e.there);
-        ended = λ m gone lt.
-            elim (cases_eq m n) [
-              | inl same ↦ ap (has_ended (with_ended r n res bytes)) same ∙ has_ended_same r n res bytes
-              | inr other ↦ has_ended_other r n res bytes m other ∙ a.ended m (sym (e.changes.others m other) ∙ gone) lt
-            ];
-        shown = λ k x there.
-            let was = before_end e.changes there in
-            shown_same (record { entry = refl; ended = has_ended_other r n res bytes k was.0; cancelled = refl; started = refl }) (a.shown k x was.1);
+        ended = λ m gone lt. grind (arith, (cases_eq m n), has_ended_same, (has_ended_other r n res bytes m), (a.ended m), (e.changes.others m));
+        shown = λ k x there. grind (arith, (before_end e.changes there), (has_ended_other r n res bytes k), (a.shown k x));
         groups = λ key x found.
             elim (now s e key x found) [
-              | inl left ↦ subst (λ (z : Group). IsShownGroup (with_ended r n res bytes) z) (sym left.2) (shown_left (breaks left.1))
+              | inl left ↦ rw left.2 (shown_left (breaks left.1))
               | inr kept ↦ shown_elsewhere kept.1 kept.0
             ];
-        last = λ k end. a.last k end ∙ ap (λ o. not (is_some o)) (was ∙ sym e.closed);
-        untouched = λ m past.
-            let old = a.untouched m past in
-            record { started = old.started; ended = has_ended_other r n res bytes m (λ same. absurd (omega arith)) ∙ old.ended; cancelled = old.cancelled; cut = old.cut };
+        last = λ k end. grind (arith, (a.last k), e.closed);
+        untouched = λ m past. grind (arith, (a.untouched m), (has_ended_other r n res bytes m));
       }

@@ -54,10 +54,7 @@ module _ {w : Window} {g : Groups} {r : Requests} (s : IsSound w g) (h : AreHeld
       → limit ≡ end_of w → IsLimit w g r limit
   limit_none {limit} none e n q p there found least =
       let within = shown_within s h there in
-      ready_held (in_group s h there found) least
-      (λ key number d. absurd (none key number d))
-      (λ drains. let d = is_some_value p.drain drains in absurd (none q.group d.0 (ap drain_of found ∙ d.1)))
-      ∙ sym (lt-ltb n limit (omega (arith, h.count)))
+      grind (arith, (ready_held (in_group s h there found) least), (is_some_value p.drain), (none q.group), none)
 
   -- something before the first group that drains is outstanding
   pub limit_begins : {b : Group} → IsFirstDraining g b → HasBefore w b.from → IsLimit w g r b.from
@@ -66,20 +63,9 @@ module _ {w : Window} {g : Groups} {r : Requests} (s : IsSound w g) (h : AreHeld
       let i = in_group s h there found in
       elim (cases_lt n b.from) [
         | inl low ↦
-            ready_held i least
-            (λ key number d. let le = f.first key number d in omega (arith, inside.0, i.from))
-            (λ drains.
-            let d = is_some_value p.drain drains in
-            let member = first_member_inside _ p.from p.end d.0 (sym i.shown.drain ∙ d.1) in
-            let le = f.first q.group d.0 (ap drain_of found ∙ d.1) in
-            absurd (groups_apart r p.from p.end b.from b.end n i.shown.group (h.groups f.key b f.here).group i.from i.to low (omega (arith, inside.0, member.1))))
-            ∙ sym (lt-ltb n b.from low)
-        | inr high ↦
-            elim (cases_lt n b.end) [
-              | inl here ↦ not_alone (in_group s h there (found ∙ ap Some (group_same i f.key f.here high here))) (ap is_some f.drains) before
-              | inr past ↦ after_first i f past
-            ]
-            ∙ sym (le-ltb n b.from high)
+            grind (arith, (ready_held i least), is_some_value, (f.first q.group), first_member_inside,
+              (groups_apart r p.from p.end b.from b.end n i.shown.group (h.groups f.key b f.here).group), i.shown.drain)
+        | inr high ↦ grind (arith, (group_same i f.key f.here), (not_alone i), (after_first i f))
       ]
 
   -- nothing before it is
