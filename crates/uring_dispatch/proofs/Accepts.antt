@@ -92,8 +92,8 @@ module _ {w v : Window} {g h : Groups} {r : Requests} {entry : Sqe} {request : R
       let none = (a.untouched n (omega arith)).ended in
       record {
         group = group_new r entry (λ k end. a.last k end ∙ ap not (sym c.kept ∙ ap is_some e));
-        fault = sym (first_entry_more r entry is_faulty n (omega arith) ∙ ap (λ o. found_or o (is_faulty entry) n) (first_member_none (λ m. is_faulty (entry_of r m)) n));
-        drain = sym (first_entry_more r entry is_drain n (omega arith) ∙ ap (λ o. found_or o (is_drain entry) n) (first_member_none (λ m. is_drain (entry_of r m)) n));
+        fault = cc (first_entry_more r entry is_faulty n (omega arith), first_member_none (λ m. is_faulty (entry_of r m)) n);
+        drain = cc (first_entry_more r entry is_drain n (omega arith), first_member_none (λ m. is_drain (entry_of r m)) n);
         broken = sym (first_broken_more r entry n none (omega arith) ∙ first_member_none _ n);
       }
   joined_shown (Some q) e =
@@ -105,13 +105,9 @@ module _ {w v : Window} {g h : Groups} {r : Requests} {entry : Sqe} {request : R
       let low : q.from ≤ n = omega (arith, group.some) in
       record {
         group = group_joined r entry q.from group (λ k last. a.last k last ∙ ap not (sym c.kept ∙ ap is_some e));
-        fault =
-            ap (λ o. found_or o (is_faulty entry) n) (old.fault ∙ ap (first_fault r q.from) end)
-            ∙ sym (first_entry_more r entry is_faulty q.from low);
-        drain =
-            ap (λ o. found_or o (is_drain entry) n) (old.drain ∙ ap (first_drain r q.from) end)
-            ∙ sym (first_entry_more r entry is_drain q.from low);
-        broken = old.broken ∙ ap (first_broken r q.from) end ∙ sym (first_broken_more r entry q.from none low);
+        fault = cc (first_entry_more r entry is_faulty q.from low, old.fault);
+        drain = cc (first_entry_more r entry is_drain q.from low, old.drain);
+        broken = cc (first_broken_more r entry q.from none low, old.broken);
       }
 
   -- two groups don't end together

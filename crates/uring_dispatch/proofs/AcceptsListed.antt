@@ -38,7 +38,7 @@ pub accept_listed : (w v : Window) (g h : Groups) (entry : Sqe) (request : Reque
 accept_listed w v g h entry request s t n sound l a is own members told heads doomed = record {
   told = λ k.
       elim (cases_eq k (end_of w)) [
-        | inl same ↦ let P : ℕ → Type 0 = λ j. IsListedAt v h t j in subst P (is ∙ sym same) own
+        | inl same ↦ rw (same, ← is) own
         | inr other ↦ older k other (at w k) refl
       ];
   heads = reaches_accepted w v s.heads t.heads n l.heads heads is a.end (λ k ne. a.changes.others k ne);
@@ -52,10 +52,7 @@ accept_listed w v g h entry request s t n sound l a is own members told heads do
     older k ne None e = stays k (stands_apart w v g h k (a.changes.others k ne) (λ x there. some_none e there))
     older k ne (Some x) e =
         elim (cases_eq x.group request.group) [
-          | inr apart ↦
-              stays k
-              (stands_apart w v g h k (a.changes.others k ne)
-              (λ y there. rw (same_Some y x (sym there ∙ e)) (a.exchange.others x.group apart)))
+          | inr apart ↦ stays k (grind (arith, (a.changes.others k ne), (a.exchange.others x.group apart)))
           | inl here ↦
               let link = linked sound e in
               let q : Group = link.group in
@@ -67,10 +64,7 @@ accept_listed w v g h entry request s t n sound l a is own members told heads do
                     stays k
                     (stands_in w v g h k x p q (a.changes.others k ne) e link.found (ap (group_at h) here ∙ now) refl (ap (λ b. b || is_before q.broken k) same))
                 | inr fresh ↦
-                    let end = (sound.kept request.group q was).end in
-                    let to = link.to in
-                    let from = least_before sound e link.found in
-                    members p now (fresh ∙ ap Some (sym is)) k from (omega arith)
+                    members p now (fresh ∙ ap Some (sym is)) k (least_before sound e link.found) (omega (arith, (sound.kept request.group q was).end, link.to))
               ]
         ]
 

@@ -13,16 +13,11 @@ use Rattle.uring_dispatch.proofs.Changes.{before_end}
 
 pub found_on : (w v : Window) (x : ByUserData) → AreFound w x → GoesOn w v → HasPlaces x (end_of v)
     → AreFound v x
-found_on w v x f on places =
-    let stop = f.stop in
-    let end = on.end in
-    record {
-      stop = omega arith;
-      between = λ n p e lt.
-          let was = on.kept n p (omega arith) e in
-          subst (λ d. IsBetween (get nat_eq x.ends) d n) (sym (ap user_data_of was.2)) (f.between n was.0 was.1 lt);
-      places = places;
-    }
+found_on w v x f on places = record {
+  stop = omega (arith, f.stop, on.end);
+  between = λ n p e lt. let was = on.kept n p (omega (arith, f.stop)) e in rw was.2 (f.between n was.0 was.1 lt);
+  places = places;
+}
 
 pub goes_alike : (w v : Window) (g h : Groups) → IsAlike w v g h → GoesOn w v
 goes_alike w v g h a = grind arith

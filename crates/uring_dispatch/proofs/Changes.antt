@@ -72,14 +72,11 @@ write_held {w} {r = r} {n = n} h there c as_before here others runs_on = record 
   count = h.count ∙ sym as_before.end;
   outstanding = as_before.outstanding ∙ h.outstanding;
   running = runs_on;
-  ended = λ m e lt. h.ended m (vacant w m (sym (still_there c (ap is_some there) m) ∙ ap is_some e)) lt;
+  ended = λ m e lt. grind (arith, (still_there c (ap is_some there) m), (h.ended m));
   shown = shown_written c h.shown here others;
   groups = λ key q is. let old = h.groups key q is in assumption;
   last = h.last;
-  untouched = λ m past.
-      let old = h.untouched m past in
-      let same = others m (λ e. some_none (at_past w n (omega (arith, h.count))) there) in
-      record { started = same.started ∙ old.started; ended = old.ended; cancelled = same.cancelled ∙ old.cancelled; cut = old.cut };
+  untouched = λ m past. grind (arith, (h.untouched m past), (others m), (at_past w n), h.count);
 }
 
 -- a number is added to a list
@@ -92,11 +89,7 @@ pub choose_held : {w v : Window} {g : Groups} {r : Requests} {n : ℕ} {p : Requ
     → at w n ≡ Some p → Changes w v n (Some (chosen p)) → IsAsBefore w v → v.running ≡ w.running
     → AreHeld v g (with_cancelled r (n ∷ []))
 choose_held {r = r} {n = n} {p = p} h there c as_before runs_on =
-    let shown = h.shown n p there in
-    write_held h there c as_before
-    (record { entry = shown.entry; op = shown.op; unended = shown.unended; cancelled = sym (added_same (λ j. j == n) r.cancelled n (eq-eqb n n refl)); running = shown.running; sound = shown.sound })
-    (λ k other. record { entry = refl; ended = refl; cancelled = pushed_other r.cancelled n k other; started = refl })
-    (runs_on ∙ h.running)
+    write_held h there c as_before (grind (arith, (h.shown n p there), added_same)) (grind (arith, pushed_other)) (runs_on ∙ h.running)
 
 -- a request starts
 pub start_held : {w v : Window} {g : Groups} {r : Requests} {n : ℕ} {p : Request} → IsSound w g
@@ -108,7 +101,5 @@ start_held {r = r} {n = n} {p = p} sound h there waits right c as_before more =
     let shown = h.shown n p there in
     let was = running_some h n there in
     let now = is_running_started_same r n shown.unended in
-    write_held h there c as_before
-    (record { entry = shown.entry; op = shown.op; unended = shown.unended; cancelled = shown.cancelled; running = sym (added_same (λ j. j == n) r.started n (eq-eqb n n refl)); sound = λ e. right })
-    (λ k other. record { entry = refl; ended = refl; cancelled = refl; started = pushed_other r.started n k other })
+    write_held h there c as_before (grind (arith, shown, added_same)) (grind (arith, pushed_other))
     (grind (arith, (count_below_changed (is_running r) (is_running (with_started r n)) (length r.accepted) n inside (λ k ne. is_running_started_other r n k ne)), h.running))

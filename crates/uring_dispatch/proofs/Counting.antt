@@ -1,4 +1,5 @@
 -- Counts below a bound: what one change does to them, the bits of a block, and the list of all that are counted.
+use Rattle.std.proofs.Common.{add-zero, add-suc}
 use Rattle.std.proofs.Common.{◌≡◌, ◌≢◌, ℕ, zero, suc, ◌+◌, ◌-◌, ◌*◌, ◌/◌, ◌%◌, ◌^◌, ◌<◌, ◌≤◌, ◌==◌, cond, count_ones, Bool, true, false, List, [], ◌∷◌, ◌++◌, length, slice_get, Some, None, refl, sym, ◌∙◌, ap, arith, inl, inr, length-append}
 use Rattle.uring_dispatch.proofs.Common.{all_below, bit_at, bit_at-suc, bit_at_lowest, cases_eq, count_below, eq-eqb, ne_eqb, one_if}
 use Rattle.std.specs.Int.Count.{ones_step}
@@ -32,11 +33,8 @@ count_below_zero p (suc n) none = grind (arith, (count_below_zero p n (λ k lt. 
 -- a count goes on after a number
 pub count_below_apart : (p : ℕ → Bool) (n k : ℕ)
     → count_below p (n + k) ≡ count_below p n + count_below (λ i. p (n + i)) k
-count_below_apart p n zero = let same : n + 0 ≡ n = omega arith in ap (count_below p) same ∙ omega arith
-count_below_apart p n (suc k) =
-    let more : n + suc k ≡ suc (n + k) = omega arith in
-    let rest = count_below_apart p n k in
-    ap (count_below p) more ∙ omega arith
+count_below_apart p n zero = let same : n + 0 ≡ n = omega arith in rw same (omega arith)
+count_below_apart p n (suc k) = let more : n + suc k ≡ suc (n + k) = omega arith in let rest = count_below_apart p n k in rw more (omega arith)
 
 -- nothing from n on is counted
 pub count_below_past : (p : ℕ → Bool) (n m : ℕ) → n ≤ m → ((k : ℕ) → n ≤ k → p k ≡ false)

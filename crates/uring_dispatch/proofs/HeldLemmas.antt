@@ -1,4 +1,5 @@
 -- How an outstanding request stands, from what is held.
+use Rattle.uring_dispatch.proofs.Common.{is_drain}
 use Rattle.std.proofs.Common.{◌≡◌, ◌≢◌, ℕ, ◌<◌, ◌≤◌, length, Bool, true, false, not, ◌&&◌, ◌||◌, ltb, leb, Option, Some, None, is_some, refl, sym, ◌∙◌, ap, arith, inl, inr}
 use Rattle.uring_dispatch.proofs.Common.{AreHeld, Group, Groups, HasBarrierBefore, HasBefore, HasGroup, IsGroup, IsKept, IsShownGroup, IsSound, Request, Requests, Window, addr_of, and_from, and_left, and_parts, at, cases_lt, doomed_is, drain_of, draining_is, end_of, entry_of, false≢true, first_member_inside, group_at, groups_apart, has_ended, has_member, is_before, is_candidate, is_doomed, is_draining, is_issuable, is_outstanding, is_ready, is_running, is_some_value, le-leb, leb-true, lt-ltb, ltb-true, or-false, ready_not_after, ready_not_alone, ready_not_member, ready_yes, user_data_of}
 use Rattle.std.proofs.Math.Numerals.{lt_of_le_of_ne}
@@ -129,15 +130,9 @@ module _ {w : Window} {g : Groups} {r : Requests} {n : ℕ} {request : Request} 
       let kept = i.sound.kept b.key p other.1 in
       let shown = i.held.groups b.key p other.1 in
       let drains = sym shown.drain ∙ other.2 in
-      let inside = first_member_inside _ p.from p.end b.number drains in
-      let low : p.least < q.from =
-      elim (cases_lt p.least q.from) [
-        | inl lt ↦ lt
-        | inr le ↦ absurd (groups_apart r p.from p.end q.from q.end b.number shown.group i.shown.group inside.0 inside.1 b.before (omega (arith, kept.to)))
-      ]
-      in
-      ready_not_after r n p.least (omega (arith, i.from)) (least_open i.sound i.held b.key other.1)
-      (draining_is r p.from p.end p.least shown.group kept.from kept.to ∙ ap is_some drains)
+      let inside : (p.from ≤ b.number) × (b.number < p.end) × (is_drain (entry_of r b.number) ≡ true) = first_member_inside _ p.from p.end b.number drains in
+      let going = least_open i.sound i.held b.key other.1 in
+      grind (arith, (groups_apart r p.from p.end q.from q.end b.number shown.group i.shown.group), (ready_not_after r n p.least), (draining_is r p.from p.end p.least shown.group))
 
   -- A group that drains waits for all that is earlier.
   pub not_alone : is_some q.drain ≡ true → HasBefore w q.from → is_ready r n ≡ false
@@ -150,8 +145,7 @@ pub plain_before : {w : Window} {g : Groups} {r : Requests} {from end m : ℕ} {
     → at w m ≡ Some other → m < from → is_draining r m ≡ false
 plain_before {r = r} {from = from} {end = end} {m = m} {other = other} s h group free there low =
     let its = its_group s h there in
-    let p : Group = its.0 in
-    grind (arith, (draining_held its.1), first_member_inside, (free other.group), (groups_apart r p.from p.end from end m))
+    grind (arith, (draining_held its.1), first_member_inside, (free other.group), (groups_apart r its.0.from its.0.end from end m))
 
 module _ {w : Window} {g : Groups} {r : Requests} {n : ℕ} {request : Request} {q : Group} (i : InGroup w g r n request q) where
   -- What waits for nobody is ready.
@@ -160,8 +154,5 @@ module _ {w : Window} {g : Groups} {r : Requests} {n : ℕ} {request : Request} 
       → (is_some q.drain ≡ true → (m : ℕ) → m < q.from → at w m ≡ None) → is_ready r n ≡ true
   ready_held least free alone =
       let within = shown_within i.sound i.held i.there in
-      let from = i.from in
-      ready_yes r q.from q.end n i.shown.group from i.to
-      (λ m high low. i.held.ended m (vacant w m (i.kept.over m high (omega arith))) (omega arith))
-      (λ m low going. let other = open_request i.held (omega arith) going in plain_before i.sound i.held i.shown.group free other.1 low)
-      (λ drains m low. i.held.ended m (alone (sym (draining_held i) ∙ drains) m low) (omega arith))
+      let plain = λ (m : ℕ) (low : m < q.from) (other : Request) (there : at w m ≡ Some other). plain_before i.sound i.held i.shown.group free there low in
+      grind (arith, (ready_yes r q.from q.end n i.shown.group i.from i.to), (i.held.ended), plain, draining_held, i.kept)

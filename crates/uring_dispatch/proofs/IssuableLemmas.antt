@@ -1,4 +1,5 @@
 -- Which requests can be issued, from who waits.
+use Rattle.uring_dispatch.proofs.Common.{nat_eq}
 use Rattle.std.proofs.Common.{◌≡◌, ℕ, ◌*◌, ◌/◌, ◌<◌, ◌≤◌, length, slice_get, Bool, true, false, not, ◌&&◌, ◌||◌, ◌==◌, ltb, leb, Option, Some, None, is_some, refl, sym, ◌∙◌, ap, arith, inl, inr}
 use Rattle.uring_dispatch.proofs.Common.{AreHeld, Group, Groups, HasBefore, IsFirstDraining, IsLeastBelow, IsLeastFrom, IsLimit, IsListed, IsSound, MatchOption, NumberSet, Request, Requests, Waiting, Window, and_left, and_parts, at, both_ways, can_go, cases_lt, count_below, dooms, drain_of, end_of, eq-eqb, eqb-true, first_member_inside, group_at, groups_apart, holds, is_doomed, is_issuable, is_ready, is_some_value, le-ltb, leads, least_below, least_below_none, least_below_some, lesser_of, lt-ltb, same_Some, slice_get_past, waits_at_head, waits_doomed}
 use Rattle.uring_dispatch.specs.Issuable.{issuables_of, issuable_from}
@@ -39,9 +40,7 @@ module _ {w : Window} {g : Groups} {r : Requests} {n : ℕ} {q : Request} {p : G
 -- where the first group drains from is inside it
 first_inside : {w : Window} {g : Groups} {r : Requests} {b : Group} → AreHeld w g r
     → (f : IsFirstDraining g b) → (b.from ≤ f.number) × (f.number < b.end)
-first_inside {b = b} h f =
-    let member = first_member_inside _ b.from b.end f.number (sym (h.groups f.key b f.here).drain ∙ f.drains) in
-    (member.0, member.1)
+first_inside {b = b} h f = grind (arith, first_member_inside, (h.groups f.key b f.here))
 
 -- no request after the first group that drains may start
 after_first : {w : Window} {g : Groups} {r : Requests} {n : ℕ} {q : Request} {p b : Group}
@@ -113,24 +112,11 @@ module _ {w : Window} {g : Groups} {r : Requests} {s : Waiting} (limit : ℕ) (s
   can_go_is n = go (at w n) refl
     where
       go : (o : Option Request) → at w n ≡ o → can_go s limit n ≡ is_issuable r n
-      go None e = can_go_gone limit n l e ∙ sym (and_left _ _ (and_left _ _ (outstanding_none h n e)))
+      go None e = grind (arith, (can_go_gone limit n l e), (outstanding_none h n e))
       go (Some q) e =
           let its = its_group sound h e in
           let p : Group = its.0 in
-          let found = its.1.found in
-          let doomed : holds s.doomed n ≡ (not q.is_running && is_doomed r n) =
-          (l.told n).doomed ∙ ap (λ o. waits_doomed g o n) e ∙ ap (λ o. not q.is_running && (dooms o n || q.is_cancelled)) found
-          ∙ ap (λ b. not q.is_running && b) (sym (doomed_held its.1))
-          in
-          let head : holds s.heads n ≡ (not q.is_running && (p.least == n)) =
-          (l.told n).head ∙ ap (λ o. waits_at_head g o n) e ∙ ap (λ o. not q.is_running && leads o n) found
-          in
-          ap (λ b. b || (holds s.heads n && ltb n limit)) doomed
-          ∙ ap (λ b. (not q.is_running && is_doomed r n) || (b && ltb n limit)) head
-          ∙ both (not q.is_running) (is_doomed r n) (p.least == n) (ltb n limit) (is_ready r n)
-          (λ first. limits n q p e found (eqb-true p.least n first))
-          (λ later. not_least its.1 (λ same. both_ways _ later (eq-eqb p.least n same)))
-          ∙ sym (issuable_some sound h n e)
+          grind (arith, (l.told n), (doomed_held its.1), (limits n q p e), (not_least its.1), (issuable_some sound h n e))
 
   pub next_is : (n : ℕ) (a b : Option ℕ)
       → MatchOption a ((k : ℕ) → n ≤ k → holds s.doomed k ≡ false) (IsLeastFrom s.doomed n)

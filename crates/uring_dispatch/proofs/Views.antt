@@ -27,12 +27,10 @@ held_from d w g room between r e s =
 
 pub least_held : (w : Window) (g : Groups) (r : Requests) (o : Option ℕ) → IsSound w g
     → AreHeld w g r → MatchOption o ((n : ℕ) → at w n ≡ None) (IsFirst w) → o ≡ least_of r
-least_held w g r None s h m = sym (least_below_none (is_outstanding r) (length r.accepted) (λ k lt. outstanding_none h _ (m k)))
+least_held w g r None s h m = grind (arith, (least_below_none (is_outstanding r) (length r.accepted)), (outstanding_none h))
 least_held w g r (Some n) s h m =
     let q = is_some_value (at w n) m.here in
-    sym
-    (least_below_some (is_outstanding r) (length r.accepted) n (shown_within s h q.1) (outstanding_some s h _ q.1)
-    (λ k lt. outstanding_none h _ (m.before k lt)))
+    grind (arith, (least_below_some (is_outstanding r) (length r.accepted) n), (outstanding_none h), (outstanding_some s h n q.1), (shown_within s h q.1), m.before)
 
 pub entry_none : (w : Window) (g : Groups) (r : Requests) (n : ℕ) → AreHeld w g r → at w n ≡ None
     → None ≡ entry_outstanding r n
@@ -70,14 +68,10 @@ room_fewer d room fewer le r = omega arith
 -- what is outstanding is to do what its entry asks for
 pub operation_held : (w : Window) (g : Groups) (r : Requests) (n : ℕ) (request : Request)
     → IsSound w g → AreHeld w g r → at w n ≡ Some request → operation_outstanding r n ≡ request.op
-operation_held w g r n request s h e =
-    ap (λ b. if b && not (is_faulty (entry_of r n)) then Some (operation_of (entry_of r n)) else None) (outstanding_some s h _ e)
-    ∙ go (is_faulty (entry_of r n))
-    ∙ sym (h.shown n request e).op
+operation_held w g r n request s h e = rw (outstanding_some s h n e, (h.shown n request e).op) (go (is_faulty (entry_of r n)))
   where
     go : (b : Bool) → (if true && not b then Some (operation_of (entry_of r n)) else None) ≡ (if b then None else Some (operation_of (entry_of r n)))
-    go true = refl
-    go false = refl
+    go b = grind arith
 
 -- by what it is to do
 pub finds_by : (w : Window) (g : Groups) (r : Requests) (n : ℕ) (request : Request) (op : Option Op)

@@ -71,12 +71,9 @@ module _ {w : Window} {g : Groups} {r : Requests} {n : ℕ} {request : Request} 
   early_free : is_some q.drain ≡ false → (from end : ℕ) → IsGroup r from end → from ≤ q.from
       → ((key number : ℕ) → drain_of (group_at g key) ≡ Some number → from ≤ number)
       → (k : ℕ) → k < from → holds_back r n k ≡ false
-  early_free plain from end group le free k low = go (at w k) refl
-    where
-      go : (o : Option Request) → at w k ≡ o → holds_back r n k ≡ false
-      go None e = let after = i.from in gone_free i.sound i.held i.there (omega arith) e
-      go (Some other) e =
-          grind (arith, (joined_member r q.from q.end k n i.shown.group i.from i.to), (plain_before i.sound i.held group free e low), (draining_held i), i.from)
+  early_free plain from end group le free k low =
+      grind (arith, (gone_free i.sound i.held i.there), (joined_member r q.from q.end k n i.shown.group i.from i.to), (draining_held i), i.from,
+        (λ (other : Request) (e : at w k ≡ Some other). plain_before i.sound i.held group free e low))
 
   -- an earlier group is the first that drains
   pub first_draining_is : {b : Group} → is_some q.drain ≡ false → IsFirstDraining g b → b.from < q.from
@@ -84,34 +81,20 @@ module _ {w : Window} {g : Groups} {r : Requests} {n : ℕ} {request : Request} 
   first_draining_is {b} plain f low =
       let kept = i.sound.kept f.key b f.here in
       let shown = i.held.groups f.key b f.here in
-      let drains = sym shown.drain ∙ f.drains in
-      let member = first_member_inside _ b.from b.end f.number drains in
+      let member = first_member_inside _ b.from b.end f.number (sym shown.drain ∙ f.drains) in
+      let early = early_free plain b.from b.end shown.group (omega arith) (λ key number d. let le = f.first key number d in omega (arith, member.0)) in
       record {
-        before = λ k lt earlier.
-            elim (cases_lt k b.from) [
-              | inl before ↦ early_free plain b.from b.end shown.group (omega arith) (λ key number d. let le = f.first key number d in omega (arith, member.0)) k before
-              | inr inside ↦ gone_free i.sound i.held i.there earlier (vacant w k (kept.over k inside lt))
-            ];
-        here = λ lt.
-            and_from _ _ (ap not (least_open i.sound i.held f.key f.here))
-            (or_left _ _ (or_right _ _ (draining_is r b.from b.end b.least shown.group kept.from kept.to ∙ ap is_some drains)));
+        before = λ k lt earlier. grind (arith, (early k), (gone_free i.sound i.held i.there {k = k}), kept, (cases_lt k b.from));
+        here = λ lt. grind (arith, (least_open i.sound i.held f.key f.here), (draining_is r b.from b.end b.least shown.group), f.drains);
       }
 
   -- none is, and so it waits for its own group alone
   pub first_own : is_some q.drain ≡ false
       → ((key number : ℕ) → drain_of (group_at g key) ≡ Some number → q.from ≤ number)
       → IsFirstHolder r n q.least
-  first_own plain free = record {
-    before = λ k lt earlier.
-        elim (cases_lt k q.from) [
-          | inl before ↦ early_free plain q.from q.end i.shown.group (omega arith) free k before
-          | inr inside ↦ gone_free i.sound i.held i.there earlier (vacant w k (i.kept.over k inside lt))
-        ];
-    here = λ lt.
-        let from = i.kept.from in
-        and_from _ _ (ap not (least_open i.sound i.held request.group i.found))
-        (or_left _ _ (or_left _ _ (joined_member r q.from q.end q.least n i.shown.group i.from i.to (omega arith) ∙ le-leb q.from q.least from)));
-  }
+  first_own plain free =
+      let going = least_open i.sound i.held request.group i.found in
+      grind (arith, (early_free plain q.from q.end i.shown.group), (gone_free i.sound i.held i.there), (joined_member r q.from q.end q.least n i.shown.group i.from i.to))
 
 pub waits_for : (r : Requests) (n m : ℕ) (since : Since) → m < n → IsFirstHolder r n m
     → since ≡ since_of r n m → Waits m since ≡ waiting_for r n (holder_of r n)
