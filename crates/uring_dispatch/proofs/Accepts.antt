@@ -12,7 +12,8 @@ use Rattle.uring_dispatch.proofs.Counting.{count_below_same}
 
 -- where the group that is joined, or the new one, begins and ends
 member_is : (o : Option Group) (n : ℕ) (d f : Bool)
-    → ((with_member o n d f).end ≡ n + 1) × ((q : Group) → o ≡ Some q → (with_member o n d f).from ≡ q.from) × (o ≡ None → (with_member o n d f).from ≡ n)
+    → ((with_member o n d f).end ≡ n + 1) × ((q : Group) → o ≡ Some q → (with_member o n d f).from ≡ q.from)
+    × (o ≡ None → (with_member o n d f).from ≡ n)
 member_is o n d f = grind arith
 
 -- The group p has one more member, the last request.
@@ -53,7 +54,8 @@ module _ {w v : Window} {g h : Groups} {entry : Sqe} {request : Request} (s : Is
   accept_sound =
       let o : Option Group = last_group g.records g.last in
       let is = member_is o (end_of w) (is_drain entry) (is_faulty entry) in
-      joined_sound s a.changes a.end a.beyond (with_member o (end_of w) (is_drain entry) (is_faulty entry)) a.exchange is.0 (joined_kept o refl)
+      joined_sound s a.changes a.end a.beyond (with_member o (end_of w) (is_drain entry) (is_faulty entry)) a.exchange is.0
+      (joined_kept o refl)
       (λ q found. (is.1 q (sym a.joins ∙ found), joined_end (sym a.joins ∙ found)))
       (λ none. is.2 (sym a.joins ∙ none))
       (λ key found. only_key (is_linked entry) request.group key _ a.last found)
@@ -131,7 +133,8 @@ module _ {w v : Window} {g h : Groups} {r : Requests} {entry : Sqe} {request : R
       → IsShownGroup (with_accepted r entry) x
   elsewhere_shown x old closed =
       let none = (a.untouched (length r.accepted) (omega arith)).ended in
-      grind (arith, (group_accepted r entry x.from x.end), (first_entry_accepted r entry is_faulty x.from x.end), (first_entry_accepted r entry is_drain x.from x.end), (first_broken_accepted r entry x.from x.end none))
+      grind (arith, (group_accepted r entry x.from x.end), (first_entry_accepted r entry is_faulty x.from x.end),
+        (first_entry_accepted r entry is_drain x.from x.end), (first_broken_accepted r entry x.from x.end none))
 
 pub accept_held : {w v : Window} {g h : Groups} {r : Requests} {entry : Sqe} {key : ℕ} → IsSound w g
     → AreHeld w g r → Accepts w v g h entry (new_request entry key)

@@ -27,7 +27,12 @@ reaches_accepted w v s t n r grows is end others =
     let old = r.few in
     let a = grows.few (s.first + length s.blocks) in
     let b = grows.few (n / 64 + 1) in
-    record { start = omega arith; stop = omega arith; few = omega arith; low = λ k there. grind (arith, (cases_eq k (end_of w)), (others k), (r.low k)) }
+    record {
+      start = omega arith;
+      stop = omega arith;
+      few = omega arith;
+      low = λ k there. grind (arith, (cases_eq k (end_of w)), (others k), (r.low k));
+    }
 
 pub accept_listed : (w v : Window) (g h : Groups) (entry : Sqe) (request : Request) (s t : Waiting) (n : ℕ)
     → IsSound w g → IsListed w g s → Accepts w v g h entry request → n ≡ end_of w
@@ -64,7 +69,8 @@ accept_listed w v g h entry request s t n sound l a is own members told heads do
                     stays k
                     (stands_in w v g h k x p q (a.changes.others k ne) e link.found (ap (group_at h) here ∙ now) refl (ap (λ b. b || is_before q.broken k) same))
                 | inr fresh ↦
-                    members p now (fresh ∙ ap Some (sym is)) k (least_before sound e link.found) (omega (arith, (sound.kept request.group q was).end, link.to))
+                    let end = (sound.kept request.group q was).end in
+                    members p now (fresh ∙ ap Some (sym is)) k (least_before sound e link.found) (omega (arith, end, link.to))
               ]
         ]
 

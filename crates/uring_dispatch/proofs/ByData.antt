@@ -57,7 +57,11 @@ found_renewed w x y first f same within before places = record {
 -- the number n was looked at, which isn't outstanding
 pub found_past : (w : Window) (x y : ByUserData) (n : ℕ) → AreFound w x → x.stop ≡ n
     → n < end_of w → at w n ≡ None → y.stop ≡ n + 1 → y.ends ≡ x.ends → AreFound w y
-found_past w x y n f is within none stop ends = record { stop = omega arith; between = λ k q e lt. grind (arith, (cases_eq k n), (f.between k q e)); places = rw ends (omega (arith, f.places)) }
+found_past w x y n f is within none stop ends = record {
+  stop = omega arith;
+  between = λ k q e lt. grind (arith, (cases_eq k n), (f.between k q e));
+  places = rw ends (omega (arith, f.places));
+}
 
 -- the number n was looked at, and noted
 pub found_next : (w : Window) (x y : ByUserData) (n : ℕ) (q : Request) → AreFound w x → x.stop ≡ n

@@ -102,4 +102,4 @@ start_held {r = r} {n = n} {p = p} sound h there waits right c as_before more =
     let was = running_some h n there in
     let now = is_running_started_same r n shown.unended in
     write_held h there c as_before (grind (arith, shown, added_same)) (grind (arith, pushed_other))
-    (grind (arith, (count_below_changed (is_running r) (is_running (with_started r n)) (length r.accepted) n inside (λ k ne. is_running_started_other r n k ne)), h.running))
+    (grind (arith, (count_below_changed (is_running r) (is_running (with_started r n))), is_running_started_other, h.running))

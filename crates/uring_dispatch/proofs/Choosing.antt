@@ -109,9 +109,10 @@ module _ {old now : Outstanding} {n user_data m count : ℕ} (c : AreChosen old 
       record {
         chosen = chosen_both old now next c.chosen chosen;
         few = omega arith;
-        count_is = λ r h named. grind (arith, (c.count_is r h named), (one_more (is_target r n) m), (target_tested test r h named), length-append);
+        count_is = λ r h named.
+            grind (arith, (c.count_is r h named), (one_more (is_target r n) m), (target_tested test r h named), length-append);
         shows = λ r h named.
-            rw (one_more (is_target r n) m (target_tested test r h named), ← append_assoc r.cancelled (all_below (is_target r n) m) (m ∷ []))
+            rw (one_more (is_target r n) m (target_tested test r h named), ← append_assoc r.cancelled _ (m ∷ []))
             (shows (with_cancelled r (all_below (is_target r n) m)) (c.shows r h named));
       }
 

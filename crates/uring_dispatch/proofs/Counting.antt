@@ -34,7 +34,10 @@ count_below_zero p (suc n) none = grind (arith, (count_below_zero p n (λ k lt. 
 pub count_below_apart : (p : ℕ → Bool) (n k : ℕ)
     → count_below p (n + k) ≡ count_below p n + count_below (λ i. p (n + i)) k
 count_below_apart p n zero = let same : n + 0 ≡ n = omega arith in rw same (omega arith)
-count_below_apart p n (suc k) = let more : n + suc k ≡ suc (n + k) = omega arith in let rest = count_below_apart p n k in rw more (omega arith)
+count_below_apart p n (suc k) =
+    let more : n + suc k ≡ suc (n + k) = omega arith in
+    let rest = count_below_apart p n k in
+    rw more (omega arith)
 
 -- nothing from n on is counted
 pub count_below_past : (p : ℕ → Bool) (n m : ℕ) → n ≤ m → ((k : ℕ) → n ≤ k → p k ≡ false)
@@ -50,7 +53,9 @@ count_below_front p (suc n) = let rest = count_below_front p n in omega arith
 -- the bits of a number
 pub ones_counted : (n k : ℕ) → n < 2 ^ k → count_ones n ≡ count_below (λ i. bit_at n i == 1) k
 ones_counted n zero lt = grind (arith, ones_le_self)
-ones_counted n (suc k) lt = grind (arith, (ones_step n), (ones_counted (n / 2) k (omega arith)), count_below_same, (count_below_front (λ i. bit_at n i == 1) k), bit_at-suc, bit_at_lowest)
+ones_counted n (suc k) lt =
+    grind (arith, (ones_step n), (ones_counted (n / 2) k (omega arith)), count_below_same,
+      (count_below_front (λ i. bit_at n i == 1) k), bit_at-suc, bit_at_lowest)
 
 -- The list of all that are counted.
 

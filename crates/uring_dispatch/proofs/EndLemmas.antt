@@ -59,8 +59,8 @@ module _ {w v : Window} {g h : Groups} {n : ℕ} {request : Request} {q : Group}
   pub end_sound : IsBeyond h.barriers (end_of w) → IsSound v h
   end_sound beyond = record {
     linked = λ k x there.
-        grind (arith, (before_end e.changes there), (s.linked k x), (cases_eq x.group request.group), (e.exchange.others x.group), left_member,
-          e.exchange.here, e.some);
+        grind (arith, (before_end e.changes there), (s.linked k x), (cases_eq x.group request.group), (e.exchange.others x.group),
+          left_member, e.exchange.here, e.some);
     members = λ key x k y found from to there.
         grind (arith, (before_end e.changes there), (now key x found), (s.members key x k y), (s.members key q k y));
     kept = λ key x found.
@@ -74,10 +74,14 @@ module _ {w v : Window} {g h : Groups} {n : ℕ} {request : Request} {q : Group}
 module _ {w : Window} {g : Groups} {r : Requests} (n : ℕ) {request : Request} (res : ℤ) (bytes : List ℕ) (s : IsSound w g)
     (h : AreHeld w g r) (e : at w n ≡ Some request) where
   outstanding_less : outstanding_in (with_ended r n res bytes) + 1 ≡ outstanding_in r
-  outstanding_less = grind (arith, outstanding_some, has_ended_same, has_ended_other, (shown_within s h e), (count_below_changed (is_outstanding r) (is_outstanding (with_ended r n res bytes)) (length r.accepted) n))
+  outstanding_less =
+      grind (arith, outstanding_some, has_ended_same, has_ended_other, (shown_within s h e),
+        (count_below_changed (is_outstanding r) (is_outstanding (with_ended r n res bytes))))
 
   running_less : running_in (with_ended r n res bytes) + one_if request.is_running ≡ running_in r
-  running_less = grind (arith, running_some, is_running_ended_same, is_running_ended_other, (shown_within s h e), (count_below_changed (is_running r) (is_running (with_ended r n res bytes)) (length r.accepted) n))
+  running_less =
+      grind (arith, running_some, is_running_ended_same, is_running_ended_other, (shown_within s h e),
+        (count_below_changed (is_running r) (is_running (with_ended r n res bytes))))
 
 module _ {w v : Window} {g h : Groups} {r : Requests} {n : ℕ} {request : Request} {q : Group} {least : ℕ} {broken : Option ℕ} (res : ℤ)
     (bytes : List ℕ) (s : IsSound w g) (e : Ends w v g h n request q least broken) (a : AreHeld w g r) where
@@ -102,7 +106,8 @@ module _ {w v : Window} {g h : Groups} {r : Requests} {n : ℕ} {request : Reque
         count = a.count ∙ sym e.end;
         outstanding = omega (arith, lost.outstanding, a.outstanding, outstanding_less n res bytes s a e.there);
         running = omega (arith, lost.runs, a.running, running_less n res bytes s a e.there);
-        ended = λ m gone lt. grind (arith, (cases_eq m n), has_ended_same, (has_ended_other r n res bytes m), (a.ended m), (e.changes.others m));
+        ended = λ m gone lt.
+            grind (arith, (cases_eq m n), has_ended_same, (has_ended_other r n res bytes m), (a.ended m), (e.changes.others m));
         shown = λ k x there. grind (arith, (before_end e.changes there), (has_ended_other r n res bytes k), (a.shown k x));
         groups = λ key x found.
             elim (now s e key x found) [

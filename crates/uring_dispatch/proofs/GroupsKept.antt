@@ -60,10 +60,12 @@ front_of [] b c rest e = inl (cc)
 front_of (d ∷ more) b c rest e = inr (more, cc)
 
 -- who stood first still does
-front_kept : (records new : List (Option Group)) (barriers more : List Barrier) (last : Option ℕ) (key n : ℕ) (drains faulty : Bool) (b : Barrier)
+front_kept : (records new : List (Option Group)) (barriers more : List Barrier) (last : Option ℕ) (key n : ℕ)
+    (drains faulty : Bool) (b : Barrier)
     → IsLiveFront records barriers → IsAccepted records new last key n drains faulty
     → barriers ≡ b ∷ more → drain_of (get_or new b.key None) ≡ Some b.number
-front_kept records new barriers more last key n drains faulty b live a is = grind (arith, (live b more is), (cases_eq b.key key), kept_drain)
+front_kept records new barriers more last key n drains faulty b live a is =
+    grind (arith, (live b more is), (cases_eq b.key key), kept_drain)
 
 pub accept_front : (records new : List (Option Group)) (barriers : List Barrier) (last : Option ℕ) (key n : ℕ) (drains faulty : Bool)
     → IsLiveFront records barriers → IsAccepted records new last key n drains faulty
@@ -100,7 +102,8 @@ pub before_free : (records : List (Option Group)) (barriers : List Barrier) (las
     → AreGroups records barriers last → 0 < length barriers → b ≡ get_or barriers 0 b → n ≤ b.number
     → (key number : ℕ) → drain_of (get_or records key None) ≡ Some number → n ≤ number
 before_free records [] last b n a lt e low key number drains = absurd (omega arith)
-before_free records (c ∷ rest) last b n a lt e low key number drains = grind (arith, (front_least c rest key number a.sorted (a.covered key number drains)))
+before_free records (c ∷ rest) last b n a lt e low key number drains =
+    grind (arith, (front_least c rest key number a.sorted (a.covered key number drains)))
 
 pub none_free : (records : List (Option Group)) (barriers : List Barrier) (last : Option ℕ) (n : ℕ)
     → AreGroups records barriers last → length barriers ≡ 0 → (key number : ℕ)

@@ -38,7 +38,7 @@ pub issued_run : (r : Requests) (n : ℕ) (op : Op) → is_doomed r n ≡ false 
 issued_run r n op free ready does other =
     elim (cases_Bool (is_cancel (entry_of r n))) [
       | inl cancel ↦ absurd (other (addr_of (entry_of r n)) (is_cancel_all (entry_of r n)) (does ∙ asks_cancel (entry_of r n) cancel))
-      | inr other_code ↦ rw (free, ready, does) (ap (λ b. if b then Ended (cancel_result r n) else Run (operation_of (entry_of r n))) (sym other_code))
+      | inr other_code ↦ cc
     ]
 
 -- The order of the tests.

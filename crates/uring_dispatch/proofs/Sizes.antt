@@ -43,7 +43,10 @@ leasts_distinct : (records : List (Option Group)) → HaveOwn records
 unfolding leasts IsDistinct
 leasts_distinct [] own = tt
 leasts_distinct (None ∷ rest) own = leasts_distinct rest (own_rest None rest own)
-leasts_distinct (Some p ∷ rest) own = (leasts_apart p.least rest (λ k q e same. grind (arith, (own 0 (suc k) p q refl e))), leasts_distinct rest (own_rest (Some p) rest own))
+leasts_distinct (Some p ∷ rest) own = (
+  leasts_apart p.least rest (λ k q e same. grind (arith, (own 0 (suc k) p q refl e))),
+  leasts_distinct rest (own_rest (Some p) rest own),
+)
 
 leasts_below : (records : List (Option Group)) (n m : ℕ)
     → ((k : ℕ) (q : Group) → get_or records k None ≡ Some q → q.least < n)
@@ -51,7 +54,8 @@ leasts_below : (records : List (Option Group)) (n m : ℕ)
 unfolding leasts
 leasts_below [] n m below any = absurd (false≢true any)
 leasts_below (None ∷ rest) n m below any = leasts_below rest n m (λ k q e. below (suc k) q e) any
-leasts_below (Some p ∷ rest) n m below any = grind (arith, eqb-true, (below 0 p refl), (leasts_below rest n m (λ k q e. below (suc k) q e)))
+leasts_below (Some p ∷ rest) n m below any =
+    grind (arith, eqb-true, (below 0 p refl), (leasts_below rest n m (λ k q e. below (suc k) q e)))
 
 -- each group that is kept has a member that no other has
 own_least : (w : Window) (g : Groups) → IsSound w g → HaveOwn g.records

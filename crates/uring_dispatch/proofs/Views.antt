@@ -13,7 +13,8 @@ pub shows_held : (w : Window) (g : Groups) (r : Requests) (room : ℕ) (between 
     → AreHeld w g r → ShowsRequests (dispatch_of w g room between) r
 unfolding StandsFor
 shows_held w g r room between h =
-    grind (arith, (held_alike w (record w { room = 0 }) g (record g { room = 0 }) r (alike_from w (record w { room = 0 }) g (record g { room = 0 }) refl refl) h))
+    grind (arith,
+      (held_alike w (record w { room = 0 }) g (record g { room = 0 }) r (alike_from w _ g _ refl refl) h))
 
 -- what is held, where the value was opened
 pub held_from : (d : Dispatch) (w : Window) (g : Groups) (room : ℕ) (between : Bool) (r : Requests)
@@ -21,7 +22,7 @@ pub held_from : (d : Dispatch) (w : Window) (g : Groups) (room : ℕ) (between :
 unfolding StandsFor
 held_from d w g room between r e s =
     let P : Dispatch → Type 0 = λ x. ShowsRequests x r in
-    held_alike (record w { room = 0 }) w (record g { room = 0 }) g r (alike_from (record w { room = 0 }) w (record g { room = 0 }) g refl refl) (subst P (sym e) s).held
+    held_alike (record w { room = 0 }) w (record g { room = 0 }) g r (alike_from _ w _ g refl refl) (subst P (sym e) s).held
 
 -- What the queries answer.
 
@@ -30,7 +31,8 @@ pub least_held : (w : Window) (g : Groups) (r : Requests) (o : Option ℕ) → I
 least_held w g r None s h m = grind (arith, (least_below_none (is_outstanding r) (length r.accepted)), (outstanding_none h))
 least_held w g r (Some n) s h m =
     let q = is_some_value (at w n) m.here in
-    grind (arith, (least_below_some (is_outstanding r) (length r.accepted) n), (outstanding_none h), (outstanding_some s h n q.1), (shown_within s h q.1), m.before)
+    grind (arith, (least_below_some (is_outstanding r)), (outstanding_none h), (outstanding_some s h n q.1),
+      (shown_within s h q.1), m.before)
 
 pub entry_none : (w : Window) (g : Groups) (r : Requests) (n : ℕ) → AreHeld w g r → at w n ≡ None
     → None ≡ entry_outstanding r n

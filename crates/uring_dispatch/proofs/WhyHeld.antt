@@ -72,7 +72,8 @@ module _ {w : Window} {g : Groups} {r : Requests} {n : ℕ} {request : Request} 
       → ((key number : ℕ) → drain_of (group_at g key) ≡ Some number → from ≤ number)
       → (k : ℕ) → k < from → holds_back r n k ≡ false
   early_free plain from end group le free k low =
-      grind (arith, (gone_free i.sound i.held i.there), (joined_member r q.from q.end k n i.shown.group i.from i.to), (draining_held i), i.from,
+      grind (arith, (gone_free i.sound i.held i.there), (joined_member r q.from q.end k n i.shown.group i.from i.to),
+        (draining_held i), i.from,
         (λ (other : Request) (e : at w k ≡ Some other). plain_before i.sound i.held group free e low))
 
   -- an earlier group is the first that drains
@@ -82,7 +83,9 @@ module _ {w : Window} {g : Groups} {r : Requests} {n : ℕ} {request : Request} 
       let kept = i.sound.kept f.key b f.here in
       let shown = i.held.groups f.key b f.here in
       let member = first_member_inside _ b.from b.end f.number (sym shown.drain ∙ f.drains) in
-      let early = early_free plain b.from b.end shown.group (omega arith) (λ key number d. let le = f.first key number d in omega (arith, member.0)) in
+      let early = early_free plain b.from b.end shown.group (omega arith)
+      (λ key number d. let le = f.first key number d in omega (arith, member.0))
+      in
       record {
         before = λ k lt earlier. grind (arith, (early k), (gone_free i.sound i.held i.there {k = k}), kept, (cases_lt k b.from));
         here = λ lt. grind (arith, (least_open i.sound i.held f.key f.here), (draining_is r b.from b.end b.least shown.group), f.drains);
@@ -94,7 +97,8 @@ module _ {w : Window} {g : Groups} {r : Requests} {n : ℕ} {request : Request} 
       → IsFirstHolder r n q.least
   first_own plain free =
       let going = least_open i.sound i.held request.group i.found in
-      grind (arith, (early_free plain q.from q.end i.shown.group), (gone_free i.sound i.held i.there), (joined_member r q.from q.end q.least n i.shown.group i.from i.to))
+      grind (arith, (early_free plain q.from q.end), (gone_free i.sound i.held i.there),
+        (joined_member r q.from q.end q.least n i.shown.group i.from i.to))
 
 pub waits_for : (r : Requests) (n m : ℕ) (since : Since) → m < n → IsFirstHolder r n m
     → since ≡ since_of r n m → Waits m since ≡ waiting_for r n (holder_of r n)

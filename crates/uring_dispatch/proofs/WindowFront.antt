@@ -51,13 +51,15 @@ module _ (w : Window) (requests : List (Option Request)) (n key outstanding : �
       → IsSameBut w.requests requests key → IsWindow (record w { requests = requests; outstanding = outstanding; running = w.running + 1 })
   start_window waits here others =
       let found = is_some_value (at w n) there in
-      write_window w requests n key outstanding (w.running + 1) (started found.0) i e (here found.0 (sym (by_key w n key e) ∙ found.1)) others (grind arith)
+      let kept = here found.0 (sym (by_key w n key e) ∙ found.1) in
+      write_window w requests n key outstanding (w.running + 1) (started found.0) i e kept others (grind arith)
 
   pub choose_window : ((q : Request) → get_or w.requests key None ≡ Some q → get_or requests key None ≡ Some (chosen q))
       → IsSameBut w.requests requests key → IsWindow (record w { requests = requests; outstanding = outstanding })
   choose_window here others =
       let found = is_some_value (at w n) there in
-      write_window w requests n key outstanding w.running (chosen found.0) i e (here found.0 (sym (by_key w n key e) ∙ found.1)) others (grind arith)
+      let kept = here found.0 (sym (by_key w n key e) ∙ found.1) in
+      write_window w requests n key outstanding w.running (chosen found.0) i e kept others (grind arith)
 
 pub one_is : (b : Bool) → from_bool b ≡ one_if b
 one_is b = grind arith
@@ -65,7 +67,7 @@ one_is b = grind arith
 pub ended_counted : (w : Window) (n key : ℕ) (q : Request) → IsWindow w
     → key_at w.first w.keys n ≡ Some key → get_or w.requests key None ≡ Some q
     → from_bool q.is_running ≤ w.running
-ended_counted w n key q i e is = grind (arith, (key_at_within w.first w.keys n key e), (count_below_some (λ m. runs (at w m)) (end_of w) n), i.counted, by_key)
+ended_counted w n key q i e is = grind (arith, key_at_within, (count_below_some (λ m. runs (at w m)) (end_of w) n), i.counted, by_key)
 
 -- past the end there is nothing
 pub at_past : (w : Window) (n : ℕ) → end_of w ≤ n → at w n ≡ None

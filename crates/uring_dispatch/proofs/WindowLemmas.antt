@@ -67,7 +67,7 @@ module _ (w : Window) (requests : List (Option Request)) (key outstanding room :
       record {
         present = λ n k e. grind (arith, (push_cases n k e), (others k), (unused n k), (i.present n k));
         distinct = λ m n k a b. grind (arith, (push_cases m k a), (push_cases n k b), unused, (i.distinct m n k));
-        counted = grind (arith, (count_below_same (λ n. runs (at pushed n)) (λ n. runs (at w n)) (end_of w)), push_changes, i.counted);
+        counted = grind (arith, (count_below_same (λ n. runs (at pushed n)) (λ n. runs (at w n))), push_changes, i.counted);
         fits = omega (arith, i.fits);
       }
 
@@ -86,7 +86,9 @@ module _ (w : Window) (requests : List (Option Request)) (n key outstanding runn
   write_window count = record {
     present = λ m k is. grind (arith, (cases_eq k key), (others k), (i.present m k));
     distinct = i.distinct;
-    counted = grind (arith, key_at_within, (count_below_changed (λ m. runs (at w m)) (λ m. runs (at rewritten m)) (end_of w) n), write_changes, i.counted);
+    counted =
+        grind (arith, key_at_within, (count_below_changed (λ m. runs (at w m)) (λ m. runs (at rewritten m)) (end_of w) n),
+          write_changes, i.counted);
     fits = i.fits;
   }
 
@@ -111,7 +113,9 @@ module _ (w : Window) (requests : List (Option Request)) (n key outstanding runn
       record {
         present = λ m k at_m. grind (arith, (end_cases m k at_m), (others k), (i.distinct m n k), (i.present m k));
         distinct = λ a b k x y. i.distinct a b k (end_cases a k x).1 (end_cases b k y).1;
-        counted = grind (arith, key_at_within, (count_below_changed (λ m. runs (at w m)) (λ m. runs (at without m)) (end_of w) n), end_changes, (at_keyed w n (Some key)), i.counted);
+        counted =
+            grind (arith, key_at_within, (count_below_changed (λ m. runs (at w m)) (λ m. runs (at without m)) (end_of w) n),
+              end_changes, (at_keyed w n (Some key)), i.counted);
         fits = omega (arith, i.fits);
       }
 
