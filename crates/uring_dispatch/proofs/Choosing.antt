@@ -32,11 +32,8 @@ cancel_succeeds r n is = grind (arith, is_success)
 
 -- A cancel chooses one.
 
-same_none : (w : Window) → HasSameRequests w w
-same_none w = assumption
-
 pub chosen_nobody : (d : Outstanding) → HasChosen d d
-chosen_nobody d = record { same = same_none d.grouped.window; groups = refl; memory = omega arith; places = omega arith }
+chosen_nobody d = grind arith
 
 pub chosen_both : (a b c : Outstanding) → HasChosen a b → HasChosen b c → HasChosen a c
 chosen_both a b c x y = grind arith

@@ -11,11 +11,6 @@ covered_above : (b : Barrier) (rest : List Barrier) (key number : ℕ)
 covered_above b [] key number all any = cc
 covered_above b (c ∷ rest) key number all any = grind (arith, eqb-true, ltb-true, (covered_above b rest key number))
 
--- the first barrier has the least number of all that stand in the queue
-pub front_least : (b : Barrier) (rest : List Barrier) (key number : ℕ) → IsSorted (b ∷ rest)
-    → list_any (covers key number) (b ∷ rest) ≡ true → b.number ≤ number
-front_least b rest key number sorted any = grind (arith, covered_above)
-
 list_all_weaker : (p q : Barrier → Bool) (xs : List Barrier)
     → ((x : Barrier) → p x ≡ true → q x ≡ true) → list_all p xs ≡ true → list_all q xs ≡ true
 list_all_weaker p q [] h all = refl
@@ -36,10 +31,6 @@ with_cases barriers o n key = grind arith
 pub beyond_with : (barriers : List Barrier) (o : Option ℕ) (n key : ℕ) → IsBeyond barriers n
     → IsBeyond (with_barrier barriers o n key) (n + 1)
 beyond_with barriers o n key e = grind (arith, list_all_weaker, ltb-true, list_all-append)
-
-kept_drain : (old : Option Group) (n d : ℕ) (drains faulty : Bool) → drain_of old ≡ Some d
-    → (with_member old n drains faulty).drain ≡ Some d
-kept_drain old n d drains faulty e = grind arith
 
 -- A request was accepted into the group of this key.
 pub record IsAccepted (records new : List (Option Group)) (last : Option ℕ) (key n : ℕ) (drains faulty : Bool) : Type 0 where
@@ -65,7 +56,7 @@ front_kept : (records new : List (Option Group)) (barriers more : List Barrier) 
     → IsLiveFront records barriers → IsAccepted records new last key n drains faulty
     → barriers ≡ b ∷ more → drain_of (get_or new b.key None) ≡ Some b.number
 front_kept records new barriers more last key n drains faulty b live a is =
-    grind (arith, (live b more is), (cases_eq b.key key), kept_drain)
+    grind (arith, (live b more is), (cases_eq b.key key))
 
 pub accept_front : (records new : List (Option Group)) (barriers : List Barrier) (last : Option ℕ) (key n : ℕ) (drains faulty : Bool)
     → IsLiveFront records barriers → IsAccepted records new last key n drains faulty
@@ -103,7 +94,7 @@ pub before_free : (records : List (Option Group)) (barriers : List Barrier) (las
     → (key number : ℕ) → drain_of (get_or records key None) ≡ Some number → n ≤ number
 before_free records [] last b n a lt e low key number drains = absurd (omega arith)
 before_free records (c ∷ rest) last b n a lt e low key number drains =
-    grind (arith, (front_least c rest key number a.sorted (a.covered key number drains)))
+    grind (arith, eqb-true, (covered_above c rest key number a.sorted.0), (a.covered key number drains))
 
 pub none_free : (records : List (Option Group)) (barriers : List Barrier) (last : Option ℕ) (n : ℕ)
     → AreGroups records barriers last → length barriers ≡ 0 → (key number : ℕ)

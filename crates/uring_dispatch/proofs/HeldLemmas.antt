@@ -39,11 +39,6 @@ module _ {w : Window} {g : Groups} {r : Requests} (h : AreHeld w g r) where
   pub open_here : (n : ℕ) → is_some (at w n) ≡ true → has_ended r n ≡ false
   open_here n here = let q = is_some_value (at w n) here in (h.shown n q.0 q.1).unended
 
-  -- a number that is given and hasn't ended has a request
-  open_request : {n : ℕ} → n < length r.accepted → has_ended r n ≡ false
-      → (q : Request) × (at w n ≡ Some q)
-  open_request {n} lt going = grind arith
-
   pub outstanding_none : (n : ℕ) → at w n ≡ None → is_outstanding r n ≡ false
   outstanding_none n e = grind arith
 
@@ -64,8 +59,7 @@ doomed_rest a b c x y = ap (λ v. (v || b) || c) x ∙ ap (λ v. b || v) y ∙ o
 module _ {w : Window} {g : Groups} {r : Requests} (s : IsSound w g) (h : AreHeld w g r) where
   -- a number with a request is outstanding
   pub shown_within : {n : ℕ} {q : Request} → at w n ≡ Some q → n < length r.accepted
-  shown_within {q = q} e =
-      let link = linked s e in omega (arith, h.count, (s.kept q.group link.group link.found).end, link.to)
+  shown_within {q = q} e = let link = linked s e in grind (arith, (s.kept q.group link.group link.found))
 
   pub outstanding_some : (n : ℕ) {q : Request} → at w n ≡ Some q → is_outstanding r n ≡ true
   outstanding_some n {q} e = and_from _ _ (lt-ltb n (length r.accepted) (shown_within e)) (ap not (h.shown n q e).unended)
@@ -106,9 +100,6 @@ module _ {w : Window} {g : Groups} {r : Requests} {n : ℕ} {request : Request} 
 pub drain_group : (o : Option Group) (d : ℕ) → drain_of o ≡ Some d
     → (p : Group) × (o ≡ Some p) × (p.drain ≡ Some d)
 drain_group o d e = grind arith
-
-none_drains : (o : Option ℕ) → ((d : ℕ) → o ≡ Some d → ⊥) → is_some o ≡ false
-none_drains o k = grind arith
 
 module _ {w : Window} {g : Groups} {r : Requests} {n : ℕ} {request : Request} {q : Group} (i : InGroup w g r n request q) where
   pub doomed_held : is_doomed r n ≡ ((is_some q.fault || is_before q.broken n) || request.is_cancelled)

@@ -13,11 +13,6 @@ use Rattle.uring_dispatch.proofs.HeldLemmas.{InGroup, in_group, its_group, some_
 abbrev IsLeastOf : (ℕ → Bool) → Option ℕ → Type 0
 IsLeastOf p o = MatchOption o ((k : ℕ) → p k ≡ false) (λ m. (p m ≡ true) × ((k : ℕ) → k < m → p k ≡ false))
 
--- the lesser of what two searches found is the least that either looks for
-lesser_least : (p q : ℕ → Bool) (a b : Option ℕ) → IsLeastOf p a → IsLeastOf q b
-    → IsLeastOf (λ k. p k || q k) (lesser_of a b)
-lesser_least p q a b x y = grind arith
-
 least_is : (p q : ℕ → Bool) (n : ℕ) (o : Option ℕ) → IsLeastOf p o → ((k : ℕ) → q k ≡ p k)
     → ((k : ℕ) → q k ≡ true → k < n) → o ≡ least_below q n
 least_is p q n None least same within = grind (arith, least_below_none)
@@ -61,12 +56,9 @@ module _ {w : Window} {g : Groups} {r : Requests} (s : IsSound w g) (h : AreHeld
   limit_begins {b} f before n q p there found least =
       let inside = first_inside h f in
       let i = in_group s h there found in
-      elim (cases_lt n b.from) [
-        | inl low ↦
-            grind (arith, (ready_held i least), is_some_value, (f.first q.group), first_member_inside,
-              (groups_apart r p.from p.end b.from b.end n i.shown.group (h.groups f.key b f.here).group), i.shown.drain)
-        | inr high ↦ grind (arith, (group_same i f.key f.here), (not_alone i), (after_first i f))
-      ]
+      grind (arith, (ready_held i least), is_some_value, (f.first q.group), first_member_inside, (cases_lt n b.from),
+        (groups_apart r p.from p.end b.from b.end n i.shown.group (h.groups f.key b f.here).group), i.shown.drain,
+        (group_same i f.key f.here), (not_alone i), (after_first i f))
 
   -- nothing before it is
   pub limit_ends : {b : Group} → IsFirstDraining g b → ((m : ℕ) → m < b.from → at w m ≡ None)
@@ -81,25 +73,14 @@ module _ {w : Window} {g : Groups} {r : Requests} (s : IsSound w g) (h : AreHeld
 issuable_within : (r : Requests) (k : ℕ) → is_issuable r k ≡ true → k < length r.accepted
 issuable_within r k e = grind arith
 
-least_doomed : (s : NumberSet) (n : ℕ) (o : Option ℕ)
-    → MatchOption o ((k : ℕ) → n ≤ k → holds s k ≡ false) (IsLeastFrom s n)
-    → IsLeastOf (λ k. leb n k && holds s k) o
-least_doomed s n o none = grind arith
-
-least_head : (s : NumberSet) (n limit : ℕ) (o : Option ℕ)
-    → MatchOption o ((k : ℕ) → n ≤ k → k < limit → holds s k ≡ false) (IsLeastBelow s n limit)
-    → IsLeastOf (λ k. leb n k && (holds s k && ltb k limit)) o
-least_head s n limit o none = grind arith
-
-and_over_or : (a b c : Bool) → (a && (b || c)) ≡ ((a && b) || (a && c))
-and_over_or a b c = grind arith
+-- the lesser of what the two searches found is the least that is told of
+least_told : (s : Waiting) (n limit : ℕ) (a b : Option ℕ)
+    → MatchOption a ((k : ℕ) → n ≤ k → holds s.doomed k ≡ false) (IsLeastFrom s.doomed n)
+    → MatchOption b ((k : ℕ) → n ≤ k → k < limit → holds s.heads k ≡ false) (IsLeastBelow s.heads n limit)
+    → IsLeastOf (λ k. leb n k && can_go s limit k) (lesser_of a b)
+least_told s n limit a b x y = grind arith
 
 -- What the sets tell.
-
-both : (waits doomed first below ready : Bool) → (first ≡ true → ready ≡ below)
-    → (first ≡ false → ready ≡ false)
-    → ((waits && doomed) || ((waits && first) && below)) ≡ (waits && (doomed || ready))
-both waits doomed first below ready x y = grind arith
 
 -- a number without a request isn't told of
 can_go_gone : {w : Window} {g : Groups} {s : Waiting} (limit n : ℕ) → IsListed w g s
@@ -124,8 +105,7 @@ module _ {w : Window} {g : Groups} {r : Requests} {s : Waiting} (limit : ℕ) (s
       → MatchOption b ((k : ℕ) → n ≤ k → k < limit → holds s.heads k ≡ false) (IsLeastBelow s.heads n limit)
       → lesser_of a b ≡ issuable_from r n
   next_is n a b doomed head =
-      least_is _ _ (length r.accepted) (lesser_of a b) (lesser_least _ _ a b (least_doomed s.doomed n a doomed) (least_head s.heads n limit b head))
-      (λ k. ap (λ b. leb n k && b) (sym (can_go_is k)) ∙ and_over_or (leb n k) _ _)
+      least_is _ _ (length r.accepted) (lesser_of a b) (least_told s n limit a b doomed head) (λ k. ap (λ b. leb n k && b) (sym (can_go_is k)))
       (λ k is. issuable_within r k (and_parts (leb n k) _ is).1)
 
   -- All of them, counted by the blocks of 64.

@@ -1,5 +1,5 @@
 -- What the issue of a request is answered, by what the code found.
-use Rattle.std.proofs.Common.{arith}
+use Rattle.std.proofs.Common.{Option, arith}
 use Rattle.std.proofs.Common.{◌≡◌, ℕ, ◌<◌, ℤ, negsuc, length, Bool, true, false, Some, None, refl, sym, ◌∙◌, ap, inl, inr}
 use Rattle.uring_dispatch.proofs.Common.{Cancel, Ended, Op, Requests, Run, Running, Sqe, Unknown, addr_of, cancel_result, cases_Bool, entry_of, if◌then◌else◌, is_cancel, is_cancel_all, is_doomed, is_doomed_own_fault, is_faulty, is_outstanding, is_ready, is_running, op_of, operation_of}
 use Rattle.uring_entry.proofs.Preparations.{asks_cancel}
@@ -11,6 +11,10 @@ none_faulty b x is = grind arith
 some_right : {X : Type 0} (b : Bool) (x y : X) → Some y ≡ (if b then None else Some x)
     → (b ≡ false) × (y ≡ x)
 some_right b x y is = grind arith
+
+faulty_or : {X : Type 0} (b : Bool) (x : X) (o : Option X) → o ≡ (if b then None else Some x)
+    → (o ≡ None → b ≡ true) × ((y : X) → o ≡ Some y → (b ≡ false) × (y ≡ x))
+faulty_or b x o is = grind arith
 
 -- what a kept operation says of its entry
 pub op_none : (e : Sqe) → None ≡ op_of e → is_faulty e ≡ true

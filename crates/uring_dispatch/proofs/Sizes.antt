@@ -12,14 +12,9 @@ leasts [] = []
 leasts (None ∷ rest) = leasts rest
 leasts (Some p ∷ rest) = p.least ∷ leasts rest
 
-leasts_next : (o : Option Group) (rest : List (Option Group))
-    → length (leasts (o ∷ rest)) ≡ cond (is_some o) (1 + length (leasts rest)) (length (leasts rest))
-unfolding leasts
-leasts_next o rest = grind arith
-
 leasts_length : (records : List (Option Group)) → length (leasts records) ≡ count_by is_some records
 unfolding leasts
-leasts_length = is_count_by (λ rest. length (leasts rest)) is_some refl leasts_next
+leasts_length = is_count_by (λ rest. length (leasts rest)) is_some refl (λ o rest. grind arith)
 
 leasts_apart : (n : ℕ) (records : List (Option Group))
     → ((k : ℕ) (q : Group) → get_or records k None ≡ Some q → n ≢ q.least)
@@ -27,8 +22,7 @@ leasts_apart : (n : ℕ) (records : List (Option Group))
 unfolding leasts
 leasts_apart n [] apart = tt
 leasts_apart n (None ∷ rest) apart = leasts_apart n rest (λ k q e. apart (suc k) q e)
-leasts_apart n (Some p ∷ rest) apart =
-    (ne_eqb n p.least (apart 0 p refl), leasts_apart n rest (λ k q e. apart (suc k) q e))
+leasts_apart n (Some p ∷ rest) apart = (ne_eqb n p.least (apart 0 p refl), leasts_apart n rest (λ k q e. apart (suc k) q e))
 
 -- no two groups have one least member
 abbrev HaveOwn : List (Option Group) → Type 0

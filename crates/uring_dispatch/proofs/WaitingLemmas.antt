@@ -93,6 +93,12 @@ pub told_moved : (w : Window) (g : Groups) (s t : Waiting) (k a b : ℕ) → IsL
     → HasMoved s.heads t.heads a → HasMoved s.doomed t.doomed b → IsListedAt w g t k
 told_moved w g s t k a b l x y = grind (arith, holds_same)
 
+-- request n ended, others were told of anew, and what was let go at the front isn't needed
+reaches_ended : (w v : Window) (s t u : NumberSet) (first : ℕ) {n : ℕ} → Reaches w s → end_of v ≡ end_of w
+    → IsSameReach s t → HasMoved t u first → first ≤ end_of v
+    → ((k : ℕ) → k < first → at v k ≡ None) → Changes w v n None → Reaches v u
+reaches_ended w v s t u first r end same moved within before c = grind (arith, before_end)
+
 -- A request ended, and all whose standing may have changed were told of anew.
 pub end_listed : (w v : Window) (g h : Groups) (s t u : Waiting) (n head stop first : ℕ)
     → IsListed w g s → Changes w v n None → end_of v ≡ end_of w
