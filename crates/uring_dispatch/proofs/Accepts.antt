@@ -1,10 +1,9 @@
 -- When an entry is accepted and when a call ends: the window and the groups still fit one another, and what is held is what the lists say.
-use Rattle.std.proofs.Common.{◌≡◌, ◌≢◌, ◌⊎◌, ℕ, ◌+◌, ◌<◌, ◌≤◌, length, Bool, ◌==◌, Option, Some, None, is_some, refl, sym, ◌∙◌, ap, subst, arith, inl, inr, zero, suc, [], ◌∷◌, length-append, true, false, not, ◌||◌}
-use Rattle.uring_dispatch.proofs.Common.{Accepts, AreHeld, Changes, Exchanges, Group, Groups, IfErr, IfOk, IsBeyond, IsGroup, IsKept, IsShownGroup, IsSound, Op, Request, Requests, Result, Sqe, Window, added_other, at, both_ways, cases_eq, cases_lt, end_of, entry_of, entry_of_accepted_at, entry_of_accepted_other, false≢true, fault_of, first_broken, first_drain, first_fault, found_or, group_at, has_ended, has_started, if◌then◌else◌, is_drain, is_faulty, is_last, is_linked, is_some_value, last_group, list_any, ne_eqb, new_request, op_of, operation_of, or-false, outstanding_in, running_in, with_accepted, with_cut, with_member}
-use Rattle.std.proofs.Math.Numerals.{lt_of_le_of_ne}
+use Rattle.std.proofs.Common.{◌≡◌, ◌≢◌, ◌⊎◌, ℕ, ◌+◌, ◌<◌, ◌≤◌, length, Bool, ◌==◌, Option, Some, None, is_some, refl, sym, ◌∙◌, ap, subst, arith, inl, inr, zero, suc, [], ◌∷◌, length-append, false, not, ◌||◌}
+use Rattle.uring_dispatch.proofs.Common.{Accepts, AreHeld, Changes, Exchanges, Group, Groups, IfErr, IfOk, IsBeyond, IsGroup, IsKept, IsShownGroup, IsSound, Op, Request, Requests, Result, Sqe, Window, added_other, both_ways, cases_eq, end_of, entry_of, entry_of_accepted_at, entry_of_accepted_other, false≢true, fault_of, group_at, has_ended, has_started, if◌then◌else◌, is_drain, is_faulty, is_last, is_linked, is_some_value, last_group, list_any, ne_eqb, new_request, op_of, operation_of, or-false, outstanding_in, running_in, with_accepted, with_cut, with_member}
 use Rattle.uring_entry.proofs.GroupEvents.{group_cut, is_last_cut_last, group_accepted, group_joined, group_new, first_entry_accepted, first_entry_more, first_broken_accepted, first_broken_more, first_member_none}
 use Rattle.uring_dispatch.proofs.GroupsKept.{only_key}
-use Rattle.uring_dispatch.proofs.HeldLemmas.{some_none, linked, member, kept_on}
+use Rattle.uring_dispatch.proofs.HeldLemmas.{linked, kept_on}
 use Rattle.std.specs.Result.{result_ok}
 use Rattle.uring_entry.specs.declared.fault.Fault.{Fault}
 use Rattle.uring_dispatch.proofs.Changes.{before_write, shown_written}
@@ -119,22 +118,17 @@ module _ {w v : Window} {g h : Groups} {r : Requests} {entry : Sqe} {request : R
       let kept = s.kept other x is in
       let one = a.groups other x is in
       let two = a.groups request.group q here in
-      let y = is_some_value (at w x.least) kept.here in
-      grind (arith, (same_from r x.from q.from x.end), (s.members other x x.least y.0 is), (s.members request.group q x.least y.0 here))
+      grind (arith, (same_from r x.from q.from x.end), (s.members other x x.least), (s.members request.group q x.least), is_some_value)
 
-  -- a group of another key is closed
-  closed_elsewhere : {other : ℕ} {x : Group} → group_at g other ≡ Some x → other ≢ request.group
-      → (k : ℕ) → suc k ≡ x.end → is_last r k ≡ true
-  closed_elsewhere {other} {x} is ne k e =
-      let one = (a.groups other x is).group in
-      grind (arith, (one.ends k), (a.last k), (joined_end s c), (end_apart is ne), is_some_value)
-
-  elsewhere_shown : (x : Group) → IsShownGroup r x → ((k : ℕ) → suc k ≡ x.end → is_last r k ≡ true)
+  -- a group of another key is closed, and so stays as it was
+  elsewhere_shown : {other : ℕ} {x : Group} → group_at g other ≡ Some x → other ≢ request.group
       → IsShownGroup (with_accepted r entry) x
-  elsewhere_shown x old closed =
+  elsewhere_shown {other} {x} is ne =
+      let old = a.groups other x is in
       let none = (a.untouched (length r.accepted) (omega arith)).ended in
-      grind (arith, (group_accepted r entry x.from x.end), (first_entry_accepted r entry is_faulty x.from x.end),
-        (first_entry_accepted r entry is_drain x.from x.end), (first_broken_accepted r entry x.from x.end none))
+      grind (arith, (group_accepted r entry x.from x.end old.group), a.last, (joined_end s c), (end_apart is ne), is_some_value,
+        (first_entry_accepted r entry is_faulty x.from x.end), (first_entry_accepted r entry is_drain x.from x.end),
+        (first_broken_accepted r entry x.from x.end none))
 
 pub accept_held : {w v : Window} {g h : Groups} {r : Requests} {entry : Sqe} {key : ℕ} → IsSound w g
     → AreHeld w g r → Accepts w v g h entry (new_request entry key)
@@ -158,7 +152,7 @@ accept_held {w} {v} {g} {h} {r} {entry} {key} s a c outstanding running =
       groups = λ k x found.
           elim (now s c k x found) [
             | inl same ↦ rw (same.1, top) (joined_shown s a c (last_group g.records g.last) refl)
-            | inr other ↦ elsewhere_shown s a c x (a.groups k x other.1) (closed_elsewhere s a c other.1 other.0)
+            | inr other ↦ elsewhere_shown s a c other.1 other.0
           ];
       last = λ k e.
           let at_n : k ≡ n = omega arith in

@@ -1,11 +1,10 @@
 -- Between which numbers the requests with the same user data are: what each event keeps of it, and what a search makes of it.
-use Rattle.std.proofs.Common.{◌≡◌, ◌⊎◌, ℕ, ◌+◌, ◌^◌, ◌<◌, ◌≤◌, Some, None, is_some, false, refl, sym, ◌∙◌, ap, subst, arith, inl, inr}
-use Rattle.uring_dispatch.proofs.Common.{Accepts, AreFound, AreHeld, Changes, GoesOn, Groups, HasPlaces, KeepsFrom, Request, Requests, Spans, Sqe, Window, addr_of, at, cases_eq, cases_lt, end_of, entry_of, is_candidate, nat_eq, same_Some, user_data_of}
+use Rattle.std.proofs.Common.{◌≡◌, ◌⊎◌, ℕ, ◌+◌, ◌^◌, ◌<◌, ◌≤◌, Some, None, is_some, false, refl, ap, arith}
+use Rattle.uring_dispatch.proofs.Common.{Accepts, AreFound, AreHeld, Changes, GoesOn, Groups, HasPlaces, KeepsFrom, Request, Requests, Spans, Sqe, Window, addr_of, at, cases_eq, cases_lt, end_of, entry_of, is_candidate, nat_eq, user_data_of}
 use Rattle.std.specs.HashMap.{get, spare}
 use Rattle.uring_dispatch.specs.declared.by_user_data.ByUserData.{ByUserData}
 use Rattle.uring_dispatch.specs.Noted.{IsBetween, KeepsBetween}
 use Rattle.uring_dispatch.proofs.WindowFront.{within_end}
-use Rattle.uring_dispatch.proofs.HeldLemmas.{some_none}
 use Rattle.uring_dispatch.proofs.Alike.{IsAlike}
 use Rattle.uring_dispatch.proofs.Changes.{before_end}
 

@@ -1,17 +1,14 @@
 -- One request is touched: what is said of each other number by its request stands; and what a start and a choice leave of what is held.
-use Rattle.std.proofs.Common.{List, ◌++◌, ◌≡◌, ◌≢◌, ℕ, ◌+◌, ◌≤◌, [], ◌∷◌, length, false, ◌==◌, Some, None, is_some, refl, sym, ◌∙◌, ap, arith, inl, inr, ◌⊎◌, true, Option, Bool}
-use Rattle.uring_dispatch.proofs.Common.{list_any, running_in, AreHeld, Changes, Groups, IsAsBefore, IsShown, IsSound, Request, Requests, Window, added_other, added_same, at, chosen, end_of, entry_of, eq-eqb, group_at, has_ended, has_started, is_cancelled, is_faulty, is_running, is_running_started_other, is_running_started_same, ne_eqb, one_if, started, with_cancelled, with_started}
+use Rattle.std.proofs.Common.{List, ◌++◌, ◌≡◌, ◌≢◌, ℕ, ◌+◌, [], ◌∷◌, false, ◌==◌, Some, None, is_some, sym, ◌∙◌, ap, arith, ◌⊎◌, true}
+use Rattle.uring_dispatch.proofs.Common.{list_any, running_in, AreHeld, Changes, Groups, IsAsBefore, IsShown, IsSound, Request, Requests, Window, added_other, added_same, at, chosen, end_of, entry_of, has_ended, has_started, is_cancelled, is_faulty, is_running, is_running_started_other, is_running_started_same, ne_eqb, started, with_cancelled, with_started}
 use Rattle.uring_dispatch.proofs.WindowFront.{at_past}
 use Rattle.uring_dispatch.proofs.Counting.{count_below_changed}
-use Rattle.uring_dispatch.proofs.HeldLemmas.{some_none, shown_within, running_some, vacant, linked, member, kept_on}
+use Rattle.uring_dispatch.proofs.HeldLemmas.{shown_within, running_some, linked, kept_on}
 
 -- the request of n is gone
 module _ {w v : Window} {n : ℕ} (c : Changes w v n None) where
   pub before_end : {k : ℕ} {p : Request} → at v k ≡ Some p → (k ≢ n) × (at w k ≡ Some p)
   before_end {k} e = grind arith
-
-  pub gone_stays : (m : ℕ) → at w m ≡ None → at v m ≡ None
-  gone_stays m e = grind arith
 
 -- the request of n was written
 module _ {w v : Window} {n : ℕ} {now : Request} (c : Changes w v n (Some now)) where
@@ -19,12 +16,8 @@ module _ {w v : Window} {n : ℕ} {now : Request} (c : Changes w v n (Some now))
       → ((k ≡ n) × (now ≡ q)) ⊎ ((k ≢ n) × (at w k ≡ Some q))
   before_write {k} e = grind arith
 
-  -- what is the same of both is so of each number
-  pub still_as : (f : Option Request → Bool) → f (Some now) ≡ f (at w n) → (k : ℕ) → f (at v k) ≡ f (at w k)
-  still_as f same k = grind arith
-
   pub still_there : is_some (at w n) ≡ true → (k : ℕ) → is_some (at v k) ≡ is_some (at w k)
-  still_there there = still_as is_some (sym there)
+  still_there there k = grind arith
 
 -- The lists say of k what they said before.
 pub record IsSameAt (r s : Requests) (k : ℕ) : Type 0 where

@@ -1,6 +1,6 @@
 -- What cancels make of the lists: the end of a request as it is issued, with those that it dooms, and the search for all targets of a cancel.
-use Rattle.std.proofs.Common.{◌≡◌, ℕ, ◌+◌, ◌<◌, ◌≤◌, pos, negsuc, List, [], ◌∷◌, ◌++◌, length, length-append, Bool, true, false, ◌==◌, Option, Some, refl, sym, ◌∙◌, ap, arith}
-use Rattle.uring_dispatch.proofs.Common.{AreHeld, Groups, HasSameRequests, KeepsPlaces, Requests, Shows, Sqe, Window, addr_of, all_below, all_below_none, all_below_past, append-nil, append_assoc, at, cancel_result, chosen, chosen_by, entry_of, if◌then◌else◌, int_le, is_after_failure, is_cancel, is_cancel_all, is_doomed, is_joined, is_running, is_success, is_target, list_any, no_bytes, result_for, runs, some_member, target_of, targets_of, with_cancelled, with_ended, with_issued_end}
+use Rattle.std.proofs.Common.{◌≡◌, ℕ, ◌+◌, ◌<◌, ◌≤◌, pos, negsuc, List, [], ◌∷◌, ◌++◌, length, length-append, Bool, true, false, ◌==◌, Option, Some, ap, arith}
+use Rattle.uring_dispatch.proofs.Common.{AreHeld, Groups, KeepsPlaces, Requests, Shows, Window, addr_of, all_below, all_below_none, all_below_past, append-nil, append_assoc, at, cancel_result, chosen, chosen_by, entry_of, if◌then◌else◌, int_le, is_after_failure, is_cancel, is_cancel_all, is_doomed, is_joined, is_running, is_success, is_target, list_any, no_bytes, result_for, runs, some_member, target_of, targets_of, with_cancelled, with_ended, with_issued_end}
 use Rattle.std.proofs.lemmas.List.Folds.{list_any-append}
 use Rattle.uring_dispatch.specs.declared.outstanding.Outstanding.{Outstanding}
 use Rattle.uring_dispatch.specs.Choosing.{HasChosen}

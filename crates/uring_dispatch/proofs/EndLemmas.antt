@@ -1,10 +1,10 @@
 -- When a request ends: the window and the groups still fit one another, and what is held is what the lists say.
-use Rattle.std.proofs.Common.{◌≡◌, ◌≢◌, ℕ, ◌+◌, ◌<◌, ◌≤◌, ◌⊎◌, ℤ, List, length, not, ◌&&◌, ltb, Option, Some, None, is_some, refl, sym, ◌∙◌, ap, subst, arith, inl, inr}
-use Rattle.uring_dispatch.proofs.Common.{AreHeld, Changes, Exchanges, Group, Groups, HasLost, IsBeyond, IsKept, IsNext, IsShownGroup, IsSound, Request, Requests, Window, and_right, at, cases_eq, cases_lt, earlier_of, end_of, entry_of, group_at, has_ended, has_ended_other, has_ended_same, is_outstanding, is_running, is_running_ended_other, is_running_ended_same, is_soft, is_success, one_if, outstanding_in, running_in, with_ended}
+use Rattle.std.proofs.Common.{◌≡◌, ◌≢◌, ℕ, ◌+◌, ◌<◌, ◌≤◌, ◌⊎◌, ℤ, List, not, ◌&&◌, Option, Some, None, sym, ◌∙◌, arith, inl, inr}
+use Rattle.uring_dispatch.proofs.Common.{AreHeld, Changes, Exchanges, Group, Groups, HasLost, IsBeyond, IsNext, IsShownGroup, IsSound, Request, Requests, Window, at, cases_eq, cases_lt, earlier_of, end_of, entry_of, group_at, has_ended_other, has_ended_same, is_outstanding, is_running, is_running_ended_other, is_running_ended_same, is_soft, is_success, one_if, outstanding_in, running_in, with_ended}
 use Rattle.uring_entry.proofs.GroupEvents.{group_ended, first_broken_ended, first_broken_elsewhere}
-use Rattle.uring_dispatch.proofs.Changes.{before_end, gone_stays, shown_same}
+use Rattle.uring_dispatch.proofs.Changes.{before_end}
 use Rattle.uring_dispatch.proofs.Counting.{count_below_changed}
-use Rattle.uring_dispatch.proofs.HeldLemmas.{some_none, vacant, linked, member, within_group, kept_on, shown_within, outstanding_some, running_some}
+use Rattle.uring_dispatch.proofs.HeldLemmas.{some_none, linked, within_group, shown_within, outstanding_some, running_some}
 
 -- what is left of a group
 abbrev pub left_with : Group → ℕ → Option ℕ → Group

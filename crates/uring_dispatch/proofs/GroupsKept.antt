@@ -1,8 +1,8 @@
 -- The queue of barriers, and what the groups keep when a request is accepted, and when a group is let go: each that drains has its barrier, and the first barrier holds.
 use Rattle.std.proofs.lemmas.List.Folds.{list_all-append}
 use Rattle.uring_entry.proofs.RequestLemmas.{list_any_push}
-use Rattle.std.proofs.Common.{◌≡◌, ◌≢◌, ℕ, ◌+◌, ◌<◌, ◌≤◌, ◌⊎◌, List, [], ◌∷◌, ◌++◌, Bool, true, Option, Some, None, refl, sym, ◌∙◌, ap, arith, inl, inr, get_or, length, subst, ◌==◌, ltb}
-use Rattle.uring_dispatch.proofs.Common.{AreGroups, Barrier, Group, Groups, HasBarrierBefore, IsBeyond, IsFirstDraining, IsLiveFront, IsSorted, MatchOption, added_same, and_from, and_parts, cases_eq, covers, drain_of, eqb-true, false≢true, group_at, if◌then◌else◌, last_group, list_all, list_any, ltb-true, or_cases, or_left, or_right, with_barrier, with_member}
+use Rattle.std.proofs.Common.{◌≡◌, ◌≢◌, ℕ, ◌+◌, ◌<◌, ◌≤◌, ◌⊎◌, List, [], ◌∷◌, ◌++◌, Bool, true, Option, Some, None, refl, sym, ◌∙◌, ap, arith, inl, inr, get_or, length, ltb}
+use Rattle.uring_dispatch.proofs.Common.{AreGroups, Barrier, Group, Groups, HasBarrierBefore, IsBeyond, IsFirstDraining, IsLiveFront, IsSorted, MatchOption, cases_eq, covers, drain_of, eqb-true, group_at, if◌then◌else◌, last_group, list_all, list_any, ltb-true, with_barrier, with_member}
 
 -- every barrier after the first has no smaller number
 covered_above : (b : Barrier) (rest : List Barrier) (key number : ℕ)

@@ -1,7 +1,6 @@
 -- How an outstanding request stands, from what is held.
-use Rattle.uring_dispatch.proofs.Common.{is_drain}
-use Rattle.std.proofs.Common.{◌≡◌, ◌≢◌, ℕ, ◌<◌, ◌≤◌, length, Bool, true, false, not, ◌&&◌, ◌||◌, ltb, leb, Option, Some, None, is_some, refl, sym, ◌∙◌, ap, arith, inl, inr}
-use Rattle.uring_dispatch.proofs.Common.{AreHeld, Group, Groups, HasBarrierBefore, HasBefore, HasGroup, IsGroup, IsKept, IsShownGroup, IsSound, Request, Requests, Window, addr_of, and_from, and_left, and_parts, at, cases_lt, doomed_is, drain_of, draining_is, end_of, entry_of, false≢true, first_member_inside, group_at, groups_apart, has_ended, has_member, is_before, is_candidate, is_doomed, is_draining, is_issuable, is_outstanding, is_ready, is_running, is_some_value, le-leb, leb-true, lt-ltb, ltb-true, or-false, ready_not_after, ready_not_alone, ready_not_member, ready_yes, user_data_of}
+use Rattle.uring_dispatch.proofs.Common.{is_drain, AreHeld, Group, Groups, HasBarrierBefore, HasBefore, HasGroup, IsGroup, IsKept, IsShownGroup, IsSound, Request, Requests, Window, addr_of, and_from, and_left, at, doomed_is, drain_of, draining_is, end_of, entry_of, first_member_inside, group_at, groups_apart, has_ended, has_member, is_before, is_candidate, is_doomed, is_draining, is_issuable, is_outstanding, is_ready, is_running, is_some_value, le-leb, lt-ltb, or-false, ready_not_after, ready_not_alone, ready_not_member, ready_yes, user_data_of}
+use Rattle.std.proofs.Common.{◌≡◌, ◌≢◌, ℕ, ◌<◌, ◌≤◌, length, Bool, true, false, not, ◌&&◌, ◌||◌, Option, Some, None, is_some, sym, ◌∙◌, ap, arith}
 use Rattle.std.proofs.Math.Numerals.{lt_of_le_of_ne}
 
 pub some_none : {X P : Type 0} {x : X} {o : Option X} → o ≡ None → o ≡ Some x → P

@@ -1,11 +1,10 @@
 -- Which requests can be issued, from who waits.
-use Rattle.uring_dispatch.proofs.Common.{nat_eq}
-use Rattle.std.proofs.Common.{◌≡◌, ℕ, ◌*◌, ◌/◌, ◌<◌, ◌≤◌, length, slice_get, Bool, true, false, not, ◌&&◌, ◌||◌, ◌==◌, ltb, leb, Option, Some, None, is_some, refl, sym, ◌∙◌, ap, arith, inl, inr}
-use Rattle.uring_dispatch.proofs.Common.{AreHeld, Group, Groups, HasBefore, IsFirstDraining, IsLeastBelow, IsLeastFrom, IsLimit, IsListed, IsSound, MatchOption, NumberSet, Request, Requests, Waiting, Window, and_left, and_parts, at, both_ways, can_go, cases_lt, count_below, dooms, drain_of, end_of, eq-eqb, eqb-true, first_member_inside, group_at, groups_apart, holds, is_doomed, is_issuable, is_ready, is_some_value, le-ltb, leads, least_below, least_below_none, least_below_some, lesser_of, lt-ltb, same_Some, slice_get_past, waits_at_head, waits_doomed}
+use Rattle.uring_dispatch.proofs.Common.{AreHeld, Group, Groups, HasBefore, IsFirstDraining, IsLeastBelow, IsLeastFrom, IsLimit, IsListed, IsSound, MatchOption, Request, Requests, Waiting, Window, and_parts, at, can_go, cases_lt, count_below, drain_of, end_of, first_member_inside, group_at, groups_apart, holds, is_issuable, is_ready, is_some_value, least_below, least_below_none, least_below_some, lesser_of, slice_get_past}
+use Rattle.std.proofs.Common.{◌≡◌, ℕ, ◌*◌, ◌/◌, ◌<◌, ◌≤◌, length, slice_get, Bool, true, false, ◌&&◌, leb, Option, Some, None, refl, sym, ap, arith}
 use Rattle.uring_dispatch.specs.Issuable.{issuables_of, issuable_from}
 use Rattle.uring_dispatch.proofs.Counting.{count_below_zero, count_below_past, count_below_same, length_all_below, get_all_below}
 use Rattle.uring_dispatch.proofs.WindowFront.{at_past}
-use Rattle.uring_dispatch.proofs.HeldLemmas.{InGroup, in_group, its_group, some_none, shown_within, doomed_held, not_least, not_alone, ready_held, after_barrier, outstanding_none, issuable_some}
+use Rattle.uring_dispatch.proofs.HeldLemmas.{InGroup, in_group, its_group, shown_within, doomed_held, not_least, not_alone, ready_held, after_barrier, outstanding_none, issuable_some}
 
 -- The lesser of two.
 

@@ -1,16 +1,8 @@
 -- What the issue of a request is answered, by what the code found.
-use Rattle.std.proofs.Common.{Option, arith}
-use Rattle.std.proofs.Common.{◌≡◌, ℕ, ◌<◌, ℤ, negsuc, length, Bool, true, false, Some, None, refl, sym, ◌∙◌, ap, inl, inr}
+use Rattle.std.proofs.Common.{Option, arith, ◌≡◌, ℕ, ◌<◌, ℤ, negsuc, length, Bool, true, false, Some, None, refl, ◌∙◌, inl, inr}
 use Rattle.uring_dispatch.proofs.Common.{Cancel, Ended, Op, Requests, Run, Running, Sqe, Unknown, addr_of, cancel_result, cases_Bool, entry_of, if◌then◌else◌, is_cancel, is_cancel_all, is_doomed, is_doomed_own_fault, is_faulty, is_outstanding, is_ready, is_running, op_of, operation_of}
 use Rattle.uring_entry.proofs.Preparations.{asks_cancel}
 use Rattle.uring_dispatch.specs.IssueAndFinish.{issued, issued_waiting, posts_of, posted_by}
-
-none_faulty : {X : Type 0} (b : Bool) (x : X) → None ≡ (if b then None else Some x) → b ≡ true
-none_faulty b x is = grind arith
-
-some_right : {X : Type 0} (b : Bool) (x y : X) → Some y ≡ (if b then None else Some x)
-    → (b ≡ false) × (y ≡ x)
-some_right b x y is = grind arith
 
 faulty_or : {X : Type 0} (b : Bool) (x : X) (o : Option X) → o ≡ (if b then None else Some x)
     → (o ≡ None → b ≡ true) × ((y : X) → o ≡ Some y → (b ≡ false) × (y ≡ x))
@@ -18,11 +10,11 @@ faulty_or b x o is = grind arith
 
 -- what a kept operation says of its entry
 pub op_none : (e : Sqe) → None ≡ op_of e → is_faulty e ≡ true
-op_none e is = none_faulty (is_faulty e) (operation_of e) is
+op_none e is = (faulty_or (is_faulty e) (operation_of e) None is).0 refl
 
 pub op_some : (e : Sqe) (op : Op) → Some op ≡ op_of e
     → (is_faulty e ≡ false) × (op ≡ operation_of e)
-op_some e op is = some_right (is_faulty e) (operation_of e) op is
+op_some e op is = (faulty_or (is_faulty e) (operation_of e) (Some op) is).1 op refl
 
 pub issued_faulty : (r : Requests) (n : ℕ) → n < length r.accepted → is_faulty (entry_of r n) ≡ true
     → Ended (negsuc 21) ≡ issued_waiting r n

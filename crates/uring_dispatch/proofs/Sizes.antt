@@ -1,8 +1,7 @@
 -- How many groups, barriers and outstanding requests are kept: no more than requests were accepted.
-use Rattle.std.proofs.Common.{◌≡◌, ◌≢◌, ℕ, suc, zero, ◌+◌, ◌<◌, ◌≤◌, cond, List, [], ◌∷◌, length, if◌then◌else◌, Bool, true, false, eqb, ltb, Option, Some, None, is_some, refl, sym, ◌∙◌, arith, inl, inr, get_or}
-use Rattle.uring_dispatch.proofs.Common.{AllByRecursion, AreHeld, Barrier, Group, Groups, IsBeyond, IsDistinct, IsSorted, IsSound, Requests, Window, and_parts, at, count_below, count_by, end_of, eqb-true, false≢true, is_some_value, list_all, list_any, ltb-true, ne_eqb, or_cases}
+use Rattle.std.proofs.Common.{◌≡◌, ◌≢◌, ℕ, suc, ◌+◌, ◌<◌, ◌≤◌, List, [], ◌∷◌, length, true, false, eqb, Option, Some, None, is_some, refl, arith, get_or}
+use Rattle.uring_dispatch.proofs.Common.{AllByRecursion, AreHeld, Barrier, Group, Groups, IsBeyond, IsDistinct, IsSorted, IsSound, Requests, Window, count_by, end_of, eqb-true, false≢true, list_any, ltb-true, ne_eqb, is_outstanding}
 use Rattle.uring_dispatch.proofs.Counting.{count_below_within}
-use Rattle.uring_dispatch.proofs.Common.{is_outstanding}
 use Rattle.std.proofs.lemmas.List.Recursion.{is_count_by}
 use Rattle.std.proofs.lemmas.Map.Steps.{length-le_from_distinct_below}
 

@@ -1,6 +1,6 @@
 -- Why an outstanding request stands as it does, from what is held.
-use Rattle.std.proofs.Common.{◌≡◌, ◌≢◌, ℕ, ◌<◌, ◌≤◌, Bool, true, false, not, Option, Some, None, is_some, refl, sym, ◌∙◌, ap, arith, inl, inr}
-use Rattle.uring_dispatch.proofs.Common.{AreHeld, Group, Groups, IsFirst, IsFirstDraining, IsGroup, IsSound, Request, Requests, Window, and_from, and_right, at, cases_lt, drain_of, draining_is, entry_of, fault_of, first_member_inside, group_at, holds_back, if◌then◌else◌, is_before, is_draining, is_joined, joined_member, le-leb, least_below_none, least_below_some, lt-leb, or_from, or_left, or_right}
+use Rattle.std.proofs.Common.{◌≡◌, ◌≢◌, ℕ, ◌<◌, ◌≤◌, Bool, true, false, Some, None, is_some, sym, ◌∙◌, ap, arith}
+use Rattle.uring_dispatch.proofs.Common.{AreHeld, Group, Groups, IsFirst, IsFirstDraining, IsGroup, IsSound, Request, Requests, Window, at, cases_lt, drain_of, draining_is, entry_of, fault_of, first_member_inside, group_at, holds_back, if◌then◌else◌, is_before, is_draining, is_joined, joined_member, least_below_none, least_below_some, or_right}
 use Rattle.uring_entry.specs.Why.{first_doom, faulty_member_of, failed_member_of, doom_of, since_of, holder_of, waiting_for}
 use Rattle.uring_entry.specs.declared.fault.Fault.{Fault}
 use Rattle.uring_entry.specs.declared.why.Doom.TheVariants.{OwnFault, FaultOf, FailureOf, Cancel}
@@ -9,7 +9,7 @@ use Rattle.uring_entry.specs.declared.why.Since.TheVariants.{SameGroup, ItDrains
 use Rattle.uring_entry.specs.declared.why.Why.TheVariants.{Waits, MayStart}
 use Rattle.uring_entry.proofs.WhyLemmas.{StillWaits, faulty_member_is, failed_member_before, failed_member_none}
 use Rattle.uring_dispatch.specs.Waits.{IsFirstHolder}
-use Rattle.uring_dispatch.proofs.HeldLemmas.{InGroup, its_group, shown_within, draining_held, least_open, vacant, plain_before, within_group}
+use Rattle.uring_dispatch.proofs.HeldLemmas.{InGroup, its_group, shown_within, draining_held, least_open, plain_before, within_group}
 
 -- What a request waits for.
 

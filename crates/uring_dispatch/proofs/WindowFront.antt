@@ -1,7 +1,7 @@
 -- The first number of the window, and what the calls of the window ask of the others.
 use Rattle.std.specs.Int.{from_bool}
-use Rattle.std.proofs.Common.{◌≡◌, ℕ, ◌+◌, ◌^◌, ◌<◌, ◌≤◌, List, [], ◌∷◌, ◌++◌, length, get_or, Bool, true, false, Option, Some, None, is_some, refl, sym, ◌∙◌, ap, arith, inl, inr}
-use Rattle.uring_dispatch.proofs.Common.{HasBefore, IfSome, IsFirst, IsTrimmed, IsWindow, Request, Window, at, both_ways, cases_Bool, chosen, end_of, found_by, is_some_value, key_at, one_if, runs, started}
+use Rattle.std.proofs.Common.{◌≡◌, ℕ, ◌+◌, ◌^◌, ◌<◌, ◌≤◌, List, [], ◌∷◌, ◌++◌, length, get_or, Bool, true, false, Option, Some, None, is_some, refl, sym, ◌∙◌, ap, arith}
+use Rattle.uring_dispatch.proofs.Common.{HasBefore, IfSome, IsFirst, IsTrimmed, IsWindow, Request, Window, at, both_ways, chosen, end_of, found_by, is_some_value, key_at, one_if, runs, started}
 use Rattle.uring_dispatch.proofs.Counting.{count_below_some, count_below_within}
 use Rattle.uring_dispatch.proofs.WindowLemmas.{IsSameBut, key_at_low, key_at_high, key_at_past, key_at_within, at_keyed, write_window}
 

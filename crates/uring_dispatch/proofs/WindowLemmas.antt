@@ -1,6 +1,6 @@
 -- The window: what is found by a number, from the keys and the requests, and what the events keep: each key has a request, none stands twice, and the running requests are counted.
-use Rattle.std.proofs.Common.{◌≡◌, ◌≢◌, ℕ, suc, ◌+◌, ◌-◌, ◌<◌, ◌≤◌, List, [], ◌∷◌, ◌++◌, length, get_or, set, Option, Some, None, refl, sym, ◌∙◌, ap, arith, inl, inr, ◌⊎◌, false, is_some, length-append}
-use Rattle.uring_dispatch.proofs.Common.{Changes, IsWindow, Request, Window, at, both_ways, cases_eq, count_below, end_of, found_by, get_or-set_other, get_or-set_same, get_or_past, get_or_push_other, key_at, length-set, one_if, runs}
+use Rattle.std.proofs.Common.{◌≡◌, ◌≢◌, ℕ, ◌+◌, ◌-◌, ◌<◌, ◌≤◌, List, [], ◌∷◌, ◌++◌, length, get_or, set, Option, Some, None, refl, ◌∙◌, ap, arith, ◌⊎◌, false, is_some, length-append}
+use Rattle.uring_dispatch.proofs.Common.{Changes, IsWindow, Request, Window, at, both_ways, cases_eq, end_of, found_by, get_or-set_other, get_or-set_same, get_or_past, get_or_push_other, key_at, length-set, one_if, runs}
 use Rattle.std.proofs.Math.Seq.{get_or-append_seam}
 use Rattle.uring_dispatch.proofs.Counting.{count_below_same, count_below_changed}
 
