@@ -1,6 +1,6 @@
 -- When an entry is accepted and when a call ends: the window and the groups still fit one another, and what is held is what the lists say.
 use Rattle.std.proofs.Common.{◌≡◌, ◌≢◌, ◌⊎◌, ℕ, ◌+◌, ◌<◌, ◌≤◌, length, Bool, ◌==◌, Option, Some, None, is_some, refl, sym, ◌∙◌, ap, subst, arith, inl, inr, zero, suc, [], ◌∷◌, length-append, false, not, ◌||◌}
-use Rattle.uring_dispatch.proofs.Common.{Accepts, AreHeld, Changes, Exchanges, Group, Groups, IfErr, IfOk, IsBeyond, IsGroup, IsKept, IsShownGroup, IsSound, Op, Request, Requests, Result, Sqe, Window, added_other, both_ways, cases_eq, end_of, entry_of, entry_of_accepted_at, entry_of_accepted_other, false≢true, fault_of, group_at, has_ended, has_started, if◌then◌else◌, is_drain, is_faulty, is_last, is_linked, is_some_value, last_group, list_any, ne_eqb, new_request, op_of, operation_of, or-false, outstanding_in, running_in, with_accepted, with_cut, with_member}
+use Rattle.uring_dispatch.proofs.Common.{Accepts, AreHeld, Changes, Exchanges, Group, Groups, IfErr, IfOk, IsBeyond, IsGroup, IsKept, IsShownGroup, IsSound, Op, Request, Requests, Result, Sqe, Window, added_other, cases_eq, end_of, entry_of, entry_of_accepted_at, entry_of_accepted_other, false≢true, fault_of, group_at, has_ended, has_started, if◌then◌else◌, is_drain, is_faulty, is_last, is_linked, is_some_value, last_group, list_any, ne_eqb, new_request, op_of, operation_of, or-false, outstanding_in, running_in, with_accepted, with_cut, with_member}
 use Rattle.uring_entry.proofs.GroupEvents.{group_cut, is_last_cut_last, group_accepted, group_joined, group_new, first_entry_accepted, first_entry_more, first_broken_accepted, first_broken_more, first_member_none}
 use Rattle.uring_dispatch.proofs.GroupsKept.{only_key}
 use Rattle.uring_dispatch.proofs.HeldLemmas.{linked, kept_on}
@@ -61,24 +61,19 @@ module _ {w v : Window} {g h : Groups} {entry : Sqe} {request : Request} (s : Is
 
 -- The lists, when an entry is accepted.
 
-longer : (r : Requests) (entry : Sqe)
-    → length (with_accepted r entry).accepted ≡ suc (length r.accepted)
-longer r entry = let more = length-append r.accepted (entry ∷ []) in omega arith
-
 -- two groups with one end begin together
 same_from : (r : Requests) (a b end : ℕ) → IsGroup r a end → IsGroup r b end → a < b → ⊥
 same_from r a zero end g h lt = omega arith
-same_from r a (suc k) end g h lt =
-    both_ways _ (g.joined k (omega arith) (omega (arith, h.some))) (h.begins k refl)
+same_from r a (suc k) end g h lt = grind (arith, (g.joined k), (h.begins k), h.some)
 
 -- the counts
 outstanding_more : (r : Requests) (entry : Sqe) → has_ended r (length r.accepted) ≡ false
     → outstanding_in (with_accepted r entry) ≡ outstanding_in r + 1
-outstanding_more r entry none = grind (arith, longer, count_below_same)
+outstanding_more r entry none = grind (arith, length-append, count_below_same)
 
 running_same : (r : Requests) (entry : Sqe) → has_started r (length r.accepted) ≡ false
     → running_in (with_accepted r entry) ≡ running_in r
-running_same r entry none = grind (arith, longer)
+running_same r entry none = grind (arith, length-append)
 
 not_linked : (b : Bool) (key : ℕ) → not (is_some (if b then Some key else None)) ≡ not b
 not_linked b key = grind arith
@@ -137,7 +132,7 @@ accept_held {w} {v} {g} {h} {r} {entry} {key} s a c outstanding running =
     let n : ℕ = length r.accepted in
     let top : end_of w ≡ n = sym a.count in
     let fresh = a.untouched n (omega arith) in
-    let more = longer r entry in
+    let more = length-append r.accepted (entry ∷ []) in
     let here = entry_of_accepted_at r entry in
     record {
       count = omega (arith, c.end);

@@ -101,29 +101,25 @@ module _ {old now : Outstanding} {n user_data m count : ℕ} (c : AreChosen old 
       → HasChosen now next
       → ((r : Requests) → Shows now.grouped r → Shows next.grouped (with_cancelled r (m ∷ [])))
       → AreChosen old next n user_data (m + 1) (count + 1)
-  chosen_more {next} test chosen shows =
-      let few = c.few in
-      record {
-        chosen = chosen_both old now next c.chosen chosen;
-        few = omega arith;
-        count_is = λ r h named.
-            grind (arith, (c.count_is r h named), (one_more (is_target r n) m), (target_tested test r h named), length-append);
-        shows = λ r h named.
-            rw (one_more (is_target r n) m (target_tested test r h named), ← append_assoc r.cancelled _ (m ∷ []))
-            (shows (with_cancelled r (all_below (is_target r n) m)) (c.shows r h named));
-      }
+  chosen_more {next} test chosen shows = record {
+    chosen = chosen_both old now next c.chosen chosen;
+    few = omega (arith, c.few);
+    count_is = λ r h named.
+        grind (arith, (c.count_is r h named), (one_more (is_target r n) m), (target_tested test r h named), length-append);
+    shows = λ r h named.
+        rw (one_more (is_target r n) m (target_tested test r h named), ← append_assoc r.cancelled _ (m ∷ []))
+        (shows _ (c.shows r h named));
+  }
 
   -- the next number is none
   pub chosen_past : ((r : Requests) → Shows now.grouped r → user_data ≡ addr_of (entry_of r n) → false ≡ is_target r n m)
       → AreChosen old now n user_data (m + 1) count
-  chosen_past test =
-      let few = c.few in
-      record {
-        chosen = c.chosen;
-        few = omega arith;
-        count_is = λ r h named. grind (arith, (c.count_is r h named), (target_tested test r h named), none_more);
-        shows = λ r h named. rw (none_more (is_target r n) m (target_tested test r h named)) (c.shows r h named);
-      }
+  chosen_past test = record {
+    chosen = c.chosen;
+    few = omega (arith, c.few);
+    count_is = λ r h named. grind (arith, (c.count_is r h named), (target_tested test r h named), none_more);
+    shows = λ r h named. rw (none_more (is_target r n) m (target_tested test r h named)) (c.shows r h named);
+  }
 
 -- all numbers were tested
 pub chosen_all : (r : Requests) (n m : ℕ) → m ≡ length r.accepted

@@ -88,10 +88,9 @@ module _ {w v : Window} {g h : Groups} {r : Requests} {n : ℕ} {request : Reque
   shown_left : broken ≡ earlier_of q.broken (is_soft (entry_of r n) && not (is_success (entry_of r n) res)) n
       → IsShownGroup (with_ended r n res bytes) (left_with q least broken)
   shown_left breaks =
-      let shown = a.groups request.group q e.group in
-      let inside = within_group s e.there e.group in
       let old = a.shown n request e.there in
-      grind (arith, (group_ended r n res bytes q.from q.end), (first_broken_ended r n res bytes q.from q.end))
+      grind (arith, (a.groups request.group q e.group), (within_group s e.there e.group), (group_ended r n res bytes q.from q.end),
+        (first_broken_ended r n res bytes q.from q.end))
 
   shown_elsewhere : {key : ℕ} {p : Group} → group_at g key ≡ Some p → key ≢ request.group
       → IsShownGroup (with_ended r n res bytes) p

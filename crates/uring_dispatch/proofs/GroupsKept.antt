@@ -109,6 +109,4 @@ pub first_draining : (g : Groups) (b : Barrier) (o : Option Group)
     → MatchOption o ((key number : ℕ) → drain_of (group_at g key) ≡ Some number → ⊥) (IsFirstDraining g)
 first_draining g b o a live lt e is =
     let head = head_is g.barriers b lt e in
-    let drains = live b head.0 head.1 in
-    let free = before_free g.records g.barriers g.last b b.number a lt e in
-    grind arith
+    grind (arith, (live b head.0 head.1), (before_free g.records g.barriers g.last b b.number a lt e))

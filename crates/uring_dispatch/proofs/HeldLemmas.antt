@@ -145,5 +145,5 @@ module _ {w : Window} {g : Groups} {r : Requests} {n : ℕ} {request : Request} 
       → (is_some q.drain ≡ true → (m : ℕ) → m < q.from → at w m ≡ None) → is_ready r n ≡ true
   ready_held least free alone =
       let within = shown_within i.sound i.held i.there in
-      let plain = λ (m : ℕ) (low : m < q.from) (x : Request) (e : at w m ≡ Some x). plain_before i.sound i.held i.shown.group free e low in
-      grind (arith, (ready_yes r q.from q.end n i.shown.group i.from i.to), (i.held.ended), plain, draining_held, i.kept)
+      grind (arith, (ready_yes r q.from q.end n i.shown.group i.from i.to), i.held.ended, draining_held, i.kept,
+        (λ (m : ℕ) (low : m < q.from) (x : Request) (e : at w m ≡ Some x). plain_before i.sound i.held i.shown.group free e low))

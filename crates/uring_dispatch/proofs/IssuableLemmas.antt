@@ -104,7 +104,8 @@ module _ {w : Window} {g : Groups} {r : Requests} {s : Waiting} (limit : ℕ) (s
       → MatchOption b ((k : ℕ) → n ≤ k → k < limit → holds s.heads k ≡ false) (IsLeastBelow s.heads n limit)
       → lesser_of a b ≡ issuable_from r n
   next_is n a b doomed head =
-      least_is _ _ (length r.accepted) (lesser_of a b) (least_told s n limit a b doomed head) (λ k. ap (λ b. leb n k && b) (sym (can_go_is k)))
+      least_is _ _ (length r.accepted) (lesser_of a b) (least_told s n limit a b doomed head)
+      (λ k. ap (λ b. leb n k && b) (sym (can_go_is k)))
       (λ k is. issuable_within r k (and_parts (leb n k) _ is).1)
 
   -- All of them, counted by the blocks of 64.

@@ -57,9 +57,8 @@ own_least w g s j k p q e f same = grind (arith, (s.kept j p e), (s.kept k q f),
 pub groups_few : (w : Window) (g : Groups) → IsSound w g → count_by is_some g.records ≤ end_of w
 groups_few w g s =
     let few = length-le_from_distinct_below (leasts g.records) (end_of w) (leasts_distinct g.records (own_least w g s))
-    (λ m any. leasts_below g.records (end_of w) m (λ k q e. let a = s.kept k q e in let to = a.to in let end = a.end in omega arith) any) in
-    let same = leasts_length g.records in
-    omega arith
+    (λ m any. leasts_below g.records (end_of w) m (λ k q e. grind (arith, (s.kept k q e))) any) in
+    grind (arith, leasts_length)
 
 -- barriers in order, above one number and below another
 sorted_few : (b : Barrier) (rest : List Barrier) (n : ℕ) → IsSorted (b ∷ rest) → IsBeyond (b ∷ rest) n

@@ -1,6 +1,6 @@
 -- From what a dispatcher shows to what it holds, and back; and what its queries find.
-use Rattle.std.proofs.Common.{◌≡◌, ℕ, ◌≤◌, length, Bool, true, false, Option, Some, None, refl, sym, subst, arith, not, ◌&&◌}
-use Rattle.uring_dispatch.proofs.Common.{AreHeld, Cancel, Dispatch, EndCounts, Groups, IsFirst, IsSound, IssueCounts, MatchOption, Op, Request, Requests, ShowsRequests, StandsFor, Window, at, dispatch_of, end_of, entry_of, entry_outstanding, if◌then◌else◌, is_faulty, is_outstanding, is_running, is_some_value, least_below_none, least_below_some, least_of, operation_of, operation_running}
+use Rattle.std.proofs.Common.{◌≡◌, ℕ, ◌≤◌, length, Bool, true, false, Option, Some, None, refl, arith, not, ◌&&◌}
+use Rattle.uring_dispatch.proofs.Common.{AreHeld, Cancel, Dispatch, EndCounts, Groups, IsFirst, IsSound, IssueCounts, MatchOption, Op, Request, Requests, ShowsRequests, StandsFor, Window, at, dispatch_of, end_of, entry_of, entry_outstanding, if◌then◌else◌, is_faulty, is_outstanding, is_running, is_some_value, least_below_none, least_below_some, least_of, operation_running}
 use Rattle.uring_dispatch.specs.Outstanding.{HasRoom, Stays}
 use Rattle.uring_dispatch.specs.declared.outstanding.Outstanding.{Outstanding}
 use Rattle.uring_dispatch.specs.declared.answers.Issued.{Issued}
@@ -21,8 +21,7 @@ pub held_from : (d : Dispatch) (w : Window) (g : Groups) (room : ℕ) (between :
     → dispatch_of w g room between ≡ d → ShowsRequests d r → AreHeld w g r
 unfolding StandsFor
 held_from d w g room between r e s =
-    let P : Dispatch → Type 0 = λ x. ShowsRequests x r in
-    held_alike (record w { room = 0 }) w (record g { room = 0 }) g r (alike_from _ w _ g refl refl) (subst P (sym e) s).held
+    held_alike (record w { room = 0 }) w (record g { room = 0 }) g r (alike_from _ w _ g refl refl) (rw (← e) at s).held
 
 -- What the queries answer.
 
@@ -67,13 +66,14 @@ room_stays old new room s end r = omega arith
 pub room_fewer : (d : Outstanding) (room fewer : ℕ) → fewer ≤ room → HasRoom d room → HasRoom d fewer
 room_fewer d room fewer le r = omega arith
 
+some_or : {X : Type 0} (b : Bool) (x : X) → (if true && not b then Some x else None) ≡ (if b then None else Some x)
+some_or b x = grind arith
+
 -- what is outstanding is to do what its entry asks for
 pub operation_held : (w : Window) (g : Groups) (r : Requests) (n : ℕ) (request : Request)
     → IsSound w g → AreHeld w g r → at w n ≡ Some request → operation_outstanding r n ≡ request.op
-operation_held w g r n request s h e = rw (outstanding_some s h n e, (h.shown n request e).op) (go (is_faulty (entry_of r n)))
-  where
-    go : (b : Bool) → (if true && not b then Some (operation_of (entry_of r n)) else None) ≡ (if b then None else Some (operation_of (entry_of r n)))
-    go b = grind arith
+operation_held w g r n request s h e =
+    rw (outstanding_some s h n e, (h.shown n request e).op) (some_or (is_faulty (entry_of r n)) _)
 
 -- by what it is to do
 pub finds_by : (w : Window) (g : Groups) (r : Requests) (n : ℕ) (request : Request) (op : Option Op)
