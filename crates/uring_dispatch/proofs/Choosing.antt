@@ -1,6 +1,6 @@
 -- What cancels make of the lists: the end of a request as it is issued, with those that it dooms, and the search for all targets of a cancel.
-use Rattle.std.proofs.Common.{◌≡◌, ℕ, ◌+◌, ◌<◌, ◌≤◌, pos, negsuc, List, [], ◌∷◌, ◌++◌, length, length-append, Bool, true, false, ◌==◌, Option, Some, ap, arith}
-use Rattle.uring_dispatch.proofs.Common.{AreHeld, Groups, KeepsPlaces, Requests, Shows, Window, addr_of, all_below, all_below_none, all_below_past, append-nil, append_assoc, at, cancel_result, chosen, chosen_by, entry_of, if◌then◌else◌, int_le, is_after_failure, is_cancel, is_cancel_all, is_doomed, is_joined, is_running, is_success, is_target, list_any, no_bytes, result_for, runs, some_member, target_of, targets_of, with_cancelled, with_ended, with_issued_end}
+use Rattle.std.proofs.Common.{◌≡◌, ℕ, ◌+◌, ◌<◌, ◌≤◌, pos, negsuc, [], ◌∷◌, ◌++◌, length, length-append, Bool, true, false, Option, Some, ap, arith}
+use Rattle.uring_dispatch.proofs.Common.{AreHeld, Groups, KeepsPlaces, Requests, Shows, Window, addr_of, all_below, all_below_none, all_below_past, append-nil, append_assoc, at, cancel_result, chosen, chosen_by, entry_of, if◌then◌else◌, int_le, is_after_failure, is_cancel, is_cancel_all, is_doomed, is_joined, is_running, is_success, is_target, no_bytes, result_for, runs, some_member, target_of, targets_of, with_cancelled, with_ended, with_issued_end}
 use Rattle.std.proofs.lemmas.List.Folds.{list_any-append}
 use Rattle.uring_dispatch.specs.declared.outstanding.Outstanding.{Outstanding}
 use Rattle.uring_dispatch.specs.Choosing.{HasChosen}
@@ -49,16 +49,11 @@ pub result_some : (r : Requests) (m : ℕ) (o : Option ℕ) (b : Bool) → Some 
     → (if b then negsuc 113 else pos 0) ≡ result_for r o
 result_some r m o b e runs = grind arith
 
--- who isn't among those chosen stays as it was
-doomed_still : (r : Requests) (these : List ℕ) (m : ℕ) → list_any (λ k. k == m) these ≡ false
-    → is_doomed (with_cancelled r these) m ≡ is_doomed r m
-unfolding is_doomed is_after_failure some_member is_joined
-doomed_still r these m out = grind (arith, list_any-append)
-
 -- whether the next is a target doesn't depend on the targets before it
 pub target_next : (r : Requests) (n m : ℕ)
     → is_target (with_cancelled r (all_below (is_target r n) m)) n m ≡ is_target r n m
-target_next r n m = grind (arith, doomed_still, all_below_past)
+unfolding is_doomed is_after_failure some_member is_joined
+target_next r n m = grind (arith, list_any-append, all_below_past)
 
 -- The search for targets.
 

@@ -35,9 +35,6 @@ module _ {w : Window} {g : Groups} {n : ℕ} {request : Request} (s : IsSound w 
 -- Numbers, by what is held.
 
 module _ {w : Window} {g : Groups} {r : Requests} (h : AreHeld w g r) where
-  pub open_here : (n : ℕ) → is_some (at w n) ≡ true → has_ended r n ≡ false
-  open_here n here = let q = is_some_value (at w n) here in (h.shown n q.0 q.1).unended
-
   pub outstanding_none : (n : ℕ) → at w n ≡ None → is_outstanding r n ≡ false
   outstanding_none n e = grind arith
 
@@ -73,7 +70,7 @@ module _ {w : Window} {g : Groups} {r : Requests} (s : IsSound w g) (h : AreHeld
 
   -- a kept group's least member is outstanding
   pub least_open : (key : ℕ) {q : Group} → group_at g key ≡ Some q → has_ended r q.least ≡ false
-  least_open key {q} is = open_here h q.least (s.kept key q is).here
+  least_open key {q} is = grind (arith, (s.kept key q is), (h.shown q.least), is_some_value)
 
 -- Request n is outstanding, and a member of this group.
 pub record InGroup (w : Window) (g : Groups) (r : Requests) (n : ℕ) (request : Request) (q : Group) : Type 0 where

@@ -50,13 +50,11 @@ leasts_below (None ∷ rest) n m below any = leasts_below rest n m (λ k q e. be
 leasts_below (Some p ∷ rest) n m below any =
     grind (arith, eqb-true, (below 0 p refl), (leasts_below rest n m (λ k q e. below (suc k) q e)))
 
--- each group that is kept has a member that no other has
-own_least : (w : Window) (g : Groups) → IsSound w g → HaveOwn g.records
-own_least w g s j k p q e f same = grind (arith, (s.kept j p e), (s.kept k q f), (s.members j p p.least), (s.members k q p.least))
-
 pub groups_few : (w : Window) (g : Groups) → IsSound w g → count_by is_some g.records ≤ end_of w
 groups_few w g s =
-    let few = length-le_from_distinct_below (leasts g.records) (end_of w) (leasts_distinct g.records (own_least w g s))
+    let few = length-le_from_distinct_below (leasts g.records) (end_of w)
+    (leasts_distinct g.records
+    (λ j k p q e f same. grind (arith, (s.kept j p e), (s.kept k q f), (s.members j p p.least), (s.members k q p.least))))
     (λ m any. leasts_below g.records (end_of w) m (λ k q e. grind (arith, (s.kept k q e))) any) in
     grind (arith, leasts_length)
 
