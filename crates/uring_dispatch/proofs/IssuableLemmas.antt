@@ -6,7 +6,7 @@ use Rattle.uring_dispatch.proofs.Counting.{count_below_zero, count_below_past, c
 use Rattle.uring_dispatch.proofs.WindowFront.{at_past}
 use Rattle.uring_dispatch.proofs.HeldLemmas.{InGroup, in_group, its_group, shown_within, doomed_held, not_least, not_alone, ready_held, after_barrier, outstanding_none, issuable_some}
 
--- The lesser of two.
+-- The least number that passes a test.
 
 -- this is the least number of which p is true, if there is one
 abbrev IsLeastOf : (ℕ → Bool) → Option ℕ → Type 0
