@@ -1,21 +1,37 @@
 -- When an entry is accepted and when a call ends: the window and the groups still fit one another, and what is held is what the lists say.
-use Rattle.std.proofs.Common.{◌≡◌, ◌≢◌, ◌⊎◌, ℕ, ◌+◌, ◌<◌, ◌≤◌, length, Bool, ◌==◌, Option, Some, None, is_some, refl, sym, ◌∙◌, ap, subst, arith, inl, inr, zero, suc, [], ◌∷◌, length-append, true, false, not, ◌||◌}
-use Rattle.uring_dispatch.proofs.Common.{Accepts, AreHeld, Changes, Exchanges, Group, Groups, IfErr, IfOk, IsBeyond, IsGroup, IsKept, IsShownGroup, IsSound, Op, Request, Requests, Result, Sqe, Window, added_other, at, both_ways, cases_eq, cases_lt, end_of, entry_of, entry_of_accepted_at, entry_of_accepted_other, false≢true, fault_of, first_broken, first_drain, first_fault, found_or, group_at, has_ended, has_started, if◌then◌else◌, is_drain, is_faulty, is_last, is_linked, is_some_value, last_group, list_any, ne_eqb, new_request, op_of, operation_of, or-false, outstanding_in, running_in, with_accepted, with_cut, with_member}
-use Rattle.std.proofs.Math.Numerals.{lt_of_le_of_ne}
+use Rattle.std.proofs.Common.{◌≡◌, ◌≢◌, ◌⊎◌, ℕ, ◌+◌, ◌<◌, ◌≤◌, length, Bool, ◌==◌, Option, Some, None, is_some, refl, sym, ◌∙◌, ap, subst, arith, inl, inr, zero, suc, [], ◌∷◌, length-append, false, not, ◌||◌}
+use Rattle.uring_dispatch.proofs.Common.{Accepts, AreHeld, Changes, Exchanges, Group, Groups, IfErr, IfOk, IsBeyond, IsGroup, IsKept, IsShownGroup, IsSound, Op, Request, Requests, Result, Sqe, Window, added_other, cases_eq, end_of, entry_of, entry_of_accepted_at, entry_of_accepted_other, false≢true, fault_of, group_at, has_ended, has_started, if◌then◌else◌, is_drain, is_faulty, is_last, is_linked, is_some_value, last_group, list_any, ne_eqb, new_request, op_of, operation_of, or-false, outstanding_in, running_in, with_accepted, with_cut, with_member}
 use Rattle.uring_entry.proofs.GroupEvents.{group_cut, is_last_cut_last, group_accepted, group_joined, group_new, first_entry_accepted, first_entry_more, first_broken_accepted, first_broken_more, first_member_none}
 use Rattle.uring_dispatch.proofs.GroupsKept.{only_key}
-use Rattle.uring_dispatch.proofs.HeldLemmas.{some_none, linked, member, kept_on}
+use Rattle.uring_dispatch.proofs.HeldLemmas.{linked, kept_on}
 use Rattle.std.specs.Result.{result_ok}
 use Rattle.uring_entry.specs.declared.fault.Fault.{Fault}
 use Rattle.uring_dispatch.proofs.Changes.{before_write, shown_written}
 use Rattle.uring_dispatch.proofs.Counting.{count_below_same}
 
-member_from : (o : Option Group) (n : ℕ) (d f : Bool) (k : ℕ) → (with_member o n d f).from ≤ k
-    → k < n → (q : Group) × (o ≡ Some q) × (q.from ≤ k)
-member_from o n d f k a b = grind arith
+-- where the group that is joined, or the new one, begins and ends
+member_is : (o : Option Group) (n : ℕ) (d f : Bool)
+    → ((with_member o n d f).end ≡ n + 1) × ((q : Group) → o ≡ Some q → (with_member o n d f).from ≡ q.from)
+    × (o ≡ None → (with_member o n d f).from ≡ n)
+member_is o n d f = grind arith
 
-member_end : (o : Option Group) (n : ℕ) (d f : Bool) → (with_member o n d f).end ≡ n + 1
-member_end o n d f = grind arith
+-- The group p has one more member, the last request.
+joined_sound : {w v : Window} {g h : Groups} {request : Request} → IsSound w g
+    → Changes w v (end_of w) (Some request) → end_of v ≡ end_of w + 1 → IsBeyond h.barriers (end_of w + 1) → (p : Group)
+    → Exchanges g h request.group (Some p) → p.end ≡ end_of w + 1 → IsKept v p
+    → ((q : Group) → group_at g request.group ≡ Some q → (p.from ≡ q.from) × (q.end ≡ end_of w))
+    → (group_at g request.group ≡ None → p.from ≡ end_of w)
+    → ((key : ℕ) → h.last ≡ Some key → key ≡ request.group) → IsSound v h
+joined_sound {w} {v} {g} {h} {request} s c end beyond p e top own begins fresh only = record {
+  linked = λ k x is.
+      grind (arith, (before_write c is), (s.linked k x), (s.kept x.group), (cases_eq x.group request.group), (e.others x.group));
+  members = λ key x k y found from to is.
+      grind (arith, (before_write c is), (s.members key x k y), (cases_eq key request.group), (e.others key),
+        (λ (q : Group). s.members request.group q k y), (s.kept key x));
+  kept = λ key x found. grind (arith, (cases_eq key request.group), (e.others key), (s.kept key x), c.others);
+  beyond = rw end beyond;
+  last = λ key x is found. grind (arith, (only key is));
+}
 
 module _ {w v : Window} {g h : Groups} {entry : Sqe} {request : Request} (s : IsSound w g) (a : Accepts w v g h entry request) where
   -- the group that is joined ends where the window does
@@ -30,92 +46,34 @@ module _ {w v : Window} {g h : Groups} {entry : Sqe} {request : Request} (s : Is
   -- the group that was joined, or the new one
   joined_kept : (o : Option Group) → last_group g.records g.last ≡ o
       → IsKept v (with_member o (end_of w) (is_drain entry) (is_faulty entry))
-  joined_kept None e = record { from = omega arith; to = omega arith; end = omega (arith, a.end); over = λ m high low. absurd (omega arith); here = ap is_some a.changes.here }
-  joined_kept (Some q) e =
-      let old = s.kept request.group q (a.joins ∙ e) in
-      let top = joined_end e in
-      let k = kept_on old (omega (arith, a.end)) (λ m from to. ap is_some (a.changes.others m (λ same. absurd (omega (arith, old.to, same))))) in
-      record { from = k.from; to = omega (arith, k.to); end = omega (arith, a.end); over = k.over; here = k.here }
+  joined_kept None e = grind arith
+  joined_kept (Some q) e = grind (arith, kept_on, joined_end, (s.kept request.group q))
 
   pub accept_sound : IsSound v h
   accept_sound =
       let o : Option Group = last_group g.records g.last in
-      let p : Group = with_member o (end_of w) (is_drain entry) (is_faulty entry) in
-      let top : p.end ≡ end_of w + 1 = member_end o (end_of w) (is_drain entry) (is_faulty entry) in
-      let own = joined_kept o refl in
-      record {
-        linked = λ k x is.
-            elim (before_write a.changes is) [
-              | inl new ↦
-                  let least = least_low o refl in
-                  member _ p k (ap (λ (z : Request). group_at h z.group) (sym new.1) ∙ a.exchange.here) (omega (arith, own.from, new.0)) (omega (arith, new.0))
-              | inr was ↦
-                  let link = linked s was.1 in
-                  let within = (s.kept x.group link.group link.found).end in
-                  elim (cases_eq x.group request.group) [
-                    | inl same ↦
-                        let begins : p.from ≡ link.group.from = ap (λ z. (with_member z (end_of w) (is_drain entry) (is_faulty entry)).from) (sym a.joins ∙ ap (group_at g) (sym same) ∙ link.found) in
-                        member _ p k (ap (group_at h) same ∙ a.exchange.here) (omega (arith, link.from)) (omega (arith, link.to))
-                    | inr other ↦ member _ link.group k (a.exchange.others x.group other ∙ link.found) link.from link.to
-                  ]
-            ];
-        members = λ key x k y found from to is.
-            elim (now key x found) [
-              | inr other ↦
-                  elim (before_write a.changes is) [
-                    | inl new ↦ absurd (omega (arith, (s.kept key x other.1).end, new.0))
-                    | inr was ↦ s.members key x k y other.1 from to was.1
-                  ]
-              | inl here ↦
-                  let begins : x.from ≡ p.from = ap (λ (z : Group). z.from) here.1 in
-                  let ends : x.end ≡ p.end = ap (λ (z : Group). z.end) here.1 in
-                  elim (before_write a.changes is) [
-                    | inl new ↦ ap (λ (z : Request). z.group) (sym new.1) ∙ sym here.0
-                    | inr was ↦
-                        let low : k < end_of w = lt_of_le_of_ne (omega arith) was.0 in
-                        let q = member_from o (end_of w) (is_drain entry) (is_faulty entry) k (omega arith) low in
-                        s.members request.group q.0 k y (a.joins ∙ q.1) q.2 (omega (arith, joined_end q.1)) was.1 ∙ sym here.0
-                  ]
-            ];
-        kept = λ key x found.
-            elim (now key x found) [
-              | inl here ↦ subst (λ (z : Group). IsKept v z) (sym here.1) own
-              | inr other ↦
-                  let k = s.kept key x other.1 in
-                  kept_on k (omega (arith, a.end)) (λ m from to. ap is_some (a.changes.others m (λ same. absurd (omega (arith, k.to, k.end, same)))))
-            ];
-        beyond = rw a.end a.beyond;
-        last = λ key x e found.
-            elim (now key x found) [
-              | inl here ↦ ap (λ (z : Group). z.end) here.1 ∙ top ∙ sym a.end
-              | inr other ↦ absurd (other.0 (only_key (is_linked entry) request.group key _ a.last e))
-            ];
-      }
-    where
-      least_low : (o : Option Group) → last_group g.records g.last ≡ o → (with_member o (end_of w) (is_drain entry) (is_faulty entry)).least ≤ end_of w
-      least_low None e = omega arith
-      least_low (Some q) e = let k = s.kept request.group q (a.joins ∙ e) in omega (arith, k.to, k.end)
+      let is = member_is o (end_of w) (is_drain entry) (is_faulty entry) in
+      joined_sound s a.changes a.end a.beyond (with_member o (end_of w) (is_drain entry) (is_faulty entry)) a.exchange is.0
+      (joined_kept o refl)
+      (λ q found. (is.1 q (sym a.joins ∙ found), joined_end (sym a.joins ∙ found)))
+      (λ none. is.2 (sym a.joins ∙ none))
+      (λ key found. only_key (is_linked entry) request.group key _ a.last found)
 
 -- The lists, when an entry is accepted.
-
-longer : (r : Requests) (entry : Sqe)
-    → length (with_accepted r entry).accepted ≡ suc (length r.accepted)
-longer r entry = let more = length-append r.accepted (entry ∷ []) in omega arith
 
 -- two groups with one end begin together
 same_from : (r : Requests) (a b end : ℕ) → IsGroup r a end → IsGroup r b end → a < b → ⊥
 same_from r a zero end g h lt = omega arith
-same_from r a (suc k) end g h lt =
-    both_ways _ (g.joined k (omega arith) (omega (arith, h.some))) (h.begins k refl)
+same_from r a (suc k) end g h lt = grind (arith, (g.joined k), (h.begins k), h.some)
 
 -- the counts
 outstanding_more : (r : Requests) (entry : Sqe) → has_ended r (length r.accepted) ≡ false
     → outstanding_in (with_accepted r entry) ≡ outstanding_in r + 1
-outstanding_more r entry none = grind (arith, longer, count_below_same)
+outstanding_more r entry none = grind (arith, length-append, count_below_same)
 
 running_same : (r : Requests) (entry : Sqe) → has_started r (length r.accepted) ≡ false
     → running_in (with_accepted r entry) ≡ running_in r
-running_same r entry none = grind (arith, longer)
+running_same r entry none = grind (arith, length-append)
 
 not_linked : (b : Bool) (key : ℕ) → not (is_some (if b then Some key else None)) ≡ not b
 not_linked b key = grind arith
@@ -130,8 +88,8 @@ module _ {w v : Window} {g h : Groups} {r : Requests} {entry : Sqe} {request : R
       let none = (a.untouched n (omega arith)).ended in
       record {
         group = group_new r entry (λ k end. a.last k end ∙ ap not (sym c.kept ∙ ap is_some e));
-        fault = sym (first_entry_more r entry is_faulty n (omega arith) ∙ ap (λ o. found_or o (is_faulty entry) n) (first_member_none (λ m. is_faulty (entry_of r m)) n));
-        drain = sym (first_entry_more r entry is_drain n (omega arith) ∙ ap (λ o. found_or o (is_drain entry) n) (first_member_none (λ m. is_drain (entry_of r m)) n));
+        fault = cc (first_entry_more r entry is_faulty n (omega arith), first_member_none (λ m. is_faulty (entry_of r m)) n);
+        drain = cc (first_entry_more r entry is_drain n (omega arith), first_member_none (λ m. is_drain (entry_of r m)) n);
         broken = sym (first_broken_more r entry n none (omega arith) ∙ first_member_none _ n);
       }
   joined_shown (Some q) e =
@@ -143,54 +101,29 @@ module _ {w v : Window} {g h : Groups} {r : Requests} {entry : Sqe} {request : R
       let low : q.from ≤ n = omega (arith, group.some) in
       record {
         group = group_joined r entry q.from group (λ k last. a.last k last ∙ ap not (sym c.kept ∙ ap is_some e));
-        fault =
-            ap (λ o. found_or o (is_faulty entry) n) (old.fault ∙ ap (first_fault r q.from) end)
-            ∙ sym (first_entry_more r entry is_faulty q.from low);
-        drain =
-            ap (λ o. found_or o (is_drain entry) n) (old.drain ∙ ap (first_drain r q.from) end)
-            ∙ sym (first_entry_more r entry is_drain q.from low);
-        broken = old.broken ∙ ap (first_broken r q.from) end ∙ sym (first_broken_more r entry q.from none low);
+        fault = cc (first_entry_more r entry is_faulty q.from low, old.fault);
+        drain = cc (first_entry_more r entry is_drain q.from low, old.drain);
+        broken = cc (first_broken_more r entry q.from none low, old.broken);
       }
 
-  -- a group of another key is closed
-  closed_elsewhere : {other : ℕ} {x : Group} → group_at g other ≡ Some x → other ≢ request.group
-      → (k : ℕ) → suc k ≡ x.end → is_last r k ≡ true
-  closed_elsewhere {other} {x} is ne k e =
-      elim (cases_lt x.end (length r.accepted)) [
-        | inl low ↦ one.ends k e low
-        | inr high ↦ go (last_group g.records g.last) refl (omega (arith, one.accepted))
-      ]
-    where
-      one : IsGroup r x.from x.end
-      one = (a.groups other x is).group
+  -- two groups don't end together
+  end_apart : {other : ℕ} {x : Group} → group_at g other ≡ Some x → other ≢ request.group
+      → (q : Group) → group_at g request.group ≡ Some q → q.end ≢ x.end
+  end_apart {other} {x} is ne q here end =
+      let kept = s.kept other x is in
+      let one = a.groups other x is in
+      let two = a.groups request.group q here in
+      grind (arith, (same_from r x.from q.from x.end), (s.members other x x.least), (s.members request.group q x.least), is_some_value)
 
-      go : (p : Option Group) → last_group g.records g.last ≡ p → x.end ≡ length r.accepted → is_last r k ≡ true
-      go None f top = a.last k (e ∙ top) ∙ ap not (sym c.kept ∙ ap is_some f)
-      go (Some q) f top =
-          let end : q.end ≡ x.end = joined_end s c f ∙ sym a.count ∙ sym top in
-          let two : IsGroup r q.from x.end = subst (λ z. IsGroup r q.from z) end (a.groups request.group q (c.joins ∙ f)).group in
-          let kept = s.kept other x is in
-          let y = is_some_value (at w x.least) kept.here in
-          elim (cases_lt x.from q.from) [
-            | inl before ↦ absurd (same_from r x.from q.from x.end one two before)
-            | inr after ↦
-                absurd
-                (ne
-                (sym (s.members other x x.least y.0 is kept.from kept.to y.1)
-                ∙ s.members request.group q x.least y.0 (c.joins ∙ f) (omega (arith, kept.from)) (omega (arith, kept.to)) y.1))
-          ]
-
-  elsewhere_shown : (x : Group) → IsShownGroup r x → ((k : ℕ) → suc k ≡ x.end → is_last r k ≡ true)
+  -- a group of another key is closed, and so stays as it was
+  elsewhere_shown : {other : ℕ} {x : Group} → group_at g other ≡ Some x → other ≢ request.group
       → IsShownGroup (with_accepted r entry) x
-  elsewhere_shown x old closed =
+  elsewhere_shown {other} {x} is ne =
+      let old = a.groups other x is in
       let none = (a.untouched (length r.accepted) (omega arith)).ended in
-      let within = old.group.accepted in
-      record {
-        group = group_accepted r entry x.from x.end old.group closed;
-        fault = old.fault ∙ sym (first_entry_accepted r entry is_faulty x.from x.end within);
-        drain = old.drain ∙ sym (first_entry_accepted r entry is_drain x.from x.end within);
-        broken = old.broken ∙ sym (first_broken_accepted r entry x.from x.end none within);
-      }
+      grind (arith, (group_accepted r entry x.from x.end old.group), a.last, (joined_end s c), (end_apart is ne), is_some_value,
+        (first_entry_accepted r entry is_faulty x.from x.end), (first_entry_accepted r entry is_drain x.from x.end),
+        (first_broken_accepted r entry x.from x.end none))
 
 pub accept_held : {w v : Window} {g h : Groups} {r : Requests} {entry : Sqe} {key : ℕ} → IsSound w g
     → AreHeld w g r → Accepts w v g h entry (new_request entry key)
@@ -199,17 +132,13 @@ accept_held {w} {v} {g} {h} {r} {entry} {key} s a c outstanding running =
     let n : ℕ = length r.accepted in
     let top : end_of w ≡ n = sym a.count in
     let fresh = a.untouched n (omega arith) in
-    let more = longer r entry in
+    let more = length-append r.accepted (entry ∷ []) in
     let here = entry_of_accepted_at r entry in
     record {
       count = omega (arith, c.end);
       outstanding = omega (arith, outstanding_more r entry fresh.ended, a.outstanding);
       running = running ∙ a.running ∙ sym (running_same r entry fresh.started);
-      ended = λ m e lt.
-          elim (cases_eq m (end_of w)) [
-            | inl same ↦ some_none e (ap (at v) same ∙ c.changes.here)
-            | inr other ↦ a.ended m (sym (c.changes.others m other) ∙ e) (lt_of_le_of_ne (omega (arith, top)) (λ k. other (k ∙ sym top)))
-          ];
+      ended = λ m e lt. grind (arith, (cases_eq m (end_of w)), (a.ended m), (c.changes.others m), c.changes.here);
       shown =
           shown_written c.changes a.shown
           (rw top
@@ -218,7 +147,7 @@ accept_held {w} {v} {g} {h} {r} {entry} {key} s a c outstanding running =
       groups = λ k x found.
           elim (now s c k x found) [
             | inl same ↦ rw (same.1, top) (joined_shown s a c (last_group g.records g.last) refl)
-            | inr other ↦ elsewhere_shown s a c x (a.groups k x other.1) (closed_elsewhere s a c other.1 other.0)
+            | inr other ↦ elsewhere_shown s a c other.1 other.0
           ];
       last = λ k e.
           let at_n : k ≡ n = omega arith in
@@ -259,16 +188,10 @@ cut_held w g r h = record {
   running = h.running;
   ended = h.ended;
   shown = λ n q e. let old = h.shown n q e in assumption;
-  groups = λ key q e.
-      let old = h.groups key q e in
-      record { group = group_cut r q.from q.end old.group; fault = old.fault; drain = old.drain; broken = old.broken };
+  groups = λ key q e. let old = h.groups key q e in let group = group_cut r q.from q.end old.group in assumption;
   last = λ k e. is_last_cut_last r k e;
   untouched = λ n le.
       let old = h.untouched n le in
-      record {
-        started = old.started;
-        ended = old.ended;
-        cancelled = old.cancelled;
-        cut = added_other (λ cut. cut == n + 1) r.cuts (length r.accepted) (ne_eqb _ _ (λ e. absurd (omega arith))) ∙ old.cut;
-      };
+      let cut = added_other (λ cut. cut == n + 1) r.cuts (length r.accepted) (ne_eqb _ _ (λ e. absurd (omega arith))) in
+      grind arith;
 }

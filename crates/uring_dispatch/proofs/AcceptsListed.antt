@@ -1,6 +1,6 @@
 -- Who waits, when an entry is accepted, a call ends and memory is asked for.
-use Rattle.std.proofs.Common.{◌≡◌, ◌≢◌, ◌⊎◌, ℕ, ◌+◌, ◌/◌, ◌<◌, ◌≤◌, length, Bool, ◌||◌, Option, Some, None, is_some, refl, sym, ◌∙◌, ap, subst, arith, inl, inr}
-use Rattle.uring_dispatch.proofs.Common.{Accepts, Group, Groups, GrowsTo, HasSame, IsListed, IsListedAt, IsSound, NumberSet, Reaches, Request, Sqe, StandsAsBefore, Starts, Waiting, Window, at, cases_eq, cases_lt, end_of, found_or, group_at, holds_same, is_before, is_drain, is_faulty, same_Some, stop_of, with_member}
+use Rattle.std.proofs.Common.{◌≡◌, ◌≢◌, ◌⊎◌, ℕ, ◌+◌, ◌/◌, ◌<◌, ◌≤◌, length, Bool, ◌||◌, Option, Some, None, is_some, refl, sym, ◌∙◌, ap, arith, inl, inr}
+use Rattle.uring_dispatch.proofs.Common.{Accepts, Group, Groups, GrowsTo, HasSame, IsListed, IsListedAt, IsSound, NumberSet, Reaches, Request, Sqe, StandsAsBefore, Starts, Waiting, Window, at, cases_eq, end_of, found_or, group_at, holds_same, is_before, is_drain, is_faulty, with_member}
 use Rattle.uring_dispatch.proofs.HeldLemmas.{some_none, linked, least_before}
 use Rattle.uring_dispatch.proofs.WaitingLemmas.{told_before, stands_apart, stands_in}
 
@@ -18,30 +18,21 @@ low_member s o n d f own old = grind arith
 -- what is covered begins before each group's least member
 pub starts_least : (w : Window) (g : Groups) (s : Waiting) (key : ℕ) (q : Group) → IsSound w g
     → IsListed w g s → group_at g key ≡ Some q → Starts s q.least
-starts_least w g s key q sound l is =
-    let kept = sound.kept key q is in
-    record { heads = l.heads.low q.least kept.here; doomed = l.doomed.low q.least kept.here }
+starts_least w g s key q sound l is = grind (arith, (sound.kept key q is))
 
 reaches_accepted : (w v : Window) (s t : NumberSet) (n : ℕ) → Reaches w s
     → GrowsTo s t n → n ≡ end_of w → end_of v ≡ end_of w + 1
     → ((k : ℕ) → k ≢ end_of w → at v k ≡ at w k) → Reaches v t
 reaches_accepted w v s t n r grows is end others =
+    let old = r.few in
+    let a = grows.few (s.first + length s.blocks) in
+    let b = grows.few (n / 64 + 1) in
     record {
       start = omega arith;
       stop = omega arith;
-      few = few (cases_lt n (stop_of s));
-      low = λ k there.
-          elim (cases_eq k (end_of w)) [
-            | inl same ↦ omega arith
-            | inr other ↦ let low = r.low k (ap is_some (sym (others k other)) ∙ there) in omega arith
-          ];
+      few = omega arith;
+      low = λ k there. grind (arith, (cases_eq k (end_of w)), (others k), (r.low k));
     }
-  where
-    few : (n < stop_of s) ⊎ (stop_of s ≤ n) → stop_of t ≤ end_of v + 63
-    few (inl low) =
-        let most = grows.few (s.first + length s.blocks) (omega arith) (omega arith) in
-        omega (arith, r.few)
-    few (inr high) = let most = grows.few (n / 64 + 1) (omega arith) (omega arith) in omega arith
 
 pub accept_listed : (w v : Window) (g h : Groups) (entry : Sqe) (request : Request) (s t : Waiting) (n : ℕ)
     → IsSound w g → IsListed w g s → Accepts w v g h entry request → n ≡ end_of w
@@ -52,7 +43,7 @@ pub accept_listed : (w v : Window) (g h : Groups) (entry : Sqe) (request : Reque
 accept_listed w v g h entry request s t n sound l a is own members told heads doomed = record {
   told = λ k.
       elim (cases_eq k (end_of w)) [
-        | inl same ↦ let P : ℕ → Type 0 = λ j. IsListedAt v h t j in subst P (is ∙ sym same) own
+        | inl same ↦ rw (same, ← is) own
         | inr other ↦ older k other (at w k) refl
       ];
   heads = reaches_accepted w v s.heads t.heads n l.heads heads is a.end (λ k ne. a.changes.others k ne);
@@ -66,10 +57,7 @@ accept_listed w v g h entry request s t n sound l a is own members told heads do
     older k ne None e = stays k (stands_apart w v g h k (a.changes.others k ne) (λ x there. some_none e there))
     older k ne (Some x) e =
         elim (cases_eq x.group request.group) [
-          | inr apart ↦
-              stays k
-              (stands_apart w v g h k (a.changes.others k ne)
-              (λ y there. rw (same_Some y x (sym there ∙ e)) (a.exchange.others x.group apart)))
+          | inr apart ↦ stays k (grind (arith, (a.changes.others k ne), (a.exchange.others x.group apart)))
           | inl here ↦
               let link = linked sound e in
               let q : Group = link.group in
@@ -82,9 +70,7 @@ accept_listed w v g h entry request s t n sound l a is own members told heads do
                     (stands_in w v g h k x p q (a.changes.others k ne) e link.found (ap (group_at h) here ∙ now) refl (ap (λ b. b || is_before q.broken k) same))
                 | inr fresh ↦
                     let end = (sound.kept request.group q was).end in
-                    let to = link.to in
-                    let from = least_before sound e link.found in
-                    members p now (fresh ∙ ap Some (sym is)) k from (omega arith)
+                    members p now (fresh ∙ ap Some (sym is)) k (least_before sound e link.found) (omega (arith, end, link.to))
               ]
         ]
 

@@ -1,5 +1,5 @@
 -- The window and the groups where only how much more there is memory for differs, or nothing of what they say.
-use Rattle.std.proofs.Common.{◌≡◌, ℕ, ◌≤◌, Result, not, is_some, refl, sym, ◌∙◌, ap, arith}
+use Rattle.std.proofs.Common.{◌≡◌, ℕ, ◌≤◌, Result, not, is_some, sym, ◌∙◌, ap, arith}
 use Rattle.uring_dispatch.proofs.Common.{AreHeld, Groups, HasSameRecords, IsListed, IsSound, OnErr, OnOk, Requests, Waiting, Window, at, end_of, group_at, has_member}
 use Rattle.uring_dispatch.specs.declared.grouped.Grouped.{Grouped}
 use Rattle.uring_dispatch.proofs.WindowFront.{at_room}
@@ -15,27 +15,9 @@ pub record IsAlike (w v : Window) (g h : Groups) : Type 0 where
   pub barriers : h.barriers ≡ g.barriers
   pub last : h.last ≡ g.last
 
-pub alike_room : (w : Window) (g : Groups) (a b : ℕ)
-    → IsAlike w (record w { room = a }) g (record g { room = b })
-alike_room w g a b =
-    record { rows = λ n. at_room w a n; end = refl; outstanding = refl; running = refl; groups = λ key. refl; barriers = refl; last = refl }
-
-pub alike_back : (w : Window) (g : Groups) (a b : ℕ)
-    → IsAlike (record w { room = a }) w (record g { room = b }) g
-alike_back w g a b =
-    record { rows = λ n. sym (at_room w a n); end = refl; outstanding = refl; running = refl; groups = λ key. refl; barriers = refl; last = refl }
-
 pub alike_from : (w v : Window) (g h : Groups) → record v { room = 0 } ≡ record w { room = 0 }
     → record h { room = 0 } ≡ record g { room = 0 } → IsAlike w v g h
-alike_from w v g h a b = record {
-  rows = λ n. sym (at_room v 0 n) ∙ ap (λ (z : Window). at z n) a ∙ at_room w 0 n;
-  end = ap (λ (z : Window). end_of z) a;
-  outstanding = ap (λ (z : Window). z.outstanding) a;
-  running = ap (λ (z : Window). z.running) a;
-  groups = λ key. ap (λ (z : Groups). group_at z key) b;
-  barriers = ap (λ (z : Groups). z.barriers) b;
-  last = ap (λ (z : Groups). z.last) b;
-}
+alike_from w v g h a b = grind (arith, (at_room v 0), (at_room w 0))
 
 pub alike_records : (d e : Grouped) → HasSameRecords d e
     → IsAlike d.window e.window d.groups e.groups

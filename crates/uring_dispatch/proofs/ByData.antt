@@ -1,11 +1,10 @@
 -- Between which numbers the requests with the same user data are: what each event keeps of it, and what a search makes of it.
-use Rattle.std.proofs.Common.{◌≡◌, ◌⊎◌, ℕ, ◌+◌, ◌^◌, ◌<◌, ◌≤◌, Some, None, is_some, false, refl, sym, ◌∙◌, ap, subst, arith, inl, inr}
-use Rattle.uring_dispatch.proofs.Common.{Accepts, AreFound, AreHeld, Changes, GoesOn, Groups, HasPlaces, KeepsFrom, Request, Requests, Spans, Sqe, Window, addr_of, at, cases_eq, cases_lt, end_of, entry_of, is_candidate, nat_eq, same_Some, user_data_of}
+use Rattle.std.proofs.Common.{◌≡◌, ◌⊎◌, ℕ, ◌+◌, ◌^◌, ◌<◌, ◌≤◌, Some, None, is_some, false, refl, ap, arith}
+use Rattle.uring_dispatch.proofs.Common.{Accepts, AreFound, AreHeld, Changes, GoesOn, Groups, HasPlaces, KeepsFrom, Request, Requests, Spans, Sqe, Window, addr_of, at, cases_eq, cases_lt, end_of, entry_of, is_candidate, nat_eq, user_data_of}
 use Rattle.std.specs.HashMap.{get, spare}
 use Rattle.uring_dispatch.specs.declared.by_user_data.ByUserData.{ByUserData}
 use Rattle.uring_dispatch.specs.Noted.{IsBetween, KeepsBetween}
 use Rattle.uring_dispatch.proofs.WindowFront.{within_end}
-use Rattle.uring_dispatch.proofs.HeldLemmas.{some_none}
 use Rattle.uring_dispatch.proofs.Alike.{IsAlike}
 use Rattle.uring_dispatch.proofs.Changes.{before_end}
 
@@ -13,16 +12,11 @@ use Rattle.uring_dispatch.proofs.Changes.{before_end}
 
 pub found_on : (w v : Window) (x : ByUserData) → AreFound w x → GoesOn w v → HasPlaces x (end_of v)
     → AreFound v x
-found_on w v x f on places =
-    let stop = f.stop in
-    let end = on.end in
-    record {
-      stop = omega arith;
-      between = λ n p e lt.
-          let was = on.kept n p (omega arith) e in
-          subst (λ d. IsBetween (get nat_eq x.ends) d n) (sym (ap user_data_of was.2)) (f.between n was.0 was.1 lt);
-      places = places;
-    }
+found_on w v x f on places = record {
+  stop = omega (arith, f.stop, on.end);
+  between = λ n p e lt. let was = on.kept n p (omega (arith, f.stop)) e in rw was.2 (f.between n was.0 was.1 lt);
+  places = places;
+}
 
 pub goes_alike : (w v : Window) (g h : Groups) → IsAlike w v g h → GoesOn w v
 goes_alike w v g h a = grind arith
@@ -44,56 +38,29 @@ goes_accepted w v g h entry request a = grind arith
 pub found_dropped : (w : Window) (x y : ByUserData) (n : ℕ) → AreFound w x → n ≤ end_of w
     → ((k : ℕ) → k < n → at w k ≡ None) → x.stop ≤ y.stop
     → ((k : ℕ) → x.stop ≤ k → n ≤ k → y.stop ≤ k) → y.ends ≡ x.ends → AreFound w y
-found_dropped w x y n f within before up no_more ends =
-    let places = f.places in
-    record {
-      stop = no_more (end_of w) f.stop within;
-      between = λ k q e lt.
-          elim (cases_lt k n) [
-            | inl low ↦ some_none (before k low) e
-            | inr high ↦
-                elim (cases_lt k x.stop) [
-                  | inl looked ↦ rw ends (f.between k q e looked)
-                  | inr not_yet ↦ let to = no_more k not_yet high in absurd (omega (arith, lt))
-                ]
-          ];
-      places = rw ends (omega arith);
-    }
+found_dropped w x y n f within before up no_more ends = record {
+  stop = no_more (end_of w) f.stop within;
+  between = λ k q e lt. grind (arith, (cases_lt k n), (cases_lt k x.stop), (f.between k q e), (no_more k));
+  places = rw ends (omega (arith, f.places));
+}
 
 pub found_renewed : (w : Window) (x y : ByUserData) (first : ℕ) → AreFound w x → KeepsFrom x y first
     → first ≤ end_of w → ((k : ℕ) → k < first → at w k ≡ None) → HasPlaces y (end_of w)
     → AreFound w y
 found_renewed w x y first f same within before places = record {
-  stop =
-      elim (cases_lt (end_of w) y.stop) [
-        | inl past ↦ let looked = same.stop (end_of w) within past in absurd (omega (arith, looked, f.stop))
-        | inr le ↦ le
-      ];
-  between = λ k q e lt.
-      elim (cases_lt k first) [
-        | inl low ↦ some_none (before k low) e
-        | inr high ↦
-            let was = f.between k q e (same.stop k high lt) in
-            let is = same.ends k (user_data_of q.entry) high lt in
-            record { there = ap is_some is ∙ was.there; within = λ x now. was.within x (sym is ∙ now) }
-      ];
+  stop = grind (arith, (same.stop (end_of w)), f.stop);
+  between = λ k q e lt. grind (arith, (cases_lt k first), (f.between k q e), (same.ends k (user_data_of q.entry)), (same.stop k));
   places = places;
 }
 
 -- the number n was looked at, which isn't outstanding
 pub found_past : (w : Window) (x y : ByUserData) (n : ℕ) → AreFound w x → x.stop ≡ n
     → n < end_of w → at w n ≡ None → y.stop ≡ n + 1 → y.ends ≡ x.ends → AreFound w y
-found_past w x y n f is within none stop ends =
-    let places = f.places in
-    record {
-      stop = omega arith;
-      between = λ k q e lt.
-          elim (cases_eq k n) [
-            | inl same ↦ some_none (ap (at w) same ∙ none) e
-            | inr other ↦ rw ends (f.between k q e (omega (arith, lt, other)))
-          ];
-      places = rw ends (omega arith);
-    }
+found_past w x y n f is within none stop ends = record {
+  stop = omega arith;
+  between = λ k q e lt. grind (arith, (cases_eq k n), (f.between k q e));
+  places = rw ends (omega (arith, f.places));
+}
 
 -- the number n was looked at, and noted
 pub found_next : (w : Window) (x y : ByUserData) (n : ℕ) (q : Request) → AreFound w x → x.stop ≡ n
@@ -101,18 +68,11 @@ pub found_next : (w : Window) (x y : ByUserData) (n : ℕ) (q : Request) → Are
     → IsBetween (get nat_eq y.ends) (user_data_of q.entry) n
     → KeepsBetween w (get nat_eq x.ends) (get nat_eq y.ends) n
     → spare x.ends ≤ spare y.ends + 1 → AreFound w y
-found_next w x y n q f is within there stop here kept spares =
-    let places = f.places in
-    record {
-      stop = omega arith;
-      between = λ k p e lt.
-          elim (cases_eq k n) [
-            | inl same ↦
-                rw (same, same_Some p q (sym e ∙ ap (at w) same ∙ there)) here
-            | inr other ↦ kept (user_data_of p.entry) k (ap is_some e) (omega (arith, lt)) (f.between k p e (omega (arith, lt, other)))
-          ];
-      places = omega arith;
-    }
+found_next w x y n q f is within there stop here kept spares = record {
+  stop = omega arith;
+  between = λ k p e lt. grind (arith, (cases_eq k n), (kept (user_data_of p.entry) k), (f.between k p e));
+  places = omega (arith, f.places);
+}
 
 -- What a search makes of it.
 
@@ -124,8 +84,7 @@ pub spans_noted : (w : Window) (x : ByUserData) (named_data from to : ℕ) → A
     → ((n : ℕ) → n < 2 ^ 63 → IsBetween (get nat_eq x.ends) named_data n → (from ≤ n) × (n < to))
     → Spans w named_data from to
 spans_noted w x named_data from to f full fits noted n q e named =
-    let lt = within_end w n (ap is_some e) in
-    noted n (omega arith) (subst (λ d. IsBetween (get nat_eq x.ends) d n) named (f.between n q e (omega arith)))
+    let lt = within_end w n (ap is_some e) in noted n (omega arith) (rw (← named) (f.between n q e (omega arith)))
 
 pub outside : (w : Window) (g : Groups) (r : Requests) (n k named_data from to : ℕ) → AreHeld w g r
     → named_data ≡ addr_of (entry_of r n) → Spans w named_data from to → (k < from) ⊎ (to ≤ k)

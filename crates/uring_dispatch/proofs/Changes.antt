@@ -1,17 +1,14 @@
 -- One request is touched: what is said of each other number by its request stands; and what a start and a choice leave of what is held.
-use Rattle.std.proofs.Common.{◌≡◌, ◌≢◌, ℕ, ◌+◌, ◌≤◌, [], ◌∷◌, length, false, ◌==◌, Some, None, is_some, refl, sym, ◌∙◌, ap, arith, inl, inr, ◌⊎◌, true, Option, Bool}
-use Rattle.uring_dispatch.proofs.Common.{AreHeld, Changes, Groups, IsAsBefore, IsShown, IsSound, Request, Requests, Window, added_other, added_same, at, chosen, end_of, entry_of, eq-eqb, group_at, has_ended, has_started, is_cancelled, is_faulty, is_running, is_running_started_other, is_running_started_same, ne_eqb, one_if, started, with_cancelled, with_started}
+use Rattle.std.proofs.Common.{List, ◌++◌, ◌≡◌, ◌≢◌, ℕ, ◌+◌, [], ◌∷◌, false, ◌==◌, Some, None, is_some, sym, ◌∙◌, ap, arith, ◌⊎◌, true}
+use Rattle.uring_dispatch.proofs.Common.{list_any, running_in, AreHeld, Changes, Groups, IsAsBefore, IsShown, IsSound, Request, Requests, Window, added_other, added_same, at, chosen, end_of, entry_of, has_ended, has_started, is_cancelled, is_faulty, is_running, is_running_started_other, is_running_started_same, ne_eqb, started, with_cancelled, with_started}
 use Rattle.uring_dispatch.proofs.WindowFront.{at_past}
 use Rattle.uring_dispatch.proofs.Counting.{count_below_changed}
-use Rattle.uring_dispatch.proofs.HeldLemmas.{some_none, shown_within, running_some, vacant, linked, member, kept_on}
+use Rattle.uring_dispatch.proofs.HeldLemmas.{shown_within, running_some, linked, kept_on}
 
 -- the request of n is gone
 module _ {w v : Window} {n : ℕ} (c : Changes w v n None) where
   pub before_end : {k : ℕ} {p : Request} → at v k ≡ Some p → (k ≢ n) × (at w k ≡ Some p)
   before_end {k} e = grind arith
-
-  pub gone_stays : (m : ℕ) → at w m ≡ None → at v m ≡ None
-  gone_stays m e = grind arith
 
 -- the request of n was written
 module _ {w v : Window} {n : ℕ} {now : Request} (c : Changes w v n (Some now)) where
@@ -19,12 +16,8 @@ module _ {w v : Window} {n : ℕ} {now : Request} (c : Changes w v n (Some now))
       → ((k ≡ n) × (now ≡ q)) ⊎ ((k ≢ n) × (at w k ≡ Some q))
   before_write {k} e = grind arith
 
-  -- what is the same of both is so of each number
-  pub still_as : (f : Option Request → Bool) → f (Some now) ≡ f (at w n) → (k : ℕ) → f (at v k) ≡ f (at w k)
-  still_as f same k = grind arith
-
   pub still_there : is_some (at w n) ≡ true → (k : ℕ) → is_some (at v k) ≡ is_some (at w k)
-  still_there there = still_as is_some (sym there)
+  still_there there k = grind arith
 
 -- The lists say of k what they said before.
 pub record IsSameAt (r s : Requests) (k : ℕ) : Type 0 where
@@ -41,11 +34,7 @@ shown_same same old = grind arith
 pub shown_written : {w v : Window} {r s : Requests} {n : ℕ} {now : Request} → Changes w v n (Some now)
     → ((k : ℕ) (q : Request) → at w k ≡ Some q → IsShown r k q) → IsShown s n now
     → ((k : ℕ) → k ≢ n → IsSameAt r s k) → (k : ℕ) (q : Request) → at v k ≡ Some q → IsShown s k q
-shown_written c old here elsewhere k q e =
-    elim (before_write c e) [
-      | inl at_n ↦ rw (at_n.0, ← at_n.1) here
-      | inr was ↦ shown_same (elsewhere k was.0) (old k q was.1)
-    ]
+shown_written c old here elsewhere k q e = grind (arith, shown_same, (old k q), (before_write c e), (elsewhere k))
 
 -- Request n is written, and stays in its group.
 
@@ -58,74 +47,52 @@ pub write_sound : {w v : Window} {g : Groups} {n : ℕ} {p q : Request} → IsSo
     → at w n ≡ Some p → Changes w v n (Some q) → q.group ≡ p.group → end_of v ≡ end_of w
     → IsSound v g
 write_sound {g = g} s there c same end = record {
-  linked = λ k x is.
-      let old = written there c same k is in
-      let link = linked s old.1 in
-      member _ link.group k (ap (group_at g) old.2 ∙ link.found) link.from link.to;
-  members = λ key y k x found from to is.
-      let old = written there c same k is in old.2 ∙ s.members key y k old.0 found from to old.1;
+  linked = λ k x is. grind (arith, (written there c same k is), s.linked);
+  members = λ key y k x found from to is. grind (arith, (written there c same k is), (s.members key y k));
   kept = λ key y found. kept_on (s.kept key y found) (omega (arith, end)) (λ m from to. still_there c (ap is_some there) m);
   beyond = rw end s.beyond;
   last = λ key y e found. s.last key y e found ∙ sym end;
 }
 
+-- Request n is written, and the lists say so.
+write_held : {w v : Window} {g : Groups} {r : Requests} {n : ℕ} {p q : Request} {begun chosen_now : List ℕ} → AreHeld w g r
+    → at w n ≡ Some p → Changes w v n (Some q) → IsAsBefore w v
+    → IsShown (record r { started = begun; cancelled = chosen_now }) n q
+    → ((k : ℕ) → k ≢ n → IsSameAt r (record r { started = begun; cancelled = chosen_now }) k)
+    → v.running ≡ running_in (record r { started = begun; cancelled = chosen_now })
+    → AreHeld v g (record r { started = begun; cancelled = chosen_now })
+write_held {w} {r = r} {n = n} h there c as_before here others runs_on = record {
+  count = h.count ∙ sym as_before.end;
+  outstanding = as_before.outstanding ∙ h.outstanding;
+  running = runs_on;
+  ended = λ m e lt. grind (arith, (still_there c (ap is_some there) m), (h.ended m));
+  shown = shown_written c h.shown here others;
+  groups = λ key q is. let old = h.groups key q is in assumption;
+  last = h.last;
+  untouched = λ m past. grind (arith, (h.untouched m past), (others m), (at_past w n), h.count);
+}
+
+-- a number is added to a list
+pushed_other : (xs : List ℕ) (n k : ℕ) → k ≢ n
+    → list_any (λ j. j == k) (xs ++ n ∷ []) ≡ list_any (λ j. j == k) xs
+pushed_other xs n k ne = added_other (λ j. j == k) xs n (ne_eqb n k (λ e. ne (sym e)))
+
 -- a cancel chooses a request
 pub choose_held : {w v : Window} {g : Groups} {r : Requests} {n : ℕ} {p : Request} → AreHeld w g r
     → at w n ≡ Some p → Changes w v n (Some (chosen p)) → IsAsBefore w v → v.running ≡ w.running
     → AreHeld v g (with_cancelled r (n ∷ []))
-choose_held {w} {r = r} {n = n} {p = p} h there c as_before runs_on =
-    let s : Requests = with_cancelled r (n ∷ []) in
-    let still : (k : ℕ) → k ≢ n → is_cancelled s k ≡ is_cancelled r k =
-    λ k ne. added_other (λ j. j == k) r.cancelled n (ne_eqb n k (λ e. ne (sym e)))
-    in
-    let shown = h.shown n p there in
-    record {
-      count = h.count ∙ sym as_before.end;
-      outstanding = as_before.outstanding ∙ h.outstanding;
-      running = runs_on ∙ h.running;
-      ended = λ m e lt. h.ended m (vacant w m (sym (still_there c (ap is_some there) m) ∙ ap is_some e)) lt;
-      shown =
-          shown_written c h.shown
-          (record { entry = shown.entry; op = shown.op; unended = shown.unended; cancelled = sym (added_same (λ j. j == n) r.cancelled n (eq-eqb n n refl)); running = shown.running; sound = shown.sound })
-          (λ k other. record { entry = refl; ended = refl; cancelled = still k other; started = refl });
-      groups = λ key q is. let old = h.groups key q is in assumption;
-      last = h.last;
-      untouched = λ m past.
-          let old = h.untouched m past in
-          record { started = old.started; ended = old.ended; cancelled = still m (λ e. absurd (below m past (sym e))) ∙ old.cancelled; cut = old.cut };
-    }
-  where
-    below : (m : ℕ) → length r.accepted ≤ m → n ≡ m → ⊥
-    below m past e = some_none (at_past w n (omega (arith, h.count))) there
+choose_held {r = r} {n = n} {p = p} h there c as_before runs_on =
+    write_held h there c as_before (grind (arith, (h.shown n p there), added_same)) (grind (arith, pushed_other)) (runs_on ∙ h.running)
 
 -- a request starts
 pub start_held : {w v : Window} {g : Groups} {r : Requests} {n : ℕ} {p : Request} → IsSound w g
     → AreHeld w g r → at w n ≡ Some p → p.is_running ≡ false → is_faulty (entry_of r n) ≡ false
     → Changes w v n (Some (started p)) → IsAsBefore w v → v.running ≡ w.running + 1
     → AreHeld v g (with_started r n)
-start_held {w} {r = r} {n = n} {p = p} sound h there waits right c as_before more =
-    let s : Requests = with_started r n in
+start_held {r = r} {n = n} {p = p} sound h there waits right c as_before more =
     let inside = shown_within sound h there in
     let shown = h.shown n p there in
-    let still : (k : ℕ) → k ≢ n → has_started s k ≡ has_started r k =
-    λ k ne. added_other (λ j. j == k) r.started n (ne_eqb n k (λ e. ne (sym e)))
-    in
-    record {
-      count = h.count ∙ sym as_before.end;
-      outstanding = as_before.outstanding ∙ h.outstanding;
-      running =
-          let was : one_if (is_running r n) ≡ 0 = ap one_if (running_some h _ there ∙ waits) in
-          let now : one_if (is_running s n) ≡ 1 = ap one_if (is_running_started_same r n shown.unended) in
-          let change = count_below_changed (is_running r) (is_running s) (length r.accepted) n inside (λ k ne. is_running_started_other r n k ne) in
-          omega (arith, h.running, change);
-      ended = λ m e lt. h.ended m (vacant w m (sym (still_there c (ap is_some there) m) ∙ ap is_some e)) lt;
-      shown =
-          shown_written c h.shown
-          (record { entry = shown.entry; op = shown.op; unended = shown.unended; cancelled = shown.cancelled; running = sym (added_same (λ j. j == n) r.started n (eq-eqb n n refl)); sound = λ e. right })
-          (λ k other. record { entry = refl; ended = refl; cancelled = refl; started = still k other });
-      groups = λ key q is. let old = h.groups key q is in assumption;
-      last = h.last;
-      untouched = λ m past.
-          let old = h.untouched m past in
-          record { started = still m (λ e. absurd (omega arith)) ∙ old.started; ended = old.ended; cancelled = old.cancelled; cut = old.cut };
-    }
+    let was = running_some h n there in
+    let now = is_running_started_same r n shown.unended in
+    write_held h there c as_before (grind (arith, shown, added_same)) (grind (arith, pushed_other))
+    (grind (arith, (count_below_changed (is_running r) (is_running (with_started r n))), is_running_started_other, h.running))

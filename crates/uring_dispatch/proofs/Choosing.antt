@@ -1,6 +1,6 @@
 -- What cancels make of the lists: the end of a request as it is issued, with those that it dooms, and the search for all targets of a cancel.
-use Rattle.std.proofs.Common.{◌≡◌, ℕ, ◌+◌, ◌<◌, ◌≤◌, pos, negsuc, List, [], ◌∷◌, ◌++◌, length, length-append, Bool, true, false, ◌==◌, Option, Some, refl, sym, ◌∙◌, ap, arith}
-use Rattle.uring_dispatch.proofs.Common.{AreHeld, Groups, HasSameRequests, KeepsPlaces, Requests, Shows, Sqe, Window, addr_of, all_below, all_below_none, all_below_past, append-nil, append_assoc, at, cancel_result, chosen, chosen_by, entry_of, if◌then◌else◌, int_le, is_after_failure, is_cancel, is_cancel_all, is_doomed, is_joined, is_running, is_success, is_target, list_any, no_bytes, result_for, runs, some_member, target_of, targets_of, with_cancelled, with_ended, with_issued_end}
+use Rattle.std.proofs.Common.{◌≡◌, ℕ, ◌+◌, ◌<◌, ◌≤◌, pos, negsuc, [], ◌∷◌, ◌++◌, length, length-append, Bool, true, false, Option, Some, ap, arith}
+use Rattle.uring_dispatch.proofs.Common.{AreHeld, Groups, KeepsPlaces, Requests, Shows, Window, addr_of, all_below, all_below_none, all_below_past, append-nil, append_assoc, at, cancel_result, chosen, chosen_by, entry_of, if◌then◌else◌, int_le, is_after_failure, is_cancel, is_cancel_all, is_doomed, is_joined, is_running, is_success, is_target, no_bytes, result_for, runs, some_member, target_of, targets_of, with_cancelled, with_ended, with_issued_end}
 use Rattle.std.proofs.lemmas.List.Folds.{list_any-append}
 use Rattle.uring_dispatch.specs.declared.outstanding.Outstanding.{Outstanding}
 use Rattle.uring_dispatch.specs.Choosing.{HasChosen}
@@ -28,24 +28,12 @@ one_chosen r n m is one chose = grind arith
 -- a cancel succeeds with a number
 pub cancel_succeeds : (r : Requests) (n : ℕ) → is_cancel (entry_of r n) ≡ true
     → is_success (entry_of r n) (cancel_result r n) ≡ int_le (pos 0) (cancel_result r n)
-cancel_succeeds r n is = by_all (is_cancel_all (entry_of r n)) refl
-  where
-    e : Sqe
-    e = entry_of r n
-
-    for_one : is_cancel_all e ≡ false → (m : Option ℕ) → is_success e (result_for r m) ≡ int_le (pos 0) (result_for r m)
-    for_one one m = grind arith
-
-    by_all : (b : Bool) → is_cancel_all e ≡ b → is_success e (cancel_result r n) ≡ int_le (pos 0) (cancel_result r n)
-    by_all b all = grind arith
+cancel_succeeds r n is = grind (arith, is_success)
 
 -- A cancel chooses one.
 
-same_none : (w : Window) → HasSameRequests w w
-same_none w = assumption
-
 pub chosen_nobody : (d : Outstanding) → HasChosen d d
-chosen_nobody d = record { same = same_none d.grouped.window; groups = refl; memory = omega arith; places = omega arith }
+chosen_nobody d = grind arith
 
 pub chosen_both : (a b c : Outstanding) → HasChosen a b → HasChosen b c → HasChosen a c
 chosen_both a b c x y = grind arith
@@ -61,16 +49,11 @@ pub result_some : (r : Requests) (m : ℕ) (o : Option ℕ) (b : Bool) → Some 
     → (if b then negsuc 113 else pos 0) ≡ result_for r o
 result_some r m o b e runs = grind arith
 
--- who isn't among those chosen stays as it was
-doomed_still : (r : Requests) (these : List ℕ) (m : ℕ) → list_any (λ k. k == m) these ≡ false
-    → is_doomed (with_cancelled r these) m ≡ is_doomed r m
-unfolding is_doomed is_after_failure some_member is_joined
-doomed_still r these m out = grind (arith, list_any-append)
-
 -- whether the next is a target doesn't depend on the targets before it
 pub target_next : (r : Requests) (n m : ℕ)
     → is_target (with_cancelled r (all_below (is_target r n) m)) n m ≡ is_target r n m
-target_next r n m = grind (arith, doomed_still, all_below_past)
+unfolding is_doomed is_after_failure some_member is_joined
+target_next r n m = grind (arith, list_any-append, all_below_past)
 
 -- The search for targets.
 
@@ -113,35 +96,25 @@ module _ {old now : Outstanding} {n user_data m count : ℕ} (c : AreChosen old 
       → HasChosen now next
       → ((r : Requests) → Shows now.grouped r → Shows next.grouped (with_cancelled r (m ∷ [])))
       → AreChosen old next n user_data (m + 1) (count + 1)
-  chosen_more {next} test chosen shows =
-      let few = c.few in
-      let more : (r : Requests) → Shows old.grouped r → user_data ≡ addr_of (entry_of r n) → all_below (is_target r n) (m + 1) ≡ all_below (is_target r n) m ++ m ∷ [] =
-      λ r h named. one_more (is_target r n) m (target_tested test r h named)
-      in
-      record {
-        chosen = chosen_both old now next c.chosen chosen;
-        few = omega arith;
-        count_is = λ r h named.
-            ap (λ k. k + 1) (c.count_is r h named) ∙ sym (length-append (all_below (is_target r n) m) (m ∷ []))
-            ∙ ap (λ (xs : List ℕ). length xs) (sym (more r h named));
-        shows = λ r h named.
-            rw (more r h named, ← append_assoc r.cancelled (all_below (is_target r n) m) (m ∷ [])) (shows (with_cancelled r (all_below (is_target r n) m)) (c.shows r h named));
-      }
+  chosen_more {next} test chosen shows = record {
+    chosen = chosen_both old now next c.chosen chosen;
+    few = omega (arith, c.few);
+    count_is = λ r h named.
+        grind (arith, (c.count_is r h named), (one_more (is_target r n) m), (target_tested test r h named), length-append);
+    shows = λ r h named.
+        rw (one_more (is_target r n) m (target_tested test r h named), ← append_assoc r.cancelled _ (m ∷ []))
+        (shows _ (c.shows r h named));
+  }
 
   -- the next number is none
   pub chosen_past : ((r : Requests) → Shows now.grouped r → user_data ≡ addr_of (entry_of r n) → false ≡ is_target r n m)
       → AreChosen old now n user_data (m + 1) count
-  chosen_past test =
-      let few = c.few in
-      let same : (r : Requests) → Shows old.grouped r → user_data ≡ addr_of (entry_of r n) → all_below (is_target r n) (m + 1) ≡ all_below (is_target r n) m =
-      λ r h named. none_more (is_target r n) m (target_tested test r h named)
-      in
-      record {
-        chosen = c.chosen;
-        few = omega arith;
-        count_is = λ r h named. c.count_is r h named ∙ ap (λ (xs : List ℕ). length xs) (sym (same r h named));
-        shows = λ r h named. rw (same r h named) (c.shows r h named);
-      }
+  chosen_past test = record {
+    chosen = c.chosen;
+    few = omega (arith, c.few);
+    count_is = λ r h named. grind (arith, (c.count_is r h named), (target_tested test r h named), none_more);
+    shows = λ r h named. rw (none_more (is_target r n) m (target_tested test r h named)) (c.shows r h named);
+  }
 
 -- all numbers were tested
 pub chosen_all : (r : Requests) (n m : ℕ) → m ≡ length r.accepted

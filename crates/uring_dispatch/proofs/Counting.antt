@@ -1,6 +1,6 @@
 -- Counts below a bound: what one change does to them, the bits of a block, and the list of all that are counted.
-use Rattle.std.proofs.Common.{◌≡◌, ◌≢◌, ℕ, zero, suc, ◌+◌, ◌-◌, ◌*◌, ◌/◌, ◌%◌, ◌^◌, ◌<◌, ◌≤◌, ◌==◌, cond, count_ones, Bool, true, false, List, [], ◌∷◌, ◌++◌, length, slice_get, Some, None, refl, sym, ◌∙◌, ap, arith, inl, inr, length-append}
-use Rattle.uring_dispatch.proofs.Common.{all_below, bit_at, bit_at-suc, bit_at_lowest, cases_eq, count_below, eq-eqb, ne_eqb, one_if}
+use Rattle.std.proofs.Common.{◌≡◌, ◌≢◌, ℕ, zero, suc, ◌+◌, ◌-◌, ◌*◌, ◌/◌, ◌^◌, ◌<◌, ◌≤◌, ◌==◌, count_ones, Bool, true, false, List, [], ◌∷◌, ◌++◌, length, slice_get, Some, None, refl, arith, inl, inr, length-append}
+use Rattle.uring_dispatch.proofs.Common.{all_below, bit_at, bit_at-suc, bit_at_lowest, cases_eq, count_below, one_if}
 use Rattle.std.specs.Int.Count.{ones_step}
 use Rattle.std.proofs.lemmas.Nat.{ones_le_self}
 
@@ -13,18 +13,7 @@ count_below_same p q (suc n) h = grind (arith, (count_below_same p q n (λ k lt.
 pub count_below_changed : (p q : ℕ → Bool) (n k : ℕ) → k < n → ((j : ℕ) → j ≢ k → q j ≡ p j)
     → count_below q n + one_if (p k) ≡ count_below p n + one_if (q k)
 count_below_changed p q zero k lt h = absurd (omega arith)
-count_below_changed p q (suc n) k lt h =
-    elim (cases_eq k n) [
-      | inl same ↦
-          let before : count_below q n ≡ count_below p n = count_below_same q p n (λ j low. h j (λ e. absurd (omega arith))) in
-          let here : one_if (p k) ≡ one_if (p n) = ap (λ j. one_if (p j)) same in
-          let there : one_if (q k) ≡ one_if (q n) = ap (λ j. one_if (q j)) same in
-          omega arith
-      | inr other ↦
-          let before = count_below_changed p q n k (omega arith) h in
-          let here : one_if (q n) ≡ one_if (p n) = ap one_if (h n (λ e. other (sym e))) in
-          omega arith
-    ]
+count_below_changed p q (suc n) k lt h = grind (arith, (cases_eq k n), (count_below_same p q n), (count_below_changed p q n k))
 
 pub count_below_within : (p : ℕ → Bool) (n : ℕ) → count_below p n ≤ n
 count_below_within p zero = omega arith
@@ -33,11 +22,7 @@ count_below_within p (suc n) = grind (arith, (count_below_within p n))
 -- a count of which one number is part isn't zero
 pub count_below_some : (p : ℕ → Bool) (n k : ℕ) → k < n → p k ≡ true → 0 < count_below p n
 count_below_some p zero k lt e = absurd (omega arith)
-count_below_some p (suc n) k lt e =
-    elim (cases_eq k n) [
-      | inl same ↦ let one : one_if (p n) ≡ 1 = ap one_if (ap p (sym same) ∙ e) in omega arith
-      | inr other ↦ let before = count_below_some p n k (omega arith) e in omega arith
-    ]
+count_below_some p (suc n) k lt e = grind (arith, (cases_eq k n), (count_below_some p n k))
 
 pub count_below_zero : (p : ℕ → Bool) (n : ℕ) → ((k : ℕ) → k < n → p k ≡ false)
     → count_below p n ≡ 0
@@ -47,11 +32,11 @@ count_below_zero p (suc n) none = grind (arith, (count_below_zero p n (λ k lt. 
 -- a count goes on after a number
 pub count_below_apart : (p : ℕ → Bool) (n k : ℕ)
     → count_below p (n + k) ≡ count_below p n + count_below (λ i. p (n + i)) k
-count_below_apart p n zero = let same : n + 0 ≡ n = omega arith in ap (count_below p) same ∙ omega arith
+count_below_apart p n zero = let same : n + 0 ≡ n = omega arith in rw same (omega arith)
 count_below_apart p n (suc k) =
     let more : n + suc k ≡ suc (n + k) = omega arith in
     let rest = count_below_apart p n k in
-    ap (count_below p) more ∙ omega arith
+    rw more (omega arith)
 
 -- nothing from n on is counted
 pub count_below_past : (p : ℕ → Bool) (n m : ℕ) → n ≤ m → ((k : ℕ) → n ≤ k → p k ≡ false)
@@ -66,20 +51,10 @@ count_below_front p (suc n) = let rest = count_below_front p n in omega arith
 
 -- the bits of a number
 pub ones_counted : (n k : ℕ) → n < 2 ^ k → count_ones n ≡ count_below (λ i. bit_at n i == 1) k
-ones_counted n zero lt = let few = ones_le_self n in omega arith
+ones_counted n zero lt = grind (arith, ones_le_self)
 ones_counted n (suc k) lt =
-    let step = ones_step n in
-    let rest = ones_counted (n / 2) k (omega arith) in
-    let shifted = count_below_same (λ i. bit_at n (suc i) == 1) (λ i. bit_at (n / 2) i == 1) k (λ i low. ap (λ b. b == 1) (bit_at-suc n i)) in
-    let front = count_below_front (λ i. bit_at n i == 1) k in
-    let lowest : one_if (bit_at n 0 == 1) ≡ n % 2 =
-    ap (λ b. one_if (b == 1)) (bit_at_lowest n)
-    ∙ elim (cases_eq (n % 2) 1) [
-      | inl one ↦ ap one_if (eq-eqb (n % 2) 1 one) ∙ sym one
-      | inr other ↦ let none : n % 2 ≡ 0 = omega arith in ap one_if (ne_eqb (n % 2) 1 other) ∙ sym none
-    ]
-    in
-    omega arith
+    grind (arith, (ones_step n), (ones_counted (n / 2) k (omega arith)), count_below_same,
+      (count_below_front (λ i. bit_at n i == 1) k), bit_at-suc, bit_at_lowest)
 
 -- The list of all that are counted.
 
@@ -102,10 +77,7 @@ pub get_all_below : (p : ℕ → Bool) (n m : ℕ) → m < n → p m ≡ true
 get_all_below p zero m lt e = absurd (omega arith)
 get_all_below p (suc n) m lt e =
     elim (cases_eq m n) [
-      | inl same ↦
-          ap (λ k. slice_get (all_below p n ++ cond (p n) (n ∷ []) []) (count_below p k)) same
-          ∙ ap (λ b. slice_get (all_below p n ++ cond b (n ∷ []) []) (count_below p n)) (ap p (sym same) ∙ e)
-          ∙ ap (slice_get (all_below p n ++ n ∷ [])) (sym (length_all_below p n)) ∙ get_last (all_below p n) n ∙ ap Some (sym same)
+      | inl same ↦ grind (arith, (get_last (all_below p n) n), (length_all_below p n))
       | inr other ↦ get_left (all_below p n) _ (count_below p m) m (get_all_below p n m (omega arith) e)
     ]
 

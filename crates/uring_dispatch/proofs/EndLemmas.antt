@@ -1,10 +1,10 @@
 -- When a request ends: the window and the groups still fit one another, and what is held is what the lists say.
-use Rattle.std.proofs.Common.{◌≡◌, ◌≢◌, ℕ, ◌+◌, ◌<◌, ◌≤◌, ◌⊎◌, ℤ, List, length, not, ◌&&◌, ltb, Option, Some, None, is_some, refl, sym, ◌∙◌, ap, subst, arith, inl, inr}
-use Rattle.uring_dispatch.proofs.Common.{AreHeld, Changes, Exchanges, Group, Groups, HasLost, IsBeyond, IsKept, IsNext, IsShownGroup, IsSound, Request, Requests, Window, and_right, at, cases_eq, cases_lt, earlier_of, end_of, entry_of, group_at, has_ended, has_ended_other, has_ended_same, is_outstanding, is_running, is_running_ended_other, is_running_ended_same, is_soft, is_success, one_if, outstanding_in, running_in, with_ended}
+use Rattle.std.proofs.Common.{◌≡◌, ◌≢◌, ℕ, ◌+◌, ◌<◌, ◌≤◌, ◌⊎◌, ℤ, List, not, ◌&&◌, Option, Some, None, sym, ◌∙◌, arith, inl, inr}
+use Rattle.uring_dispatch.proofs.Common.{AreHeld, Changes, Exchanges, Group, Groups, HasLost, IsBeyond, IsNext, IsShownGroup, IsSound, Request, Requests, Window, at, cases_eq, cases_lt, earlier_of, end_of, entry_of, group_at, has_ended_other, has_ended_same, is_outstanding, is_running, is_running_ended_other, is_running_ended_same, is_soft, is_success, one_if, outstanding_in, running_in, with_ended}
 use Rattle.uring_entry.proofs.GroupEvents.{group_ended, first_broken_ended, first_broken_elsewhere}
-use Rattle.uring_dispatch.proofs.Changes.{before_end, gone_stays, shown_same}
+use Rattle.uring_dispatch.proofs.Changes.{before_end}
 use Rattle.uring_dispatch.proofs.Counting.{count_below_changed}
-use Rattle.uring_dispatch.proofs.HeldLemmas.{some_none, vacant, linked, member, within_group, kept_on, shown_within, outstanding_some, running_some}
+use Rattle.uring_dispatch.proofs.HeldLemmas.{some_none, linked, within_group, shown_within, outstanding_some, running_some}
 
 -- what is left of a group
 abbrev pub left_with : Group → ℕ → Option ℕ → Group
@@ -49,11 +49,7 @@ module _ {w v : Window} {g h : Groups} {n : ℕ} {request : Request} {q : Group}
 
   -- no member before the least is outstanding now
   over : (m : ℕ) → q.from ≤ m → m < least → at v m ≡ None
-  over m from low =
-      elim (cases_lt m q.least) [
-        | inl before ↦ gone_stays e.changes m (vacant w m ((s.kept request.group q e.group).over m from before))
-        | inr after ↦ e.next.over m after low
-      ]
+  over m from low = grind (arith, (cases_lt m q.least), (s.kept request.group q e.group))
 
   -- where another member is
   pub left_member : {k : ℕ} {x : Request} → at v k ≡ Some x → x.group ≡ request.group
@@ -63,44 +59,15 @@ module _ {w v : Window} {g h : Groups} {n : ℕ} {request : Request} {q : Group}
   pub end_sound : IsBeyond h.barriers (end_of w) → IsSound v h
   end_sound beyond = record {
     linked = λ k x there.
-        let link = linked s (before_end e.changes there).1 in
-        elim (cases_eq x.group request.group) [
-          | inl same ↦
-              let inside = left_member there same in
-              let lt : least < q.end = omega (arith, inside.1, inside.2) in
-              member _ (left_with q least broken) k (ap (group_at h) same ∙ e.exchange.here ∙ e.some lt) inside.0 inside.2
-          | inr other ↦ member _ link.group k (e.exchange.others x.group other ∙ link.found) link.from link.to
-        ];
+        grind (arith, (before_end e.changes there), (s.linked k x), (cases_eq x.group request.group), (e.exchange.others x.group),
+          left_member, e.exchange.here, e.some);
     members = λ key x k y found from to there.
-        let was = (before_end e.changes there).1 in
-        elim (now key x found) [
-          | inl left ↦
-              let begins : x.from ≡ q.from = ap (λ (z : Group). z.from) left.2 in
-              let ends : x.end ≡ q.end = ap (λ (z : Group). z.end) left.2 in
-              s.members key q k y (ap (group_at g) left.0 ∙ e.group) (omega arith) (omega arith) was
-          | inr kept ↦ s.members key x k y kept.1 from to was
-        ];
+        grind (arith, (before_end e.changes there), (now key x found), (s.members key x k y), (s.members key q k y));
     kept = λ key x found.
-        elim (now key x found) [
-          | inl left ↦ subst (λ (z : Group). IsKept v z) (sym left.2) (left_kept left.1)
-          | inr kept ↦
-              let k = s.kept key x kept.1 in
-              kept_on k (omega (arith, e.end)) (λ m from to. ap is_some (e.changes.others m (λ same. apart kept.1 kept.0 (omega arith) (omega (arith, k.to)))))
-        ];
-    beyond = subst (λ k. IsBeyond h.barriers k) (sym e.end) beyond;
+        grind (arith, (now key x found), (s.kept key x), (s.kept request.group q e.group), over, apart, e.changes.others);
+    beyond = rw e.end beyond;
     last = λ key x is found. some_none e.closed is;
   }
-    where
-      left_kept : least < q.end → IsKept v (left_with q least broken)
-      left_kept lt =
-          let kept = s.kept request.group q e.group in
-          record {
-            from = omega (arith, kept.from, e.next.from_on);
-            to = lt;
-            end = omega (arith, kept.end, e.end);
-            over = λ m from low. ap is_some (over m from low);
-            here = e.next.here lt;
-          }
 
 -- The lists.
 
@@ -108,47 +75,26 @@ module _ {w : Window} {g : Groups} {r : Requests} (n : ℕ) {request : Request} 
     (h : AreHeld w g r) (e : at w n ≡ Some request) where
   outstanding_less : outstanding_in (with_ended r n res bytes) + 1 ≡ outstanding_in r
   outstanding_less =
-      let was : one_if (is_outstanding r n) ≡ 1 = ap one_if (outstanding_some s h _ e) in
-      let now : one_if (is_outstanding (with_ended r n res bytes) n) ≡ 0 = ap one_if (and_right _ _ (ap not (has_ended_same r n res bytes))) in
-      let change = count_below_changed (is_outstanding r) (is_outstanding (with_ended r n res bytes)) (length r.accepted) n (shown_within s h e)
-      (λ k ne. ap (λ b. ltb k (length r.accepted) && not b) (has_ended_other r n res bytes k ne))
-      in
-      omega (arith, change)
+      grind (arith, outstanding_some, has_ended_same, has_ended_other, (shown_within s h e),
+        (count_below_changed (is_outstanding r) (is_outstanding (with_ended r n res bytes))))
 
   running_less : running_in (with_ended r n res bytes) + one_if request.is_running ≡ running_in r
   running_less =
-      let was : one_if (is_running r n) ≡ one_if request.is_running = ap one_if (running_some h _ e) in
-      let now : one_if (is_running (with_ended r n res bytes) n) ≡ 0 = ap one_if (is_running_ended_same r n res bytes) in
-      let change = count_below_changed (is_running r) (is_running (with_ended r n res bytes)) (length r.accepted) n (shown_within s h e) (λ k ne. is_running_ended_other r n res bytes k ne) in
-      omega (arith, change)
+      grind (arith, running_some, is_running_ended_same, is_running_ended_other, (shown_within s h e),
+        (count_below_changed (is_running r) (is_running (with_ended r n res bytes))))
 
 module _ {w v : Window} {g h : Groups} {r : Requests} {n : ℕ} {request : Request} {q : Group} {least : ℕ} {broken : Option ℕ} (res : ℤ)
     (bytes : List ℕ) (s : IsSound w g) (e : Ends w v g h n request q least broken) (a : AreHeld w g r) where
   shown_left : broken ≡ earlier_of q.broken (is_soft (entry_of r n) && not (is_success (entry_of r n) res)) n
       → IsShownGroup (with_ended r n res bytes) (left_with q least broken)
   shown_left breaks =
-      let shown = a.groups request.group q e.group in
-      let inside = within_group s e.there e.group in
-      record {
-        group = group_ended r n res bytes q.from q.end shown.group;
-        fault = shown.fault;
-        drain = shown.drain;
-        broken =
-            breaks ∙ ap (λ b. earlier_of b (is_soft (entry_of r n) && not (is_success (entry_of r n) res)) n) shown.broken
-            ∙ sym (first_broken_ended r n res bytes q.from q.end inside.0 inside.1 (a.shown n request e.there).unended);
-      }
+      let old = a.shown n request e.there in
+      grind (arith, (a.groups request.group q e.group), (within_group s e.there e.group), (group_ended r n res bytes q.from q.end),
+        (first_broken_ended r n res bytes q.from q.end))
 
   shown_elsewhere : {key : ℕ} {p : Group} → group_at g key ≡ Some p → key ≢ request.group
       → IsShownGroup (with_ended r n res bytes) p
-  shown_elsewhere {key} {p} is ne =
-      let shown = a.groups key p is in
-      record {
-        group = group_ended r n res bytes p.from p.end shown.group;
-        fault = shown.fault;
-        drain = shown.drain;
-        broken =
-            shown.broken ∙ sym (first_broken_elsewhere r n res bytes p.from p.end (λ m high low same. apart s e is ne (omega arith) (omega arith)));
-      }
+  shown_elsewhere {key} {p} is ne = grind (arith, group_ended, first_broken_elsewhere, apart, (a.groups key p is))
 
   pub end_held : HasLost w v (one_if request.is_running) → g.last ≡ None
       → (least < q.end → broken ≡ earlier_of q.broken (is_soft (entry_of r n) && not (is_success (entry_of r n) res)) n)
@@ -160,20 +106,13 @@ module _ {w v : Window} {g h : Groups} {r : Requests} {n : ℕ} {request : Reque
         outstanding = omega (arith, lost.outstanding, a.outstanding, outstanding_less n res bytes s a e.there);
         running = omega (arith, lost.runs, a.running, running_less n res bytes s a e.there);
         ended = λ m gone lt.
-            elim (cases_eq m n) [
-              | inl same ↦ ap (has_ended (with_ended r n res bytes)) same ∙ has_ended_same r n res bytes
-              | inr other ↦ has_ended_other r n res bytes m other ∙ a.ended m (sym (e.changes.others m other) ∙ gone) lt
-            ];
-        shown = λ k x there.
-            let was = before_end e.changes there in
-            shown_same (record { entry = refl; ended = has_ended_other r n res bytes k was.0; cancelled = refl; started = refl }) (a.shown k x was.1);
+            grind (arith, (cases_eq m n), has_ended_same, (has_ended_other r n res bytes m), (a.ended m), (e.changes.others m));
+        shown = λ k x there. grind (arith, (before_end e.changes there), (has_ended_other r n res bytes k), (a.shown k x));
         groups = λ key x found.
             elim (now s e key x found) [
-              | inl left ↦ subst (λ (z : Group). IsShownGroup (with_ended r n res bytes) z) (sym left.2) (shown_left (breaks left.1))
+              | inl left ↦ rw left.2 (shown_left (breaks left.1))
               | inr kept ↦ shown_elsewhere kept.1 kept.0
             ];
-        last = λ k end. a.last k end ∙ ap (λ o. not (is_some o)) (was ∙ sym e.closed);
-        untouched = λ m past.
-            let old = a.untouched m past in
-            record { started = old.started; ended = has_ended_other r n res bytes m (λ same. absurd (omega arith)) ∙ old.ended; cancelled = old.cancelled; cut = old.cut };
+        last = λ k end. grind (arith, (a.last k), e.closed);
+        untouched = λ m past. grind (arith, (a.untouched m), (has_ended_other r n res bytes m));
       }

@@ -1,6 +1,6 @@
 -- How an outstanding request stands, from what is held.
-use Rattle.std.proofs.Common.{◌≡◌, ◌≢◌, ℕ, ◌<◌, ◌≤◌, length, Bool, true, false, not, ◌&&◌, ◌||◌, ltb, leb, Option, Some, None, is_some, refl, sym, ◌∙◌, ap, arith, inl, inr}
-use Rattle.uring_dispatch.proofs.Common.{AreHeld, Group, Groups, HasBarrierBefore, HasBefore, HasGroup, IsGroup, IsKept, IsShownGroup, IsSound, Request, Requests, Window, addr_of, and_from, and_left, and_parts, at, cases_lt, doomed_is, drain_of, draining_is, end_of, entry_of, false≢true, first_member_inside, group_at, groups_apart, has_ended, has_member, is_before, is_candidate, is_doomed, is_draining, is_issuable, is_outstanding, is_ready, is_running, is_some_value, le-leb, leb-true, lt-ltb, ltb-true, or-false, ready_not_after, ready_not_alone, ready_not_member, ready_yes, user_data_of}
+use Rattle.uring_dispatch.proofs.Common.{is_drain, AreHeld, Group, Groups, HasBarrierBefore, HasBefore, HasGroup, IsGroup, IsKept, IsShownGroup, IsSound, Request, Requests, Window, addr_of, and_from, and_left, at, doomed_is, drain_of, draining_is, end_of, entry_of, first_member_inside, group_at, groups_apart, has_ended, has_member, is_before, is_candidate, is_doomed, is_draining, is_issuable, is_outstanding, is_ready, is_running, is_some_value, le-leb, lt-ltb, or-false, ready_not_after, ready_not_alone, ready_not_member, ready_yes, user_data_of}
+use Rattle.std.proofs.Common.{◌≡◌, ◌≢◌, ℕ, ◌<◌, ◌≤◌, length, Bool, true, false, not, ◌&&◌, ◌||◌, Option, Some, None, is_some, sym, ◌∙◌, ap, arith}
 use Rattle.std.proofs.Math.Numerals.{lt_of_le_of_ne}
 
 pub some_none : {X P : Type 0} {x : X} {o : Option X} → o ≡ None → o ≡ Some x → P
@@ -24,35 +24,17 @@ kept_on {q = q} k more same = grind arith
 module _ {w : Window} {g : Groups} {n : ℕ} {request : Request} (s : IsSound w g) (e : at w n ≡ Some request) where
   -- it is kept
   pub linked : HasGroup g request.group n
-  linked = go (group_at g request.group) refl (s.linked n request e)
-    where
-      go : (o : Option Group) → group_at g request.group ≡ o → has_member o n ≡ true → HasGroup g request.group n
-      go None f none = absurd (false≢true none)
-      go (Some p) f within =
-          let parts = and_parts (leb p.from n) (ltb n p.end) within in
-          record { group = p; found = f; from = leb-true p.from n parts.0; to = ltb-true n p.end parts.1 }
+  linked = grind (arith, (s.linked n request e))
 
   pub within_group : {q : Group} → group_at g request.group ≡ Some q → (q.from ≤ n) × (n < q.end)
   within_group {q} is = grind (arith, linked)
 
   pub least_before : {q : Group} → group_at g request.group ≡ Some q → q.least ≤ n
-  least_before {q} is =
-      elim (cases_lt n q.least) [
-        | inl low ↦ some_none (vacant w n ((s.kept request.group q is).over n (within_group is).0 low)) e
-        | inr high ↦ high
-      ]
+  least_before {q} is = grind (arith, within_group, (s.kept request.group q is))
 
 -- Numbers, by what is held.
 
 module _ {w : Window} {g : Groups} {r : Requests} (h : AreHeld w g r) where
-  pub open_here : (n : ℕ) → is_some (at w n) ≡ true → has_ended r n ≡ false
-  open_here n here = let q = is_some_value (at w n) here in (h.shown n q.0 q.1).unended
-
-  -- a number that is given and hasn't ended has a request
-  open_request : {n : ℕ} → n < length r.accepted → has_ended r n ≡ false
-      → (q : Request) × (at w n ≡ Some q)
-  open_request {n} lt going = grind arith
-
   pub outstanding_none : (n : ℕ) → at w n ≡ None → is_outstanding r n ≡ false
   outstanding_none n e = grind arith
 
@@ -73,8 +55,7 @@ doomed_rest a b c x y = ap (λ v. (v || b) || c) x ∙ ap (λ v. b || v) y ∙ o
 module _ {w : Window} {g : Groups} {r : Requests} (s : IsSound w g) (h : AreHeld w g r) where
   -- a number with a request is outstanding
   pub shown_within : {n : ℕ} {q : Request} → at w n ≡ Some q → n < length r.accepted
-  shown_within {q = q} e =
-      let link = linked s e in omega (arith, h.count, (s.kept q.group link.group link.found).end, link.to)
+  shown_within {q = q} e = let link = linked s e in grind (arith, (s.kept q.group link.group link.found))
 
   pub outstanding_some : (n : ℕ) {q : Request} → at w n ≡ Some q → is_outstanding r n ≡ true
   outstanding_some n {q} e = and_from _ _ (lt-ltb n (length r.accepted) (shown_within e)) (ap not (h.shown n q e).unended)
@@ -89,7 +70,7 @@ module _ {w : Window} {g : Groups} {r : Requests} (s : IsSound w g) (h : AreHeld
 
   -- a kept group's least member is outstanding
   pub least_open : (key : ℕ) {q : Group} → group_at g key ≡ Some q → has_ended r q.least ≡ false
-  least_open key {q} is = open_here h q.least (s.kept key q is).here
+  least_open key {q} is = grind (arith, (s.kept key q is), (h.shown q.least), is_some_value)
 
 -- Request n is outstanding, and a member of this group.
 pub record InGroup (w : Window) (g : Groups) (r : Requests) (n : ℕ) (request : Request) (q : Group) : Type 0 where
@@ -116,9 +97,6 @@ pub drain_group : (o : Option Group) (d : ℕ) → drain_of o ≡ Some d
     → (p : Group) × (o ≡ Some p) × (p.drain ≡ Some d)
 drain_group o d e = grind arith
 
-none_drains : (o : Option ℕ) → ((d : ℕ) → o ≡ Some d → ⊥) → is_some o ≡ false
-none_drains o k = grind arith
-
 module _ {w : Window} {g : Groups} {r : Requests} {n : ℕ} {request : Request} {q : Group} (i : InGroup w g r n request q) where
   pub doomed_held : is_doomed r n ≡ ((is_some q.fault || is_before q.broken n) || request.is_cancelled)
   doomed_held = grind (arith, doomed_is)
@@ -139,15 +117,10 @@ module _ {w : Window} {g : Groups} {r : Requests} {n : ℕ} {request : Request} 
       let kept = i.sound.kept b.key p other.1 in
       let shown = i.held.groups b.key p other.1 in
       let drains = sym shown.drain ∙ other.2 in
-      let inside = first_member_inside _ p.from p.end b.number drains in
-      let low : p.least < q.from =
-      elim (cases_lt p.least q.from) [
-        | inl lt ↦ lt
-        | inr le ↦ absurd (groups_apart r p.from p.end q.from q.end b.number shown.group i.shown.group inside.0 inside.1 b.before (omega (arith, kept.to)))
-      ]
-      in
-      ready_not_after r n p.least (omega (arith, i.from)) (least_open i.sound i.held b.key other.1)
-      (draining_is r p.from p.end p.least shown.group kept.from kept.to ∙ ap is_some drains)
+      let inside = first_member_inside (λ m. is_drain (entry_of r m)) p.from p.end b.number drains in
+      let going = least_open i.sound i.held b.key other.1 in
+      grind (arith, (groups_apart r p.from p.end q.from q.end b.number shown.group i.shown.group), (ready_not_after r n p.least),
+        (draining_is r p.from p.end p.least shown.group))
 
   -- A group that drains waits for all that is earlier.
   pub not_alone : is_some q.drain ≡ true → HasBefore w q.from → is_ready r n ≡ false
@@ -160,13 +133,7 @@ pub plain_before : {w : Window} {g : Groups} {r : Requests} {from end m : ℕ} {
     → at w m ≡ Some other → m < from → is_draining r m ≡ false
 plain_before {r = r} {from = from} {end = end} {m = m} {other = other} s h group free there low =
     let its = its_group s h there in
-    let p : Group = its.0 in
-    draining_held its.1
-    ∙ none_drains p.drain
-    (λ d drains.
-    let inside = first_member_inside _ p.from p.end d (sym its.1.shown.drain ∙ drains) in
-    let high = free other.group d (ap drain_of its.1.found ∙ drains) in
-    groups_apart r p.from p.end from end m its.1.shown.group group its.1.from its.1.to low (omega (arith, inside.1)))
+    grind (arith, (draining_held its.1), first_member_inside, (free other.group), (groups_apart r its.0.from its.0.end from end m))
 
 module _ {w : Window} {g : Groups} {r : Requests} {n : ℕ} {request : Request} {q : Group} (i : InGroup w g r n request q) where
   -- What waits for nobody is ready.
@@ -175,8 +142,5 @@ module _ {w : Window} {g : Groups} {r : Requests} {n : ℕ} {request : Request} 
       → (is_some q.drain ≡ true → (m : ℕ) → m < q.from → at w m ≡ None) → is_ready r n ≡ true
   ready_held least free alone =
       let within = shown_within i.sound i.held i.there in
-      let from = i.from in
-      ready_yes r q.from q.end n i.shown.group from i.to
-      (λ m high low. i.held.ended m (vacant w m (i.kept.over m high (omega arith))) (omega arith))
-      (λ m low going. let other = open_request i.held (omega arith) going in plain_before i.sound i.held i.shown.group free other.1 low)
-      (λ drains m low. i.held.ended m (alone (sym (draining_held i) ∙ drains) m low) (omega arith))
+      grind (arith, (ready_yes r q.from q.end n i.shown.group i.from i.to), i.held.ended, draining_held, i.kept,
+        (λ (m : ℕ) (low : m < q.from) (x : Request) (e : at w m ≡ Some x). plain_before i.sound i.held i.shown.group free e low))

@@ -1,27 +1,21 @@
 -- Which requests can be issued, from who waits.
-use Rattle.std.proofs.Common.{◌≡◌, ℕ, ◌*◌, ◌/◌, ◌<◌, ◌≤◌, length, slice_get, Bool, true, false, not, ◌&&◌, ◌||◌, ◌==◌, ltb, leb, Option, Some, None, is_some, refl, sym, ◌∙◌, ap, arith, inl, inr}
-use Rattle.uring_dispatch.proofs.Common.{AreHeld, Group, Groups, HasBefore, IsFirstDraining, IsLeastBelow, IsLeastFrom, IsLimit, IsListed, IsSound, MatchOption, NumberSet, Request, Requests, Waiting, Window, and_left, and_parts, at, both_ways, can_go, cases_lt, count_below, dooms, drain_of, end_of, eq-eqb, eqb-true, first_member_inside, group_at, groups_apart, holds, is_doomed, is_issuable, is_ready, is_some_value, le-ltb, leads, least_below, least_below_none, least_below_some, lesser_of, lt-ltb, same_Some, slice_get_past, waits_at_head, waits_doomed}
+use Rattle.uring_dispatch.proofs.Common.{AreHeld, Group, Groups, HasBefore, IsFirstDraining, IsLeastBelow, IsLeastFrom, IsLimit, IsListed, IsSound, MatchOption, Request, Requests, Waiting, Window, and_parts, at, can_go, cases_lt, count_below, drain_of, end_of, first_member_inside, group_at, groups_apart, holds, is_issuable, is_ready, is_some_value, least_below, least_below_none, least_below_some, lesser_of, slice_get_past}
+use Rattle.std.proofs.Common.{◌≡◌, ℕ, ◌*◌, ◌/◌, ◌<◌, ◌≤◌, length, slice_get, Bool, true, false, ◌&&◌, leb, Option, Some, None, refl, sym, ap, arith}
 use Rattle.uring_dispatch.specs.Issuable.{issuables_of, issuable_from}
 use Rattle.uring_dispatch.proofs.Counting.{count_below_zero, count_below_past, count_below_same, length_all_below, get_all_below}
 use Rattle.uring_dispatch.proofs.WindowFront.{at_past}
-use Rattle.uring_dispatch.proofs.HeldLemmas.{InGroup, in_group, its_group, some_none, shown_within, doomed_held, not_least, not_alone, ready_held, after_barrier, outstanding_none, issuable_some}
+use Rattle.uring_dispatch.proofs.HeldLemmas.{InGroup, in_group, its_group, shown_within, doomed_held, not_least, not_alone, ready_held, after_barrier, outstanding_none, issuable_some}
 
--- The lesser of two.
+-- The least number that passes a test.
 
 -- this is the least number of which p is true, if there is one
 abbrev IsLeastOf : (ℕ → Bool) → Option ℕ → Type 0
 IsLeastOf p o = MatchOption o ((k : ℕ) → p k ≡ false) (λ m. (p m ≡ true) × ((k : ℕ) → k < m → p k ≡ false))
 
--- the lesser of what two searches found is the least that either looks for
-lesser_least : (p q : ℕ → Bool) (a b : Option ℕ) → IsLeastOf p a → IsLeastOf q b
-    → IsLeastOf (λ k. p k || q k) (lesser_of a b)
-lesser_least p q a b x y = grind arith
-
 least_is : (p q : ℕ → Bool) (n : ℕ) (o : Option ℕ) → IsLeastOf p o → ((k : ℕ) → q k ≡ p k)
     → ((k : ℕ) → q k ≡ true → k < n) → o ≡ least_below q n
-least_is p q n None least same within = sym (least_below_none q n (λ k lt. same k ∙ least k))
-least_is p q n (Some m) least same within =
-    let here = same m ∙ least.0 in sym (least_below_some q n m (within m here) here (λ k lt. same k ∙ least.1 k lt))
+least_is p q n None least same within = grind (arith, least_below_none)
+least_is p q n (Some m) least same within = grind (arith, (least_below_some q n m))
 
 -- The limit.
 
@@ -35,26 +29,13 @@ module _ {w : Window} {g : Groups} {r : Requests} {n : ℕ} {q : Request} {p : G
   group_after key {b} here after =
       let kept = i.sound.kept key b here in
       let shown = i.held.groups key b here in
-      elim (cases_lt p.from b.end) [
-        | inr past ↦ past
-        | inl lt ↦
-            elim (cases_lt b.from p.from) [
-              | inl low ↦ absurd (groups_apart r b.from b.end p.from p.end b.from shown.group i.shown.group (omega arith) (omega (arith, kept.from, kept.to)) low lt)
-              | inr le ↦
-                  let other = is_some_value (at w b.least) kept.here in
-                  let one = i.sound.members q.group p b.least other.0 i.found (omega (arith, kept.from)) (omega (arith, kept.to, i.to)) other.1 in
-                  let two = i.sound.members key b b.least other.0 here kept.from kept.to other.1 in
-                  let same : p ≡ b = same_Some p b (sym i.found ∙ ap (group_at g) (sym one ∙ two) ∙ here) in
-                  let ends : p.end ≡ b.end = ap (λ (x : Group). x.end) same in absurd (omega (arith, i.to))
-            ]
-      ]
+      grind (arith, (groups_apart r b.from b.end p.from p.end), (i.sound.members key b b.least),
+        (i.sound.members q.group p b.least), is_some_value)
 
 -- where the first group drains from is inside it
 first_inside : {w : Window} {g : Groups} {r : Requests} {b : Group} → AreHeld w g r
     → (f : IsFirstDraining g b) → (b.from ≤ f.number) × (f.number < b.end)
-first_inside {b = b} h f =
-    let member = first_member_inside _ b.from b.end f.number (sym (h.groups f.key b f.here).drain ∙ f.drains) in
-    (member.0, member.1)
+first_inside {b = b} h f = grind (arith, first_member_inside, (h.groups f.key b f.here))
 
 -- no request after the first group that drains may start
 after_first : {w : Window} {g : Groups} {r : Requests} {n : ℕ} {q : Request} {p b : Group}
@@ -67,33 +48,16 @@ module _ {w : Window} {g : Groups} {r : Requests} (s : IsSound w g) (h : AreHeld
       → limit ≡ end_of w → IsLimit w g r limit
   limit_none {limit} none e n q p there found least =
       let within = shown_within s h there in
-      ready_held (in_group s h there found) least
-      (λ key number d. absurd (none key number d))
-      (λ drains. let d = is_some_value p.drain drains in absurd (none q.group d.0 (ap drain_of found ∙ d.1)))
-      ∙ sym (lt-ltb n limit (omega (arith, h.count)))
+      grind (arith, (ready_held (in_group s h there found) least), (is_some_value p.drain), (none q.group), none)
 
   -- something before the first group that drains is outstanding
   pub limit_begins : {b : Group} → IsFirstDraining g b → HasBefore w b.from → IsLimit w g r b.from
   limit_begins {b} f before n q p there found least =
       let inside = first_inside h f in
       let i = in_group s h there found in
-      elim (cases_lt n b.from) [
-        | inl low ↦
-            ready_held i least
-            (λ key number d. let le = f.first key number d in omega (arith, inside.0, i.from))
-            (λ drains.
-            let d = is_some_value p.drain drains in
-            let member = first_member_inside _ p.from p.end d.0 (sym i.shown.drain ∙ d.1) in
-            let le = f.first q.group d.0 (ap drain_of found ∙ d.1) in
-            absurd (groups_apart r p.from p.end b.from b.end n i.shown.group (h.groups f.key b f.here).group i.from i.to low (omega (arith, inside.0, member.1))))
-            ∙ sym (lt-ltb n b.from low)
-        | inr high ↦
-            elim (cases_lt n b.end) [
-              | inl here ↦ not_alone (in_group s h there (found ∙ ap Some (group_same i f.key f.here high here))) (ap is_some f.drains) before
-              | inr past ↦ after_first i f past
-            ]
-            ∙ sym (le-ltb n b.from high)
-      ]
+      grind (arith, (ready_held i least), is_some_value, (f.first q.group), first_member_inside, (cases_lt n b.from),
+        (groups_apart r p.from p.end b.from b.end n i.shown.group (h.groups f.key b f.here).group), i.shown.drain,
+        (group_same i f.key f.here), (not_alone i), (after_first i f))
 
   -- nothing before it is
   pub limit_ends : {b : Group} → IsFirstDraining g b → ((m : ℕ) → m < b.from → at w m ≡ None)
@@ -101,44 +65,21 @@ module _ {w : Window} {g : Groups} {r : Requests} (s : IsSound w g) (h : AreHeld
   limit_ends {b} f alone n q p there found least =
       let inside = first_inside h f in
       let i = in_group s h there found in
-      elim (cases_lt n b.end) [
-        | inl here ↦
-            elim (cases_lt n b.from) [
-              | inl low ↦ some_none (alone n low) there
-              | inr high ↦
-                  let same = group_same i f.key f.here high here in
-                  ready_held (in_group s h there (found ∙ ap Some same)) (ap (λ (x : Group). x.least) (sym same) ∙ least)
-                  (λ key number d. let le = f.first key number d in omega (arith, inside.0))
-                  (λ drains. alone)
-                  ∙ sym (lt-ltb n b.end here)
-            ]
-        | inr past ↦ after_first i f past ∙ sym (le-ltb n b.end past)
-      ]
+      grind (arith, (ready_held i least), (group_same i f.key f.here), (after_first i f))
 
 -- The next from one number on.
 
 issuable_within : (r : Requests) (k : ℕ) → is_issuable r k ≡ true → k < length r.accepted
 issuable_within r k e = grind arith
 
-least_doomed : (s : NumberSet) (n : ℕ) (o : Option ℕ)
-    → MatchOption o ((k : ℕ) → n ≤ k → holds s k ≡ false) (IsLeastFrom s n)
-    → IsLeastOf (λ k. leb n k && holds s k) o
-least_doomed s n o none = grind arith
-
-least_head : (s : NumberSet) (n limit : ℕ) (o : Option ℕ)
-    → MatchOption o ((k : ℕ) → n ≤ k → k < limit → holds s k ≡ false) (IsLeastBelow s n limit)
-    → IsLeastOf (λ k. leb n k && (holds s k && ltb k limit)) o
-least_head s n limit o none = grind arith
-
-and_over_or : (a b c : Bool) → (a && (b || c)) ≡ ((a && b) || (a && c))
-and_over_or a b c = grind arith
+-- the lesser of what the two searches found is the least that is told of
+least_told : (s : Waiting) (n limit : ℕ) (a b : Option ℕ)
+    → MatchOption a ((k : ℕ) → n ≤ k → holds s.doomed k ≡ false) (IsLeastFrom s.doomed n)
+    → MatchOption b ((k : ℕ) → n ≤ k → k < limit → holds s.heads k ≡ false) (IsLeastBelow s.heads n limit)
+    → IsLeastOf (λ k. leb n k && can_go s limit k) (lesser_of a b)
+least_told s n limit a b x y = grind arith
 
 -- What the sets tell.
-
-both : (waits doomed first below ready : Bool) → (first ≡ true → ready ≡ below)
-    → (first ≡ false → ready ≡ false)
-    → ((waits && doomed) || ((waits && first) && below)) ≡ (waits && (doomed || ready))
-both waits doomed first below ready x y = grind arith
 
 -- a number without a request isn't told of
 can_go_gone : {w : Window} {g : Groups} {s : Waiting} (limit n : ℕ) → IsListed w g s
@@ -152,32 +93,19 @@ module _ {w : Window} {g : Groups} {r : Requests} {s : Waiting} (limit : ℕ) (s
   can_go_is n = go (at w n) refl
     where
       go : (o : Option Request) → at w n ≡ o → can_go s limit n ≡ is_issuable r n
-      go None e = can_go_gone limit n l e ∙ sym (and_left _ _ (and_left _ _ (outstanding_none h n e)))
+      go None e = grind (arith, (can_go_gone limit n l e), (outstanding_none h n e))
       go (Some q) e =
           let its = its_group sound h e in
           let p : Group = its.0 in
-          let found = its.1.found in
-          let doomed : holds s.doomed n ≡ (not q.is_running && is_doomed r n) =
-          (l.told n).doomed ∙ ap (λ o. waits_doomed g o n) e ∙ ap (λ o. not q.is_running && (dooms o n || q.is_cancelled)) found
-          ∙ ap (λ b. not q.is_running && b) (sym (doomed_held its.1))
-          in
-          let head : holds s.heads n ≡ (not q.is_running && (p.least == n)) =
-          (l.told n).head ∙ ap (λ o. waits_at_head g o n) e ∙ ap (λ o. not q.is_running && leads o n) found
-          in
-          ap (λ b. b || (holds s.heads n && ltb n limit)) doomed
-          ∙ ap (λ b. (not q.is_running && is_doomed r n) || (b && ltb n limit)) head
-          ∙ both (not q.is_running) (is_doomed r n) (p.least == n) (ltb n limit) (is_ready r n)
-          (λ first. limits n q p e found (eqb-true p.least n first))
-          (λ later. not_least its.1 (λ same. both_ways _ later (eq-eqb p.least n same)))
-          ∙ sym (issuable_some sound h n e)
+          grind (arith, (l.told n), (doomed_held its.1), (limits n q p e), (not_least its.1), (issuable_some sound h n e))
 
   pub next_is : (n : ℕ) (a b : Option ℕ)
       → MatchOption a ((k : ℕ) → n ≤ k → holds s.doomed k ≡ false) (IsLeastFrom s.doomed n)
       → MatchOption b ((k : ℕ) → n ≤ k → k < limit → holds s.heads k ≡ false) (IsLeastBelow s.heads n limit)
       → lesser_of a b ≡ issuable_from r n
   next_is n a b doomed head =
-      least_is _ _ (length r.accepted) (lesser_of a b) (lesser_least _ _ a b (least_doomed s.doomed n a doomed) (least_head s.heads n limit b head))
-      (λ k. ap (λ b. leb n k && b) (sym (can_go_is k)) ∙ and_over_or (leb n k) _ _)
+      least_is _ _ (length r.accepted) (lesser_of a b) (least_told s n limit a b doomed head)
+      (λ k. ap (λ b. leb n k && b) (sym (can_go_is k)))
       (λ k is. issuable_within r k (and_parts (leb n k) _ is).1)
 
   -- All of them, counted by the blocks of 64.
@@ -185,19 +113,14 @@ module _ {w : Window} {g : Groups} {r : Requests} {s : Waiting} (limit : ℕ) (s
   -- all are counted up to the last
   pub count_end : (m : ℕ) → end_of w ≤ m → count_below (can_go s limit) m ≡ length (issuables_of r)
   count_end m le =
-      count_below_past (can_go s limit) (length r.accepted) m (omega (arith, h.count))
-      (λ k past. can_go_gone limit k l (at_past w k (omega (arith, h.count))))
-      ∙ count_below_same (can_go s limit) (is_issuable r) (length r.accepted) (λ k lt. can_go_is k)
-      ∙ sym (length_all_below (is_issuable r) (length r.accepted))
+      grind (arith, (count_below_past (can_go s limit)), can_go_gone, at_past,
+        (count_below_same (can_go s limit) (is_issuable r)), can_go_is, length_all_below)
 
   -- the one before which so many are counted
   pub nth_is : {n k : ℕ} → can_go s limit n ≡ true → count_below (can_go s limit) n ≡ k
       → Some n ≡ slice_get (issuables_of r) k
-  nth_is {n} told counted =
-      let is = sym (can_go_is n) ∙ told in
-      let before = count_below_same (can_go s limit) (is_issuable r) n (λ j lt. can_go_is j) in
-      sym (get_all_below (is_issuable r) (length r.accepted) n (issuable_within r n is) is)
-      ∙ ap (slice_get (issuables_of r)) (sym before ∙ counted)
+  nth_is {n} {k} told counted =
+      grind (arith, (count_below_same (can_go s limit) (is_issuable r) n), can_go_is, get_all_below, issuable_within)
 
 -- none is counted before the first that is outstanding
 pub count_start : {w : Window} {g : Groups} {s : Waiting} (limit first : ℕ) → IsListed w g s

@@ -1,25 +1,20 @@
 -- What the issue of a request is answered, by what the code found.
-use Rattle.std.proofs.Common.{◌≡◌, ℕ, ◌<◌, ℤ, negsuc, length, Bool, true, false, Some, None, refl, sym, ◌∙◌, ap, inl, inr}
+use Rattle.std.proofs.Common.{Option, arith, ◌≡◌, ℕ, ◌<◌, ℤ, negsuc, length, Bool, true, false, Some, None, refl, ◌∙◌, inl, inr}
 use Rattle.uring_dispatch.proofs.Common.{Cancel, Ended, Op, Requests, Run, Running, Sqe, Unknown, addr_of, cancel_result, cases_Bool, entry_of, if◌then◌else◌, is_cancel, is_cancel_all, is_doomed, is_doomed_own_fault, is_faulty, is_outstanding, is_ready, is_running, op_of, operation_of}
 use Rattle.uring_entry.proofs.Preparations.{asks_cancel}
 use Rattle.uring_dispatch.specs.IssueAndFinish.{issued, issued_waiting, posts_of, posted_by}
 
-none_faulty : {X : Type 0} (b : Bool) (x : X) → None ≡ (if b then None else Some x) → b ≡ true
-none_faulty true x is = refl
-none_faulty false x is = cc
-
-some_right : {X : Type 0} (b : Bool) (x y : X) → Some y ≡ (if b then None else Some x)
-    → (b ≡ false) × (y ≡ x)
-some_right true x y is = cc
-some_right false x y is = (refl, cc)
+faulty_or : {X : Type 0} (b : Bool) (x : X) (o : Option X) → o ≡ (if b then None else Some x)
+    → (o ≡ None → b ≡ true) × ((y : X) → o ≡ Some y → (b ≡ false) × (y ≡ x))
+faulty_or b x o is = grind arith
 
 -- what a kept operation says of its entry
 pub op_none : (e : Sqe) → None ≡ op_of e → is_faulty e ≡ true
-op_none e is = none_faulty (is_faulty e) (operation_of e) is
+op_none e is = (faulty_or (is_faulty e) (operation_of e) None is).0 refl
 
 pub op_some : (e : Sqe) (op : Op) → Some op ≡ op_of e
     → (is_faulty e ≡ false) × (op ≡ operation_of e)
-op_some e op is = some_right (is_faulty e) (operation_of e) op is
+op_some e op is = (faulty_or (is_faulty e) (operation_of e) (Some op) is).1 op refl
 
 pub issued_faulty : (r : Requests) (n : ℕ) → n < length r.accepted → is_faulty (entry_of r n) ≡ true
     → Ended (negsuc 21) ≡ issued_waiting r n
@@ -31,9 +26,7 @@ issued_doomed r n doomed right = rw (doomed, right)
 
 pub issued_cancel : (r : Requests) (n : ℕ) (res : ℤ) → is_doomed r n ≡ false → is_ready r n ≡ true
     → is_cancel (entry_of r n) ≡ true → res ≡ cancel_result r n → Ended res ≡ issued_waiting r n
-issued_cancel r n res free ready cancel is =
-    rw (free, ready)
-    (ap Ended is ∙ sym (ap (λ b. if b then Ended (cancel_result r n) else Run (operation_of (entry_of r n))) cancel))
+issued_cancel r n res free ready cancel is = cc
 
 pub issued_run : (r : Requests) (n : ℕ) (op : Op) → is_doomed r n ≡ false → is_ready r n ≡ true
     → op ≡ operation_of (entry_of r n) → ((t : ℕ) (all : Bool) → op ≡ Cancel t all → ⊥)
@@ -41,9 +34,7 @@ pub issued_run : (r : Requests) (n : ℕ) (op : Op) → is_doomed r n ≡ false 
 issued_run r n op free ready does other =
     elim (cases_Bool (is_cancel (entry_of r n))) [
       | inl cancel ↦ absurd (other (addr_of (entry_of r n)) (is_cancel_all (entry_of r n)) (does ∙ asks_cancel (entry_of r n) cancel))
-      | inr other_code ↦
-          rw (free, ready)
-          (ap Run does ∙ sym (ap (λ b. if b then Ended (cancel_result r n) else Run (operation_of (entry_of r n))) other_code))
+      | inr other_code ↦ cc
     ]
 
 -- The order of the tests.

@@ -1,6 +1,7 @@
 -- How many groups, barriers and outstanding requests are kept: no more than requests were accepted.
-use Rattle.std.proofs.Common.{◌≡◌, ◌≢◌, ℕ, suc, zero, ◌+◌, ◌<◌, ◌≤◌, cond, List, [], ◌∷◌, length, if◌then◌else◌, Bool, true, false, eqb, ltb, Option, Some, None, is_some, refl, sym, ◌∙◌, arith, inl, inr, get_or}
-use Rattle.uring_dispatch.proofs.Common.{AllByRecursion, AreHeld, Barrier, Group, Groups, IsBeyond, IsDistinct, IsSorted, IsSound, Requests, Window, and_parts, at, count_below, count_by, end_of, eqb-true, false≢true, is_some_value, list_all, list_any, ltb-true, ne_eqb, or_cases}
+use Rattle.std.proofs.Common.{◌≡◌, ◌≢◌, ℕ, suc, ◌+◌, ◌<◌, ◌≤◌, List, [], ◌∷◌, length, true, false, eqb, Option, Some, None, is_some, refl, arith, get_or}
+use Rattle.uring_dispatch.proofs.Common.{AllByRecursion, AreHeld, Barrier, Group, Groups, IsBeyond, IsDistinct, IsSorted, IsSound, Requests, Window, count_by, end_of, eqb-true, false≢true, list_any, ltb-true, ne_eqb, is_outstanding}
+use Rattle.uring_dispatch.proofs.Counting.{count_below_within}
 use Rattle.std.proofs.lemmas.List.Recursion.{is_count_by}
 use Rattle.std.proofs.lemmas.Map.Steps.{length-le_from_distinct_below}
 
@@ -10,14 +11,9 @@ leasts [] = []
 leasts (None ∷ rest) = leasts rest
 leasts (Some p ∷ rest) = p.least ∷ leasts rest
 
-leasts_next : (o : Option Group) (rest : List (Option Group))
-    → length (leasts (o ∷ rest)) ≡ cond (is_some o) (1 + length (leasts rest)) (length (leasts rest))
-unfolding leasts
-leasts_next o rest = grind arith
-
 leasts_length : (records : List (Option Group)) → length (leasts records) ≡ count_by is_some records
 unfolding leasts
-leasts_length = is_count_by (λ rest. length (leasts rest)) is_some refl leasts_next
+leasts_length = is_count_by (λ rest. length (leasts rest)) is_some refl (λ o rest. grind arith)
 
 leasts_apart : (n : ℕ) (records : List (Option Group))
     → ((k : ℕ) (q : Group) → get_or records k None ≡ Some q → n ≢ q.least)
@@ -25,8 +21,7 @@ leasts_apart : (n : ℕ) (records : List (Option Group))
 unfolding leasts
 leasts_apart n [] apart = tt
 leasts_apart n (None ∷ rest) apart = leasts_apart n rest (λ k q e. apart (suc k) q e)
-leasts_apart n (Some p ∷ rest) apart =
-    (ne_eqb n p.least (apart 0 p refl), leasts_apart n rest (λ k q e. apart (suc k) q e))
+leasts_apart n (Some p ∷ rest) apart = (ne_eqb n p.least (apart 0 p refl), leasts_apart n rest (λ k q e. apart (suc k) q e))
 
 -- no two groups have one least member
 abbrev HaveOwn : List (Option Group) → Type 0
@@ -42,7 +37,7 @@ unfolding leasts IsDistinct
 leasts_distinct [] own = tt
 leasts_distinct (None ∷ rest) own = leasts_distinct rest (own_rest None rest own)
 leasts_distinct (Some p ∷ rest) own = (
-  leasts_apart p.least rest (λ k q e same. let one = own 0 (suc k) p q refl e same in omega arith),
+  leasts_apart p.least rest (λ k q e same. grind (arith, (own 0 (suc k) p q refl e))),
   leasts_distinct rest (own_rest (Some p) rest own),
 )
 
@@ -53,58 +48,27 @@ unfolding leasts
 leasts_below [] n m below any = absurd (false≢true any)
 leasts_below (None ∷ rest) n m below any = leasts_below rest n m (λ k q e. below (suc k) q e) any
 leasts_below (Some p ∷ rest) n m below any =
-    elim (or_cases (eqb m p.least) _ any) [
-      | inl here ↦ let is = eqb-true m p.least here in let low = below 0 p refl in omega arith
-      | inr there ↦ leasts_below rest n m (λ k q e. below (suc k) q e) there
-    ]
-
--- each group that is kept has a member that no other has
-own_least : (w : Window) (g : Groups) → IsSound w g → HaveOwn g.records
-own_least w g s j k p q e f same =
-    let a = s.kept j p e in
-    let b = s.kept k q f in
-    let found = is_some_value (at w p.least) a.here in
-    let from = b.from in
-    let to = b.to in
-    sym (s.members j p p.least found.0 e a.from a.to found.1)
-    ∙ s.members k q p.least found.0 f (omega arith) (omega arith) found.1
+    grind (arith, eqb-true, (below 0 p refl), (leasts_below rest n m (λ k q e. below (suc k) q e)))
 
 pub groups_few : (w : Window) (g : Groups) → IsSound w g → count_by is_some g.records ≤ end_of w
 groups_few w g s =
-    let few = length-le_from_distinct_below (leasts g.records) (end_of w) (leasts_distinct g.records (own_least w g s))
-    (λ m any. leasts_below g.records (end_of w) m (λ k q e. let a = s.kept k q e in let to = a.to in let end = a.end in omega arith) any) in
-    let same = leasts_length g.records in
-    omega arith
+    let few = length-le_from_distinct_below (leasts g.records) (end_of w)
+    (leasts_distinct g.records
+    (λ j k p q e f same. grind (arith, (s.kept j p e), (s.kept k q f), (s.members j p p.least), (s.members k q p.least))))
+    (λ m any. leasts_below g.records (end_of w) m (λ k q e. grind (arith, (s.kept k q e))) any) in
+    grind (arith, leasts_length)
 
 -- barriers in order, above one number and below another
-sorted_few : (barriers : List Barrier) (low n : ℕ) → low < n
-    → list_all (λ c. ltb low c.number) barriers ≡ true → IsSorted barriers → IsBeyond barriers n
-    → low + length barriers < n
-sorted_few [] low n lt above sorted beyond = omega arith
-sorted_few (b ∷ rest) low n lt above sorted beyond =
-    let x = ltb-true low b.number (and_parts (ltb low b.number) _ above).0 in
-    let parts = and_parts (ltb b.number n) _ beyond in
-    let y = ltb-true b.number n parts.0 in
-    let more = sorted_few rest b.number n y sorted.0 sorted.1 parts.1 in
-    omega arith
+sorted_few : (b : Barrier) (rest : List Barrier) (n : ℕ) → IsSorted (b ∷ rest) → IsBeyond (b ∷ rest) n
+    → b.number + suc (length rest) ≤ n
+sorted_few b [] n sorted beyond = grind (arith, ltb-true)
+sorted_few b (c ∷ rest) n sorted beyond = grind (arith, ltb-true, (sorted_few c rest n sorted.1))
 
 pub barriers_few : (barriers : List Barrier) (n : ℕ) → IsSorted barriers → IsBeyond barriers n
     → length barriers ≤ n
 barriers_few [] n sorted beyond = omega arith
-barriers_few (b ∷ rest) n sorted beyond =
-    let parts = and_parts (ltb b.number n) _ beyond in
-    let y = ltb-true b.number n parts.0 in
-    let more = sorted_few rest b.number n y sorted.0 sorted.1 parts.1 in
-    omega arith
-
-count_below_few : (p : ℕ → Bool) (n : ℕ) → count_below p n ≤ n
-count_below_few p zero = omega arith
-count_below_few p (suc n) = one_more (p n) _ (count_below_few p n)
-  where
-    one_more : (b : Bool) (k : ℕ) → k ≤ n → k + (if b then 1 else 0) ≤ suc n
-    one_more true k few = omega arith
-    one_more false k few = omega arith
+barriers_few (b ∷ rest) n sorted beyond = let few = sorted_few b rest n sorted beyond in omega arith
 
 pub window_few : (w : Window) (g : Groups) (r : Requests) → AreHeld w g r
     → w.outstanding ≤ end_of w
-window_few w g r h = grind (arith, count_below_few)
+window_few w g r h = grind (arith, (count_below_within (is_outstanding r) (length r.accepted)))

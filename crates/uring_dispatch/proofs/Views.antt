@@ -1,11 +1,11 @@
 -- From what a dispatcher shows to what it holds, and back; and what its queries find.
-use Rattle.std.proofs.Common.{◌≡◌, ℕ, ◌≤◌, length, Bool, true, false, Option, Some, None, refl, sym, ◌∙◌, ap, subst, arith, not, ◌&&◌}
-use Rattle.uring_dispatch.proofs.Common.{AreHeld, Cancel, Dispatch, EndCounts, Groups, IsFirst, IsSound, IssueCounts, MatchOption, Op, Request, Requests, ShowsRequests, StandsFor, Window, at, dispatch_of, end_of, entry_of, entry_outstanding, if◌then◌else◌, is_faulty, is_outstanding, is_running, is_some_value, least_below_none, least_below_some, least_of, operation_of, operation_running}
+use Rattle.std.proofs.Common.{◌≡◌, ℕ, ◌≤◌, length, Bool, true, false, Option, Some, None, refl, arith, not, ◌&&◌}
+use Rattle.uring_dispatch.proofs.Common.{AreHeld, Cancel, Dispatch, EndCounts, Groups, IsFirst, IsSound, IssueCounts, MatchOption, Op, Request, Requests, ShowsRequests, StandsFor, Window, at, dispatch_of, end_of, entry_of, entry_outstanding, if◌then◌else◌, is_faulty, is_outstanding, is_running, is_some_value, least_below_none, least_below_some, least_of, operation_running}
 use Rattle.uring_dispatch.specs.Outstanding.{HasRoom, Stays}
 use Rattle.uring_dispatch.specs.declared.outstanding.Outstanding.{Outstanding}
 use Rattle.uring_dispatch.specs.declared.answers.Issued.{Issued}
 use Rattle.uring_dispatch.specs.declared.answers.Posts.{Posts}
-use Rattle.uring_dispatch.proofs.Alike.{held_alike, alike_room, alike_back}
+use Rattle.uring_dispatch.proofs.Alike.{alike_from, held_alike}
 use Rattle.uring_dispatch.proofs.HeldLemmas.{shown_within, outstanding_none, outstanding_some}
 use Rattle.uring_dispatch.specs.Cancels.{found_for, found_by, operation_outstanding}
 
@@ -13,30 +13,25 @@ pub shows_held : (w : Window) (g : Groups) (r : Requests) (room : ℕ) (between 
     → AreHeld w g r → ShowsRequests (dispatch_of w g room between) r
 unfolding StandsFor
 shows_held w g r room between h =
-    grind (arith, (held_alike w (record w { room = 0 }) g (record g { room = 0 }) r (alike_room w g 0 0) h))
-
-held_shows : (w : Window) (g : Groups) (r : Requests) (room : ℕ) (between : Bool)
-    → ShowsRequests (dispatch_of w g room between) r → AreHeld w g r
-unfolding StandsFor
-held_shows w g r room between s =
-    held_alike (record w { room = 0 }) w (record g { room = 0 }) g r (alike_back w g 0 0) s.held
+    grind (arith,
+      (held_alike w (record w { room = 0 }) g (record g { room = 0 }) r (alike_from w _ g _ refl refl) h))
 
 -- what is held, where the value was opened
 pub held_from : (d : Dispatch) (w : Window) (g : Groups) (room : ℕ) (between : Bool) (r : Requests)
     → dispatch_of w g room between ≡ d → ShowsRequests d r → AreHeld w g r
+unfolding StandsFor
 held_from d w g room between r e s =
-    held_shows w g r room between (let P : Dispatch → Type 0 = λ x. ShowsRequests x r in subst P (sym e) s)
+    held_alike (record w { room = 0 }) w (record g { room = 0 }) g r (alike_from _ w _ g refl refl) (rw (← e) at s).held
 
 -- What the queries answer.
 
 pub least_held : (w : Window) (g : Groups) (r : Requests) (o : Option ℕ) → IsSound w g
     → AreHeld w g r → MatchOption o ((n : ℕ) → at w n ≡ None) (IsFirst w) → o ≡ least_of r
-least_held w g r None s h m = sym (least_below_none (is_outstanding r) (length r.accepted) (λ k lt. outstanding_none h _ (m k)))
+least_held w g r None s h m = grind (arith, (least_below_none (is_outstanding r) (length r.accepted)), (outstanding_none h))
 least_held w g r (Some n) s h m =
     let q = is_some_value (at w n) m.here in
-    sym
-    (least_below_some (is_outstanding r) (length r.accepted) n (shown_within s h q.1) (outstanding_some s h _ q.1)
-    (λ k lt. outstanding_none h _ (m.before k lt)))
+    grind (arith, (least_below_some (is_outstanding r)), (outstanding_none h), (outstanding_some s h n q.1),
+      (shown_within s h q.1), m.before)
 
 pub entry_none : (w : Window) (g : Groups) (r : Requests) (n : ℕ) → AreHeld w g r → at w n ≡ None
     → None ≡ entry_outstanding r n
@@ -71,17 +66,14 @@ room_stays old new room s end r = omega arith
 pub room_fewer : (d : Outstanding) (room fewer : ℕ) → fewer ≤ room → HasRoom d room → HasRoom d fewer
 room_fewer d room fewer le r = omega arith
 
+some_or : {X : Type 0} (b : Bool) (x : X) → (if true && not b then Some x else None) ≡ (if b then None else Some x)
+some_or b x = grind arith
+
 -- what is outstanding is to do what its entry asks for
 pub operation_held : (w : Window) (g : Groups) (r : Requests) (n : ℕ) (request : Request)
     → IsSound w g → AreHeld w g r → at w n ≡ Some request → operation_outstanding r n ≡ request.op
 operation_held w g r n request s h e =
-    ap (λ b. if b && not (is_faulty (entry_of r n)) then Some (operation_of (entry_of r n)) else None) (outstanding_some s h _ e)
-    ∙ go (is_faulty (entry_of r n))
-    ∙ sym (h.shown n request e).op
-  where
-    go : (b : Bool) → (if true && not b then Some (operation_of (entry_of r n)) else None) ≡ (if b then None else Some (operation_of (entry_of r n)))
-    go true = refl
-    go false = refl
+    rw (outstanding_some s h n e, (h.shown n request e).op) (some_or (is_faulty (entry_of r n)) _)
 
 -- by what it is to do
 pub finds_by : (w : Window) (g : Groups) (r : Requests) (n : ℕ) (request : Request) (op : Option Op)

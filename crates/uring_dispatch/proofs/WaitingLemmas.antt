@@ -1,9 +1,8 @@
 -- What is told of who waits: how it is kept when other requests are told of anew.
-use Rattle.std.proofs.Common.{◌≡◌, ◌≢◌, ℕ, ◌<◌, ◌≤◌, Bool, true, false, ◌||◌, ◌⊎◌, Option, Some, None, is_some, refl, sym, ◌∙◌, ap, arith, inl, inr}
-use Rattle.uring_dispatch.proofs.Common.{CanTell, Changes, Group, Groups, GrowsTo, HasGrown, HasMoved, IsListed, IsListedAt, IsSameReach, IsSound, Keeps, NumberSet, Puts, Reaches, Request, StandsAsBefore, Waiting, Window, at, cases_eq, dooms, earlier_of, end_of, group_at, holds_same, is_before, is_some_value, leads, ne_eqb, same_Some, waits_at_head, waits_doomed}
+use Rattle.std.proofs.Common.{◌≡◌, ◌≢◌, ℕ, ◌<◌, ◌≤◌, Bool, true, false, ◌⊎◌, Option, Some, None, is_some, refl, arith}
+use Rattle.uring_dispatch.proofs.Common.{CanTell, Changes, Group, Groups, GrowsTo, HasGrown, HasMoved, IsListed, IsListedAt, IsSameReach, IsSound, Keeps, NumberSet, Puts, Reaches, Request, StandsAsBefore, Waiting, Window, at, dooms, earlier_of, end_of, group_at, holds_same, is_before, is_some_value, leads, waits_at_head, waits_doomed}
 use Rattle.uring_dispatch.proofs.WindowFront.{within_end}
-use Rattle.uring_dispatch.proofs.HeldLemmas.{some_none}
-use Rattle.uring_dispatch.proofs.EndLemmas.{Ends, left_with, left_member}
+use Rattle.uring_dispatch.proofs.EndLemmas.{Ends, left_member}
 use Rattle.uring_dispatch.proofs.Changes.{before_end}
 
 -- Telling anew.
@@ -34,20 +33,11 @@ pub told_before : (w v : Window) (g h : Groups) (s : Waiting) (k : ℕ) → IsLi
     → StandsAsBefore w v g h k → IsListedAt v h s k
 told_before w v g h s k t b = grind arith
 
--- an end that fails changes who is after a failure only among those after it that weren't
-pub before_earlier : (o : Option ℕ) (b : Bool) (n k : ℕ)
-    → (b ≡ true → (k < n) ⊎ (is_before o k ≡ true)) → is_before (earlier_of o b n) k ≡ is_before o k
-before_earlier o b n k h = grind arith
-
 -- the request k of another group, or of none
 pub stands_apart : (w v : Window) (g h : Groups) (k : ℕ) → at v k ≡ at w k
     → ((x : Request) → at w k ≡ Some x → group_at h x.group ≡ group_at g x.group)
     → StandsAsBefore w v g h k
-stands_apart w v g h k same others = go (at w k) refl
-  where
-    go : (o : Option Request) → at w k ≡ o → StandsAsBefore w v g h k
-    go None e = record { head = rw (same, e); doomed = rw (same, e) }
-    go (Some x) e = record { head = rw (same, e, others x e); doomed = rw (same, e, others x e) }
+stands_apart w v g h k same others = grind (arith, is_some_value)
 
 -- the request k of a group that leads and dooms it as before
 pub stands_in : (w v : Window) (g h : Groups) (k : ℕ) (x : Request) (p q : Group) → at v k ≡ at w k
@@ -65,52 +55,33 @@ pub stands_ended : {w v : Window} {g h : Groups} {n : ℕ} {request : Request} {
     → (least < q.end → k ≢ least) → StandsAsBefore w v g h k
 stands_ended {w} {v} {g} {h} {n} {request} {q} {least} {k} {broken} s e breaks broken_is after ne_n ne_least = go (at w k) refl
   where
-    same : at v k ≡ at w k
-    same = e.changes.others k ne_n
-
     go : (o : Option Request) → at w k ≡ o → StandsAsBefore w v g h k
-    go None is = stands_apart w v g h k same (λ x there. some_none is there)
+    go None is = grind (arith, (e.changes.others k ne_n))
     go (Some x) is =
-        elim (cases_eq x.group request.group) [
-          | inr apart ↦
-              stands_apart w v g h k same (λ y there. rw (same_Some y x (sym there ∙ is)) (e.exchange.others x.group apart))
-          | inl here ↦
-              let inside = left_member s e (same ∙ is) here in
-              let lt : least < q.end = omega (arith, inside.1, inside.2) in
-              let later = ne_least lt in
-              let led : q.least ≢ k = λ first. absurd (omega (arith, e.next.from_on, inside.1)) in
-              stands_in w v g h k x (left_with q least broken) q same is (ap (group_at g) here ∙ e.group) (ap (group_at h) here ∙ e.exchange.here ∙ e.some lt)
-              (ne_eqb least k (λ z. later (sym z)) ∙ sym (ne_eqb q.least k led))
-              (ap (λ b. is_some q.fault || is_before b k) (broken_is lt)
-              ∙ ap (λ b. is_some q.fault || b) (before_earlier q.broken breaks n k (λ t. after t inside.2)))
-        ]
+        let same = e.changes.others k ne_n in
+        grind (arith, (left_member s e), (e.exchange.others x.group), e.next.from_on)
 
 -- What is covered.
 
 -- what can be told of an outstanding request
 pub tell_outstanding : (w : Window) (g : Groups) (s : Waiting) (n : ℕ) → IsListed w g s
     → is_some (at w n) ≡ true → CanTell s n
-tell_outstanding w g s n l there =
-    omega (arith, l.heads.stop, l.doomed.stop, l.heads.low n there, l.doomed.low n there, within_end w n there)
-
--- fewer requests are outstanding
-pub reaches_fewer : (w v : Window) (s t : NumberSet) → Reaches w s → end_of v ≡ end_of w
-    → ((k : ℕ) → is_some (at v k) ≡ true → is_some (at w k) ≡ true) → IsSameReach s t → Reaches v t
-reaches_fewer w v s t r end fewer same = grind arith
+tell_outstanding w g s n l there = grind (arith, within_end)
 
 -- a set covers a number more, and is then told of numbers that it covers
 pub grows_told : (s t u : NumberSet) (n : ℕ) → HasGrown s t n → IsSameReach t u → GrowsTo s u n
 grows_told s t u n g r =
     record { start = omega arith; longer = omega arith; covered = omega arith; few = λ m old below. let most = g.few m old below in omega arith; limit = omega arith }
 
--- what was let go at the front isn't needed
-pub reaches_moved : (w : Window) (s t : NumberSet) (first : ℕ) → Reaches w s → HasMoved s t first
-    → first ≤ end_of w → ((k : ℕ) → k < first → at w k ≡ None) → Reaches w t
-reaches_moved w s t first r m within before = grind arith
-
 pub told_moved : (w : Window) (g : Groups) (s t : Waiting) (k a b : ℕ) → IsListedAt w g s k
     → HasMoved s.heads t.heads a → HasMoved s.doomed t.doomed b → IsListedAt w g t k
 told_moved w g s t k a b l x y = grind (arith, holds_same)
+
+-- request n ended, others were told of anew, and what was let go at the front isn't needed
+reaches_ended : (w v : Window) (s t u : NumberSet) (first : ℕ) {n : ℕ} → Reaches w s → end_of v ≡ end_of w
+    → IsSameReach s t → HasMoved t u first → first ≤ end_of v
+    → ((k : ℕ) → k < first → at v k ≡ None) → Changes w v n None → Reaches v u
+reaches_ended w v s t u first r end same moved within before c = grind (arith, before_end)
 
 -- A request ended, and all whose standing may have changed were told of anew.
 pub end_listed : (w v : Window) (g h : Groups) (s t u : Waiting) (n head stop first : ℕ)
@@ -119,24 +90,12 @@ pub end_listed : (w v : Window) (g h : Groups) (s t u : Waiting) (n head stop fi
     → IsListedAt v h t n → IsListedAt v h t head → ((k : ℕ) → n ≤ k → k < stop → IsListedAt v h t k)
     → HasMoved t.heads u.heads first → HasMoved t.doomed u.doomed first → first ≤ end_of v
     → ((k : ℕ) → k < first → at v k ≡ None) → IsListed v h u
-end_listed w v g h s t u n head stop first l c end others keeps own at_head between x y within before =
-    let fewer : (k : ℕ) → is_some (at v k) ≡ true → is_some (at w k) ≡ true =
-    λ k there. let q = is_some_value (at v k) there in ap is_some (before_end c q.1).1
-    in
-    record {
-      told = λ k. told_moved v h t u k first first (one k) x y;
-      heads = reaches_moved v t.heads u.heads first (reaches_fewer w v s.heads t.heads l.heads end fewer keeps.heads) x within before;
-      doomed = reaches_moved v t.doomed u.doomed first (reaches_fewer w v s.doomed t.doomed l.doomed end fewer keeps.doomed) y within before;
-    }
-  where
-    P : ℕ → Type 0
-    P j = IsListedAt v h t j
-
-    stays : (k : ℕ) → k ≢ n → k ≢ head → (k < n) ⊎ (stop ≤ k) → IsListedAt v h t k
-    stays k a b z = keeps.told k (told_before w v g h s k (l.told k) (others k a b z))
-
-    one : (k : ℕ) → IsListedAt v h t k
-    one k = grind arith
+end_listed w v g h s t u n head stop first l c end others keeps own at_head between x y within before = record {
+  told = λ k.
+      told_moved v h t u k first first (grind (arith, (keeps.told k), (told_before w v g h s k (l.told k)), (others k))) x y;
+  heads = reaches_ended w v s.heads t.heads u.heads first l.heads end keeps.heads x within before c;
+  doomed = reaches_ended w v s.doomed t.doomed u.doomed first l.doomed end keeps.doomed y within before c;
+}
 
 -- A request was written, and it was told of anew.
 pub restarted_listed : (w v : Window) (g h : Groups) (s t : Waiting) (n : ℕ) (q : Request)

@@ -1,6 +1,6 @@
 -- Why an outstanding request stands as it does, from what is held.
-use Rattle.std.proofs.Common.{◌≡◌, ◌≢◌, ℕ, ◌<◌, ◌≤◌, Bool, true, false, not, Option, Some, None, is_some, refl, sym, ◌∙◌, ap, arith, inl, inr}
-use Rattle.uring_dispatch.proofs.Common.{AreHeld, Group, Groups, IsFirst, IsFirstDraining, IsGroup, IsSound, Request, Requests, Window, and_from, and_right, at, cases_lt, drain_of, draining_is, entry_of, fault_of, first_member_inside, group_at, holds_back, if◌then◌else◌, is_before, is_draining, is_joined, joined_member, le-leb, least_below_none, least_below_some, lt-leb, or_from, or_left, or_right}
+use Rattle.std.proofs.Common.{◌≡◌, ◌≢◌, ℕ, ◌<◌, ◌≤◌, Bool, true, false, Some, None, is_some, sym, ◌∙◌, ap, arith}
+use Rattle.uring_dispatch.proofs.Common.{AreHeld, Group, Groups, IsFirst, IsFirstDraining, IsGroup, IsSound, Request, Requests, Window, at, cases_lt, drain_of, draining_is, entry_of, fault_of, first_member_inside, group_at, holds_back, if◌then◌else◌, is_before, is_draining, is_joined, joined_member, least_below_none, least_below_some, or_right}
 use Rattle.uring_entry.specs.Why.{first_doom, faulty_member_of, failed_member_of, doom_of, since_of, holder_of, waiting_for}
 use Rattle.uring_entry.specs.declared.fault.Fault.{Fault}
 use Rattle.uring_entry.specs.declared.why.Doom.TheVariants.{OwnFault, FaultOf, FailureOf, Cancel}
@@ -9,7 +9,7 @@ use Rattle.uring_entry.specs.declared.why.Since.TheVariants.{SameGroup, ItDrains
 use Rattle.uring_entry.specs.declared.why.Why.TheVariants.{Waits, MayStart}
 use Rattle.uring_entry.proofs.WhyLemmas.{StillWaits, faulty_member_is, failed_member_before, failed_member_none}
 use Rattle.uring_dispatch.specs.Waits.{IsFirstHolder}
-use Rattle.uring_dispatch.proofs.HeldLemmas.{InGroup, its_group, shown_within, draining_held, least_open, vacant, plain_before, within_group}
+use Rattle.uring_dispatch.proofs.HeldLemmas.{InGroup, its_group, shown_within, draining_held, least_open, plain_before, within_group}
 
 -- What a request waits for.
 
@@ -19,20 +19,12 @@ module _ {w : Window} {g : Groups} {r : Requests} {n m : ℕ} {request other : R
   pub joined_held : other.group ≡ request.group → is_joined r m n ≡ true
   joined_held same =
       let its = its_group s h e in
-      let q : Group = its.0 in
-      let near = within_group s f (ap (group_at g) same ∙ its.1.found) in
-      joined_member r q.from q.end m n its.1.shown.group its.1.from its.1.to (omega arith) ∙ le-leb q.from m near.0
+      grind (arith, (joined_member r its.0.from its.0.end m n its.1.shown.group), (within_group s f))
 
   pub joined_apart : other.group ≢ request.group → is_joined r m n ≡ false
   joined_apart ne =
       let its = its_group s h e in
-      let q : Group = its.0 in
-      let to = its.1.to in
-      joined_member r q.from q.end m n its.1.shown.group its.1.from to (omega arith)
-      ∙ elim (cases_lt m q.from) [
-        | inl before ↦ lt-leb q.from m before
-        | inr inside ↦ absurd (ne (s.members request.group q m other its.1.found inside (omega arith) f))
-      ]
+      grind (arith, (joined_member r its.0.from its.0.end m n its.1.shown.group), (s.members request.group its.0 m other its.1.found))
 
 module _ {w : Window} {g : Groups} {r : Requests} {n : ℕ} {request : Request} (s : IsSound w g) (h : AreHeld w g r) (e : at w n ≡ Some request) where
   -- a kept request that doesn't run
@@ -57,23 +49,16 @@ doom_own r n fault e = ap (λ o. first_doom o (faulty_member_of r n) (failed_mem
 
 module _ {w : Window} {g : Groups} {r : Requests} {n : ℕ} {request : Request} {q : Group} (i : InGroup w g r n request q)
     (right : fault_of request.entry ≡ None) where
-  doom_by : (fault failed : Option ℕ) → q.fault ≡ fault → failed_member_of r n ≡ failed
-      → doom_of r n ≡ first_doom None fault failed
-  doom_by fault failed own after =
-      let member : faulty_member_of r n ≡ fault = faulty_member_is r q.from q.end n i.shown.group i.from i.to ∙ sym i.shown.fault ∙ own in
-      ap (λ o. first_doom o (faulty_member_of r n) (failed_member_of r n)) (ap fault_of (sym (i.held.shown n request i.there).entry) ∙ right)
-      ∙ ap (λ o. first_doom None o (failed_member_of r n)) member ∙ ap (first_doom None fault) after
-
   pub doom_member : {m : ℕ} → q.fault ≡ Some m → doom_of r n ≡ FaultOf m
-  doom_member {m} found = doom_by (Some m) (failed_member_of r n) found refl
+  doom_member {m} found = grind (arith, (faulty_member_is r q.from q.end n), (i.held.shown n request i.there))
 
   pub doom_failed : {m : ℕ} → q.fault ≡ None → q.broken ≡ Some m → m < n → doom_of r n ≡ FailureOf m
   doom_failed {m} none found low =
-      doom_by None (Some m) none (failed_member_before r q.from q.end n m i.shown.group i.from i.to (sym i.shown.broken ∙ found) low)
+      grind (arith, (faulty_member_is r q.from q.end n), (failed_member_before r q.from q.end n m), (i.held.shown n request i.there))
 
   pub doom_else : q.fault ≡ None → is_before q.broken n ≡ false → doom_of r n ≡ Cancel
   doom_else none past =
-      doom_by None None none (failed_member_none r q.from q.end n i.shown.group i.from i.to (ap (λ o. is_before o n) (sym i.shown.broken) ∙ past))
+      grind (arith, (faulty_member_is r q.from q.end n), (failed_member_none r q.from q.end n), (i.held.shown n request i.there))
 
 -- The least request that it waits for.
 
@@ -86,16 +71,10 @@ module _ {w : Window} {g : Groups} {r : Requests} {n : ℕ} {request : Request} 
   early_free : is_some q.drain ≡ false → (from end : ℕ) → IsGroup r from end → from ≤ q.from
       → ((key number : ℕ) → drain_of (group_at g key) ≡ Some number → from ≤ number)
       → (k : ℕ) → k < from → holds_back r n k ≡ false
-  early_free plain from end group le free k low = go (at w k) refl
-    where
-      go : (o : Option Request) → at w k ≡ o → holds_back r n k ≡ false
-      go None e = let after = i.from in gone_free i.sound i.held i.there (omega arith) e
-      go (Some other) e =
-          let after = i.from in
-          let joined : is_joined r k n ≡ false = joined_member r q.from q.end k n i.shown.group after i.to (omega arith) ∙ lt-leb q.from k (omega arith) in
-          let its = plain_before i.sound i.held group free e low in
-          let own : is_draining r n ≡ false = draining_held i ∙ plain in
-          and_right _ _ (or_from _ _ (or_from _ _ joined its) own)
+  early_free plain from end group le free k low =
+      grind (arith, (gone_free i.sound i.held i.there), (joined_member r q.from q.end k n i.shown.group i.from i.to),
+        (draining_held i), i.from,
+        (λ (other : Request) (e : at w k ≡ Some other). plain_before i.sound i.held group free e low))
 
   -- an earlier group is the first that drains
   pub first_draining_is : {b : Group} → is_some q.drain ≡ false → IsFirstDraining g b → b.from < q.from
@@ -103,41 +82,27 @@ module _ {w : Window} {g : Groups} {r : Requests} {n : ℕ} {request : Request} 
   first_draining_is {b} plain f low =
       let kept = i.sound.kept f.key b f.here in
       let shown = i.held.groups f.key b f.here in
-      let drains = sym shown.drain ∙ f.drains in
-      let member = first_member_inside _ b.from b.end f.number drains in
+      let member = first_member_inside _ b.from b.end f.number (sym shown.drain ∙ f.drains) in
+      let early = early_free plain b.from b.end shown.group (omega arith)
+      (λ key number d. let le = f.first key number d in omega (arith, member.0))
+      in
       record {
-        before = λ k lt earlier.
-            elim (cases_lt k b.from) [
-              | inl before ↦ early_free plain b.from b.end shown.group (omega arith) (λ key number d. let le = f.first key number d in omega (arith, member.0)) k before
-              | inr inside ↦ gone_free i.sound i.held i.there earlier (vacant w k (kept.over k inside lt))
-            ];
-        here = λ lt.
-            and_from _ _ (ap not (least_open i.sound i.held f.key f.here))
-            (or_left _ _ (or_right _ _ (draining_is r b.from b.end b.least shown.group kept.from kept.to ∙ ap is_some drains)));
+        before = λ k lt earlier. grind (arith, (early k), (gone_free i.sound i.held i.there {k = k}), kept, (cases_lt k b.from));
+        here = λ lt. grind (arith, (least_open i.sound i.held f.key f.here), (draining_is r b.from b.end b.least shown.group), f.drains);
       }
 
   -- none is, and so it waits for its own group alone
   pub first_own : is_some q.drain ≡ false
       → ((key number : ℕ) → drain_of (group_at g key) ≡ Some number → q.from ≤ number)
       → IsFirstHolder r n q.least
-  first_own plain free = record {
-    before = λ k lt earlier.
-        elim (cases_lt k q.from) [
-          | inl before ↦ early_free plain q.from q.end i.shown.group (omega arith) free k before
-          | inr inside ↦ gone_free i.sound i.held i.there earlier (vacant w k (i.kept.over k inside lt))
-        ];
-    here = λ lt.
-        let from = i.kept.from in
-        and_from _ _ (ap not (least_open i.sound i.held request.group i.found))
-        (or_left _ _ (or_left _ _ (joined_member r q.from q.end q.least n i.shown.group i.from i.to (omega arith) ∙ le-leb q.from q.least from)));
-  }
+  first_own plain free =
+      let going = least_open i.sound i.held request.group i.found in
+      grind (arith, (early_free plain q.from q.end), (gone_free i.sound i.held i.there),
+        (joined_member r q.from q.end q.least n i.shown.group i.from i.to))
 
 pub waits_for : (r : Requests) (n m : ℕ) (since : Since) → m < n → IsFirstHolder r n m
     → since ≡ since_of r n m → Waits m since ≡ waiting_for r n (holder_of r n)
-waits_for r n m since low f e =
-    sym
-    (ap (waiting_for r n) (least_below_some (holds_back r n) n m low (f.here low) (λ k lt. f.before k lt (omega arith)))
-    ∙ ap (Waits m) (sym e))
+waits_for r n m since low f e = grind (arith, (least_below_some (holds_back r n) n m low (f.here low)))
 
 pub waits_for_none : (r : Requests) (n m : ℕ) → n ≤ m → IsFirstHolder r n m
     → MayStart ≡ waiting_for r n (holder_of r n)

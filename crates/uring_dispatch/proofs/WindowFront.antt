@@ -1,7 +1,7 @@
 -- The first number of the window, and what the calls of the window ask of the others.
 use Rattle.std.specs.Int.{from_bool}
-use Rattle.std.proofs.Common.{◌≡◌, ℕ, ◌+◌, ◌^◌, ◌<◌, ◌≤◌, List, [], ◌∷◌, ◌++◌, length, get_or, Bool, true, false, Option, Some, None, is_some, refl, sym, ◌∙◌, ap, arith, inl, inr}
-use Rattle.uring_dispatch.proofs.Common.{HasBefore, IfSome, IsFirst, IsTrimmed, IsWindow, Request, Window, at, both_ways, cases_Bool, chosen, end_of, found_by, is_some_value, key_at, one_if, runs, started}
+use Rattle.std.proofs.Common.{◌≡◌, ℕ, ◌+◌, ◌^◌, ◌<◌, ◌≤◌, List, [], ◌∷◌, ◌++◌, length, get_or, Bool, true, false, Option, Some, None, is_some, refl, sym, ◌∙◌, ap, arith}
+use Rattle.uring_dispatch.proofs.Common.{HasBefore, IfSome, IsFirst, IsTrimmed, IsWindow, Request, Window, at, both_ways, chosen, end_of, found_by, is_some_value, key_at, one_if, runs, started}
 use Rattle.uring_dispatch.proofs.Counting.{count_below_some, count_below_within}
 use Rattle.uring_dispatch.proofs.WindowLemmas.{IsSameBut, key_at_low, key_at_high, key_at_past, key_at_within, at_keyed, write_window}
 
@@ -46,33 +46,20 @@ running_fits w i = grind (arith, count_below_within)
 -- request n was started, or chosen
 module _ (w : Window) (requests : List (Option Request)) (n key outstanding : ℕ) (i : IsWindow w) (e : key_at w.first w.keys n ≡ Some key)
     (there : is_some (at w n) ≡ true) where
-  write_by : (f : Request → Request) (running : ℕ)
-      → ((q : Request) → at w n ≡ Some q → running + one_if (runs (at w n)) ≡ w.running + one_if (f q).is_running)
-      → ((q : Request) → get_or w.requests key None ≡ Some q → get_or requests key None ≡ Some (f q))
-      → IsSameBut w.requests requests key → IsWindow (record w { requests = requests; outstanding = outstanding; running = running })
-  write_by f running counts here others =
-      let found = is_some_value (at w n) there in
-      write_window w requests n key outstanding running (f found.0) i e (here found.0 (sym (by_key w n key e) ∙ found.1)) others (counts found.0 found.1)
-
   pub start_window : runs (at w n) ≡ false
       → ((q : Request) → get_or w.requests key None ≡ Some q → get_or requests key None ≡ Some (started q))
       → IsSameBut w.requests requests key → IsWindow (record w { requests = requests; outstanding = outstanding; running = w.running + 1 })
-  start_window waits = write_by started (w.running + 1) (λ q is. let one : one_if (runs (at w n)) ≡ 0 = ap one_if waits in omega arith)
+  start_window waits here others =
+      let found = is_some_value (at w n) there in
+      let kept = here found.0 (sym (by_key w n key e) ∙ found.1) in
+      write_window w requests n key outstanding (w.running + 1) (started found.0) i e kept others (grind arith)
 
   pub choose_window : ((q : Request) → get_or w.requests key None ≡ Some q → get_or requests key None ≡ Some (chosen q))
       → IsSameBut w.requests requests key → IsWindow (record w { requests = requests; outstanding = outstanding })
-  choose_window = write_by chosen w.running (λ q is. ap (λ o. w.running + one_if (runs o)) is)
-
--- who runs is counted
-pub runs_counted : (w : Window) (n key : ℕ) → IsWindow w → key_at w.first w.keys n ≡ Some key
-    → one_if (runs (at w n)) ≤ w.running
-runs_counted w n key i e =
-    let inside = key_at_within w.first w.keys n key e in
-    let was = i.counted in
-    elim (cases_Bool (runs (at w n))) [
-      | inl going ↦ let some = count_below_some (λ m. runs (at w m)) (end_of w) n inside.1 going in let one : one_if (runs (at w n)) ≡ 1 = ap one_if going in omega arith
-      | inr still ↦ let none : one_if (runs (at w n)) ≡ 0 = ap one_if still in omega arith
-    ]
+  choose_window here others =
+      let found = is_some_value (at w n) there in
+      let kept = here found.0 (sym (by_key w n key e) ∙ found.1) in
+      write_window w requests n key outstanding w.running (chosen found.0) i e kept others (grind arith)
 
 pub one_is : (b : Bool) → from_bool b ≡ one_if b
 one_is b = grind arith
@@ -80,7 +67,7 @@ one_is b = grind arith
 pub ended_counted : (w : Window) (n key : ℕ) (q : Request) → IsWindow w
     → key_at w.first w.keys n ≡ Some key → get_or w.requests key None ≡ Some q
     → from_bool q.is_running ≤ w.running
-ended_counted w n key q i e is = grind (arith, runs_counted, by_key)
+ended_counted w n key q i e is = grind (arith, key_at_within, (count_below_some (λ m. runs (at w m)) (end_of w) n), i.counted, by_key)
 
 -- past the end there is nothing
 pub at_past : (w : Window) (n : ℕ) → end_of w ≤ n → at w n ≡ None
