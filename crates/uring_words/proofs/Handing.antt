@@ -4,7 +4,7 @@ use Rattle.std.proofs.Math.Seq.{take-append_seam, drop-append_seam}
 use mathlib.Core.List.{map-append}
 use Rattle.uring_words.proofs.Common.{IsPowerOfTwo, StandFrom, Valid, held_from, homes_after}
 use mathlib.Core.Option.{Option, some}
-use Rattle.uring_words.proofs.SlotActs.{takes_all, changes, changes-homes, with_given, with_taken, gives_all-valid, with_given-length, with_taken-length, Moves, stands_given, stands_taken, given_stand, taken_valid, more_valid, more_stands}
+use Rattle.uring_words.proofs.SlotActs.{takes_all, changes, with_given, with_taken, gives_all-homes, gives_all-valid, homes-length, Moves, stands_given, stands_taken, given_stand, taken_valid, stand_both}
 use Rattle.uring_words.proofs.Standing.{next_turn}
 
 module _ {S : Type 0} where
@@ -12,12 +12,12 @@ module _ {S : Type 0} where
   abbrev pub after : List (Option S) → List (ℕ × S) → List (ℕ × S) → List (Option S)
   after homes old new = homes_after homes old (changes old new)
 
-  after-length : (homes : List (Option S)) (old new : List (ℕ × S))
-      → length (after homes old new) ≡ length homes
-  after-length homes old new = grind (arith, changes-homes, with_taken-length, with_given-length)
+  -- The old slots may be given and the new ones taken, and this holds of what is at home then.
+  abbrev pub Hands : List (Option S) → List (ℕ × S) → List (ℕ × S) → (List (Option S) → Type 0) → Type 0
+  Hands homes old new Holds = Valid homes old (changes old new) × Holds (after homes old new)
 
   -- one part is given after another
-  given_both : (homes : List (Option S)) (xs ys : List (ℕ × S))
+  pub given_both : (homes : List (Option S)) (xs ys : List (ℕ × S))
       → with_given homes (xs ++ ys) ≡ with_given (with_given homes xs) ys
   given_both homes [] ys = refl
   given_both homes (x ∷ xs) ys = given_both (set homes x.0 (some x.1)) xs ys
@@ -29,10 +29,10 @@ module _ {S : Type 0} (start size : ℕ) (power : IsPowerOfTwo size) (fits : siz
   stand_later homes count [] h = tt
   stand_later homes count (x ∷ xs) h = grind (arith, next_turn, (stand_later homes (count + 1) xs h.1))
 
-  stand_after : (homes : List (Option S)) (old new : List (ℕ × S)) (count : ℕ) (xs : List S)
+  pub stand_after : (homes : List (Option S)) (old new : List (ℕ × S)) (count : ℕ) (xs : List S)
       → StandFrom start size (with_taken (with_given homes old) new) count xs
       → StandFrom start size (after homes old new) count xs
-  stand_after homes old new count xs = subst (λ hs. StandFrom start size hs count xs) (sym (changes-homes homes old new))
+  stand_after homes old new count xs = subst (λ hs. StandFrom start size hs count xs) (sym (gives_all-homes homes old (takes_all new)))
 
   -- More slots are taken, after those that the seat holds.
   module _ (homes : List (Option S)) (long : length homes ≡ size) (count : ℕ) (held more : List S) where
@@ -44,15 +44,10 @@ module _ {S : Type 0} (start size : ℕ) (power : IsPowerOfTwo size) (fits : siz
 
     pub take_valid : length held + length more ≤ size → StandFrom start size homes (count + length held) more
         → Valid homes old (changes old new)
-    take_valid few h = grind (arith, length-append, gives_all-valid, takes_all, more_valid)
+    take_valid few h = grind (arith, length-append, gives_all-valid, takes_all, given_stand, stands_given, taken_valid, stand_both)
 
     pub take_moves : Moves start size homes (after homes old new) count (length held + length more)
-    take_moves =
-        let both = length-append held more in
-        record {
-          long = after-length homes old new;
-          others = λ other xs clear h. stand_after homes old new other xs (more_stands start size power fits homes count other held more xs (λ a b l m n o. clear a b l (omega arith) n o) h);
-        }
+    take_moves = grind (arith, length-append, homes-length, stand_after, stands_taken, stands_given)
 
   -- The slots that stand after the others, with values of earlier counts, are given, and the others kept.
   module _ (homes : List (Option S)) (long : length homes ≡ size) (count : ℕ) (kept done : List S) where
@@ -65,39 +60,15 @@ module _ {S : Type 0} (start size : ℕ) (power : IsPowerOfTwo size) (fits : siz
     pub give_valid : length done + length kept ≤ size → Valid homes (front ++ back) (changes (front ++ back) front)
     give_valid few = grind (arith, given_stand, stands_given, gives_all-valid, takes_all, taken_valid, given_both)
 
-    left : (other : ℕ) (xs : List S) → StandFrom start size (with_taken (with_given (with_given homes front) back) front) other xs
+    pub left : (other : ℕ) (xs : List S) → StandFrom start size (with_taken (with_given (with_given homes front) back) front) other xs
         → StandFrom start size (after homes (front ++ back) front) other xs
     left other xs h = stand_after homes (front ++ back) front other xs (subst (λ hs. StandFrom start size (with_taken hs front) other xs) (sym (given_both homes front back)) h)
 
     pub give_done : length done + length kept ≤ size → StandFrom start size (after homes (front ++ back) front) count done
-    give_done few = grind (arith, given_stand, with_given-length, left, stands_taken)
+    give_done few = grind (arith, given_stand, homes-length, left, stands_taken)
 
     pub give_moves : Moves start size homes (after homes (front ++ back) front) count (length done + length kept)
-    give_moves = record {
-      long = after-length homes (front ++ back) front;
-      others = λ other xs clear h.
-          left other xs
-          (stands_taken start size power fits (with_given (with_given homes front) back) (count + length done) other kept xs (λ a b l m n o. clear a b (omega arith) (omega arith) n o)
-          (stands_given start size power fits (with_given homes front) count other done xs (λ a b l m n o. clear a b l (omega arith) n o)
-          (stands_given start size power fits homes (count + length done) other kept xs (λ a b l m n o. clear a b (omega arith) (omega arith) n o) h)));
-    }
-
-  -- All slots are given.
-  module _ (homes : List (Option S)) (count : ℕ) (held : List S) where
-    abbrev all : List (ℕ × S)
-    all = held_from start size count held
-
-    pub all_valid : Valid homes all (changes all [])
-    all_valid = gives_all-valid homes all (takes_all []) tt
-
-    pub all_here : length homes ≡ size → length held ≤ size → StandFrom start size (after homes all []) count held
-    all_here long few = stand_after homes all [] count held (given_stand start size power fits homes count held long few)
-
-    pub all_moves : Moves start size homes (after homes all []) count (length held)
-    all_moves = record {
-      long = after-length homes all [];
-      others = λ other xs clear h. stand_after homes all [] other xs (stands_given start size power fits homes count other held xs clear h);
-    }
+    give_moves = grind (arith, homes-length, left, stands_taken, stands_given)
 
 -- two lists whose first parts are as long have the same parts
 pub same_parts : {A : Type 0} (xs ys us vs : List A) → length xs ≡ length us → xs ++ ys ≡ us ++ vs

@@ -1,14 +1,15 @@
 -- What each step of a seat of the submission ring's table asks. v is what the seat knows, and held what it holds.
-use Rattle.uring_words.proofs.Common.{Allows, AreWhole, GivesAll, IsPowerOfTwo, LoadsHead, LoadsTail, Position, StandFrom, StoresHead, StoresTail, View, all_given, app_has, head_loaded, head_stored, held_from, kernel_has, opening, replicate, set-get_or, step, tail_loaded, tail_stored, with_first_after, word_of}
-use Rattle.std.proofs.Common.{◌<◌, ◌∷◌, ◌≡◌, ℕ, ◌+◌, ◌≤◌, ◌^◌, true, List, [], ◌++◌, length, set, refl, sym, ◌∙◌, ap, subst, arith, length-append}
+use Rattle.uring_words.proofs.Common.{Allows, AreWhole, GivesAll, IsPowerOfTwo, LoadsHead, LoadsTail, Position, StoresHead, StoresTail, View, all_given, app_has, head_loaded, head_stored, held_from, kernel_has, opening, replicate, set-get_or, step, tail_loaded, tail_stored, with_first_after, word_of}
+use Rattle.std.proofs.Common.{◌<◌, ◌∷◌, ◌≡◌, ℕ, ◌+◌, ◌≤◌, ◌^◌, true, List, [], ◌++◌, length, get_or, set, refl, sym, ◌∙◌, ap, arith, length-append}
 use mathlib.Core.Option.{Option, none}
 use Rattle.uring_words.specs.Submission.Rule.{Agree, BothAgree, at_first}
+use Rattle.uring_words.specs.Submission.Steps.{HeadTold, TailTold}
 use Rattle.uring_words.specs.declared.sides.Shape.{Shape}
 use Rattle.uring_words.specs.declared.submission.view.AppSide.{AppSide}
 use Rattle.uring_words.specs.declared.submission.view.KernelSide.{KernelSide}
 use Rattle.uring_words.proofs.FirstTable.{first_lists}
-use Rattle.uring_words.proofs.Handing.{take_valid, take_moves, give_valid, give_done, give_moves, all_valid, all_here, all_moves, held-length, same_parts, same_slots}
-use Rattle.uring_words.proofs.RingLists.{ListsAgree, put_many, keeps_tail_stored, keeps_head_stored, keeps_head_loaded, keeps_all_given, keeps_tail_loaded}
+use Rattle.uring_words.proofs.Handing.{give_valid, give_done, give_moves, held-length, same_parts, same_slots}
+use Rattle.uring_words.proofs.RingLists.{ListsAgree, put_many, keeps_tail_stored, keeps_head_stored, loads_free, gives_blank, loads_rest}
 use Rattle.uring_words.proofs.SlotSeats.{app_hands, kernel_hands, opens_with}
 
 -- The sides agree by their lists.
@@ -58,16 +59,7 @@ module _ (slots id : ℕ) (v : View AppSide KernelSide) (held : List (ℕ × Pos
         agrees s.start s.size limit whole (keeps_tail_stored l (length written + length blank) word written (give_moves a.start a.size s.power l.fits homes s.places n blank written) (give_done a.start a.size s.power l.fits homes s.places n blank written few) (omega arith) (omega arith) is_word),
         λ blank' written' same found.
             let all : length blank' + length written' ≡ length blank + length written =
-            omega (
-              arith,
-              ap length (sym same ∙ holds),
-              length-append (held_from a.start a.size (n + length written') blank') (held_from a.start a.size n written'),
-              length-append new (held_from a.start a.size n written),
-              held-length a.start a.size (n + length written') blank',
-              held-length a.start a.size n written',
-              held-length a.start a.size (n + length written) blank,
-              held-length a.start a.size n written,
-            ) in
+            omega (arith, ap length (sym same ∙ holds), length-append {A = ℕ × Position}, held-length {S = Position}) in
             let count : length written ≡ length written' = same_count a.start n (length written) (length written') (omega arith) (omega arith) (sym is_word ∙ found) in
             let parts = same_slots a.start a.size (n + length written) n (n + length written') n blank written blank' written' count (sym holds ∙ same) in
             λ i. app_has (v, held) (tail_stored a (parts.1 i)) (held_from a.start a.size (n + length (parts.1 i)) (parts.0 i)),
@@ -81,26 +73,17 @@ module _ (slots id : ℕ) (v : View AppSide KernelSide) (held : List (ℕ × Pos
   loads_head blank is_app holds ends =
       app_hands slots id 1 (λ n. n) (λ ws. ws) (λ ws. sym (set-get_or ws 1 0)) v held (LoadsHead (step slots 1 0 0 none) (v, held)) is_app (λ words homes d h both.
       let a = v.app in
-      let n : ℕ = length a.published in
       let s = h.sized in
       let l = lists h in
-      let longer = length-append blank h.free in
-      let count = put_many l in
-      let few : length blank + length h.free ≤ a.size = omega (arith, l.all, l.room) in
-      let there = subst (λ (k : ℕ). StandFrom a.start a.size homes k h.free) (sym ends) h.stand_free in (
-        held_from a.start a.size n blank,
-        held_from a.start a.size n (blank ++ h.free),
+      let r = loads_free l blank ends in
+      let told : HeadTold a (get_or words 1 0) (length d.taken) (blank ++ h.free) = grind (arith, put_many l, l.all, length-append) in (
+        held_from a.start a.size (length a.published) blank,
+        held_from a.start a.size (length a.published) (blank ++ h.free),
         head_loaded a (length d.taken + a.size),
         holds,
-        take_valid a.start a.size s.power l.fits homes s.places n blank h.free few there,
-        agrees s.start s.size s.limit h.whole (keeps_head_loaded l (length blank + length h.free) (take_moves a.start a.size s.power l.fits homes s.places n blank h.free) (omega (arith, l.all))),
-        (
-          length d.taken,
-          blank ++ h.free,
-          refl,
-          record { head = h.head; published_before = omega arith; later = omega (arith, l.all); many = omega (arith, l.all) },
-          refl,
-        ),
+        r.0,
+        agrees s.start s.size s.limit h.whole r.1,
+        (length d.taken, blank ++ h.free, refl, told, refl),
       ))
 
   -- all places are given back
@@ -110,18 +93,9 @@ module _ (slots id : ℕ) (v : View AppSide KernelSide) (held : List (ℕ × Pos
       → Allows BothAgree slots id (v, held) 1 (λ n. n) (GivesAll (step slots 1 0 0 none) (v, held))
   gives_all_places blank is_app holds ends few =
       app_hands slots id 1 (λ n. n) (λ ws. ws) (λ ws. sym (set-get_or ws 1 0)) v held (GivesAll (step slots 1 0 0 none) (v, held)) is_app (λ words homes d h both.
-      let a = v.app in
-      let n : ℕ = length a.published in
       let s = h.sized in
-      let l = lists h in (
-        held_from a.start a.size n blank,
-        [],
-        all_given a,
-        holds,
-        all_valid a.start a.size s.power l.fits homes n blank,
-        agrees s.start s.size s.limit h.whole (keeps_all_given l (length blank) blank (all_moves a.start a.size s.power l.fits homes n blank) (all_here a.start a.size s.power l.fits homes n blank s.places few) ends (omega arith)),
-        refl,
-      ))
+      let r = gives_blank (lists h) blank ends in
+      (held_from v.app.start v.app.size (length v.app.published) blank, [], all_given v.app, holds, r.0, agrees s.start s.size s.limit h.whole r.1, refl))
 
   -- the tail is loaded
   pub loads_tail : v.is_kernel ≡ true
@@ -133,25 +107,15 @@ module _ (slots id : ℕ) (v : View AppSide KernelSide) (held : List (ℕ × Pos
       let n : ℕ = length d.taken in
       let s = h.sized in
       let l = lists h in
-      let count = put_many l in
-      let few : length d.known + length h.rest ≤ a.size = omega (arith, l.all, l.room) in (
+      let r = loads_rest l in
+      let told : TailTold v (get_or words 0 0) h.rest = grind (arith, put_many l, l.all) in (
         held_from a.start a.size n d.known,
         held_from a.start a.size n (d.known ++ h.rest),
         tail_loaded d h.rest,
         holds ∙ (λ i. held_from (s.start i) (s.size i) n d.known),
-        take_valid a.start a.size s.power l.fits homes s.places n d.known h.rest few h.stand,
-        agrees s.start s.size s.limit h.whole (keeps_tail_loaded l (length d.known + length h.rest) (take_moves a.start a.size s.power l.fits homes s.places n d.known h.rest) (omega arith)),
-        (
-          h.rest,
-          (λ i. kernel_has (v, held) (tail_loaded d h.rest) (held_from (sym s.start i) (sym s.size i) n (d.known ++ h.rest))),
-          record {
-            tail = h.tail ∙ ap (λ k. word_of k (length a.published)) (sym s.start) ∙ ap (word_of d.start) count;
-            whole = subst AreWhole h.begins h.whole;
-            few = omega (arith, s.size);
-            all = λ is_app. ap (λ (b : AppSide). b.published) (both is_app) ∙ h.begins;
-          },
-          refl,
-        ),
+        r.0,
+        agrees s.start s.size s.limit h.whole r.1,
+        (h.rest, (λ i. kernel_has (v, held) (tail_loaded d h.rest) (held_from (sym s.start i) (sym s.size i) n (d.known ++ h.rest))), told, refl),
       ))
 
   -- the head is stored

@@ -1,9 +1,9 @@
 -- The steps on the table of either ring, by what its sides know: what was taken of the ring, what is known to stand after that, and what was put. Each keeps what they agree on.
 use Rattle.std.proofs.Common.{◌≡◌, ℕ, ◌+◌, ◌^◌, ◌≤◌, List, [], ◌++◌, length, set, get_or, ap, arith, append_assoc, append-nil, length-append, length-set, get_or-set_other, get_or-set_same}
-use Rattle.uring_words.proofs.Common.{IsPowerOfTwo, StandFrom, word_of}
+use Rattle.uring_words.proofs.Common.{IsPowerOfTwo, StandFrom, held_from, word_of}
 use mathlib.Core.Option.{Option}
-use Rattle.uring_words.proofs.Handing.{stand_later}
-use Rattle.uring_words.proofs.SlotActs.{Moves, stand_both}
+use Rattle.uring_words.proofs.Handing.{Hands, stand_later, take_valid, take_moves}
+use Rattle.uring_words.proofs.SlotActs.{Moves, gives_all-valid, given_stand, homes-length, stand_both, stands_given}
 
 -- The sides agree on a table of so many words, whose first two are the tail and the head. rest: what was put and isn't known to stand; end: where the places of the side that puts end; free: what stands from there on
 pub record ListsAgree {S : Type 0} (count : ℕ) (words : List ℕ) (homes : List (Option S)) (start size end : ℕ) (taken known put rest free : List S) : Type 0 where
@@ -47,18 +47,26 @@ module _ {S : Type 0} {count : ℕ} {words : List ℕ} {homes : List (Option S)}
     keeps_head_stored w read others m here parts few is_word =
         grind (arith, put_many, length-append, length-set, get_or-set_other, get_or-set_same, append_assoc, stand_both, stand_later)
 
-    -- the head is loaded, and all that is free is taken
-    pub keeps_head_loaded : Moves start size homes homes' (length put) many → length put + many ≤ length taken + size
-        → ListsAgree count words homes' start size (length taken + size) taken known put rest []
-    keeps_head_loaded m within = grind (arith, put_many)
 
-    -- all that the side that puts holds is given back
-    pub keeps_all_given : (blank : List S) → Moves start size homes homes' (length put) many → StandFrom start size homes' (length put) blank
-        → length put + length blank ≡ end → many ≤ length blank
-        → ListsAgree count words homes' start size (length put) taken known put rest (blank ++ free)
-    keeps_all_given blank m here ends few = grind (arith, put_many, length-append, stand_both)
+  -- the head is loaded: after the places that it holds, the side that puts takes all that are free
+  pub loads_free : (blank : List S) → length put + length blank ≡ end
+      → Hands homes (held_from start size (length put) blank) (held_from start size (length put) (blank ++ free))
+      (λ homes'. ListsAgree count words homes' start size (length taken + size) taken known put rest [])
+  loads_free blank ends = (
+    grind (arith, put_many, take_valid),
+    grind (arith, put_many, (take_moves start size l.power l.fits homes l.places (length put) blank free)),
+  )
 
-    -- the tail is loaded, and all that was put is known
-    pub keeps_tail_loaded : Moves start size homes homes' (length taken) many → length taken + many ≤ length put
-        → ListsAgree count words homes' start size end taken (known ++ rest) put [] free
-    keeps_tail_loaded m within = grind (arith, put_many, append_assoc, append-nil)
+  -- all that the side that puts holds is given back
+  pub gives_blank : (blank : List S) → length put + length blank ≡ end
+      → Hands homes (held_from start size (length put) blank) []
+      (λ homes'. ListsAgree count words homes' start size (length put) taken known put rest (blank ++ free))
+  gives_blank blank ends = grind (arith, put_many, gives_all-valid, length-append, stand_both, homes-length, given_stand, stands_given)
+
+  -- the tail is loaded: after the places of what it knows, the other side takes those of all that was put
+  pub loads_rest : Hands homes (held_from start size (length taken) known) (held_from start size (length taken) (known ++ rest))
+      (λ homes'. ListsAgree count words homes' start size end taken (known ++ rest) put [] free)
+  loads_rest = (
+    grind (arith, put_many, take_valid),
+    grind (arith, put_many, append_assoc, append-nil, (take_moves start size l.power l.fits homes l.places (length taken) known rest)),
+  )

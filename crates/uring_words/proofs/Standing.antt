@@ -16,11 +16,6 @@ pub at_place : (start size own count word : ℕ) → own ≡ size → word ≡ w
     → word % size ≡ place_of start own count
 at_place start size own count word is at = ap (λ w. w % size) at ∙ ap (λ s. place_of start s count) (sym is)
 
--- two counts less than the size apart have places of their own
-pub apart : (start size j k : ℕ) → IsPowerOfTwo size → size ≤ 2 ^ 32 → j < k → k < j + size
-    → place_of start size j ≢ place_of start size k
-apart start size j k power fits before near e = grind (arith, same_cell)
-
 -- a count one turn of the ring on has the same place
 pub next_turn : (start size k : ℕ) → IsPowerOfTwo size → size ≤ 2 ^ 32
     → place_of start size (k + size) ≡ place_of start size k
