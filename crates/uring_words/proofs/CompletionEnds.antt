@@ -14,11 +14,8 @@ use Rattle.uring_words.proofs.SlotActs.{first_held}
 -- The dispatcher's end, which callers see as e, and which has room.
 module _ {seat table : TableId} {v : View AppSide KernelSide} {held : List (ℕ × Cqe)} {size tail end : ℕ}
     (i : IsWriter seat table v held size tail end) (e : End) (seen : record { table = seat; knows = v } ≡ e) (room : length e.knows.kernel.put < e.knows.kernel.end) where
-  has_room : length v.kernel.put < v.kernel.end
-  has_room = subst (λ (x : End). length x.knows.kernel.put < x.knows.kernel.end) (sym seen) room
-
   blank_first : (x : Cqe) × (xs : List Cqe) × (i.blank ≡ x ∷ xs) × (held ≡ (tail % size, x) ∷ rest held) × (rest held ≡ held_from v.kernel.start v.kernel.size (length v.kernel.put + 1) xs) × (tail % size ≡ place_of v.kernel.start v.kernel.size (length v.kernel.put))
-  blank_first = first_held v.kernel.start size v.kernel.size (length v.kernel.put) tail held i.blank i.fits.sized i.tail_word i.holds (omega (arith, i.many, has_room))
+  blank_first = first_held v.kernel.start size v.kernel.size (length v.kernel.put) tail held i.blank i.fits.sized i.tail_word i.holds (omega (arith, i.many, rw (← seen) at room))
 
   pub blank_cell : (x : Cqe) × (held ≡ (tail % size, x) ∷ rest held)
   blank_cell = (blank_first.0, blank_first.3)
@@ -26,7 +23,7 @@ module _ {seat table : TableId} {v : View AppSide KernelSide} {held : List (ℕ 
   pub tail_allowed : (slots id : ℕ) (completion : Cqe)
       → Allows BothAgree slots id (v, (tail % size, completion) ∷ rest held) tail_index (λ _. (tail + 1) % 2 ^ 32) (λ _. StoresTail (step slots tail_index ((tail + 1) % 2 ^ 32) 0 none) (v, (tail % size, completion) ∷ rest held) ((tail + 1) % 2 ^ 32))
   tail_allowed slots id completion =
-      stores_tail slots id v ((tail % size, completion) ∷ rest held) ((tail + 1) % 2 ^ 32) completion (rest held) i.is_kernel (ap (λ (p : ℕ). (p, completion) ∷ rest held) blank_first.5) has_room (omega (arith, i.tail_word))
+      stores_tail slots id v ((tail % size, completion) ∷ rest held) ((tail + 1) % 2 ^ 32) completion (rest held) i.is_kernel (ap (λ (p : ℕ). (p, completion) ∷ rest held) blank_first.5) (rw (← seen) at room) (omega (arith, i.tail_word))
 
   pub is_put : (completion : Cqe)
       → IsWriter seat table (record v { kernel = record v.kernel { put = v.kernel.put ++ completion ∷ [] } }) (rest held) size ((tail + 1) % 2 ^ 32) end
@@ -49,7 +46,7 @@ module _ {seat table : TableId} {v : View AppSide KernelSide} {held : List (ℕ 
 module _ {seat table : TableId} {v : View AppSide KernelSide} {held : List (ℕ × Cqe)} {size tail head : ℕ}
     (i : IsReader seat table v held size tail head) (e : End) (seen : record { table = seat; knows = v } ≡ e) (some : 0 < length e.knows.app.known) where
   known_first : (x : Cqe) × (xs : List Cqe) × (v.app.known ≡ x ∷ xs) × (held ≡ (head % size, x) ∷ rest held) × (rest held ≡ held_from v.app.start v.app.size (length v.app.got + 1) xs) × (head % size ≡ place_of v.app.start v.app.size (length v.app.got))
-  known_first = first_held v.app.start size v.app.size (length v.app.got) head held v.app.known i.fits.sized i.head_word i.holds (subst (λ (x : End). 0 < length x.knows.app.known) (sym seen) some)
+  known_first = first_held v.app.start size v.app.size (length v.app.got) head held v.app.known i.fits.sized i.head_word i.holds (rw (← seen) at some)
 
   pub known_cell : (x : Cqe) × (held ≡ (head % size, x) ∷ rest held)
   known_cell = (known_first.0, known_first.3)

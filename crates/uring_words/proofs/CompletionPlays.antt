@@ -5,14 +5,13 @@ use mathlib.Core.Option.{Option, none, some}
 use Rattle.uring_entry.specs.Layout.{Cqe}
 use Rattle.uring_ports.specs.Dropped.{WereHad}
 use Rattle.uring_words.specs.Completion.Layout.{tail_index, head_index, dropped_index}
-use Rattle.uring_words.specs.Completion.Steps.{put_first, dropped_stored, head_loaded, all_given, tail_loaded, got_first, dropped_loaded, HeadTold, TailTold, StoresTail, StoresDropped, LoadsHead, GivesAll, LoadsTail, StoresHead, LoadsDropped}
+use Rattle.uring_words.specs.Completion.Steps.{put_first, dropped_stored, head_loaded, all_given, tail_loaded, got_first, dropped_loaded, StoresTail, StoresDropped, LoadsHead, GivesAll, LoadsTail, StoresHead, LoadsDropped}
 use Rattle.uring_words.specs.declared.completion.view.AppSide.{AppSide}
 use Rattle.uring_words.specs.declared.completion.view.KernelSide.{KernelSide}
 use Rattle.uring_words.specs.declared.sides.Shape.{Shape}
 use Rattle.uring_words.proofs.DroppedWords.{last_after, had_more, had_last}
 use Rattle.uring_words.proofs.FirstTable.{first_lists}
-use Rattle.uring_words.proofs.RingLists.{ListsAgree, put_many, keeps_stored, keeps_tail_stored, keeps_head_stored, loads_free, gives_blank, loads_rest}
-use Rattle.uring_words.proofs.SlotActs.{set_moves, set_stands}
+use Rattle.uring_words.proofs.RingLists.{ListsAgree, put_many, keeps_stored, stores_first, stores_known, loads_free, gives_blank, loads_rest}
 use Rattle.uring_words.proofs.SlotSeats.{app_hands, app_step, kernel_hands, kernel_step, opens_with}
 
 -- The sides agree by their lists, and on the dropped words.
@@ -47,7 +46,7 @@ module _ (slots id : ℕ) (v : View AppSide KernelSide) (held : List (ℕ × Cqe
       let n : ℕ = length d.put in
       let s = h.sized in
       let l = lists h in
-      let stored = keeps_tail_stored l 1 word (c ∷ []) (set_moves d.start d.size s.power l.fits homes n (some c)) (set_stands d.start d.size s.power l.fits homes n c s.cells) (omega arith) (omega arith) is_word in
+      let stored = stores_first l word c room is_word in
       (put_first d held, gives, tt, rw holds (agrees s.start s.size s.limit (get_or-set_other words tail_index dropped_index word 0 (λ e. omega arith) ∙ h.dropped) h.small h.loaded stored), refl))
 
   -- the dropped word is stored
@@ -71,15 +70,14 @@ module _ (slots id : ℕ) (v : View AppSide KernelSide) (held : List (ℕ × Cqe
       let d : KernelSide = v.kernel in
       let s = h.sized in
       let l = lists h in
-      let r = loads_free l blank ends in
-      let told : HeadTold d (get_or words head_index 0) (length a.got) (blank ++ h.free) = grind (arith, put_many l, l.all, length-append) in (
+      let r = loads_free l blank ends in (
         held_from d.start d.size (length d.put) blank,
         held_from d.start d.size (length d.put) (blank ++ h.free),
         head_loaded d (length a.got + d.size),
         holds,
         r.0,
         agrees s.start s.size s.limit h.dropped h.small h.loaded r.1,
-        (length a.got, blank ++ h.free, refl, told, refl),
+        (length a.got, blank ++ h.free, refl, grind (arith, put_many l, l.all, length-append), refl),
       ))
 
   -- the dispatcher gives back its cells
@@ -103,15 +101,14 @@ module _ (slots id : ℕ) (v : View AppSide KernelSide) (held : List (ℕ × Cqe
       let n : ℕ = length a.got in
       let s = h.sized in
       let l = lists h in
-      let r = loads_rest l in
-      let told : TailTold v (get_or words tail_index 0) h.rest = grind (arith, put_many l, l.all) in (
+      let r = loads_rest l in (
         held_from d.start d.size n a.known,
         held_from d.start d.size n (a.known ++ h.rest),
         tail_loaded a h.rest,
         holds ∙ (λ j. held_from (s.start j) (s.size j) n a.known),
         r.0,
         agrees s.start s.size s.limit h.dropped h.small h.loaded r.1,
-        (h.rest, (λ j. app_has (v, held) (tail_loaded a h.rest) (held_from (sym s.start j) (sym s.size j) n (a.known ++ h.rest))), told, refl),
+        (h.rest, (λ j. app_has (v, held) (tail_loaded a h.rest) (held_from (sym s.start j) (sym s.size j) n (a.known ++ h.rest))), grind (arith, put_many l, l.all), refl),
       ))
 
   -- the head is stored
@@ -126,7 +123,7 @@ module _ (slots id : ℕ) (v : View AppSide KernelSide) (held : List (ℕ × Cqe
       let s = h.sized in
       let l = lists h in
       let holds' : held ≡ held_from d.start d.size n (c ∷ cs) = holds ∙ ap₂ (λ start size. held_from start size n a.known) s.start s.size ∙ ap (held_from d.start d.size n) known in
-      let stored = keeps_head_stored l 1 word (c ∷ []) cs (set_moves d.start d.size s.power l.fits homes n (some c)) (set_stands d.start d.size s.power l.fits homes n c s.cells) known (omega (arith, ap length known)) (is_word ∙ ap (λ start. word_of start (n + 1)) s.start) in
+      let stored = stores_known l word c cs known (is_word ∙ ap (λ start. word_of start (n + 1)) s.start) in
       (got_first a a.known, gives, tt, rw (holds', known) (agrees s.start s.size s.limit (get_or-set_other words head_index dropped_index word 0 (λ e. omega arith) ∙ h.dropped) h.small h.loaded stored), refl))
 
   -- the dropped word is loaded

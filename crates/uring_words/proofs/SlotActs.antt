@@ -58,12 +58,6 @@ abbrev pub Clear : (size j many_j k many_k : ℕ) → Type 0
 Clear size j many_j k many_k =
     (j < k → j + many_j ≤ k) × (0 < many_j → k ≤ j → k + many_k ≤ j) × (j + many_j ≤ k + size) × (k + many_k ≤ j + size)
 
--- The slots of so many counts from this one on were handed over: there are as many slots, and what stands elsewhere stays.
-pub record Moves {S : Type 0} (start size : ℕ) (homes after : List (Option S)) (count many : ℕ) : Type 0 where
-  pub long : length after ≡ length homes
-  pub others : (other : ℕ) (xs : List S) → Clear size count many other (length xs)
-      → StandFrom start size homes other xs → StandFrom start size after other xs
-
 -- A ring of this start and size.
 module _ {S : Type 0} (start size : ℕ) (power : IsPowerOfTwo size) (fits : size ≤ 2 ^ 32) where
   -- a change of another slot leaves what is at home there
@@ -88,10 +82,6 @@ module _ {S : Type 0} (start size : ℕ) (power : IsPowerOfTwo size) (fits : siz
       → StandFrom start size (with_taken homes (held_from start size j ys)) k xs
   stands_taken homes j k [] xs clear s = s
   stands_taken homes j k (y ∷ ys) xs clear s = grind (arith, stands_else, stands_taken homes (j + 1) k ys xs)
-
-  pub set_moves : (homes : List (Option S)) (j : ℕ) (y : Option S)
-      → Moves start size homes (set homes (place_of start size j) y) j 1
-  set_moves homes j y = grind (arith, length-set, stands_else)
 
   -- what was given back is at home
   pub set_stands : (homes : List (Option S)) (j : ℕ) (y : S) → length homes ≡ size

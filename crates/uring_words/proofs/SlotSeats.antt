@@ -1,11 +1,17 @@
 -- A step that keeps the agreement keeps the rule, and so do the cutting of the first seat and the joining of two: of any table whose slots the two sides hand to each other.
-use Rattle.std.proofs.Common.{◌≡◌, ◌≢◌, ℕ, true, List, length, get_or, map, set, refl, sym, ◌∙◌, subst, arith}
+use Rattle.std.proofs.Common.{◌≡◌, ◌≢◌, ℕ, zero, suc, true, List, [], ◌∷◌, ◌++◌, length, get_or, map, set, sym, subst, arith, ◌⊎◌, inl}
 use Rattle.uring_words.proofs.Common.{Act, Allows, Joins, Me, SidesAgree, Splits, Valid, View, app_has, at_set, carried_after, homes_after, kernel_has, opening, parts_of_both}
 use mathlib.Core.Option.{Option, some}
 use lib.ListN.{get_elem?}
 use Rattle.uring_words.specs.Sides.{Knows, both_know, app_part, kernel_part, both_parts, spent_with}
-use Rattle.uring_words.proofs.Seats.{at_longer}
 use Rattle.uring_words.proofs.SlotActs.{changes, changes-carried}
+
+-- a view at a place of a longer list is there in the shorter one, or is the last
+at_longer : {A : Type 0} (l : List A) (a b : A) (j : ℕ) → get_elem? (l ++ a ∷ []) j ≡ some b
+    → (get_elem? l j ≡ some b) ⊎ ((j ≡ length l) × (a ≡ b))
+at_longer [] a b j e = grind (arith, get_elem?)
+at_longer (x ∷ xs) a b zero e = inl e
+at_longer (x ∷ xs) a b (suc j) e = grind (arith, at_longer xs a b j e)
 
 -- A side hands slots over at word i, which becomes f of what it was, so that the words become others: what it knows fits the words and the slots at home.
 hands : {S X : Type 0} (i : ℕ) (f : ℕ → ℕ) (after_words : List ℕ → List ℕ) (same : (words : List ℕ) → after_words words ≡ set words i (f (get_or words i 0))) (held : List (ℕ × S)) (Fits : X → List ℕ → List (Option S) → Type 0) (Told : X → List (ℕ × S) → Type 0) (words : List ℕ) (homes : List (Option S))
@@ -133,11 +139,8 @@ module _ {S A D : Type 0} {Agree : List ℕ → List (Option S) → A → D → 
       → Joins (SidesAgree Agree) id me other its (both_parts me its) (spent_with a d)
   kernel_joins a d id other me its is_kernel is_app =
       takes_in a d (both_parts me its) me its id other
-      (λ app_seat kernel_seat b e my their. record { app = λ _. (refl, (their.app is_app).1); kernel = λ _. (refl, (my.kernel is_kernel).1) })
-      (λ app_seat kernel_seat b e my their seat v not_mine not_its k. record {
-        app = λ is. absurd (not_its ((k.app is).0 ∙ sym (their.app is_app).0));
-        kernel = λ is. absurd (not_mine ((k.kernel is).0 ∙ sym (my.kernel is_kernel).0));
-      })
+      (λ app_seat kernel_seat b e my their. grind (arith, my.kernel is_kernel, their.app is_app))
+      (λ app_seat kernel_seat b e my their seat v not_mine not_its k. grind (arith, my.kernel is_kernel, their.app is_app))
 
   -- the application's seat takes in the dispatcher's
   pub app_joins : (a : A) (d : D) (id other : ℕ) (me its : View A D) → me.is_app ≡ true
@@ -145,8 +148,5 @@ module _ {S A D : Type 0} {Agree : List ℕ → List (Option S) → A → D → 
       → Joins (SidesAgree Agree) id me other its (parts_of_both me its) (spent_with a d)
   app_joins a d id other me its is_app is_kernel =
       takes_in a d (parts_of_both me its) me its id other
-      (λ app_seat kernel_seat b e my their. record { app = λ _. (refl, (my.app is_app).1); kernel = λ _. (refl, (their.kernel is_kernel).1) })
-      (λ app_seat kernel_seat b e my their seat v not_mine not_its k. record {
-        app = λ is. absurd (not_mine ((k.app is).0 ∙ sym (my.app is_app).0));
-        kernel = λ is. absurd (not_its ((k.kernel is).0 ∙ sym (their.kernel is_kernel).0));
-      })
+      (λ app_seat kernel_seat b e my their. grind (arith, my.app is_app, their.kernel is_kernel))
+      (λ app_seat kernel_seat b e my their seat v not_mine not_its k. grind (arith, my.app is_app, their.kernel is_kernel))
