@@ -45,16 +45,7 @@ put_shows g q l x rest spare i s room oldest =
 pub wait_shows : (g : Setup) (q : Cq) (l : Completions) (x : Cqe) (room spare : ℕ)
     → ShowsCompletions g q l
     → ShowsCompletions g (record q { room = room; spare = spare; posted = (q.posted + 1) % 2 ^ 64; overflow = q.overflow ++ x ∷ [] }) (record l { posted = l.posted ++ x ∷ [] })
-wait_shows g q l x room spare s =
-    let long = length_push l.posted x in
-    let reaped_within : length l.reaped ≤ length l.posted = omega (arith, s.reaped_first, s.seen_tail_first, s.put_first) in
-    let posted : (q.posted + 1) % 2 ^ 64 ≡ length (l.posted ++ x ∷ []) % 2 ^ 64 = omega (arith, s.posted) in
-    let put_first : l.put ≤ length (l.posted ++ x ∷ []) = omega (arith, s.put_first) in
-    let in_order = s.in_order ∙ sym (take-append-le (length l.reaped) l.posted (x ∷ []) reaped_within) in
-    let cells : (k : ℕ) (d : Cqe) → length l.reaped ≤ k → k < l.put → get_or q.cells (word_of g.start k % g.cq) d ≡ get_or (l.posted ++ x ∷ []) k d =
-    λ k d from to. s.cells k d from to ∙ sym (get_or_append_left l.posted (x ∷ []) d k (omega (arith, s.put_first))) in
-    let waiting = ap (λ (xs : List Cqe). xs ++ x ∷ []) s.waiting ∙ sym (drop-append-le l.put l.posted (x ∷ []) s.put_first) in
-    assumption
+wait_shows g q l x room spare s = grind (arith, length_push, take-append-le, drop-append-le, get_or_append_left)
 
 -- whether the overflow list is empty says whether all was put
 pub all_put : (g : Setup) (q : Cq) (l : Completions) → ShowsCompletions g q l
@@ -88,12 +79,6 @@ pub post_waits : (g : Setup) (q : Cq) (l : Completions) (x : Cqe) (room spare : 
     → ShowsCompletions g (record q { room = room; spare = spare; posted = (q.posted + 1) % 2 ^ 64; overflow = q.overflow ++ x ∷ [] }) (with_posted g.cq l x)
 post_waits g q l x room spare s full = grind (arith, (wait_shows g q l x room spare s))
 
--- the position to be reaped next isn't the tail last loaded
-pub more_to_reap : (g : Setup) (q : Cq) (l : Completions) → IsCq q.size q.cells
-    → ShowsCompletions g q l
-    → (q.next ≡ q.seen_tail → ⊥) → length l.reaped < l.seen_tail
-more_to_reap g q l i s apart = grind arith
-
 -- what is read from the next cell is the next of the posted
 pub reaps : (g : Setup) (q : Cq) (l : Completions) (cell : ℕ) (x : Cqe) → IsCq q.size q.cells
     → ShowsCompletions g q l
@@ -113,7 +98,7 @@ pub reap_shows : (g : Setup) (q : Cq) (l : Completions) (x : Cqe) (next : ℕ) �
     → (q.next ≡ q.seen_tail → ⊥) → get_or l.posted (length l.reaped) x ≡ x
     → next ≡ (q.next + 1) % 2 ^ 32
     → ShowsCompletions g (record q { next = next; reaped = (q.reaped + 1) % 2 ^ 64 }) (with_reaped l x)
-reap_shows g q l x next i s apart is is_next = grind (arith, more_to_reap, length_push, word_after, take_more, get_or)
+reap_shows g q l x next i s apart is is_next = grind (arith, length_push, word_after, take_more, get_or)
 
 -- the dispatcher loads the head
 pub load_shows : (g : Setup) (q : Cq) (l : Completions) → ShowsCompletions g q l

@@ -21,26 +21,13 @@ word_after s k n = omega arith
 pub same_remainder : (n a b : ℕ) → 0 < n → a ≤ b → b < a + n → a % n ≡ b % n → a ≡ b
 same_remainder n a b some ordered near same = grind arith
 
--- In a ring whose size is a power of two, up to 2 ^ 32, the cell of a count's word is the count's own.
-pub cell_of_word : (j k x : ℕ) → j + k ≡ 32 → x % 2 ^ 32 % 2 ^ k ≡ x % 2 ^ k
-cell_of_word j k x whole = grind (arith, (mod-mod-pow x j k))
-
 -- the mask of a power of two, which is one less, keeps the remainder
 pub cell_by_mask : (x size : ℕ) → IsPowerOfTwo size → bit_and x (size - 1) ≡ x % size
 cell_by_mask x size (k, e) = subst (λ (n : ℕ). bit_and x (n - 1) ≡ x % n) (sym e) (and_mask x k)
 
--- a power of two that is at most 2 ^ 32 has an exponent of at most 32
-exponent_fits : (k : ℕ) → 2 ^ k ≤ 2 ^ 32 → k ≤ 32
-exponent_fits k fits =
-    ⊎_elim (λ (big : 32 < k). let more = pow_below 32 k big in omega arith) (λ (small : k ≤ 32). small) (cases_lt 32 k)
-
 -- the cell of a count's word, in a ring whose size is a power of two
 pub cell_of_count : (n s k : ℕ) → IsPowerOfTwo n → n ≤ 2 ^ 32 → (s + k) % 2 ^ 32 % n ≡ (s + k) % n
-cell_of_count n s k (e, is) fits =
-    let small : 2 ^ e ≤ 2 ^ 32 = omega arith in
-    let bound : e ≤ 32 = exponent_fits e small in
-    let whole : (32 - e) + e ≡ 32 = omega arith in
-    subst (λ (m : ℕ). (s + k) % 2 ^ 32 % m ≡ (s + k) % m) (sym is) (cell_of_word (32 - e) e (s + k) whole)
+cell_of_count n s k (e, is) fits = grind (arith, cases_lt 32 e, pow_below 32 e, mod-mod-pow (s + k) (32 - e) e)
 
 -- Counts less than the size apart have one cell only where they are equal.
 pub same_cell : (n s j k : ℕ) → IsPowerOfTwo n → n ≤ 2 ^ 32 → j ≤ k → k < j + n

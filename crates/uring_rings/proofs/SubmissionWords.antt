@@ -12,11 +12,7 @@ length_words l = simp (length-append, length-map)
 pub word_published : (l : Submission) (k : ℕ) (p : Place) → slice_get l.published k ≡ Some p
     → get_or (words l) k 0 ≡ p.word
 word_published l k p found =
-    let within : k < length l.published = slice_get_within l.published k p found in
-    let mapped : k < length (map (λ (q : Place). q.word) l.published) = simp length-map within in
-    get_or_append_left (map (λ (q : Place). q.word) l.published) l.fresh 0 k mapped
-    ∙ get_or-map (λ (q : Place). q.word) l.published k p 0 within
-    ∙ ap (λ (q : Place). q.word) (get_or_from_slice_get l.published k p p found)
+    grind (arith, slice_get_within l.published k p found, length-map, get_or_append_left, get_or-map (λ (q : Place). q.word) l.published k p 0, get_or_from_slice_get l.published k p p found)
 
 -- each published position has a place
 pub place_at : (l : Submission) (k : ℕ) → k < length l.published
@@ -37,10 +33,7 @@ words_of_places size content (w ∷ ws) = grind (arith, (words_of_places size co
 
 -- publishing changes no word
 pub words_stored : (size : ℕ) (l : Submission) → words (with_published size l) ≡ words l
-words_stored size l =
-    append-nil (map (λ (q : Place). q.word) (l.published ++ map (place_of size l.content) l.fresh))
-    ∙ map-append (λ (q : Place). q.word) l.published (map (place_of size l.content) l.fresh)
-    ∙ ap (λ (ws : List ℕ). map (λ (q : Place). q.word) l.published ++ ws) (words_of_places size l.content l.fresh)
+words_stored size l = simp (append-nil, map-append, words_of_places)
 
 -- What is read k cells on from the word of a count: the word of a published position.
 pub record ReadsPlace (g : Setup) (q : Sq) (l : Submission) (count word k : ℕ) : Type 0 where
@@ -65,27 +58,11 @@ reads_place g q l count word k s is_word seen within =
       read = ap (λ (i : ℕ). get_or q.array i 0) cell ∙ s.cells (count + k) from to ∙ word_published l (count + k) p found;
     }
 
--- the distance of the published tail from the head last loaded
-pub published_above : (g : Setup) (q : Sq) (l : Submission) (d : ℕ) → ShowsSubmission g q l
-    → g.sq ≤ 4096 → d < 2 ^ 32
-    → (q.seen_head + d) % 2 ^ 32 ≡ q.published → d ≡ length l.published - l.seen_head
-published_above g q l d s limit small leads = grind arith
-
 -- a place above the head last loaded doesn't name a slot that isn't busy
 pub not_named : (l : Submission) (slot k : ℕ) (p : Place) → is_busy l slot ≡ false → l.seen_head ≤ k
     → slice_get l.published k ≡ Some p → p.word ≢ slot
 not_named l slot k p free from found named =
-    let within : k < length l.published = slice_get_within l.published k p found in
-    let short : k - l.seen_head < length (drop l.seen_head l.published) = simp length-drop (omega arith) in
-    let place : l.seen_head + (k - l.seen_head) ≡ k = omega arith in
-    let here : get_or (drop l.seen_head l.published) (k - l.seen_head) p ≡ p =
-    get_or-drop l.seen_head l.published (k - l.seen_head) p
-    ∙ ap (λ (n : ℕ). get_or l.published n p) place
-    ∙ get_or_from_slice_get l.published k p p found in
-    let busy : is_busy l slot ≡ true =
-    list_any_at (λ (r : Place). eqb r.word slot) (drop l.seen_head l.published) (k - l.seen_head) p short
-    (ap (λ (r : Place). eqb r.word slot) here ∙ eq-eqb p.word slot named) in
-    false≢true (sym free ∙ busy)
+    grind (arith, slice_get_within l.published k p found, length-drop, get_or-drop, get_or_from_slice_get l.published k p p found, list_any_at (λ (r : Place). eqb r.word slot) (drop l.seen_head l.published) (k - l.seen_head) p, eq-eqb)
 
 -- The ring's size is below the limit.
 pub size_limit : (g : Setup) (q : Sq) (l : Submission) → IsSq q.size q.table q.array q.call
@@ -95,7 +72,7 @@ size_limit g q l i s = omega (arith, i.limit, s.size)
 -- The loop over the d positions above the head last loaded.
 module _ (g : Setup) (q : Sq) (l : Submission) (d k slot : ℕ) (i : IsSq q.size q.table q.array q.call) (s : ShowsSubmission g q l) (small : d < 2 ^ 32) (leads : (q.seen_head + d) % 2 ^ 32 ≡ q.published) where
   above : d ≡ length l.published - l.seen_head
-  above = published_above g q l d s (size_limit g q l i s) small leads
+  above = grind arith
 
   -- it found one that names the slot
   pub loop_finds : k < d → get_or q.array ((q.seen_head + k) % 2 ^ 32 % q.size) 0 ≡ slot → is_busy l slot ≡ true
