@@ -33,13 +33,3 @@ cell_of_count n s k (e, is) fits = grind (arith, cases_lt 32 e, pow_below 32 e, 
 pub same_cell : (n s j k : ℕ) → IsPowerOfTwo n → n ≤ 2 ^ 32 → j ≤ k → k < j + n
     → (s + j) % 2 ^ 32 % n ≡ (s + k) % 2 ^ 32 % n → j ≡ k
 same_cell n s j k power fits ordered near same = grind (arith, cell_of_count, same_remainder)
-
--- A write to the cell of the next count leaves the cells of the counts before it, as many as the ring has.
-pub cells_after_write : {A : Type 0} (array : List A) (value_at : ℕ → A) (d x : A) (start size low tail cell : ℕ)
-    → IsPowerOfTwo size → size ≤ 2 ^ 32 → length array ≡ size → low ≤ tail → tail < low + size
-    → cell ≡ (start + tail) % 2 ^ 32 % size → x ≡ value_at tail
-    → ((k : ℕ) → low ≤ k → k < tail → get_or array ((start + k) % 2 ^ 32 % size) d ≡ value_at k)
-    → (k : ℕ) → low ≤ k
-    → k < tail + 1 → get_or (set array cell x) ((start + k) % 2 ^ 32 % size) d ≡ value_at k
-cells_after_write {A} array value_at d x start size low tail cell power fits len ordered near is_cell is_value held k from to =
-    grind (arith, mod_below, get_or-set_at, same_cell, get_or-set_other)

@@ -14,10 +14,7 @@ pub slice_get_append_right : {A : Type 0} (xs ys : List A) (k : ℕ) → length 
     → slice_get (xs ++ ys) k ≡ slice_get ys (k - length xs)
 slice_get_append_right [] ys k past = ap (λ (n : ℕ). slice_get ys n) (omega arith)
 slice_get_append_right (x ∷ xs) ys zero past = absurd (omega arith)
-slice_get_append_right (x ∷ xs) ys (suc k) past =
-    let rest : length xs ≤ k = omega arith in
-    let less : k - length xs ≡ suc k - suc (length xs) = omega arith in
-    slice_get_append_right xs ys k rest ∙ ap (λ (n : ℕ). slice_get ys n) less
+slice_get_append_right (x ∷ xs) ys (suc k) past = grind (arith, slice_get_append_right xs ys k)
 
 -- what is read from the cell of a word
 pub read_cell : (array : List ℕ) (cell word n size x : ℕ) → x ≡ get_or array cell x
