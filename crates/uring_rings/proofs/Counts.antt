@@ -1,17 +1,11 @@
 -- Index words and the counts that they stand for, over plain numbers: two counts less than 2 ^ 32 apart with one word are one, and the cell of a count.
 -- By arithmetic on remainders alone: nothing here knows of a ring.
 -- Stable: rings as shared words are to cite these lemmas too.
-use Rattle.std.proofs.Common.{◌≡◌, List, length, set, get_or, ℕ, ◌+◌, ◌-◌, ◌%◌, ◌^◌, ◌<◌, ◌≤◌, sym, subst, ⊎_elim, arith}
-use Rattle.uring_rings.proofs.Common.{IsPowerOfTwo, cases_lt, get_or-set_other}
-use Rattle.std.proofs.lemmas.Nat.{and_mask, pow_below, mod_below}
-use Rattle.std.proofs.lemmas.Grind.{get_or-set_at}
+use Rattle.std.proofs.Common.{◌≡◌, ℕ, ◌+◌, ◌-◌, ◌%◌, ◌^◌, ◌<◌, ◌≤◌, sym, subst, arith}
+use Rattle.uring_rings.proofs.Common.{IsPowerOfTwo, cases_lt}
+use Rattle.std.proofs.lemmas.Nat.{and_mask, pow_below}
 use Rattle.std.proofs.Math.Pow.{mod-mod-pow}
 use Rattle.std.specs.Int.RustNames.{bit_and}
-
--- The number that leads from the word of one count to the word of another is their difference.
-pub distance_of_words : (s a b d : ℕ) → d < 2 ^ 32 → b ≤ a → a < b + 2 ^ 32
-    → ((s + b) % 2 ^ 32 + d) % 2 ^ 32 ≡ (s + a) % 2 ^ 32 → d ≡ a - b
-distance_of_words s a b d small ordered near leads = omega arith
 
 -- A word goes on as its count does.
 pub word_after : (s k n : ℕ) → ((s + k) % 2 ^ 32 + n) % 2 ^ 32 ≡ (s + (k + n)) % 2 ^ 32

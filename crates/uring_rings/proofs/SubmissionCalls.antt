@@ -1,6 +1,6 @@
 -- What the submission calls take, and what their end leaves.
-use Rattle.std.proofs.Common.{◌≡◌, ℕ, ◌+◌, ◌-◌, ◌%◌, ◌^◌, ◌<◌, ◌≤◌, length, take, drop, get_or, cond, Option, Some, None, refl, sym, ap, ◌∙◌, arith}
-use Rattle.uring_rings.proofs.Common.{Call, Place, Setup, ShowsSubmission, Sq, Sqe, Submission, dropped, entries_of, length-drop, length-take-le, pending, place_of, places_from, progress, slice_get, taken, with_closed, word_of}
+use Rattle.std.proofs.Common.{◌≡◌, ℕ, ◌+◌, ◌-◌, ◌%◌, ◌^◌, ◌<◌, ◌≤◌, length, get_or, cond, Option, Some, None, refl, sym, ◌∙◌, arith}
+use Rattle.uring_rings.proofs.Common.{Call, Place, Setup, ShowsSubmission, Sq, Sqe, Submission, dropped, entries_of, length-drop, length-take-le, pending, place_of, places_from, progress, slice_get, taken, with_closed}
 use Rattle.std.proofs.lemmas.List.Sums.{sum_by_push}
 use Rattle.std.specs.Option.{option_map, IfSome}
 use Rattle.uring_rings.specs.declared.answers.TakeAnswer.TheVariants.{Entry as Given, Dropped}

@@ -1,7 +1,7 @@
 -- What each step of a seat of the completion ring's table asks. v is what the seat knows, and held what it holds.
-use Rattle.uring_words.proofs.Common.{Agree, Allows, BothAgree, IsPowerOfTwo, StandFrom, View, app_has, at_first, gives, held_from, keeps, last_of, opening, place_of, put_back, replicate, set-get_or, step, word_of}
-use Rattle.std.proofs.Common.{◌≡◌, ℕ, ◌+◌, ◌^◌, ◌<◌, ◌≤◌, true, List, [], ◌∷◌, ◌++◌, length, get_or, set, refl, sym, ◌∙◌, ap, ap₂, subst, arith, length-append, get_or-set_other, get_or-set_same}
-use mathlib.Core.Option.{Option, none, some}
+use Rattle.uring_words.proofs.Common.{Agree, Allows, BothAgree, IsPowerOfTwo, View, app_has, at_first, gives, held_from, keeps, last_of, opening, place_of, replicate, set-get_or, step, word_of}
+use Rattle.std.proofs.Common.{◌≡◌, ℕ, ◌+◌, ◌^◌, ◌<◌, ◌≤◌, true, List, [], ◌∷◌, ◌++◌, length, get_or, refl, sym, ◌∙◌, ap, ap₂, arith, length-append, get_or-set_other, get_or-set_same}
+use mathlib.Core.Option.{Option, none}
 use Rattle.uring_entry.specs.Layout.{Cqe}
 use Rattle.uring_ports.specs.Dropped.{WereHad}
 use Rattle.uring_words.specs.Completion.Layout.{tail_index, head_index, dropped_index}

@@ -1,6 +1,6 @@
 -- Calls as they are written, published, read and taken.
-use Rattle.std.proofs.Common.{◌≡◌, ℕ, ◌+◌, ◌%◌, ◌^◌, ◌<◌, ◌≤◌, true, false, List, [], ◌∷◌, ◌++◌, drop, take, length, refl, sym, ◌∙◌, ap, subst, arith, length-append, length-take-le, take_all, take-append-drop}
-use Rattle.uring_words.proofs.Common.{Allows, AreRead, AreWhole, End, Holder, HoldsKnown, IsWriter, Item, Position, Pulls, ReaderRests, ReadsCall, StoresHead, StoresTail, TableId, View, Writes, all_more, has_close_mark, head_stored, held_from, items_of, length-drop, place_of, put_of, rest, step, tail_after, tail_stored, turned, with_call, with_first_after, word_of}
+use Rattle.std.proofs.Common.{◌≡◌, ℕ, ◌+◌, ◌%◌, ◌^◌, ◌<◌, ◌≤◌, true, false, List, [], ◌∷◌, ◌++◌, drop, take, length, refl, sym, ◌∙◌, ap, arith, length-append, length-take-le, take_all, take-append-drop}
+use Rattle.uring_words.proofs.Common.{Allows, AreRead, AreWhole, End, Holder, HoldsKnown, IsWriter, Item, Position, Pulls, ReaderRests, ReadsCall, StoresHead, StoresTail, TableId, View, Writes, all_more, has_close_mark, head_stored, held_from, items_of, length-drop, place_of, put_of, rest, step, tail_after, tail_stored, turned, with_first_after, word_of}
 use mathlib.Core.Option.{none}
 use Rattle.uring_ports.specs.declared.pulled.Pulled.{Pulled}
 use Rattle.uring_ports.specs.declared.pulled.Pulled.TheVariants as pulled

@@ -1,10 +1,10 @@
 -- A step after which a seat holds other slots: it gives all that it holds, and takes what it is to hold.
-use Rattle.std.proofs.Common.{◌≡◌, ℕ, suc, ◌+◌, ◌^◌, ◌≤◌, List, [], ◌∷◌, ◌++◌, map, length, set, refl, sym, ◌∙◌, ap, ap₂, subst, arith, length-append}
+use Rattle.std.proofs.Common.{◌≡◌, ℕ, suc, ◌+◌, ◌^◌, ◌≤◌, List, [], ◌∷◌, ◌++◌, map, length, set, refl, ap, arith, length-append}
 use Rattle.std.proofs.Math.Seq.{take-append_seam, drop-append_seam}
 use mathlib.Core.List.{map-append}
 use Rattle.uring_words.proofs.Common.{IsPowerOfTwo, StandFrom, Valid, held_from, homes_after}
 use mathlib.Core.Option.{Option, some}
-use Rattle.uring_words.proofs.SlotActs.{takes_all, changes, with_given, gives_all-homes, gives_all-valid, homes-length, stands_given, stands_taken, given_stand, taken_valid, stand_both}
+use Rattle.uring_words.proofs.SlotActs.{changes, with_given, gives_all-homes, gives_all-valid, homes-length, stands_given, stands_taken, given_stand, taken_valid, stand_both}
 use Rattle.uring_words.proofs.Standing.{next_turn}
 
 module _ {S : Type 0} where

@@ -1,9 +1,9 @@
 -- The places of counts.
-use Rattle.std.proofs.Common.{◌≡◌, ◌≢◌, ℕ, ◌+◌, ◌%◌, ◌^◌, ◌<◌, ◌≤◌, sym, ◌∙◌, ap, arith}
+use Rattle.std.proofs.Common.{◌≡◌, ℕ, ◌+◌, ◌%◌, ◌^◌, ◌<◌, ◌≤◌, sym, ◌∙◌, ap, arith}
 use Rattle.std.proofs.Math.Nat.{add-mod_right}
 use Rattle.std.proofs.lemmas.Nat.{mod_below, pow_pos}
 use Rattle.uring_words.proofs.Common.{IsPowerOfTwo, place_of, word_of}
-use Rattle.uring_rings.proofs.Counts.{cell_of_count, same_cell}
+use Rattle.uring_rings.proofs.Counts.{cell_of_count}
 
 pub some_size : (size : ℕ) → IsPowerOfTwo size → 0 < size
 some_size size power = rw power.1 (pow_pos power.0)

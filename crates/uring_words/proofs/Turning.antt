@@ -1,6 +1,6 @@
 -- The first slot that a seat holds goes after the others.
 use Rattle.uring_words.proofs.Common.{drop_more, held_from, place_of, rest, take_more, turned}
-use Rattle.std.proofs.Common.{◌≡◌, ℕ, ◌+◌, ◌<◌, List, [], ◌∷◌, ◌++◌, drop, take, length, get_or, sym, ◌∙◌, ap, arith, append_assoc}
+use Rattle.std.proofs.Common.{◌≡◌, ℕ, ◌+◌, ◌<◌, List, [], ◌∷◌, ◌++◌, drop, take, length, get_or, arith, append_assoc}
 
 module _ {S : Type 0} where
   -- one element of a list, with those in front of it and those after it
