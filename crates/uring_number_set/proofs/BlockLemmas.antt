@@ -33,14 +33,6 @@ pub block_of_pop : (first : ℕ) (blocks : List ℕ) (i : ℕ)
     → block_of (first + 1) blocks i ≡ block_of first (0 ∷ blocks) i
 block_of_pop first blocks i = grind (arith, block_of_low, block_of_high)
 
-block_of_set_here : (first : ℕ) (blocks : List ℕ) (i block : ℕ) → first ≤ i
-    → i < first + length blocks → block_of first (set blocks (i - first) block) i ≡ block
-block_of_set_here first blocks i block le lt = grind (arith, block_of_high, get_or-set_same)
-
-block_of_set_other : (first : ℕ) (blocks : List ℕ) (i k block : ℕ) → first ≤ i → k ≢ i
-    → block_of first (set blocks (i - first) block) k ≡ block_of first blocks k
-block_of_set_other first blocks i k block le ne = grind (arith, block_of_low, block_of_high, get_or-set_other)
-
 -- what is dropped from the front of a queue
 pub popped : {X : Type 0} (old new : List X) (r : Option X) (x y : X)
     → old ≡ option_to_list r ++ new → ((d : X) → r ≡ Some (get_or old 0 d)) → x ≡ get_or old 0 x
@@ -69,32 +61,7 @@ written : (s t : NumberSet) (n block : ℕ) (now : Bool) → Covers s n → t.fi
     → ((i : ℕ) → i < 64 → i ≢ n % 64 → bit_at block i ≡ bit_at (block_at s (n / 64)) i)
     → Puts s t n now
 written s t n block now c first blocks limit here others =
-    let from = c.from in
-    let to = c.to in
-    let place : s.first ≤ n / 64 = omega arith in
-    let inside : n / 64 < s.first + length s.blocks = omega arith in
-    let at_place : (k : ℕ) → block_at t k ≡ block_of s.first (set s.blocks (n / 64 - s.first) block) k =
-    λ k. ap (λ f. block_of f t.blocks k) first ∙ ap (λ bs. block_of s.first bs k) blocks
-    in
-    let wrote : block_at t (n / 64) ≡ block = at_place (n / 64) ∙ block_of_set_here s.first s.blocks (n / 64) block place inside in
-    record {
-      here = holds_block t n block wrote ∙ here;
-      others = λ k ne.
-          elim (cases_eq (k / 64) (n / 64)) [
-            | inl same ↦
-                holds_block t k block (ap (block_at t) same ∙ wrote)
-                ∙ ap (λ b. eqb b 1) (others (k % 64) (omega arith) (λ e. absurd (ne (omega (arith, e)))))
-                ∙ ap (λ i. eqb (bit_at (block_at s i) (k % 64)) 1) (sym same)
-                ∙ sym (holds_block s k (block_at s (k / 64)) refl)
-            | inr apart ↦
-                holds_block t k (block_at s (k / 64)) (at_place (k / 64) ∙ block_of_set_other s.first s.blocks (n / 64) (k / 64) block place apart)
-                ∙ sym (holds_block s k (block_at s (k / 64)) refl)
-          ];
-      blocks = λ i ne. at_place i ∙ block_of_set_other s.first s.blocks (n / 64) i block place ne;
-      start = first;
-      stop = ap length blocks ∙ length-set s.blocks (n / 64 - s.first) block;
-      limit = limit;
-    }
+    grind (arith, c.from, c.to, block_of_high, block_of_low, get_or-set_same, get_or-set_other, length-set, holds_block)
 
 pub insert_puts : (s t : NumberSet) (n block : ℕ) → Covers s n → block ≡ block_at s (n / 64)
     → t.first ≡ s.first
@@ -136,20 +103,12 @@ block_least block n fits some =
     let t : ℕ = trailing_zeros w64 (block / 2 ^ (n % 64)) in
     let low = bit_at-trailing_zeros w64 (block / 2 ^ (n % 64)) some (omega (arith, shr_le block (n % 64))) in
     let here : bit_at block (n % 64 + t) ≡ 1 = sym (bit_at_shr block (n % 64) t) ∙ low.1 in
-    let small : n % 64 + t < 64 =
-    elim (cases_lt (n % 64 + t) 64) [
-      | inl lt ↦ lt
-      | inr le ↦ absurd (omega (arith, bit_at_above block 64 (n % 64 + t) fits le))
-    ]
-    in
-    let place : (n + t) % 64 ≡ n % 64 + t = omega arith in
+    let small : n % 64 + t < 64 = grind (arith, cases_lt (n % 64 + t) 64, bit_at_above block 64 (n % 64 + t) fits) in
     record {
       from = omega arith;
       same = omega arith;
-      here = ap (bit_at block) place ∙ here;
-      before = λ k le lt.
-          let after : k % 64 ≡ n % 64 + (k - n) = omega arith in
-          ap (bit_at block) after ∙ sym (bit_at_shr block (n % 64) (k - n)) ∙ low.2 (k - n) (omega arith);
+      here = grind arith;
+      before = λ k le lt. grind (arith, bit_at_shr block (n % 64) (k - n), low.2 (k - n));
     }
 
 -- The least number of the set from n on: it is in n's block, or else in the first block after it that isn't zero.
