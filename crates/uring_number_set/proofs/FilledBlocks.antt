@@ -1,10 +1,10 @@
 -- Which blocks are filled, and where they stand: what a number that is put or taken out makes of that.
-use Rattle.std.proofs.Common.{◌≡◌, ◌≢◌, ℕ, ◌+◌, ◌-◌, ◌*◌, ◌/◌, ◌<◌, ◌≤◌, length, get_or, Bool, true, false, not, eqb, refl, sym, ◌∙◌, ap, arith, inl, inr, w64}
+use Rattle.std.proofs.Common.{◌≡◌, ◌≢◌, ℕ, ◌+◌, ◌*◌, ◌/◌, ◌<◌, ◌≤◌, length, get_or, Bool, true, false, not, refl, ◌∙◌, ap, arith, inl, inr, w64}
 use Rattle.std.specs.Int.{trailing_zeros}
-use Rattle.std.proofs.lemmas.Bool.{cases_lt, cases_eq, eq-eqb, ne_eqb, both_ways}
+use Rattle.std.proofs.lemmas.Bool.{cases_eq, eq-eqb, ne_eqb, both_ways}
 use Rattle.std.proofs.lemmas.Nat.Bits.{bit_at-trailing_zeros}
 use Rattle.uring_number_set.specs.NumberSet.{NumberSet, block_at, holds, start_of, stop_of, Puts, IsSameSet, IsLeastFrom, IsFilled, HasLetGo}
-use Rattle.uring_number_set.proofs.BlockLemmas.{block_of_low, block_of_high, holds_zero, holds_same, lowest_holds, block_not_zero}
+use Rattle.uring_number_set.proofs.BlockLemmas.{block_of_low, block_of_high, holds_zero, holds_same, lowest_holds}
 
 -- The filled blocks.
 
@@ -17,7 +17,7 @@ filled_none s f i h e = grind arith
 -- a number is put into the set
 pub insert_filled : (s t f g : NumberSet) (n : ℕ) → IsFilled s f → Puts s t n true
     → Puts f g (n / 64) true → IsFilled t g
-insert_filled s t f g n h p q = grind (arith, block_not_zero t n, cases_eq, ne_eqb)
+insert_filled s t f g n h p q = grind (arith, holds_zero t n, cases_eq, ne_eqb)
 
 -- a number is taken out, and its block is zero then
 pub remove_filled_zero : (s t f g : NumberSet) (n : ℕ) → IsFilled s f → Puts s t n false

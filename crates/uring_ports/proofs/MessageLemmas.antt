@@ -1,9 +1,9 @@
 -- What messages were sent for is what they are the messages of.
-use Rattle.std.proofs.Common.{◌≡◌, ℕ, suc, ◌+◌, Bool, List, [], ◌∷◌, ◌++◌, length, if◌then◌else◌, refl, sym, ◌∙◌, ap, arith, append_assoc, add-zero, zero-add, length-append, append-nil}
+use Rattle.std.proofs.Common.{◌≡◌, ℕ, suc, ◌+◌, List, [], ◌∷◌, ◌++◌, length, refl, ◌∙◌, ap, arith, append_assoc, add-zero, zero-add, length-append}
 use Rattle.uring_ports.specs.declared.item.Item.{Item}
 use Rattle.uring_ports.specs.declared.message.Message.{Message}
-use Rattle.uring_ports.specs.Ports.{Put, places_of, items_of_calls}
-use Rattle.uring_ports.specs.Messages.{close_mark, item_before, items_before, messages_of_calls, messages_of, with_item, calls_of, has_close_mark, put_of, AreWhole, owed_from, owed}
+use Rattle.uring_ports.specs.Ports.{items_of_calls}
+use Rattle.uring_ports.specs.Messages.{item_before, items_before, messages_of_calls, calls_of, has_close_mark, owed_from, owed}
 
 -- no call is empty
 abbrev pub AreSome : List (List Item) → Type 0

@@ -1,5 +1,5 @@
 -- What a message more, a call more and a close mark do to what messages were sent for, and what is left of it.
-use Rattle.std.proofs.Common.{◌≡◌, ℕ, suc, ◌<◌, Bool, true, false, ◌||◌, List, [], ◌∷◌, ◌++◌, length, if◌then◌else◌, refl, sym, ◌∙◌, ap, arith, append_assoc, append-nil, length-append}
+use Rattle.std.proofs.Common.{◌≡◌, ℕ, suc, ◌<◌, true, false, ◌||◌, List, [], ◌∷◌, ◌++◌, length, refl, sym, ◌∙◌, ap, arith, append_assoc, append-nil, length-append}
 use Rattle.std.proofs.Math.Bool.{or_assoc}
 use Rattle.std.proofs.lemmas.Grind.{flat_map-append}
 use Rattle.std.proofs.lemmas.List.{append_cancel_left}
@@ -10,14 +10,9 @@ use Rattle.uring_ports.specs.Ports.{Put, with_call, with_close, items_of_calls, 
 use Rattle.uring_ports.specs.Messages.{close_mark, item_before, items_before, messages_of_calls, messages_of, calls_of, items_of, has_close_mark, put_of, AreWhole, owed, Continues, MayFollow}
 use Rattle.uring_ports.proofs.MessageLemmas.{AreSome, some_calls_of, some_append, calls_of_calls, close_mark_call, close_mark_calls, length_messages_of_calls, owed_from_append, owed_from_items, owed_calls}
 
--- whole messages with no close mark are those of their calls
-pub open_calls : (ms : List Message) → AreWhole ms → has_close_mark ms ≡ false
-    → ms ≡ messages_of_calls (calls_of ms)
-open_calls ms are_whole open' = grind (arith, append-nil)
-
 -- nothing is owed after whole messages with no close mark
 pub nothing_owed : (ms : List Message) → AreWhole ms → has_close_mark ms ≡ false → owed ms ≡ 0
-nothing_owed ms are_whole open' = grind (arith, open_calls, owed_calls)
+nothing_owed ms are_whole open' = grind (arith, append-nil, owed_calls)
 
 -- whole messages take as many places as there are of them
 pub places : (ms : List Message) → AreWhole ms → places_of (put_of ms) ≡ length ms
@@ -37,12 +32,12 @@ pub sends_call : (ms : List Message) (items : List Item) → AreWhole ms → has
     → 0 < length items → Sent (ms ++ items_before 0 items) (with_call (put_of ms) items)
 sends_call ms items are_whole open' some =
     let all_some = some_append (calls_of ms) (items ∷ []) (some_calls_of ms) (grind arith) in
-    sent_for _ (with_call (put_of ms) items) all_some (grind (arith, open_calls, append-nil, flat_map-append, close_mark))
+    sent_for _ (with_call (put_of ms) items) all_some (grind (arith, append-nil, flat_map-append, close_mark))
 
 -- the close mark after all calls
 pub sends_close : (ms : List Message) → AreWhole ms → has_close_mark ms ≡ false
     → Sent (ms ++ close_mark ∷ []) (with_close (put_of ms))
-sends_close ms are_whole open' = sent_for _ (with_close (put_of ms)) (some_calls_of ms) (grind (arith, open_calls))
+sends_close ms are_whole open' = sent_for _ (with_close (put_of ms)) (some_calls_of ms) (grind (arith, append-nil))
 
 pub close_mark_append : (xs ys : List Message)
     → has_close_mark (xs ++ ys) ≡ has_close_mark xs || has_close_mark ys
@@ -58,7 +53,7 @@ continues ms left (y ∷ ys) x none = rw (owed_from_append 0 ms (items_before (s
 pub item_may_follow : (ms : List Message) (left : ℕ) (xs : List Item) (x : Item)
     → has_close_mark ms ≡ false → owed ms ≡ 0
     → MayFollow (ms ++ items_before (suc left) xs) (item_before left x)
-item_may_follow ms left xs x open' none = grind (arith, close_mark_append, close_mark_call left xs [], append-nil (items_before (suc left) xs), close_mark_call (suc left) xs [], continues)
+item_may_follow ms left xs x open' none = grind (arith, close_mark_append, append-nil (items_before (suc left) xs), close_mark_call (suc left) xs [], continues)
 
 -- after whole messages with no close mark, the close mark may follow
 pub close_may_follow : (ms : List Message) → AreWhole ms → has_close_mark ms ≡ false
@@ -85,7 +80,7 @@ calls_of_closed past known past_whole closed =
     grind (arith, append_assoc, close_mark, calls_of_calls, some_calls_of, append-nil)
 
 -- nothing follows a close mark
-pub nothing_after : (past known : List Message) → AreWhole past → AreWhole (past ++ known)
+nothing_after : (past known : List Message) → AreWhole past → AreWhole (past ++ known)
     → has_close_mark past ≡ true → known ≡ []
 nothing_after past known past_whole all_whole closed =
     grind (arith, close_mark_append, calls_of_closed past known past_whole closed, append_cancel_left past known, append-nil past)
@@ -94,4 +89,4 @@ nothing_after past known past_whole all_whole closed =
 pub leaves : (past known all : List Message) → AreWhole past → AreWhole all → past ++ known ≡ all
     → LeavesItems (put_of all) (put_of past) (items_of known)
 leaves past known all past_whole all_whole is =
-    grind (arith, cases_Bool (has_close_mark past), nothing_after past known, append-nil, calls_of_closed, close_mark_append, open_calls, calls_of_calls, some_calls_of, items_calls_of, false≢true)
+    grind (arith, cases_Bool (has_close_mark past), nothing_after past known, append-nil, calls_of_closed, close_mark_append, calls_of_calls, some_calls_of, items_calls_of, false≢true)
