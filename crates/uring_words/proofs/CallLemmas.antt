@@ -14,26 +14,22 @@ pub more_append : (xs ys : List Item) → all_more (xs ++ ys) ≡ all_more xs ++
 more_append [] ys = refl
 more_append (x ∷ xs) ys = ap (λ ps. position.More x ∷ ps) (more_append xs ys)
 
--- what is after whole calls is whole exactly if all is
-pub whole_both : (b : Bool) (xs ys : List Position) → AreWholeFrom b xs → has_close_mark xs ≡ false
-    → AreWholeFrom b (xs ++ ys) ↔ AreWhole ys
-whole_both b [] ys h none = let P : Bool → Type 0 = λ c. AreWholeFrom c ys in (subst P h, subst P (sym h))
-whole_both b (position.More x ∷ ps) ys h none = whole_both true ps ys h none
-whole_both b (position.Last x ∷ ps) ys h none = whole_both false ps ys h none
-whole_both b (position.Close ∷ ps) ys h none = absurd (false≢true (sym none))
-
 first_append : (x : Item) (ps : List Position) (ds : List (List Item)) → AreWholeFrom true ps
     → has_close_mark ps ≡ false
     → with_first x (calls_of ps ++ ds) ≡ with_first x (calls_of ps) ++ ds
 first_append x (position.More y ∷ ps) ds h none = grind arith
 first_append x ps ds h none = grind (arith, false≢true)
 
--- the calls of whole positions come before those of the positions after them, whose close mark is that of all
+-- the calls of whole positions come before those of the positions after them, whose close mark is that of all, and which are whole exactly if all are
 both_calls : (b : Bool) (xs ys : List Position) → AreWholeFrom b xs → has_close_mark xs ≡ false
-    → (calls_of (xs ++ ys) ≡ calls_of xs ++ calls_of ys) × (has_close_mark (xs ++ ys) ≡ has_close_mark ys)
-both_calls b [] ys h none = (refl, refl)
+    → (calls_of (xs ++ ys) ≡ calls_of xs ++ calls_of ys) × (has_close_mark (xs ++ ys) ≡ has_close_mark ys) × (AreWholeFrom b (xs ++ ys) ↔ AreWhole ys)
+both_calls b [] ys h none = grind arith
 both_calls b (position.More x ∷ ps) ys h none = grind (arith, (both_calls true ps ys h none), first_append)
 both_calls b (_ ∷ ps) ys h none = grind (arith, both_calls false ps ys, false≢true)
+
+pub whole_both : (b : Bool) (xs ys : List Position) → AreWholeFrom b xs → has_close_mark xs ≡ false
+    → AreWholeFrom b (xs ++ ys) ↔ AreWhole ys
+whole_both b xs ys h none = (both_calls b xs ys h none).2
 
 -- the positions of one call are that call, whole and with no close mark
 one_call : (b : Bool) (front : List Item) (last : Item)
@@ -51,27 +47,25 @@ pub holds_call : (xs : List Position) (front : List Item) (last : Item) → AreW
     → has_close_mark xs ≡ false
     → Holding (xs ++ (all_more front ++ position.Last last ∷ [])) (with_call (put_of xs) (front ++ last ∷ []))
 holds_call xs front last whole none =
-    grind (arith, both_calls false xs (all_more front ++ position.Last last ∷ []) whole none, one_call false front last, whole_both false xs)
+    grind (arith, both_calls false xs (all_more front ++ position.Last last ∷ []) whole none, one_call false front last)
 
 -- the close mark after all calls
 pub holds_close : (xs : List Position) → AreWhole xs → has_close_mark xs ≡ false
     → Holding (xs ++ position.Close ∷ []) (with_close (put_of xs))
-holds_close xs whole none = grind (arith, both_calls false xs (position.Close ∷ []) whole none, append-nil, whole_both)
+holds_close xs whole none = grind (arith, both_calls false xs (position.Close ∷ []) whole none, append-nil)
 
 -- the items that positions hold are those of their calls
 items_calls_of : (b : Bool) (ps : List Position) → AreWholeFrom b ps
     → items_of ps ≡ items_of_calls (calls_of ps)
 items_calls_of b [] h = refl
 items_calls_of b (position.More x ∷ ps) h = grind (arith, (items_calls_of true ps h))
-items_calls_of b (position.Last x ∷ ps) h = ap (λ xs. x ∷ xs) (items_calls_of false ps h)
-items_calls_of b (position.Close ∷ ps) h = ap items_of h.1
+items_calls_of b (_ ∷ ps) h = grind (arith, items_calls_of false ps)
 
 -- whole calls take as many places as there are of them
 pub places : (b : Bool) (ps : List Position) → AreWholeFrom b ps → places_of (put_of ps) ≡ length ps
 places b [] h = refl
 places b (position.More x ∷ ps) h = grind (arith, (places true ps h))
-places b (position.Last x ∷ ps) h = let n = places false ps h in omega arith
-places b (position.Close ∷ ps) h = omega (arith, ap length h.1)
+places b (_ ∷ ps) h = grind (arith, places false ps)
 
 -- nothing is after the close mark
 nothing_after : (b : Bool) (xs ys : List Position) → AreWholeFrom b (xs ++ ys)
@@ -101,4 +95,4 @@ close_is_first (x ∷ xs) rest h = absurd (false≢true (sym (inside xs (positio
 pub leaves : (all old new : List Position) → all ≡ old ++ new → AreWhole all → AreWhole old
     → LeavesItems (put_of all) (put_of old) (items_of new)
 leaves all old new is whole old_whole =
-    grind (arith, cases_Bool (has_close_mark old), nothing_after, append-nil, whole_both, both_calls false old new old_whole, items_calls_of, false≢true)
+    grind (arith, cases_Bool (has_close_mark old), nothing_after, append-nil, both_calls false old new old_whole, items_calls_of, false≢true)

@@ -28,18 +28,15 @@ module _ {seat table : TableId} {v : View AppSide KernelSide} {held : List (ℕ 
   pub is_put : (completion : Cqe)
       → IsWriter seat table (record v { kernel = record v.kernel { put = v.kernel.put ++ completion ∷ [] } }) (rest held) size ((tail + 1) % 2 ^ 32) end
   is_put completion =
-      let d = v.kernel in
-      let many : length (d.put ++ completion ∷ []) ≡ length d.put + 1 = length-append d.put (completion ∷ []) in
-      let longer = ap length blank_first.2 in
       record {
         fits = i.fits;
         is_kernel = i.is_kernel;
-        tail_word = omega (arith, i.tail_word, many);
+        tail_word = omega (arith, i.tail_word, length-append v.kernel.put (completion ∷ []));
         end_word = i.end_word;
         blank = blank_first.1;
-        holds = blank_first.4 ∙ ap (λ (n : ℕ). held_from d.start d.size n blank_first.1) (sym many);
-        many = omega (arith, i.many, longer, many);
-        few = omega (arith, i.few, longer);
+        holds = grind (arith, blank_first.4, length-append);
+        many = omega (arith, i.many, ap length blank_first.2, length-append v.kernel.put (completion ∷ []));
+        few = omega (arith, i.few, ap length blank_first.2);
       }
 
 -- The application's end, which callers see as e, and which knows of a completion.

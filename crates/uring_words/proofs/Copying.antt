@@ -23,9 +23,6 @@ module _ {seat table : TableId} {v : View AppSide KernelSide} {held : List (ℕ 
   abbrev left : List Position
   left = drop (length (all_more front) + 1) i.blank
 
-  many : length written ≡ length front + 1
-  many = omega (arith, length-append (all_more front) (last ∷ []), more_length front)
-
   enough : length (all_more front) < length i.blank
   enough = grind (arith, more_length)
 
@@ -44,15 +41,14 @@ module _ {seat table : TableId} {v : View AppSide KernelSide} {held : List (ℕ 
         ∙ ap (λ (k : ℕ). (v, held_from v.app.start v.app.size (length v.app.published + k) left ++ held_from v.app.start v.app.size (length v.app.published) written)) (sym (length-append (all_more front) (last ∷ [])))
 
     word_after : (word + 1) % 2 ^ 32 ≡ word_of v.app.start (length v.app.published + length written)
-    word_after = omega (arith, at, many)
+    word_after = omega (arith, at, length-append (all_more front) (last ∷ []), more_length front)
 
     -- the tail is stored
     pub tail_allowed : (slots id : ℕ) → AreWhole (e.knows.app.published ++ written)
         → Allows BothAgree slots id after 0 (λ _. (word + 1) % 2 ^ 32) (λ _. StoresTail (step slots 0 ((word + 1) % 2 ^ 32) 0 none) after ((word + 1) % 2 ^ 32))
     tail_allowed slots id whole =
-        let short = length-drop (length (all_more front) + 1) i.blank in
         let whole' = rw (← seen) at whole in
-        rw all_written (stores_tail slots id v (with_first_after v.app.start v.app.size (length v.app.published) left written) ((word + 1) % 2 ^ 32) left written i.is_app refl (omega (arith, enough, many, more_length front, i.many)) (omega (arith, enough, many, more_length front, i.few, i.fits.sized)) (omega (arith, i.fits.most, i.fits.sized)) word_after whole')
+        rw all_written (stores_tail slots id v (with_first_after v.app.start v.app.size (length v.app.published) left written) ((word + 1) % 2 ^ 32) left written i.is_app refl (omega (arith, enough, length-drop {A = Position}, length-append {A = Position}, more_length, i.many)) (omega (arith, enough, length-drop {A = Position}, length-append {A = Position}, more_length, i.few, i.fits.sized)) (omega (arith, i.fits.most, i.fits.sized)) word_after whole')
 
     -- and with it what was written is published
     module _ (slots : ℕ) (stored : Holder) (told : StoresTail (step slots 0 ((word + 1) % 2 ^ 32) 0 none) after ((word + 1) % 2 ^ 32) stored) where
@@ -61,17 +57,15 @@ module _ {seat table : TableId} {v : View AppSide KernelSide} {held : List (ℕ 
 
       pub publishes : IsWriter seat table stored.0 stored.1 size ((word + 1) % 2 ^ 32) end
       publishes =
-          let longer = length-append v.app.published written in
-          let short = length-drop (length (all_more front) + 1) i.blank in
           rw tail_published (record {
             fits = i.fits;
             is_app = i.is_app;
-            tail_word = word_after ∙ ap (word_of v.app.start) (sym longer);
+            tail_word = grind (arith, word_after, length-append);
             end_word = i.end_word;
             blank = left;
-            holds = ap (λ (k : ℕ). held_from v.app.start v.app.size k left) (sym longer);
-            many = omega (arith, enough, many, more_length front, i.many);
-            few = omega (arith, i.few);
+            holds = grind (arith, length-append);
+            many = grind (arith, enough, more_length, i.many, length-append, length-drop);
+            few = grind (arith, i.few, length-drop);
           })
 
 -- the items that positions hold, one position more

@@ -11,9 +11,8 @@ start_word start small = omega arith
 
 module _ {S : Type 0} where
   same_there : (n i : ℕ) (x : S) → i < n → get_elem? (map some (replicate n x)) i ≡ some (some x)
-  same_there zero i x below = absurd (omega arith)
-  same_there (suc n) zero x below = refl
   same_there (suc n) (suc i) x below = same_there n i x (omega arith)
+  same_there n i x below = grind arith
 
   same_stand : (start size : ℕ) (homes : List (Option S)) (x : S)
       → ((i : ℕ) → i < size → get_elem? homes i ≡ some (some x)) → 0 < size → (n k : ℕ)

@@ -85,10 +85,7 @@ module _ {S : Type 0} (start size : ℕ) (power : IsPowerOfTwo size) (fits : siz
   -- what was given back is at home
   pub set_stands : (homes : List (Option S)) (j : ℕ) (y : S) → length homes ≡ size
       → StandFrom start size (set homes (place_of start size j) (some y)) j (y ∷ [])
-  set_stands homes j y many = (
-    set_here homes (place_of start size j) (some y) (rw many (place_below start size j (some_size size power))),
-    tt,
-  )
+  set_stands homes j y many = grind (arith, set_here, place_below, some_size size power)
 
   pub given_stand : (homes : List (Option S)) (j : ℕ) (ys : List S) → length homes ≡ size
       → length ys ≤ size
