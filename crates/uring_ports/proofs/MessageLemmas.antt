@@ -25,21 +25,21 @@ pub calls_of_call : (x : Item) (xs : List Item) (rest : List Message)
 calls_of_call x [] rest = refl
 calls_of_call x (y ∷ ys) rest = rw (add-zero (length (y ∷ ys)), calls_of_call y ys rest) refl
 
-pub calls_of_calls : (calls : List (List Item)) (rest : List Message) → AreSome calls
-    → calls_of (messages_of_calls calls ++ rest) ≡ calls ++ calls_of rest
-calls_of_calls [] rest some = refl
-calls_of_calls ([] ∷ calls) rest some = absurd some
-calls_of_calls ((x ∷ xs) ∷ calls) rest some = ap calls_of (append_assoc (items_before 0 (x ∷ xs)) (messages_of_calls calls) rest) ∙ calls_of_call x xs (messages_of_calls calls ++ rest) ∙ ap (λ cs. (x ∷ xs) ∷ cs) (calls_of_calls calls rest some)
-
 pub close_mark_call : (left : ℕ) (xs : List Item) (rest : List Message)
     → has_close_mark (items_before left xs ++ rest) ≡ has_close_mark rest
 close_mark_call left [] rest = refl
 close_mark_call left (x ∷ xs) rest = close_mark_call left xs rest
 
-pub close_mark_calls : (calls : List (List Item)) (rest : List Message)
-    → has_close_mark (messages_of_calls calls ++ rest) ≡ has_close_mark rest
-close_mark_calls [] rest = refl
-close_mark_calls (call ∷ calls) rest = rw append_assoc (close_mark_call 0 call (messages_of_calls calls ++ rest) ∙ close_mark_calls calls rest)
+pub calls_of_calls : (calls : List (List Item)) (rest : List Message) → AreSome calls
+    → (calls_of (messages_of_calls calls ++ rest) ≡ calls ++ calls_of rest) × (has_close_mark (messages_of_calls calls ++ rest) ≡ has_close_mark rest)
+calls_of_calls [] rest some = (refl, refl)
+calls_of_calls ([] ∷ calls) rest some = absurd some
+calls_of_calls ((x ∷ xs) ∷ calls) rest some =
+    let assoc = append_assoc (items_before 0 (x ∷ xs)) (messages_of_calls calls) rest in
+    let r = calls_of_calls calls rest some in (
+      ap calls_of assoc ∙ calls_of_call x xs (messages_of_calls calls ++ rest) ∙ ap (λ cs. (x ∷ xs) ∷ cs) r.0,
+      ap has_close_mark assoc ∙ close_mark_call 0 (x ∷ xs) (messages_of_calls calls ++ rest) ∙ r.1,
+    )
 
 pub length_items_before : (left : ℕ) (xs : List Item) → length (items_before left xs) ≡ length xs
 length_items_before left [] = refl

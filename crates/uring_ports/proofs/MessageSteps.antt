@@ -8,7 +8,7 @@ use Rattle.uring_ports.specs.declared.item.Item.{Item}
 use Rattle.uring_ports.specs.declared.message.Message.{Message}
 use Rattle.uring_ports.specs.Ports.{Put, with_call, with_close, items_of_calls, places_of, LeavesItems}
 use Rattle.uring_ports.specs.Messages.{close_mark, item_before, items_before, messages_of_calls, messages_of, calls_of, items_of, has_close_mark, put_of, AreWhole, owed, Continues, MayFollow}
-use Rattle.uring_ports.proofs.MessageLemmas.{AreSome, some_calls_of, some_append, calls_of_calls, close_mark_call, close_mark_calls, length_messages_of_calls, owed_from_append, owed_from_items, owed_calls}
+use Rattle.uring_ports.proofs.MessageLemmas.{AreSome, some_calls_of, some_append, calls_of_calls, close_mark_call, length_messages_of_calls, owed_from_append, owed_from_items, owed_calls}
 
 -- nothing is owed after whole messages with no close mark
 pub nothing_owed : (ms : List Message) → AreWhole ms → has_close_mark ms ≡ false → owed ms ≡ 0
@@ -25,7 +25,7 @@ pub record Sent (ms : List Message) (p : Put) : Type 0 where
 
 -- messages of something were sent for just that
 sent_for : (ms : List Message) (p : Put) → AreSome p.calls → ms ≡ messages_of p → Sent ms p
-sent_for ms p some is = grind (arith, close_mark, calls_of_calls, append-nil, close_mark_calls)
+sent_for ms p some is = grind (arith, close_mark, calls_of_calls, append-nil)
 
 -- a call more
 pub sends_call : (ms : List Message) (items : List Item) → AreWhole ms → has_close_mark ms ≡ false

@@ -3,7 +3,7 @@ use Rattle.std.proofs.Common.{◌≡◌, ℕ, ◌+◌, ◌-◌, ◌%◌, ◌^◌
 use Rattle.uring_rings.proofs.Common.{Completions, Cq, Cqe, IsCq, Setup, ShowsCompletions, drop-append-le, drop_more, get_or-set_other, get_or_append_left, get_or_default, has_room, length-drop, length_push, next_to_reap, nil_from_length, put_by_flush, slice_get-get_or, take-append-le, take_more, with_posted, with_reaped}
 use Rattle.std.proofs.lemmas.Nat.{mod_below}
 use Rattle.std.proofs.lemmas.Grind.{get_or-set_at}
-use Rattle.uring_rings.proofs.Counts.{same_cell, word_after}
+use Rattle.uring_rings.proofs.Counts.{same_cell}
 
 -- How many completions were put above the head last loaded.
 pub put_above : (g : Setup) (q : Cq) (l : Completions) (d : ℕ) → IsCq q.size q.cells
@@ -27,7 +27,7 @@ pub put_shows : (g : Setup) (q : Cq) (l : Completions) (x : Cqe) (rest : List Cq
     → ShowsCompletions g q l → l.put < l.seen_head + g.cq → q.overflow ≡ x ∷ rest
     → ShowsCompletions g (record q { tail = (q.tail + 1) % 2 ^ 32; spare = spare; cells = set q.cells (q.tail % q.size) x; overflow = rest }) (record l { put = l.put + 1 })
 put_shows g q l x rest spare i s room oldest =
-    grind (arith, all_put g q l s, drop_more l.posted l.put x, get_or_default, word_after, mod_below, get_or-set_at, same_cell, get_or-set_other)
+    grind (arith, all_put g q l s, drop_more l.posted l.put x, get_or_default, mod_below, get_or-set_at, same_cell, get_or-set_other)
 
 -- A completion is posted, and waits after the others.
 pub wait_shows : (g : Setup) (q : Cq) (l : Completions) (x : Cqe) (room spare : ℕ)
@@ -71,7 +71,7 @@ pub reap_shows : (g : Setup) (q : Cq) (l : Completions) (x : Cqe) (next : ℕ) �
     → (q.next ≡ q.seen_tail → ⊥) → get_or l.posted (length l.reaped) x ≡ x
     → next ≡ (q.next + 1) % 2 ^ 32
     → ShowsCompletions g (record q { next = next; reaped = (q.reaped + 1) % 2 ^ 64 }) (with_reaped l x)
-reap_shows g q l x next i s apart is is_next = grind (arith, length_push, word_after, take_more, get_or)
+reap_shows g q l x next i s apart is is_next = grind (arith, length_push, take_more, get_or)
 
 -- the dispatcher loads the head
 pub load_shows : (g : Setup) (q : Cq) (l : Completions) → ShowsCompletions g q l

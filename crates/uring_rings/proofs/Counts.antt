@@ -7,12 +7,8 @@ use Rattle.std.proofs.lemmas.Nat.{and_mask, pow_below}
 use Rattle.std.proofs.Math.Pow.{mod-mod-pow}
 use Rattle.std.specs.Int.RustNames.{bit_and}
 
--- A word goes on as its count does.
-pub word_after : (s k n : ℕ) → ((s + k) % 2 ^ 32 + n) % 2 ^ 32 ≡ (s + (k + n)) % 2 ^ 32
-word_after s k n = omega arith
-
 -- Numbers less than n apart have one remainder only where they are equal.
-pub same_remainder : (n a b : ℕ) → 0 < n → a ≤ b → b < a + n → a % n ≡ b % n → a ≡ b
+same_remainder : (n a b : ℕ) → 0 < n → a ≤ b → b < a + n → a % n ≡ b % n → a ≡ b
 same_remainder n a b some ordered near same = grind arith
 
 -- the mask of a power of two, which is one less, keeps the remainder

@@ -4,7 +4,7 @@ use Rattle.uring_rings.proofs.Common.{IsSq, Place, Setup, ShowsSubmission, Sq, S
 use Rattle.std.proofs.lemmas.Grind.{get_or-set_at}
 use Rattle.std.proofs.lemmas.Nat.{mod_below}
 use Rattle.uring_rings.proofs.Elements.{slice_get_append_left, slice_get_append_right}
-use Rattle.uring_rings.proofs.Counts.{same_cell, word_after}
+use Rattle.uring_rings.proofs.Counts.{same_cell}
 use Rattle.uring_rings.proofs.SubmissionWords.{length_words, words_indexed, words_stored, not_named}
 
 -- a word is staged in the next cell
@@ -15,7 +15,7 @@ pub index_shows : (g : Setup) (q : Sq) (l : Submission) (d tail cell word : ℕ)
     → cell ≡ q.tail % q.size
     → ShowsSubmission g (record q { tail = tail; array = set q.array cell word }) (with_staged l word)
 index_shows g q l d tail cell word i s small leads not_full is_tail is_cell =
-    grind (arith, length-append, words_indexed, get_or_push, length_words, get_or_append_left, word_after, mod_below, get_or-set_at, same_cell, get_or-set_other)
+    grind (arith, length-append, words_indexed, get_or_push, length_words, get_or_append_left, mod_below, get_or-set_at, same_cell, get_or-set_other)
 
 -- a table's slots after one was written
 slot_after_fill : (table : List Sqe) (content : ℕ → Sqe) (slot n : ℕ) (entry : Sqe)

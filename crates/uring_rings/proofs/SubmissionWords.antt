@@ -2,7 +2,6 @@
 use Rattle.std.proofs.Common.{◌≡◌, ◌≢◌, ℕ, ◌+◌, ◌-◌, ◌%◌, ◌^◌, ◌<◌, ◌≤◌, true, false, eqb, List, [], ◌∷◌, ◌++◌, length, drop, map, get_or, Some, None, refl, arith, eq-eqb, ne_eqb}
 use Rattle.uring_rings.proofs.Common.{IsSq, Place, Setup, ShowsSubmission, Sq, Sqe, Submission, append-nil, append_assoc, get_or-drop, get_or-map, get_or_append_left, get_or_from_slice_get, is_busy, length-append, length-drop, length-map, map-append, place_of, slice_get, slice_get-get_or, slice_get_within, staged, with_published, with_staged, word_of, words}
 use Rattle.std.proofs.lemmas.List.Folds.{list_any_at, list_any_none}
-use Rattle.uring_rings.proofs.Counts.{word_after}
 
 -- there are as many words as staged positions
 pub length_words : (l : Submission) → length (words l) ≡ staged l
@@ -40,7 +39,7 @@ pub reads_place : (g : Setup) (q : Sq) (l : Submission) (count word k : ℕ) →
 reads_place g q l count word k s is_word seen within =
     let p = get_or l.published (count + k) (record { word = 0; entry = None }) in
     let found = slice_get-get_or l.published (count + k) (record { word = 0; entry = None }) within in
-    record { place = p; found = found; read = grind (arith, word_after g.start count k, word_published l (count + k) p found, s.cells (count + k)) }
+    record { place = p; found = found; read = grind (arith, word_published l (count + k) p found, s.cells (count + k)) }
 
 -- a place above the head last loaded doesn't name a slot that isn't busy
 pub not_named : (l : Submission) (slot k : ℕ) (p : Place) → is_busy l slot ≡ false → l.seen_head ≤ k

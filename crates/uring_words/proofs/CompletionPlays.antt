@@ -20,18 +20,12 @@ module _ {words : List ℕ} {homes : List (Option Cqe)} {a : AppSide} {d : Kerne
       → ListsAgree 3 words homes d.start d.size d.end a.got a.known d.put h.rest h.free
   lists h = grind arith
 
-  agrees : {rest free : List Cqe} → a.start ≡ d.start → a.size ≡ d.size → d.size ≤ 8192
-      → get_or words dropped_index 0 ≡ last_of 0 d.dropped → last_of 0 d.dropped < 2 ^ 32 → WereHad (0 ∷ d.dropped) a.dropped
-      → ListsAgree 3 words homes d.start d.size d.end a.got a.known d.put rest free
-      → Agree words homes a d
-  agrees {rest} {free} start size limit dropped small loaded l = grind arith
-
 -- a new table keeps the rule
 pub opens : (key : Shape) (blank : Cqe) → IsPowerOfTwo key.size → key.size ≤ 8192 → key.start < 2 ^ 32
     → BothAgree (opening (key.start ∷ key.start ∷ 0 ∷ []) (replicate key.size blank) (at_first key))
 opens key blank power limit small =
     opens_with (key.start ∷ key.start ∷ 0 ∷ []) (replicate key.size blank) (at_first key).app (at_first key).kernel
-    (agrees refl refl limit refl (omega arith) tt (first_lists key.start key.size blank (0 ∷ []) power (omega arith) small))
+    (grind (arith, first_lists key.start key.size blank (0 ∷ []) power (omega arith) small))
 
 module _ (slots id : ℕ) (v : View AppSide KernelSide) (held : List (ℕ × Cqe)) where
   -- the tail is stored
@@ -47,7 +41,7 @@ module _ (slots id : ℕ) (v : View AppSide KernelSide) (held : List (ℕ × Cqe
       let s = h.sized in
       let l = lists h in
       let stored = stores_first l word c room is_word in
-      (put_first d held, gives, tt, rw holds (agrees s.start s.size s.limit (get_or-set_other words tail_index dropped_index word 0 (λ e. omega arith) ∙ h.dropped) h.small h.loaded stored), refl))
+      (put_first d held, gives, tt, rw holds (grind (arith, get_or-set_other)), refl))
 
   -- the dropped word is stored
   pub stores_dropped : (word : ℕ) → v.is_kernel ≡ true → word < 2 ^ 32
@@ -55,10 +49,7 @@ module _ (slots id : ℕ) (v : View AppSide KernelSide) (held : List (ℕ × Cqe
   stores_dropped word is_kernel small =
       kernel_step slots id dropped_index (λ _. word) v held (λ _. StoresDropped (step slots dropped_index word 0 none) (v, held) word) is_kernel (λ words homes a h both.
       let d : KernelSide = v.kernel in
-      let s = h.sized in
-      let last = last_after 0 d.dropped word [] in
-      let there = get_or-set_same words dropped_index word 0 (omega (arith, s.many)) ∙ sym last in
-      (dropped_stored d word, keeps, tt, agrees s.start s.size s.limit there (rw last small) (had_more (0 ∷ d.dropped) (word ∷ []) a.dropped h.loaded) (keeps_stored (lists h) dropped_index word (omega arith)), refl))
+      (dropped_stored d word, keeps, tt, grind (arith, keeps_stored (lists h) dropped_index word, last_after 0 d.dropped word [], get_or-set_same, had_more (0 ∷ d.dropped) (word ∷ []) a.dropped), refl))
 
   -- the head is loaded
   pub loads_head : (blank : List Cqe) → v.is_kernel ≡ true
@@ -76,7 +67,7 @@ module _ (slots id : ℕ) (v : View AppSide KernelSide) (held : List (ℕ × Cqe
         head_loaded d (length a.got + d.size),
         holds,
         r.0,
-        agrees s.start s.size s.limit h.dropped h.small h.loaded r.1,
+        grind arith,
         (length a.got, blank ++ h.free, refl, grind (arith, put_many l, l.all, length-append), refl),
       ))
 
@@ -89,7 +80,7 @@ module _ (slots id : ℕ) (v : View AppSide KernelSide) (held : List (ℕ × Cqe
       kernel_hands slots id head_index (λ n. n) (λ ws. ws) (λ ws. sym (set-get_or ws head_index 0)) v held (GivesAll (step slots head_index 0 0 none) (v, held)) is_kernel (λ words homes a h both.
       let s = h.sized in
       let r = gives_blank (lists h) blank ends in
-      (held_from v.kernel.start v.kernel.size (length v.kernel.put) blank, [], all_given v.kernel, holds, r.0, agrees s.start s.size s.limit h.dropped h.small h.loaded r.1, refl))
+      (held_from v.kernel.start v.kernel.size (length v.kernel.put) blank, [], all_given v.kernel, holds, r.0, grind arith, refl))
 
   -- the tail is loaded
   pub loads_tail : v.is_app ≡ true
@@ -107,7 +98,7 @@ module _ (slots id : ℕ) (v : View AppSide KernelSide) (held : List (ℕ × Cqe
         tail_loaded a h.rest,
         holds ∙ (λ j. held_from (s.start j) (s.size j) n a.known),
         r.0,
-        agrees s.start s.size s.limit h.dropped h.small h.loaded r.1,
+        grind arith,
         (h.rest, (λ j. app_has (v, held) (tail_loaded a h.rest) (held_from (sym s.start j) (sym s.size j) n (a.known ++ h.rest))), grind (arith, put_many l, l.all), refl),
       ))
 
@@ -124,7 +115,7 @@ module _ (slots id : ℕ) (v : View AppSide KernelSide) (held : List (ℕ × Cqe
       let l = lists h in
       let holds' : held ≡ held_from d.start d.size n (c ∷ cs) = holds ∙ ap₂ (λ start size. held_from start size n a.known) s.start s.size ∙ ap (held_from d.start d.size n) known in
       let stored = stores_known l word c cs known (is_word ∙ ap (λ start. word_of start (n + 1)) s.start) in
-      (got_first a a.known, gives, tt, rw (holds', known) (agrees s.start s.size s.limit (get_or-set_other words head_index dropped_index word 0 (λ e. omega arith) ∙ h.dropped) h.small h.loaded stored), refl))
+      (got_first a a.known, gives, tt, rw (holds', known) (grind (arith, get_or-set_other)), refl))
 
   -- the dropped word is loaded
   pub loads_dropped : v.is_app ≡ true
@@ -132,7 +123,7 @@ module _ (slots id : ℕ) (v : View AppSide KernelSide) (held : List (ℕ × Cqe
   loads_dropped is_app =
       app_step slots id dropped_index (λ n. n) v held (LoadsDropped (step slots dropped_index 0 0 none) (v, held)) is_app (λ words homes d h both.
       let s = h.sized in
-      let kept : Agree words homes (dropped_loaded v.app (last_of 0 d.dropped)) d = agrees s.start s.size s.limit h.dropped h.small (had_last 0 d.dropped v.app.dropped h.loaded) (lists h) in (
+      let kept : Agree words homes (dropped_loaded v.app (last_of 0 d.dropped)) d = grind (arith, had_last 0 d.dropped v.app.dropped) in (
         dropped_loaded v.app (get_or words dropped_index 0),
         keeps,
         tt,

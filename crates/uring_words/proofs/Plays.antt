@@ -17,18 +17,13 @@ module _ {words : List ℕ} {homes : List (Option Position)} {a : AppSide} {d : 
       → ListsAgree 2 words homes a.start a.size a.end d.taken d.known a.published h.rest h.free
   lists h = grind arith
 
-  agrees : {rest free : List Position} → d.start ≡ a.start → d.size ≡ a.size → a.size ≤ 4096 → AreWhole a.published
-      → ListsAgree 2 words homes a.start a.size a.end d.taken d.known a.published rest free
-      → Agree words homes a d
-  agrees {rest} {free} start size limit whole l = grind arith
-
 -- a new table keeps the rule
 pub opens : (key : Shape) (blank : Position) → IsPowerOfTwo key.size → key.size ≤ 4096
     → key.start < 2 ^ 32
     → BothAgree (opening (key.start ∷ key.start ∷ []) (replicate key.size blank) (at_first key))
 opens key blank power limit small =
     opens_with (key.start ∷ key.start ∷ []) (replicate key.size blank) (at_first key).app (at_first key).kernel
-    (agrees refl refl limit refl (first_lists key.start key.size blank [] power (omega arith) small))
+    (grind (arith, first_lists key.start key.size blank [] power (omega arith) small))
 
 module _ (slots id : ℕ) (v : View AppSide KernelSide) (held : List (ℕ × Position)) where
   -- the tail is stored
@@ -50,7 +45,7 @@ module _ (slots id : ℕ) (v : View AppSide KernelSide) (held : List (ℕ × Pos
         tail_stored a written,
         holds,
         r.0,
-        agrees s.start s.size s.limit whole r.1,
+        grind arith,
         λ blank' written' same found.
             let count : length written ≡ length written' = omega (arith, ap length (sym same ∙ holds), length-append {A = ℕ × Position}, held-length {S = Position}) in
             let parts = same_slots a.start a.size (n + length written) n (n + length written') n blank written blank' written' count (sym holds ∙ same) in
@@ -73,7 +68,7 @@ module _ (slots id : ℕ) (v : View AppSide KernelSide) (held : List (ℕ × Pos
         head_loaded a (length d.taken + a.size),
         holds,
         r.0,
-        agrees s.start s.size s.limit h.whole r.1,
+        grind arith,
         (length d.taken, blank ++ h.free, refl, grind (arith, put_many l, l.all, length-append), refl),
       ))
 
@@ -86,7 +81,7 @@ module _ (slots id : ℕ) (v : View AppSide KernelSide) (held : List (ℕ × Pos
       app_hands slots id 1 (λ n. n) (λ ws. ws) (λ ws. sym (set-get_or ws 1 0)) v held (GivesAll (step slots 1 0 0 none) (v, held)) is_app (λ words homes d h both.
       let s = h.sized in
       let r = gives_blank (lists h) blank ends in
-      (held_from v.app.start v.app.size (length v.app.published) blank, [], all_given v.app, holds, r.0, agrees s.start s.size s.limit h.whole r.1, refl))
+      (held_from v.app.start v.app.size (length v.app.published) blank, [], all_given v.app, holds, r.0, grind arith, refl))
 
   -- the tail is loaded
   pub loads_tail : v.is_kernel ≡ true
@@ -104,7 +99,7 @@ module _ (slots id : ℕ) (v : View AppSide KernelSide) (held : List (ℕ × Pos
         tail_loaded d h.rest,
         holds ∙ (λ i. held_from (s.start i) (s.size i) n d.known),
         r.0,
-        agrees s.start s.size s.limit h.whole r.1,
+        grind arith,
         (h.rest, (λ i. kernel_has (v, held) (tail_loaded d h.rest) (held_from (sym s.start i) (sym s.size i) n (d.known ++ h.rest))), grind (arith, put_many l, l.all), refl),
       ))
 
@@ -125,7 +120,7 @@ module _ (slots id : ℕ) (v : View AppSide KernelSide) (held : List (ℕ × Pos
         head_stored d read others,
         holds ∙ (λ i. with_first_after (s.start i) (s.size i) n others read),
         r.0,
-        agrees s.start s.size s.limit h.whole r.1,
+        grind arith,
         λ others' read' same known' found.
             let count : length read ≡ length read' = omega (arith, ap length known, ap length known', length-append {A = Position}) in
             let halves = same_parts read others read' others' count (sym known ∙ known') in

@@ -2,8 +2,9 @@
 use Rattle.std.proofs.Common.{◌≡◌, ℕ, ◌+◌, ◌%◌, ◌<◌, ◌≤◌, ◌^◌, List, [], ◌∷◌, ◌++◌, length, set, refl, ap, subst, arith, length-set}
 use Rattle.uring_words.proofs.Common.{Act, IsPowerOfTwo, StandFrom, Valid, carried_after, cases_lt, chain, gives, held_from, homes_after, keeps, place_of, rest, set_else, set_here, takes, word_of}
 use mathlib.Core.Option.{Option, none, some}
+use Rattle.std.proofs.lemmas.Nat.{mod_below}
 use Rattle.uring_rings.proofs.Counts.{same_cell}
-use Rattle.uring_words.proofs.Standing.{some_size, place_below}
+use Rattle.uring_words.proofs.Standing.{some_size}
 
 module _ {S : Type 0} where
   -- all these slots are given back, and then this is done
@@ -85,7 +86,7 @@ module _ {S : Type 0} (start size : ℕ) (power : IsPowerOfTwo size) (fits : siz
   -- what was given back is at home
   pub set_stands : (homes : List (Option S)) (j : ℕ) (y : S) → length homes ≡ size
       → StandFrom start size (set homes (place_of start size j) (some y)) j (y ∷ [])
-  set_stands homes j y many = grind (arith, set_here, place_below, some_size size power)
+  set_stands homes j y many = grind (arith, set_here, mod_below, some_size size power)
 
   pub given_stand : (homes : List (Option S)) (j : ℕ) (ys : List S) → length homes ≡ size
       → length ys ≤ size

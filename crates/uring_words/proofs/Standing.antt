@@ -8,9 +8,6 @@ use Rattle.uring_rings.proofs.Counts.{cell_of_count}
 pub some_size : (size : ℕ) → IsPowerOfTwo size → 0 < size
 some_size size power = rw power.1 (pow_pos power.0)
 
-pub place_below : (start size count : ℕ) → 0 < size → place_of start size count < size
-place_below start size count some = mod_below (word_of start count) size some
-
 -- the place of an index word
 pub at_place : (start size own count word : ℕ) → own ≡ size → word ≡ word_of start count
     → word % size ≡ place_of start own count
