@@ -21,10 +21,7 @@ entries_and_dropped (p ∷ places) =
 pub places_more : (places : List Place) (n t : ℕ) (p : Place) → slice_get places (n + t) ≡ Some p
     → take (t + 1) (drop n places) ≡ take t (drop n places) ++ p ∷ []
 places_more places n t p found =
-    let within : n + t < length places = slice_get_within places (n + t) p found in
-    let here : get_or (drop n places) t p ≡ p = get_or-drop n places t p ∙ get_or_from_slice_get places (n + t) p p found in
-    let short : t < length (drop n places) = simp length-drop (omega arith) in
-    take_more (drop n places) t p short ∙ ap (λ (q : Place). take t (drop n places) ++ q ∷ []) here
+    grind (arith, slice_get_within places (n + t) p found, length-drop n places, get_or-drop n places t p, get_or_from_slice_get places (n + t) p p found, take_more (drop n places) t p)
 
 -- one more place with an entry is one more entry
 pub entry_more : (places : List Place) (n t : ℕ) (p : Place) (e : Sqe)

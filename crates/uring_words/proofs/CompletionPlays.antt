@@ -36,12 +36,8 @@ module _ (slots id : ℕ) (v : View AppSide KernelSide) (held : List (ℕ × Cqe
       → Allows BothAgree slots id (v, held) tail_index (λ _. word) (λ _. StoresTail (step slots tail_index word 0 none) (v, held) word)
   stores_tail word c others is_kernel holds room is_word =
       kernel_step slots id tail_index (λ _. word) v held (λ _. StoresTail (step slots tail_index word 0 none) (v, held) word) is_kernel (λ words homes a h both.
-      let d : KernelSide = v.kernel in
-      let n : ℕ = length d.put in
-      let s = h.sized in
-      let l = lists h in
-      let stored = stores_first l word c room is_word in
-      (put_first d held, gives, tt, rw holds (grind (arith, get_or-set_other)), refl))
+      let stored = stores_first (lists h) word c room is_word in
+      (put_first v.kernel held, gives, tt, rw holds (grind (arith, get_or-set_other)), refl))
 
   -- the dropped word is stored
   pub stores_dropped : (word : ℕ) → v.is_kernel ≡ true → word < 2 ^ 32
@@ -59,7 +55,6 @@ module _ (slots id : ℕ) (v : View AppSide KernelSide) (held : List (ℕ × Cqe
   loads_head blank is_kernel holds ends =
       kernel_hands slots id head_index (λ n. n) (λ ws. ws) (λ ws. sym (set-get_or ws head_index 0)) v held (LoadsHead (step slots head_index 0 0 none) (v, held)) is_kernel (λ words homes a h both.
       let d : KernelSide = v.kernel in
-      let s = h.sized in
       let l = lists h in
       let r = loads_free l blank ends in (
         held_from d.start d.size (length d.put) blank,
@@ -78,7 +73,6 @@ module _ (slots id : ℕ) (v : View AppSide KernelSide) (held : List (ℕ × Cqe
       → Allows BothAgree slots id (v, held) head_index (λ n. n) (GivesAll (step slots head_index 0 0 none) (v, held))
   gives_back blank is_kernel holds ends =
       kernel_hands slots id head_index (λ n. n) (λ ws. ws) (λ ws. sym (set-get_or ws head_index 0)) v held (GivesAll (step slots head_index 0 0 none) (v, held)) is_kernel (λ words homes a h both.
-      let s = h.sized in
       let r = gives_blank (lists h) blank ends in
       (held_from v.kernel.start v.kernel.size (length v.kernel.put) blank, [], all_given v.kernel, holds, r.0, grind arith, refl))
 
@@ -122,7 +116,6 @@ module _ (slots id : ℕ) (v : View AppSide KernelSide) (held : List (ℕ × Cqe
       → Allows BothAgree slots id (v, held) dropped_index (λ n. n) (LoadsDropped (step slots dropped_index 0 0 none) (v, held))
   loads_dropped is_app =
       app_step slots id dropped_index (λ n. n) v held (LoadsDropped (step slots dropped_index 0 0 none) (v, held)) is_app (λ words homes d h both.
-      let s = h.sized in
       let kept : Agree words homes (dropped_loaded v.app (last_of 0 d.dropped)) d = grind (arith, had_last 0 d.dropped v.app.dropped) in (
         dropped_loaded v.app (get_or words dropped_index 0),
         keeps,

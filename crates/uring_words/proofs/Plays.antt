@@ -38,7 +38,6 @@ module _ (slots id : ℕ) (v : View AppSide KernelSide) (held : List (ℕ × Pos
       app_hands slots id 0 (λ _. word) (λ ws. set ws 0 word) (λ _. refl) v held (λ _. StoresTail (step slots 0 word 0 none) (v, held) word) is_app (λ words homes d h both.
       let a = v.app in
       let n : ℕ = length a.published in
-      let s = h.sized in
       let r = stores_written (lists h) word blank written many is_word in (
         with_first_after a.start a.size n blank written,
         held_from a.start a.size (n + length written) blank,
@@ -60,7 +59,6 @@ module _ (slots id : ℕ) (v : View AppSide KernelSide) (held : List (ℕ × Pos
   loads_head blank is_app holds ends =
       app_hands slots id 1 (λ n. n) (λ ws. ws) (λ ws. sym (set-get_or ws 1 0)) v held (LoadsHead (step slots 1 0 0 none) (v, held)) is_app (λ words homes d h both.
       let a = v.app in
-      let s = h.sized in
       let l = lists h in
       let r = loads_free l blank ends in (
         held_from a.start a.size (length a.published) blank,
@@ -79,7 +77,6 @@ module _ (slots id : ℕ) (v : View AppSide KernelSide) (held : List (ℕ × Pos
       → Allows BothAgree slots id (v, held) 1 (λ n. n) (GivesAll (step slots 1 0 0 none) (v, held))
   gives_all_places blank is_app holds ends few =
       app_hands slots id 1 (λ n. n) (λ ws. ws) (λ ws. sym (set-get_or ws 1 0)) v held (GivesAll (step slots 1 0 0 none) (v, held)) is_app (λ words homes d h both.
-      let s = h.sized in
       let r = gives_blank (lists h) blank ends in
       (held_from v.app.start v.app.size (length v.app.published) blank, [], all_given v.app, holds, r.0, grind arith, refl))
 
