@@ -69,7 +69,5 @@ pub let_go : (s t f g : NumberSet) → IsFilled s f → IsSameSet s t → IsSame
 let_go s t f g h p q stop (inl far) = far
 let_go s t f g h p q stop (inr (inl none)) = omega (arith, stop, none)
 let_go s t f g h p q stop (inr (inr some)) =
-    let first = block_of_high g.first g.blocks g.first (omega arith) in
-    let bit = bit_at-trailing_zeros w64 (get_or g.blocks 0 0) some.0 some.1 in
     let n : ℕ = 64 * g.first + trailing_zeros w64 (get_or g.blocks 0 0) in
-    grind (arith, lowest_holds g g.first (get_or g.blocks 0 0), block_of_low t.first t.blocks n, p.same n, holds_same f g q.same n, h.places n, eq-eqb)
+    grind (arith, block_of_high g.first g.blocks g.first, bit_at-trailing_zeros w64 (get_or g.blocks 0 0) some.0 some.1, lowest_holds g g.first (get_or g.blocks 0 0), block_of_low t.first t.blocks n, p.same n, holds_same f g q.same n, h.places n, eq-eqb)

@@ -35,16 +35,7 @@ pub takes_place : (g : Setup) (q : Sq) (l : Submission) (c : OpenCall) (word : �
 takes_place g q l c word s is_call more read =
     let (call, is, same, within, ready) = is_open l c l.call (sym is_call ∙ s.call) s.call_fits in
     let r = reads_place g q l (taken l) q.head call.taken s s.head s.seen_first (grind arith) in
-    record {
-      call = call;
-      is = is;
-      same = same;
-      less = grind arith;
-      ready = ready;
-      place = r.place;
-      found = r.found;
-      of_word = grind (arith, s.places (taken l + call.taken) r.place);
-    }
+    grind (arith, r.found, s.places (taken l + call.taken) r.place)
 
 pub take_gives : (g : Setup) (l : Submission) (c : OpenCall) (word : ℕ) (entry : Sqe)
     → TakesPlace g l c word → word < g.sq

@@ -37,8 +37,7 @@ module _ {seat table : TableId} {v : View AppSide KernelSide} {held : List (ℕ 
   module _ (after : Holder) (moved : after ≡ (m.0, rest m.1 ++ (word % size, last) ∷ [])) where
     all_written : after ≡ (v, with_first_after v.app.start v.app.size (length v.app.published) left written)
     all_written =
-        goes_after v.app.start v.app.size (length v.app.published) (length (all_more front)) (word % size) i.blank (all_more front) m v (wrote i.blank i.holds) enough place last after refl moved
-        ∙ ap (λ (k : ℕ). (v, held_from v.app.start v.app.size (length v.app.published + k) left ++ held_from v.app.start v.app.size (length v.app.published) written)) (sym (length-append (all_more front) (last ∷ [])))
+        grind (arith, length-append (all_more front) (last ∷ []), goes_after v.app.start v.app.size (length v.app.published) (length (all_more front)) (word % size) i.blank (all_more front) m v (wrote i.blank i.holds) enough place last after refl moved)
 
     word_after : (word + 1) % 2 ^ 32 ≡ word_of v.app.start (length v.app.published + length written)
     word_after = omega (arith, at, length-append (all_more front) (last ∷ []), more_length front)
@@ -47,8 +46,7 @@ module _ {seat table : TableId} {v : View AppSide KernelSide} {held : List (ℕ 
     pub tail_allowed : (slots id : ℕ) → AreWhole (e.knows.app.published ++ written)
         → Allows BothAgree slots id after 0 (λ _. (word + 1) % 2 ^ 32) (λ _. StoresTail (step slots 0 ((word + 1) % 2 ^ 32) 0 none) after ((word + 1) % 2 ^ 32))
     tail_allowed slots id whole =
-        let whole' = rw (← seen) at whole in
-        rw all_written (stores_tail slots id v (with_first_after v.app.start v.app.size (length v.app.published) left written) ((word + 1) % 2 ^ 32) left written i.is_app refl (omega (arith, enough, length-drop {A = Position}, length-append {A = Position}, more_length, i.many)) (omega (arith, enough, length-drop {A = Position}, length-append {A = Position}, more_length, i.few, i.fits.sized)) (omega (arith, i.fits.most, i.fits.sized)) word_after whole')
+        rw all_written (stores_tail slots id v (with_first_after v.app.start v.app.size (length v.app.published) left written) ((word + 1) % 2 ^ 32) left written i.is_app refl (omega (arith, enough, length-drop {A = Position}, length-append {A = Position}, more_length, i.many)) (omega (arith, enough, length-drop {A = Position}, length-append {A = Position}, more_length, i.few, i.fits.sized)) (omega (arith, i.fits.most, i.fits.sized)) word_after (rw (← seen) at whole))
 
     -- and with it what was written is published
     module _ (slots : ℕ) (stored : Holder) (told : StoresTail (step slots 0 ((word + 1) % 2 ^ 32) 0 none) after ((word + 1) % 2 ^ 32) stored) where

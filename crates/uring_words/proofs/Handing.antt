@@ -1,8 +1,8 @@
 -- A step after which a seat holds other slots: it gives all that it holds, and takes what it is to hold.
-use Rattle.std.proofs.Common.{◌≡◌, ℕ, suc, ◌+◌, ◌^◌, ◌≤◌, List, [], ◌∷◌, ◌++◌, map, length, set, refl, ap, arith, length-append}
+use Rattle.std.proofs.Common.{◌≡◌, ℕ, suc, ◌+◌, ◌^◌, ◌≤◌, List, [], ◌∷◌, ◌++◌, map, length, set, refl, sym, ◌∙◌, ap, arith, length-append}
 use Rattle.std.proofs.Math.Seq.{take-append_seam, drop-append_seam}
 use mathlib.Core.List.{map-append}
-use Rattle.uring_words.proofs.Common.{IsPowerOfTwo, StandFrom, Valid, held_from, homes_after}
+use Rattle.uring_words.proofs.Common.{IsPowerOfTwo, length-map, StandFrom, Valid, held_from, homes_after}
 use mathlib.Core.Option.{Option, some}
 use Rattle.uring_words.proofs.SlotActs.{changes, with_given, gives_all-homes, gives_all-valid, homes-length, stands_given, stands_taken, given_stand, taken_valid, stand_both}
 use Rattle.uring_words.proofs.Standing.{next_turn}
@@ -46,8 +46,7 @@ module _ {S : Type 0} where
 
   pub held-length : (start size count : ℕ) (xs : List S)
       → length (held_from start size count xs) ≡ length xs
-  held-length start size count [] = refl
-  held-length start size count (x ∷ xs) = ap (λ (n : ℕ). suc n) (held-length start size (count + 1) xs)
+  held-length start size count xs = sym (length-map (held_from start size count xs) (λ (x : ℕ × S). x.1)) ∙ ap length (held_values start size count xs)
 
   -- slots of two parts tell what stands in each
   pub same_slots : (start size i j k l : ℕ) (xs ys us vs : List S) → length ys ≡ length vs

@@ -38,11 +38,8 @@ module _ {S : Type 0} where
   -- an act changes what is at home, and not how many slots there are
   pub homes-length : (homes : List (Option S)) (held : List (ℕ × S)) (act : Act S)
       → length (homes_after homes held act) ≡ length homes
-  homes-length homes held keeps = refl
-  homes-length homes held (takes k y) = length-set homes k none
-  homes-length homes [] gives = refl
-  homes-length homes (x ∷ xs) gives = length-set homes x.0 (some x.1)
   homes-length homes held (chain a b) = grind (arith, (homes-length homes held a), (homes-length (homes_after homes held a) (carried_after held a) b))
+  homes-length homes held act = grind (arith, length-set)
 
   -- the act of a seat that gives all that it holds, and takes what it is to hold
   abbrev pub changes : List (ℕ × S) → List (ℕ × S) → Act S
