@@ -53,7 +53,7 @@ module _ (slots id : ℕ) (v : View AppSide KernelSide) (held : List (ℕ × Cqe
       → length v.kernel.put + length blank ≡ v.kernel.end
       → Allows BothAgree slots id (v, held) head_index (λ n. n) (LoadsHead (step slots head_index 0 0 none) (v, held))
   loads_head blank is_kernel holds ends =
-      kernel_hands slots id head_index (λ n. n) (λ ws. ws) (λ ws. sym (set-get_or ws head_index 0)) v held (LoadsHead (step slots head_index 0 0 none) (v, held)) is_kernel (λ words homes a h both.
+      kernel_hands slots id head_index (λ n. n) v held (LoadsHead (step slots head_index 0 0 none) (v, held)) is_kernel (λ words homes a h both.
       let d : KernelSide = v.kernel in
       let l = lists h in
       let r = loads_free l blank ends in (
@@ -62,7 +62,7 @@ module _ (slots id : ℕ) (v : View AppSide KernelSide) (held : List (ℕ × Cqe
         head_loaded d (length a.got + d.size),
         holds,
         r.0,
-        grind arith,
+        grind (arith, set-get_or),
         (length a.got, blank ++ h.free, refl, grind (arith, put_many l, l.all, length-append), refl),
       ))
 
@@ -72,16 +72,16 @@ module _ (slots id : ℕ) (v : View AppSide KernelSide) (held : List (ℕ × Cqe
       → length v.kernel.put + length blank ≡ v.kernel.end
       → Allows BothAgree slots id (v, held) head_index (λ n. n) (GivesAll (step slots head_index 0 0 none) (v, held))
   gives_back blank is_kernel holds ends =
-      kernel_hands slots id head_index (λ n. n) (λ ws. ws) (λ ws. sym (set-get_or ws head_index 0)) v held (GivesAll (step slots head_index 0 0 none) (v, held)) is_kernel (λ words homes a h both.
+      kernel_hands slots id head_index (λ n. n) v held (GivesAll (step slots head_index 0 0 none) (v, held)) is_kernel (λ words homes a h both.
       let r = gives_blank (lists h) blank ends in
-      (held_from v.kernel.start v.kernel.size (length v.kernel.put) blank, [], all_given v.kernel, holds, r.0, grind arith, refl))
+      (held_from v.kernel.start v.kernel.size (length v.kernel.put) blank, [], all_given v.kernel, holds, r.0, grind (arith, set-get_or), refl))
 
   -- the tail is loaded
   pub loads_tail : v.is_app ≡ true
       → held ≡ held_from v.app.start v.app.size (length v.app.got) v.app.known
       → Allows BothAgree slots id (v, held) tail_index (λ n. n) (LoadsTail (step slots tail_index 0 0 none) (v, held))
   loads_tail is_app holds =
-      app_hands slots id tail_index (λ n. n) (λ ws. ws) (λ ws. sym (set-get_or ws tail_index 0)) v held (LoadsTail (step slots tail_index 0 0 none) (v, held)) is_app (λ words homes d h both.
+      app_hands slots id tail_index (λ n. n) v held (LoadsTail (step slots tail_index 0 0 none) (v, held)) is_app (λ words homes d h both.
       let a : AppSide = v.app in
       let n : ℕ = length a.got in
       let s = h.sized in
@@ -92,7 +92,7 @@ module _ (slots id : ℕ) (v : View AppSide KernelSide) (held : List (ℕ × Cqe
         tail_loaded a h.rest,
         holds ∙ (λ j. held_from (s.start j) (s.size j) n a.known),
         r.0,
-        grind arith,
+        grind (arith, set-get_or),
         (h.rest, (λ j. app_has (v, held) (tail_loaded a h.rest) (held_from (sym s.start j) (sym s.size j) n (a.known ++ h.rest))), grind (arith, put_many l, l.all), refl),
       ))
 

@@ -35,7 +35,7 @@ module _ (slots id : ℕ) (v : View AppSide KernelSide) (held : List (ℕ × Pos
       → AreWhole (v.app.published ++ written)
       → Allows BothAgree slots id (v, held) 0 (λ _. word) (λ _. StoresTail (step slots 0 word 0 none) (v, held) word)
   stores_tail word blank written is_app holds many few limit is_word whole =
-      app_hands slots id 0 (λ _. word) (λ ws. set ws 0 word) (λ _. refl) v held (λ _. StoresTail (step slots 0 word 0 none) (v, held) word) is_app (λ words homes d h both.
+      app_hands slots id 0 (λ _. word) v held (λ _. StoresTail (step slots 0 word 0 none) (v, held) word) is_app (λ words homes d h both.
       let a = v.app in
       let n : ℕ = length a.published in
       let r = stores_written (lists h) word blank written many is_word in (
@@ -57,7 +57,7 @@ module _ (slots id : ℕ) (v : View AppSide KernelSide) (held : List (ℕ × Pos
       → length v.app.published + length blank ≡ v.app.end
       → Allows BothAgree slots id (v, held) 1 (λ n. n) (LoadsHead (step slots 1 0 0 none) (v, held))
   loads_head blank is_app holds ends =
-      app_hands slots id 1 (λ n. n) (λ ws. ws) (λ ws. sym (set-get_or ws 1 0)) v held (LoadsHead (step slots 1 0 0 none) (v, held)) is_app (λ words homes d h both.
+      app_hands slots id 1 (λ n. n) v held (LoadsHead (step slots 1 0 0 none) (v, held)) is_app (λ words homes d h both.
       let a = v.app in
       let l = lists h in
       let r = loads_free l blank ends in (
@@ -66,7 +66,7 @@ module _ (slots id : ℕ) (v : View AppSide KernelSide) (held : List (ℕ × Pos
         head_loaded a (length d.taken + a.size),
         holds,
         r.0,
-        grind arith,
+        grind (arith, set-get_or),
         (length d.taken, blank ++ h.free, refl, grind (arith, put_many l, l.all, length-append), refl),
       ))
 
@@ -76,16 +76,16 @@ module _ (slots id : ℕ) (v : View AppSide KernelSide) (held : List (ℕ × Pos
       → length v.app.published + length blank ≡ v.app.end → length blank ≤ v.app.size
       → Allows BothAgree slots id (v, held) 1 (λ n. n) (GivesAll (step slots 1 0 0 none) (v, held))
   gives_all_places blank is_app holds ends few =
-      app_hands slots id 1 (λ n. n) (λ ws. ws) (λ ws. sym (set-get_or ws 1 0)) v held (GivesAll (step slots 1 0 0 none) (v, held)) is_app (λ words homes d h both.
+      app_hands slots id 1 (λ n. n) v held (GivesAll (step slots 1 0 0 none) (v, held)) is_app (λ words homes d h both.
       let r = gives_blank (lists h) blank ends in
-      (held_from v.app.start v.app.size (length v.app.published) blank, [], all_given v.app, holds, r.0, grind arith, refl))
+      (held_from v.app.start v.app.size (length v.app.published) blank, [], all_given v.app, holds, r.0, grind (arith, set-get_or), refl))
 
   -- the tail is loaded
   pub loads_tail : v.is_kernel ≡ true
       → held ≡ held_from v.kernel.start v.kernel.size (length v.kernel.taken) v.kernel.known
       → Allows BothAgree slots id (v, held) 0 (λ n. n) (LoadsTail (step slots 0 0 0 none) (v, held))
   loads_tail is_kernel holds =
-      kernel_hands slots id 0 (λ n. n) (λ ws. ws) (λ ws. sym (set-get_or ws 0 0)) v held (LoadsTail (step slots 0 0 0 none) (v, held)) is_kernel (λ words homes a h both.
+      kernel_hands slots id 0 (λ n. n) v held (LoadsTail (step slots 0 0 0 none) (v, held)) is_kernel (λ words homes a h both.
       let d = v.kernel in
       let n : ℕ = length d.taken in
       let s = h.sized in
@@ -96,7 +96,7 @@ module _ (slots id : ℕ) (v : View AppSide KernelSide) (held : List (ℕ × Pos
         tail_loaded d h.rest,
         holds ∙ (λ i. held_from (s.start i) (s.size i) n d.known),
         r.0,
-        grind arith,
+        grind (arith, set-get_or),
         (h.rest, (λ i. kernel_has (v, held) (tail_loaded d h.rest) (held_from (sym s.start i) (sym s.size i) n (d.known ++ h.rest))), grind (arith, put_many l, l.all), refl),
       ))
 
@@ -107,7 +107,7 @@ module _ (slots id : ℕ) (v : View AppSide KernelSide) (held : List (ℕ × Pos
       → word ≡ word_of v.kernel.start (length v.kernel.taken + length read)
       → Allows BothAgree slots id (v, held) 1 (λ _. word) (λ _. StoresHead (step slots 1 word 0 none) (v, held) word)
   stores_head word others read is_kernel holds known few is_word =
-      kernel_hands slots id 1 (λ _. word) (λ ws. set ws 1 word) (λ _. refl) v held (λ _. StoresHead (step slots 1 word 0 none) (v, held) word) is_kernel (λ words homes a h both.
+      kernel_hands slots id 1 (λ _. word) v held (λ _. StoresHead (step slots 1 word 0 none) (v, held) word) is_kernel (λ words homes a h both.
       let d = v.kernel in
       let n : ℕ = length d.taken in
       let s = h.sized in

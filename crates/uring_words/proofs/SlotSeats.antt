@@ -13,13 +13,12 @@ at_longer [] a b j e = grind (arith, get_elem?)
 at_longer (x ∷ xs) a b zero e = inl e
 at_longer (x ∷ xs) a b (suc j) e = grind (arith, at_longer xs a b j e)
 
--- A side hands slots over at word i, which becomes f of what it was, so that the words become others: what it knows fits the words and the slots at home.
-hands : {S X : Type 0} (i : ℕ) (f : ℕ → ℕ) (after_words : List ℕ → List ℕ) (same : (words : List ℕ) → after_words words ≡ set words i (f (get_or words i 0))) (held : List (ℕ × S)) (Fits : X → List ℕ → List (Option S) → Type 0) (Told : X → List (ℕ × S) → Type 0) (words : List ℕ) (homes : List (Option S))
-    → (old new : List (ℕ × S)) × (x : X) × (held ≡ old) × Valid homes old (changes old new) × Fits x (after_words words) (homes_after homes old (changes old new)) × Told x new
+-- A side hands slots over at word i, which becomes f of what it was: what it knows fits the words and the slots at home.
+hands : {S X : Type 0} (i : ℕ) (f : ℕ → ℕ) (held : List (ℕ × S)) (Fits : X → List ℕ → List (Option S) → Type 0) (Told : X → List (ℕ × S) → Type 0) (words : List ℕ) (homes : List (Option S))
+    → (old new : List (ℕ × S)) × (x : X) × (held ≡ old) × Valid homes old (changes old new) × Fits x (set words i (f (get_or words i 0))) (homes_after homes old (changes old new)) × Told x new
     → (x : X) × (act : Act S) × Valid homes held act × Fits x (set words i (f (get_or words i 0))) (homes_after homes held act) × Told x (carried_after held act)
-hands {S} i f after_words same held Fits Told words homes r =
+hands {S} i f held Fits Told words homes r =
     let act : Act S = changes r.0 r.1 in
-    let is = same words in
     let carried = changes-carried r.0 r.1 in
     (r.2, act, grind arith, grind arith, grind arith)
 
@@ -31,8 +30,7 @@ module _ {S A D : Type 0} {Agree : List ℕ → List (Option S) → A → D → 
       → Allows (SidesAgree Agree) slots id (v, held) i f then
   app_step slots id i f v held then is_app asked s kept _ at _ =
       let knows = kept.seats id v at in
-      let P : A → Type 0 = λ a. Agree s.words s.homes a kept.kernel in
-      let r = asked s.words s.homes kept.kernel (subst P (sym (knows.app is_app).1) kept.agree) (λ is. (knows.kernel is).1) in (
+      let r = asked s.words s.homes kept.kernel (rw (knows.app is_app).1 kept.agree) (λ is. (knows.kernel is).1) in (
         record v { app = r.0 },
         r.1,
         r.2,
@@ -54,8 +52,7 @@ module _ {S A D : Type 0} {Agree : List ℕ → List (Option S) → A → D → 
       → Allows (SidesAgree Agree) slots id (v, held) i f then
   kernel_step slots id i f v held then is_kernel asked s kept _ at _ =
       let knows = kept.seats id v at in
-      let P : D → Type 0 = λ d. Agree s.words s.homes kept.app d in
-      let r = asked s.words s.homes kept.app (subst P (sym (knows.kernel is_kernel).1) kept.agree) (λ is. (knows.app is).1) in (
+      let r = asked s.words s.homes kept.app (rw (knows.kernel is_kernel).1 kept.agree) (λ is. (knows.app is).1) in (
         record v { kernel = r.0 },
         r.1,
         r.2,
@@ -70,21 +67,21 @@ module _ {S A D : Type 0} {Agree : List ℕ → List (Option S) → A → D → 
         r.4,
       )
 
-  -- What a step that hands slots over asks, at which word i becomes f of what it was, and the words become so: the slots that the seat holds (old), those that it is to hold (new), what its side is to know, that these slots may be handed over, that the agreement is kept, and what the step tells.
-  module _ (slots id i : ℕ) (f : ℕ → ℕ) (after_words : List ℕ → List ℕ) (same : (words : List ℕ) → after_words words ≡ set words i (f (get_or words i 0))) (v : View A D) (held : List (ℕ × S)) (then : ℕ → Me S (View A D) → Type 0) where
+  -- What a step that hands slots over asks, at which word i becomes f of what it was: the slots that the seat holds (old), those that it is to hold (new), what its side is to know, that these slots may be handed over, that the agreement is kept, and what the step tells.
+  module _ (slots id i : ℕ) (f : ℕ → ℕ) (v : View A D) (held : List (ℕ × S)) (then : ℕ → Me S (View A D) → Type 0) where
     -- of the application's seat
     pub app_hands : v.is_app ≡ true
-        → ((words : List ℕ) (homes : List (Option S)) (d : D) → Agree words homes v.app d → (v.is_kernel ≡ true → v.kernel ≡ d) → (old new : List (ℕ × S)) × (b : A) × (held ≡ old) × Valid homes old (changes old new) × Agree (after_words words) (homes_after homes old (changes old new)) b d × then (get_or words i 0) (app_has (v, held) b new))
+        → ((words : List ℕ) (homes : List (Option S)) (d : D) → Agree words homes v.app d → (v.is_kernel ≡ true → v.kernel ≡ d) → (old new : List (ℕ × S)) × (b : A) × (held ≡ old) × Valid homes old (changes old new) × Agree (set words i (f (get_or words i 0))) (homes_after homes old (changes old new)) b d × then (get_or words i 0) (app_has (v, held) b new))
         → Allows (SidesAgree Agree) slots id (v, held) i f then
     app_hands is_app asked =
-        app_step slots id i f v held then is_app (λ words homes d h both. hands i f after_words same held (λ b ws hs. Agree ws hs b d) (λ b new. then (get_or words i 0) (app_has (v, held) b new)) words homes (asked words homes d h both))
+        app_step slots id i f v held then is_app (λ words homes d h both. hands i f held (λ b ws hs. Agree ws hs b d) (λ b new. then (get_or words i 0) (app_has (v, held) b new)) words homes (asked words homes d h both))
 
     -- of the dispatcher's
     pub kernel_hands : v.is_kernel ≡ true
-        → ((words : List ℕ) (homes : List (Option S)) (a : A) → Agree words homes a v.kernel → (v.is_app ≡ true → v.app ≡ a) → (old new : List (ℕ × S)) × (e : D) × (held ≡ old) × Valid homes old (changes old new) × Agree (after_words words) (homes_after homes old (changes old new)) a e × then (get_or words i 0) (kernel_has (v, held) e new))
+        → ((words : List ℕ) (homes : List (Option S)) (a : A) → Agree words homes a v.kernel → (v.is_app ≡ true → v.app ≡ a) → (old new : List (ℕ × S)) × (e : D) × (held ≡ old) × Valid homes old (changes old new) × Agree (set words i (f (get_or words i 0))) (homes_after homes old (changes old new)) a e × then (get_or words i 0) (kernel_has (v, held) e new))
         → Allows (SidesAgree Agree) slots id (v, held) i f then
     kernel_hands is_kernel asked =
-        kernel_step slots id i f v held then is_kernel (λ words homes a h both. hands i f after_words same held (λ e ws hs. Agree ws hs a e) (λ e new. then (get_or words i 0) (kernel_has (v, held) e new)) words homes (asked words homes a h both))
+        kernel_step slots id i f v held then is_kernel (λ words homes a h both. hands i f held (λ e ws hs. Agree ws hs a e) (λ e new. then (get_or words i 0) (kernel_has (v, held) e new)) words homes (asked words homes a h both))
 
   -- a new table keeps the rule, if what its first seat knows agrees
   pub opens_with : (words : List ℕ) (slots : List S) (a : A) (d : D) → Agree words (map some slots) a d
