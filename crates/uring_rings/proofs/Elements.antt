@@ -6,15 +6,13 @@ use Rattle.uring_rings.proofs.Common.{get_or_read, slice_get}
 
 pub slice_get_append_left : {A : Type 0} (xs ys : List A) (k : ℕ) → k < length xs
     → slice_get (xs ++ ys) k ≡ slice_get xs k
-slice_get_append_left [] ys k within = absurd (omega arith)
-slice_get_append_left (x ∷ xs) ys zero within = refl
 slice_get_append_left (x ∷ xs) ys (suc k) within = slice_get_append_left xs ys k (omega arith)
+slice_get_append_left xs ys k within = grind arith
 
 pub slice_get_append_right : {A : Type 0} (xs ys : List A) (k : ℕ) → length xs ≤ k
     → slice_get (xs ++ ys) k ≡ slice_get ys (k - length xs)
-slice_get_append_right [] ys k past = ap (λ (n : ℕ). slice_get ys n) (omega arith)
-slice_get_append_right (x ∷ xs) ys zero past = absurd (omega arith)
 slice_get_append_right (x ∷ xs) ys (suc k) past = grind (arith, slice_get_append_right xs ys k)
+slice_get_append_right xs ys k past = grind arith
 
 -- what is read from the cell of a word
 pub read_cell : (array : List ℕ) (cell word n size x : ℕ) → x ≡ get_or array cell x

@@ -6,16 +6,11 @@ use Rattle.std.proofs.lemmas.List.Sums.{sum_by-append, sum_by-cons}
 use Rattle.std.proofs.Math.Seq.{take-add}
 use Rattle.std.specs.Prelude.{is_none}
 
-one_more : (o : Option Sqe) (xs : List Sqe) (m n : ℕ) → length xs + m ≡ n
-    → length (cons_option o xs) + (cond (is_none o) 1 0 + m) ≡ suc n
-one_more o xs m n e = grind arith
-
 -- each place has an entry, or its word is dropped
 pub entries_and_dropped : (places : List Place)
     → length (entries_of places) + dropped_in places ≡ length places
 entries_and_dropped [] = refl
-entries_and_dropped (p ∷ places) =
-    rw sum_by-cons (one_more p.entry (entries_of places) (dropped_in places) (length places) (entries_and_dropped places))
+entries_and_dropped (p ∷ places) = rw sum_by-cons (grind (arith, cond, entries_and_dropped places))
 
 -- the next place, at the end of those taken
 pub places_more : (places : List Place) (n t : ℕ) (p : Place) → slice_get places (n + t) ≡ Some p
