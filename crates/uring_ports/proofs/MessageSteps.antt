@@ -7,7 +7,7 @@ use Rattle.std.proofs.lemmas.Bool.{cases_Bool, false≢true}
 use Rattle.uring_ports.specs.declared.item.Item.{Item}
 use Rattle.uring_ports.specs.declared.message.Message.{Message}
 use Rattle.uring_ports.specs.Ports.{Put, with_call, with_close, items_of_calls, places_of, LeavesItems}
-use Rattle.uring_ports.specs.Messages.{close_mark, item_before, items_before, messages_of_calls, messages_of, calls_of, items_of, has_close_mark, put_of, AreWhole, owed, Continues, MayFollow}
+use Rattle.uring_ports.specs.Messages.{close_mark, item_before, items_before, messages_of, calls_of, items_of, has_close_mark, put_of, AreWhole, owed, Continues, MayFollow}
 use Rattle.uring_ports.proofs.MessageLemmas.{AreSome, some_calls_of, some_append, calls_of_calls, close_mark_call, length_messages_of_calls, owed_from_append, owed_from_items, owed_calls}
 
 -- nothing is owed after whole messages with no close mark

@@ -1,7 +1,7 @@
 -- Elements of lists, by their places: of two lists joined, and of an array read at a word's cell.
 -- By induction over the list: nothing here knows of a ring.
 -- Stable: rings as shared words are to cite these lemmas too.
-use Rattle.std.proofs.Common.{◌≡◌, ℕ, ◌-◌, ◌%◌, ◌<◌, ◌≤◌, List, [], ◌∷◌, ◌++◌, length, get_or, zero, suc, refl, ap, arith}
+use Rattle.std.proofs.Common.{◌≡◌, ℕ, ◌-◌, ◌%◌, ◌<◌, ◌≤◌, List, ◌∷◌, ◌++◌, length, get_or, suc, arith}
 use Rattle.uring_rings.proofs.Common.{get_or_read, slice_get}
 
 pub slice_get_append_left : {A : Type 0} (xs ys : List A) (k : ℕ) → k < length xs

@@ -1,10 +1,9 @@
 -- The entries and the dropped words among published places.
-use Rattle.std.proofs.Common.{◌≡◌, ℕ, ◌+◌, ◌<◌, List, [], ◌∷◌, ◌++◌, length, take, drop, get_or, cond, Option, Some, None, refl, ap, ◌∙◌, arith, suc}
-use Rattle.uring_rings.proofs.Common.{Place, Sqe, append-nil, cons_option, dropped_in, entries_of, get_or-drop, get_or_from_slice_get, length-drop, length_push, slice_get, slice_get_within, take_more}
+use Rattle.std.proofs.Common.{◌≡◌, ℕ, ◌+◌, List, [], ◌∷◌, ◌++◌, length, take, drop, cond, Some, None, refl, ap, arith}
+use Rattle.uring_rings.proofs.Common.{Place, Sqe, append-nil, dropped_in, entries_of, get_or-drop, get_or_from_slice_get, length-drop, length_push, slice_get, slice_get_within, take_more}
 use Rattle.std.proofs.lemmas.List.Elements.{filter_map-append}
 use Rattle.std.proofs.lemmas.List.Sums.{sum_by-append, sum_by-cons}
 use Rattle.std.proofs.Math.Seq.{take-add}
-use Rattle.std.specs.Prelude.{is_none}
 
 -- each place has an entry, or its word is dropped
 pub entries_and_dropped : (places : List Place)

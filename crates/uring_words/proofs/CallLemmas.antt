@@ -1,5 +1,5 @@
 -- What positions more do to the calls that positions hold.
-use Rattle.std.proofs.Common.{◌≡◌, ◌↔◌, ◌<◌, Bool, true, false, List, [], ◌∷◌, ◌++◌, length, refl, sym, ap, subst, arith, append-nil, length-append}
+use Rattle.std.proofs.Common.{◌≡◌, ◌↔◌, ◌<◌, Bool, true, false, List, [], ◌∷◌, ◌++◌, length, refl, sym, ap, arith, append-nil, length-append}
 use Rattle.std.proofs.lemmas.Bool.{cases_Bool}
 use Rattle.std.proofs.lemmas.List.{nil_from_length}
 use Rattle.uring_words.proofs.Common.{AreWhole, AreWholeFrom, Item, LeavesItems, Position, Put, all_more, calls_of, false≢true, has_close_mark, items_of, items_of_calls, places_of, put_of, with_call, with_close}

@@ -1,5 +1,5 @@
 -- The first cell that an end of the completion ring holds.
-use Rattle.std.proofs.Common.{◌≡◌, ℕ, ◌+◌, ◌%◌, ◌^◌, ◌<◌, List, [], ◌∷◌, ◌++◌, length, sym, ◌∙◌, ap, arith, length-append}
+use Rattle.std.proofs.Common.{◌≡◌, ℕ, ◌+◌, ◌%◌, ◌^◌, ◌<◌, List, [], ◌∷◌, ◌++◌, length, ◌∙◌, ap, arith, length-append}
 use mathlib.Core.Option.{none}
 use Rattle.uring_words.proofs.Common.{Allows, BothAgree, IsReader, TableId, View, held_from, place_of, rest, step}
 use Rattle.uring_words.specs.Completion.Ends.{End, IsWriter}

@@ -3,7 +3,6 @@ use Rattle.uring_words.proofs.Common.{Agree, Allows, BothAgree, IsPowerOfTwo, Vi
 use Rattle.std.proofs.Common.{◌≡◌, ℕ, ◌+◌, ◌^◌, ◌<◌, ◌≤◌, true, List, [], ◌∷◌, ◌++◌, length, get_or, refl, sym, ◌∙◌, ap, ap₂, arith, length-append, get_or-set_other, get_or-set_same}
 use mathlib.Core.Option.{Option, none}
 use Rattle.uring_entry.specs.Layout.{Cqe}
-use Rattle.uring_ports.specs.Dropped.{WereHad}
 use Rattle.uring_words.specs.Completion.Layout.{tail_index, head_index, dropped_index}
 use Rattle.uring_words.specs.Completion.Steps.{put_first, dropped_stored, head_loaded, all_given, tail_loaded, got_first, dropped_loaded, StoresTail, StoresDropped, LoadsHead, GivesAll, LoadsTail, StoresHead, LoadsDropped}
 use Rattle.uring_words.specs.declared.completion.view.AppSide.{AppSide}

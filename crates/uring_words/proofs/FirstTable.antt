@@ -1,6 +1,6 @@
 -- A new table of either ring: nothing was put, and every place is free.
 use Rattle.uring_words.proofs.Common.{IsPowerOfTwo, StandFrom, length-map, length-replicate, replicate}
-use Rattle.std.proofs.Common.{◌≡◌, ℕ, zero, suc, ◌+◌, ◌<◌, ◌≤◌, ◌^◌, ◌%◌, List, [], ◌∷◌, length, map, refl, arith}
+use Rattle.std.proofs.Common.{◌≡◌, ℕ, zero, suc, ◌+◌, ◌<◌, ◌≤◌, ◌^◌, ◌%◌, List, [], ◌∷◌, length, map, arith}
 use mathlib.Core.Option.{Option, some}
 use lib.ListN.{get_elem?}
 use Rattle.uring_words.proofs.RingLists.{ListsAgree}

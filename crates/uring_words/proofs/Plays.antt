@@ -1,6 +1,6 @@
 -- What each step of a seat of the submission ring's table asks. v is what the seat knows, and held what it holds.
 use Rattle.uring_words.proofs.Common.{Allows, AreWhole, GivesAll, IsPowerOfTwo, LoadsHead, LoadsTail, Position, StoresHead, StoresTail, View, all_given, app_has, head_loaded, head_stored, held_from, kernel_has, opening, replicate, set-get_or, step, tail_loaded, tail_stored, with_first_after, word_of}
-use Rattle.std.proofs.Common.{◌<◌, ◌∷◌, ◌≡◌, ℕ, ◌+◌, ◌≤◌, ◌^◌, true, List, [], ◌++◌, length, set, refl, sym, ◌∙◌, ap, arith, length-append}
+use Rattle.std.proofs.Common.{◌<◌, ◌∷◌, ◌≡◌, ℕ, ◌+◌, ◌≤◌, ◌^◌, true, List, [], ◌++◌, length, refl, sym, ◌∙◌, ap, arith, length-append}
 use mathlib.Core.Option.{Option, none}
 use Rattle.uring_words.specs.Submission.Rule.{Agree, BothAgree, at_first}
 use Rattle.uring_words.specs.declared.sides.Shape.{Shape}

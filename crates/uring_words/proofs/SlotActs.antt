@@ -1,7 +1,7 @@
 -- Acts that hand on slots one after the other, and what they leave at home.
 use Rattle.std.proofs.Common.{◌≡◌, ℕ, ◌+◌, ◌%◌, ◌<◌, ◌≤◌, ◌^◌, List, [], ◌∷◌, ◌++◌, length, set, refl, ap, subst, arith, length-set}
 use Rattle.uring_words.proofs.Common.{Act, IsPowerOfTwo, StandFrom, Valid, carried_after, cases_lt, chain, gives, held_from, homes_after, keeps, place_of, rest, set_else, set_here, takes, word_of}
-use mathlib.Core.Option.{Option, none, some}
+use mathlib.Core.Option.{Option, some}
 use Rattle.std.proofs.lemmas.Nat.{mod_below}
 use Rattle.uring_rings.proofs.Counts.{same_cell}
 use Rattle.uring_words.proofs.Standing.{some_size}

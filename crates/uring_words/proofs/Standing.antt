@@ -1,7 +1,7 @@
 -- The places of counts.
 use Rattle.std.proofs.Common.{◌≡◌, ℕ, ◌+◌, ◌%◌, ◌^◌, ◌<◌, ◌≤◌, sym, ◌∙◌, ap, arith}
 use Rattle.std.proofs.Math.Nat.{add-mod_right}
-use Rattle.std.proofs.lemmas.Nat.{mod_below, pow_pos}
+use Rattle.std.proofs.lemmas.Nat.{pow_pos}
 use Rattle.uring_words.proofs.Common.{IsPowerOfTwo, place_of, word_of}
 use Rattle.uring_rings.proofs.Counts.{cell_of_count}
 
