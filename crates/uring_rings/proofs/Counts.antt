@@ -1,4 +1,4 @@
--- Index words and the counts that they stand for, over plain numbers: two counts less than 2 ^ 32 apart with one word are one, and the cell of a count.
+-- The cells of index words and of the counts that they stand for, over plain numbers, in a ring whose size is a power of two.
 -- By arithmetic on remainders alone: nothing here knows of a ring.
 -- Stable: rings as shared words are to cite these lemmas too.
 use Rattle.std.proofs.Common.{◌≡◌, ℕ, ◌+◌, ◌-◌, ◌%◌, ◌^◌, ◌<◌, ◌≤◌, sym, subst, arith}
