@@ -1,8 +1,7 @@
 -- Sets of numbers as blocks: what is found at a place, and what a write of a block does to the set. `uring_dispatch` imports `holds_same` and `popped`.
-use Rattle.std.proofs.Common.{◌≡◌, ◌≢◌, ℕ, ◌+◌, ◌-◌, ◌*◌, ◌/◌, ◌%◌, ◌^◌, ◌<◌, ◌≤◌, List, [], ◌∷◌, ◌++◌, length, get_or, set, Bool, true, false, eqb, bit_and, bit_or, refl, sym, ◌∙◌, ap, arith, inl, inr, w64, length-set, length-append, Option, Some}
+use Rattle.std.proofs.Common.{◌≡◌, ◌≢◌, ℕ, ◌+◌, ◌-◌, ◌*◌, ◌/◌, ◌%◌, ◌^◌, ◌<◌, ◌≤◌, List, [], ◌∷◌, ◌++◌, length, get_or, set, Bool, true, false, eqb, bit_and, bit_or, refl, sym, ◌∙◌, ap, arith, w64, length-set, length-append, Option, Some}
 use Rattle.std.specs.Int.{bit_at, bit_not, trailing_zeros}
 use Rattle.std.specs.Option.{option_to_list}
-use Rattle.std.proofs.lemmas.Bool.{cases_lt, cases_eq, eq-eqb, both_ways}
 use Rattle.std.proofs.lemmas.List.{get_or_past, get_or-set_same, get_or-set_other}
 use Rattle.std.proofs.lemmas.Nat.Bits.{bit_at-zero, bit_at_above, bit_at_set_same, bit_at_set_other, bit_at_clear_same, bit_at_clear_other, bit_at-trailing_zeros}
 use Rattle.std.proofs.lemmas.Nat.{shr-shr, shr_le}
@@ -33,14 +32,6 @@ pub block_of_pop : (first : ℕ) (blocks : List ℕ) (i : ℕ)
     → block_of (first + 1) blocks i ≡ block_of first (0 ∷ blocks) i
 block_of_pop first blocks i = grind (arith, block_of_low, block_of_high)
 
-block_of_set_here : (first : ℕ) (blocks : List ℕ) (i block : ℕ) → first ≤ i
-    → i < first + length blocks → block_of first (set blocks (i - first) block) i ≡ block
-block_of_set_here first blocks i block le lt = grind (arith, block_of_high, get_or-set_same)
-
-block_of_set_other : (first : ℕ) (blocks : List ℕ) (i k block : ℕ) → first ≤ i → k ≢ i
-    → block_of first (set blocks (i - first) block) k ≡ block_of first blocks k
-block_of_set_other first blocks i k block le ne = grind (arith, block_of_low, block_of_high, get_or-set_other)
-
 -- what is dropped from the front of a queue
 pub popped : {X : Type 0} (old new : List X) (r : Option X) (x y : X)
     → old ≡ option_to_list r ++ new → ((d : X) → r ≡ Some (get_or old 0 d)) → x ≡ get_or old 0 x
@@ -69,41 +60,14 @@ written : (s t : NumberSet) (n block : ℕ) (now : Bool) → Covers s n → t.fi
     → ((i : ℕ) → i < 64 → i ≢ n % 64 → bit_at block i ≡ bit_at (block_at s (n / 64)) i)
     → Puts s t n now
 written s t n block now c first blocks limit here others =
-    let from = c.from in
-    let to = c.to in
-    let place : s.first ≤ n / 64 = omega arith in
-    let inside : n / 64 < s.first + length s.blocks = omega arith in
-    let at_place : (k : ℕ) → block_at t k ≡ block_of s.first (set s.blocks (n / 64 - s.first) block) k =
-    λ k. ap (λ f. block_of f t.blocks k) first ∙ ap (λ bs. block_of s.first bs k) blocks
-    in
-    let wrote : block_at t (n / 64) ≡ block = at_place (n / 64) ∙ block_of_set_here s.first s.blocks (n / 64) block place inside in
-    record {
-      here = holds_block t n block wrote ∙ here;
-      others = λ k ne.
-          elim (cases_eq (k / 64) (n / 64)) [
-            | inl same ↦
-                holds_block t k block (ap (block_at t) same ∙ wrote)
-                ∙ ap (λ b. eqb b 1) (others (k % 64) (omega arith) (λ e. absurd (ne (omega (arith, e)))))
-                ∙ ap (λ i. eqb (bit_at (block_at s i) (k % 64)) 1) (sym same)
-                ∙ sym (holds_block s k (block_at s (k / 64)) refl)
-            | inr apart ↦
-                holds_block t k (block_at s (k / 64)) (at_place (k / 64) ∙ block_of_set_other s.first s.blocks (n / 64) (k / 64) block place apart)
-                ∙ sym (holds_block s k (block_at s (k / 64)) refl)
-          ];
-      blocks = λ i ne. at_place i ∙ block_of_set_other s.first s.blocks (n / 64) i block place ne;
-      start = first;
-      stop = ap length blocks ∙ length-set s.blocks (n / 64 - s.first) block;
-      limit = limit;
-    }
+    grind (arith, c.from, c.to, block_of_high, block_of_low, get_or-set_same, get_or-set_other, length-set, holds_block)
 
 pub insert_puts : (s t : NumberSet) (n block : ℕ) → Covers s n → block ≡ block_at s (n / 64)
     → t.first ≡ s.first
     → t.blocks ≡ set s.blocks (n / 64 - s.first) (bit_or block (1 * 2 ^ (n % 64) % 2 ^ 64))
     → t.limit ≡ s.limit → Puts s t n true
 insert_puts s t n block c was first blocks limit =
-    let low : n % 64 < 64 = omega arith in
-    written s t n _ true c first blocks limit (eq-eqb _ 1 (bit_at_set_same w64 block (n % 64) low))
-    (λ i lt ne. bit_at_set_other w64 block (n % 64) low i ne ∙ ap (λ b. bit_at b i) was)
+    written s t n _ true c first blocks limit (grind (arith, bit_at_set_same w64 block (n % 64))) (λ i lt ne. grind (arith, bit_at_set_other w64 block (n % 64)))
 
 pub remove_puts : (s t : NumberSet) (n block : ℕ) → Covers s n → block ≡ block_at s (n / 64)
     → t.first ≡ s.first
@@ -111,10 +75,7 @@ pub remove_puts : (s t : NumberSet) (n block : ℕ) → Covers s n → block ≡
     ≡ set s.blocks (n / 64 - s.first) (bit_and block (bit_not w64 (1 * 2 ^ (n % 64) % 2 ^ 64)))
     → t.limit ≡ s.limit → Puts s t n false
 remove_puts s t n block c was first blocks limit =
-    let low : n % 64 < 64 = omega arith in
-    let none = bit_at_clear_same w64 block (n % 64) low in
-    written s t n _ false c first blocks limit (ap (λ b. eqb b 1) none)
-    (λ i lt ne. bit_at_clear_other w64 block (n % 64) low i lt ne ∙ ap (λ b. bit_at b i) was)
+    written s t n _ false c first blocks limit (grind (arith, bit_at_clear_same w64 block (n % 64))) (λ i lt ne. grind (arith, bit_at_clear_other w64 block (n % 64)))
 
 -- The lowest bit of a block that isn't zero is in the set.
 pub lowest_holds : (s : NumberSet) (place block : ℕ) → block ≡ block_at s place → 0 < block
@@ -123,33 +84,21 @@ lowest_holds s place block is some fits = grind (arith, (bit_at-trailing_zeros w
 
 -- The least number of a block, from one of its numbers on.
 
--- a block without its low bits
-bit_at_shr : (block k i : ℕ) → bit_at (block / 2 ^ k) i ≡ bit_at block (k + i)
-bit_at_shr block k i = ap (λ b. b % 2) (shr-shr block k i)
-
 pub block_none : (block n : ℕ) → block / 2 ^ (n % 64) ≡ 0 → HasNoneFrom block n
-block_none block n zero k le same = grind (arith, (bit_at_shr block (n % 64) (k % 64 - n % 64)))
+block_none block n zero k le same = grind (arith, shr-shr block (n % 64) (k % 64 - n % 64))
 
 pub block_least : (block n : ℕ) → block < 2 ^ 64 → 0 < block / 2 ^ (n % 64)
     → IsLeastOf block n (n + trailing_zeros w64 (block / 2 ^ (n % 64)))
 block_least block n fits some =
-    let t : ℕ = trailing_zeros w64 (block / 2 ^ (n % 64)) in
+    let zeros : ℕ = trailing_zeros w64 (block / 2 ^ (n % 64)) in
     let low = bit_at-trailing_zeros w64 (block / 2 ^ (n % 64)) some (omega (arith, shr_le block (n % 64))) in
-    let here : bit_at block (n % 64 + t) ≡ 1 = sym (bit_at_shr block (n % 64) t) ∙ low.1 in
-    let small : n % 64 + t < 64 =
-    elim (cases_lt (n % 64 + t) 64) [
-      | inl lt ↦ lt
-      | inr le ↦ absurd (omega (arith, bit_at_above block 64 (n % 64 + t) fits le))
-    ]
-    in
-    let place : (n + t) % 64 ≡ n % 64 + t = omega arith in
+    let here : bit_at block (n % 64 + zeros) ≡ 1 = grind (arith, low.1, shr-shr block (n % 64) zeros) in
+    let small : n % 64 + zeros < 64 = grind (arith, bit_at_above block 64 (n % 64 + zeros) fits) in
     record {
       from = omega arith;
       same = omega arith;
-      here = ap (bit_at block) place ∙ here;
-      before = λ k le lt.
-          let after : k % 64 ≡ n % 64 + (k - n) = omega arith in
-          ap (bit_at block) after ∙ sym (bit_at_shr block (n % 64) (k - n)) ∙ low.2 (k - n) (omega arith);
+      here = grind arith;
+      before = λ k le lt. grind (arith, shr-shr block (n % 64) (k - n), low.2 (k - n));
     }
 
 -- The least number of the set from n on: it is in n's block, or else in the first block after it that isn't zero.
@@ -157,20 +106,13 @@ pub least_within : (s : NumberSet) (n block m : ℕ) → block ≡ block_at s (n
     → IsLeastOf block n m → IsLeastFrom s n m
 least_within s n block m is l = grind (arith, holds_block)
 
-none_within : (s : NumberSet) (n block k : ℕ) → block ≡ block_at s (n / 64) → HasNoneFrom block n
-    → n ≤ k → k / 64 ≡ n / 64 → holds s k ≡ false
-none_within s n block k is none le same = grind (arith, holds_block)
-
 pub none_from : (s : NumberSet) (n block : ℕ) → block ≡ block_at s (n / 64) → HasNoneFrom block n
     → ((i : ℕ) → n / 64 + 1 ≤ i → block_at s i ≡ 0) → (k : ℕ) → n ≤ k → holds s k ≡ false
-none_from s n block is none zeros k le = grind (arith, none_within)
+none_from s n block is none zeros k le = grind (arith, holds_zero, holds_block)
 
 pub least_after : (s : NumberSet) (n block place found : ℕ) → block ≡ block_at s (n / 64)
     → HasNoneFrom block n → found ≡ block_at s place → 0 < found → found < 2 ^ 64
     → n / 64 + 1 ≤ place → ((i : ℕ) → n / 64 + 1 ≤ i → i < place → block_at s i ≡ 0)
     → IsLeastFrom s n (64 * place + trailing_zeros w64 found)
 least_after s n block place found is none at_place some fits after zeros =
-    grind (arith, (bit_at-trailing_zeros w64 found some fits), (lowest_holds s place found at_place some fits), none_within, holds_zero, holds_block)
-
-pub block_not_zero : (s : NumberSet) (n : ℕ) → holds s n ≡ true → block_at s (n / 64) ≢ 0
-block_not_zero s n e zero = both_ways _ (holds_zero s n zero) e
+    grind (arith, (bit_at-trailing_zeros w64 found some fits), (lowest_holds s place found at_place some fits), holds_zero, holds_block)

@@ -28,9 +28,7 @@ pub sends_all : (ms past : List Message) (items : List Item) (i : ℕ) → AreWh
     → has_close_mark ms ≡ false → 0 < length items → length items ≤ i
     → past ≡ ms ++ items_before (length items - i) (take i items)
     → Sent past (with_call (put_of ms) items)
-sends_all ms past items i are_whole open' some all is =
-    let none : length items - i ≡ 0 = omega arith in
-    rw is (rw (none, take_all i items all) (sends_call ms items are_whole open' some))
+sends_all ms past items i are_whole open' some all is = grind (arith, take_all, sends_call)
 
 -- one item more is taken
 pub takes_item : (before past : List Message) (items : List Item) (left n : ℕ) (m : Message)

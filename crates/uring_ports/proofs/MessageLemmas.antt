@@ -1,9 +1,9 @@
 -- What messages were sent for is what they are the messages of.
-use Rattle.std.proofs.Common.{◌≡◌, ℕ, suc, ◌+◌, Bool, List, [], ◌∷◌, ◌++◌, length, if◌then◌else◌, refl, sym, ◌∙◌, ap, arith, append_assoc, add-zero, zero-add, length-append, append-nil}
+use Rattle.std.proofs.Common.{◌≡◌, ℕ, suc, ◌+◌, List, [], ◌∷◌, ◌++◌, length, refl, ◌∙◌, ap, arith, append_assoc, add-zero, zero-add, length-append}
 use Rattle.uring_ports.specs.declared.item.Item.{Item}
 use Rattle.uring_ports.specs.declared.message.Message.{Message}
-use Rattle.uring_ports.specs.Ports.{Put, places_of, items_of_calls}
-use Rattle.uring_ports.specs.Messages.{close_mark, item_before, items_before, messages_of_calls, messages_of, with_item, calls_of, has_close_mark, put_of, AreWhole, owed_from, owed}
+use Rattle.uring_ports.specs.Ports.{items_of_calls}
+use Rattle.uring_ports.specs.Messages.{item_before, items_before, messages_of_calls, calls_of, has_close_mark, owed_from, owed}
 
 -- no call is empty
 abbrev pub AreSome : List (List Item) → Type 0
@@ -11,17 +11,9 @@ AreSome [] = Unit {0}
 AreSome ([] ∷ calls) = ⊥
 AreSome ((x ∷ xs) ∷ calls) = AreSome calls
 
-some_with_item : (left : ℕ) (x : Item) (calls : List (List Item)) → AreSome calls
-    → AreSome (with_item left x calls)
-some_with_item left x calls some = grind arith
-
-if_some : (b : Bool) (xs ys : List (List Item)) → AreSome xs → AreSome ys
-    → AreSome (if b then xs else ys)
-if_some b xs ys p q = grind arith
-
 pub some_calls_of : (ms : List Message) → AreSome (calls_of ms)
 some_calls_of [] = tt
-some_calls_of (m ∷ ms) = if_some m.closes [] (with_item m.left m.item (calls_of ms)) tt (some_with_item m.left m.item (calls_of ms) (some_calls_of ms))
+some_calls_of (m ∷ ms) = grind (arith, some_calls_of ms)
 
 pub some_append : (xs ys : List (List Item)) → AreSome xs → AreSome ys → AreSome (xs ++ ys)
 some_append [] ys p q = q
@@ -33,34 +25,21 @@ pub calls_of_call : (x : Item) (xs : List Item) (rest : List Message)
 calls_of_call x [] rest = refl
 calls_of_call x (y ∷ ys) rest = rw (add-zero (length (y ∷ ys)), calls_of_call y ys rest) refl
 
-pub calls_of_calls : (calls : List (List Item)) (rest : List Message) → AreSome calls
-    → calls_of (messages_of_calls calls ++ rest) ≡ calls ++ calls_of rest
-calls_of_calls [] rest some = refl
-calls_of_calls ([] ∷ calls) rest some = absurd some
-calls_of_calls ((x ∷ xs) ∷ calls) rest some = ap calls_of (append_assoc (items_before 0 (x ∷ xs)) (messages_of_calls calls) rest) ∙ calls_of_call x xs (messages_of_calls calls ++ rest) ∙ ap (λ cs. (x ∷ xs) ∷ cs) (calls_of_calls calls rest some)
-
 pub close_mark_call : (left : ℕ) (xs : List Item) (rest : List Message)
     → has_close_mark (items_before left xs ++ rest) ≡ has_close_mark rest
 close_mark_call left [] rest = refl
 close_mark_call left (x ∷ xs) rest = close_mark_call left xs rest
 
-pub close_mark_calls : (calls : List (List Item)) (rest : List Message)
-    → has_close_mark (messages_of_calls calls ++ rest) ≡ has_close_mark rest
-close_mark_calls [] rest = refl
-close_mark_calls (call ∷ calls) rest = rw append_assoc (close_mark_call 0 call (messages_of_calls calls ++ rest) ∙ close_mark_calls calls rest)
-
-put_of_closing : (calls : List (List Item)) (closed : Bool) → AreSome calls
-    → put_of (messages_of_calls calls ++ (if closed then close_mark ∷ [] else []))
-    ≡ record { calls = calls; closed = closed }
-put_of_closing calls closed some = grind (arith, close_mark, calls_of_calls, append-nil, close_mark_calls)
-
--- messages of something were sent for just that
-pub stands : (ms : List Message) (p : Put) → AreSome p.calls → ms ≡ messages_of p → put_of ms ≡ p
-stands ms p some is = ap put_of is ∙ put_of_closing p.calls p.closed some
-
--- so they are whole
-pub whole : (ms : List Message) (p : Put) → AreSome p.calls → ms ≡ messages_of p → AreWhole ms
-whole ms p some is = ap messages_of (stands ms p some is) ∙ sym is
+pub calls_of_calls : (calls : List (List Item)) (rest : List Message) → AreSome calls
+    → (calls_of (messages_of_calls calls ++ rest) ≡ calls ++ calls_of rest) × (has_close_mark (messages_of_calls calls ++ rest) ≡ has_close_mark rest)
+calls_of_calls [] rest some = (refl, refl)
+calls_of_calls ([] ∷ calls) rest some = absurd some
+calls_of_calls ((x ∷ xs) ∷ calls) rest some =
+    let assoc = append_assoc (items_before 0 (x ∷ xs)) (messages_of_calls calls) rest in
+    let r = calls_of_calls calls rest some in (
+      ap calls_of assoc ∙ calls_of_call x xs (messages_of_calls calls ++ rest) ∙ ap (λ cs. (x ∷ xs) ∷ cs) r.0,
+      ap has_close_mark assoc ∙ close_mark_call 0 (x ∷ xs) (messages_of_calls calls ++ rest) ∙ r.1,
+    )
 
 pub length_items_before : (left : ℕ) (xs : List Item) → length (items_before left xs) ≡ length xs
 length_items_before left [] = refl
@@ -71,13 +50,10 @@ pub length_messages_of_calls : (calls : List (List Item))
 length_messages_of_calls [] = refl
 length_messages_of_calls (call ∷ calls) = rw (length-append (items_before 0 call) (messages_of_calls calls), length-append call (items_of_calls calls)) (rw (length_items_before 0 call, length_messages_of_calls calls) refl)
 
-pub length_messages_of : (p : Put) → length (messages_of p) ≡ places_of p
-length_messages_of p = grind (arith, length-append, length_messages_of_calls)
-
 pub items_before_snoc : (left : ℕ) (xs : List Item) (x : Item)
     → items_before (suc left) xs ++ item_before left x ∷ [] ≡ items_before left (xs ++ x ∷ [])
 items_before_snoc left [] x = rw zero-add refl
-items_before_snoc left (y ∷ ys) x = ap (λ n. item_before n y ∷ (items_before (suc left) ys ++ item_before left x ∷ [])) (omega (arith, length-append ys (x ∷ []))) ∙ ap (λ ms. item_before (length (ys ++ x ∷ []) + left) y ∷ ms) (items_before_snoc left ys x)
+items_before_snoc left (y ∷ ys) x = grind (arith, length-append ys (x ∷ []), items_before_snoc left ys x)
 
 pub owed_from_append : (n : ℕ) (xs ys : List Message)
     → owed_from n (xs ++ ys) ≡ owed_from (owed_from n xs) ys
@@ -89,11 +65,8 @@ pub owed_from_items : (n left : ℕ) (x : Item) (xs : List Item)
 owed_from_items n left x [] = zero-add left
 owed_from_items n left x (y ∷ ys) = owed_from_items (length (y ∷ ys) + left) left y ys
 
-owed_from_call : (call : List Item) → owed_from 0 (items_before 0 call) ≡ 0
-owed_from_call [] = refl
-owed_from_call (x ∷ xs) = owed_from_items 0 0 x xs
-
 -- after whole calls nothing is owed
 pub owed_calls : (calls : List (List Item)) → owed (messages_of_calls calls) ≡ 0
 owed_calls [] = refl
-owed_calls (call ∷ calls) = rw (owed_from_append, owed_from_call) (owed_calls calls)
+owed_calls ([] ∷ calls) = owed_calls calls
+owed_calls ((x ∷ xs) ∷ calls) = grind (arith, owed_from_append (length xs + 0) (items_before 0 xs), owed_from_items 0 0 x xs, owed_calls calls)

@@ -1,73 +1,48 @@
 -- What a message more, a call more and a close mark do to what messages were sent for, and what is left of it.
-use Rattle.std.proofs.Common.{◌≡◌, ℕ, suc, ◌<◌, Bool, true, false, ◌||◌, List, [], ◌∷◌, ◌++◌, length, if◌then◌else◌, refl, sym, ◌∙◌, ap, arith, append_assoc, append-nil}
+use Rattle.std.proofs.Common.{◌≡◌, ℕ, suc, ◌<◌, true, false, ◌||◌, List, [], ◌∷◌, ◌++◌, length, refl, sym, ◌∙◌, ap, arith, append_assoc, append-nil, length-append}
 use Rattle.std.proofs.Math.Bool.{or_assoc}
 use Rattle.std.proofs.lemmas.Grind.{flat_map-append}
 use Rattle.std.proofs.lemmas.List.{append_cancel_left}
-use Rattle.std.proofs.lemmas.Bool.{false≢true}
+use Rattle.std.proofs.lemmas.Bool.{cases_Bool, false≢true}
 use Rattle.uring_ports.specs.declared.item.Item.{Item}
 use Rattle.uring_ports.specs.declared.message.Message.{Message}
 use Rattle.uring_ports.specs.Ports.{Put, with_call, with_close, items_of_calls, places_of, LeavesItems}
-use Rattle.uring_ports.specs.Messages.{close_mark, item_before, items_before, messages_of_calls, messages_of, calls_of, items_of, has_close_mark, put_of, AreWhole, owed, Continues, MayFollow}
-use Rattle.uring_ports.proofs.MessageLemmas.{AreSome, some_calls_of, some_append, calls_of_calls, stands, whole, length_messages_of, owed_from_append, owed_from_items, owed_calls}
-
--- whole messages with no close mark are those of their calls
-pub open_calls : (ms : List Message) → AreWhole ms → has_close_mark ms ≡ false
-    → ms ≡ messages_of_calls (calls_of ms)
-open_calls ms are_whole open' = sym are_whole ∙ ap (λ b. messages_of_calls (calls_of ms) ++ (if b then close_mark ∷ [] else [])) open' ∙ append-nil (messages_of_calls (calls_of ms))
-
--- with one they are those of their calls and the mark
-pub closed_calls : (ms : List Message) → AreWhole ms → has_close_mark ms ≡ true
-    → ms ≡ messages_of_calls (calls_of ms) ++ close_mark ∷ []
-closed_calls ms are_whole closed = sym are_whole ∙ ap (λ b. messages_of_calls (calls_of ms) ++ (if b then close_mark ∷ [] else [])) closed
+use Rattle.uring_ports.specs.Messages.{close_mark, item_before, items_before, messages_of, calls_of, items_of, has_close_mark, put_of, AreWhole, owed, Continues, MayFollow}
+use Rattle.uring_ports.proofs.MessageLemmas.{AreSome, some_calls_of, some_append, calls_of_calls, close_mark_call, length_messages_of_calls, owed_from_append, owed_from_items, owed_calls}
 
 -- nothing is owed after whole messages with no close mark
 pub nothing_owed : (ms : List Message) → AreWhole ms → has_close_mark ms ≡ false → owed ms ≡ 0
-nothing_owed ms are_whole open' = ap owed (open_calls ms are_whole open') ∙ owed_calls (calls_of ms)
+nothing_owed ms are_whole open' = grind (arith, append-nil, owed_calls)
 
 -- whole messages take as many places as there are of them
 pub places : (ms : List Message) → AreWhole ms → places_of (put_of ms) ≡ length ms
-places ms are_whole = sym (length_messages_of (put_of ms)) ∙ ap length are_whole
-
-one_some : (items : List Item) → 0 < length items → AreSome (items ∷ [])
-one_some items some = grind arith
+places ms are_whole = grind (arith, length-append, length_messages_of_calls, ap length are_whole)
 
 -- these messages are whole, and were sent for this
 pub record Sent (ms : List Message) (p : Put) : Type 0 where
   pub put : put_of ms ≡ p
   pub whole : AreWhole ms
 
-messages_with_call : (ms : List Message) (items : List Item) → AreWhole ms
-    → has_close_mark ms ≡ false
-    → ms ++ items_before 0 items ≡ messages_of (with_call (put_of ms) items)
-messages_with_call ms items are_whole open' = grind (arith, open_calls, append-nil, flat_map-append, close_mark)
+-- messages of something were sent for just that
+sent_for : (ms : List Message) (p : Put) → AreSome p.calls → ms ≡ messages_of p → Sent ms p
+sent_for ms p some is = grind (arith, close_mark, calls_of_calls, append-nil)
 
 -- a call more
 pub sends_call : (ms : List Message) (items : List Item) → AreWhole ms → has_close_mark ms ≡ false
     → 0 < length items → Sent (ms ++ items_before 0 items) (with_call (put_of ms) items)
 sends_call ms items are_whole open' some =
-    let all_some = some_append (calls_of ms) (items ∷ []) (some_calls_of ms) (one_some items some) in
-    let is = messages_with_call ms items are_whole open' in
-    record { put = stands _ (with_call (put_of ms) items) all_some is; whole = whole _ (with_call (put_of ms) items) all_some is }
+    let all_some = some_append (calls_of ms) (items ∷ []) (some_calls_of ms) (grind arith) in
+    sent_for _ (with_call (put_of ms) items) all_some (grind (arith, append-nil, flat_map-append, close_mark))
 
 -- the close mark after all calls
 pub sends_close : (ms : List Message) → AreWhole ms → has_close_mark ms ≡ false
     → Sent (ms ++ close_mark ∷ []) (with_close (put_of ms))
-sends_close ms are_whole open' =
-    let is : ms ++ close_mark ∷ [] ≡ messages_of (with_close (put_of ms)) = ap (λ l. l ++ close_mark ∷ []) (open_calls ms are_whole open') in
-    record { put = stands _ (with_close (put_of ms)) (some_calls_of ms) is; whole = whole _ (with_close (put_of ms)) (some_calls_of ms) is }
+sends_close ms are_whole open' = sent_for _ (with_close (put_of ms)) (some_calls_of ms) (grind (arith, append-nil))
 
 pub close_mark_append : (xs ys : List Message)
     → has_close_mark (xs ++ ys) ≡ has_close_mark xs || has_close_mark ys
 close_mark_append [] ys = refl
 close_mark_append (x ∷ xs) ys = ap (λ b. x.closes || b) (close_mark_append xs ys) ∙ sym (or_assoc x.closes (has_close_mark xs) (has_close_mark ys))
-
-close_mark_items : (left : ℕ) (xs : List Item) → has_close_mark (items_before left xs) ≡ false
-close_mark_items left [] = refl
-close_mark_items left (x ∷ xs) = close_mark_items left xs
-
-no_mark : (ms : List Message) (left : ℕ) (xs : List Item) → has_close_mark ms ≡ false
-    → has_close_mark (ms ++ items_before left xs) ≡ false
-no_mark ms left xs open' = close_mark_append ms (items_before left xs) ∙ ap (λ b. b || has_close_mark (items_before left xs)) open' ∙ close_mark_items left xs
 
 continues : (ms : List Message) (left : ℕ) (xs : List Item) (x : Item) → owed ms ≡ 0
     → Continues (owed (ms ++ items_before (suc left) xs)) (item_before left x)
@@ -78,7 +53,7 @@ continues ms left (y ∷ ys) x none = rw (owed_from_append 0 ms (items_before (s
 pub item_may_follow : (ms : List Message) (left : ℕ) (xs : List Item) (x : Item)
     → has_close_mark ms ≡ false → owed ms ≡ 0
     → MayFollow (ms ++ items_before (suc left) xs) (item_before left x)
-item_may_follow ms left xs x open' none = grind (arith, no_mark, continues)
+item_may_follow ms left xs x open' none = grind (arith, close_mark_append, append-nil (items_before (suc left) xs), close_mark_call (suc left) xs [], continues)
 
 -- after whole messages with no close mark, the close mark may follow
 pub close_may_follow : (ms : List Message) → AreWhole ms → has_close_mark ms ≡ false
@@ -102,36 +77,16 @@ items_calls_of (m ∷ ms) = grind (arith, (items_calls_of ms))
 calls_of_closed : (past known : List Message) → AreWhole past → has_close_mark past ≡ true
     → calls_of (past ++ known) ≡ calls_of past
 calls_of_closed past known past_whole closed =
-    grind (arith, closed_calls, append_assoc, close_mark, calls_of_calls, some_calls_of, append-nil)
-
-same_closed : (past all : List Message) → AreWhole past → AreWhole all → has_close_mark past ≡ true
-    → has_close_mark all ≡ true → calls_of all ≡ calls_of past → all ≡ past
-same_closed past all past_whole all_whole past_closed all_closed calls = grind arith
-
-mark_stays : (past known : List Message) → has_close_mark past ≡ true
-    → has_close_mark (past ++ known) ≡ true
-mark_stays past known closed = grind (arith, close_mark_append)
+    grind (arith, append_assoc, close_mark, calls_of_calls, some_calls_of, append-nil)
 
 -- nothing follows a close mark
-pub nothing_after : (past known : List Message) → AreWhole past → AreWhole (past ++ known)
+nothing_after : (past known : List Message) → AreWhole past → AreWhole (past ++ known)
     → has_close_mark past ≡ true → known ≡ []
 nothing_after past known past_whole all_whole closed =
-    grind (arith, (mark_stays past known closed), (calls_of_closed past known past_whole closed), (append_cancel_left past known), (append-nil past), same_closed)
-
-leaves_open : (past known : List Message) → AreWhole past → has_close_mark past ≡ false
-    → LeavesItems (put_of (past ++ known)) (put_of past) (items_of known)
-leaves_open past known past_whole open' = grind (arith, open_calls, calls_of_calls, some_calls_of, items_calls_of, false≢true)
-
-leaves_closed : (past known : List Message) → AreWhole past → AreWhole (past ++ known)
-    → has_close_mark past ≡ true
-    → LeavesItems (put_of (past ++ known)) (put_of past) (items_of known)
-leaves_closed past known past_whole all_whole closed = grind (arith, append-nil, calls_of_closed, nothing_after, mark_stays)
-
-by_mark : (past known : List Message) (b : Bool) → AreWhole past → AreWhole (past ++ known)
-    → has_close_mark past ≡ b → LeavesItems (put_of (past ++ known)) (put_of past) (items_of known)
-by_mark past known b past_whole all_whole is = grind (arith, leaves_closed, leaves_open)
+    grind (arith, close_mark_append, calls_of_closed past known past_whole closed, append_cancel_left past known, append-nil past)
 
 -- what is left of all after a beginning of it, both whole
 pub leaves : (past known all : List Message) → AreWhole past → AreWhole all → past ++ known ≡ all
     → LeavesItems (put_of all) (put_of past) (items_of known)
-leaves past known all past_whole all_whole is = grind (arith, by_mark)
+leaves past known all past_whole all_whole is =
+    grind (arith, cases_Bool (has_close_mark past), nothing_after past known, append-nil, calls_of_closed, close_mark_append, calls_of_calls, some_calls_of, items_calls_of, false≢true)

@@ -1,58 +1,25 @@
--- Index words and the counts that they stand for, over plain numbers: two counts less than 2 ^ 32 apart with one word are one, and the cell of a count.
+-- The cells of index words and of the counts that they stand for, over plain numbers, in a ring whose size is a power of two.
 -- By arithmetic on remainders alone: nothing here knows of a ring.
 -- Stable: rings as shared words are to cite these lemmas too.
-use Rattle.std.proofs.Common.{◌≡◌, List, length, set, get_or, ℕ, ◌+◌, ◌-◌, ◌%◌, ◌^◌, ◌<◌, ◌≤◌, sym, subst, ⊎_elim, arith}
-use Rattle.uring_rings.proofs.Common.{IsPowerOfTwo, cases_lt, get_or-set_other}
-use Rattle.std.proofs.lemmas.Nat.{and_mask, pow_below, mod_below}
-use Rattle.std.proofs.lemmas.Grind.{get_or-set_at}
+use Rattle.std.proofs.Common.{◌≡◌, ℕ, ◌+◌, ◌-◌, ◌%◌, ◌^◌, ◌<◌, ◌≤◌, sym, subst, arith}
+use Rattle.uring_rings.proofs.Common.{IsPowerOfTwo, cases_lt}
+use Rattle.std.proofs.lemmas.Nat.{and_mask, pow_below}
 use Rattle.std.proofs.Math.Pow.{mod-mod-pow}
 use Rattle.std.specs.Int.RustNames.{bit_and}
 
--- The number that leads from the word of one count to the word of another is their difference.
-pub distance_of_words : (s a b d : ℕ) → d < 2 ^ 32 → b ≤ a → a < b + 2 ^ 32
-    → ((s + b) % 2 ^ 32 + d) % 2 ^ 32 ≡ (s + a) % 2 ^ 32 → d ≡ a - b
-distance_of_words s a b d small ordered near leads = omega arith
-
--- A word goes on as its count does.
-pub word_after : (s k n : ℕ) → ((s + k) % 2 ^ 32 + n) % 2 ^ 32 ≡ (s + (k + n)) % 2 ^ 32
-word_after s k n = omega arith
-
 -- Numbers less than n apart have one remainder only where they are equal.
-pub same_remainder : (n a b : ℕ) → 0 < n → a ≤ b → b < a + n → a % n ≡ b % n → a ≡ b
+same_remainder : (n a b : ℕ) → 0 < n → a ≤ b → b < a + n → a % n ≡ b % n → a ≡ b
 same_remainder n a b some ordered near same = grind arith
-
--- In a ring whose size is a power of two, up to 2 ^ 32, the cell of a count's word is the count's own.
-pub cell_of_word : (j k x : ℕ) → j + k ≡ 32 → x % 2 ^ 32 % 2 ^ k ≡ x % 2 ^ k
-cell_of_word j k x whole = grind (arith, (mod-mod-pow x j k))
 
 -- the mask of a power of two, which is one less, keeps the remainder
 pub cell_by_mask : (x size : ℕ) → IsPowerOfTwo size → bit_and x (size - 1) ≡ x % size
 cell_by_mask x size (k, e) = subst (λ (n : ℕ). bit_and x (n - 1) ≡ x % n) (sym e) (and_mask x k)
 
--- a power of two that is at most 2 ^ 32 has an exponent of at most 32
-exponent_fits : (k : ℕ) → 2 ^ k ≤ 2 ^ 32 → k ≤ 32
-exponent_fits k fits =
-    ⊎_elim (λ (big : 32 < k). let more = pow_below 32 k big in omega arith) (λ (small : k ≤ 32). small) (cases_lt 32 k)
-
 -- the cell of a count's word, in a ring whose size is a power of two
 pub cell_of_count : (n s k : ℕ) → IsPowerOfTwo n → n ≤ 2 ^ 32 → (s + k) % 2 ^ 32 % n ≡ (s + k) % n
-cell_of_count n s k (e, is) fits =
-    let small : 2 ^ e ≤ 2 ^ 32 = omega arith in
-    let bound : e ≤ 32 = exponent_fits e small in
-    let whole : (32 - e) + e ≡ 32 = omega arith in
-    subst (λ (m : ℕ). (s + k) % 2 ^ 32 % m ≡ (s + k) % m) (sym is) (cell_of_word (32 - e) e (s + k) whole)
+cell_of_count n s k (e, is) fits = grind (arith, cases_lt 32 e, pow_below 32 e, mod-mod-pow (s + k) (32 - e) e)
 
 -- Counts less than the size apart have one cell only where they are equal.
 pub same_cell : (n s j k : ℕ) → IsPowerOfTwo n → n ≤ 2 ^ 32 → j ≤ k → k < j + n
     → (s + j) % 2 ^ 32 % n ≡ (s + k) % 2 ^ 32 % n → j ≡ k
 same_cell n s j k power fits ordered near same = grind (arith, cell_of_count, same_remainder)
-
--- A write to the cell of the next count leaves the cells of the counts before it, as many as the ring has.
-pub cells_after_write : {A : Type 0} (array : List A) (value_at : ℕ → A) (d x : A) (start size low tail cell : ℕ)
-    → IsPowerOfTwo size → size ≤ 2 ^ 32 → length array ≡ size → low ≤ tail → tail < low + size
-    → cell ≡ (start + tail) % 2 ^ 32 % size → x ≡ value_at tail
-    → ((k : ℕ) → low ≤ k → k < tail → get_or array ((start + k) % 2 ^ 32 % size) d ≡ value_at k)
-    → (k : ℕ) → low ≤ k
-    → k < tail + 1 → get_or (set array cell x) ((start + k) % 2 ^ 32 % size) d ≡ value_at k
-cells_after_write {A} array value_at d x start size low tail cell power fits len ordered near is_cell is_value held k from to =
-    grind (arith, mod_below, get_or-set_at, same_cell, get_or-set_other)

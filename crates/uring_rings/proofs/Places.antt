@@ -1,30 +1,21 @@
 -- The entries and the dropped words among published places.
-use Rattle.std.proofs.Common.{◌≡◌, ℕ, ◌+◌, ◌<◌, List, [], ◌∷◌, ◌++◌, length, take, drop, get_or, cond, Option, Some, None, refl, ap, ◌∙◌, arith, suc}
-use Rattle.uring_rings.proofs.Common.{Place, Sqe, append-nil, cons_option, dropped_in, entries_of, get_or-drop, get_or_from_slice_get, length-drop, length_push, slice_get, slice_get_within, take_more}
+use Rattle.std.proofs.Common.{◌≡◌, ℕ, ◌+◌, List, [], ◌∷◌, ◌++◌, length, take, drop, cond, Some, None, refl, ap, arith}
+use Rattle.uring_rings.proofs.Common.{Place, Sqe, append-nil, dropped_in, entries_of, get_or-drop, get_or_from_slice_get, length-drop, length_push, slice_get, slice_get_within, take_more}
 use Rattle.std.proofs.lemmas.List.Elements.{filter_map-append}
 use Rattle.std.proofs.lemmas.List.Sums.{sum_by-append, sum_by-cons}
 use Rattle.std.proofs.Math.Seq.{take-add}
-use Rattle.std.specs.Prelude.{is_none}
-
-one_more : (o : Option Sqe) (xs : List Sqe) (m n : ℕ) → length xs + m ≡ n
-    → length (cons_option o xs) + (cond (is_none o) 1 0 + m) ≡ suc n
-one_more o xs m n e = grind arith
 
 -- each place has an entry, or its word is dropped
 pub entries_and_dropped : (places : List Place)
     → length (entries_of places) + dropped_in places ≡ length places
 entries_and_dropped [] = refl
-entries_and_dropped (p ∷ places) =
-    rw sum_by-cons (one_more p.entry (entries_of places) (dropped_in places) (length places) (entries_and_dropped places))
+entries_and_dropped (p ∷ places) = rw sum_by-cons (grind (arith, cond, entries_and_dropped places))
 
 -- the next place, at the end of those taken
 pub places_more : (places : List Place) (n t : ℕ) (p : Place) → slice_get places (n + t) ≡ Some p
     → take (t + 1) (drop n places) ≡ take t (drop n places) ++ p ∷ []
 places_more places n t p found =
-    let within : n + t < length places = slice_get_within places (n + t) p found in
-    let here : get_or (drop n places) t p ≡ p = get_or-drop n places t p ∙ get_or_from_slice_get places (n + t) p p found in
-    let short : t < length (drop n places) = simp length-drop (omega arith) in
-    take_more (drop n places) t p short ∙ ap (λ (q : Place). take t (drop n places) ++ q ∷ []) here
+    grind (arith, slice_get_within places (n + t) p found, length-drop n places, get_or-drop n places t p, get_or_from_slice_get places (n + t) p p found, take_more (drop n places) t p)
 
 -- one more place with an entry is one more entry
 pub entry_more : (places : List Place) (n t : ℕ) (p : Place) (e : Sqe)

@@ -1,6 +1,6 @@
 -- What the submission calls take, and what their end leaves.
-use Rattle.std.proofs.Common.{◌≡◌, ℕ, ◌+◌, ◌-◌, ◌%◌, ◌^◌, ◌<◌, ◌≤◌, length, take, drop, get_or, cond, Option, Some, None, sym, ap, ◌∙◌, arith}
-use Rattle.uring_rings.proofs.Common.{Call, Place, Setup, ShowsSubmission, Sq, Sqe, Submission, dropped, entries_of, length-drop, length-take-le, pending, place_of, places_from, progress, slice_get, taken, with_closed, word_of}
+use Rattle.std.proofs.Common.{◌≡◌, ℕ, ◌+◌, ◌-◌, ◌%◌, ◌^◌, ◌<◌, ◌≤◌, length, get_or, cond, Option, Some, None, refl, sym, ◌∙◌, arith}
+use Rattle.uring_rings.proofs.Common.{Call, Place, Setup, ShowsSubmission, Sq, Sqe, Submission, dropped, entries_of, length-drop, length-take-le, pending, place_of, places_from, progress, slice_get, taken, with_closed}
 use Rattle.std.proofs.lemmas.List.Sums.{sum_by_push}
 use Rattle.std.specs.Option.{option_map, IfSome}
 use Rattle.uring_rings.specs.declared.answers.TakeAnswer.TheVariants.{Entry as Given, Dropped}
@@ -11,16 +11,11 @@ use Rattle.uring_rings.proofs.Places.{entry_more, dropped_more, entries_and_drop
 use Rattle.uring_rings.proofs.SubmissionWords.{reads_place}
 
 -- An open call of the ring is the lists' open call.
-pub record IsOpen (l : Submission) (open_call : OpenCall) (o : Option Call) : Type 0 where
-  pub call : Call
-  pub is : o ≡ Some call
-  pub same : open_call ≡ progress l call
-  pub within : call.taken ≤ call.count
-  pub ready : call.count ≤ pending l
-
-pub is_open : (l : Submission) (c : OpenCall) (o : Option Call) → Some c ≡ option_map (progress l) o
-    → IfSome o (λ call. (call.taken ≤ call.count) × (call.count ≤ pending l)) → IsOpen l c o
-is_open l c o is fits = grind arith
+is_open : (l : Submission) (c : OpenCall) (o : Option Call) → Some c ≡ option_map (progress l) o
+    → IfSome o (λ call. (call.taken ≤ call.count) × (call.count ≤ pending l))
+    → (call : Call) × (o ≡ Some call) × (c ≡ progress l call) × (call.taken ≤ call.count) × (call.count ≤ pending l)
+is_open l c None is fits = cc
+is_open l c (Some call) is fits = (call, refl, cc, fits.0, fits.1)
 
 -- The open call's next position: its place, and what the call has taken before it.
 pub record TakesPlace (g : Setup) (l : Submission) (c : OpenCall) (word : ℕ) : Type 0 where
@@ -38,25 +33,9 @@ pub takes_place : (g : Setup) (q : Sq) (l : Submission) (c : OpenCall) (word : �
     → (c.taken ≡ c.count → ⊥) → get_or q.array ((q.head + c.taken) % 2 ^ 32 % q.size) 0 ≡ word
     → TakesPlace g l c word
 takes_place g q l c word s is_call more read =
-    let o = is_open l c l.call (sym is_call ∙ s.call) s.call_fits in
-    let at : c.taken ≡ o.call.taken = ap (λ (d : OpenCall). d.taken) o.same in
-    let to : c.count ≡ o.call.count = ap (λ (d : OpenCall). d.count) o.same in
-    let less : o.call.taken < o.call.count = omega (arith, o.within) in
-    let published : taken l + o.call.taken < length l.published = omega (arith, o.ready) in
-    let r = reads_place g q l (taken l) q.head o.call.taken s s.head s.seen_first published in
-    let from : l.seen_head ≤ taken l + o.call.taken = omega (arith, s.seen_first) in
-    let named : r.place.word ≡ word =
-    sym r.read ∙ ap (λ (n : ℕ). get_or q.array ((q.head + n) % 2 ^ 32 % q.size) 0) (sym at) ∙ read in
-    record {
-      call = o.call;
-      is = o.is;
-      same = o.same;
-      less = less;
-      ready = o.ready;
-      place = r.place;
-      found = r.found;
-      of_word = s.places (taken l + o.call.taken) r.place from r.found ∙ ap (place_of g.sq l.content) named;
-    }
+    let (call, is, same, within, ready) = is_open l c l.call (sym is_call ∙ s.call) s.call_fits in
+    let r = reads_place g q l (taken l) q.head call.taken s s.head s.seen_first (grind arith) in
+    grind (arith, r.found, s.places (taken l + call.taken) r.place)
 
 pub take_gives : (g : Setup) (l : Submission) (c : OpenCall) (word : ℕ) (entry : Sqe)
     → TakesPlace g l c word → word < g.sq
@@ -68,24 +47,17 @@ pub take_drops : (g : Setup) (l : Submission) (c : OpenCall) (word : ℕ) → Ta
 take_drops g l c word t bad = grind arith
 
 -- the call goes on by one position
-take_shows : (g : Setup) (q : Sq) (l : Submission) (c : OpenCall) (word n : ℕ)
-    → ShowsSubmission g q l
-    → (t : TakesPlace g l c word)
-    → n ≡ length (entries_of (take (t.call.taken + 1) (drop (taken l) l.published)))
-    → ShowsSubmission g (record q { call = Some (record { count = c.count; taken = c.taken + 1; accepted = n }) }) (taken_on l l.call)
-take_shows g q l c word n s t is_n = grind arith
-
 pub take_gives_shows : (g : Setup) (q : Sq) (l : Submission) (c : OpenCall) (word : ℕ)
     → ShowsSubmission g q l
     → TakesPlace g l c word → word < g.sq
     → ShowsSubmission g (record q { call = Some (record { count = c.count; taken = c.taken + 1; accepted = c.accepted + 1 }) }) (taken_on l l.call)
-take_gives_shows g q l c word s t valid = grind (arith, take_shows, entry_more)
+take_gives_shows g q l c word s t valid = grind (arith, entry_more)
 
 pub take_drops_shows : (g : Setup) (q : Sq) (l : Submission) (c : OpenCall) (word : ℕ)
     → ShowsSubmission g q l
     → TakesPlace g l c word → g.sq ≤ word
     → ShowsSubmission g (record q { call = Some (record { count = c.count; taken = c.taken + 1; accepted = c.accepted }) }) (taken_on l l.call)
-take_drops_shows g q l c word s t bad = grind (arith, take_shows, dropped_more)
+take_drops_shows g q l c word s t bad = grind (arith, dropped_more)
 
 -- The open call has taken all its positions.
 pub record IsDone (l : Submission) (c : OpenCall) : Type 0 where
@@ -109,11 +81,8 @@ module _ (g : Setup) (q : Sq) (l : Submission) (c : OpenCall) (head : ℕ) (s : 
   dropped_closed : (q.dropped + (c.count - c.accepted)) % 2 ^ 32 ≡ dropped (with_closed l e.call)
   dropped_closed = grind (arith, entries_and_dropped, length-take-le, length-drop, dropped_beyond, with_closed, all_taken)
 
-  head_closed : head ≡ word_of g.start (taken (with_closed l e.call))
-  head_closed = grind (arith, all_taken)
-
   pub end_answers : Closed (record { accepted = c.accepted; dropped = (q.dropped + (c.count - c.accepted)) % 2 ^ 32; head = head }) ≡ end_answer g l
-  end_answers = grind (arith, dropped_closed, head_closed, cond)
+  end_answers = grind (arith, dropped_closed, all_taken, cond)
 
   pub end_shows : ShowsSubmission g (record q { head = head; dropped = (q.dropped + (c.count - c.accepted)) % 2 ^ 32; call = None }) (closed_on l l.call)
-  end_shows = grind (arith, closed_on, head_closed, dropped_closed, with_closed, all_taken)
+  end_shows = grind (arith, closed_on, dropped_closed, with_closed, all_taken)

@@ -1,8 +1,7 @@
 -- The words that were published or staged, by their positions, and the cells that hold them.
-use Rattle.std.proofs.Common.{◌≡◌, ◌≢◌, ℕ, ◌+◌, ◌-◌, ◌%◌, ◌^◌, ◌<◌, ◌≤◌, true, false, eqb, List, [], ◌∷◌, ◌++◌, length, drop, map, get_or, Some, None, refl, sym, ap, ◌∙◌, arith, eq-eqb, ne_eqb}
-use Rattle.uring_rings.proofs.Common.{IsSq, Place, Setup, ShowsSubmission, Sq, Sqe, Submission, append-nil, append_assoc, false≢true, get_or-drop, get_or-map, get_or_append_left, get_or_from_slice_get, is_busy, length-append, length-drop, length-map, map-append, place_of, slice_get, slice_get-get_or, slice_get_within, staged, with_published, with_staged, word_of, words}
+use Rattle.std.proofs.Common.{◌≡◌, ◌≢◌, ℕ, ◌+◌, ◌-◌, ◌%◌, ◌^◌, ◌<◌, ◌≤◌, true, false, eqb, List, [], ◌∷◌, ◌++◌, length, drop, map, get_or, Some, None, refl, arith, eq-eqb, ne_eqb}
+use Rattle.uring_rings.proofs.Common.{IsSq, Place, Setup, ShowsSubmission, Sq, Sqe, Submission, append-nil, append_assoc, get_or-drop, get_or-map, get_or_append_left, get_or_from_slice_get, is_busy, length-append, length-drop, length-map, map-append, place_of, slice_get, slice_get-get_or, slice_get_within, staged, with_published, with_staged, word_of, words}
 use Rattle.std.proofs.lemmas.List.Folds.{list_any_at, list_any_none}
-use Rattle.uring_rings.proofs.Counts.{word_after}
 
 -- there are as many words as staged positions
 pub length_words : (l : Submission) → length (words l) ≡ staged l
@@ -12,18 +11,7 @@ length_words l = simp (length-append, length-map)
 pub word_published : (l : Submission) (k : ℕ) (p : Place) → slice_get l.published k ≡ Some p
     → get_or (words l) k 0 ≡ p.word
 word_published l k p found =
-    let within : k < length l.published = slice_get_within l.published k p found in
-    let mapped : k < length (map (λ (q : Place). q.word) l.published) = simp length-map within in
-    get_or_append_left (map (λ (q : Place). q.word) l.published) l.fresh 0 k mapped
-    ∙ get_or-map (λ (q : Place). q.word) l.published k p 0 within
-    ∙ ap (λ (q : Place). q.word) (get_or_from_slice_get l.published k p p found)
-
--- each published position has a place
-pub place_at : (l : Submission) (k : ℕ) → k < length l.published
-    → (p : Place) × (slice_get l.published k ≡ Some p)
-place_at l k within =
-    let none : Place = record { word = 0; entry = None } in
-    (get_or l.published k none, slice_get-get_or l.published k none within)
+    grind (arith, slice_get_within l.published k p found, length-map, get_or_append_left, get_or-map (λ (q : Place). q.word) l.published k p 0, get_or_from_slice_get l.published k p p found)
 
 -- one more word is staged
 pub words_indexed : (l : Submission) (word : ℕ) → words (with_staged l word) ≡ words l ++ word ∷ []
@@ -37,10 +25,7 @@ words_of_places size content (w ∷ ws) = grind (arith, (words_of_places size co
 
 -- publishing changes no word
 pub words_stored : (size : ℕ) (l : Submission) → words (with_published size l) ≡ words l
-words_stored size l =
-    append-nil (map (λ (q : Place). q.word) (l.published ++ map (place_of size l.content) l.fresh))
-    ∙ map-append (λ (q : Place). q.word) l.published (map (place_of size l.content) l.fresh)
-    ∙ ap (λ (ws : List ℕ). map (λ (q : Place). q.word) l.published ++ ws) (words_of_places size l.content l.fresh)
+words_stored size l = simp (append-nil, map-append, words_of_places)
 
 -- What is read k cells on from the word of a count: the word of a published position.
 pub record ReadsPlace (g : Setup) (q : Sq) (l : Submission) (count word k : ℕ) : Type 0 where
@@ -52,60 +37,26 @@ pub reads_place : (g : Setup) (q : Sq) (l : Submission) (count word k : ℕ) →
     → word ≡ word_of g.start count
     → l.seen_head ≤ count → count + k < length l.published → ReadsPlace g q l count word k
 reads_place g q l count word k s is_word seen within =
-    let (p, found) = place_at l (count + k) within in
-    let from : l.seen_head ≤ count + k = omega arith in
-    let to : count + k < staged l = omega arith in
-    let on : (word + k) % 2 ^ 32 ≡ word_of g.start (count + k) =
-    ap (λ (w : ℕ). (w + k) % 2 ^ 32) is_word ∙ word_after g.start count k in
-    let cell : (word + k) % 2 ^ 32 % q.size ≡ word_of g.start (count + k) % g.sq =
-    ap (λ (w : ℕ). w % q.size) on ∙ ap (λ (n : ℕ). word_of g.start (count + k) % n) s.size in
-    record {
-      place = p;
-      found = found;
-      read = ap (λ (i : ℕ). get_or q.array i 0) cell ∙ s.cells (count + k) from to ∙ word_published l (count + k) p found;
-    }
-
--- the distance of the published tail from the head last loaded
-pub published_above : (g : Setup) (q : Sq) (l : Submission) (d : ℕ) → ShowsSubmission g q l
-    → g.sq ≤ 4096 → d < 2 ^ 32
-    → (q.seen_head + d) % 2 ^ 32 ≡ q.published → d ≡ length l.published - l.seen_head
-published_above g q l d s limit small leads = grind arith
+    let p = get_or l.published (count + k) (record { word = 0; entry = None }) in
+    let found = slice_get-get_or l.published (count + k) (record { word = 0; entry = None }) within in
+    record { place = p; found = found; read = grind (arith, word_published l (count + k) p found, s.cells (count + k)) }
 
 -- a place above the head last loaded doesn't name a slot that isn't busy
 pub not_named : (l : Submission) (slot k : ℕ) (p : Place) → is_busy l slot ≡ false → l.seen_head ≤ k
     → slice_get l.published k ≡ Some p → p.word ≢ slot
 not_named l slot k p free from found named =
-    let within : k < length l.published = slice_get_within l.published k p found in
-    let short : k - l.seen_head < length (drop l.seen_head l.published) = simp length-drop (omega arith) in
-    let place : l.seen_head + (k - l.seen_head) ≡ k = omega arith in
-    let here : get_or (drop l.seen_head l.published) (k - l.seen_head) p ≡ p =
-    get_or-drop l.seen_head l.published (k - l.seen_head) p
-    ∙ ap (λ (n : ℕ). get_or l.published n p) place
-    ∙ get_or_from_slice_get l.published k p p found in
-    let busy : is_busy l slot ≡ true =
-    list_any_at (λ (r : Place). eqb r.word slot) (drop l.seen_head l.published) (k - l.seen_head) p short
-    (ap (λ (r : Place). eqb r.word slot) here ∙ eq-eqb p.word slot named) in
-    false≢true (sym free ∙ busy)
-
--- The ring's size is below the limit.
-pub size_limit : (g : Setup) (q : Sq) (l : Submission) → IsSq q.size q.table q.array q.call
-    → ShowsSubmission g q l → g.sq ≤ 4096
-size_limit g q l i s = omega (arith, i.limit, s.size)
+    grind (arith, slice_get_within l.published k p found, length-drop, get_or-drop, get_or_from_slice_get l.published k p p found, list_any_at (λ (r : Place). eqb r.word slot) (drop l.seen_head l.published) (k - l.seen_head) p, eq-eqb)
 
 -- The loop over the d positions above the head last loaded.
 module _ (g : Setup) (q : Sq) (l : Submission) (d k slot : ℕ) (i : IsSq q.size q.table q.array q.call) (s : ShowsSubmission g q l) (small : d < 2 ^ 32) (leads : (q.seen_head + d) % 2 ^ 32 ≡ q.published) where
   above : d ≡ length l.published - l.seen_head
-  above = published_above g q l d s (size_limit g q l i s) small leads
+  above = grind arith
 
   -- it found one that names the slot
   pub loop_finds : k < d → get_or q.array ((q.seen_head + k) % 2 ^ 32 % q.size) 0 ≡ slot → is_busy l slot ≡ true
   loop_finds below named =
-      let within : l.seen_head + k < length l.published = omega (arith, above) in
-      let r = reads_place g q l l.seen_head q.seen_head k s s.seen_head (omega arith) within in
-      let short : k < length (drop l.seen_head l.published) = simp length-drop (omega arith) in
-      let here : get_or (drop l.seen_head l.published) k r.place ≡ r.place =
-      get_or-drop l.seen_head l.published k r.place ∙ get_or_from_slice_get l.published (l.seen_head + k) r.place r.place r.found in
-      list_any_at (λ (p : Place). eqb p.word slot) (drop l.seen_head l.published) k r.place short (ap (λ (p : Place). eqb p.word slot) here ∙ eq-eqb r.place.word slot (sym r.read ∙ named))
+      let r = reads_place g q l l.seen_head q.seen_head k s s.seen_head (omega arith) (omega (arith, above)) in
+      grind (arith, length-drop, get_or-drop, get_or_from_slice_get l.published (l.seen_head + k) r.place r.place r.found, list_any_at (λ (p : Place). eqb p.word slot) (drop l.seen_head l.published) k r.place, eq-eqb)
 
   -- it found none
   pub loop_passes : d ≤ k
@@ -116,6 +67,4 @@ module _ (g : Setup) (q : Sq) (l : Submission) (d k slot : ℕ) (i : IsSq q.size
       (λ j e short.
       let within : l.seen_head + j < length l.published = let h = simp length-drop at short in omega arith in
       let r = reads_place g q l l.seen_head q.seen_head j s s.seen_head (omega arith) within in
-      let here : get_or (drop l.seen_head l.published) j e ≡ r.place =
-      get_or-drop l.seen_head l.published j e ∙ get_or_from_slice_get l.published (l.seen_head + j) r.place e r.found in
-      ap (λ (p : Place). eqb p.word slot) here ∙ ne_eqb r.place.word slot (λ e. unnamed j (omega (arith, above)) (r.read ∙ e)))
+      grind (arith, above, get_or-drop l.seen_head l.published j e, get_or_from_slice_get l.published (l.seen_head + j) r.place e r.found, ne_eqb r.place.word slot, unnamed j))

@@ -5,7 +5,7 @@ pub use Rattle.std.specs.Int.{IsPowerOfTwo}
 pub use Rattle.std.specs.Prelude.{replicate}
 pub use Rattle.atomic_table.proofs.Lists.{at_set, set_else, set_here}
 pub use Rattle.atomic_table.specs.Seated.{TableId}
-pub use Rattle.atomic_table.specs.Table.{Act, Allows, Joins, Me, Splits, Valid, carried_after, chain, gives, homes_after, keeps, opening, put_back, rest, step, takes, turned}
+pub use Rattle.atomic_table.specs.Table.{Act, Allows, Joins, Me, Splits, Valid, carried_after, chain, gives, homes_after, keeps, opening, rest, step, takes, turned}
 pub use Rattle.uring_entry.specs.IndexWords.{word_of}
 pub use Rattle.uring_ports.specs.Ports.{LeavesItems, Pulls, Put, items_of_calls, places_of, with_call, with_close}
 pub use Rattle.uring_ports.specs.declared.item.Item.{Item}

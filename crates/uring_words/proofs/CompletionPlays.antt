@@ -1,9 +1,8 @@
 -- What each step of a seat of the completion ring's table asks. v is what the seat knows, and held what it holds.
-use Rattle.uring_words.proofs.Common.{Agree, Allows, BothAgree, IsPowerOfTwo, StandFrom, View, app_has, at_first, gives, held_from, keeps, last_of, opening, place_of, put_back, replicate, set-get_or, step, word_of}
-use Rattle.std.proofs.Common.{◌≡◌, ℕ, ◌+◌, ◌^◌, ◌<◌, ◌≤◌, true, List, [], ◌∷◌, ◌++◌, length, get_or, set, refl, sym, ◌∙◌, ap, ap₂, subst, arith, length-append, get_or-set_other, get_or-set_same}
-use mathlib.Core.Option.{Option, none, some}
+use Rattle.uring_words.proofs.Common.{Agree, Allows, BothAgree, IsPowerOfTwo, View, app_has, at_first, gives, held_from, keeps, last_of, opening, place_of, replicate, set-get_or, step, word_of}
+use Rattle.std.proofs.Common.{◌≡◌, ℕ, ◌+◌, ◌^◌, ◌<◌, ◌≤◌, true, List, [], ◌∷◌, ◌++◌, length, get_or, refl, sym, ◌∙◌, ap, ap₂, arith, length-append, get_or-set_other, get_or-set_same}
+use mathlib.Core.Option.{Option, none}
 use Rattle.uring_entry.specs.Layout.{Cqe}
-use Rattle.uring_ports.specs.Dropped.{WereHad}
 use Rattle.uring_words.specs.Completion.Layout.{tail_index, head_index, dropped_index}
 use Rattle.uring_words.specs.Completion.Steps.{put_first, dropped_stored, head_loaded, all_given, tail_loaded, got_first, dropped_loaded, StoresTail, StoresDropped, LoadsHead, GivesAll, LoadsTail, StoresHead, LoadsDropped}
 use Rattle.uring_words.specs.declared.completion.view.AppSide.{AppSide}
@@ -11,9 +10,7 @@ use Rattle.uring_words.specs.declared.completion.view.KernelSide.{KernelSide}
 use Rattle.uring_words.specs.declared.sides.Shape.{Shape}
 use Rattle.uring_words.proofs.DroppedWords.{last_after, had_more, had_last}
 use Rattle.uring_words.proofs.FirstTable.{first_lists}
-use Rattle.uring_words.proofs.Handing.{take_valid, take_moves, all_valid, all_here, all_moves}
-use Rattle.uring_words.proofs.RingLists.{ListsAgree, put_many, keeps_stored, keeps_tail_stored, keeps_head_stored, keeps_head_loaded, keeps_all_given, keeps_tail_loaded}
-use Rattle.uring_words.proofs.SlotActs.{set_moves, set_stands}
+use Rattle.uring_words.proofs.RingLists.{ListsAgree, put_many, keeps_stored, stores_first, stores_known, loads_free, gives_blank, loads_rest}
 use Rattle.uring_words.proofs.SlotSeats.{app_hands, app_step, kernel_hands, kernel_step, opens_with}
 
 -- The sides agree by their lists, and on the dropped words.
@@ -22,18 +19,12 @@ module _ {words : List ℕ} {homes : List (Option Cqe)} {a : AppSide} {d : Kerne
       → ListsAgree 3 words homes d.start d.size d.end a.got a.known d.put h.rest h.free
   lists h = grind arith
 
-  agrees : {rest free : List Cqe} → a.start ≡ d.start → a.size ≡ d.size → d.size ≤ 8192
-      → get_or words dropped_index 0 ≡ last_of 0 d.dropped → last_of 0 d.dropped < 2 ^ 32 → WereHad (0 ∷ d.dropped) a.dropped
-      → ListsAgree 3 words homes d.start d.size d.end a.got a.known d.put rest free
-      → Agree words homes a d
-  agrees {rest} {free} start size limit dropped small loaded l = grind arith
-
 -- a new table keeps the rule
 pub opens : (key : Shape) (blank : Cqe) → IsPowerOfTwo key.size → key.size ≤ 8192 → key.start < 2 ^ 32
     → BothAgree (opening (key.start ∷ key.start ∷ 0 ∷ []) (replicate key.size blank) (at_first key))
 opens key blank power limit small =
     opens_with (key.start ∷ key.start ∷ 0 ∷ []) (replicate key.size blank) (at_first key).app (at_first key).kernel
-    (agrees refl refl limit refl (omega arith) tt (first_lists key.start key.size blank (0 ∷ []) power (omega arith) small))
+    (grind (arith, first_lists key.start key.size blank (0 ∷ []) power (omega arith) small))
 
 module _ (slots id : ℕ) (v : View AppSide KernelSide) (held : List (ℕ × Cqe)) where
   -- the tail is stored
@@ -44,13 +35,8 @@ module _ (slots id : ℕ) (v : View AppSide KernelSide) (held : List (ℕ × Cqe
       → Allows BothAgree slots id (v, held) tail_index (λ _. word) (λ _. StoresTail (step slots tail_index word 0 none) (v, held) word)
   stores_tail word c others is_kernel holds room is_word =
       kernel_step slots id tail_index (λ _. word) v held (λ _. StoresTail (step slots tail_index word 0 none) (v, held) word) is_kernel (λ words homes a h both.
-      let d : KernelSide = v.kernel in
-      let n : ℕ = length d.put in
-      let s = h.sized in
-      let l = lists h in
-      let P : List (ℕ × Cqe) → Type 0 = λ xs. Agree (set words tail_index word) (put_back homes xs) a (put_first d xs) in
-      let stored = keeps_tail_stored l 1 word (c ∷ []) (set_moves d.start d.size s.power l.fits homes n (some c)) (set_stands d.start d.size s.power l.fits homes n c s.cells) (omega arith) (omega arith) is_word in
-      (put_first d held, gives, tt, subst P (sym holds) (agrees s.start s.size s.limit (get_or-set_other words tail_index dropped_index word 0 (λ e. omega arith) ∙ h.dropped) h.small h.loaded stored), refl))
+      let stored = stores_first (lists h) word c room is_word in
+      (put_first v.kernel held, gives, tt, rw holds (grind (arith, get_or-set_other)), refl))
 
   -- the dropped word is stored
   pub stores_dropped : (word : ℕ) → v.is_kernel ≡ true → word < 2 ^ 32
@@ -58,10 +44,7 @@ module _ (slots id : ℕ) (v : View AppSide KernelSide) (held : List (ℕ × Cqe
   stores_dropped word is_kernel small =
       kernel_step slots id dropped_index (λ _. word) v held (λ _. StoresDropped (step slots dropped_index word 0 none) (v, held) word) is_kernel (λ words homes a h both.
       let d : KernelSide = v.kernel in
-      let s = h.sized in
-      let last = last_after 0 d.dropped word [] in
-      let there = get_or-set_same words dropped_index word 0 (omega (arith, s.many)) ∙ sym last in
-      (dropped_stored d word, keeps, tt, agrees s.start s.size s.limit there (rw last small) (had_more (0 ∷ d.dropped) (word ∷ []) a.dropped h.loaded) (keeps_stored (lists h) dropped_index word (omega arith)), refl))
+      (dropped_stored d word, keeps, tt, grind (arith, keeps_stored (lists h) dropped_index word, last_after 0 d.dropped word [], get_or-set_same, had_more (0 ∷ d.dropped) (word ∷ []) a.dropped), refl))
 
   -- the head is loaded
   pub loads_head : (blank : List Cqe) → v.is_kernel ≡ true
@@ -69,28 +52,17 @@ module _ (slots id : ℕ) (v : View AppSide KernelSide) (held : List (ℕ × Cqe
       → length v.kernel.put + length blank ≡ v.kernel.end
       → Allows BothAgree slots id (v, held) head_index (λ n. n) (LoadsHead (step slots head_index 0 0 none) (v, held))
   loads_head blank is_kernel holds ends =
-      kernel_hands slots id head_index (λ n. n) (λ ws. ws) (λ ws. sym (set-get_or ws head_index 0)) v held (LoadsHead (step slots head_index 0 0 none) (v, held)) is_kernel (λ words homes a h both.
+      kernel_hands slots id head_index (λ n. n) v held (LoadsHead (step slots head_index 0 0 none) (v, held)) is_kernel (λ words homes a h both.
       let d : KernelSide = v.kernel in
-      let n : ℕ = length d.put in
-      let s = h.sized in
       let l = lists h in
-      let count = put_many l in
-      let longer = length-append blank h.free in
-      let few : length blank + length h.free ≤ d.size = omega (arith, l.all, l.room) in
-      let there = subst (λ (k : ℕ). StandFrom d.start d.size homes k h.free) (sym ends) h.stand_free in (
-        held_from d.start d.size n blank,
-        held_from d.start d.size n (blank ++ h.free),
+      let r = loads_free l blank ends in (
+        held_from d.start d.size (length d.put) blank,
+        held_from d.start d.size (length d.put) (blank ++ h.free),
         head_loaded d (length a.got + d.size),
         holds,
-        take_valid d.start d.size s.power l.fits homes s.cells n blank h.free few there,
-        agrees s.start s.size s.limit h.dropped h.small h.loaded (keeps_head_loaded l (length blank + length h.free) (take_moves d.start d.size s.power l.fits homes s.cells n blank h.free) (omega (arith, l.all))),
-        (
-          length a.got,
-          blank ++ h.free,
-          refl,
-          record { head = h.head; put_before = omega arith; later = omega (arith, l.all); many = omega (arith, l.all) },
-          refl,
-        ),
+        r.0,
+        grind (arith, set-get_or),
+        (length a.got, blank ++ h.free, refl, grind (arith, put_many l, l.all, length-append), refl),
       ))
 
   -- the dispatcher gives back its cells
@@ -99,51 +71,28 @@ module _ (slots id : ℕ) (v : View AppSide KernelSide) (held : List (ℕ × Cqe
       → length v.kernel.put + length blank ≡ v.kernel.end
       → Allows BothAgree slots id (v, held) head_index (λ n. n) (GivesAll (step slots head_index 0 0 none) (v, held))
   gives_back blank is_kernel holds ends =
-      kernel_hands slots id head_index (λ n. n) (λ ws. ws) (λ ws. sym (set-get_or ws head_index 0)) v held (GivesAll (step slots head_index 0 0 none) (v, held)) is_kernel (λ words homes a h both.
-      let d : KernelSide = v.kernel in
-      let n : ℕ = length d.put in
-      let s = h.sized in
-      let l = lists h in
-      let count = put_many l in
-      let few : length blank ≤ d.size = omega (arith, l.all) in (
-        held_from d.start d.size n blank,
-        [],
-        all_given d,
-        holds,
-        all_valid d.start d.size s.power l.fits homes n blank,
-        agrees s.start s.size s.limit h.dropped h.small h.loaded (keeps_all_given l (length blank) blank (all_moves d.start d.size s.power l.fits homes n blank) (all_here d.start d.size s.power l.fits homes n blank s.cells few) ends (omega arith)),
-        refl,
-      ))
+      kernel_hands slots id head_index (λ n. n) v held (GivesAll (step slots head_index 0 0 none) (v, held)) is_kernel (λ words homes a h both.
+      let r = gives_blank (lists h) blank ends in
+      (held_from v.kernel.start v.kernel.size (length v.kernel.put) blank, [], all_given v.kernel, holds, r.0, grind (arith, set-get_or), refl))
 
   -- the tail is loaded
   pub loads_tail : v.is_app ≡ true
       → held ≡ held_from v.app.start v.app.size (length v.app.got) v.app.known
       → Allows BothAgree slots id (v, held) tail_index (λ n. n) (LoadsTail (step slots tail_index 0 0 none) (v, held))
   loads_tail is_app holds =
-      app_hands slots id tail_index (λ n. n) (λ ws. ws) (λ ws. sym (set-get_or ws tail_index 0)) v held (LoadsTail (step slots tail_index 0 0 none) (v, held)) is_app (λ words homes d h both.
+      app_hands slots id tail_index (λ n. n) v held (LoadsTail (step slots tail_index 0 0 none) (v, held)) is_app (λ words homes d h both.
       let a : AppSide = v.app in
       let n : ℕ = length a.got in
       let s = h.sized in
       let l = lists h in
-      let count = put_many l in
-      let few : length a.known + length h.rest ≤ d.size = omega (arith, l.all, l.room) in (
+      let r = loads_rest l in (
         held_from d.start d.size n a.known,
         held_from d.start d.size n (a.known ++ h.rest),
         tail_loaded a h.rest,
         holds ∙ (λ j. held_from (s.start j) (s.size j) n a.known),
-        take_valid d.start d.size s.power l.fits homes s.cells n a.known h.rest few h.stand,
-        agrees s.start s.size s.limit h.dropped h.small h.loaded (keeps_tail_loaded l (length a.known + length h.rest) (take_moves d.start d.size s.power l.fits homes s.cells n a.known h.rest) (omega arith)),
-        (
-          h.rest,
-          (λ j. app_has (v, held) (tail_loaded a h.rest) (held_from (sym s.start j) (sym s.size j) n (a.known ++ h.rest))),
-          record {
-            tail = h.tail ∙ ap (λ w. word_of w (length d.put)) (sym s.start) ∙ ap (word_of a.start) count;
-            few = omega (arith, s.size);
-            all = λ is_kernel. ap (λ (e : KernelSide). e.put) (both is_kernel) ∙ h.begins;
-            dropped = λ is_kernel. let Q : KernelSide → Type 0 = λ e. WereHad (0 ∷ e.dropped) a.dropped in subst Q (sym (both is_kernel)) h.loaded;
-          },
-          refl,
-        ),
+        r.0,
+        grind (arith, set-get_or),
+        (h.rest, (λ j. app_has (v, held) (tail_loaded a h.rest) (held_from (sym s.start j) (sym s.size j) n (a.known ++ h.rest))), grind (arith, put_many l, l.all), refl),
       ))
 
   -- the head is stored
@@ -158,22 +107,18 @@ module _ (slots id : ℕ) (v : View AppSide KernelSide) (held : List (ℕ × Cqe
       let s = h.sized in
       let l = lists h in
       let holds' : held ≡ held_from d.start d.size n (c ∷ cs) = holds ∙ ap₂ (λ start size. held_from start size n a.known) s.start s.size ∙ ap (held_from d.start d.size n) known in
-      let P : List (ℕ × Cqe) → List Cqe → Type 0 = λ xs ks. Agree (set words head_index word) (put_back homes xs) (got_first a ks) d in
-      let stored = keeps_head_stored l 1 word (c ∷ []) cs (set_moves d.start d.size s.power l.fits homes n (some c)) (set_stands d.start d.size s.power l.fits homes n c s.cells) known (omega (arith, ap length known)) (is_word ∙ ap (λ start. word_of start (n + 1)) s.start) in
-      let kept : P (held_from d.start d.size n (c ∷ cs)) (c ∷ cs) = agrees s.start s.size s.limit (get_or-set_other words head_index dropped_index word 0 (λ e. omega arith) ∙ h.dropped) h.small h.loaded stored in
-      (got_first a a.known, gives, tt, subst (λ (xs : List (ℕ × Cqe)). P xs a.known) (sym holds') (subst (P (held_from d.start d.size n (c ∷ cs))) (sym known) kept), refl))
+      let stored = stores_known l word c cs known (is_word ∙ ap (λ start. word_of start (n + 1)) s.start) in
+      (got_first a a.known, gives, tt, rw (holds', known) (grind (arith, get_or-set_other)), refl))
 
   -- the dropped word is loaded
   pub loads_dropped : v.is_app ≡ true
       → Allows BothAgree slots id (v, held) dropped_index (λ n. n) (LoadsDropped (step slots dropped_index 0 0 none) (v, held))
   loads_dropped is_app =
       app_step slots id dropped_index (λ n. n) v held (LoadsDropped (step slots dropped_index 0 0 none) (v, held)) is_app (λ words homes d h both.
-      let s = h.sized in
-      let P : ℕ → List ℕ → Type 0 = λ n ws. Agree ws homes (dropped_loaded v.app n) d in
-      let kept : P (last_of 0 d.dropped) words = agrees s.start s.size s.limit h.dropped h.small (had_last 0 d.dropped v.app.dropped h.loaded) (lists h) in (
+      let kept : Agree words homes (dropped_loaded v.app (last_of 0 d.dropped)) d = grind (arith, had_last 0 d.dropped v.app.dropped) in (
         dropped_loaded v.app (get_or words dropped_index 0),
         keeps,
         tt,
-        subst (P (get_or words dropped_index 0)) (sym (set-get_or words dropped_index 0)) (subst (λ (n : ℕ). P n words) (sym h.dropped) kept),
+        rw (set-get_or words dropped_index 0, h.dropped) kept,
         (refl, rw h.dropped h.small, refl),
       ))

@@ -1,6 +1,6 @@
 -- Calls as they are written, published, read and taken.
-use Rattle.std.proofs.Common.{◌≡◌, ℕ, ◌+◌, ◌%◌, ◌^◌, ◌<◌, ◌≤◌, true, false, List, [], ◌∷◌, ◌++◌, drop, take, length, refl, sym, ◌∙◌, ap, subst, arith, length-append, length-take-le, take_all, take-append-drop}
-use Rattle.uring_words.proofs.Common.{Allows, AreRead, AreWhole, End, Holder, HoldsKnown, IsWriter, Item, Position, Pulls, ReaderRests, ReadsCall, StoresHead, StoresTail, TableId, View, Writes, all_more, has_close_mark, head_stored, held_from, items_of, length-drop, place_of, put_of, rest, step, tail_after, tail_stored, turned, with_call, with_first_after, word_of}
+use Rattle.std.proofs.Common.{◌≡◌, ℕ, ◌+◌, ◌%◌, ◌^◌, ◌<◌, ◌≤◌, true, false, List, [], ◌∷◌, ◌++◌, drop, take, length, refl, sym, ◌∙◌, ap, arith, length-append, length-take-le, take_all, take-append-drop}
+use Rattle.uring_words.proofs.Common.{Allows, AreRead, AreWhole, End, Holder, HoldsKnown, IsWriter, Item, Position, Pulls, ReaderRests, ReadsCall, StoresHead, StoresTail, TableId, View, Writes, all_more, has_close_mark, head_stored, held_from, items_of, length-drop, place_of, put_of, rest, step, tail_after, tail_stored, turned, with_first_after, word_of}
 use mathlib.Core.Option.{none}
 use Rattle.uring_ports.specs.declared.pulled.Pulled.{Pulled}
 use Rattle.uring_ports.specs.declared.pulled.Pulled.TheVariants as pulled
@@ -11,7 +11,7 @@ use Rattle.uring_words.specs.declared.submission.view.Position.TheVariants as po
 use Rattle.uring_words.proofs.CallLemmas.{holds_call, holds_close, more_length, more_append, never_open, close_is_first}
 use Rattle.uring_words.proofs.Plays.{stores_head, stores_tail}
 use Rattle.uring_words.proofs.Standing.{at_place}
-use Rattle.uring_words.proofs.Turning.{part_done, next_of, stands_first, is_next, goes_after, turns_after}
+use Rattle.uring_words.proofs.Turning.{part_done, stands_first, reads_next, goes_after, turns_after}
 
 -- The application's end, which callers see as e, and which has room for a front and one position more, has written the front; word: the index word of the place after it.
 module _ {seat table : TableId} {v : View AppSide KernelSide} {held : List (ℕ × Position)} {size tail end : ℕ} (i : IsWriter seat table v held size tail end)
@@ -22,9 +22,6 @@ module _ {seat table : TableId} {v : View AppSide KernelSide} {held : List (ℕ 
 
   abbrev left : List Position
   left = drop (length (all_more front) + 1) i.blank
-
-  many : length written ≡ length front + 1
-  many = omega (arith, length-append (all_more front) (last ∷ []), more_length front)
 
   enough : length (all_more front) < length i.blank
   enough = grind (arith, more_length)
@@ -40,21 +37,16 @@ module _ {seat table : TableId} {v : View AppSide KernelSide} {held : List (ℕ 
   module _ (after : Holder) (moved : after ≡ (m.0, rest m.1 ++ (word % size, last) ∷ [])) where
     all_written : after ≡ (v, with_first_after v.app.start v.app.size (length v.app.published) left written)
     all_written =
-        goes_after v.app.start v.app.size (length v.app.published) (length (all_more front)) (word % size) i.blank (all_more front) m v (wrote i.blank i.holds) enough place last after refl moved
-        ∙ ap (λ (k : ℕ). (v, held_from v.app.start v.app.size (length v.app.published + k) left ++ held_from v.app.start v.app.size (length v.app.published) written)) (sym (length-append (all_more front) (last ∷ [])))
+        grind (arith, length-append (all_more front) (last ∷ []), goes_after v.app.start v.app.size (length v.app.published) (length (all_more front)) (word % size) i.blank (all_more front) m v (wrote i.blank i.holds) enough place last after refl moved)
 
     word_after : (word + 1) % 2 ^ 32 ≡ word_of v.app.start (length v.app.published + length written)
-    word_after = omega (arith, at, many)
+    word_after = omega (arith, at, length-append (all_more front) (last ∷ []), more_length front)
 
     -- the tail is stored
     pub tail_allowed : (slots id : ℕ) → AreWhole (e.knows.app.published ++ written)
         → Allows BothAgree slots id after 0 (λ _. (word + 1) % 2 ^ 32) (λ _. StoresTail (step slots 0 ((word + 1) % 2 ^ 32) 0 none) after ((word + 1) % 2 ^ 32))
     tail_allowed slots id whole =
-        let next : ℕ = (word + 1) % 2 ^ 32 in
-        let P : Holder → Type 0 = λ x. Allows BothAgree slots id x 0 (λ _. next) (λ _. StoresTail (step slots 0 next 0 none) x next) in
-        let short = length-drop (length (all_more front) + 1) i.blank in
-        let whole' = subst (λ (x : End). AreWhole (x.knows.app.published ++ written)) (sym seen) whole in
-        subst P (sym all_written) (stores_tail slots id v (with_first_after v.app.start v.app.size (length v.app.published) left written) next left written i.is_app refl (omega (arith, enough, many, more_length front, i.many)) (omega (arith, enough, many, more_length front, i.few, i.fits.sized)) (omega (arith, i.fits.most, i.fits.sized)) word_after whole')
+        rw all_written (stores_tail slots id v (with_first_after v.app.start v.app.size (length v.app.published) left written) ((word + 1) % 2 ^ 32) left written i.is_app refl (omega (arith, enough, length-drop {A = Position}, length-append {A = Position}, more_length, i.many)) (omega (arith, enough, length-drop {A = Position}, length-append {A = Position}, more_length, i.few, i.fits.sized)) (omega (arith, i.fits.most, i.fits.sized)) word_after (rw (← seen) at whole))
 
     -- and with it what was written is published
     module _ (slots : ℕ) (stored : Holder) (told : StoresTail (step slots 0 ((word + 1) % 2 ^ 32) 0 none) after ((word + 1) % 2 ^ 32) stored) where
@@ -63,25 +55,21 @@ module _ {seat table : TableId} {v : View AppSide KernelSide} {held : List (ℕ 
 
       pub publishes : IsWriter seat table stored.0 stored.1 size ((word + 1) % 2 ^ 32) end
       publishes =
-          let longer = length-append v.app.published written in
-          let short = length-drop (length (all_more front) + 1) i.blank in
           rw tail_published (record {
             fits = i.fits;
             is_app = i.is_app;
-            tail_word = word_after ∙ ap (word_of v.app.start) (sym longer);
+            tail_word = grind (arith, word_after, length-append);
             end_word = i.end_word;
             blank = left;
-            holds = ap (λ (k : ℕ). held_from v.app.start v.app.size k left) (sym longer);
-            many = omega (arith, enough, many, more_length front, i.many);
-            few = omega (arith, i.few);
+            holds = grind (arith, length-append);
+            many = grind (arith, enough, more_length, i.many, length-append, length-drop);
+            few = grind (arith, i.few, length-drop);
           })
 
 -- the items that positions hold, one position more
 items_more : (ps qs : List Position) → items_of (ps ++ qs) ≡ items_of ps ++ items_of qs
 items_more [] qs = refl
-items_more (position.More x ∷ ps) qs = ap (λ l. x ∷ l) (items_more ps qs)
-items_more (position.Last x ∷ ps) qs = ap (λ l. x ∷ l) (items_more ps qs)
-items_more (position.Close ∷ ps) qs = items_more ps qs
+items_more (p ∷ ps) qs = grind (arith, items_more ps qs)
 
 -- The dispatcher's seat, which holds what it knows, has read k positions of that. b is the seat before, and next the index word of the place after them.
 module _ (b : Holder) (size head k next : ℕ) (held : HoldsKnown b size head) (m : Holder)
@@ -101,16 +89,14 @@ module _ (b : Holder) (size head k next : ℕ) (held : HoldsKnown b size head) (
     read_next : (drop k b.0.kernel.known ≡ x ∷ drop (k + 1) b.0.kernel.known) × (take (k + 1) b.0.kernel.known ≡ take k b.0.kernel.known ++ x ∷ [])
     read_next =
         let d = b.0.kernel in
-        let n = next_of k d.known below in
-        let same : x ≡ n.0 = is_next d.start d.size (length d.taken) k (next % size) d.known (take k d.known) m b.0 is below place_next x read in
-        (n.1 ∙ ap (λ y. y ∷ drop (k + 1) d.known) (sym same), n.2 ∙ ap (λ y. take k d.known ++ y ∷ []) (sym same))
+        reads_next d.start d.size (length d.taken) k (next % size) d.known (take k d.known) m b.0 is below place_next x read
 
     pub read_items_more : items_of (take (k + 1) b.0.kernel.known) ≡ items_of (take k b.0.kernel.known) ++ items_of (x ∷ [])
     read_items_more = ap items_of read_next.1 ∙ items_more (take k b.0.kernel.known) (x ∷ [])
 
     pub front_more : (items : List Item) (item : Item) → take k b.0.kernel.known ≡ all_more items → x ≡ position.More item
         → take (k + 1) b.0.kernel.known ≡ all_more (items ++ item ∷ [])
-    front_more items item front same = read_next.1 ∙ (λ i. front i ++ same i ∷ []) ∙ sym (more_append items (item ∷ []))
+    front_more items item front same = grind (arith, read_next, more_append)
 
     -- and that goes after the others
     module _ (after : Holder) (moved : after ≡ (m.0, turned m.1)) where
@@ -129,7 +115,7 @@ module _ (b : Holder) (size head k next : ℕ) (held : HoldsKnown b size head) (
             read = take (k + 1) d.known;
             others = drop (k + 1) d.known;
             known = sym (take-append-drop (k + 1) d.known);
-            is = one_read ∙ ap (λ (j : ℕ). (b.0, held_from d.start d.size (length d.taken + j) (drop (k + 1) d.known) ++ held_from d.start d.size (length d.taken) (take (k + 1) d.known))) (sym many);
+            is = grind (arith, one_read);
             holds = holds;
             next_word = omega (arith, at, many);
           }
@@ -137,23 +123,19 @@ module _ (b : Holder) (size head k next : ℕ) (held : HoldsKnown b size head) (
       -- the last item of a call
       pub reads_last : (items all : List Item) (item : Item) → take k b.0.kernel.known ≡ all_more items → x ≡ position.Last item
           → all ≡ items ++ item ∷ [] → ReadsCall b after pulled.Call all ((next + 1) % 2 ^ 32)
-      reads_last items all item front same is_all = reads pulled.Call all (items, item, is_all, read_next.1 ∙ (λ i. front i ++ same i ∷ []))
+      reads_last items all item front same is_all = reads pulled.Call all (items, item, is_all, grind (arith, read_next))
 
       -- the close mark, in front of which is no item
       pub reads_close : (items : List Item) → take k b.0.kernel.known ≡ all_more items → x ≡ position.Close → AreWhole b.0.kernel.known
           → ReadsCall b after pulled.Close items ((next + 1) % 2 ^ 32)
       reads_close items front same whole =
-          let d = b.0.kernel in
-          let parts : d.known ≡ all_more items ++ position.Close ∷ drop (k + 1) d.known = sym (take-append-drop k d.known) ∙ (λ i. front i ++ read_next.0 i) ∙ ap (λ y. all_more items ++ y ∷ drop (k + 1) d.known) same in
-          let none : items ≡ [] = close_is_first items (drop (k + 1) d.known) (subst AreWhole parts whole) in
-          reads pulled.Close items (none, read_next.1 ∙ (λ i. front i ++ same i ∷ []) ∙ ap (λ l. all_more l ++ position.Close ∷ []) none)
+          let none : items ≡ [] = grind (arith, read_next, take-append-drop k b.0.kernel.known, close_is_first items) in
+          reads pulled.Close items (none, grind (arith, read_next))
 
 -- what is known ends a call
 pub call_ends : (known : List Position) (k : ℕ) (items : List Item) → AreWhole known → 0 < length known
     → length known ≤ k → take k known ≡ all_more items → ⊥
-call_ends known k items whole some all front =
-    let same : known ≡ all_more items = sym (take_all k known all) ∙ front in
-    never_open items (omega (arith, ap length same, more_length items)) (subst AreWhole same whole)
+call_ends known k items whole some all front = grind (arith, take_all, more_length, never_open items)
 
 -- the head is stored after what was read
 pub head_allowed : (slots id : ℕ) (b m : Holder) (what : Pulled) (items : List Item) (next : ℕ) → ReadsCall b m what items next
@@ -161,8 +143,7 @@ pub head_allowed : (slots id : ℕ) (b m : Holder) (what : Pulled) (items : List
     → Allows BothAgree slots id m 1 (λ _. next) (λ _. StoresHead (step slots 1 next 0 none) m next)
 head_allowed slots id b m what items next r is_kernel few =
     let d = b.0.kernel in
-    let P : Holder → Type 0 = λ x. Allows BothAgree slots id x 1 (λ _. next) (λ _. StoresHead (step slots 1 next 0 none) x next) in
-    subst P (sym r.is) (stores_head slots id b.0 (with_first_after d.start d.size (length d.taken) r.others r.read) next r.others r.read is_kernel refl r.known few r.next_word)
+    rw r.is (stores_head slots id b.0 (with_first_after d.start d.size (length d.taken) r.others r.read) next r.others r.read is_kernel refl r.known few r.next_word)
 
 -- and with it that is taken
 pub head_taken : (slots : ℕ) (b m after : Holder) (what : Pulled) (items : List Item) (next : ℕ) → (r : ReadsCall b m what items next)
@@ -177,10 +158,5 @@ pub pulls : (d : KernelSide) (what : Pulled) (items : List Item) (read others : 
     → Pulls d.size (put_of d.taken) what items (put_of (d.taken ++ read)) × AreWhole (d.taken ++ read)
 pulls d pulled.Call items read others rests open' few known h =
     let holding = holds_call d.taken h.0 h.1 rests.whole open' in
-    let many : length items ≤ d.size = omega (arith, ap length h.2, length-append h.0 (h.1 ∷ []), ap length h.3, length-append (all_more h.0) (position.Last h.1 ∷ []), more_length h.0, ap length known, length-append read others) in
-    let some : 0 < length items = omega (arith, ap length h.2, length-append h.0 (h.1 ∷ [])) in (
-      (some, many, open', ap (λ l. put_of (d.taken ++ l)) h.3 ∙ holding.is ∙ ap (with_call (put_of d.taken)) (sym h.2)),
-      subst (λ l. AreWhole (d.taken ++ l)) (sym h.3) holding.whole,
-    )
-pulls d pulled.Close items read others rests open' few known h = grind (arith, (holds_close d.taken rests.whole open'))
-pulls d pulled.Nothing items read others rests open' few known h = absurd h
+    grind (arith, length-append, more_length)
+pulls d what items read others rests open' few known h = grind (arith, (holds_close d.taken rests.whole open'))

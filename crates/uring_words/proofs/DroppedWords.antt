@@ -1,5 +1,5 @@
 -- The dropped words that were stored, and those that were had of them.
-use Rattle.std.proofs.Common.{◌≡◌, ℕ, List, [], ◌∷◌, ◌++◌, refl, sym, ◌∙◌, ap, subst, append_assoc}
+use Rattle.std.proofs.Common.{◌≡◌, ℕ, List, [], ◌∷◌, ◌++◌, refl, ◌∙◌, ap, arith, append_assoc}
 use Rattle.uring_ports.specs.Dropped.{WereHad}
 use Rattle.uring_words.specs.Completion.Rule.{last_of}
 
@@ -24,6 +24,4 @@ pub had_last : (v : ℕ) (vs ws : List ℕ) → WereHad (v ∷ vs) ws
     → WereHad (v ∷ vs) (ws ++ last_of v vs ∷ [])
 had_last v vs [] h = let r = last_is v vs in (r.0, [], r.1, tt)
 had_last v vs (w ∷ ws) h =
-    let rest = had_last w h.1 ws h.3 in
-    let P : ℕ → Type 0 = λ x. WereHad (w ∷ h.1) (ws ++ x ∷ []) in
-    (h.0, h.1, h.2, subst P (sym (last_after 0 h.0 w h.1) ∙ sym (ap (last_of 0) h.2)) rest)
+    (h.0, h.1, h.2, grind (arith, had_last w h.1 ws h.3, last_after 0 h.0 w h.1, ap (last_of 0) h.2))

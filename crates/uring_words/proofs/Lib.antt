@@ -3,7 +3,6 @@ mod Common
 -- Places:
 pub mod Standing
 -- A table whose slots two sides hand to each other, whatever the rule:
-pub mod Seats
 pub mod SlotSeats
 pub mod SlotActs
 pub mod Handing

@@ -1,25 +1,17 @@
 -- The places of counts.
-use Rattle.std.proofs.Common.{◌≡◌, ◌≢◌, ℕ, ◌+◌, ◌%◌, ◌^◌, ◌<◌, ◌≤◌, sym, ◌∙◌, ap, arith}
+use Rattle.std.proofs.Common.{◌≡◌, ℕ, ◌+◌, ◌%◌, ◌^◌, ◌<◌, ◌≤◌, sym, ◌∙◌, ap, arith}
 use Rattle.std.proofs.Math.Nat.{add-mod_right}
-use Rattle.std.proofs.lemmas.Nat.{mod_below, pow_pos}
+use Rattle.std.proofs.lemmas.Nat.{pow_pos}
 use Rattle.uring_words.proofs.Common.{IsPowerOfTwo, place_of, word_of}
-use Rattle.uring_rings.proofs.Counts.{cell_of_count, same_cell}
+use Rattle.uring_rings.proofs.Counts.{cell_of_count}
 
 pub some_size : (size : ℕ) → IsPowerOfTwo size → 0 < size
 some_size size power = rw power.1 (pow_pos power.0)
-
-pub place_below : (start size count : ℕ) → 0 < size → place_of start size count < size
-place_below start size count some = mod_below (word_of start count) size some
 
 -- the place of an index word
 pub at_place : (start size own count word : ℕ) → own ≡ size → word ≡ word_of start count
     → word % size ≡ place_of start own count
 at_place start size own count word is at = ap (λ w. w % size) at ∙ ap (λ s. place_of start s count) (sym is)
-
--- two counts less than the size apart have places of their own
-pub apart : (start size j k : ℕ) → IsPowerOfTwo size → size ≤ 2 ^ 32 → j < k → k < j + size
-    → place_of start size j ≢ place_of start size k
-apart start size j k power fits before near e = grind (arith, same_cell)
 
 -- a count one turn of the ring on has the same place
 pub next_turn : (start size k : ℕ) → IsPowerOfTwo size → size ≤ 2 ^ 32
