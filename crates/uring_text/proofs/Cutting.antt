@@ -36,16 +36,9 @@ pub cut_more : (all : List (List ℕ)) (before after : List (Bor (List ℕ))) (t
     → IfNone over (tokens_of rest.now ≡ token.now ∷ [])
     → words before ++ left_tokens left ≡ all → words after ++ left_tokens over ≡ all
 cut_more all before after token rest left (Some b) is made some none told =
-    ap (λ (t : List (Bor (List ℕ))). words t ++ tokens_of b.now) made
-    ∙ ap (λ (t : List (List ℕ)). t ++ tokens_of b.now) (map-append (λ (t : Bor (List ℕ)). t.now) before (token ∷ []))
-    ∙ append_assoc (words before) (token.now ∷ []) (tokens_of b.now)
-    ∙ ap (λ (t : List (List ℕ)). words before ++ t) (sym some)
-    ∙ ap (λ (o : Option (Bor (List ℕ))). words before ++ left_tokens o) (sym is) ∙ told
+    simp (made, map-append, append_assoc, ← some) (rw is at told)
 cut_more all before after token rest left None is made some none told =
-    ap (λ (t : List (Bor (List ℕ))). words t ++ []) made ∙ append-nil (words (before ++ token ∷ []))
-    ∙ map-append (λ (t : Bor (List ℕ)). t.now) before (token ∷ [])
-    ∙ ap (λ (t : List (List ℕ)). words before ++ t) (sym none)
-    ∙ ap (λ (o : Option (Bor (List ℕ))). words before ++ left_tokens o) (sym is) ∙ told
+    simp (made, map-append, append-nil, ← none) (rw is at told)
 
 -- less is left
 pub cut_less : (rest : Bor (List ℕ)) (left over : Option (Bor (List ℕ))) → left ≡ Some rest

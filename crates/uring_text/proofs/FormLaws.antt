@@ -42,16 +42,8 @@ part_found _ token p q e = absurd cc
 pub part_again : (k : Kind) (token : List ℕ) (p q : Parts) → SaysPart k token p q
     → part_of k token p ≡ Some q
 unfolding part_of
-part_again kind.Code token p q h = rw (h.1.0, number_again 256 h.0 (omega arith) h.1.1, h.2) refl
-part_again kind.UserData token p q h = grind (arith, number_again)
 part_again kind.Flags token p q h = rw (flags_again token h.0 h.1, h.2) refl
-part_again kind.File token p q h = rw (h.1, file_again h.0 h.2, h.3) refl
-part_again kind.Offset token p q h = grind (arith, number_again)
-part_again kind.Length token p q h = grind (arith, number_again)
-part_again kind.Target token p q h = grind (arith, number_again)
-part_again kind.Data token p q h = rw (h.1, data_again h.0 h.2, h.3) refl
-part_again kind.Bytes token p q h = rw (h.1, hex_again 128 h.0 h.2, h.3) refl
-part_again _ token p q h = absurd h
+part_again _ token p q h = grind (arith, number_again, file_again, data_again, hex_again)
 
 -- All parts.
 
@@ -71,18 +63,9 @@ parts_again _ _ q h = absurd h
 
 -- The name.
 
-found_among : (token : List ℕ) (among : List Name) (n : Name)
-    → find (λ name. bytes_eq token (name_text name)) among ≡ Some n → token ≡ name_text n
-found_among token [] n e = absurd cc
-found_among token (first ∷ later) n e =
-    elim (chosen (bytes_eq token (name_text first)) (Some first) (find (λ name. bytes_eq token (name_text name)) later) (Some n) e) [
-      | inl p ↦ (bytes_eq-Decides token (name_text first)).0 p.0 ∙ ap name_text (let same : first ≡ n = let e : Some first ≡ Some n = p.1 in cc in same)
-      | inr p ↦ found_among token later n p.1
-    ]
-
 name_found : (token : List ℕ) (n : Name) → name_of token ≡ Some n → token ≡ name_text n
 unfolding name_of
-name_found token n e = found_among token names n e
+name_found token n e = grind (arith, bytes_eq-Decides)
 
 name_again : (n : Name) → name_of (name_text n) ≡ Some n
 unfolding name_of
@@ -93,10 +76,7 @@ pub form_found : (tokens : List (List ℕ)) (f : Form) → form_of tokens ≡ So
 unfolding form_of
 form_found [] f e = absurd cc
 form_found (token ∷ tokens) f e =
-    let s = bind_some (name_of token) (λ n. form_named n tokens) f e in
-    let m = mapped (λ parts. record { name = s.0; parts = parts }) (parts_of (kinds_of s.0) tokens) f s.2 in
-    subst (SpellsForm (token ∷ tokens)) m.2
-    (tokens, ap (λ (t : List ℕ). t ∷ tokens) (name_found token s.0 s.1), parts_found (kinds_of s.0) tokens m.0 m.1)
+    (tokens, grind (arith, name_found), parts_found (kinds_of f.name) tokens f.parts (grind arith))
 
 -- what is spelled so is read
 pub form_again : (tokens : List (List ℕ)) (f : Form) → SpellsForm tokens f → form_of tokens ≡ Some f

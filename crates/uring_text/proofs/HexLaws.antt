@@ -4,21 +4,12 @@ use Rattle.uring_text.proofs.Common.{AllByRecursion, AreBytes, IsBytes, and_from
 use Rattle.hex.specs.Hex.{◌>>=◌}
 use Rattle.std.specs.Result.{result_ok}
 use Rattle.hex.specs.declared.error.FromHexError.{FromHexError}
-use Rattle.hex.proofs.HexLemmas.{decode_sized-encode_lower, decode_sized-ok, decode_sized-twice, decode_of-ok, decode_of-even, length-encode_with}
+use Rattle.hex.proofs.HexLemmas.{decode_sized-encode_lower, decode_sized-ok, decode_sized-twice, decode_of-ok, decode_of-even, length-encode_with, decode_pairs-ok}
 use Rattle.uring_text.proofs.Options.{chosen, no_dash, unless_some}
-
--- what holds of each number below one
-abbrev Below : (ℕ → Type 0) → ℕ → Type 0
-Below P zero = Unit {0}
-Below P (suc n) = P n × Below P n
-
-at_below : (P : ℕ → Type 0) (n v : ℕ) → Below P n → v < n → P v
-at_below P zero v all lt = absurd (omega arith)
-at_below P (suc n) v all lt =
-    elim (cases_eq v n) [ inl same ↦ subst P (sym same) all.0 | inr other ↦ at_below P n v all.1 (omega arith) ]
+use Rattle.std.proofs.lemmas.List.Elements.{All-from_recursion}
 
 no_capital : (v : ℕ) → v < 16 → is_capital (slice_index lower_digits v) ≡ false
-no_capital v lt = at_below (λ v. is_capital (slice_index lower_digits v) ≡ false) 16 v (assumption) lt
+no_capital v lt = All-from_recursion (λ d. is_capital d ≡ false) lower_digits (assumption) v 0 lt
 
 bytes_from : (bytes : List ℕ) → AllByRecursion (λ b. b < 256) bytes → IsBytes bytes
 bytes_from [] h i = omega arith
@@ -98,9 +89,7 @@ pub hex_again : (count : ℕ) (bytes : List ℕ) → AreBytes bytes count count
     → hex_of count (encode_lower bytes) ≡ Some bytes
 unfolding hex_of
 hex_again count bytes h =
-    let few : count ≤ length bytes = h.few in
-    let enough : length bytes ≤ count = h.enough in
-    rw (encoded_small bytes h.each, decode_sized-encode_lower bytes count (omega arith) (bytes_from bytes h.each)) refl
+    grind (arith, encoded_small, decode_sized-encode_lower, bytes_from)
 
 shown : (bytes : List ℕ) → 0 < length bytes → hex_or_dash bytes ≡ encode_lower bytes
 shown bytes lt = grind arith
@@ -128,11 +117,7 @@ data_again_of : (bytes token : List ℕ) → 0 < length bytes → token ≡ enco
     → AreBytes bytes 0 64 → data_of token ≡ Some bytes
 unfolding data_of
 data_again_of bytes token lt is h =
-    let size : length token ≡ 2 * length bytes = ap length is ∙ length-encode_with lower_digits bytes in
-    let most : length bytes ≤ 64 = h.enough in
-    let half : length token / 2 ≡ length bytes = omega arith in
-    let all : hex_of (length bytes) token ≡ Some bytes = ap (hex_of (length bytes)) is ∙ hex_again (length bytes) bytes (record { few = omega arith; enough = omega arith; each = h.each }) in
-    rw (no_dash token (λ dash. omega (arith, ap length dash)), half, ne_eqb (length bytes) 0 (λ none. absurd (omega arith)), le-ltb 64 (length bytes) most) all
+    grind (arith, length-encode_with, hex_again, no_dash)
 
 pub data_again : (bytes : List ℕ) → AreBytes bytes 0 64 → data_of (hex_or_dash bytes) ≡ Some bytes
 unfolding data_of

@@ -11,15 +11,10 @@ use Rattle.std.proofs.lemmas.Str.Parse.{IsNumeralModel, numerals_by_value, parse
 pub own : IsNumeralModel (λ ds. list_all is_ascii_digit ds ≡ true) (digits_value 10)
 own = numerals_by_value _ (search rules)
 
-digits_from : (b : ℕ) (bs : List ℕ) → is_numeral (b ∷ bs) ≡ true
-    → list_all is_ascii_digit (b ∷ bs) ≡ true
-unfolding is_numeral
-digits_from b bs e = grind (arith, nil_from_length)
-
 -- a numeral's digits
 pub numeral_digits : (w : List ℕ) → is_numeral w ≡ true → list_all is_ascii_digit w ≡ true
 unfolding is_numeral
-numeral_digits w e = grind (arith, digits_from)
+numeral_digits w e = grind (arith, nil_from_length)
 
 pub numeral_utf8 : (w : List ℕ) → is_numeral w ≡ true → IsUtf8 w
 numeral_utf8 w e = IsUtf8-from_ascii w (IsAscii-from_digits w (own.to w (numeral_digits w e)))

