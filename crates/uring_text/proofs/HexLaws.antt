@@ -21,9 +21,9 @@ bytes_to [] h = tt
 bytes_to (b ∷ bytes) h = (h 0, bytes_to bytes (λ i. h (suc i)))
 
 -- a digit that is no capital letter
-lower_digit : (c v : ℕ) → hex_digit_value c ≡ Some v → is_capital c ≡ false
+lower_digit : (c i v : ℕ) → value_at c i ≡ Ok v → is_capital c ≡ false
     → (slice_index lower_digits v ≡ c) × (v < 16)
-lower_digit c v e small = grind (arith, cond, leb-true, and_from, le-leb, both_ways)
+lower_digit c i v e small = grind (arith, cond, leb-true, and_from, le-leb, both_ways)
 
 bind_ok : {A B : Type 0} (r : Result A FromHexError) (f : A → Result B FromHexError) (y : B)
     → (r >>= f) ≡ Ok y → (x : A) × (r ≡ Ok x) × (f x ≡ Ok y)
@@ -34,9 +34,6 @@ ok x = Ok x
 
 ok_is : {A : Type 0} (x y : A) → ok x ≡ ok y → x ≡ y
 ok_is x y e = cc
-
-digit_read : (c i : ℕ) (o : Option ℕ) (v : ℕ) → digit_or_error c i o ≡ Ok v → o ≡ Some v
-digit_read c i o v h = grind arith
 
 -- what decodes, and has no capital letter
 pairs_lower : (i : ℕ) (s bytes : List ℕ) → decode_pairs i s ≡ Ok bytes
@@ -51,8 +48,8 @@ pairs_lower i (a ∷ b ∷ rest) bytes e n =
     let p3 = bind_ok (decode_pairs (i + 2) rest) (λ more. Ok (p0.0 ∷ more)) bytes p0.2 in
     let small = or_parts (is_capital a) (list_any is_capital (b ∷ rest)) n in
     let smaller = or_parts (is_capital b) (list_any is_capital rest) small.1 in
-    let high = lower_digit a p1.0 (digit_read a i (hex_digit_value a) p1.0 p1.1) small.0 in
-    let low = lower_digit b p2.0 (digit_read b (i + 1) (hex_digit_value b) p2.0 p2.1) smaller.0 in
+    let high = lower_digit a i p1.0 p1.1 small.0 in
+    let low = lower_digit b (i + 1) p2.0 p2.1 smaller.0 in
     let byte : p1.0 * 16 + p2.0 ≡ p0.0 = ok_is (p1.0 * 16 + p2.0) p0.0 p2.2 in
     let first : p0.0 / 16 ≡ p1.0 = omega (arith, high.1, low.1) in
     let second : p0.0 % 16 ≡ p2.0 = omega (arith, high.1, low.1) in
