@@ -13,46 +13,32 @@ pub record IsRight (g : Rules) (all : Bool) (xs : List Found) : Type 0 where
   pub recorded : AreRecorded g (lines_of xs) (history_after xs)
   pub goes_on : has_stopped all xs ≡ false
 
-no_fault : (v : Verdict) → first_fault v verdict.Wrong ≡ verdict.Lawful → ⊥
-no_fault verdict.Lawful e = absurd cc
-no_fault verdict.Wrong e = absurd cc
-no_fault verdict.Bad e = absurd cc
-
-no_bad : (v : Verdict) → first_fault v verdict.Bad ≡ verdict.Lawful → ⊥
-no_bad verdict.Lawful e = absurd cc
-no_bad verdict.Wrong e = absurd cc
-no_bad verdict.Bad e = absurd cc
+-- where there is no fault, there was none before, nor is this finding one
+no_fault : (v : Verdict) (f : Finding) → judged v f ≡ verdict.Lawful
+    → (v ≡ verdict.Lawful) × (judged verdict.Lawful f ≡ verdict.Lawful)
+no_fault v f e = grind arith
 
 -- one line more
 right_more : (g : Rules) (all : Bool) (before : List Found) (line : List ℕ) (f : Finding)
-    → IsFindingAfter (has_stopped all before) g (history_after before) line f
-    → judged (verdict_of before) f ≡ verdict.Lawful
-    → (verdict_of before ≡ verdict.Lawful → IsRight g all before)
+    → IsFinding g (history_after before) line f → judged verdict.Lawful f ≡ verdict.Lawful → IsRight g all before
     → IsRight g all (record { line = line; finding = f } ∷ before)
-right_more g all before line finding.Passed is v prior =
-    let r = prior v in
-    let so = subst (λ (b : Bool). IsFindingAfter b g (history_after before) line finding.Passed) r.goes_on is in
-    record { lawful = r.lawful; recorded = inl (so, r.recorded); goes_on = r.goes_on }
-right_more g all before line (finding.Right s a) is v prior =
-    let r = prior v in
-    let so = subst (λ (b : Bool). IsFindingAfter b g (history_after before) line (finding.Right s a)) r.goes_on is in
-    record {
-      lawful = lawful_more g s a (history_after before) so.2 r.lawful;
-      recorded = inr ((s, a), history_after before, refl, (so.0, so.1), r.recorded);
-      goes_on = r.goes_on;
-    }
-right_more g all before line (finding.Wrong s wanted) is v prior =
-    absurd (no_fault (verdict_of before) v)
-right_more g all before line finding.Bad is v prior = absurd (no_bad (verdict_of before) v)
-right_more g all before line finding.Skipped is v prior =
-    let r = prior v in
-    absurd (subst (λ (b : Bool). IsFindingAfter b g (history_after before) line finding.Skipped) r.goes_on is)
+right_more g all before line finding.Passed is v r =
+    record { lawful = r.lawful; recorded = inl (is, r.recorded); goes_on = r.goes_on }
+right_more g all before line (finding.Right s a) is v r = record {
+  lawful = lawful_more g s a (history_after before) is.2 r.lawful;
+  recorded = inr ((s, a), history_after before, refl, (is.0, is.1), r.recorded);
+  goes_on = r.goes_on;
+}
+right_more g all before line finding.Skipped is v r = absurd is
+right_more g all before line _ is v r = absurd cc
 
 pub all_right : (g : Rules) (all : Bool) (xs : List Found) → AreFound g all xs
     → verdict_of xs ≡ verdict.Lawful → IsRight g all xs
 all_right g all [] are v = record { lawful = lawful_none g; recorded = refl; goes_on = refl }
 all_right g all (x ∷ before) are v =
-    right_more g all before x.line x.finding are.0 v (all_right g all before are.1)
+    let none = no_fault (verdict_of before) x.finding v in
+    let r = all_right g all before are.1 none.0 in
+    right_more g all before x.line x.finding (rw r.goes_on at are.0) none.1 r
 
 pub lawful_said : (g : Rules) (all : Bool) (xs : List Found) → AreFound g all xs
     → verdict_of xs ≡ verdict.Lawful → IsLawfulText g (lines_of xs)
@@ -104,8 +90,6 @@ none_more : (g : Rules) (line : List ℕ) (lines : List (List ℕ)) (known h : H
     → IsFinding g known line f → (judged verdict.Lawful f ≡ verdict.Lawful → ⊥)
     → ((past : History) → IsLawfulBy g past → AreRecorded g lines past → past ≡ known)
     → IsLawfulBy g h → AreRecorded g (line ∷ lines) h → ⊥
-none_more g line lines known h finding.Passed is v prior lawful rec = v refl
-none_more g line lines known h (finding.Right s a) is v prior lawful rec = v refl
 none_more g line lines known h (finding.Wrong s wanted) is v prior lawful (inl passed) =
     passed.0.0 s is.0 is.1
 none_more g line lines known h (finding.Wrong s wanted) is v prior lawful (inr r) =
@@ -117,7 +101,7 @@ none_more g line lines known h finding.Bad is v prior lawful (inl passed) =
     true≢false (sym passed.0.1 ∙ is.1)
 none_more g line lines known h finding.Bad is v prior lawful (inr r) =
     is.0 r.0.0 (text_of r.0.1) r.3.0
-none_more g line lines known h finding.Skipped is v prior lawful rec = v refl
+none_more g line lines known h _ is v prior lawful rec = v refl
 
 -- a verdict is that of no fault, or isn't
 no_fault_or_one : (v : Verdict) → (v ≡ verdict.Lawful) ⊎ (v ≡ verdict.Lawful → ⊥)
@@ -139,7 +123,4 @@ unlawful_said g all (x ∷ before) are v is = elim (no_fault_or_one (verdict_of 
 pub said : (g : Rules) (all : Bool) (xs : List Found) (v : Verdict) → AreFound g all xs
     → v ≡ verdict_of xs → Says g (lines_of xs) v
 said g all xs verdict.Lawful are e = lawful_said g all xs are (sym e)
-said g all xs verdict.Wrong are e =
-    unlawful_said g all xs are (λ v. let no : verdict.Wrong ≡ verdict.Lawful = e ∙ v in absurd cc)
-said g all xs verdict.Bad are e =
-    unlawful_said g all xs are (λ v. let no : verdict.Bad ≡ verdict.Lawful = e ∙ v in absurd cc)
+said g all xs _ are e = unlawful_said g all xs are (λ v. absurd (cc (e, v)))

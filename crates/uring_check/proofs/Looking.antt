@@ -26,18 +26,8 @@ looked_passed c line h none remark over fits = grind (arith, append-nil)
 three_parts : (i a b c : List ℕ) → i ++ a ++ b ++ c ≡ i ++ (a ++ b ++ c)
 three_parts i a b c = simp append_assoc refl
 
-bad_told : (g : Rules) (h : History) (n : ℕ) (line items : List ℕ)
-    → items ++ line_text n ++ ended (codes "bad line") ++ why_bad line
-    ≡ items ++ told_of g h n line finding.Bad
-bad_told g h n line items = three_parts items (line_text n) (ended (codes "bad line")) (why_bad line)
-
 regroup : (i a b c d e : List ℕ) → i ++ a ++ b ++ c ++ d ++ e ≡ i ++ (a ++ b ++ c ++ d ++ e)
 regroup i a b c d e = simp append_assoc refl
-
-wrong_told : (g : Rules) (h : History) (n : ℕ) (line items : List ℕ) (s : Step) (wanted : Wanted)
-    → items ++ line_text n ++ ended (visible_line line) ++ codes "wanted: " ++ ended (wanted_text (entry_asked g h s) wanted) ++ reasons_told g.setup h s wanted
-    ≡ items ++ told_of g h n line (finding.Wrong s wanted)
-wrong_told g h n line items s wanted = regroup items (line_text n) (ended (visible_line line)) (codes "wanted: ") (ended (wanted_text (entry_asked g h s) wanted)) (reasons_told g.setup h s wanted)
 
 -- they are those of what was asked
 reasons_are : (g : Rules) (h : History) (s : Step) (x : Standing) (wanted : Wanted) → IsStanding g h s x
@@ -54,7 +44,7 @@ pub looked_bad : (old mid : Checker) (report : String Global) (line : List ℕ) 
     → string_bytes report ≡ string_bytes mid.report ++ line_text mid.number ++ ended (codes "bad line") ++ why_bad line
     → Looked old (found_bad mid report) line h
 looked_bad old mid report line h is none remark fits =
-    grind (arith, (bad_told (rules_of old.machine) h old.number line (string_bytes old.report)), (rules_of old.machine))
+    grind (arith, (three_parts (string_bytes old.report) (line_text old.number) (ended (codes "bad line")) (why_bad line)), (rules_of old.machine))
 
 -- a checker whose machine made a step, to which this text was told
 abbrev pub with_machine : Checker → Follower → AnswerText → Vec ℕ Global → Checker
@@ -118,10 +108,8 @@ looked_wrong old new m t p before after s text line wanted x notes same asked ju
       decided = ap (λ (c : Checker). c.verdict) is;
       stopped = ap (λ (c : Checker). c.is_over) is;
       told =
-          told
-          ∙ ap (λ (e : Option Sqe). string_bytes old.report ++ line_text old.number ++ ended (visible_line line) ++ codes "wanted: " ++ ended (wanted_text e wanted) ++ reasons_by x (completion_wanted wanted)) (asked h f).asked
-          ∙ ap (λ (w : List ℕ). string_bytes old.report ++ line_text old.number ++ ended (visible_line line) ++ codes "wanted: " ++ ended (wanted_text (entry_asked (rules_of old.machine) h s) wanted) ++ w) (reasons_are (rules_of old.machine) h s x wanted (asked h f))
-          ∙ wrong_told (rules_of old.machine) h old.number line (string_bytes old.report) s wanted;
+          (rw ((asked h f).asked, reasons_are (rules_of old.machine) h s x wanted (asked h f)) at told)
+          ∙ regroup (string_bytes old.report) (line_text old.number) (ended (visible_line line)) (codes "wanted: ") (ended (wanted_text (entry_asked (rules_of old.machine) h s) wanted)) (reasons_told (rules_of old.machine).setup h s wanted);
     }
 
 -- ---- all lines
@@ -145,14 +133,8 @@ took_looked g all lines old mid n line next over looks k =
       numbered = omega (arith, next, number);
       counted = l.counted ∙ ap (λ (x : ℕ). counted_with l.finding x) k.counted;
       decided = l.decided ∙ ap (λ (v : Verdict). judged v l.finding) k.decided;
-      stopped =
-          l.stopped ∙ ap (λ (b : Bool). stops b l.finding) k.is_all
-          ∙ sym (or-false (stops all l.finding))
-          ∙ ap (λ (b : Bool). stops all l.finding || b) (sym none);
-      told =
-          l.told ∙ ap (λ (t : List ℕ). t ++ told_of (rules_of old.machine) past old.number line l.finding) k.told
-          ∙ ap (λ (x : Rules). told_of_all g k.found ++ told_of x past old.number line l.finding) k.same
-          ∙ ap (λ (x : ℕ). told_of_all g k.found ++ told_of g past x line l.finding) k.numbered;
+      stopped = l.stopped ∙ rw (k.is_all, none, or-false);
+      told = l.told ∙ rw (k.told, k.same, k.numbered);
     }
 
 pub took_awaits : (g : Rules) (all : Bool) (lines : List (List ℕ)) (old mid : Checker) (line : List ℕ)
@@ -167,16 +149,10 @@ took_skipped g all lines old n line next over k =
     let past : History = history_after k.found in
     let stopped : has_stopped all k.found ≡ true = sym k.stopped ∙ over in
     let number : old.number ≡ line_number (length k.found) = k.numbered in
-    record {
+    record k {
       found = record { line = line; finding = finding.Skipped } ∷ k.found;
       are = (subst (λ (b : Bool). IsFindingAfter b g past line finding.Skipped) (sym stopped) refl, k.are);
       lines_are = ap (λ (ls : List (List ℕ)). line ∷ ls) k.lines_are;
-      is_all = k.is_all;
-      same = k.same;
-      fits = k.fits;
       numbered = omega (arith, next, number);
-      counted = k.counted;
-      decided = k.decided;
-      stopped = k.stopped;
       told = k.told ∙ sym (append-nil (told_of_all g k.found));
     }

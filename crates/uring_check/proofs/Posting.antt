@@ -77,9 +77,7 @@ pub knows_resumed : (g : Setup) (s : Step) (wanted : Wanted) (h : History) (know
     → later ≡ known ++ noted_poster s before after
     → later ≡ posters g (resumed s (refusal.Wrong wanted) h)
 knows_resumed g s (Only x) h known later before after lawful is was now more = knows_step g s x h known later before after lawful is was now more
-knows_resumed g s (CallOrAgain count) h known later before after lawful is was now more = knows_same g s h known later before after is was now more
-knows_resumed g s AnyEnd h known later before after lawful is was now more = knows_same g s h known later before after is was now more
-knows_resumed g s (EndOrNoMemory res) h known later before after lawful is was now more = knows_same g s h known later before after is was now more
+knows_resumed g s _ h known later before after lawful is was now more = knows_same g s h known later before after is was now more
 
 -- a history that a follower fits is lawful apart from what operations gave
 pub fits_lawful : (m : Follower) (h : History) → FitsBy m h → IsLawfulApart (rules_of m).setup h

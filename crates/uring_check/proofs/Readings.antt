@@ -47,24 +47,12 @@ kept_byte g all kept kept' c before b ne more h = record {
 reported_by : (rules : Option Rules) (all : Bool) (lines : List (List ℕ)) (text : List ℕ) (v : Verdict)
     → IsToldIf rules all lines v text → IsReportedBy rules all lines text v
 reported_by None all lines text v t = t
-reported_by (Some g) all lines text v t = record {
-  found = t.found;
-  are = t.are;
-  lines_are = t.lines_are;
-  decided = t.decided;
-  reported = t.reported;
-  says = subst (λ (ls : List (List ℕ)). Says g ls v) t.lines_are (said g all t.found v t.are t.decided);
-}
+reported_by (Some g) all lines text v t =
+    let says : Says g lines v = rw t.lines_are at (said g all t.found v t.are t.decided) in assumption
 
 told_verdict : (g : Rules) (all : Bool) (lines : List (List ℕ)) (bytes text : List ℕ) (v : Verdict)
     → AreLinesOf bytes lines → IsTold g all lines v text → IsVerdict g all bytes text v
-told_verdict g all lines bytes text v are t = record {
-  lines = lines;
-  are_lines = are;
-  rules = t.rules;
-  ruled = t.ruled;
-  reported = reported_by t.rules all lines text v t.told;
-}
+told_verdict g all lines bytes text v are t = assumption (lines, reported_by t.rules all lines text v t.told)
 
 -- what a checker's end returns
 abbrev pub Ends : Checker → Verdict → List ℕ → Type 0
@@ -136,16 +124,10 @@ read_alone e = absurd cc
 abbrev Answer : Type 0
 Answer = Result Verdict TraceFault
 
-nothing_said : (g : Rules) (all : Bool) (e : TraceFault) (bytes : List ℕ) → e ≢ fault.Write
-    → Writes g all (Err e) bytes []
-nothing_said g all fault.Read bytes other = refl
-nothing_said g all fault.Memory bytes other = refl
-nothing_said g all fault.Write bytes other = absurd (other refl)
-
-early_end : (e : TraceFault) (left : Known) → e ≢ fault.Write → ReadsAll (Err e) left
-early_end fault.Read left other = tt
-early_end fault.Memory left other = tt
-early_end fault.Write left other = absurd (other refl)
+nothing_said : (g : Rules) (all : Bool) (e : TraceFault) (bytes : List ℕ) (left : Known) → e ≢ fault.Write
+    → Writes g all (Err e) bytes [] × ReadsAll (Err e) left
+nothing_said g all fault.Write bytes left other = absurd (other refl)
+nothing_said g all _ bytes left other = (refl, tt)
 
 stopped_at : (g : Rules) (all : Bool) (e : TraceFault) (a r d : Known) (bytes : List ℕ)
     → e ≢ fault.Write → Consumes a r bytes → IsChecked g all (Err e) a r d d
@@ -154,8 +136,8 @@ stopped_at g all e a r d bytes other read = record {
   text = [];
   consumed = read;
   appended = Appends-nil d;
-  written = nothing_said g all e bytes other;
-  whole = early_end e r other;
+  written = (nothing_said g all e bytes r other).0;
+  whole = (nothing_said g all e bytes r other).1;
 }
 
 -- not all was read
@@ -176,12 +158,8 @@ pub cut_checked : (g : Rules) (all : Bool) (answer : Answer) (e : TraceFault) (a
     → IsChecked g all answer a r d d'
 cut_checked g all answer e a r d d' s v text is so ends w =
     let some = w.2 in
-    let verdict_is : IsVerdict g all so.0 (w.0 ++ some.1) v = subst (λ (l : List ℕ). IsVerdict g all so.0 l v) some.3 (ends g all so.0 so.2.0) in
-    subst (λ (x : Answer). IsChecked g all x a r d d') (sym (is ∙ ap (λ (f : TraceFault). failed f) some.0))
-    (record { bytes = so.0; text = w.0; consumed = so.1; appended = w.1; written = (v, some.1, some.2, verdict_is); whole = so.2.1 })
-  where
-    failed : TraceFault → Answer
-    failed f = Err f
+    let verdict_is : IsVerdict g all so.0 (w.0 ++ some.1) v = rw some.3 at (ends g all so.0 so.2.0) in
+    rw (is, some.0) (record { bytes = so.0; text = w.0; consumed = so.1; appended = w.1; written = (v, some.1, some.2, verdict_is); whole = so.2.1 })
 
 -- the report was written
 pub whole_checked : (g : Rules) (all : Bool) (a r d d' : Known) (s : Reading) (v : Verdict) (text : List ℕ)

@@ -17,12 +17,7 @@ call_again : (n : ℕ) → text_of (answer.Call n) ≡ text_of answer.Again → 
 call_again n e = grind arith
 
 pub begin_once : (x a b : Answer) → OrAgain x a → OrAgain x b → text_of a ≡ text_of b → a ≡ b
-begin_once (answer.Call n) a b (inl e) (inl f) same = e ∙ sym f
-begin_once (answer.Call n) a b (inl e) (inr f) same =
-    absurd (call_again n (ap text_of (sym e) ∙ same ∙ ap text_of f.0))
-begin_once (answer.Call n) a b (inr e) (inl f) same =
-    absurd (call_again n (ap text_of (sym f) ∙ sym same ∙ ap text_of e.0))
-begin_once (answer.Call n) a b (inr e) (inr f) same = e.0 ∙ sym f.0
+begin_once (answer.Call n) a b e f same = grind (arith, (call_again n))
 begin_once x a b e f same = e ∙ sym f
 
 -- ---- Finish

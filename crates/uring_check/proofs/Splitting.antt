@@ -17,14 +17,8 @@ none_and_one : (xs ys : List ℕ) → HasNone (xs ++ 61 ∷ ys) → ⊥
 none_and_one [] ys h = h.0 refl
 none_and_one (x ∷ xs) ys h = none_and_one xs ys h.1
 
-abbrev IsOther : ℕ → Type 0
-IsOther b = b ≢ 61
-
-other : IsOther 32
-other e = absurd (omega (arith, e))
-
 none_more : (xs : List ℕ) → HasNone xs → HasNone (xs ++ 32 ∷ [])
-none_more [] h = (other, tt)
+none_more [] h = (omega arith, tt)
 none_more (x ∷ xs) h = (h.0, none_more xs h.1)
 
 -- the first `=` stands at one place
@@ -36,14 +30,10 @@ first_once (x ∷ xs) ys [] vs h k e = absurd (h.0 (head-eq_of_cons-eq e))
 first_once (x ∷ xs) ys (u ∷ us) vs h k e =
     grind (arith, (first_once xs ys us vs h.1 k.1 (tail-eq_of_cons-eq e)), tail-eq_of_cons-eq)
 
-sign_text : (before text : List ℕ)
-    → before ++ 32 ∷ 61 ∷ 32 ∷ text ≡ (before ++ 32 ∷ []) ++ 61 ∷ 32 ∷ text
-sign_text before text = simp append_assoc refl
-
 -- a split line, at its `=`
 at_sign : (line before text : List ℕ) → IsSplit line before text
     → line ≡ (before ++ 32 ∷ []) ++ 61 ∷ 32 ∷ text
-at_sign line before text h = h.whole ∙ sign_text before text
+at_sign line before text h = h.whole ∙ simp append_assoc
 
 -- what a cut gave: the bytes before the first `=`, and the rest
 pub record IsCut (line front back : List ℕ) (n : ℕ) : Type 0 where
@@ -70,7 +60,7 @@ cut_split line front back before text n c h = elim (cases_lt n (length line)) [
 -- what is left of a cut, each without its space, is the split
 pub split_made : (line front back before text : List ℕ) (n : ℕ) → IsCut line front back n
     → front ≡ before ++ 32 ∷ [] → back ≡ 61 ∷ 32 ∷ text → IsSplit line before text
-split_made line front back before text n c x y = grind (arith, take-append-drop, sign_text, none_before)
+split_made line front back before text n c x y = grind (arith, take-append-drop, append_assoc, none_before)
 
 -- no space before the `=`
 pub no_front : (line front back : List ℕ) (n : ℕ) → IsCut line front back n

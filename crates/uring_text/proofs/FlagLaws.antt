@@ -33,11 +33,9 @@ letters_read : (flags : ℕ) (token : List ℕ) → AreLetterBytes token → Non
 unfolding letters_of
 letters_read flags [] l n a = ap (λ (k : ℕ). Some k) (omega arith)
 letters_read flags (b ∷ token) l n a =
-    let some : eqb (flag_value b) 0 ≡ false = ne_eqb (flag_value b) 0 (omega arith) in
     let more = letters_read (bit_or flags (flag_value b)) token l.1 n.1 (apart_after flags b token l.0 l.1 n.0 a.1) in
-    let added : bit_or flags (flag_value b) ≡ flags + flag_value b = or_disjoint flags (flag_value b) a.0 in
-    let all : bit_or flags (flag_value b) + sum_by flag_value token ≡ flags + sum_by flag_value (b ∷ token) = omega (arith, sum_by-cons flag_value b token) in
-    rw (some, a.0) (more ∙ ap (λ (k : ℕ). Some k) all)
+    let all : bit_or flags (flag_value b) + sum_by flag_value token ≡ flags + sum_by flag_value (b ∷ token) = omega (arith, sum_by-cons flag_value b token, or_disjoint flags (flag_value b) a.0) in
+    rw (ne_eqb (flag_value b) 0 (omega arith), a.0) (more ∙ ap (λ (k : ℕ). Some k) all)
 
 pub record IsRead (flags : ℕ) (token : List ℕ) (all : ℕ) : Type 0 where
   pub letters : AreLetterBytes token

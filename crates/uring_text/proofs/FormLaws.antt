@@ -10,33 +10,18 @@ use Rattle.uring_text.proofs.HexLaws.{hex_found, hex_again, data_found, data_aga
 
 -- One part: what is read is said, and the other way round.
 
-number_said : (limit : ℕ) (token : List ℕ) (f : ℕ → Parts) (q : Parts) → limit ≤ 2 ^ 64
-    → option_map f (number_of limit token) ≡ Some q → (n : ℕ) × SpellsNumber limit token n × (q ≡ f n)
-number_said limit token f q small e =
-    let m = mapped f (number_of limit token) q e in
-    (m.0, number_found limit token m.0 small m.1, sym m.2)
-
 pub part_found : (k : Kind) (token : List ℕ) (p q : Parts) → part_of k token p ≡ Some q
     → SaysPart k token p q
 unfolding part_of
-part_found kind.Code token p q e = number_said 256 token _ q (omega arith) e
-part_found kind.UserData token p q e = number_said (2 ^ 64) token _ q (omega arith) e
-part_found kind.Flags token p q e = grind (arith, flags_found)
-part_found kind.File token p q e =
-    let m = mapped (λ fd. record p { fd = fd }) (file_of token) q e in
-    let is = file_found token m.0 m.1 in
-    (m.0, is.0, is.1, sym m.2)
-part_found kind.Offset token p q e = number_said (2 ^ 64) token _ q (omega arith) e
-part_found kind.Length token p q e = number_said (2 ^ 32) token _ q (omega arith) e
-part_found kind.Target token p q e = number_said (2 ^ 64) token _ q (omega arith) e
-part_found kind.Data token p q e =
-    let m = mapped (λ bytes. record p { bytes = bytes }) (data_of token) q e in
-    let is = data_found token m.0 m.1 in
-    (m.0, is.0, is.1, sym m.2)
-part_found kind.Bytes token p q e =
-    let m = mapped (λ bytes. record p { bytes = bytes }) (hex_of 128 token) q e in
-    let is = hex_found 128 token m.0 m.1 in
-    (m.0, is.0, is.1, sym m.2)
+part_found kind.Code token p q e = mapped _ _ _ q (λ n. number_found 256 token n (omega arith)) e
+part_found kind.UserData token p q e = mapped _ _ _ q (λ n. number_found (2 ^ 64) token n (omega arith)) e
+part_found kind.Flags token p q e = mapped _ _ _ q (flags_found token) e
+part_found kind.File token p q e = let m = mapped _ _ _ q (file_found token) e in (m.0, m.1.0, m.1.1, m.2)
+part_found kind.Offset token p q e = mapped _ _ _ q (λ n. number_found (2 ^ 64) token n (omega arith)) e
+part_found kind.Length token p q e = mapped _ _ _ q (λ n. number_found (2 ^ 32) token n (omega arith)) e
+part_found kind.Target token p q e = mapped _ _ _ q (λ n. number_found (2 ^ 64) token n (omega arith)) e
+part_found kind.Data token p q e = let m = mapped _ _ _ q (data_found token) e in (m.0, m.1.0, m.1.1, m.2)
+part_found kind.Bytes token p q e = let m = mapped _ _ _ q (hex_found 128 token) e in (m.0, m.1.0, m.1.1, m.2)
 part_found _ token p q e = absurd cc
 
 pub part_again : (k : Kind) (token : List ℕ) (p q : Parts) → SaysPart k token p q

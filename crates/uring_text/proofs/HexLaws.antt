@@ -71,10 +71,10 @@ hex_found count token bytes e =
     let decoded : decode_sized token count ≡ Ok bytes = ok_from (decode_sized token count) bytes p.1 in
     let size : length token ≡ 2 * count = decode_sized-ok token count bytes decoded in
     let whole : decode_of token ≡ Ok bytes = sym (decode_sized-twice token count size) ∙ decoded in
-    let facts = decode_of-ok token bytes whole in
-    let pairs : decode_pairs 0 token ≡ Ok bytes = sym (decode_of-even token facts.0) ∙ whole in
-    let both : length token ≡ 2 * length bytes = facts.2 in
-    (pairs_lower 0 token bytes pairs p.0, record { few = omega arith; enough = omega arith; each = bytes_to bytes facts.3 })
+    let pairs : decode_pairs 0 token ≡ Ok bytes = sym (decode_of-even token (omega arith)) ∙ whole in
+    let all = decode_pairs-ok 0 token bytes pairs in
+    let both : length token ≡ 2 * length bytes = all.1 in
+    (pairs_lower 0 token bytes pairs p.0, record { few = omega arith; enough = omega arith; each = bytes_to bytes all.2 })
 
 encoded_small : (bytes : List ℕ) → AllByRecursion (λ b. b < 256) bytes
     → list_any is_capital (encode_lower bytes) ≡ false
@@ -94,21 +94,8 @@ shown bytes lt = grind arith
 pub data_found : (token bytes : List ℕ) → data_of token ≡ Some bytes
     → (token ≡ hex_or_dash bytes) × AreBytes bytes 0 64
 unfolding data_of
-data_found token bytes e =
-    elim (chosen (bytes_eq token (codes "-")) (Some []) (cond (eqb (length token / 2) 0) None (cond (ltb 64 (length token / 2)) None (hex_of (length token / 2) token))) (Some bytes) e) [
-      | inl p ↦
-          let none : [] ≡ bytes = same_Some [] bytes p.1 in
-          subst (λ (l : List ℕ). (token ≡ hex_or_dash l) × AreBytes l 0 64) none ((bytes_eq-Decides token (codes "-")).0 p.0, record { few = omega arith; enough = omega arith; each = tt })
-      | inr p ↦
-          let q = unless_some (eqb (length token / 2) 0) (cond (ltb 64 (length token / 2)) None (hex_of (length token / 2) token)) bytes p.1 in
-          let s = unless_some (ltb 64 (length token / 2)) (hex_of (length token / 2) token) bytes q.1 in
-          let found = hex_found (length token / 2) token bytes s.1 in
-          let few : length token / 2 ≤ length bytes = found.1.few in
-          let enough : length bytes ≤ length token / 2 = found.1.enough in
-          let most : length token / 2 ≤ 64 = ltb-false 64 (length token / 2) s.0 in
-          let some : length token / 2 ≡ 0 → ⊥ = eqb-false (length token / 2) 0 q.0 in
-          (found.0 ∙ sym (shown bytes (omega arith)), record { few = omega arith; enough = omega arith; each = found.1.each })
-    ]
+data_found token [] e = grind (arith, bytes_eq-Decides, (hex_found (length token / 2) token []))
+data_found token (b ∷ bytes) e = grind (arith, bytes_eq-Decides, (hex_found (length token / 2) token (b ∷ bytes)))
 
 data_again_of : (bytes token : List ℕ) → 0 < length bytes → token ≡ encode_lower bytes
     → AreBytes bytes 0 64 → data_of token ≡ Some bytes

@@ -7,12 +7,7 @@ use Rattle.std.specs.Fmt.{decimal, signed_decimal}
 use Rattle.std.proofs.lemmas.Fmt.{decimal-digits_value, digits_decimal, first_decimal, decimal_nonempty, decimal_digit, decimal_is_IsNumeral}
 use Rattle.std.proofs.lemmas.Str.Parse.{digit_at}
 use Rattle.uring_text.proofs.Options.{bind_some, chosen, mapped}
-use Rattle.uring_text.proofs.Numbers.{own, numeral_digits, some_length, number_parts, file_other}
-
--- a numeral has no leading zero
-no_leading_zero : (w : List ℕ) → is_numeral w ≡ true → get_or w 0 0 ≡ 48 → length w ≡ 1
-unfolding is_numeral
-no_leading_zero w e z = grind arith
+use Rattle.uring_text.proofs.Numbers.{own, numeral_is, number_parts, file_other}
 
 numeral_from : (w : List ℕ) → list_all is_ascii_digit w ≡ true → 0 < length w
     → (get_or w 0 0 ≡ 48 → length w ≡ 1) → is_numeral w ≡ true
@@ -33,7 +28,8 @@ pub number_found : (limit : ℕ) (w : List ℕ) (n : ℕ) → limit ≤ 2 ^ 64 �
 number_found limit w n le e =
     let p = number_parts limit w n e in
     let small : digits_value 10 w < 2 ^ 64 = omega arith in
-    let same : decimal (digits_value 10 w) ≡ w = decimal-digits_value own w (numeral_digits w p.0) (some_length w p.0) (no_leading_zero w p.0) small in
+    let is = numeral_is w p.0 in
+    let same : decimal (digits_value 10 w) ≡ w = decimal-digits_value own w is.0 is.1 is.2 small in
     (sym same ∙ ap decimal p.1, p.2)
 
 pub number_again : (limit n : ℕ) → limit ≤ 2 ^ 64 → n < limit → number_of limit (decimal n) ≡ Some n
@@ -66,9 +62,8 @@ file_found (b ∷ bs) fd e =
           let same : b ∷ bs ≡ 45 ∷ decimal (suc m.0) = ap (λ (x : ℕ). x ∷ bs) minus ∙ ap (λ (l : List ℕ). 45 ∷ l) digits in
           subst (IsSpelled (b ∷ bs)) (sym m.3) (same, m.2)
       | inr p ↦
-          let m = mapped (λ k. pos k) (number_of (2 ^ 31) (b ∷ bs)) fd p.1 in
-          let n = number_found (2 ^ 31) (b ∷ bs) m.0 (omega arith) m.1 in
-          subst (IsSpelled (b ∷ bs)) m.2 n
+          let m = mapped _ (λ k. pos k) _ fd (λ n. number_found (2 ^ 31) (b ∷ bs) n (omega arith)) p.1 in
+          subst (IsSpelled (b ∷ bs)) (sym m.2) m.1
     ]
 
 -- the decimal form of a number doesn't begin with a minus
@@ -82,11 +77,8 @@ unfolding file_of
 file_again (pos n) lt = sym (file_other (decimal n) (no_minus n (omega arith))) ∙ ap (option_map (λ n. pos n)) (number_again (2 ^ 31) n (omega arith) lt)
 file_again (negsuc k) lt = grind (arith, number_again)
 
-signed_other : (w : List ℕ) → file_of w ≡ None → (fd : ℤ) → IsFile fd → signed_decimal fd ≡ w → ⊥
-signed_other w none fd is same = grind (arith, file_again)
-
 -- what a token spells that is read as a signed number, or as none
 pub signed_tells : (w : List ℕ) (r : Option ℤ) → r ≡ file_of w
     → MatchOption r ((fd : ℤ) → IsFile fd → signed_decimal fd ≡ w → ⊥) (λ fd. (signed_decimal fd ≡ w) × IsFile fd)
-signed_tells w None is = signed_other w (sym is)
+signed_tells w None is = λ fd file same. grind (arith, file_again)
 signed_tells w (Some fd) is = let found = file_found w fd (sym is) in (sym found.0, found.1)

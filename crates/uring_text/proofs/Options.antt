@@ -1,5 +1,5 @@
 -- Steps that may give nothing.
-use Rattle.std.proofs.Common.{◌≡◌, ℕ, Bool, true, false, cond, List, Option, Some, None, refl, ◌⊎◌, inl, inr}
+use Rattle.std.proofs.Common.{◌≡◌, ℕ, Bool, true, false, cond, List, Option, Some, None, refl, ◌⊎◌, inl, inr, sym}
 use Rattle.uring_text.proofs.Common.{bytes_eq, bytes_eq-Decides, cases_Bool, codes, option_map, same_Some, ◌>>=◌}
 
 -- the value of a step that gave something
@@ -8,11 +8,11 @@ pub bind_some : {A B : Type 0} (o : Option A) (f : A → Option B) (y : B) → (
 bind_some (Some x) f y e = (x, refl, e)
 bind_some None f y e = absurd cc
 
--- the value that a mapped one is of
-pub mapped : {A B : Type 0} (f : A → B) (o : Option A) (y : B) → option_map f o ≡ Some y
-    → (x : A) × (o ≡ Some x) × (f x ≡ y)
-mapped f None y e = absurd cc
-mapped f (Some x) y e = (x, refl, same_Some (f x) y e)
+-- the value that a mapped one is of, and what is said of it
+pub mapped : {A B : Type 0} (S : A → Type 0) (f : A → B) (o : Option A) (y : B)
+    → ((x : A) → o ≡ Some x → S x) → option_map f o ≡ Some y → (x : A) × S x × (y ≡ f x)
+mapped S f None y is e = absurd cc
+mapped S f (Some x) y is e = (x, is x refl, sym (same_Some (f x) y e))
 
 -- a test that was passed
 pub test_some : {A : Type 0} (b : Bool) (o : Option A) (y : A) → cond b o None ≡ Some y
