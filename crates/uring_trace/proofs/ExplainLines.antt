@@ -16,6 +16,7 @@ use Rattle.uring_trace.specs.Questions.{IsQuestion, IsNoQuestion}
 use Rattle.uring_trace.specs.declared.questions.Question.{Question}
 use Rattle.uring_text.proofs.Splits.{split_more, split_end, split_whole, last_some}
 use Rattle.uring_trace.proofs.Sessions.{one_more, unrefused_more}
+use Rattle.uring_trace.specs.Explanations.{Said}
 
 -- two facts of a value, whatever the value
 pub if_ok_both : {T E : Type 0} (r : Result T E) (P Q R : T → Type 0) → ((x : T) → P x → Q x → R x)
@@ -111,18 +112,11 @@ explained_more granted telling m m' number was_bad bad xs line text before after
     let past : History = history_of (events_in xs) in
     let told : after ≡ before ++ told_of telling.setup (world telling.setup past) a.said = subst (λ (g : Setup). after ≡ before ++ told_of g (world g past) a.said) same (a.told past fits) in
     record {
-      lawful =
-          subst (λ (k : History). IsLawful telling.setup k) (one_more (event_in a.said) (events_in xs))
-          (subst (λ (g : Setup). IsLawful g (with_event (event_in a.said) past)) (a.same ∙ same) (a.fits past fits).lawful);
+      lawful = rw (a.same ∙ same, one_more (event_in a.said) (events_in xs)) at (a.fits past fits).lawful;
       unrefused = λ yes. unrefused_more telling.setup (event_in a.said) (events_in xs) (h.unrefused yes) (subst (λ (g : Setup). AreUnrefused g past (option_to_list (event_in a.said))) same (a.unrefused (sure yes) past fits));
       each = (a.read, h.each);
-      told =
-          ap (λ (t : List ℕ). text ++ t) told ∙ sym (append_assoc text before (told_of telling.setup (world telling.setup past) a.said))
-          ∙ ap (λ (t : List ℕ). t ++ told_of telling.setup (world telling.setup past) a.said) h.told;
-      noted =
-          ap (λ (t : List ℕ). notes ++ t) (a.noted ∙ ap (λ n. noted ++ noted_of n line a.said) numbered)
-          ∙ sym (append_assoc notes noted (noted_of (line_number (length xs)) line a.said))
-          ∙ ap (λ (t : List ℕ). t ++ noted_of (line_number (length xs)) line a.said) h.noted;
+      told = rw (told, ← append_assoc text before (told_of telling.setup (world telling.setup past) a.said), h.told);
+      noted = rw (a.noted, numbered, ← append_assoc notes noted (noted_of (line_number (length xs)) line a.said), h.noted);
     }
 
 bad_more : (granted : Type 0) (m m' : Machine) (number : ℕ) (was_bad bad : Bool) (xs : List Saying) (line before after noted noted' : List ℕ)

@@ -33,17 +33,10 @@ pub told_step : (granted : Type 0) (old new : Machine) (is_echo : Bool) (line be
     → new.core.setup ≡ old.core.setup → ((h : History) → Fits old h → Fits new ((s, a) ∷ h))
     → (granted → (h : History) → Fits old h → IsUnrefused old.core.setup (world old.core.setup h) s a)
     → AppendsAnswer granted old new is_echo line before after
-told_step granted old new is_echo line before middle told after s a read m t e same fits unrefused = record {
-  event = Some (s, a);
-  read = read;
-  appended =
-      e ∙ ap (λ (l : List ℕ). l ++ told) m
-      ∙ ap (λ (l : List ℕ). (before ++ step_text is_echo line) ++ l) t
-      ∙ append_assoc before (step_text is_echo line) (text_of a);
-  same = same;
-  fits = fits;
-  unrefused = λ sure h f. (unrefused sure h f, tt);
-}
+told_step granted old new is_echo line before middle told after s a read m t e same fits unrefused =
+    let event : Option Event = Some (s, a) in
+    let appended : after ≡ before ++ answer_text is_echo line event = rw (e, m, t, append_assoc) in
+    record { event = event; read = read; appended = appended; same = same; fits = fits; unrefused = λ sure h f. (unrefused sure h f, tt) }
 
 -- a line that is no step was told
 pub told_bad : (granted : Type 0) (m : Machine) (is_echo : Bool) (line before after : List ℕ)
@@ -70,9 +63,7 @@ answered : (granted : Type 0) (manner : Manner) (m m' : Machine) (is_echo : Bool
     → Answers manner (record { line = line; event = a.event } ∷ xs) (text ++ (after ++ 10 ∷ []))
 answered granted manner m m' is_echo xs line text before after sure h same echoes fits a = record {
   unrefused = λ yes. unrefused_more manner.setup a.event (events_of xs) (h.unrefused yes) (subst (λ (g : Setup). AreUnrefused g (history_of (events_of xs)) (option_to_list a.event)) same (a.unrefused (sure yes) (history_of (events_of xs)) fits));
-  lawful =
-      subst (λ (k : History). IsLawful manner.setup k) (one_more a.event (events_of xs))
-      (subst (λ (g : Setup). IsLawful g (with_event a.event (history_of (events_of xs)))) (a.same ∙ same) (a.fits (history_of (events_of xs)) fits).lawful);
+  lawful = rw (a.same ∙ same, one_more a.event (events_of xs)) at (a.fits (history_of (events_of xs)) fits).lawful;
   each = (a.read, h.each);
   all = ap (λ (t : List ℕ). text ++ (t ++ 10 ∷ [])) (a.appended ∙ ap (λ (e : Bool). before ++ answer_text e line a.event) echoes) ∙ simp append_assoc (refl) ∙ ap (λ (t : List ℕ). t ++ ended (answer_text manner.is_echo line a.event)) h.all;
 }

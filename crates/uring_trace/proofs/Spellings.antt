@@ -15,18 +15,9 @@ use Rattle.uring_text.proofs.FormLaws.{form_found, form_again}
 use Rattle.uring_text.proofs.EntryLaws.{entry_once}
 
 -- the name
-name_among : (name : List ℕ) (among : List Step) (t : Step)
-    → find (λ s. bytes_eq name (name_of s)) among ≡ Some t → name ≡ name_of t
-name_among name [] t e = absurd cc
-name_among name (first ∷ later) t e =
-    elim (chosen (bytes_eq name (name_of first)) (Some first) (find (λ s. bytes_eq name (name_of s)) later) (Some t) e) [
-      | inl p ↦ (bytes_eq-Decides name (name_of first)).0 p.0 ∙ ap name_of (same_Some first t p.1)
-      | inr p ↦ name_among name later t p.1
-    ]
-
 name_found : (name : List ℕ) (t : Step) → step_named name ≡ Some t → name ≡ name_of t
 unfolding step_named
-name_found name t e = name_among name steps t e
+name_found name t e = grind (arith, bytes_eq-Decides)
 
 -- one token
 alone_found : (t s : Step) → alone t ≡ Some s → Spells (name_of t ∷ []) s
@@ -79,10 +70,6 @@ step_found tokens s e = grind (arith, one_found, some_of_more)
 
 -- ---- what is spelled is read
 
-one_again : (name : List ℕ) (s : Step) → step_of_one name ≡ Some s → (tokens : List (List ℕ))
-    → tokens ≡ name ∷ [] → ReadsStep (Some s) tokens
-one_again name s e tokens is = subst (ReadsStep (Some s)) (sym is) (sym e)
-
 two_again : (name : List ℕ) (n limit : ℕ) (made : ℕ → Step) → limit ≤ 2 ^ 64 → n < limit
     → bytes_eq name (codes "fill") ≡ false
     → step_of_two name (decimal n) ≡ option_map made (number_of limit (decimal n))
@@ -106,12 +93,9 @@ step_again tokens (step.Begin n) h =
 step_again tokens (step.Issue n) h =
     two_again (codes "issue") n (2 ^ 64) (λ n. step.Issue n) (omega arith) h.1 refl refl tokens h.0
 step_again tokens (step.Finish n) h = two_again (codes "finish") n (2 ^ 64) (λ n. step.Finish n) (omega arith) h.1 refl refl tokens h.0
-step_again tokens s h = one_again (name_of s) s refl tokens h
+step_again tokens s h = rw h refl
 
 -- ---- tokens are read in one way
-
-none_some : (o : Option Step) (s : Step) → None ≡ o → Some s ≡ o → ⊥
-none_some o s r q = absurd (let no : None ≡ Some s = r ∙ sym q in cc)
 
 no_more : (b : Bool) (o : Option ℕ) (f : Option Form) (other : Option Step) (s : Step)
     → MatchBool b (ReadsFill None o f) (None ≡ other)
@@ -121,7 +105,7 @@ no_more b o f other s r q = grind arith
 none_and_step : (tokens : List (List ℕ)) (s : Step) → ReadsStep None tokens
     → ReadsStep (Some s) tokens → ⊥
 none_and_step [] s r q = absurd cc
-none_and_step (name ∷ []) s r q = none_some (step_of_one name) s r q
+none_and_step (name ∷ []) s r q = absurd (let no : None ≡ Some s = r ∙ sym q in cc)
 none_and_step (name ∷ token ∷ rest) s r q = no_more (bytes_eq name (codes "fill")) (number_of (2 ^ 32) token) (form_of rest) (cond (eqb (length rest) 0) (step_of_two name token) None) s r q
 
 fill_once : (o : Option ℕ) (f : Option Form) (s t : Step) → ReadsFill (Some s) o f
