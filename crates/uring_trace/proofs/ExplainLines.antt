@@ -1,5 +1,5 @@
 -- What an explainer keeps, byte by byte and line by line.
-use Rattle.std.proofs.Common.{◌≡◌, ◌≢◌, ℕ, ◌+◌, ◌-◌, ◌^◌, min, Bool, true, false, List, [], ◌∷◌, ◌++◌, length, Option, Result, refl, sym, ap, subst, ◌∙◌, append_assoc, arith}
+use Rattle.std.proofs.Common.{◌≡◌, ◌≢◌, ℕ, ◌+◌, ◌-◌, ◌^◌, min, Bool, true, false, List, [], ◌∷◌, ◌++◌, length, Option, Result, refl, sym, ap, subst, ◌∙◌, append_assoc, arith, None, ◌||◌}
 use Rattle.uring_trace.proofs.Common.{AppendsLine, Asked, Bad, Explaining, Explains, ExplainsBeginning, ExplainsWholeBy, Fits, History, IfOk, IsBad, IsGrantedTo, IsStep, KeptLine, Machine, Made, Remark, Saying, Step, Telling, TellsShown, TellsStep, Why, after_text, append-nil, bad_note, codes, ended, event_in, events_in, history_of, is_bad, joined, kept_of, line_number, lines_in, noted_of, option_to_list, told_of, with_event, with_last, world}
 use Rattle.std.specs.List.{list_any}
 use Rattle.uring_entry.specs.Setup.{Setup}
@@ -16,7 +16,7 @@ use Rattle.uring_trace.specs.Questions.{IsQuestion, IsNoQuestion}
 use Rattle.uring_trace.specs.declared.questions.Question.{Question}
 use Rattle.uring_text.proofs.Splits.{split_more, split_end, split_whole, last_some}
 use Rattle.uring_trace.proofs.Sessions.{one_more, unrefused_more}
-use Rattle.uring_trace.specs.Explanations.{Said}
+use Rattle.uring_trace.specs.Explanations.{Said, IsSaid}
 
 -- two facts of a value, whatever the value
 pub if_ok_both : {T E : Type 0} (r : Result T E) (P Q R : T → Type 0) → ((x : T) → P x → Q x → R x)
@@ -47,47 +47,40 @@ line_made granted old new number bad line before after notes step is t = record 
   unrefused = t.unrefused;
 }
 
+-- a line that is no step
+no_step : (granted : Type 0) (m : Machine) (number : ℕ) (was_bad bad : Bool) (line before after notes notes' : List ℕ) (said : Said)
+    → event_in said ≡ None → IsSaid line said
+    → ((h : History) → Fits m h → after ≡ before ++ told_of m.core.setup (world m.core.setup h) said)
+    → notes' ≡ notes ++ noted_of number line said → bad ≡ (was_bad || is_bad said)
+    → AppendsLine granted m m number was_bad bad line before after notes notes'
+no_step granted m number was_bad bad line before after notes notes' said none read told noted bad_line = record {
+  said = said;
+  read = read;
+  told = told;
+  noted = noted;
+  bad_line = bad_line;
+  same = refl;
+  fits = λ h f. rw none f;
+  unrefused = λ sure h f. rw none tt;
+}
+
 pub line_asked : (granted : Type 0) (m : Machine) (number : ℕ) (bad : Bool) (line before after notes : List ℕ) (question : Question)
     → IsQuestion line question → TellsShown m question before after
     → AppendsLine granted m m number bad bad line before after notes notes
-line_asked granted m number bad line before after notes question is tells = record {
-  said = Asked question;
-  read = is;
-  told = tells;
-  noted = sym (append-nil notes);
-  bad_line = sym (or-false bad);
-  same = refl;
-  fits = λ h f. f;
-  unrefused = λ sure h f. tt;
-}
+line_asked granted m number bad line before after notes question is tells =
+    no_step granted m number bad bad line before after notes notes (Asked question) refl is tells (sym (append-nil notes)) (sym (or-false bad))
 
 pub line_bad : (granted : Type 0) (m : Machine) (number : ℕ) (was_bad : Bool) (line before after notes notes' : List ℕ)
     → IsBad line → is_remark line ≡ false → IsNoQuestion line
     → after ≡ before ++ ended (codes "bad line") → notes' ≡ notes ++ bad_note number line
     → AppendsLine granted m m number was_bad true line before after notes notes'
-line_bad granted m number was_bad line before after notes notes' is remark none told noted = record {
-  said = Bad;
-  read = (is, remark, none);
-  told = λ h f. told;
-  noted = noted;
-  bad_line = sym (or-true was_bad);
-  same = refl;
-  fits = λ h f. f;
-  unrefused = λ sure h f. tt;
-}
+line_bad granted m number was_bad line before after notes notes' is remark none told noted =
+    no_step granted m number was_bad true line before after notes notes' Bad refl (is, remark, none) (λ h f. told) noted (sym (or-true was_bad))
 
 pub line_remark : (granted : Type 0) (m : Machine) (number : ℕ) (bad : Bool) (line text notes : List ℕ)
     → is_remark line ≡ true → AppendsLine granted m m number bad bad line text text notes notes
-line_remark granted m number bad line text notes is = record {
-  said = Remark;
-  read = is;
-  told = λ h f. sym (append-nil text);
-  noted = sym (append-nil notes);
-  bad_line = sym (or-false bad);
-  same = refl;
-  fits = λ h f. f;
-  unrefused = λ sure h f. tt;
-}
+line_remark granted m number bad line text notes is =
+    no_step granted m number bad bad line text text notes notes Remark refl is (λ h f. sym (append-nil text)) (sym (append-nil notes)) (sym (or-false bad))
 
 -- before the first line
 pub explaining_none : (telling : Telling) (m : Machine) (kept : KeptLine) → kept ≡ kept_of []
