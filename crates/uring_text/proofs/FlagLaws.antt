@@ -7,9 +7,6 @@ use Rattle.std.proofs.lemmas.List.Sums.{sum_by-cons}
 use Rattle.std.proofs.lemmas.Nat.{and_or_self, and_or_apart, or_disjoint}
 use Rattle.uring_text.proofs.Options.{no_dash, test_some, unless_some}
 
-abbrev letters : List ℕ
-letters = 68 ∷ 76 ∷ 72 ∷ 65 ∷ 83 ∷ []
-
 letters_apart : (b c : ℕ) → 0 < flag_value b → 0 < flag_value c → (c ≡ b → ⊥)
     → bit_and (flag_value b) (flag_value c) ≡ 0
 letters_apart b c hb hc ne = grind arith
@@ -56,11 +53,9 @@ read_letters : (flags : ℕ) (token : List ℕ) (all : ℕ) → letters_of flags
 unfolding letters_of
 read_letters flags [] all e = grind arith
 read_letters flags (b ∷ token) all e =
-    let p = unless_some (eqb (flag_value b) 0) (cond (eqb (bit_and flags (flag_value b)) 0) (letters_of (bit_or flags (flag_value b)) token) None) all e in
-    let q = test_some (eqb (bit_and flags (flag_value b)) 0) (letters_of (bit_or flags (flag_value b)) token) all p.1 in
-    let some : 0 < flag_value b = omega (arith, eqb-false (flag_value b) 0 p.0) in
-    let free : bit_and flags (flag_value b) ≡ 0 = eqb-true (bit_and flags (flag_value b)) 0 q.0 in
-    let more = read_letters (bit_or flags (flag_value b)) token all q.1 in
+    let some : 0 < flag_value b = grind arith in
+    let free : bit_and flags (flag_value b) ≡ 0 = grind arith in
+    let more = read_letters (bit_or flags (flag_value b)) token all (grind arith) in
     let others = apart_before flags b token some more.letters more.apart in
     record {
       letters = (some, more.letters);

@@ -52,10 +52,6 @@ name_found : (token : List ℕ) (n : Name) → name_of token ≡ Some n → toke
 unfolding name_of
 name_found token n e = grind (arith, bytes_eq-Decides)
 
-name_again : (n : Name) → name_of (name_text n) ≡ Some n
-unfolding name_of
-name_again n = grind arith
-
 -- what is read is spelled so
 pub form_found : (tokens : List (List ℕ)) (f : Form) → form_of tokens ≡ Some f → SpellsForm tokens f
 unfolding form_of
@@ -65,5 +61,5 @@ form_found (token ∷ tokens) f e =
 
 -- what is spelled so is read
 pub form_again : (tokens : List (List ℕ)) (f : Form) → SpellsForm tokens f → form_of tokens ≡ Some f
-unfolding form_of
-form_again tokens f h = grind (arith, name_again, parts_again)
+unfolding form_of name_of
+form_again tokens f h = grind (arith, parts_again)

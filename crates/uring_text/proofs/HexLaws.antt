@@ -88,21 +88,12 @@ unfolding hex_of
 hex_again count bytes h =
     grind (arith, encoded_small, decode_sized-encode_lower, bytes_from)
 
-shown : (bytes : List ℕ) → 0 < length bytes → hex_or_dash bytes ≡ encode_lower bytes
-shown bytes lt = grind arith
-
 pub data_found : (token bytes : List ℕ) → data_of token ≡ Some bytes
     → (token ≡ hex_or_dash bytes) × AreBytes bytes 0 64
 unfolding data_of
 data_found token [] e = grind (arith, bytes_eq-Decides, (hex_found (length token / 2) token []))
 data_found token (b ∷ bytes) e = grind (arith, bytes_eq-Decides, (hex_found (length token / 2) token (b ∷ bytes)))
 
-data_again_of : (bytes token : List ℕ) → 0 < length bytes → token ≡ encode_lower bytes
-    → AreBytes bytes 0 64 → data_of token ≡ Some bytes
-unfolding data_of
-data_again_of bytes token lt is h =
-    grind (arith, length-encode_with, hex_again, no_dash)
-
 pub data_again : (bytes : List ℕ) → AreBytes bytes 0 64 → data_of (hex_or_dash bytes) ≡ Some bytes
 unfolding data_of
-data_again bytes h = grind (arith, data_again_of)
+data_again bytes h = grind (arith, length-encode_with, hex_again, no_dash)

@@ -27,10 +27,8 @@ pub number_found : (limit : ℕ) (w : List ℕ) (n : ℕ) → limit ≤ 2 ^ 64 �
     → (w ≡ decimal n) × (n < limit)
 number_found limit w n le e =
     let p = number_parts limit w n e in
-    let small : digits_value 10 w < 2 ^ 64 = omega arith in
     let is = numeral_is w p.0 in
-    let same : decimal (digits_value 10 w) ≡ w = decimal-digits_value own w is.0 is.1 is.2 small in
-    (sym same ∙ ap decimal p.1, p.2)
+    (rw (← p.1) (sym (decimal-digits_value own w is.0 is.1 is.2 (omega arith))), p.2)
 
 pub number_again : (limit n : ℕ) → limit ≤ 2 ^ 64 → n < limit → number_of limit (decimal n) ≡ Some n
 unfolding number_of

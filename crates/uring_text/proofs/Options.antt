@@ -1,5 +1,5 @@
 -- Steps that may give nothing.
-use Rattle.std.proofs.Common.{◌≡◌, ℕ, Bool, true, false, cond, List, Option, Some, None, refl, ◌⊎◌, inl, inr, sym}
+use Rattle.std.proofs.Common.{◌≡◌, ℕ, Bool, true, false, cond, List, Option, Some, None, refl, ◌⊎◌, inl, inr, sym, arith}
 use Rattle.uring_text.proofs.Common.{bytes_eq, bytes_eq-Decides, cases_Bool, codes, option_map, same_Some, ◌>>=◌}
 
 -- the value of a step that gave something
@@ -34,8 +34,4 @@ chosen false x y z e = inr (refl, e)
 
 -- a token other than `-`
 pub no_dash : (token : List ℕ) → (token ≡ codes "-" → ⊥) → bytes_eq token (codes "-") ≡ false
-no_dash token other =
-    elim (cases_Bool (bytes_eq token (codes "-"))) [
-      | inl dash ↦ absurd (other ((bytes_eq-Decides token (codes "-")).0 dash))
-      | inr f ↦ f
-    ]
+no_dash token other = grind (arith, (bytes_eq-Decides token (codes "-")))
