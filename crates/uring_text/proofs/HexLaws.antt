@@ -29,17 +29,11 @@ bind_ok : {A B : Type 0} (r : Result A FromHexError) (f : A → Result B FromHex
     → (r >>= f) ≡ Ok y → (x : A) × (r ≡ Ok x) × (f x ≡ Ok y)
 bind_ok r f y h = grind arith
 
-abbrev ok : {A : Type 0} → A → Result A FromHexError
-ok x = Ok x
-
-ok_is : {A : Type 0} (x y : A) → ok x ≡ ok y → x ≡ y
-ok_is x y e = cc
-
 -- what decodes, and has no capital letter
 pairs_lower : (i : ℕ) (s bytes : List ℕ) → decode_pairs i s ≡ Ok bytes
     → list_any is_capital s ≡ false → s ≡ encode_lower bytes
 unfolding decode_pairs encode_with
-pairs_lower i [] bytes e n = ap encode_lower (ok_is [] bytes e)
+pairs_lower i [] bytes e n = cc
 pairs_lower i (a ∷ []) bytes e n = absurd cc
 pairs_lower i (a ∷ b ∷ rest) bytes e n =
     let p0 = bind_ok (pair_value a b i) (λ byte. decode_pairs (i + 2) rest >>= λ more. Ok (byte ∷ more)) bytes e in
@@ -50,31 +44,22 @@ pairs_lower i (a ∷ b ∷ rest) bytes e n =
     let smaller = or_parts (is_capital b) (list_any is_capital rest) small.1 in
     let high = lower_digit a i p1.0 p1.1 small.0 in
     let low = lower_digit b (i + 1) p2.0 p2.1 smaller.0 in
-    let byte : p1.0 * 16 + p2.0 ≡ p0.0 = ok_is (p1.0 * 16 + p2.0) p0.0 p2.2 in
+    let byte : p1.0 * 16 + p2.0 ≡ p0.0 = cc (p2.2) in
     let first : p0.0 / 16 ≡ p1.0 = omega (arith, high.1, low.1) in
     let second : p0.0 % 16 ≡ p2.0 = omega (arith, high.1, low.1) in
-    let a_is : a ≡ slice_index lower_digits (p0.0 / 16) = sym (ap (slice_index lower_digits) first ∙ high.0) in
-    let b_is : b ≡ slice_index lower_digits (p0.0 % 16) = sym (ap (slice_index lower_digits) second ∙ low.0) in
-    let rest_is : rest ≡ encode_lower p3.0 = pairs_lower (i + 2) rest p3.0 p3.1 smaller.1 in
-    let all : a ∷ b ∷ rest ≡ encode_lower (p0.0 ∷ p3.0) = ap (λ (x : ℕ). x ∷ b ∷ rest) a_is ∙ ap (λ (x : ℕ). slice_index lower_digits (p0.0 / 16) ∷ x ∷ rest) b_is ∙ ap (λ (l : List ℕ). slice_index lower_digits (p0.0 / 16) ∷ slice_index lower_digits (p0.0 % 16) ∷ l) rest_is in
-    all ∙ ap encode_lower (ok_is (p0.0 ∷ p3.0) bytes p3.2)
-
-ok_from : (r : Result (List ℕ) FromHexError) (bytes : List ℕ) → result_ok r ≡ Some bytes
-    → r ≡ Ok bytes
-ok_from r bytes e = grind arith
+    let all : p0.0 ∷ p3.0 ≡ bytes = cc (p3.2) in
+    rw (← all, first, second, high.0, low.0, ← pairs_lower (i + 2) rest p3.0 p3.1 smaller.1)
 
 pub hex_found : (count : ℕ) (token bytes : List ℕ) → hex_of count token ≡ Some bytes
     → (token ≡ encode_lower bytes) × AreBytes bytes count count
 unfolding hex_of
 hex_found count token bytes e =
-    let p = unless_some (list_any is_capital token) (result_ok (decode_sized token count)) bytes e in
-    let decoded : decode_sized token count ≡ Ok bytes = ok_from (decode_sized token count) bytes p.1 in
-    let size : length token ≡ 2 * count = decode_sized-ok token count bytes decoded in
-    let whole : decode_of token ≡ Ok bytes = sym (decode_sized-twice token count size) ∙ decoded in
-    let pairs : decode_pairs 0 token ≡ Ok bytes = sym (decode_of-even token (omega arith)) ∙ whole in
+    let low : list_any is_capital token ≡ false = grind arith in
+    let pairs : decode_pairs 0 token ≡ Ok bytes = grind arith in
+    let size : length token ≡ 2 * count = grind arith in
     let all = decode_pairs-ok 0 token bytes pairs in
     let both : length token ≡ 2 * length bytes = all.1 in
-    (pairs_lower 0 token bytes pairs p.0, record { few = omega arith; enough = omega arith; each = bytes_to bytes all.2 })
+    (pairs_lower 0 token bytes pairs low, record { few = omega arith; enough = omega arith; each = bytes_to bytes all.2 })
 
 encoded_small : (bytes : List ℕ) → AllByRecursion (λ b. b < 256) bytes
     → list_any is_capital (encode_lower bytes) ≡ false

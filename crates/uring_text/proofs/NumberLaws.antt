@@ -9,19 +9,14 @@ use Rattle.std.proofs.lemmas.Str.Parse.{digit_at}
 use Rattle.uring_text.proofs.Options.{bind_some, chosen, mapped}
 use Rattle.uring_text.proofs.Numbers.{own, numeral_is, number_parts, file_other}
 
-numeral_from : (w : List ℕ) → list_all is_ascii_digit w ≡ true → 0 < length w
-    → (get_or w 0 0 ≡ 48 → length w ≡ 1) → is_numeral w ≡ true
-unfolding is_numeral
-numeral_from w digits lt one = grind arith
-
 -- the decimal form of a number has no leading zero
 leading : (n : ℕ) → n < 2 ^ 64 → get_or (decimal n) 0 0 ≡ 48 → length (decimal n) ≡ 1
 leading zero lt e = ap length (decimal_digit 0 (omega arith))
 leading (suc n) lt e = absurd (omega (arith, first_decimal (suc n) (omega arith) lt))
 
 numeral_decimal : (n : ℕ) → n < 2 ^ 64 → is_numeral (decimal n) ≡ true
-numeral_decimal n lt =
-    numeral_from (decimal n) (digits_decimal own n lt) (decimal_nonempty n lt) (leading n lt)
+unfolding is_numeral
+numeral_decimal n lt = grind (arith, (digits_decimal own n lt), (decimal_nonempty n lt), (leading n lt))
 
 pub number_found : (limit : ℕ) (w : List ℕ) (n : ℕ) → limit ≤ 2 ^ 64 → number_of limit w ≡ Some n
     → (w ≡ decimal n) × (n < limit)
