@@ -38,26 +38,23 @@ negative_found : (n : ℕ) (fd : ℤ) → negative_of n ≡ Some fd
     → (k : ℕ) × (n ≡ suc k) × (k < 2 ^ 31) × (fd ≡ negsuc k)
 negative_found n fd e = grind arith
 
-abbrev IsSpelled : List ℕ → ℤ → Type 0
-IsSpelled w fd = (w ≡ signed_decimal fd) × IsFile fd
+file_digits : (b : ℕ) (bs : List ℕ) (n : ℕ) → file_of (b ∷ bs) ≡ Some (pos n)
+    → number_of (2 ^ 31) (b ∷ bs) ≡ Some n
+unfolding file_of
+file_digits b bs n e = grind (arith, negative_found)
+
+minus_digits : (b : ℕ) (bs : List ℕ) (k : ℕ) → file_of (b ∷ bs) ≡ Some (negsuc k)
+    → (b ≡ 45) × (number_of (2 ^ 64) bs ≡ Some (suc k)) × (k < 2 ^ 31)
+unfolding file_of
+minus_digits b bs k e = grind (arith, eqb-true, negative_found)
 
 pub file_found : (w : List ℕ) (fd : ℤ) → file_of w ≡ Some fd → (w ≡ signed_decimal fd) × IsFile fd
 unfolding file_of
 file_found [] fd e = absurd cc
-file_found (b ∷ bs) fd e =
-    elim (chosen (eqb b 45) (number_of (2 ^ 64) bs >>= negative_of) (option_map (λ n. pos n) (number_of (2 ^ 31) (b ∷ bs))) (Some fd) e) [
-      | inl p ↦
-          let s = bind_some (number_of (2 ^ 64) bs) negative_of fd p.1 in
-          let m = negative_found s.0 fd s.2 in
-          let n = number_found (2 ^ 64) bs s.0 (omega arith) s.1 in
-          let minus : b ≡ 45 = eqb-true b 45 p.0 in
-          let digits : bs ≡ decimal (suc m.0) = n.0 ∙ ap decimal m.1 in
-          let same : b ∷ bs ≡ 45 ∷ decimal (suc m.0) = ap (λ (x : ℕ). x ∷ bs) minus ∙ ap (λ (l : List ℕ). 45 ∷ l) digits in
-          subst (IsSpelled (b ∷ bs)) (sym m.3) (same, m.2)
-      | inr p ↦
-          let m = mapped _ (λ k. pos k) _ fd (λ n. number_found (2 ^ 31) (b ∷ bs) n (omega arith)) p.1 in
-          subst (IsSpelled (b ∷ bs)) (sym m.2) m.1
-    ]
+file_found (b ∷ bs) (pos n) e = number_found (2 ^ 31) (b ∷ bs) n (omega arith) (file_digits b bs n e)
+file_found (b ∷ bs) (negsuc k) e =
+    let is = minus_digits b bs k e in
+    (rw (is.0, (number_found (2 ^ 64) bs (suc k) (omega arith) is.1).0), is.2)
 
 -- the decimal form of a number doesn't begin with a minus
 no_minus : (n : ℕ) → n < 2 ^ 64 → get_or (decimal n) 0 0 ≡ 45 → ⊥
