@@ -37,7 +37,12 @@ pub took_next : (d : Rules) (all : Bool) (lines : List (List ℕ)) (text : List 
     → Looks d all (text ∷ lines) new
 took_next d all lines text old new late goes rests k =
     let on = looks_on k.rules all lines text old new goes rests k.looked in
-    assumption (ruled_more d lines text k.rules (sym k.awaits ∙ late) k.ruled, on.0, on.1 ∙ late)
+    record {
+      rules = k.rules;
+      ruled = ruled_more d lines text k.rules (sym k.awaits ∙ late) k.ruled;
+      looked = on.0;
+      awaits = on.1 ∙ late;
+    }
 
 -- ---- the first line
 
@@ -67,7 +72,8 @@ pub took_first : (d : Rules) (all : Bool) (lines : List (List ℕ)) (text : List
     → old.awaits ≡ true → IsSaid text Nothing → Goes text (record old { awaits = false }) new
     → Looks d all lines old → Looks d all (text ∷ lines) new
 took_first d all lines text old new waits said goes = at_first d all lines text old new waits (λ l.
-    let on = goes d all [] (record l { told = l.told }) in
+    let fits : FitsBy old.machine [] = rw (none_found l.found l.lines_are) at l.fits.0 in
+    let on = goes d all [] (fresh d d all old old.machine l l.same fits) in
     record { rules = Some d; ruled = (Nothing, said, refl); looked = on.0; awaits = on.1 })
 
 -- rules of this set-up
@@ -118,4 +124,8 @@ told_if None all lines c text is l = (l.1, rw (is, l.1, append-nil) l.2)
 pub ends_told : (d : Rules) (all : Bool) (lines : List (List ℕ)) (c : Checker) (text : List ℕ)
     → text ≡ string_bytes c.report ++ closing c.verdict c.steps → Looks d all lines c
     → IsTold d all lines c.verdict text
-ends_told d all lines c text is k = assumption (told_if k.rules all lines c text is k.looked)
+ends_told d all lines c text is k = record {
+  rules = k.rules;
+  ruled = k.ruled;
+  told = told_if k.rules all lines c text is k.looked;
+}

@@ -149,10 +149,16 @@ took_skipped g all lines old n line next over k =
     let past : History = history_after k.found in
     let stopped : has_stopped all k.found ≡ true = sym k.stopped ∙ over in
     let number : old.number ≡ line_number (length k.found) = k.numbered in
-    record k {
+    record {
       found = record { line = line; finding = finding.Skipped } ∷ k.found;
       are = (subst (λ (b : Bool). IsFindingAfter b g past line finding.Skipped) (sym stopped) refl, k.are);
       lines_are = ap (λ (ls : List (List ℕ)). line ∷ ls) k.lines_are;
+      is_all = k.is_all;
+      same = k.same;
+      fits = k.fits;
       numbered = omega (arith, next, number);
+      counted = k.counted;
+      decided = k.decided;
+      stopped = k.stopped;
       told = k.told ∙ sym (append-nil (told_of_all g k.found));
     }

@@ -47,12 +47,24 @@ kept_byte g all kept kept' c before b ne more h = record {
 reported_by : (rules : Option Rules) (all : Bool) (lines : List (List ℕ)) (text : List ℕ) (v : Verdict)
     → IsToldIf rules all lines v text → IsReportedBy rules all lines text v
 reported_by None all lines text v t = t
-reported_by (Some g) all lines text v t =
-    let says : Says g lines v = rw t.lines_are at (said g all t.found v t.are t.decided) in assumption
+reported_by (Some g) all lines text v t = record {
+  found = t.found;
+  are = t.are;
+  lines_are = t.lines_are;
+  decided = t.decided;
+  reported = t.reported;
+  says = subst (λ (ls : List (List ℕ)). Says g ls v) t.lines_are (said g all t.found v t.are t.decided);
+}
 
 told_verdict : (g : Rules) (all : Bool) (lines : List (List ℕ)) (bytes text : List ℕ) (v : Verdict)
     → AreLinesOf bytes lines → IsTold g all lines v text → IsVerdict g all bytes text v
-told_verdict g all lines bytes text v are t = assumption (lines, reported_by t.rules all lines text v t.told)
+told_verdict g all lines bytes text v are t = record {
+  lines = lines;
+  are_lines = are;
+  rules = t.rules;
+  ruled = t.ruled;
+  reported = reported_by t.rules all lines text v t.told;
+}
 
 -- what a checker's end returns
 abbrev pub Ends : Checker → Verdict → List ℕ → Type 0

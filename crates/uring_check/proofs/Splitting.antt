@@ -30,10 +30,14 @@ first_once (x ∷ xs) ys [] vs h k e = absurd (h.0 (head-eq_of_cons-eq e))
 first_once (x ∷ xs) ys (u ∷ us) vs h k e =
     grind (arith, (first_once xs ys us vs h.1 k.1 (tail-eq_of_cons-eq e)), tail-eq_of_cons-eq)
 
+sign_text : (before text : List ℕ)
+    → before ++ 32 ∷ 61 ∷ 32 ∷ text ≡ (before ++ 32 ∷ []) ++ 61 ∷ 32 ∷ text
+sign_text before text = simp append_assoc refl
+
 -- a split line, at its `=`
 at_sign : (line before text : List ℕ) → IsSplit line before text
     → line ≡ (before ++ 32 ∷ []) ++ 61 ∷ 32 ∷ text
-at_sign line before text h = h.whole ∙ simp append_assoc
+at_sign line before text h = h.whole ∙ sign_text before text
 
 -- what a cut gave: the bytes before the first `=`, and the rest
 pub record IsCut (line front back : List ℕ) (n : ℕ) : Type 0 where
@@ -60,7 +64,7 @@ cut_split line front back before text n c h = elim (cases_lt n (length line)) [
 -- what is left of a cut, each without its space, is the split
 pub split_made : (line front back before text : List ℕ) (n : ℕ) → IsCut line front back n
     → front ≡ before ++ 32 ∷ [] → back ≡ 61 ∷ 32 ∷ text → IsSplit line before text
-split_made line front back before text n c x y = grind (arith, take-append-drop, append_assoc, none_before)
+split_made line front back before text n c x y = grind (arith, take-append-drop, sign_text, none_before)
 
 -- no space before the `=`
 pub no_front : (line front back : List ℕ) (n : ℕ) → IsCut line front back n

@@ -134,11 +134,10 @@ pub either_wrong : (h : History) (m : Follower) (s : Step) (text : List ℕ) (wa
     → IsEither wanted one other → (text_of one ≡ text → ⊥) → (text_of other ≡ text → ⊥)
     → IsWanted h m s wanted → IsJudged (rules_of m) h m s text (Some wanted)
 either_wrong h m s text wanted one other either apart other_apart is =
-    let none = λ (a : Answer) (meets : Meets wanted a) (allowed : AllowedBy (rules_of m) h s a) (same : text_of a ≡ text) (plain : IsPlain a (is_apart (rules_of m).ends) s). elim (either.meets a meets) [
+    (wrong_text (rules_of m) h s text wanted is.0.called is.0.only (λ a meets allowed same plain. elim (either.meets a meets) [
       | inl e ↦ apart (ap text_of (sym e) ∙ same)
       | inr e ↦ other_apart (ap text_of (sym e) ∙ same)
-    ] in
-    (wrong_text (rules_of m) h s text wanted is.0.called is.0.only none, is.1)
+    ]), is.1)
 
 -- ---- what a refusal told
 

@@ -1,5 +1,5 @@
 -- A form has one entry.
-use Rattle.std.proofs.Common.{◌≡◌, ℕ, List, ◌++◌, take, drop, sym, ap, ◌∙◌}
+use Rattle.std.proofs.Common.{◌≡◌, ℕ, List, drop, sym, ◌∙◌}
 use Rattle.uring_text.proofs.Common.{Form, HasData, IsEntryNamed, IsEntryOf, Name, Parts, Sqe, take-append-drop}
 use Rattle.uring_entry.proofs.CompletionWords.{same_words}
 use Rattle.uring_text.specs.declared.forms.Name.TheVariants as name

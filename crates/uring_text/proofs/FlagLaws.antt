@@ -1,11 +1,11 @@
 -- Flags are read of just the tokens that are their letters.
-use Rattle.std.proofs.Common.{◌≡◌, ◌≢◌, ℕ, ◌+◌, ◌<◌, false, cond, eqb, List, [], ◌∷◌, length, Some, None, ap, ◌∙◌, arith}
-use Rattle.uring_text.proofs.Common.{AllByRecursion, AreFlags, NoneAgain, bytes_eq, bytes_eq-Decides, eqb-false, eqb-true, flag_value, flags_of, letters_of, ne_eqb, same_Some, sum_by}
+use Rattle.std.proofs.Common.{◌≡◌, ◌≢◌, ℕ, ◌+◌, ◌<◌, false, cond, List, [], ◌∷◌, length, Some, ap, ◌∙◌, arith}
+use Rattle.uring_text.proofs.Common.{AllByRecursion, AreFlags, NoneAgain, bytes_eq, bytes_eq-Decides, flag_value, flags_of, letters_of, ne_eqb, same_Some, sum_by}
 use Rattle.std.specs.Int.RustNames.{bit_and, bit_or}
 use Rattle.std.specs.Int.Bits.{and_zero_l}
 use Rattle.std.proofs.lemmas.List.Sums.{sum_by-cons}
 use Rattle.std.proofs.lemmas.Nat.{and_or_self, and_or_apart, or_disjoint}
-use Rattle.uring_text.proofs.Options.{no_dash, test_some, unless_some}
+use Rattle.uring_text.proofs.Options.{no_dash, unless_some}
 
 letters_apart : (b c : ℕ) → 0 < flag_value b → 0 < flag_value c → (c ≡ b → ⊥)
     → bit_and (flag_value b) (flag_value c) ≡ 0

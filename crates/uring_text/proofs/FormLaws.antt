@@ -1,9 +1,9 @@
 -- The form that is read of tokens is the one that they spell.
-use Rattle.std.proofs.Common.{◌≡◌, ℕ, ◌^◌, ◌≤◌, List, [], ◌∷◌, Some, refl, sym, ap, subst, ◌∙◌, arith, inl, inr}
-use Rattle.uring_text.proofs.Common.{Form, Name, Parts, SayParts, SaysPart, SpellsForm, SpellsNumber, bytes_eq, bytes_eq-Decides, data_of, file_of, find, form_named, form_of, hex_of, kinds_of, name_of, name_text, names, number_of, option_map, part_of, parts_of}
+use Rattle.std.proofs.Common.{◌≡◌, ℕ, ◌^◌, List, [], ◌∷◌, Some, refl, sym, ap, arith}
+use Rattle.uring_text.proofs.Common.{Form, Name, Parts, SayParts, SaysPart, SpellsForm, bytes_eq-Decides, form_of, kinds_of, name_of, name_text, part_of, parts_of}
 use Rattle.uring_text.specs.declared.place.Kind.{Kind}
 use Rattle.uring_text.specs.declared.place.Kind.TheVariants as kind
-use Rattle.uring_text.proofs.Options.{bind_some, chosen, mapped}
+use Rattle.uring_text.proofs.Options.{bind_some, mapped}
 use Rattle.uring_text.proofs.NumberLaws.{number_found, number_again, file_found, file_again}
 use Rattle.uring_text.proofs.FlagLaws.{flags_found, flags_again}
 use Rattle.uring_text.proofs.HexLaws.{hex_found, hex_again, data_found, data_again}

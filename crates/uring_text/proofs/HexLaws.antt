@@ -1,11 +1,10 @@
 -- Bytes are read of just the tokens that are their lower case digits.
-use Rattle.std.proofs.Common.{◌≡◌, ℕ, zero, suc, ◌+◌, ◌*◌, ◌/◌, ◌%◌, ◌<◌, ◌≤◌, false, cond, ltb, eqb, List, [], ◌∷◌, length, Option, Some, None, Result, Ok, refl, sym, ap, subst, ◌∙◌, arith, inl, inr}
-use Rattle.uring_text.proofs.Common.{AllByRecursion, AreBytes, IsBytes, and_from, both_ways, bytes_eq, bytes_eq-Decides, cases_eq, codes, data_of, decode_of, decode_pairs, decode_sized, digit_or_error, encode_lower, encode_with, eqb-false, hex_digit_value, hex_of, hex_or_dash, is_capital, le-leb, le-ltb, leb-true, list_any, lower_digits, ltb-false, ne_eqb, or_parts, pair_value, same_Some, slice_index, value_at}
+use Rattle.std.proofs.Common.{◌≡◌, ℕ, zero, suc, ◌+◌, ◌*◌, ◌/◌, ◌%◌, ◌<◌, false, cond, List, [], ◌∷◌, length, Some, Result, Ok, refl, arith}
+use Rattle.uring_text.proofs.Common.{AllByRecursion, AreBytes, IsBytes, and_from, both_ways, bytes_eq-Decides, data_of, decode_pairs, encode_lower, encode_with, hex_of, hex_or_dash, is_capital, le-leb, leb-true, list_any, lower_digits, or_parts, pair_value, slice_index, value_at}
 use Rattle.hex.specs.Hex.{◌>>=◌}
-use Rattle.std.specs.Result.{result_ok}
 use Rattle.hex.specs.declared.error.FromHexError.{FromHexError}
-use Rattle.hex.proofs.HexLemmas.{decode_sized-encode_lower, decode_sized-ok, decode_sized-twice, decode_of-ok, decode_of-even, length-encode_with, decode_pairs-ok}
-use Rattle.uring_text.proofs.Options.{chosen, no_dash, unless_some}
+use Rattle.hex.proofs.HexLemmas.{decode_sized-encode_lower, length-encode_with, decode_pairs-ok}
+use Rattle.uring_text.proofs.Options.{no_dash}
 use Rattle.std.proofs.lemmas.List.Elements.{All-from_recursion}
 
 no_capital : (v : ℕ) → v < 16 → is_capital (slice_index lower_digits v) ≡ false

@@ -1,5 +1,5 @@
 -- Bytes as hexadecimal digits, byte by byte.
-use Rattle.std.proofs.Common.{◌≡◌, ℕ, ◌+◌, ◌<◌, ◌≤◌, List, [], ◌∷◌, ◌++◌, length, drop, sym, ap, ◌∙◌, append_assoc, append-nil}
+use Rattle.std.proofs.Common.{◌≡◌, ℕ, ◌+◌, ◌<◌, ◌≤◌, List, [], ◌∷◌, ◌++◌, length, drop, append_assoc, append-nil}
 use Rattle.uring_text.proofs.Common.{at_drop_all, at_drop_more, encode_lower, encode_with, lower_digits, slice_index, ◌%◌, ◌/◌}
 
 -- a byte's two digits, and those of the bytes after it

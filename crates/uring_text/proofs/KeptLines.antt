@@ -1,6 +1,6 @@
 -- What is kept of a line, byte by byte.
 use Rattle.std.proofs.Common.{◌≡◌, ℕ, ◌<◌, ◌≤◌, Bool, true, false, ltb, List, [], ◌∷◌, ◌++◌, length, take, sym, ap, ◌∙◌, arith}
-use Rattle.uring_text.proofs.Common.{le-ltb, length-append, length-take, lt-ltb, ltb-false, take-append-le, take_all}
+use Rattle.uring_text.proofs.Common.{length-append, length-take, ltb-false, take-append-le, take_all}
 use Rattle.uring_text.specs.KeptLine.{KeptLine, kept_of}
 
 -- the kept lines that fields make

@@ -1,5 +1,5 @@
 -- Bytes have lines in one way.
-use Rattle.std.proofs.Common.{◌≡◌, ℕ, List, [], ◌∷◌, ◌++◌, refl, sym, ap, subst, ◌∙◌, append_assoc, arith}
+use Rattle.std.proofs.Common.{◌≡◌, ℕ, List, [], ◌∷◌, ◌++◌, refl, sym, subst, ◌∙◌, append_assoc, arith}
 use mathlib.Core.List.{head-eq_of_cons-eq, tail-eq_of_cons-eq}
 use Rattle.std.specs.List.{AllByRecursion}
 use Rattle.uring_text.specs.Lines.{IsUnbroken, Splits, joined}

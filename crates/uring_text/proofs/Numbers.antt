@@ -1,5 +1,5 @@
 -- Words that are numbers.
-use Rattle.std.proofs.Common.{◌≡◌, ℕ, ◌^◌, ◌<◌, ◌≤◌, true, List, ◌∷◌, length, get_or, Some, None, Result, arith, rules}
+use Rattle.std.proofs.Common.{◌≡◌, ℕ, ◌^◌, ◌<◌, ◌≤◌, true, List, length, get_or, Some, None, Result, arith, rules}
 use Rattle.uring_text.proofs.Common.{IsUtf8, file_of, is_numeral, list_all, lt-ltb, ne_eqb, nil_from_length, number_of, option_map, pos}
 use Rattle.std.specs.Char.{is_ascii_digit}
 use Rattle.std.specs.Str.Parse.{digits_value, ParsesUnsigned}

@@ -1,6 +1,6 @@
 -- Steps that may give nothing.
 use Rattle.std.proofs.Common.{◌≡◌, ℕ, Bool, true, false, cond, List, Option, Some, None, refl, ◌⊎◌, inl, inr, sym, arith}
-use Rattle.uring_text.proofs.Common.{bytes_eq, bytes_eq-Decides, cases_Bool, codes, option_map, same_Some, ◌>>=◌}
+use Rattle.uring_text.proofs.Common.{bytes_eq, bytes_eq-Decides, codes, option_map, same_Some, ◌>>=◌}
 
 -- the value of a step that gave something
 pub bind_some : {A B : Type 0} (o : Option A) (f : A → Option B) (y : B) → (o >>= f) ≡ Some y

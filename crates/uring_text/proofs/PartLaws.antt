@@ -1,5 +1,5 @@
 -- The bytes that the tokens of a form say: of a write up to 64, of all of an entry 128.
-use Rattle.std.proofs.Common.{◌≡◌, ◌≤◌, ℕ, List, Some, arith}
+use Rattle.std.proofs.Common.{◌≡◌, ℕ, List, Some, arith}
 use Rattle.uring_text.proofs.Common.{AreBytes, Fits, Name, Parts, SayParts, kinds_of, parts_of}
 use Rattle.uring_text.specs.declared.forms.Name.TheVariants as name
 use Rattle.uring_text.proofs.FormLaws.{parts_found}

@@ -1,5 +1,5 @@
 -- Lines as text in which no byte is invisible.
-use Rattle.std.proofs.Common.{◌≡◌, ℕ, List, [], ◌∷◌, ◌++◌, refl, sym, ap, ◌∙◌, append_assoc, append-nil}
+use Rattle.std.proofs.Common.{◌≡◌, ℕ, List, [], ◌∷◌, ◌++◌, refl, sym, ap, append_assoc, append-nil}
 use Rattle.uring_text.specs.Visible.{visible, visible_byte, last_byte, visible_line}
 
 -- a line by its last byte and those before it

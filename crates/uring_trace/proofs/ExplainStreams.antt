@@ -1,6 +1,6 @@
 -- What explain reads and writes.
 use Rattle.std.proofs.Common.{◌≡◌, ℕ, Bool, List, [], ◌++◌, Option, Result, Ok, Err, refl, sym, subst, ◌∙◌, append_assoc, arith, inr}
-use Rattle.uring_trace.proofs.Common.{Appends, Consumes, ExplainsBeginning, ExplainsLess, ExplainsWholeBy, HasToldBy, IsAtEnd, IsExplained, Keeps, ReadsWhole, Telling, TookBoth, WritesBoth, WritesPair, WritesTexts, WroteBoth, append-nil}
+use Rattle.uring_trace.proofs.Common.{Appends, Consumes, ExplainsBeginning, ExplainsWholeBy, HasToldBy, IsAtEnd, IsExplained, Keeps, ReadsWhole, Telling, TookBoth, WritesBoth, WritesPair, WritesTexts, WroteBoth, append-nil}
 use Rattle.std.proofs.KnownBytes.{Consumes-nil, Appends-nil, Appends-trans, Consumes-trans}
 use Rattle.uring_text.specs.declared.trace_fault.TraceFault.{TraceFault}
 use Rattle.uring_text.specs.declared.trace_fault.TraceFault.TheVariants as fault

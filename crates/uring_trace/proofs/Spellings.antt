@@ -1,15 +1,15 @@
 -- What is read of a line's tokens is what they spell.
-use Rattle.std.proofs.Common.{◌≡◌, ℕ, ◌^◌, ◌<◌, ◌≤◌, Bool, true, false, cond, eqb, List, [], ◌∷◌, length, Option, Some, None, refl, sym, ap, subst, ◌∙◌, arith, inl, inr}
-use Rattle.uring_trace.proofs.Common.{Decides, IsBad, IsStep, MatchOption, Spells, Sqe, Step, bytes_eq-Decides, codes, decimal, eqb-true, find, name_of, nil_from_length, option_map, steps}
+use Rattle.std.proofs.Common.{◌≡◌, ℕ, ◌^◌, ◌≤◌, Bool, true, false, cond, eqb, List, [], ◌∷◌, length, Option, Some, None, refl, sym, subst, ◌∙◌, arith}
+use Rattle.uring_trace.proofs.Common.{Decides, IsBad, IsStep, MatchOption, Spells, Step, bytes_eq-Decides, codes, eqb-true, name_of, nil_from_length}
 use Rattle.std.specs.Bool.{MatchBool}
 use Rattle.std.specs.Str.{bytes_eq}
 use Rattle.std.proofs.lemmas.Option.{same_Some}
 use Rattle.uring_core.specs.declared.step.Step.TheVariants as step
 use Rattle.uring_text.specs.Tokens.{tokens_of}
-use Rattle.uring_text.specs.Forms.{Form, SpellsForm, IsEntryOf}
+use Rattle.uring_text.specs.Forms.{Form}
 use Rattle.uring_text.specs.Reading.{number_of, form_of}
 use Rattle.uring_trace.specs.Reading.{ReadsStep, ReadsFill, step_named, alone, numbered, step_of_one, step_of_two}
-use Rattle.uring_text.proofs.Options.{bind_some, chosen, mapped}
+use Rattle.uring_text.proofs.Options.{bind_some}
 use Rattle.uring_text.proofs.NumberLaws.{number_found, number_again}
 use Rattle.uring_text.proofs.FormLaws.{form_found, form_again}
 use Rattle.uring_text.proofs.EntryLaws.{entry_once}

@@ -1,12 +1,12 @@
 -- The outcomes of a trace.
-use Rattle.std.proofs.Common.{◌≡◌, ℕ, ◌<◌, List, length, [], ◌++◌, Option, Result, Ok, Err, refl, sym, ap, subst, ◌∙◌, append_assoc, inl, inr}
+use Rattle.std.proofs.Common.{◌≡◌, ℕ, List, [], ◌++◌, Option, Result, Ok, Err, refl, sym, ap, subst, ◌∙◌, append_assoc, inl, inr}
 use Rattle.uring_trace.proofs.Common.{Appends, Consumes, Has, IsAtEnd, Keeps, Manner, TookIn, append-nil}
 use Rattle.std.proofs.KnownBytes.{Consumes-nil, Appends-nil, Appends-trans, Consumes-trans, Consumes-kept}
 use Rattle.uring_text.specs.declared.trace_fault.TraceFault.{TraceFault}
 use Rattle.uring_text.specs.declared.trace_fault.TraceFault.TheVariants as fault
 use Rattle.uring_trace.specs.declared.session.Session.{Session}
 use Rattle.uring_text.specs.Writing.{WritesText}
-use Rattle.uring_trace.specs.Traces.{Traces, Writes, ReadsAll, IsWhole, IsBeginning, IsCutShort}
+use Rattle.uring_trace.specs.Traces.{Traces, Writes, ReadsAll, IsWhole, IsBeginning}
 use Rattle.uring_trace.proofs.Sessions.{held_beginning, held_ended}
 
 abbrev Answer : Type 0
