@@ -1,5 +1,5 @@
 -- Steps that may give nothing.
-use Rattle.std.proofs.Common.{◌≡◌, ℕ, Bool, true, false, cond, List, Option, Some, None, refl, ◌⊎◌, inl, inr, sym, arith}
+use Rattle.std.proofs.Common.{◌≡◌, ℕ, Bool, true, false, cond, List, Option, Some, None, refl, sym, arith}
 use Rattle.uring_text.proofs.Common.{bytes_eq, bytes_eq-Decides, codes, option_map, same_Some, ◌>>=◌}
 
 -- the value of a step that gave something
@@ -14,23 +14,11 @@ pub mapped : {A B : Type 0} (S : A → Type 0) (f : A → B) (o : Option A) (y :
 mapped S f None y is e = absurd cc
 mapped S f (Some x) y is e = (x, is x refl, sym (same_Some (f x) y e))
 
--- a test that was passed
-pub test_some : {A : Type 0} (b : Bool) (o : Option A) (y : A) → cond b o None ≡ Some y
-    → (b ≡ true) × (o ≡ Some y)
-test_some true o y e = (refl, e)
-test_some false o y e = absurd cc
-
--- or wasn't
+-- a test that wasn't passed
 pub unless_some : {A : Type 0} (b : Bool) (o : Option A) (y : A) → cond b None o ≡ Some y
     → (b ≡ false) × (o ≡ Some y)
 unless_some true o y e = absurd cc
 unless_some false o y e = (refl, e)
-
--- one of two ways
-pub chosen : {A : Type 0} (b : Bool) (x y z : A) → cond b x y ≡ z
-    → ((b ≡ true) × (x ≡ z)) ⊎ ((b ≡ false) × (y ≡ z))
-chosen true x y z e = inl (refl, e)
-chosen false x y z e = inr (refl, e)
 
 -- a token other than `-`
 pub no_dash : (token : List ℕ) → (token ≡ codes "-" → ⊥) → bytes_eq token (codes "-") ≡ false
