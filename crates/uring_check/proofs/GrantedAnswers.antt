@@ -8,22 +8,14 @@ use Rattle.uring_core.specs.declared.step.Step.TheVariants as step
 use Rattle.uring_check.specs.declared.ends.Ends.TheVariants as ends
 use Rattle.uring_check.proofs.WantedAnswers.{one_answer}
 
--- answers that no Begin is given
-abbrev IsNoBegin : Answer → Type 0
-IsNoBegin (answer.Ended res bytes) = Unit {0}
-IsNoBegin _ = ⊥
-
-begin_called : (apart : Bool) (g : Setup) (w : World) (count : ℕ) (a : Answer) → IsNoBegin a
-    → CalledIn apart g w (step.Begin count) a → ⊥
-begin_called apart g w count a is called = grind arith
-
 -- ---- any end
 
 abbrev end_with : List ℕ → Answer
 end_with bytes = answer.Ended (pos 0) bytes
 
-two_ends : end_with [] ≡ end_with (0 ∷ []) → ⊥
-two_ends e = absurd cc
+begin_called : (apart : Bool) (g : Setup) (w : World) (count : ℕ)
+    → CalledIn apart g w (step.Begin count) (end_with []) → ⊥
+begin_called apart g w count called = grind arith
 
 two_on_files : (files : List FileContents) (r : Requests) (n : ℕ) (running : Bool)
     → EndsOn files r n running (end_with []) → EndsOn files r n running (end_with (0 ∷ [])) → ⊥
@@ -33,19 +25,15 @@ two_on_files files r n running p q = grind arith
 abbrev AnyCalled : Bool → Setup → History → Step → Type 0
 AnyCalled apart g h s = (a : Answer) → IsEnded a → CalledIn apart g (world g h) s a
 
-not_one : (apart : Bool) (g : Setup) (h : History) (s : Step) → AnyCalled apart g h s
-    → HasOneAnswer s → ⊥
-not_one apart g h s any one =
-    two_ends (one_answer apart g (world g h) s (end_with []) (end_with (0 ∷ [])) one (any (end_with []) tt) (any (end_with (0 ∷ [])) tt))
-
 -- such a step is the Finish of a request without files
 any_called : (apart : Bool) (g : Setup) (h : History) (s : Step)
     → AnyCalled apart g h s → (apart ≡ true) × (n : ℕ) × (s ≡ step.Finish n)
 any_called true g h (step.Finish n) any = (refl, n, refl)
 any_called false g h (step.Finish n) any = absurd (two_on_files (files_of g (world g h)) (world g h).requests n (is_running (world g h).requests n) (any (end_with []) tt) (any (end_with (0 ∷ [])) tt))
 any_called apart g h (step.Begin count) any =
-    absurd (begin_called apart g (world g h) count (end_with []) tt (any (end_with []) tt))
-any_called apart g h s any = absurd (not_one apart g h s any tt)
+    absurd (begin_called apart g (world g h) count (any (end_with []) tt))
+any_called apart g h s any =
+    absurd (cc (one_answer apart g (world g h) s (end_with []) (end_with (0 ∷ [])) tt (any (end_with []) tt) (any (end_with (0 ∷ [])) tt)))
 
 -- any end is wanted of a Finish alone
 pub any_finishes : (m : Follower) (s : Step) (h : History) → IsWanted h m s AnyEnd

@@ -29,11 +29,6 @@ three_parts i a b c = simp append_assoc refl
 regroup : (i a b c d e : List ℕ) → i ++ a ++ b ++ c ++ d ++ e ≡ i ++ (a ++ b ++ c ++ d ++ e)
 regroup i a b c d e = simp append_assoc refl
 
--- they are those of what was asked
-reasons_are : (g : Rules) (h : History) (s : Step) (x : Standing) (wanted : Wanted) → IsStanding g h s x
-    → reasons_by x (completion_wanted wanted) ≡ reasons_told g.setup h s wanted
-reasons_are g h s x wanted is = rw (is.why, is.chosen, is.found, is.poster) refl
-
 -- a checker that found a bad line, and told it
 abbrev pub found_bad : Checker → String Global → Checker
 found_bad c report = record c { is_over = true; report = report }
@@ -95,12 +90,13 @@ looked_wrong old new m t p before after s text line wanted x notes same asked ju
     let j = judges h f.0 in
     let eq : (rules_of old.machine).setup ≡ (rules_of m).setup = ap (λ (r : Rules). r.setup) (sym same) in
     let later : History = with_finding (finding.Wrong s wanted) h in
-    let known : p.items ≡ posters (rules_of m).setup later = knows_resumed (rules_of m).setup s wanted h old.posters.items p.items before after (fits_lawful m later j.1) (f.1 ∙ ap (λ (g : Setup). posters g h) eq) (notes.before_is h f ∙ ap (λ (g : Setup). length (world g h).completions.posted) eq) (notes.after_is later j.1) notes.more in
+    let known = asked h f in
+    let noted : p.items ≡ posters (rules_of m).setup later = knows_resumed (rules_of m).setup s wanted h old.posters.items p.items before after (fits_lawful m later j.1) (f.1 ∙ ap (λ (g : Setup). posters g h) eq) (notes.before_is h f ∙ ap (λ (g : Setup). length (world g h).completions.posted) eq) (notes.after_is later j.1) notes.more in
     record {
       finding = finding.Wrong s wanted;
       is_so = (text, rec, j.0);
       same = ap (λ (c : Checker). rules_of c.machine) is ∙ same;
-      fits = subst (λ (c : Checker). Knows c later) (sym is) (j.1, known);
+      fits = subst (λ (c : Checker). Knows c later) (sym is) (j.1, noted);
       is_all = ap (λ (c : Checker). c.is_all) is;
       awaits = ap (λ (c : Checker). c.awaits) is;
       numbered = ap (λ (c : Checker). c.number) is;
@@ -108,7 +104,7 @@ looked_wrong old new m t p before after s text line wanted x notes same asked ju
       decided = ap (λ (c : Checker). c.verdict) is;
       stopped = ap (λ (c : Checker). c.is_over) is;
       told =
-          (rw ((asked h f).asked, reasons_are (rules_of old.machine) h s x wanted (asked h f)) at told)
+          (rw (known.asked, known.why, known.chosen, known.found, known.poster) at told)
           ∙ regroup (string_bytes old.report) (line_text old.number) (ended (visible_line line)) (codes "wanted: ") (ended (wanted_text (entry_asked (rules_of old.machine) h s) wanted)) (reasons_told (rules_of old.machine).setup h s wanted);
     }
 

@@ -5,26 +5,19 @@ use Rattle.uring_entry.specs.Completions.{Completions, completion_for, with_post
 use Rattle.uring_entry.specs.Layout.{Cqe}
 use Rattle.uring_rules.specs.Rules.{posts}
 use Rattle.uring_core.specs.Events.{end_told_by}
+use Rattle.uring_core.specs.declared.answer.Answer.TheVariants as answer
 use Rattle.uring_core.specs.declared.step.Step.TheVariants as step
 use Rattle.uring_core.specs.declared.wanted.Refusal.TheVariants as refusal
 use Rattle.uring_core.proofs.CompletionMoves.{CompletionMove, stays, ends, completion_move}
 
 -- ---- what one step posts
 
-issue_end : (n : ℕ) (a : Answer) (e : Ending) → end_told_by (step.Issue n, a) ≡ Some e
-    → n ∷ [] ≡ e.number ∷ []
-issue_end n a e is = grind arith
-
-finish_end : (n : ℕ) (a : Answer) (e : Ending) → end_told_by (step.Finish n, a) ≡ Some e
-    → n ∷ [] ≡ e.number ∷ []
-finish_end n a e is = grind arith
-
 -- the request of an end is that of its step
 number_told : (s : Step) (a : Answer) (e : Ending) → end_told_by (s, a) ≡ Some e
     → number_in s ≡ e.number ∷ []
-number_told (step.Issue n) a e is = issue_end n a e is
-number_told (step.Finish n) a e is = finish_end n a e is
-number_told _ a e is = absurd cc
+number_told (step.Issue n) (answer.Ended res bytes) e is = cc
+number_told (step.Finish n) (answer.Ended res bytes) e is = cc
+number_told _ _ e is = absurd cc
 
 -- nothing was posted
 none_noted : (s : Step) (n : ℕ) → noted_poster s n n ≡ []
@@ -62,13 +55,6 @@ pub knows_step : (g : Setup) (s : Step) (a : Answer) (h : History) (known later 
 knows_step g s a h known later before after lawful is was now more =
     grind (arith, (noted_by g (world g h) s a (world g ((s, a) ∷ h)) (completion_move g s a h lawful)))
 
--- a step that counts as not made
-knows_same : (g : Setup) (s : Step) (h : History) (known later : List ℕ) (before after : ℕ)
-    → known ≡ posters g h → before ≡ length (world g h).completions.posted
-    → after ≡ length (world g h).completions.posted → later ≡ known ++ noted_poster s before after
-    → later ≡ posters g h
-knows_same g s h known later before after is was now more = grind (arith, append-nil)
-
 -- after a wrong answer
 pub knows_resumed : (g : Setup) (s : Step) (wanted : Wanted) (h : History) (known later : List ℕ) (before after : ℕ)
     → IsLawfulApart g (resumed s (refusal.Wrong wanted) h) → known ≡ posters g h
@@ -77,7 +63,7 @@ pub knows_resumed : (g : Setup) (s : Step) (wanted : Wanted) (h : History) (know
     → later ≡ known ++ noted_poster s before after
     → later ≡ posters g (resumed s (refusal.Wrong wanted) h)
 knows_resumed g s (Only x) h known later before after lawful is was now more = knows_step g s x h known later before after lawful is was now more
-knows_resumed g s _ h known later before after lawful is was now more = knows_same g s h known later before after is was now more
+knows_resumed g s _ h known later before after lawful is was now more = grind (arith, append-nil)
 
 -- a history that a follower fits is lawful apart from what operations gave
 pub fits_lawful : (m : Follower) (h : History) → FitsBy m h → IsLawfulApart (rules_of m).setup h

@@ -111,15 +111,12 @@ pub goes_on : (g : Rules) (all : Bool) (a r r' : Known) (s s' : Reading) (more :
 goes_on g all a r r' s s' more read took so =
     (so.0 ++ more, Consumes-trans a r r' so.0 more so.1 read, took g all so.0 so.2)
 
-memory_alone : (e : TraceFault) → e ≡ fault.Memory → e ≢ fault.Write
-memory_alone e is other = absurd cc
-
 -- bytes that were not
 pub not_taken : (g : Rules) (all : Bool) (answer : Result (Unit {0}) TraceFault) (e : TraceFault) (a r r' : Known) (s s' : Reading) (more : List ℕ)
     → answer ≡ Err e → e ≡ fault.Memory → Consumes r r' more → So g all a r s
     → ReadsIn g all answer a r' s'
 not_taken g all answer e a r r' s s' more is memory read so =
-    (so.0 ++ more, Consumes-trans a r r' so.0 more so.1 read, subst (λ (x : Result (Unit {0}) TraceFault). TakesIn g all x r' s' (so.0 ++ more)) (sym is) (memory_alone e memory))
+    (so.0 ++ more, Consumes-trans a r r' so.0 more so.1 read, rw is (λ other. absurd cc))
 
 -- the end of the input
 pub all_read : (g : Rules) (all : Bool) (a r r' : Known) (s : Reading) → Consumes r r' []
@@ -160,7 +157,7 @@ part_checked g all answer e a r d s is so = subst (λ (x : Answer). IsChecked g 
 -- all was read, and memory was refused
 pub unsaid_checked : (g : Rules) (all : Bool) (answer : Answer) (a r d : Known) (s : Reading)
     → answer ≡ Err fault.Memory → ReadsIn g all (Ok tt) a r s → IsChecked g all answer a r d d
-unsaid_checked g all answer a r d s is so = subst (λ (x : Answer). IsChecked g all x a r d d) (sym is) (stopped_at g all fault.Memory a r d so.0 (memory_alone fault.Memory refl) so.1)
+unsaid_checked g all answer a r d s is so = rw is (stopped_at g all fault.Memory a r d so.0 (λ other. absurd cc) so.1)
 
 -- the report was written in part
 pub cut_checked : (g : Rules) (all : Bool) (answer : Answer) (e : TraceFault) (a r d d' : Known) (s : Reading) (v : Verdict) (text : List ℕ)

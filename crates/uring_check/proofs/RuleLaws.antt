@@ -10,13 +10,9 @@ use Rattle.uring_check.proofs.SameTexts.{answer_once, begin_once}
 
 -- ---- histories
 
-pub called_first : (g : Rules) (s : Step) (a : Answer) (h : History) → IsLawfulBy g ((s, a) ∷ h)
-    → IsCalled g h s a
-called_first g s a h p = grind arith
-
-pub lawful_rest : (g : Rules) (s : Step) (a : Answer) (h : History) → IsLawfulBy g ((s, a) ∷ h)
-    → IsLawfulBy g h
-lawful_rest g s a h p = grind arith
+pub lawful_first : (g : Rules) (s : Step) (a : Answer) (h : History) → IsLawfulBy g ((s, a) ∷ h)
+    → IsCalled g h s a × IsLawfulBy g h
+lawful_first g s a h p = grind arith
 
 pub lawful_more : (g : Rules) (s : Step) (a : Answer) (h : History) → IsCalled g h s a
     → IsLawfulBy g h → IsLawfulBy g ((s, a) ∷ h)

@@ -31,14 +31,9 @@ growth_text n small e = signed_decimal_injective (pos n) (neg_ℤ ENOMEM) small 
 abbrev ended_as : Outcome → Answer
 ended_as outcome = answer.Ended outcome.res outcome.bytes
 
-grown_once : (files : List FileContents) (op : Op) (x y : Outcome) → x ≡ result_of files op
-    → is_lengthening files op ≡ true → y ≡ ended_with (neg_ℤ ENOMEM)
-    → text_of (ended_as x) ≡ text_of (ended_as y) → x ≡ y
-grown_once files op x y e long f same = grind (arith, growth_text)
-
 outcome_once : (files : List FileContents) (op : Op) (x y : Outcome) → IsOutcome files op x
     → IsOutcome files op y → text_of (ended_as x) ≡ text_of (ended_as y) → x ≡ y
-outcome_once files op x y h h2 same = grind (arith, grown_once)
+outcome_once files op x y h h2 same = grind (arith, growth_text)
 
 end_once : (files : List FileContents) (r : Requests) (n : ℕ) (running : Bool) (a b : Answer)
     → EndsOn files r n running a → EndsOn files r n running b → text_of a ≡ text_of b → a ≡ b

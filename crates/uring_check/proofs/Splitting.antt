@@ -57,8 +57,7 @@ cut_split line front back before text n c h = elim (cases_lt n (length line)) [
       let same = first_once (take n line) (drop (n + 1) line) (before ++ 32 ∷ []) (32 ∷ text) c.none (none_more before h.first) whole in
       (c.front_is ∙ same.0, c.back_is ∙ next ∙ ap (λ (l : List ℕ). 61 ∷ l) same.1)
   | inr ge ↦
-      let all : HasNone line = subst HasNone (take_all n line ge) c.none in
-      absurd (none_and_one (before ++ 32 ∷ []) (32 ∷ text) (subst HasNone (at_sign line before text h) all))
+      absurd (none_and_one (before ++ 32 ∷ []) (32 ∷ text) (rw (take_all n line ge, at_sign line before text h) at c.none))
 ]
 
 -- what is left of a cut, each without its space, is the split

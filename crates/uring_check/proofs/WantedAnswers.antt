@@ -1,5 +1,5 @@
 -- What a text says of the answers that are called for.
-use Rattle.std.proofs.Common.{◌≡◌, drop, ◌∷◌, ℕ, ℤ, neg_ℤ, Bool, true, false, List, [], Option, Some, None, refl, sym, ap, subst, ◌∙◌, inl, inr}
+use Rattle.std.proofs.Common.{◌≡◌, drop, ◌∷◌, ℕ, ℤ, neg_ℤ, Bool, true, false, List, [], Option, Some, None, refl, sym, ap, subst, ◌∙◌, inl, inr, arith}
 use Rattle.uring_check.proofs.Common.{AllowedBy, Answer, AnyEnd, CallOrAgain, CalledBy, CalledForApart, CalledIn, ENOMEM, EndOrNoMemory, Ends, FinishesApart, FitsBy, Follower, HasOneAnswer, History, IsEither, IsEnded, IsJudged, IsOneJudged, IsPlain, IsWanted, IsWrong, IsWrongText, Judges, MayGive, Only, Requests, Rules, Setup, Step, Wanted, World, entry_asked, entry_in, entry_outstanding, is_apart, is_running, no_bytes, rules_of, text_of, world, Meets}
 use Rattle.uring_core.specs.Core.{IsNoFinish}
 use Rattle.uring_core.specs.Recorded.{IsRefused, resumed}
@@ -50,9 +50,7 @@ wrong_text g h s text wanted called only other = record {
 -- what a follower fits is called for
 pub fits_called : (m : Follower) (s : Step) (a : Answer) (h : History) → FitsBy m ((s, a) ∷ h)
     → CalledBy (rules_of m) h s a
-fits_called (Whole m) s a h f = f.lawful.0
-fits_called (Apart c) s a h f = f.lawful.0
-fits_called (Allowed c) s a h f = f.lawful.0
+fits_called m s a h f = grind arith
 
 -- a step was made with the one answer that was called for
 pub sure_judged : (old new : Follower) (s : Step) (text : List ℕ) (x : Answer) (found : Option Wanted)
@@ -71,8 +69,7 @@ only_end : (running : Bool) (res : ℤ) (bytes : List ℕ)
     → ((a : Answer) → FinishesApart running a → a ≡ answer.Ended res bytes)
     → FinishesApart running (answer.Ended res bytes) → ⊥
 only_end true res bytes called is =
-    let two : answer.Ended res [] ≡ answer.Ended res (0 ∷ []) = called (answer.Ended res []) tt ∙ sym (called (answer.Ended res (0 ∷ [])) tt) in
-    absurd cc
+    absurd (cc (called (answer.Ended res []) tt, called (answer.Ended res (0 ∷ [])) tt))
 only_end false res bytes called is = absurd cc
 
 -- an answer that alone is called for is told by its text, and whatever its result, it is allowed
@@ -101,8 +98,7 @@ not_allowed : (e : Ends) (r : Requests) (s : Step) (res : ℤ) (text : List ℕ)
     → MayGive a (entry_in e r s) → text_of a ≡ text → IsPlain a (is_apart e) s → ⊥
 not_allowed ends.Allowed r (step.Finish n) res text (answer.Ended other bytes) file is bad ended may same plain =
     let results : other ≡ res = result_once other res plain.0 file (ap (λ (l : List ℕ). drop 6 l) (same ∙ sym is)) in
-    let one : answer.Ended other bytes ≡ answer.Ended res no_bytes = λ i. answer.Ended (results i) (plain.1 i) in
-    bad (subst (λ (b : Answer). MayGive b (entry_outstanding r n)) one may)
+    bad (rw (← results, ← plain.1) may)
 not_allowed ends.Allowed r (step.Finish n) res text _ file is bad ended may same plain = ended
 not_allowed _ r _ res text a file is bad ended may same plain = bad tt
 
