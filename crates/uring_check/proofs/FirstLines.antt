@@ -1,5 +1,5 @@
 -- What a checker makes of the first line, and of those after it.
-use Rattle.std.proofs.Common.{◌≡◌, ℕ, Bool, true, false, List, [], ◌∷◌, ◌++◌, length, Option, Some, None, refl, sym, ap, subst, ◌∙◌}
+use Rattle.std.proofs.Common.{◌≡◌, ℕ, Bool, true, false, List, [], ◌∷◌, ◌++◌, length, Option, Some, None, refl, sym, ap, subst, ◌∙◌, arith}
 use Rattle.uring_check.proofs.Common.{AreJudgedBy, Checker, Ends, FitsBy, Follower, Found, IsSaid, IsTold, IsToldIf, Looks, LooksBy, LooksIf, Rules, Setup, Verdict, append-nil, awaits_first, closing, has_stopped, history_after, lines_of, missed_text, posters, rules_of, steps_of, string_bytes, told_of_all, verdict_of}
 use Rattle.std.specs.declared.alloc.Global.{Global}
 use Rattle.std.specs.declared.string.String.{String}
@@ -37,12 +37,7 @@ pub took_next : (d : Rules) (all : Bool) (lines : List (List ℕ)) (text : List 
     → Looks d all (text ∷ lines) new
 took_next d all lines text old new late goes rests k =
     let on = looks_on k.rules all lines text old new goes rests k.looked in
-    record {
-      rules = k.rules;
-      ruled = ruled_more d lines text k.rules (sym k.awaits ∙ late) k.ruled;
-      looked = on.0;
-      awaits = on.1 ∙ late;
-    }
+    grind (arith, on, (ruled_more d lines text k.rules (sym k.awaits ∙ late) k.ruled))
 
 -- ---- the first line
 
@@ -65,7 +60,7 @@ fresh : (given g : Rules) (all : Bool) (old : Checker) (m : Follower) → LooksB
     → rules_of m ≡ g → FitsBy m [] → LooksBy g all [] (with_follower old m)
 fresh given g all old m l same fits =
     let none = none_found l.found l.lines_are in
-    record { found = []; are = tt; lines_are = refl; is_all = l.is_all; same = same; fits = (fits, rw none at l.fits.1); numbered = rw none at l.numbered; counted = rw none at l.counted; decided = rw none at l.decided; stopped = rw none at l.stopped; told = rw none at l.told }
+    grind (arith, none)
 
 -- a first line that says no set-up
 pub took_first : (d : Rules) (all : Bool) (lines : List (List ℕ)) (text : List ℕ) (old new : Checker)
@@ -112,20 +107,10 @@ took_missed d all lines text old mid new waits said begun is told = at_first d a
 told_if : (rules : Option Rules) (all : Bool) (lines : List (List ℕ)) (c : Checker) (text : List ℕ)
     → text ≡ string_bytes c.report ++ closing c.verdict c.steps → LooksIf rules all lines c
     → IsToldIf rules all lines c.verdict text
-told_if (Some g) all lines c text is l = record {
-  found = l.found;
-  are = l.are;
-  lines_are = l.lines_are;
-  decided = l.decided;
-  reported = rw (is, l.told, l.decided, l.counted);
-}
+told_if (Some g) all lines c text is l = grind arith
 told_if None all lines c text is l = (l.1, rw (is, l.1, append-nil) l.2)
 
 pub ends_told : (d : Rules) (all : Bool) (lines : List (List ℕ)) (c : Checker) (text : List ℕ)
     → text ≡ string_bytes c.report ++ closing c.verdict c.steps → Looks d all lines c
     → IsTold d all lines c.verdict text
-ends_told d all lines c text is k = record {
-  rules = k.rules;
-  ruled = k.ruled;
-  told = told_if k.rules all lines c text is k.looked;
-}
+ends_told d all lines c text is k = grind (arith, (told_if k.rules all lines c text is k.looked))

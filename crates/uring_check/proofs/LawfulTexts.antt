@@ -25,7 +25,7 @@ right_more : (g : Rules) (all : Bool) (before : List Found) (line : List ℕ) (f
 right_more g all before line finding.Passed is v r =
     record { lawful = r.lawful; recorded = inl (is, r.recorded); goes_on = r.goes_on }
 right_more g all before line (finding.Right s a) is v r = record {
-  lawful = lawful_more g s a (history_after before) is.2 r.lawful;
+  lawful = grind (arith, is.2, r.lawful);
   recorded = inr ((s, a), history_after before, refl, (is.0, is.1), r.recorded);
   goes_on = r.goes_on;
 }
@@ -34,7 +34,7 @@ right_more g all before line _ is v r = absurd cc
 
 pub all_right : (g : Rules) (all : Bool) (xs : List Found) → AreFound g all xs
     → verdict_of xs ≡ verdict.Lawful → IsRight g all xs
-all_right g all [] are v = record { lawful = lawful_none g; recorded = refl; goes_on = refl }
+all_right g all [] are v = record { lawful = grind arith; recorded = refl; goes_on = refl }
 all_right g all (x ∷ before) are v =
     let none = no_fault (verdict_of before) x.finding v in
     let r = all_right g all before are.1 none.0 in

@@ -23,16 +23,11 @@ number_told _ _ e is = absurd cc
 none_noted : (s : Step) (n : ℕ) → noted_poster s n n ≡ []
 none_noted s n = ap (λ (b : Bool). if b then [] else number_in s) (le-leb n n (omega arith))
 
--- one more was posted
-one_noted : (s : Step) (posted : List Cqe) (c : Cqe)
-    → noted_poster s (length posted) (length (posted ++ c ∷ [])) ≡ number_in s
-one_noted s posted c = grind (arith, length-append)
-
 end_noted : (s : Step) (size n : ℕ) (l : Completions) (c : Cqe) (posts : Bool)
     → number_in s ≡ n ∷ []
     → noted_poster s (length l.posted) (length (if posts then with_posted size l c else l).posted)
     ≡ (if posts then n ∷ [] else [])
-end_noted s size n l c posts is = grind (arith, one_noted)
+end_noted s size n l c posts is = grind (arith, length-append)
 
 noted_by : (g : Setup) (w : World) (s : Step) (a : Answer) (v : World) → CompletionMove g w s a v
     → noted_poster s (length w.completions.posted) (length v.completions.posted)

@@ -1,5 +1,5 @@
 -- What a reading takes in, byte by byte, and what is returned and written of it.
-use Rattle.std.proofs.Common.{◌≡◌, ◌≢◌, ℕ, Bool, List, [], ◌∷◌, ◌++◌, Option, Some, None, Result, Ok, Err, refl, sym, ap, subst, ◌∙◌}
+use Rattle.std.proofs.Common.{◌≡◌, ◌≢◌, ℕ, Bool, List, [], ◌∷◌, ◌++◌, Option, Some, None, Result, Ok, Err, refl, sym, ap, subst, ◌∙◌, arith}
 use Rattle.std.specs.Io.KnownBytes.{Consumes, Appends, IsAtEnd, Keeps}
 use Rattle.std.proofs.KnownBytes.{Consumes-nil, Consumes-trans, Consumes-kept, Appends-nil}
 use Rattle.uring_check.proofs.Common.{Checker, Has, Holds, IsTold, IsToldIf, Looks, ReadsIn, Rules, TakesIn, Verdict, append-nil}
@@ -22,49 +22,25 @@ Takes kept old new = (g : Rules) (all : Bool) (lines : List (List ℕ)) (text : 
 pub took_line : (g : Rules) (all : Bool) (kept : KeptLine) (old new : Checker) (before : List ℕ)
     → Takes kept old new → Holds g all kept old before
     → Holds g all (kept_of []) new (before ++ 10 ∷ [])
-took_line g all kept old new before takes h = record {
-  whole = h.line ∷ h.whole;
-  line = [];
-  splits = split_end before h.whole h.line h.splits;
-  keeps = refl;
-  looks = takes g all h.whole h.line h.keeps h.looks;
-}
+took_line g all kept old new before takes h =
+    grind (arith, (split_end before h.whole h.line h.splits), (takes g all h.whole h.line h.keeps h.looks))
 
 -- one byte more of a line
 pub kept_byte : (g : Rules) (all : Bool) (kept kept' : KeptLine) (c : Checker) (before : List ℕ) (b : ℕ)
     → b ≢ 10 → ((line : List ℕ) → kept ≡ kept_of line → kept' ≡ kept_of (line ++ b ∷ []))
     → Holds g all kept c before → Holds g all kept' c (before ++ b ∷ [])
-kept_byte g all kept kept' c before b ne more h = record {
-  whole = h.whole;
-  line = h.line ++ b ∷ [];
-  splits = split_more before h.whole h.line b ne h.splits;
-  keeps = more h.line h.keeps;
-  looks = h.looks;
-}
+kept_byte g all kept kept' c before b ne more h = grind (arith, (split_more before h.whole h.line b ne h.splits))
 
 -- ---- the end of the input
 
 reported_by : (rules : Option Rules) (all : Bool) (lines : List (List ℕ)) (text : List ℕ) (v : Verdict)
     → IsToldIf rules all lines v text → IsReportedBy rules all lines text v
 reported_by None all lines text v t = t
-reported_by (Some g) all lines text v t = record {
-  found = t.found;
-  are = t.are;
-  lines_are = t.lines_are;
-  decided = t.decided;
-  reported = t.reported;
-  says = subst (λ (ls : List (List ℕ)). Says g ls v) t.lines_are (said g all t.found v t.are t.decided);
-}
+reported_by (Some g) all lines text v t = grind (arith, (said g all t.found v t.are t.decided))
 
 told_verdict : (g : Rules) (all : Bool) (lines : List (List ℕ)) (bytes text : List ℕ) (v : Verdict)
     → AreLinesOf bytes lines → IsTold g all lines v text → IsVerdict g all bytes text v
-told_verdict g all lines bytes text v are t = record {
-  lines = lines;
-  are_lines = are;
-  rules = t.rules;
-  ruled = t.ruled;
-  reported = reported_by t.rules all lines text v t.told;
-}
+told_verdict g all lines bytes text v are t = grind (arith, (reported_by t.rules all lines text v t.told))
 
 -- what a checker's end returns
 abbrev pub Ends : Checker → Verdict → List ℕ → Type 0
@@ -140,14 +116,7 @@ nothing_said g all _ bytes left other = (refl, tt)
 
 stopped_at : (g : Rules) (all : Bool) (e : TraceFault) (a r d : Known) (bytes : List ℕ)
     → e ≢ fault.Write → Consumes a r bytes → IsChecked g all (Err e) a r d d
-stopped_at g all e a r d bytes other read = record {
-  bytes = bytes;
-  text = [];
-  consumed = read;
-  appended = Appends-nil d;
-  written = (nothing_said g all e bytes r other).0;
-  whole = (nothing_said g all e bytes r other).1;
-}
+stopped_at g all e a r d bytes other read = grind (arith, (nothing_said g all e bytes r other), (Appends-nil d))
 
 -- not all was read
 pub part_checked : (g : Rules) (all : Bool) (answer : Answer) (e : TraceFault) (a r d : Known) (s : Reading)
@@ -175,11 +144,4 @@ pub whole_checked : (g : Rules) (all : Bool) (a r d d' : Known) (s : Reading) (v
     → ReadsIn g all (Ok tt) a r s
     → ((g : Rules) (all : Bool) (bytes : List ℕ) → Has g all s bytes → IsVerdict g all bytes text v)
     → (written : List ℕ) × Appends d d' written × (written ≡ text) → IsChecked g all (Ok v) a r d d'
-whole_checked g all a r d d' s v text so ends w = record {
-  bytes = so.0;
-  text = w.0;
-  consumed = so.1;
-  appended = w.1;
-  written = subst (λ (l : List ℕ). IsVerdict g all so.0 l v) (sym w.2) (ends g all so.0 so.2.0);
-  whole = so.2.1;
-}
+whole_checked g all a r d d' s v text so ends w = grind (arith, (ends g all so.0 so.2.0))
