@@ -57,12 +57,7 @@ read_letters flags (b ∷ token) all e =
     let free : bit_and flags (flag_value b) ≡ 0 = grind arith in
     let more = read_letters (bit_or flags (flag_value b)) token all (grind arith) in
     let others = apart_before flags b token some more.letters more.apart in
-    record {
-      letters = (some, more.letters);
-      once = (others.1, more.once);
-      apart = (free, others.0);
-      sum = omega (arith, more.sum, or_disjoint flags (flag_value b) free, sum_by-cons flag_value b token);
-    }
+    grind (arith, more, others, (or_disjoint flags (flag_value b) free), (sum_by-cons flag_value b token))
 
 not_empty : (token : List ℕ) → bytes_eq token [] ≡ false → 0 < length token
 not_empty [] e = absurd cc

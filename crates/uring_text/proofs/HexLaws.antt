@@ -57,8 +57,7 @@ hex_found count token bytes e =
     let pairs : decode_pairs 0 token ≡ Ok bytes = grind arith in
     let size : length token ≡ 2 * count = grind arith in
     let all = decode_pairs-ok 0 token bytes pairs in
-    let both : length token ≡ 2 * length bytes = all.1 in
-    (pairs_lower 0 token bytes pairs low, record { few = omega arith; enough = omega arith; each = bytes_to bytes all.2 })
+    grind (arith, all.1, (pairs_lower 0 token bytes pairs low), (bytes_to bytes all.2))
 
 encoded_small : (bytes : List ℕ) → AllByRecursion (λ b. b < 256) bytes
     → list_any is_capital (encode_lower bytes) ≡ false

@@ -27,8 +27,7 @@ pub number_again : (limit n : ℕ) → limit ≤ 2 ^ 64 → n < limit → number
 unfolding number_of
 number_again limit n le lt =
     let small : n < 2 ^ 64 = omega arith in
-    let value : digits_value 10 (decimal n) ≡ n = (decimal_is_IsNumeral n small).1 in
-    rw (numeral_decimal n small, value, lt-ltb n limit lt) refl
+    grind (arith, (numeral_decimal n small), (decimal_is_IsNumeral n small).1)
 
 -- ---- signed numbers
 
@@ -57,8 +56,7 @@ file_found (b ∷ bs) (negsuc k) e =
 -- the decimal form of a number doesn't begin with a minus
 no_minus : (n : ℕ) → n < 2 ^ 64 → get_or (decimal n) 0 0 ≡ 45 → ⊥
 no_minus n lt e =
-    let digit = digit_at (decimal n) 0 (own.to (decimal n) (digits_decimal own n lt)) (decimal_nonempty n lt) in
-    absurd (omega (arith, digit.0))
+    omega (arith, digit_at (decimal n) 0 (own.to (decimal n) (digits_decimal own n lt)) (decimal_nonempty n lt))
 
 pub file_again : (fd : ℤ) → IsFile fd → file_of (signed_decimal fd) ≡ Some fd
 unfolding file_of

@@ -25,8 +25,7 @@ read_entry_tells tokens read h = entry_read tokens (form_of tokens) read refl h
 pub spelled_once : (tokens : List (List ℕ)) (a b : Sqe) → SpellsEntry tokens a
     → SpellsEntry tokens b → a ≡ b
 spelled_once tokens a b h k =
-    let same : h.form ≡ k.form = same_Some h.form k.form (sym (form_again tokens h.form h.spells) ∙ form_again tokens k.form k.spells) in
-    entry_once k.form a b (subst (λ (f : Form). IsEntryOf f a) same h.is_entry) k.is_entry
+    grind (arith, (form_again tokens h.form h.spells), (form_again tokens k.form k.spells), (entry_once h.form a b))
 
 pub read_number_tells : (limit : ℕ) (token : List ℕ) (read : Option ℕ) → limit ≤ 2 ^ 64
     → read ≡ number_of limit token
