@@ -4,7 +4,7 @@ use Rattle.uring_check.proofs.Common.{Answer, AreFound, AreRecorded, Finding, Fo
 use Rattle.uring_check.specs.Checks.{Says}
 use Rattle.uring_check.specs.Findings as finding
 use Rattle.uring_check.specs.declared.verdict.Verdict.TheVariants as verdict
-use Rattle.uring_check.proofs.RuleLaws.{called_once, lawful_first, lawful_more, lawful_none}
+use Rattle.uring_check.proofs.RuleLaws.{called_once, lawful_first}
 use Rattle.uring_check.proofs.Splitting.{record_once}
 
 -- the history is lawful, these lines are its text, and no check stopped at one of them
@@ -24,11 +24,9 @@ right_more : (g : Rules) (all : Bool) (before : List Found) (line : List ℕ) (f
     → IsRight g all (record { line = line; finding = f } ∷ before)
 right_more g all before line finding.Passed is v r =
     record { lawful = r.lawful; recorded = inl (is, r.recorded); goes_on = r.goes_on }
-right_more g all before line (finding.Right s a) is v r = record {
-  lawful = grind (arith, is.2, r.lawful);
-  recorded = inr ((s, a), history_after before, refl, (is.0, is.1), r.recorded);
-  goes_on = r.goes_on;
-}
+right_more g all before line (finding.Right s a) is v r =
+    let recorded = inr ((s, a), history_after before, refl, (is.0, is.1), r.recorded) in
+    record { lawful = grind (arith, is.2, r.lawful); recorded = recorded; goes_on = r.goes_on }
 right_more g all before line finding.Skipped is v r = absurd is
 right_more g all before line _ is v r = absurd cc
 

@@ -23,9 +23,6 @@ pub looked_passed : (c : Checker) (line : List ℕ) (h : History) → IsNoRecord
     → is_remark line ≡ true → c.is_over ≡ false → Knows c h → Looked c c line h
 looked_passed c line h none remark over fits = grind (arith, append-nil)
 
-three_parts : (i a b c : List ℕ) → i ++ a ++ b ++ c ≡ i ++ (a ++ b ++ c)
-three_parts i a b c = simp append_assoc refl
-
 regroup : (i a b c d e : List ℕ) → i ++ a ++ b ++ c ++ d ++ e ≡ i ++ (a ++ b ++ c ++ d ++ e)
 regroup i a b c d e = simp append_assoc refl
 
@@ -39,7 +36,7 @@ pub looked_bad : (old mid : Checker) (report : String Global) (line : List ℕ) 
     → string_bytes report ≡ string_bytes mid.report ++ line_text mid.number ++ ended (codes "bad line") ++ why_bad line
     → Looked old (found_bad mid report) line h
 looked_bad old mid report line h is none remark fits =
-    grind (arith, (three_parts (string_bytes old.report) (line_text old.number) (ended (codes "bad line")) (why_bad line)), (rules_of old.machine))
+    grind (arith, append_assoc, (rules_of old.machine))
 
 -- a checker whose machine made a step, to which this text was told
 abbrev pub with_machine : Checker → Follower → AnswerText → Vec ℕ Global → Checker

@@ -14,20 +14,10 @@ pub lawful_first : (g : Rules) (s : Step) (a : Answer) (h : History) → IsLawfu
     → IsCalled g h s a × IsLawfulBy g h
 lawful_first g s a h p = grind arith
 
-pub lawful_more : (g : Rules) (s : Step) (a : Answer) (h : History) → IsCalled g h s a
-    → IsLawfulBy g h → IsLawfulBy g ((s, a) ∷ h)
-lawful_more g s a h called lawful = grind arith
-
-pub lawful_none : (g : Rules) → IsLawfulBy g []
-lawful_none g = grind arith
-
 -- ---- ends without files
 
-bounded : (z : ℤ) → IsFile z → mag z < 2 ^ 63
-bounded z h = grind arith
-
 pub result_once : (y z : ℤ) → IsFile y → IsFile z → signed_decimal y ≡ signed_decimal z → y ≡ z
-result_once y z p q e = signed_decimal_injective y z (bounded y p) (bounded z q) e
+result_once y z p q e = signed_decimal_injective y z (grind arith) (grind arith) e
 
 finish_once : (n : ℕ) (running : Bool) (a b : Answer) → FinishesApart running a
     → FinishesApart running b → text_of a ≡ text_of b → IsPlain a true (step.Finish n)

@@ -53,8 +53,7 @@ cut_split : (line front back before text : List ℕ) (n : ℕ) → IsCut line fr
 cut_split line front back before text n c h = elim (cases_lt n (length line)) [
   | inl lt ↦
       let next : drop n line ≡ 61 ∷ drop (n + 1) line = drop_more line n 0 lt ∙ ap (λ (b : ℕ). b ∷ drop (n + 1) line) (c.here lt) in
-      let whole : take n line ++ 61 ∷ drop (n + 1) line ≡ (before ++ 32 ∷ []) ++ 61 ∷ 32 ∷ text = ap (λ (l : List ℕ). take n line ++ l) (sym next) ∙ take-append-drop n line ∙ at_sign line before text h in
-      let same = first_once (take n line) (drop (n + 1) line) (before ++ 32 ∷ []) (32 ∷ text) c.none (none_more before h.first) whole in
+      let same = first_once (take n line) (drop (n + 1) line) (before ++ 32 ∷ []) (32 ∷ text) c.none (none_more before h.first) (rw (← next, take-append-drop n line) (at_sign line before text h)) in
       (c.front_is ∙ same.0, c.back_is ∙ next ∙ ap (λ (l : List ℕ). 61 ∷ l) same.1)
   | inr ge ↦
       absurd (none_and_one (before ++ 32 ∷ []) (32 ∷ text) (rw (take_all n line ge, at_sign line before text h) at c.none))

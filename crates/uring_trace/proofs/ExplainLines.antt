@@ -125,18 +125,10 @@ pub explain_line : (granted : Type 0) (telling : Telling) (m m' : Machine) (kept
     → Explaining telling m' (kept_of []) number' bad (bytes ++ 10 ∷ []) (text ++ after) (notes ++ noted')
 explain_line granted telling m m' kept number number' was_bad bad bytes text before after notes noted noted' next tells sure h =
     let a = tells h.line h.keeps in
-    let numbered = h.numbered in
-    record {
-      sayings = record { line = h.line; said = a.said } ∷ h.sayings;
-      line = [];
-      explains = explained_more granted telling m m' number was_bad bad h.sayings h.line text before after notes noted noted' sure h.explains h.numbered h.same h.fits a;
-      splits = split_end bytes (lines_in h.sayings) h.line h.splits;
-      keeps = refl;
-      numbered = omega (arith, next, numbered);
-      bad_lines = bad_more granted m m' number was_bad bad h.sayings h.line before after noted noted' h.bad_lines a;
-      same = a.same ∙ h.same;
-      fits = subst (λ (k : History). Fits m' k) (one_more (event_in a.said) (events_in h.sayings)) (a.fits (history_of (events_in h.sayings)) h.fits);
-    }
+    let all = explained_more granted telling m m' number was_bad bad h.sayings h.line text before after notes noted noted' sure h.explains h.numbered h.same h.fits a in
+    let fits = rw (one_more (event_in a.said) (events_in h.sayings)) at (a.fits (history_of (events_in h.sayings)) h.fits) in
+    let bad = bad_more granted m m' number was_bad bad h.sayings h.line before after noted noted' h.bad_lines a in
+    grind (arith, all, (split_end bytes (lines_in h.sayings) h.line h.splits), bad, fits)
 
 -- the lines to their end, and the machine that fits them
 abbrev pub Ended : Telling → Machine → Bool → List ℕ → List ℕ → List ℕ → Type 0
@@ -151,15 +143,7 @@ pub explain_last : (granted : Type 0) (telling : Telling) (m m' : Machine) (kept
     → Ended telling m' bad bytes (text ++ after) (notes ++ noted')
 explain_last granted telling m m' kept number was_bad bad bytes text before after notes noted noted' some tells sure h =
     let a = tells h.line h.keeps in (
-      (
-        record { line = h.line; said = a.said } ∷ h.sayings,
-        lines_in h.sayings,
-        h.line,
-        explained_more granted telling m m' number was_bad bad h.sayings h.line text before after notes noted noted' sure h.explains h.numbered h.same h.fits a,
-        h.splits,
-        sym (last_some (lines_in h.sayings) h.line (some h.line h.keeps)),
-        bad_more granted m m' number was_bad bad h.sayings h.line before after noted noted' h.bad_lines a,
-      ),
+      grind (arith, (explained_more granted telling m m' number was_bad bad h.sayings h.line text before after notes noted noted' sure h.explains h.numbered h.same h.fits a), (last_some (lines_in h.sayings) h.line (some h.line h.keeps)), (bad_more granted m m' number was_bad bad h.sayings h.line before after noted noted' h.bad_lines a)),
       a.same ∙ h.same,
       subst (λ (k : History). Fits m' k) (one_more (event_in a.said) (events_in h.sayings)) (a.fits (history_of (events_in h.sayings)) h.fits),
     )

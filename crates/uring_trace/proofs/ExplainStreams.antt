@@ -130,16 +130,7 @@ far_by a r r' d w w' x e e' P Q more read tells so =
 
 explained : (telling : Telling) (answer : Answer) (a r d w x e : Known) → ReadsWhole answer r
     → FarBy a r d w x e (WritesBoth telling answer) → IsExplained telling answer a r d w x e
-explained telling answer a r d w x e whole so = record {
-  bytes = so.0;
-  text = so.1;
-  notes = so.2;
-  consumed = so.3;
-  appended = so.4;
-  noted = so.5;
-  written = so.6;
-  whole = whole;
-}
+explained telling answer a r d w x e whole so = grind arith
 
 pub none_read : (telling : Telling) (answer : Answer) (a d x : Known) → answer ≡ Err fault.Memory
     → IsExplained telling answer a a d d x x
@@ -182,8 +173,8 @@ pub far_end : (telling : Telling) (answer : Answer) (a r r' d w w' x e e' : Know
     → ((before told noted : List ℕ) → HasToldBy telling s before told noted → WroteBoth w w' e e' told noted (WritesBoth telling answer before))
     → Far telling a r d w x e s → IsExplained telling answer a r' d w' x e'
 far_end telling answer a r r' d w w' x e e' s read end tells so =
-    let far = far_by a r r' d w w' x e e' (HasToldBy telling s) (WritesBoth telling answer) [] read (λ before told noted h. rw (append-nil before) (tells before told noted h)) so in
-    explained telling answer a r' d w' x e' (at_end answer r' end) far
+    explained telling answer a r' d w' x e' (at_end answer r' end)
+    (far_by a r r' d w w' x e e' (HasToldBy telling s) (WritesBoth telling answer) [] read (λ before told noted h. rw (append-nil before) (tells before told noted h)) so)
 
 -- no further read
 pub far_failed : (telling : Telling) (answer : Answer) (a r d w x e : Known) (s : Explainer)

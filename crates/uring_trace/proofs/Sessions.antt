@@ -1,5 +1,5 @@
 -- What a session keeps, byte by byte and line by line.
-use Rattle.std.proofs.Common.{◌≡◌, ◌≢◌, ℕ, Bool, List, [], ◌∷◌, ◌++◌, Option, Some, None, refl, sym, ap, subst, ◌∙◌, append_assoc}
+use Rattle.std.proofs.Common.{◌≡◌, ◌≢◌, ℕ, Bool, List, [], ◌∷◌, ◌++◌, Option, Some, None, refl, sym, ap, subst, ◌∙◌, append_assoc, arith}
 use Rattle.uring_trace.proofs.Common.{Answers, AppendsAnswer, Event, Exchange, Fits, History, Holds, IsBad, IsGranted, IsStep, IsUnrefused, KeptLine, Machine, Manner, Step, answer_text, append-nil, codes, ended, events_of, history_of, joined, kept_of, lines_of, option_to_list, step_text, with_event, world}
 use Rattle.uring_entry.specs.Setup.{Setup}
 use Rattle.uring_core.proofs.Following.{history_of_snoc}
@@ -14,16 +14,8 @@ use Rattle.uring_text.proofs.Splits.{split_more, split_end, split_whole, last_so
 pub took_byte : (manner : Manner) (m : Machine) (is_echo : Bool) (kept kept' : KeptLine) (before text : List ℕ) (b : ℕ)
     → b ≢ 10 → ((line : List ℕ) → kept ≡ kept_of line → kept' ≡ kept_of (line ++ b ∷ []))
     → Holds manner m is_echo kept before text → Holds manner m is_echo kept' (before ++ b ∷ []) text
-took_byte manner m is_echo kept kept' before text b ne more h = record {
-  exchanges = h.exchanges;
-  line = h.line ++ b ∷ [];
-  answers = h.answers;
-  splits = split_more before (lines_of h.exchanges) h.line b ne h.splits;
-  keeps = more h.line h.keeps;
-  same = h.same;
-  echoes = h.echoes;
-  fits = h.fits;
-}
+took_byte manner m is_echo kept kept' before text b ne more h =
+    grind (arith, (split_more before (lines_of h.exchanges) h.line b ne h.splits))
 
 -- a step was made, and its answer appended after what stands before it
 pub told_step : (granted : Type 0) (old new : Machine) (is_echo : Bool) (line before middle told after : List ℕ) (s : Step) (a : Answer)
@@ -74,16 +66,9 @@ pub ended_line : (granted : Type 0) (manner : Manner) (m m' : Machine) (is_echo 
     → Holds manner m' is_echo (kept_of []) (bytes ++ 10 ∷ []) (text ++ (after ++ 10 ∷ []))
 ended_line granted manner m m' is_echo kept bytes text before after answer sure h =
     let a = answer h.line h.keeps in
-    record {
-      exchanges = record { line = h.line; event = a.event } ∷ h.exchanges;
-      line = [];
-      answers = answered granted manner m m' is_echo h.exchanges h.line text before after sure h.answers h.same h.echoes h.fits a;
-      splits = split_end bytes (lines_of h.exchanges) h.line h.splits;
-      keeps = refl;
-      same = a.same ∙ h.same;
-      echoes = h.echoes;
-      fits = subst (λ (k : History). Fits m' k) (one_more a.event (events_of h.exchanges)) (a.fits (history_of (events_of h.exchanges)) h.fits);
-    }
+    let all = answered granted manner m m' is_echo h.exchanges h.line text before after sure h.answers h.same h.echoes h.fits a in
+    let fits = rw (one_more a.event (events_of h.exchanges)) at (a.fits (history_of (events_of h.exchanges)) h.fits) in
+    grind (arith, all, (split_end bytes (lines_of h.exchanges) h.line h.splits), fits)
 
 -- the answer to a last line that has begun
 pub ended_last : (granted : Type 0) (manner : Manner) (m m' : Machine) (is_echo : Bool) (kept : KeptLine) (bytes text before after : List ℕ)
