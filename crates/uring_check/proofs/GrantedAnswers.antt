@@ -13,14 +13,6 @@ use Rattle.uring_check.proofs.WantedAnswers.{one_answer}
 abbrev end_with : List ℕ → Answer
 end_with bytes = answer.Ended (pos 0) bytes
 
-begin_called : (apart : Bool) (g : Setup) (w : World) (count : ℕ)
-    → CalledIn apart g w (step.Begin count) (end_with []) → ⊥
-begin_called apart g w count called = grind arith
-
-two_on_files : (files : List FileContents) (r : Requests) (n : ℕ) (running : Bool)
-    → EndsOn files r n running (end_with []) → EndsOn files r n running (end_with (0 ∷ [])) → ⊥
-two_on_files files r n running p q = grind arith
-
 -- every end is called for, after this history
 abbrev AnyCalled : Bool → Setup → History → Step → Type 0
 AnyCalled apart g h s = (a : Answer) → IsEnded a → CalledIn apart g (world g h) s a
@@ -29,9 +21,9 @@ AnyCalled apart g h s = (a : Answer) → IsEnded a → CalledIn apart g (world g
 any_called : (apart : Bool) (g : Setup) (h : History) (s : Step)
     → AnyCalled apart g h s → (apart ≡ true) × (n : ℕ) × (s ≡ step.Finish n)
 any_called true g h (step.Finish n) any = (refl, n, refl)
-any_called false g h (step.Finish n) any = absurd (two_on_files (files_of g (world g h)) (world g h).requests n (is_running (world g h).requests n) (any (end_with []) tt) (any (end_with (0 ∷ [])) tt))
+any_called false g h (step.Finish n) any = grind (arith, (any (end_with []) tt), (any (end_with (0 ∷ [])) tt))
 any_called apart g h (step.Begin count) any =
-    absurd (begin_called apart g (world g h) count (any (end_with []) tt))
+    absurd (grind (arith, (any (end_with []) tt)))
 any_called apart g h s any =
     absurd (cc (one_answer apart g (world g h) s (end_with []) (end_with (0 ∷ [])) tt (any (end_with []) tt) (any (end_with (0 ∷ [])) tt)))
 

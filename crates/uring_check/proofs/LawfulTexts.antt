@@ -86,14 +86,11 @@ none_more g line lines known h finding.Bad is v prior lawful (inr r) =
     is.0 r.0.0 (text_of r.0.1) r.3.0
 none_more g line lines known h _ is v prior lawful rec = v refl
 
--- a verdict is that of no fault, or isn't
-no_fault_or_one : (v : Verdict) → (v ≡ verdict.Lawful) ⊎ (v ≡ verdict.Lawful → ⊥)
-no_fault_or_one v = grind arith
-
 unlawful_said : (g : Rules) (all : Bool) (xs : List Found) → AreFound g all xs
     → (verdict_of xs ≡ verdict.Lawful → ⊥) → IsLawfulText g (lines_of xs) → ⊥
 unlawful_said g all [] are v is = v refl
-unlawful_said g all (x ∷ before) are v is = elim (no_fault_or_one (verdict_of before)) [
+unlawful_said g all (x ∷ before) are v is =
+  let either : (verdict_of before ≡ verdict.Lawful) ⊎ (verdict_of before ≡ verdict.Lawful → ⊥) = grind arith in elim either [
   | inl so ↦
       let r = all_right g all before are.1 so in
       none_more g x.line (lines_of before) (history_after before) is.0 x.finding (rw r.goes_on at are.0) (λ e. v (ap (λ (w : Verdict). judged w x.finding) so ∙ e))

@@ -21,7 +21,7 @@ number_told _ _ e is = absurd cc
 
 -- nothing was posted
 none_noted : (s : Step) (n : ℕ) → noted_poster s n n ≡ []
-none_noted s n = ap (λ (b : Bool). if b then [] else number_in s) (le-leb n n (omega arith))
+none_noted s n = grind arith
 
 end_noted : (s : Step) (size n : ℕ) (l : Completions) (c : Cqe) (posts : Bool)
     → number_in s ≡ n ∷ []
@@ -32,11 +32,9 @@ end_noted s size n l c posts is = grind (arith, length-append)
 noted_by : (g : Setup) (w : World) (s : Step) (a : Answer) (v : World) → CompletionMove g w s a v
     → noted_poster s (length w.completions.posted) (length v.completions.posted)
     ≡ poster_of g.linux w.requests (end_told_by (s, a))
-noted_by g w s a v (stays _ _ l r is_closed off none left) =
-    none_noted s (length w.completions.posted) ∙ sym (ap (poster_of g.linux w.requests) none)
+noted_by g w s a v (stays _ _ l r is_closed off none left) = rw none (none_noted s (length w.completions.posted))
 noted_by g w s a v (ends _ _ n res bytes r off is same one) =
-    end_noted s g.cq n w.completions (completion_for (entry_of w.requests n) res bytes) (posts g.linux w.requests n res) (number_told s a (record { number = n; res = res; bytes = bytes }) is)
-    ∙ sym (ap (poster_of g.linux w.requests) is)
+    rw is (end_noted s g.cq n w.completions (completion_for (entry_of w.requests n) res bytes) (posts g.linux w.requests n res) (number_told s a (record { number = n; res = res; bytes = bytes }) is))
 noted_by g w s a v _ = none_noted s (length w.completions.posted)
 
 -- ---- what is known after a step

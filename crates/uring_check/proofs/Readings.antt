@@ -98,7 +98,7 @@ not_taken g all answer e a r r' s s' more is memory read so =
 pub all_read : (g : Rules) (all : Bool) (a r r' : Known) (s : Reading) → Consumes r r' []
     → IsAtEnd r' → So g all a r s
     → (bytes : List ℕ) × Consumes a r' bytes × (Has g all s bytes × IsAtEnd r')
-all_read g all a r r' s read end so = (so.0 ++ [], Consumes-trans a r r' so.0 [] so.1 read, (subst (λ (l : List ℕ). Has g all s l) (sym (append-nil so.0)) so.2, end))
+all_read g all a r r' s read end so = (so.0 ++ [], Consumes-trans a r r' so.0 [] so.1 read, (rw (append-nil so.0) so.2, end))
 
 -- a read that failed wrote nothing
 pub read_alone : fault.Read ≢ fault.Write

@@ -17,8 +17,7 @@ call_again : (n : ℕ) → text_of (answer.Call n) ≡ text_of answer.Again → 
 call_again n e = grind arith
 
 pub begin_once : (x a b : Answer) → OrAgain x a → OrAgain x b → text_of a ≡ text_of b → a ≡ b
-begin_once (answer.Call n) a b e f same = grind (arith, (call_again n))
-begin_once x a b e f same = e ∙ sym f
+begin_once x a b e f same = grind (arith, call_again)
 
 -- ---- Finish
 

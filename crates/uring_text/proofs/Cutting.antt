@@ -12,8 +12,8 @@ HasNoBlank bytes = All (λ b. eqb b 32 ≡ false) bytes
 pub cut_at : (line : List ℕ) (i : ℕ) → i < length line → eqb (get_or line i 0) 32 ≡ true
     → HasNoBlank (take i line) → tokens_of line ≡ take i line ∷ tokens_of (drop (i + 1) line)
 cut_at line i below blank none =
-    ap tokens_of (sym (take-append-drop i line) ∙ ap (λ (t : List ℕ). take i line ++ t) (drop_more line i 0 below))
-    ∙ slice_split_at (λ b. eqb b 32) (take i line) (get_or line i 0) (drop (i + 1) line) none blank
+    let cut = slice_split_at (λ b. eqb b 32) (take i line) (get_or line i 0) (drop (i + 1) line) none blank in
+    rw (← drop_more line i 0 below, take-append-drop i line) at cut
 
 -- the tokens of what is left of a line, if something is
 abbrev pub left_tokens : Option (Bor (List ℕ)) → List (List ℕ)

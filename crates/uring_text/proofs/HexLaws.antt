@@ -44,10 +44,9 @@ pairs_lower i (a ∷ b ∷ rest) bytes e n =
     let high = lower_digit a i p1.0 p1.1 small.0 in
     let low = lower_digit b (i + 1) p2.0 p2.1 smaller.0 in
     let byte : p1.0 * 16 + p2.0 ≡ p0.0 = cc (p2.2) in
-    let first : p0.0 / 16 ≡ p1.0 = omega (arith, high.1, low.1) in
-    let second : p0.0 % 16 ≡ p2.0 = omega (arith, high.1, low.1) in
+    let parts : (p0.0 / 16 ≡ p1.0) × (p0.0 % 16 ≡ p2.0) = omega (arith, high.1, low.1) in
     let all : p0.0 ∷ p3.0 ≡ bytes = cc (p3.2) in
-    rw (← all, first, second, high.0, low.0, ← pairs_lower (i + 2) rest p3.0 p3.1 smaller.1)
+    rw (← all, parts.0, parts.1, high.0, low.0, ← pairs_lower (i + 2) rest p3.0 p3.1 smaller.1)
 
 pub hex_found : (count : ℕ) (token bytes : List ℕ) → hex_of count token ≡ Some bytes
     → (token ≡ encode_lower bytes) × AreBytes bytes count count

@@ -14,8 +14,7 @@ last_end : (a b r s : List ℕ) → IsUnbroken r → IsUnbroken s → a ++ 10 �
     → (a ≡ b) × (r ≡ s)
 last_end [] [] r s hr hs e = (refl, tail-eq_of_cons-eq e)
 last_end [] (c ∷ b) r s hr hs e = absurd (broken b s (subst IsUnbroken (tail-eq_of_cons-eq e) hr))
-last_end (x ∷ a) [] r s hr hs e =
-    absurd (broken a r (subst IsUnbroken (sym (tail-eq_of_cons-eq e)) hs))
+last_end (x ∷ a) [] r s hr hs e = absurd (broken a r (rw (tail-eq_of_cons-eq e) hs))
 last_end (x ∷ a) (c ∷ b) r s hr hs e =
     grind (arith, (last_end a b r s hr hs (tail-eq_of_cons-eq e)), head-eq_of_cons-eq)
 

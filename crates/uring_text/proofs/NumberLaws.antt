@@ -31,19 +31,15 @@ number_again limit n le lt =
 
 -- ---- signed numbers
 
-negative_found : (n : ℕ) (fd : ℤ) → negative_of n ≡ Some fd
-    → (k : ℕ) × (n ≡ suc k) × (k < 2 ^ 31) × (fd ≡ negsuc k)
-negative_found n fd e = grind arith
-
 file_digits : (b : ℕ) (bs : List ℕ) (n : ℕ) → file_of (b ∷ bs) ≡ Some (pos n)
     → number_of (2 ^ 31) (b ∷ bs) ≡ Some n
 unfolding file_of
-file_digits b bs n e = grind (arith, negative_found)
+file_digits b bs n e = grind (arith, negative_of)
 
 minus_digits : (b : ℕ) (bs : List ℕ) (k : ℕ) → file_of (b ∷ bs) ≡ Some (negsuc k)
     → (b ≡ 45) × (number_of (2 ^ 64) bs ≡ Some (suc k)) × (k < 2 ^ 31)
 unfolding file_of
-minus_digits b bs k e = grind (arith, eqb-true, negative_found)
+minus_digits b bs k e = grind (arith, eqb-true, negative_of)
 
 pub file_found : (w : List ℕ) (fd : ℤ) → file_of w ≡ Some fd → (w ≡ signed_decimal fd) × IsFile fd
 unfolding file_of

@@ -11,11 +11,7 @@ entry_read : (tokens : List (List ℕ)) (f : Option Form) (read : Option Sqe) �
 entry_read tokens None None e h = λ entry s. absurd (let no : None ≡ Some s.form = sym e ∙ form_again tokens s.form s.spells in cc)
 entry_read tokens None (Some entry) e h = absurd (let no : Some entry ≡ None = h in cc)
 entry_read tokens (Some f) None e h = absurd h
-entry_read tokens (Some f) (Some entry) e h = record {
-  form = f;
-  spells = form_found tokens f e;
-  is_entry = h;
-}
+entry_read tokens (Some f) (Some entry) e h = grind (arith, (form_found tokens f e))
 
 pub read_entry_tells : (tokens : List (List ℕ)) (read : Option Sqe)
     → ReadsEntry read (form_of tokens) → MatchOption read (IsNoEntry tokens) (SpellsEntry tokens)

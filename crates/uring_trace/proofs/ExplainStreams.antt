@@ -36,17 +36,6 @@ pair_whole w w' e e' (Err f) text notes x y =
 
 -- ---- what is told and noted of some bytes
 
-pub nothing_yet : (telling : Telling) (s : Explainer) (bytes told noted none none' : List ℕ) → none ≡ []
-    → none' ≡ [] → HasToldBy telling s bytes told noted
-    → HasToldBy telling s bytes (told ++ none) (noted ++ none')
-nothing_yet telling s bytes told noted none none' a b h = grind (arith, append-nil)
-
-beginning : (telling : Telling) (s : Explainer) (bytes told noted more : List ℕ)
-    → HasToldBy telling s bytes told noted
-    → ExplainsBeginning telling (bytes ++ more) (told ++ []) (noted ++ [])
-beginning telling s bytes told noted more h =
-    grind (arith, (append-nil noted), (append-nil told), (explain_beginning telling s.machine s.line s.number s.has_bad bytes told noted more h))
-
 -- the same bytes, with nothing after them
 beginning_here : (telling : Telling) (s : Explainer) (bytes told noted : List ℕ)
     → HasToldBy telling s bytes told noted → ExplainsBeginning telling bytes told noted
@@ -57,7 +46,8 @@ pub none_told : (telling : Telling) (result : Done) (w e : Known) (s s' : Explai
     → result ≡ Err fault.Memory → HasToldBy telling s before told noted
     → WroteBoth w w e e told noted (TookBoth telling result s' (before ++ more))
 none_told telling result w e s s' before told noted more is h =
-    ([], [], Appends-nil w, Appends-nil e, subst (λ (x : Done). TookBoth telling x s' (before ++ more) (told ++ []) (noted ++ [])) (sym is) (beginning telling s before told noted more h))
+    let so = explain_beginning telling s.machine s.line s.number s.has_bad before told noted more h in
+    ([], [], Appends-nil w, Appends-nil e, rw (is, append-nil told, append-nil noted) so)
 
 -- a text of which a part was written
 split_text : (told new written more : List ℕ) → new ≡ written ++ more
@@ -78,7 +68,7 @@ pub bytes_told : (telling : Telling) (result : Done) (w w' e e' : Known) (s s' :
     → WritesPair w w' e e' result new new' → HasToldBy telling s before told noted
     → WroteBoth w w' e e' told noted (TookBoth telling result s' (before ++ more))
 bytes_told telling result w w' e e' s s' before told noted more none none' new new' a b feed p h =
-    (p.0, p.1, p.2, p.3, took telling result s' (before ++ more) told noted new new' p.0 p.1 (feed before told noted (nothing_yet telling s before told noted none none' a b h)) p.4)
+    (p.0, p.1, p.2, p.3, took telling result s' (before ++ more) told noted new new' p.0 p.1 (feed before told noted (rw (a, b, append-nil told, append-nil noted) h)) p.4)
 
 -- ---- the last line
 
@@ -86,7 +76,8 @@ pub last_none : (telling : Telling) (answer : Answer) (w e : Known) (s : Explain
     → answer ≡ Err fault.Memory → HasToldBy telling s before told noted
     → WroteBoth w w e e told noted (WritesBoth telling answer before)
 last_none telling answer w e s before told noted is h =
-    ([], [], Appends-nil w, Appends-nil e, rw is (rw (append-nil before) at (beginning telling s before told noted [] h)))
+    let so = beginning_here telling s before told noted h in
+    ([], [], Appends-nil w, Appends-nil e, rw (is, append-nil told, append-nil noted) so)
 
 pub last_cut : (telling : Telling) (answer : Answer) (f : TraceFault) (w w' e e' : Known) (s : Explainer) (bad : Bool) (before told noted none none' new new' : List ℕ)
     → answer ≡ Err f → none ≡ [] → none' ≡ []
@@ -95,7 +86,7 @@ pub last_cut : (telling : Telling) (answer : Answer) (f : TraceFault) (w w' e e'
     → WroteBoth w w' e e' told noted (WritesBoth telling answer before)
 last_cut telling answer f w w' e e' s bad before told noted none none' new new' is a b finish p h =
     let t = p.4 in
-    let whole = finish before told noted (nothing_yet telling s before told noted none none' a b h) in
+    let whole = finish before told noted (rw (a, b, append-nil told, append-nil noted) h) in
     let both = rw (split_text told new p.0 t.1 t.4, split_text noted new' p.1 t.2 t.5) at whole in
     (p.0, p.1, p.2, p.3, rw (is, t.0) (t.1, t.2, t.3, inr (bad, both)))
 
@@ -107,7 +98,7 @@ pub last_told : (telling : Telling) (w w' e e' : Known) (s : Explainer) (bad fou
     → HasToldBy telling s before told noted
     → WroteBoth w w' e e' told noted (WritesBoth telling (Ok found) before)
 last_told telling w w' e e' s bad found before told noted none none' new new' is a b finish p h =
-    let whole = finish before told noted (nothing_yet telling s before told noted none none' a b h) in
+    let whole = finish before told noted (rw (a, b, append-nil told, append-nil noted) h) in
     (p.0, p.1, p.2, p.3, rw (is, p.4.0, p.4.1) whole)
 
 -- ---- the whole run
@@ -164,16 +155,13 @@ far_cut telling answer f a r r' d w w' x e e' s more is read tells so =
     let far = far_by a r r' d w w' x e e' (HasToldBy telling s) (WritesBoth telling (Err f)) more read tells so in
     rw is (explained telling (Err f) a r' d w' x e' tt far)
 
-at_end : (answer : Answer) (left : Known) → IsAtEnd left → ReadsWhole answer left
-at_end answer left h = grind arith
-
 -- the end of the input
 pub far_end : (telling : Telling) (answer : Answer) (a r r' d w w' x e e' : Known) (s : Explainer)
     → Consumes r r' [] → IsAtEnd r'
     → ((before told noted : List ℕ) → HasToldBy telling s before told noted → WroteBoth w w' e e' told noted (WritesBoth telling answer before))
     → Far telling a r d w x e s → IsExplained telling answer a r' d w' x e'
 far_end telling answer a r r' d w w' x e e' s read end tells so =
-    explained telling answer a r' d w' x e' (at_end answer r' end)
+    explained telling answer a r' d w' x e' (grind arith)
     (far_by a r r' d w w' x e e' (HasToldBy telling s) (WritesBoth telling answer) [] read (λ before told noted h. rw (append-nil before) (tells before told noted h)) so)
 
 -- no further read

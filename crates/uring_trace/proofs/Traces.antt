@@ -1,5 +1,5 @@
 -- The outcomes of a trace.
-use Rattle.std.proofs.Common.{◌≡◌, ℕ, List, [], ◌++◌, Option, Result, Ok, Err, refl, sym, ap, subst, ◌∙◌, append_assoc, inl, inr}
+use Rattle.std.proofs.Common.{◌≡◌, ℕ, List, [], ◌++◌, Option, Result, Ok, Err, refl, sym, ap, subst, ◌∙◌, append_assoc, inl, inr, arith}
 use Rattle.uring_trace.proofs.Common.{Appends, Consumes, Has, IsAtEnd, Keeps, Manner, TookIn, append-nil}
 use Rattle.std.proofs.KnownBytes.{Consumes-nil, Appends-nil, Appends-trans, Consumes-trans, Consumes-kept}
 use Rattle.uring_text.specs.declared.trace_fault.TraceFault.{TraceFault}
@@ -32,22 +32,14 @@ abbrev pub WroteText : Known → Known → Answer → List ℕ → Type 0
 WroteText w w' answer new =
     (written : List ℕ) × Appends w w' written × WritesText answer new written
 
-no_text_yet : (manner : Manner) (s : Session) (bytes text none : List ℕ) → none ≡ []
-    → Has manner s bytes text → Has manner s bytes (text ++ none)
-no_text_yet manner s bytes text none e h = subst (λ (l : List ℕ). Has manner s bytes l) (sym (ap (λ (l : List ℕ). text ++ l) e ∙ append-nil text)) h
-
--- a beginning, as what is written when memory is refused
-beginning : (manner : Manner) (s : Session) (bytes told more : List ℕ) → Has manner s bytes told
-    → Writes manner (Err fault.Memory) (bytes ++ more) (told ++ [])
-beginning manner s bytes told more h = subst (λ (l : List ℕ). Writes manner (Err fault.Memory) (bytes ++ more) l) (sym (append-nil told)) (held_beginning manner s.machine s.is_echo s.line bytes told more h)
-
 -- ---- the answers to some bytes
 
 -- memory was refused
 pub none_answered : (manner : Manner) (answer : Answer) (w : Known) (s s' : Session) (before told more : List ℕ)
     → answer ≡ Err fault.Memory → Has manner s before told
     → Wrote w w told (TookIn manner answer s' (before ++ more))
-none_answered manner answer w s s' before told more e h = ([], Appends-nil w, subst (λ (x : Answer). TookIn manner x s' (before ++ more) (told ++ [])) (sym e) (beginning manner s before told more h))
+none_answered manner answer w s s' before told more e h =
+    ([], Appends-nil w, rw (e, append-nil told) (held_beginning manner s.machine s.is_echo s.line before told more h))
 
 took_in : (manner : Manner) (answer : Answer) (s : Session) (bytes told new written : List ℕ)
     → Has manner s bytes (told ++ new) → WritesText answer new written
@@ -64,7 +56,7 @@ pub answers_written : (manner : Manner) (answer : Answer) (w w' : Known) (s s' :
     → WroteText w w' answer new → Has manner s before told
     → Wrote w w' told (TookIn manner answer s' (before ++ more))
 answers_written manner answer w w' s s' before told more none new nothing feed wrote h =
-    (wrote.0, wrote.1, took_in manner answer s' (before ++ more) told new wrote.0 (feed before told (no_text_yet manner s before told none nothing h)) wrote.2)
+    (wrote.0, wrote.1, took_in manner answer s' (before ++ more) told new wrote.0 (feed before told (rw (nothing, append-nil told) h)) wrote.2)
 
 -- ---- the answer to the last line
 
@@ -73,7 +65,8 @@ pub last_not_answered : (manner : Manner) (answer : Answer) (w : Known) (s : Ses
     → answer ≡ Err fault.Memory → Has manner s before told
     → Wrote w w told (Writes manner answer before)
 last_not_answered manner answer w s before told e h =
-    ([], Appends-nil w, subst (λ (x : Answer). Writes manner x before (told ++ [])) (sym e) (subst (λ (l : List ℕ). Writes manner (Err fault.Memory) l (told ++ [])) (append-nil before) (beginning manner s before told [] h)))
+    let held = rw (append-nil before) at (held_beginning manner s.machine s.is_echo s.line before told [] h) in
+    ([], Appends-nil w, rw (e, append-nil told) held)
 
 written_whole : (manner : Manner) (answer : Answer) (bytes told new written : List ℕ)
     → IsWhole manner bytes (told ++ new) → WritesText answer new written
@@ -88,7 +81,7 @@ pub last_written : (manner : Manner) (answer : Answer) (w w' : Known) (s : Sessi
     → ((before told : List ℕ) → Has manner s before (told ++ none) → IsWhole manner before (told ++ new))
     → WroteText w w' answer new → Has manner s before told
     → Wrote w w' told (Writes manner answer before)
-last_written manner answer w w' s before told none new nothing finish wrote h = (wrote.0, wrote.1, written_whole manner answer before told new wrote.0 (finish before told (no_text_yet manner s before told none nothing h)) wrote.2)
+last_written manner answer w w' s before told none new nothing finish wrote h = (wrote.0, wrote.1, written_whole manner answer before told new wrote.0 (finish before told (rw (nothing, append-nil told) h)) wrote.2)
 
 -- ---- a whole trace
 
@@ -102,8 +95,7 @@ so_by a r r' d w w' P Q more read answer so =
 
 traced : (manner : Manner) (answer : Answer) (a r d w : Known) → ReadsAll answer r
     → SoBy a r d w (Writes manner answer) → Traces manner answer a r d w
-traced manner answer a r d w whole so =
-    record { bytes = so.0; text = so.1; consumed = so.2; appended = so.3; written = so.4; whole = whole }
+traced manner answer a r d w whole so = grind arith
 
 -- memory was refused at the start
 pub none_read : (manner : Manner) (answer : Answer) (a d : Known) → answer ≡ Err fault.Memory
@@ -139,10 +131,6 @@ not_answered manner answer e a r r' d w w' s more is read answered so =
     let all = so_by a r r' d w w' (Has manner s) (Writes manner (Err e)) more read answered so in
     rw is (traced manner (Err e) a r' d w' tt all)
 
-at_end : (answer : Answer) (left : Known) → IsAtEnd left → ReadsAll answer left
-at_end (Ok done) left h = h
-at_end (Err e) left h = tt
-
 -- the end of the input, with the last answer
 pub all_read : (manner : Manner) (answer : Answer) (a r r' d w w' : Known) (s : Session)
     → Consumes r r' [] → IsAtEnd r'
@@ -150,7 +138,7 @@ pub all_read : (manner : Manner) (answer : Answer) (a r r' d w w' : Known) (s : 
     → So manner a r d w s → Traces manner answer a r' d w'
 all_read manner answer a r r' d w w' s read end answered so =
     let all = so_by a r r' d w w' (Has manner s) (Writes manner answer) [] read (λ before told h. rw (append-nil before) (answered before told h)) so in
-    traced manner answer a r' d w' (at_end answer r' end) all
+    traced manner answer a r' d w' (grind arith) all
 
 -- no further read
 pub read_failed : (manner : Manner) (answer : Answer) (a r d w : Known) (s : Session)
