@@ -27,9 +27,7 @@ looks_on : (rules : Option Rules) (all : Bool) (lines : List (List ℕ)) (text :
     → Goes text old new → Rests old new → LooksIf rules all lines old
     → LooksIf rules all (text ∷ lines) new × (new.awaits ≡ old.awaits)
 looks_on (Some g) all lines text old new goes rests l = goes g all lines l
-looks_on None all lines text old new goes rests l =
-    let r = rests l.0 in
-    ((r.0, r.1 ∙ l.1, ap (λ (t : String Global). string_bytes t) r.2 ∙ l.2), r.3)
+looks_on None all lines text old new goes rests l = grind (arith, (rests l.0))
 
 -- a line before which no set-up is awaited
 pub took_next : (d : Rules) (all : Bool) (lines : List (List ℕ)) (text : List ℕ) (old new : Checker)
@@ -104,13 +102,7 @@ took_missed d all lines text old mid new waits said begun is told = at_first d a
 
 -- ---- the end
 
-told_if : (rules : Option Rules) (all : Bool) (lines : List (List ℕ)) (c : Checker) (text : List ℕ)
-    → text ≡ string_bytes c.report ++ closing c.verdict c.steps → LooksIf rules all lines c
-    → IsToldIf rules all lines c.verdict text
-told_if (Some g) all lines c text is l = grind arith
-told_if None all lines c text is l = (l.1, rw (is, l.1, append-nil) l.2)
-
 pub ends_told : (d : Rules) (all : Bool) (lines : List (List ℕ)) (c : Checker) (text : List ℕ)
     → text ≡ string_bytes c.report ++ closing c.verdict c.steps → Looks d all lines c
     → IsTold d all lines c.verdict text
-ends_told d all lines c text is k = grind (arith, (told_if k.rules all lines c text is k.looked))
+ends_told d all lines c text is k = grind (arith, append-nil)

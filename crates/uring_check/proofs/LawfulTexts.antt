@@ -90,13 +90,13 @@ unlawful_said : (g : Rules) (all : Bool) (xs : List Found) → AreFound g all xs
     → (verdict_of xs ≡ verdict.Lawful → ⊥) → IsLawfulText g (lines_of xs) → ⊥
 unlawful_said g all [] are v is = v refl
 unlawful_said g all (x ∷ before) are v is =
-  let either : (verdict_of before ≡ verdict.Lawful) ⊎ (verdict_of before ≡ verdict.Lawful → ⊥) = grind arith in elim either [
-  | inl so ↦
-      let r = all_right g all before are.1 so in
-      none_more g x.line (lines_of before) (history_after before) is.0 x.finding (rw r.goes_on at are.0) (λ e. v (ap (λ (w : Verdict). judged w x.finding) so ∙ e))
-      (λ past lawful rec. same_history g (lines_of before) past (history_after before) lawful rec r.lawful r.recorded) is.1 is.2
-  | inr fault ↦ unlawful_said g all before are.1 fault (lawful_before g x.line (lines_of before) is)
-]
+    let either : (verdict_of before ≡ verdict.Lawful) ⊎ (verdict_of before ≡ verdict.Lawful → ⊥) = grind arith in elim either [
+      | inl so ↦
+          let r = all_right g all before are.1 so in
+          none_more g x.line (lines_of before) (history_after before) is.0 x.finding (rw r.goes_on at are.0) (λ e. v (ap (λ (w : Verdict). judged w x.finding) so ∙ e))
+          (λ past lawful rec. same_history g (lines_of before) past (history_after before) lawful rec r.lawful r.recorded) is.1 is.2
+      | inr fault ↦ unlawful_said g all before are.1 fault (lawful_before g x.line (lines_of before) is)
+    ]
 
 pub said : (g : Rules) (all : Bool) (xs : List Found) (v : Verdict) → AreFound g all xs
     → v ≡ verdict_of xs → Says g (lines_of xs) v

@@ -19,10 +19,6 @@ number_told (step.Issue n) (answer.Ended res bytes) e is = cc
 number_told (step.Finish n) (answer.Ended res bytes) e is = cc
 number_told _ _ e is = absurd cc
 
--- nothing was posted
-none_noted : (s : Step) (n : ℕ) → noted_poster s n n ≡ []
-none_noted s n = grind arith
-
 end_noted : (s : Step) (size n : ℕ) (l : Completions) (c : Cqe) (posts : Bool)
     → number_in s ≡ n ∷ []
     → noted_poster s (length l.posted) (length (if posts then with_posted size l c else l).posted)
@@ -32,10 +28,10 @@ end_noted s size n l c posts is = grind (arith, length-append)
 noted_by : (g : Setup) (w : World) (s : Step) (a : Answer) (v : World) → CompletionMove g w s a v
     → noted_poster s (length w.completions.posted) (length v.completions.posted)
     ≡ poster_of g.linux w.requests (end_told_by (s, a))
-noted_by g w s a v (stays _ _ l r is_closed off none left) = rw none (none_noted s (length w.completions.posted))
+noted_by g w s a v (stays _ _ l r is_closed off none left) = rw none (grind arith)
 noted_by g w s a v (ends _ _ n res bytes r off is same one) =
     rw is (end_noted s g.cq n w.completions (completion_for (entry_of w.requests n) res bytes) (posts g.linux w.requests n res) (number_told s a (record { number = n; res = res; bytes = bytes }) is))
-noted_by g w s a v _ = none_noted s (length w.completions.posted)
+noted_by g w s a v _ = grind arith
 
 -- ---- what is known after a step
 

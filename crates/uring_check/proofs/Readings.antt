@@ -33,14 +33,9 @@ kept_byte g all kept kept' c before b ne more h = grind (arith, (split_more befo
 
 -- ---- the end of the input
 
-reported_by : (rules : Option Rules) (all : Bool) (lines : List (List ℕ)) (text : List ℕ) (v : Verdict)
-    → IsToldIf rules all lines v text → IsReportedBy rules all lines text v
-reported_by None all lines text v t = t
-reported_by (Some g) all lines text v t = grind (arith, (said g all t.found v t.are t.decided))
-
 told_verdict : (g : Rules) (all : Bool) (lines : List (List ℕ)) (bytes text : List ℕ) (v : Verdict)
     → AreLinesOf bytes lines → IsTold g all lines v text → IsVerdict g all bytes text v
-told_verdict g all lines bytes text v are t = grind (arith, (reported_by t.rules all lines text v t.told))
+told_verdict g all lines bytes text v are t = grind (arith, said)
 
 -- what a checker's end returns
 abbrev pub Ends : Checker → Verdict → List ℕ → Type 0
@@ -109,14 +104,9 @@ read_alone e = absurd cc
 abbrev Answer : Type 0
 Answer = Result Verdict TraceFault
 
-nothing_said : (g : Rules) (all : Bool) (e : TraceFault) (bytes : List ℕ) (left : Known) → e ≢ fault.Write
-    → Writes g all (Err e) bytes [] × ReadsAll (Err e) left
-nothing_said g all fault.Write bytes left other = absurd (other refl)
-nothing_said g all _ bytes left other = (refl, tt)
-
 stopped_at : (g : Rules) (all : Bool) (e : TraceFault) (a r d : Known) (bytes : List ℕ)
     → e ≢ fault.Write → Consumes a r bytes → IsChecked g all (Err e) a r d d
-stopped_at g all e a r d bytes other read = grind (arith, (nothing_said g all e bytes r other), (Appends-nil d))
+stopped_at g all e a r d bytes other read = grind (arith, (Appends-nil d))
 
 -- not all was read
 pub part_checked : (g : Rules) (all : Bool) (answer : Answer) (e : TraceFault) (a r d : Known) (s : Reading)

@@ -122,8 +122,7 @@ either_end res = search (inl, inr)
 -- the follower fits the history as it did
 pub either_fits : (h : History) (m : Follower) (s : Step) (wanted : Wanted) (one other : Answer)
     → IsEither wanted one other → IsWanted h m s wanted → FitsBy m h
-either_fits h m s wanted one other either is =
-    subst (λ (x : History). FitsBy m x) (either.nothing s h) is.1
+either_fits h m s wanted one other either is = rw (either.nothing s h) at is.1
 
 -- the text is that of neither
 pub either_wrong : (h : History) (m : Follower) (s : Step) (text : List ℕ) (wanted : Wanted) (one other : Answer)

@@ -111,11 +111,9 @@ explained_more granted telling m m' number was_bad bad xs line text before after
       noted = rw (a.noted, numbered, ← append_assoc notes noted (noted_of (line_number (length xs)) line a.said), h.noted);
     }
 
-bad_more : (granted : Type 0) (m m' : Machine) (number : ℕ) (was_bad bad : Bool) (xs : List Saying) (line before after noted noted' : List ℕ)
-    → was_bad ≡ list_any (λ x. is_bad x.said) xs
-    → (a : AppendsLine granted m m' number was_bad bad line before after noted noted')
-    → bad ≡ list_any (λ x. is_bad x.said) (record { line = line; said = a.said } ∷ xs)
-bad_more granted m m' number was_bad bad xs line before after noted noted' was a = grind arith
+bad_more : (was_bad bad : Bool) (xs : List Saying) (line : List ℕ) (said : Said) → was_bad ≡ list_any (λ x. is_bad x.said) xs
+    → bad ≡ (was_bad || is_bad said) → bad ≡ list_any (λ x. is_bad x.said) (record { line = line; said = said } ∷ xs)
+bad_more was_bad bad xs line said was is = grind arith
 
 -- a line that has its end
 pub explain_line : (granted : Type 0) (telling : Telling) (m m' : Machine) (kept : KeptLine) (number number' : ℕ) (was_bad bad : Bool) (bytes text before after notes noted noted' : List ℕ)
@@ -127,7 +125,7 @@ explain_line granted telling m m' kept number number' was_bad bad bytes text bef
     let a = tells h.line h.keeps in
     let all = explained_more granted telling m m' number was_bad bad h.sayings h.line text before after notes noted noted' sure h.explains h.numbered h.same h.fits a in
     let fits = rw (one_more (event_in a.said) (events_in h.sayings)) at (a.fits (history_of (events_in h.sayings)) h.fits) in
-    let bad = bad_more granted m m' number was_bad bad h.sayings h.line before after noted noted' h.bad_lines a in
+    let bad = bad_more was_bad bad h.sayings h.line a.said h.bad_lines a.bad_line in
     grind (arith, all, (split_end bytes (lines_in h.sayings) h.line h.splits), bad, fits)
 
 -- the lines to their end, and the machine that fits them
@@ -143,7 +141,7 @@ pub explain_last : (granted : Type 0) (telling : Telling) (m m' : Machine) (kept
     → Ended telling m' bad bytes (text ++ after) (notes ++ noted')
 explain_last granted telling m m' kept number was_bad bad bytes text before after notes noted noted' some tells sure h =
     let a = tells h.line h.keeps in (
-      grind (arith, (explained_more granted telling m m' number was_bad bad h.sayings h.line text before after notes noted noted' sure h.explains h.numbered h.same h.fits a), (last_some (lines_in h.sayings) h.line (some h.line h.keeps)), (bad_more granted m m' number was_bad bad h.sayings h.line before after noted noted' h.bad_lines a)),
+      grind (arith, (explained_more granted telling m m' number was_bad bad h.sayings h.line text before after notes noted noted' sure h.explains h.numbered h.same h.fits a), (last_some (lines_in h.sayings) h.line (some h.line h.keeps)), (bad_more was_bad bad h.sayings h.line a.said h.bad_lines a.bad_line)),
       a.same ∙ h.same,
       subst (λ (k : History). Fits m' k) (one_more (event_in a.said) (events_in h.sayings)) (a.fits (history_of (events_in h.sayings)) h.fits),
     )

@@ -49,18 +49,13 @@ none_told telling result w e s s' before told noted more is h =
     let so = explain_beginning telling s.machine s.line s.number s.has_bad before told noted more h in
     ([], [], Appends-nil w, Appends-nil e, rw (is, append-nil told, append-nil noted) so)
 
--- a text of which a part was written
-split_text : (told new written more : List ℕ) → new ≡ written ++ more
-    → told ++ new ≡ (told ++ written) ++ more
-split_text told new written more e = grind (arith, append_assoc)
-
 took : (telling : Telling) (result : Done) (s : Explainer) (bytes told noted new new' written written' : List ℕ)
     → HasToldBy telling s bytes (told ++ new) (noted ++ new')
     → WritesTexts result new new' written written'
     → TookBoth telling result s bytes (told ++ written) (noted ++ written')
 took telling (Ok done) s bytes told noted new new' written written' h w = grind arith
 took telling (Err f) s bytes told noted new new' written written' h w =
-    grind (arith, (split_text told new written w.1 w.4), (beginning_here telling s bytes (told ++ new) (noted ++ new') h), (split_text noted new' written' w.2 w.5))
+    grind (arith, append_assoc, (beginning_here telling s bytes (told ++ new) (noted ++ new') h))
 
 pub bytes_told : (telling : Telling) (result : Done) (w w' e e' : Known) (s s' : Explainer) (before told noted more none none' new new' : List ℕ)
     → none ≡ [] → none' ≡ []
@@ -87,7 +82,7 @@ pub last_cut : (telling : Telling) (answer : Answer) (f : TraceFault) (w w' e e'
 last_cut telling answer f w w' e e' s bad before told noted none none' new new' is a b finish p h =
     let t = p.4 in
     let whole = finish before told noted (rw (a, b, append-nil told, append-nil noted) h) in
-    let both = rw (split_text told new p.0 t.1 t.4, split_text noted new' p.1 t.2 t.5) at whole in
+    let both = rw (t.4, t.5, ← append_assoc told p.0 t.1, ← append_assoc noted p.1 t.2) at whole in
     (p.0, p.1, p.2, p.3, rw (is, t.0) (t.1, t.2, t.3, inr (bad, both)))
 
 pub last_told : (telling : Telling) (w w' e e' : Known) (s : Explainer) (bad found : Bool) (before told noted none none' new new' : List ℕ)
