@@ -1,9 +1,6 @@
 -- What a checker makes of the first line, and of those after it.
-use Rattle.std.proofs.Common.{◌≡◌, ℕ, Bool, true, false, List, [], ◌∷◌, ◌++◌, length, Option, Some, None, refl, sym, ap, subst, ◌∙◌, arith}
-use Rattle.uring_check.proofs.Common.{AreJudgedBy, Checker, Ends, FitsBy, Follower, Found, IsSaid, IsTold, IsToldIf, Looks, LooksBy, LooksIf, Rules, Setup, Verdict, append-nil, awaits_first, closing, has_stopped, history_after, lines_of, missed_text, posters, rules_of, steps_of, string_bytes, told_of_all, verdict_of}
-use Rattle.std.specs.declared.alloc.Global.{Global}
-use Rattle.std.specs.declared.string.String.{String}
-use Rattle.uring_trace.specs.Explanations.{line_number}
+use Rattle.std.proofs.Common.{◌≡◌, ℕ, Bool, true, false, List, [], ◌∷◌, ◌++◌, Option, Some, None, refl, sym, ap, ◌∙◌, arith}
+use Rattle.uring_check.proofs.Common.{AreJudgedBy, Checker, Ends, FitsBy, Follower, Found, IsSaid, IsTold, Looks, LooksBy, LooksIf, Rules, Setup, append-nil, awaits_first, closing, lines_of, missed_text, rules_of, string_bytes, told_of_all}
 use Rattle.uring_check.specs.declared.setup_line.Said.TheVariants.{Nothing, Says, Misses}
 use Rattle.uring_check.specs.declared.verdict.Verdict.TheVariants as verdict
 

@@ -1,6 +1,6 @@
 -- What findings say of the text of a lawful history.
-use Rattle.std.proofs.Common.{◌≡◌, ◌⊎◌, ℕ, Bool, false, List, [], ◌∷◌, refl, sym, ap, subst, ◌∙◌, inl, inr, arith}
-use Rattle.uring_check.proofs.Common.{Answer, AreFound, AreRecorded, Finding, Found, History, IsCalled, IsFinding, IsFindingAfter, IsLawfulBy, IsLawfulText, IsPlain, Records, Rules, Step, Verdict, first_fault, has_stopped, history_after, is_apart, judged, lines_of, text_of, true≢false, verdict_of}
+use Rattle.std.proofs.Common.{◌≡◌, ◌⊎◌, ℕ, Bool, false, List, [], ◌∷◌, refl, sym, ap, ◌∙◌, inl, inr, arith}
+use Rattle.uring_check.proofs.Common.{Answer, AreFound, AreRecorded, Finding, Found, History, IsCalled, IsFinding, IsLawfulBy, IsLawfulText, Records, Rules, Step, Verdict, has_stopped, history_after, judged, lines_of, text_of, true≢false, verdict_of}
 use Rattle.uring_check.specs.Checks.{Says}
 use Rattle.uring_check.specs.Findings as finding
 use Rattle.uring_check.specs.declared.verdict.Verdict.TheVariants as verdict

@@ -1,11 +1,10 @@
 -- What a checker makes of lines.
-use Rattle.std.proofs.Common.{◌≡◌, ℕ, ◌+◌, ◌-◌, ◌^◌, min, Bool, true, false, not, ◌||◌, List, ◌∷◌, ◌++◌, length, Option, Some, None, refl, sym, ap, subst, ◌∙◌, append_assoc, arith}
-use Rattle.uring_check.proofs.Common.{CalledBy, Checker, FitsBy, Follower, History, IsFinding, IsFindingAfter, IsNoRecord, IsRecord, IsStanding, Judges, Knows, Looked, LooksAt, LooksBy, Rules, Setup, Step, Verdict, Wanted, append-nil, codes, completion_wanted, counted_with, entry_asked, first_fault, has_stopped, history_after, judged, line_text, noted_poster, posters, reasons_by, reasons_told, rules_of, stops, string_bytes, told_of, told_of_all, wanted_text, why_bad, with_finding, world, Found}
+use Rattle.std.proofs.Common.{◌≡◌, ℕ, ◌+◌, ◌-◌, ◌^◌, min, Bool, true, false, not, List, ◌∷◌, ◌++◌, length, Some, None, refl, sym, ap, subst, ◌∙◌, append_assoc, arith}
+use Rattle.uring_check.proofs.Common.{CalledBy, Checker, FitsBy, Follower, History, IsFinding, IsFindingAfter, IsNoRecord, IsRecord, IsStanding, Judges, Knows, Looked, LooksAt, LooksBy, Rules, Setup, Step, Verdict, Wanted, append-nil, codes, completion_wanted, counted_with, entry_asked, first_fault, has_stopped, history_after, judged, line_text, noted_poster, posters, reasons_by, reasons_told, rules_of, string_bytes, told_of_all, wanted_text, why_bad, with_finding, world}
 use Rattle.std.specs.declared.alloc.Global.{Global}
 use Rattle.std.specs.declared.string.String.{String}
 use Rattle.std.specs.declared.vec.Vec.{Vec}
 use Rattle.std.proofs.Math.Bool.{or-false}
-use Rattle.uring_entry.specs.Layout.{Sqe}
 use Rattle.uring_trace.specs.Explanations.{line_number}
 use Rattle.uring_text.specs.Lines.{ended}
 use Rattle.uring_text.specs.Remarks.{is_remark}

@@ -1,6 +1,6 @@
 -- Whose completions were posted.
-use Rattle.std.proofs.Common.{◌≡◌, ℕ, Bool, List, [], ◌∷◌, ◌++◌, length, Some, sym, ap, ◌∙◌, append-nil, arith}
-use Rattle.uring_check.proofs.Common.{Answer, AnyEnd, CallOrAgain, EndOrNoMemory, Ending, FitsBy, Follower, History, IsLawfulApart, Only, Setup, Step, Wanted, World, entry_of, if◌then◌else◌, le-leb, length-append, noted_poster, number_in, poster_of, posters, resumed, rules_of, world}
+use Rattle.std.proofs.Common.{◌≡◌, ℕ, Bool, List, [], ◌∷◌, ◌++◌, length, Some, append-nil, arith}
+use Rattle.uring_check.proofs.Common.{Answer, Ending, FitsBy, Follower, History, IsLawfulApart, Only, Setup, Step, Wanted, World, entry_of, if◌then◌else◌, length-append, noted_poster, number_in, poster_of, posters, resumed, rules_of, world}
 use Rattle.uring_entry.specs.Completions.{Completions, completion_for, with_posted}
 use Rattle.uring_entry.specs.Layout.{Cqe}
 use Rattle.uring_rules.specs.Rules.{posts}

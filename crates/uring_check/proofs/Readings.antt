@@ -1,15 +1,15 @@
 -- What a reading takes in, byte by byte, and what is returned and written of it.
-use Rattle.std.proofs.Common.{◌≡◌, ◌≢◌, ℕ, Bool, List, [], ◌∷◌, ◌++◌, Option, Some, None, Result, Ok, Err, refl, sym, ap, subst, ◌∙◌, arith}
+use Rattle.std.proofs.Common.{◌≡◌, ◌≢◌, ℕ, Bool, List, [], ◌∷◌, ◌++◌, Option, Result, Ok, Err, sym, ap, subst, arith}
 use Rattle.std.specs.Io.KnownBytes.{Consumes, Appends, IsAtEnd, Keeps}
 use Rattle.std.proofs.KnownBytes.{Consumes-nil, Consumes-trans, Consumes-kept, Appends-nil}
-use Rattle.uring_check.proofs.Common.{Checker, Has, Holds, IsTold, IsToldIf, Looks, ReadsIn, Rules, TakesIn, Verdict, append-nil}
+use Rattle.uring_check.proofs.Common.{Checker, Has, Holds, IsTold, Looks, ReadsIn, Rules, Verdict, append-nil}
 use Rattle.uring_text.specs.KeptLine.{KeptLine, kept_of}
 use Rattle.uring_text.specs.Lines.{with_last}
 use Rattle.uring_text.specs.Writing.{WritesText}
 use Rattle.uring_text.specs.declared.trace_fault.TraceFault.{TraceFault}
 use Rattle.uring_text.specs.declared.trace_fault.TraceFault.TheVariants as fault
 use Rattle.uring_text.proofs.Splits.{split_more, split_end, last_some}
-use Rattle.uring_check.specs.Checks.{AreLinesOf, IsReportedBy, IsVerdict, Says, Writes, ReadsAll, IsChecked}
+use Rattle.uring_check.specs.Checks.{AreLinesOf, IsVerdict, IsChecked}
 use Rattle.uring_check.specs.declared.reading.Reading.{Reading}
 use Rattle.uring_check.proofs.LawfulTexts.{said}
 

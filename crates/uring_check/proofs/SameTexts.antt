@@ -1,12 +1,12 @@
 -- No two answers that are called for to one step have the same text.
-use Rattle.std.proofs.Common.{◌≡◌, ℕ, pos, neg_ℤ, ◌^◌, ◌<◌, Bool, true, false, List, drop, sym, ap, ◌∙◌, inl, inr, arith}
+use Rattle.std.proofs.Common.{◌≡◌, ℕ, pos, neg_ℤ, ◌^◌, ◌<◌, Bool, true, false, List, drop, sym, ap, ◌∙◌, arith}
 use Rattle.std.proofs.lemmas.Fmt.{signed_decimal_injective}
 use Rattle.uring_check.proofs.Common.{Answer, ENOMEM, OrAgain, Requests, Setup, Step, World, begin_answer, entry_of, is_running, no_bytes, text_of}
 use Rattle.uring_entry.specs.Preparation.{operation_of}
 use Rattle.uring_entry.specs.declared.operation.Op.{Op}
 use Rattle.uring_entry.specs.declared.operation.Outcome.{Outcome}
 use Rattle.uring_files.specs.Contents.{FileContents}
-use Rattle.uring_files.specs.Operations.{IsOutcome, ended_with, is_lengthening, result_of}
+use Rattle.uring_files.specs.Operations.{IsOutcome}
 use Rattle.uring_core.specs.CalledFor.{CalledFor, EndsOn, files_of}
 use Rattle.uring_core.specs.declared.answer.Answer.TheVariants as answer
 use Rattle.uring_core.specs.declared.step.Step.TheVariants as step

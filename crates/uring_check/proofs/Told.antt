@@ -1,5 +1,5 @@
 -- What is told in parts, as one line.
-use Rattle.std.proofs.Common.{◌≡◌, ◌++◌, ◌∷◌, [], List, ℕ, refl, ap, ◌∙◌, append_assoc}
+use Rattle.std.proofs.Common.{◌≡◌, ◌++◌, ◌∷◌, [], List, ℕ, append_assoc}
 
 -- a word and a number, another word, what is said and the end of the line
 pub told_line : (old b c d new w n v x : List ℕ) → b ≡ old ++ w ++ n → c ≡ b ++ v → d ≡ c ++ x

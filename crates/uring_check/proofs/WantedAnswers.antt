@@ -1,6 +1,6 @@
 -- What a text says of the answers that are called for.
-use Rattle.std.proofs.Common.{◌≡◌, drop, ◌∷◌, ℕ, ℤ, neg_ℤ, Bool, true, false, List, [], Option, Some, None, refl, sym, ap, subst, ◌∙◌, inl, inr, arith}
-use Rattle.uring_check.proofs.Common.{AllowedBy, Answer, AnyEnd, CallOrAgain, CalledBy, CalledForApart, CalledIn, ENOMEM, EndOrNoMemory, Ends, FinishesApart, FitsBy, Follower, HasOneAnswer, History, IsEither, IsEnded, IsJudged, IsOneJudged, IsPlain, IsWanted, IsWrong, IsWrongText, Judges, MayGive, Only, Requests, Rules, Setup, Step, Wanted, World, entry_asked, entry_in, entry_outstanding, is_apart, is_running, no_bytes, rules_of, text_of, world, Meets}
+use Rattle.std.proofs.Common.{◌≡◌, drop, ◌∷◌, ℕ, ℤ, neg_ℤ, Bool, true, false, List, [], Option, Some, None, refl, sym, ap, ◌∙◌, inl, inr, arith}
+use Rattle.uring_check.proofs.Common.{AllowedBy, Answer, AnyEnd, CallOrAgain, CalledBy, CalledIn, ENOMEM, EndOrNoMemory, Ends, FinishesApart, FitsBy, Follower, HasOneAnswer, History, IsEither, IsEnded, IsJudged, IsOneJudged, IsPlain, IsWanted, IsWrong, IsWrongText, Judges, MayGive, Only, Requests, Rules, Setup, Step, Wanted, World, entry_asked, entry_in, is_apart, is_running, no_bytes, rules_of, text_of, world, Meets}
 use Rattle.uring_core.specs.Core.{IsNoFinish}
 use Rattle.uring_core.specs.Recorded.{IsRefused, resumed}
 use Rattle.uring_core.specs.declared.wanted.Refusal.{Refusal}
@@ -9,7 +9,7 @@ use Rattle.uring_core.specs.declared.answer.Answer.TheVariants as answer
 use Rattle.uring_core.specs.declared.step.Step.TheVariants as step
 use Rattle.uring_text.specs.Spelling.{IsFile}
 use Rattle.uring_check.specs.declared.ends.Ends.TheVariants as ends
-use Rattle.uring_check.specs.declared.follower.Follower.TheVariants.{Whole, Apart, Allowed}
+use Rattle.uring_check.specs.declared.follower.Follower.TheVariants.{Allowed}
 use Rattle.uring_check.proofs.RuleLaws.{result_once}
 
 -- one answer alone is called for, but to Begin and Finish

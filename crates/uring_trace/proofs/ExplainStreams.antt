@@ -1,5 +1,5 @@
 -- What explain reads and writes.
-use Rattle.std.proofs.Common.{◌≡◌, ℕ, Bool, List, [], ◌++◌, Option, Result, Ok, Err, refl, sym, subst, ◌∙◌, append_assoc, arith, inr}
+use Rattle.std.proofs.Common.{◌≡◌, ℕ, Bool, List, [], ◌++◌, Option, Result, Ok, Err, refl, sym, ◌∙◌, append_assoc, arith, inr}
 use Rattle.uring_trace.proofs.Common.{Appends, Consumes, ExplainsBeginning, ExplainsWholeBy, HasToldBy, IsAtEnd, IsExplained, Keeps, ReadsWhole, Telling, TookBoth, WritesBoth, WritesPair, WritesTexts, WroteBoth, append-nil}
 use Rattle.std.proofs.KnownBytes.{Consumes-nil, Appends-nil, Appends-trans, Consumes-trans}
 use Rattle.uring_text.specs.declared.trace_fault.TraceFault.{TraceFault}
