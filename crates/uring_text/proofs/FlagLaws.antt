@@ -5,7 +5,7 @@ use Rattle.std.specs.Int.RustNames.{bit_and, bit_or}
 use Rattle.std.specs.Int.Bits.{and_zero_l}
 use Rattle.std.proofs.lemmas.List.Sums.{sum_by-cons}
 use Rattle.std.proofs.lemmas.Nat.{and_or_self, and_or_apart, or_disjoint}
-use Rattle.uring_text.proofs.Options.{no_dash, unless_some}
+use Rattle.uring_text.proofs.Options.{no_dash}
 
 letters_apart : (b c : ℕ) → 0 < flag_value b → 0 < flag_value c → (c ≡ b → ⊥)
     → bit_and (flag_value b) (flag_value c) ≡ 0
@@ -69,7 +69,7 @@ none_apart (b ∷ token) = (and_zero_l (flag_value b), none_apart token)
 
 pub flags_found : (token : List ℕ) (flags : ℕ) → flags_of token ≡ Some flags → AreFlags token flags
 unfolding flags_of
-flags_found token flags e = grind (arith, cond, bytes_eq-Decides, same_Some, unless_some, read_letters, not_empty)
+flags_found token flags e = grind (arith, cond, bytes_eq-Decides, same_Some, read_letters, not_empty)
 
 pub flags_again : (token : List ℕ) (flags : ℕ) → AreFlags token flags → flags_of token ≡ Some flags
 unfolding flags_of

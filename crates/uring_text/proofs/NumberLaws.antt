@@ -1,7 +1,6 @@
 -- A number is read of just the token that is its decimal form.
-use Rattle.std.proofs.Common.{◌≡◌, ℕ, zero, suc, ◌^◌, ◌<◌, ◌≤◌, true, List, [], ◌∷◌, length, get_or, Option, Some, None, refl, sym, ap, ◌∙◌, arith}
-use Rattle.uring_text.proofs.Common.{IsFile, MatchOption, eqb-true, file_of, is_numeral, lt-ltb, negative_of, negsuc, number_of, option_map, pos, ℤ}
-use Rattle.std.specs.Str.Parse.{digits_value}
+use Rattle.std.proofs.Common.{◌≡◌, ℕ, zero, suc, ◌^◌, ◌<◌, ◌≤◌, true, List, [], ◌∷◌, length, get_or, Option, Some, None, sym, ap, ◌∙◌, arith}
+use Rattle.uring_text.proofs.Common.{IsFile, MatchOption, eqb-true, file_of, is_numeral, negative_of, negsuc, number_of, option_map, pos, ℤ}
 use Rattle.std.specs.Fmt.{decimal, signed_decimal}
 use Rattle.std.proofs.lemmas.Fmt.{decimal-digits_value, digits_decimal, first_decimal, decimal_nonempty, decimal_digit, decimal_is_IsNumeral}
 use Rattle.std.proofs.lemmas.Str.Parse.{digit_at}
@@ -10,7 +9,7 @@ use Rattle.uring_text.proofs.Numbers.{own, numeral_is, number_parts, file_other}
 -- the decimal form of a number has no leading zero
 leading : (n : ℕ) → n < 2 ^ 64 → get_or (decimal n) 0 0 ≡ 48 → length (decimal n) ≡ 1
 leading zero lt e = ap length (decimal_digit 0 (omega arith))
-leading (suc n) lt e = absurd (omega (arith, first_decimal (suc n) (omega arith) lt))
+leading (suc n) lt e = omega (arith, first_decimal (suc n) (omega arith) lt)
 
 numeral_decimal : (n : ℕ) → n < 2 ^ 64 → is_numeral (decimal n) ≡ true
 unfolding is_numeral

@@ -1,5 +1,5 @@
 -- Steps that may give nothing.
-use Rattle.std.proofs.Common.{◌≡◌, ℕ, Bool, true, false, cond, List, Option, Some, None, refl, sym, arith}
+use Rattle.std.proofs.Common.{◌≡◌, ℕ, false, List, Option, Some, None, refl, sym, arith}
 use Rattle.uring_text.proofs.Common.{bytes_eq, bytes_eq-Decides, codes, option_map, same_Some, ◌>>=◌}
 
 -- the value of a step that gave something
@@ -13,12 +13,6 @@ pub mapped : {A B : Type 0} (S : A → Type 0) (f : A → B) (o : Option A) (y :
     → ((x : A) → o ≡ Some x → S x) → option_map f o ≡ Some y → (x : A) × S x × (y ≡ f x)
 mapped S f None y is e = absurd cc
 mapped S f (Some x) y is e = (x, is x refl, sym (same_Some (f x) y e))
-
--- a test that wasn't passed
-pub unless_some : {A : Type 0} (b : Bool) (o : Option A) (y : A) → cond b None o ≡ Some y
-    → (b ≡ false) × (o ≡ Some y)
-unless_some true o y e = absurd cc
-unless_some false o y e = (refl, e)
 
 -- a token other than `-`
 pub no_dash : (token : List ℕ) → (token ≡ codes "-" → ⊥) → bytes_eq token (codes "-") ≡ false

@@ -1,6 +1,6 @@
 -- What is read of tokens is the entry or the number that they spell.
-use Rattle.std.proofs.Common.{◌≡◌, ℕ, ◌^◌, ◌≤◌, List, Option, Some, None, refl, sym, ap, subst, ◌∙◌, arith}
-use Rattle.uring_text.proofs.Common.{Form, IsEntryOf, IsNoEntry, IsNoNumber, MatchOption, ReadsEntry, SpellsEntry, SpellsNumber, Sqe, form_of, number_of, same_Some}
+use Rattle.std.proofs.Common.{◌≡◌, ℕ, ◌^◌, ◌≤◌, List, Option, Some, None, refl, sym, ap, ◌∙◌, arith}
+use Rattle.uring_text.proofs.Common.{Form, IsNoEntry, IsNoNumber, MatchOption, ReadsEntry, SpellsEntry, SpellsNumber, Sqe, form_of, number_of, same_Some}
 use Rattle.uring_text.proofs.NumberLaws.{number_found, number_again}
 use Rattle.uring_text.proofs.FormLaws.{form_found, form_again}
 use Rattle.uring_text.proofs.EntryLaws.{entry_once}
@@ -8,10 +8,10 @@ use Rattle.uring_text.proofs.EntryLaws.{entry_once}
 -- what a reader of an entry's tokens tells
 entry_read : (tokens : List (List ℕ)) (f : Option Form) (read : Option Sqe) → form_of tokens ≡ f
     → ReadsEntry read f → MatchOption read (IsNoEntry tokens) (SpellsEntry tokens)
-entry_read tokens None None e h = λ entry s. absurd (let no : None ≡ Some s.form = sym e ∙ form_again tokens s.form s.spells in cc)
-entry_read tokens None (Some entry) e h = absurd (let no : Some entry ≡ None = h in cc)
-entry_read tokens (Some f) None e h = absurd h
+entry_read tokens None None e h = λ entry s. absurd (cc (e, form_again tokens s.form s.spells))
 entry_read tokens (Some f) (Some entry) e h = grind (arith, (form_found tokens f e))
+entry_read tokens None (Some entry) e h = absurd cc
+entry_read tokens (Some f) None e h = absurd h
 
 pub read_entry_tells : (tokens : List (List ℕ)) (read : Option Sqe)
     → ReadsEntry read (form_of tokens) → MatchOption read (IsNoEntry tokens) (SpellsEntry tokens)
