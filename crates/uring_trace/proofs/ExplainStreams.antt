@@ -36,6 +36,11 @@ pair_whole w w' e e' (Err f) text notes x y =
 
 -- ---- what is told and noted of some bytes
 
+pub nothing_yet : (telling : Telling) (s : Explainer) (bytes told noted none none' : List ℕ) → none ≡ []
+    → none' ≡ [] → HasToldBy telling s bytes told noted
+    → HasToldBy telling s bytes (told ++ none) (noted ++ none')
+nothing_yet telling s bytes told noted none none' a b h = grind (arith, append-nil)
+
 -- the same bytes, with nothing after them
 beginning_here : (telling : Telling) (s : Explainer) (bytes told noted : List ℕ)
     → HasToldBy telling s bytes told noted → ExplainsBeginning telling bytes told noted
@@ -99,7 +104,7 @@ last_told telling w w' e e' s bad found before told noted none none' new new' is
 -- ---- the whole run
 
 -- Something is so of what was read and written so far: the reader had a left and has r, the writers held d and x and hold w and e.
-abbrev FarBy : Known → Known → Known → Known → Known → Known → (List ℕ → List ℕ → List ℕ → Type 0) → Type 0
+abbrev pub FarBy : Known → Known → Known → Known → Known → Known → (List ℕ → List ℕ → List ℕ → Type 0) → Type 0
 FarBy a r d w x e P = (bytes : List ℕ) × (text : List ℕ) × (notes : List ℕ) × Consumes a r bytes
     × Appends d w text × Appends x e notes × P bytes text notes
 

@@ -16,7 +16,7 @@ abbrev Known : Type 0
 Known = Option (List ℕ)
 
 -- Something is so of what was read and written so far: the reader had a left and has r, the writer held d and holds w.
-abbrev SoBy : Known → Known → Known → Known → (List ℕ → List ℕ → Type 0) → Type 0
+abbrev pub SoBy : Known → Known → Known → Known → (List ℕ → List ℕ → Type 0) → Type 0
 SoBy a r d w P = (bytes : List ℕ) × (text : List ℕ) × Consumes a r bytes × Appends d w text
     × P bytes text
 
