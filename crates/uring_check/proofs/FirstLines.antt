@@ -1,9 +1,6 @@
 -- What a checker makes of the first line, and of those after it.
-use Rattle.std.proofs.Common.{◌≡◌, ℕ, Bool, true, false, List, [], ◌∷◌, ◌++◌, length, Option, Some, None, refl, sym, ap, subst, ◌∙◌}
-use Rattle.uring_check.proofs.Common.{AreJudgedBy, Checker, Ends, FitsBy, Follower, Found, IsSaid, IsTold, IsToldIf, Looks, LooksBy, LooksIf, Rules, Setup, Verdict, append-nil, awaits_first, closing, has_stopped, history_after, lines_of, missed_text, posters, rules_of, steps_of, string_bytes, told_of_all, verdict_of}
-use Rattle.std.specs.declared.alloc.Global.{Global}
-use Rattle.std.specs.declared.string.String.{String}
-use Rattle.uring_trace.specs.Explanations.{line_number}
+use Rattle.std.proofs.Common.{◌≡◌, ℕ, Bool, true, false, List, [], ◌∷◌, ◌++◌, Option, Some, None, refl, sym, ap, ◌∙◌, arith}
+use Rattle.uring_check.proofs.Common.{AreJudgedBy, Checker, Ends, FitsBy, Follower, Found, IsSaid, IsTold, Looks, LooksBy, LooksIf, Rules, Setup, append-nil, awaits_first, closing, lines_of, missed_text, rules_of, string_bytes, told_of_all}
 use Rattle.uring_check.specs.declared.setup_line.Said.TheVariants.{Nothing, Says, Misses}
 use Rattle.uring_check.specs.declared.verdict.Verdict.TheVariants as verdict
 
@@ -27,9 +24,7 @@ looks_on : (rules : Option Rules) (all : Bool) (lines : List (List ℕ)) (text :
     → Goes text old new → Rests old new → LooksIf rules all lines old
     → LooksIf rules all (text ∷ lines) new × (new.awaits ≡ old.awaits)
 looks_on (Some g) all lines text old new goes rests l = goes g all lines l
-looks_on None all lines text old new goes rests l =
-    let r = rests l.0 in
-    ((r.0, r.1 ∙ l.1, ap (λ (t : String Global). string_bytes t) r.2 ∙ l.2), r.3)
+looks_on None all lines text old new goes rests l = grind (arith, (rests l.0))
 
 -- a line before which no set-up is awaited
 pub took_next : (d : Rules) (all : Bool) (lines : List (List ℕ)) (text : List ℕ) (old new : Checker)
@@ -37,31 +32,20 @@ pub took_next : (d : Rules) (all : Bool) (lines : List (List ℕ)) (text : List 
     → Looks d all (text ∷ lines) new
 took_next d all lines text old new late goes rests k =
     let on = looks_on k.rules all lines text old new goes rests k.looked in
-    record {
-      rules = k.rules;
-      ruled = ruled_more d lines text k.rules (sym k.awaits ∙ late) k.ruled;
-      looked = on.0;
-      awaits = on.1 ∙ late;
-    }
+    grind (arith, on, (ruled_more d lines text k.rules (sym k.awaits ∙ late) k.ruled))
 
 -- ---- the first line
 
--- no line was taken in yet
-first_by : (lines : List (List ℕ)) → awaits_first lines ≡ true → lines ≡ []
-first_by [] is = refl
-first_by (line ∷ before) is = absurd cc
+-- where the first line is awaited, none was taken in yet
+at_first : (d : Rules) (all : Bool) (lines : List (List ℕ)) (text : List ℕ) (old new : Checker)
+    → old.awaits ≡ true → (LooksBy d all [] old → Looks d all (text ∷ []) new) → Looks d all lines old
+    → Looks d all (text ∷ lines) new
+at_first d all [] text old new waits made k = made (rw k.ruled at k.looked)
+at_first d all (line ∷ before) text old new waits made k = absurd (cc (k.awaits, waits))
 
--- the checker before the first line
-first_looks : (d : Rules) (all : Bool) (lines : List (List ℕ)) (c : Checker) → lines ≡ []
-    → Looks d all lines c → LooksBy d all [] c
-first_looks d all lines c none k =
-    let at : AreJudgedBy d [] k.rules = subst (λ (ls : List (List ℕ)). AreJudgedBy d ls k.rules) none k.ruled in
-    subst (λ (ls : List (List ℕ)). LooksBy d all ls c) none
-    (subst (λ (r : Option Rules). LooksIf r all lines c) at k.looked)
-
-none_told : (g : Rules) (found : List Found) → lines_of found ≡ [] → told_of_all g found ≡ []
-none_told g [] is = refl
-none_told g (x ∷ before) is = absurd cc
+none_found : (found : List Found) → lines_of found ≡ [] → found ≡ []
+none_found [] is = refl
+none_found (x ∷ before) is = absurd cc
 
 -- the checker's machine and its text were put in the place of others, before the first line
 abbrev pub with_follower : Checker → Follower → Checker
@@ -70,41 +54,17 @@ with_follower c m = record c { machine = m; awaits = false }
 fresh : (given g : Rules) (all : Bool) (old : Checker) (m : Follower) → LooksBy given all [] old
     → rules_of m ≡ g → FitsBy m [] → LooksBy g all [] (with_follower old m)
 fresh given g all old m l same fits =
-    from l.found l.lines_are l.numbered l.counted l.decided l.stopped l.told l.fits.1 l.is_all
-  where
-    from : (found : List Found) → lines_of found ≡ [] → old.number ≡ line_number (length found) → old.steps ≡ steps_of found → old.verdict ≡ verdict_of found → old.is_over ≡ has_stopped all found → string_bytes old.report ≡ told_of_all given found → old.posters.items ≡ posters (rules_of old.machine).setup (history_after found) → old.is_all ≡ all → LooksBy g all [] (with_follower old m)
-    from [] none n c v s t p a = record { found = []; are = tt; lines_are = refl; is_all = a; same = same; fits = (fits, p); numbered = n; counted = c; decided = v; stopped = s; told = t }
-    from (x ∷ before) none n c v s t p a = absurd cc
+    let none = none_found l.found l.lines_are in
+    grind (arith, none)
 
 -- a first line that says no set-up
 pub took_first : (d : Rules) (all : Bool) (lines : List (List ℕ)) (text : List ℕ) (old new : Checker)
     → old.awaits ≡ true → IsSaid text Nothing → Goes text (record old { awaits = false }) new
     → Looks d all lines old → Looks d all (text ∷ lines) new
-took_first d all lines text old new waits said goes k =
-    let none : lines ≡ [] = first_by lines (sym k.awaits ∙ waits) in
-    let l : LooksBy d all [] old = first_looks d all lines old none k in
-    subst (λ (ls : List (List ℕ)). Looks d all (text ∷ ls) new) (sym none)
-    (record {
-      rules = Some d;
-      ruled = (Nothing, said, refl);
-      looked = (goes d all [] (again old l)).0;
-      awaits = (goes d all [] (again old l)).1;
-    })
-  where
-    again : (c : Checker) → LooksBy d all [] c → LooksBy d all [] (record c { awaits = false })
-    again c l = record {
-      found = l.found;
-      are = l.are;
-      lines_are = l.lines_are;
-      is_all = l.is_all;
-      same = l.same;
-      fits = l.fits;
-      numbered = l.numbered;
-      counted = l.counted;
-      decided = l.decided;
-      stopped = l.stopped;
-      told = l.told;
-    }
+took_first d all lines text old new waits said goes = at_first d all lines text old new waits (λ l.
+    let fits : FitsBy old.machine [] = rw (none_found l.found l.lines_are) at l.fits.0 in
+    let on = goes d all [] (fresh d d all old old.machine l l.same fits) in
+    record { rules = Some d; ruled = (Nothing, said, refl); looked = on.0; awaits = on.1 })
 
 -- rules of this set-up
 abbrev pub with_setup : Setup → Ends → Rules
@@ -116,18 +76,11 @@ pub took_setup : (d : Rules) (all : Bool) (lines : List (List ℕ)) (text : List
     → rules_of m ≡ with_setup s (rules_of old.machine).ends → FitsBy m []
     → Goes text (with_follower old m) new → Looks d all lines old
     → Looks d all (text ∷ lines) new
-took_setup d all lines text s old new m waits said rules fits goes k =
-    let none : lines ≡ [] = first_by lines (sym k.awaits ∙ waits) in
-    let l : LooksBy d all [] old = first_looks d all lines old none k in
+took_setup d all lines text s old new m waits said rules fits goes = at_first d all lines text old new waits (λ l.
     let g : Rules = with_setup s d.ends in
     let same : rules_of m ≡ g = rules ∙ ap (λ (r : Rules). with_setup s r.ends) l.same in
-    subst (λ (ls : List (List ℕ)). Looks d all (text ∷ ls) new) (sym none)
-    (record {
-      rules = Some g;
-      ruled = (Says s, said, refl);
-      looked = (goes g all [] (fresh d g all old m l same fits)).0;
-      awaits = (goes g all [] (fresh d g all old m l same fits)).1;
-    })
+    let on = goes g all [] (fresh d g all old m l same fits) in
+    record { rules = Some g; ruled = (Says s, said, refl); looked = on.0; awaits = on.1 })
 
 -- a first line that is to say one and says none
 pub took_missed : (d : Rules) (all : Bool) (lines : List (List ℕ)) (text : List ℕ) (old mid new : Checker)
@@ -135,12 +88,9 @@ pub took_missed : (d : Rules) (all : Bool) (lines : List (List ℕ)) (text : Lis
     → new ≡ record mid { verdict = verdict.Bad; is_over = true; report = new.report }
     → string_bytes new.report ≡ string_bytes mid.report ++ missed_text → Looks d all lines old
     → Looks d all (text ∷ lines) new
-took_missed d all lines text old mid new waits said begun is told k =
-    let none : lines ≡ [] = first_by lines (sym k.awaits ∙ waits) in
-    let l : LooksBy d all [] old = first_looks d all lines old none k in
-    let empty : string_bytes mid.report ≡ [] = ap (λ (c : Checker). string_bytes c.report) begun ∙ l.told ∙ none_told d l.found l.lines_are in
-    subst (λ (ls : List (List ℕ)). Looks d all (text ∷ ls) new) (sym none)
-    (record {
+took_missed d all lines text old mid new waits said begun is told = at_first d all lines text old new waits (λ l.
+    let empty : string_bytes mid.report ≡ [] = ap (λ (c : Checker). string_bytes c.report) begun ∙ l.told ∙ ap (told_of_all d) (none_found l.found l.lines_are) in
+    record {
       rules = None;
       ruled = (Misses, said, refl);
       looked = (ap (λ (c : Checker). c.is_over) is, ap (λ (c : Checker). c.verdict) is, told ∙ ap (λ (t : List ℕ). t ++ missed_text) empty);
@@ -149,27 +99,7 @@ took_missed d all lines text old mid new waits said begun is told k =
 
 -- ---- the end
 
-told_if : (rules : Option Rules) (all : Bool) (lines : List (List ℕ)) (c : Checker) (text : List ℕ)
-    → text ≡ string_bytes c.report ++ closing c.verdict c.steps → LooksIf rules all lines c
-    → IsToldIf rules all lines c.verdict text
-told_if (Some g) all lines c text is l = record {
-  found = l.found;
-  are = l.are;
-  lines_are = l.lines_are;
-  decided = l.decided;
-  reported =
-      is ∙ ap (λ (t : List ℕ). t ++ closing c.verdict c.steps) l.told
-      ∙ ap (λ (v : Verdict). told_of_all g l.found ++ closing v c.steps) l.decided
-      ∙ ap (λ (n : ℕ). told_of_all g l.found ++ closing (verdict_of l.found) n) l.counted;
-}
-told_if None all lines c text is l =
-    (l.1, is ∙ ap (λ (v : Verdict). string_bytes c.report ++ closing v c.steps) l.1 ∙ append-nil (string_bytes c.report) ∙ l.2)
-
 pub ends_told : (d : Rules) (all : Bool) (lines : List (List ℕ)) (c : Checker) (text : List ℕ)
     → text ≡ string_bytes c.report ++ closing c.verdict c.steps → Looks d all lines c
     → IsTold d all lines c.verdict text
-ends_told d all lines c text is k = record {
-  rules = k.rules;
-  ruled = k.ruled;
-  told = told_if k.rules all lines c text is k.looked;
-}
+ends_told d all lines c text is k = grind (arith, append-nil)

@@ -1,10 +1,10 @@
 -- What findings say of the text of a lawful history.
-use Rattle.std.proofs.Common.{◌≡◌, ◌⊎◌, ℕ, Bool, false, List, [], ◌∷◌, refl, sym, ap, subst, ◌∙◌, inl, inr}
-use Rattle.uring_check.proofs.Common.{Answer, AreFound, AreRecorded, Finding, Found, History, IsCalled, IsFinding, IsFindingAfter, IsLawfulBy, IsLawfulText, IsPlain, Records, Rules, Step, Verdict, first_fault, has_stopped, history_after, is_apart, judged, lines_of, text_of, true≢false, verdict_of}
+use Rattle.std.proofs.Common.{◌≡◌, ◌⊎◌, ℕ, Bool, false, List, [], ◌∷◌, refl, sym, ap, ◌∙◌, inl, inr, arith}
+use Rattle.uring_check.proofs.Common.{Answer, AreFound, AreRecorded, Finding, Found, History, IsCalled, IsFinding, IsLawfulBy, IsLawfulText, Records, Rules, Step, Verdict, has_stopped, history_after, judged, lines_of, text_of, true≢false, verdict_of}
 use Rattle.uring_check.specs.Checks.{Says}
 use Rattle.uring_check.specs.Findings as finding
 use Rattle.uring_check.specs.declared.verdict.Verdict.TheVariants as verdict
-use Rattle.uring_check.proofs.RuleLaws.{called_first, called_once, lawful_more, lawful_none, lawful_rest}
+use Rattle.uring_check.proofs.RuleLaws.{called_once, lawful_first}
 use Rattle.uring_check.proofs.Splitting.{record_once}
 
 -- the history is lawful, these lines are its text, and no check stopped at one of them
@@ -13,51 +13,30 @@ pub record IsRight (g : Rules) (all : Bool) (xs : List Found) : Type 0 where
   pub recorded : AreRecorded g (lines_of xs) (history_after xs)
   pub goes_on : has_stopped all xs ≡ false
 
-no_fault : (v : Verdict) → first_fault v verdict.Wrong ≡ verdict.Lawful → ⊥
-no_fault verdict.Lawful e = absurd cc
-no_fault verdict.Wrong e = absurd cc
-no_fault verdict.Bad e = absurd cc
-
-no_bad : (v : Verdict) → first_fault v verdict.Bad ≡ verdict.Lawful → ⊥
-no_bad verdict.Lawful e = absurd cc
-no_bad verdict.Wrong e = absurd cc
-no_bad verdict.Bad e = absurd cc
+-- where there is no fault, there was none before, nor is this finding one
+no_fault : (v : Verdict) (f : Finding) → judged v f ≡ verdict.Lawful
+    → (v ≡ verdict.Lawful) × (judged verdict.Lawful f ≡ verdict.Lawful)
+no_fault v f e = grind arith
 
 -- one line more
 right_more : (g : Rules) (all : Bool) (before : List Found) (line : List ℕ) (f : Finding)
-    → IsFindingAfter (has_stopped all before) g (history_after before) line f
-    → judged (verdict_of before) f ≡ verdict.Lawful
-    → (verdict_of before ≡ verdict.Lawful → IsRight g all before)
+    → IsFinding g (history_after before) line f → judged verdict.Lawful f ≡ verdict.Lawful → IsRight g all before
     → IsRight g all (record { line = line; finding = f } ∷ before)
-right_more g all before line finding.Passed is v prior =
-    let r = prior v in
-    let so = subst (λ (b : Bool). IsFindingAfter b g (history_after before) line finding.Passed) r.goes_on is in
-    record { lawful = r.lawful; recorded = inl (so, r.recorded); goes_on = r.goes_on }
-right_more g all before line (finding.Right s a) is v prior =
-    let r = prior v in
-    let so = subst (λ (b : Bool). IsFindingAfter b g (history_after before) line (finding.Right s a)) r.goes_on is in
-    record {
-      lawful = lawful_more g s a (history_after before) so.2 r.lawful;
-      recorded = inr ((s, a), history_after before, refl, (so.0, so.1), r.recorded);
-      goes_on = r.goes_on;
-    }
-right_more g all before line (finding.Wrong s wanted) is v prior =
-    absurd (no_fault (verdict_of before) v)
-right_more g all before line finding.Bad is v prior = absurd (no_bad (verdict_of before) v)
-right_more g all before line finding.Skipped is v prior =
-    let r = prior v in
-    absurd (subst (λ (b : Bool). IsFindingAfter b g (history_after before) line finding.Skipped) r.goes_on is)
+right_more g all before line finding.Passed is v r =
+    record { lawful = r.lawful; recorded = inl (is, r.recorded); goes_on = r.goes_on }
+right_more g all before line (finding.Right s a) is v r =
+    let recorded = inr ((s, a), history_after before, refl, (is.0, is.1), r.recorded) in
+    record { lawful = grind (arith, is.2, r.lawful); recorded = recorded; goes_on = r.goes_on }
+right_more g all before line finding.Skipped is v r = absurd is
+right_more g all before line _ is v r = absurd cc
 
 pub all_right : (g : Rules) (all : Bool) (xs : List Found) → AreFound g all xs
     → verdict_of xs ≡ verdict.Lawful → IsRight g all xs
-all_right g all [] are v = record { lawful = lawful_none g; recorded = refl; goes_on = refl }
+all_right g all [] are v = record { lawful = grind arith; recorded = refl; goes_on = refl }
 all_right g all (x ∷ before) are v =
-    right_more g all before x.line x.finding are.0 v (all_right g all before are.1)
-
-pub lawful_said : (g : Rules) (all : Bool) (xs : List Found) → AreFound g all xs
-    → verdict_of xs ≡ verdict.Lawful → IsLawfulText g (lines_of xs)
-lawful_said g all xs are v =
-    let r = all_right g all xs are v in (history_after xs, r.lawful, r.recorded)
+    let none = no_fault (verdict_of before) x.finding v in
+    let r = all_right g all before are.1 none.0 in
+    right_more g all before x.line x.finding (rw r.goes_on at are.0) none.1 r
 
 -- ---- one lawful history has the text
 
@@ -67,10 +46,7 @@ same_event : (g : Rules) (past known : History) (line : List ℕ) (s t : Step) (
     → IsCalled g known s a → ((t, b) ∷ past) ≡ ((s, a) ∷ known)
 same_event g past known line s t a b same rec is called right =
     let once = record_once line t s (text_of b) (text_of a) rec.0 is.0 in
-    let there : IsCalled g known t b = subst (λ (h : History). IsCalled g h t b) same called in
-    let here : IsCalled g known s b = subst (λ (x : Step). IsCalled g known x b) once.0 there in
-    let plain : IsPlain b (is_apart g.ends) s = subst (λ (x : Step). IsPlain b (is_apart g.ends) x) once.0 rec.1 in
-    let answers : b ≡ a = called_once g known s b a here right once.1 plain is.1 in
+    let answers : b ≡ a = called_once g known s b a (rw (same, once.0) at called) right once.1 (rw once.0 at rec.1) is.1 in
     λ i. (once.0 i, answers i) ∷ same i
 
 pub same_history : (g : Rules) (lines : List (List ℕ)) (h k : History) → IsLawfulBy g h
@@ -80,66 +56,50 @@ same_history g (line ∷ lines) h k p (inl x) q (inl y) = same_history g lines h
 same_history g (line ∷ lines) h k p (inl x) q (inr y) = absurd (x.0.0 y.0.0 (text_of y.0.1) y.3.0)
 same_history g (line ∷ lines) h k p (inr x) q (inl y) = absurd (y.0.0 x.0.0 (text_of x.0.1) x.3.0)
 same_history g (line ∷ lines) h k p (inr x) q (inr y) =
-    let one : IsLawfulBy g (x.0 ∷ x.1) = subst (IsLawfulBy g) x.2 p in
-    let other : IsLawfulBy g (y.0 ∷ y.1) = subst (IsLawfulBy g) y.2 q in
-    let past : x.1 ≡ y.1 = same_history g lines x.1 y.1 (lawful_rest g x.0.0 x.0.1 x.1 one) x.4 (lawful_rest g y.0.0 y.0.1 y.1 other) y.4 in
-    x.2 ∙ same_event g x.1 y.1 line y.0.0 x.0.0 y.0.1 x.0.1 past x.3 y.3 (called_first g x.0.0 x.0.1 x.1 one) (called_first g y.0.0 y.0.1 y.1 other) ∙ sym y.2
+    let one = lawful_first g x.0.0 x.0.1 x.1 (rw x.2 at p) in
+    let other = lawful_first g y.0.0 y.0.1 y.1 (rw y.2 at q) in
+    let past : x.1 ≡ y.1 = same_history g lines x.1 y.1 one.1 x.4 other.1 y.4 in
+    x.2 ∙ same_event g x.1 y.1 line y.0.0 x.0.0 y.0.1 x.0.1 past x.3 y.3 one.0 other.0 ∙ sym y.2
 
 -- ---- the text of no lawful history
-
--- the finding of a line after right ones
-found_next : (g : Rules) (all : Bool) (x : Found) (before : List Found)
-    → AreFound g all (x ∷ before) → verdict_of before ≡ verdict.Lawful
-    → IsFinding g (history_after before) x.line x.finding
-found_next g all x before are v = subst (λ (b : Bool). IsFindingAfter b g (history_after before) x.line x.finding) (all_right g all before are.1 v).goes_on are.0
 
 -- the lines before are the text of a lawful history too
 lawful_before : (g : Rules) (line : List ℕ) (lines : List (List ℕ)) → IsLawfulText g (line ∷ lines)
     → IsLawfulText g lines
 lawful_before g line lines (h, lawful, inl passed) = (h, lawful, passed.1)
-lawful_before g line lines (h, lawful, inr r) = let so : IsLawfulBy g (r.0 ∷ r.1) = subst (IsLawfulBy g) r.2 lawful in (r.1, lawful_rest g r.0.0 r.0.1 r.1 so, r.4)
+lawful_before g line lines (h, lawful, inr r) = (r.1, (lawful_first g r.0.0 r.0.1 r.1 (rw r.2 at lawful)).1, r.4)
 
 -- the first line that isn't right is no line of a lawful history
 none_more : (g : Rules) (line : List ℕ) (lines : List (List ℕ)) (known h : History) (f : Finding)
     → IsFinding g known line f → (judged verdict.Lawful f ≡ verdict.Lawful → ⊥)
     → ((past : History) → IsLawfulBy g past → AreRecorded g lines past → past ≡ known)
     → IsLawfulBy g h → AreRecorded g (line ∷ lines) h → ⊥
-none_more g line lines known h finding.Passed is v prior lawful rec = v refl
-none_more g line lines known h (finding.Right s a) is v prior lawful rec = v refl
 none_more g line lines known h (finding.Wrong s wanted) is v prior lawful (inl passed) =
     passed.0.0 s is.0 is.1
 none_more g line lines known h (finding.Wrong s wanted) is v prior lawful (inr r) =
-    let so : IsLawfulBy g (r.0 ∷ r.1) = subst (IsLawfulBy g) r.2 lawful in
+    let so = lawful_first g r.0.0 r.0.1 r.1 (rw r.2 at lawful) in
     let once = record_once line r.0.0 s (text_of r.0.1) is.0 r.3.0 is.1 in
-    let there : IsCalled g known r.0.0 r.0.1 = subst (λ (past : History). IsCalled g past r.0.0 r.0.1) (prior r.1 (lawful_rest g r.0.0 r.0.1 r.1 so) r.4) (called_first g r.0.0 r.0.1 r.1 so) in
-    is.2.not_called r.0.1 (subst (λ (x : Step). IsCalled g known x r.0.1) once.0 there) once.1 (subst (λ (x : Step). IsPlain r.0.1 (is_apart g.ends) x) once.0 r.3.1)
+    is.2.not_called r.0.1 (rw (prior r.1 so.1 r.4, once.0) at so.0) once.1 (rw once.0 at r.3.1)
 none_more g line lines known h finding.Bad is v prior lawful (inl passed) =
     true≢false (sym passed.0.1 ∙ is.1)
 none_more g line lines known h finding.Bad is v prior lawful (inr r) =
     is.0 r.0.0 (text_of r.0.1) r.3.0
-none_more g line lines known h finding.Skipped is v prior lawful rec = v refl
-
--- a verdict is that of no fault, or isn't
-no_fault_or_one : (v : Verdict) → (v ≡ verdict.Lawful) ⊎ (v ≡ verdict.Lawful → ⊥)
-no_fault_or_one verdict.Lawful = inl refl
-no_fault_or_one verdict.Wrong = inr (λ e. absurd cc)
-no_fault_or_one verdict.Bad = inr (λ e. absurd cc)
+none_more g line lines known h _ is v prior lawful rec = v refl
 
 unlawful_said : (g : Rules) (all : Bool) (xs : List Found) → AreFound g all xs
     → (verdict_of xs ≡ verdict.Lawful → ⊥) → IsLawfulText g (lines_of xs) → ⊥
 unlawful_said g all [] are v is = v refl
-unlawful_said g all (x ∷ before) are v is = elim (no_fault_or_one (verdict_of before)) [
-  | inl so ↦
-      let r = all_right g all before are.1 so in
-      none_more g x.line (lines_of before) (history_after before) is.0 x.finding (found_next g all x before are so) (λ e. v (ap (λ (w : Verdict). judged w x.finding) so ∙ e))
-      (λ past lawful rec. same_history g (lines_of before) past (history_after before) lawful rec r.lawful r.recorded) is.1 is.2
-  | inr fault ↦ unlawful_said g all before are.1 fault (lawful_before g x.line (lines_of before) is)
-]
+unlawful_said g all (x ∷ before) are v is =
+    let either : (verdict_of before ≡ verdict.Lawful) ⊎ (verdict_of before ≡ verdict.Lawful → ⊥) = grind arith in elim either [
+      | inl so ↦
+          let r = all_right g all before are.1 so in
+          none_more g x.line (lines_of before) (history_after before) is.0 x.finding (rw r.goes_on at are.0) (λ e. v (ap (λ (w : Verdict). judged w x.finding) so ∙ e))
+          (λ past lawful rec. same_history g (lines_of before) past (history_after before) lawful rec r.lawful r.recorded) is.1 is.2
+      | inr fault ↦ unlawful_said g all before are.1 fault (lawful_before g x.line (lines_of before) is)
+    ]
 
 pub said : (g : Rules) (all : Bool) (xs : List Found) (v : Verdict) → AreFound g all xs
     → v ≡ verdict_of xs → Says g (lines_of xs) v
-said g all xs verdict.Lawful are e = lawful_said g all xs are (sym e)
-said g all xs verdict.Wrong are e =
-    unlawful_said g all xs are (λ v. let no : verdict.Wrong ≡ verdict.Lawful = e ∙ v in absurd cc)
-said g all xs verdict.Bad are e =
-    unlawful_said g all xs are (λ v. let no : verdict.Bad ≡ verdict.Lawful = e ∙ v in absurd cc)
+said g all xs verdict.Lawful are e =
+    let r = all_right g all xs are (sym e) in (history_after xs, r.lawful, r.recorded)
+said g all xs _ are e = unlawful_said g all xs are (λ v. absurd (cc (e, v)))

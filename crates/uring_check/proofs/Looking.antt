@@ -1,11 +1,10 @@
 -- What a checker makes of lines.
-use Rattle.std.proofs.Common.{◌≡◌, ℕ, ◌+◌, ◌-◌, ◌^◌, min, Bool, true, false, not, ◌||◌, List, ◌∷◌, ◌++◌, length, Option, Some, None, refl, sym, ap, subst, ◌∙◌, append_assoc, arith}
-use Rattle.uring_check.proofs.Common.{CalledBy, Checker, FitsBy, Follower, History, IsFinding, IsFindingAfter, IsNoRecord, IsRecord, IsStanding, Judges, Knows, Looked, LooksAt, LooksBy, Rules, Setup, Step, Verdict, Wanted, append-nil, codes, completion_wanted, counted_with, entry_asked, first_fault, has_stopped, history_after, judged, line_text, noted_poster, posters, reasons_by, reasons_told, rules_of, stops, string_bytes, told_of, told_of_all, wanted_text, why_bad, with_finding, world}
+use Rattle.std.proofs.Common.{◌≡◌, ℕ, ◌+◌, ◌-◌, ◌^◌, min, Bool, true, false, not, List, ◌∷◌, ◌++◌, length, Some, None, refl, sym, ap, subst, ◌∙◌, append_assoc, arith}
+use Rattle.uring_check.proofs.Common.{CalledBy, Checker, FitsBy, Follower, History, IsFinding, IsFindingAfter, IsNoRecord, IsRecord, IsStanding, Judges, Knows, Looked, LooksAt, LooksBy, Rules, Setup, Step, Verdict, Wanted, append-nil, codes, completion_wanted, counted_with, entry_asked, first_fault, has_stopped, history_after, judged, line_text, noted_poster, posters, reasons_by, reasons_told, rules_of, string_bytes, told_of_all, wanted_text, why_bad, with_finding, world}
 use Rattle.std.specs.declared.alloc.Global.{Global}
 use Rattle.std.specs.declared.string.String.{String}
 use Rattle.std.specs.declared.vec.Vec.{Vec}
 use Rattle.std.proofs.Math.Bool.{or-false}
-use Rattle.uring_entry.specs.Layout.{Sqe}
 use Rattle.uring_trace.specs.Explanations.{line_number}
 use Rattle.uring_text.specs.Lines.{ended}
 use Rattle.uring_text.specs.Remarks.{is_remark}
@@ -23,26 +22,8 @@ pub looked_passed : (c : Checker) (line : List ℕ) (h : History) → IsNoRecord
     → is_remark line ≡ true → c.is_over ≡ false → Knows c h → Looked c c line h
 looked_passed c line h none remark over fits = grind (arith, append-nil)
 
-three_parts : (i a b c : List ℕ) → i ++ a ++ b ++ c ≡ i ++ (a ++ b ++ c)
-three_parts i a b c = simp append_assoc refl
-
-bad_told : (g : Rules) (h : History) (n : ℕ) (line items : List ℕ)
-    → items ++ line_text n ++ ended (codes "bad line") ++ why_bad line
-    ≡ items ++ told_of g h n line finding.Bad
-bad_told g h n line items = three_parts items (line_text n) (ended (codes "bad line")) (why_bad line)
-
 regroup : (i a b c d e : List ℕ) → i ++ a ++ b ++ c ++ d ++ e ≡ i ++ (a ++ b ++ c ++ d ++ e)
 regroup i a b c d e = simp append_assoc refl
-
-wrong_told : (g : Rules) (h : History) (n : ℕ) (line items : List ℕ) (s : Step) (wanted : Wanted)
-    → items ++ line_text n ++ ended (visible_line line) ++ codes "wanted: " ++ ended (wanted_text (entry_asked g h s) wanted) ++ reasons_told g.setup h s wanted
-    ≡ items ++ told_of g h n line (finding.Wrong s wanted)
-wrong_told g h n line items s wanted = regroup items (line_text n) (ended (visible_line line)) (codes "wanted: ") (ended (wanted_text (entry_asked g h s) wanted)) (reasons_told g.setup h s wanted)
-
--- they are those of what was asked
-reasons_are : (g : Rules) (h : History) (s : Step) (x : Standing) (wanted : Wanted) → IsStanding g h s x
-    → reasons_by x (completion_wanted wanted) ≡ reasons_told g.setup h s wanted
-reasons_are g h s x wanted is = rw (is.why, is.chosen, is.found, is.poster) refl
 
 -- a checker that found a bad line, and told it
 abbrev pub found_bad : Checker → String Global → Checker
@@ -54,7 +35,7 @@ pub looked_bad : (old mid : Checker) (report : String Global) (line : List ℕ) 
     → string_bytes report ≡ string_bytes mid.report ++ line_text mid.number ++ ended (codes "bad line") ++ why_bad line
     → Looked old (found_bad mid report) line h
 looked_bad old mid report line h is none remark fits =
-    grind (arith, (bad_told (rules_of old.machine) h old.number line (string_bytes old.report)), (rules_of old.machine))
+    grind (arith, append_assoc, (rules_of old.machine))
 
 -- a checker whose machine made a step, to which this text was told
 abbrev pub with_machine : Checker → Follower → AnswerText → Vec ℕ Global → Checker
@@ -105,12 +86,13 @@ looked_wrong old new m t p before after s text line wanted x notes same asked ju
     let j = judges h f.0 in
     let eq : (rules_of old.machine).setup ≡ (rules_of m).setup = ap (λ (r : Rules). r.setup) (sym same) in
     let later : History = with_finding (finding.Wrong s wanted) h in
-    let known : p.items ≡ posters (rules_of m).setup later = knows_resumed (rules_of m).setup s wanted h old.posters.items p.items before after (fits_lawful m later j.1) (f.1 ∙ ap (λ (g : Setup). posters g h) eq) (notes.before_is h f ∙ ap (λ (g : Setup). length (world g h).completions.posted) eq) (notes.after_is later j.1) notes.more in
+    let known = asked h f in
+    let noted : p.items ≡ posters (rules_of m).setup later = knows_resumed (rules_of m).setup s wanted h old.posters.items p.items before after (fits_lawful m later j.1) (f.1 ∙ ap (λ (g : Setup). posters g h) eq) (notes.before_is h f ∙ ap (λ (g : Setup). length (world g h).completions.posted) eq) (notes.after_is later j.1) notes.more in
     record {
       finding = finding.Wrong s wanted;
       is_so = (text, rec, j.0);
       same = ap (λ (c : Checker). rules_of c.machine) is ∙ same;
-      fits = subst (λ (c : Checker). Knows c later) (sym is) (j.1, known);
+      fits = subst (λ (c : Checker). Knows c later) (sym is) (j.1, noted);
       is_all = ap (λ (c : Checker). c.is_all) is;
       awaits = ap (λ (c : Checker). c.awaits) is;
       numbered = ap (λ (c : Checker). c.number) is;
@@ -118,10 +100,8 @@ looked_wrong old new m t p before after s text line wanted x notes same asked ju
       decided = ap (λ (c : Checker). c.verdict) is;
       stopped = ap (λ (c : Checker). c.is_over) is;
       told =
-          told
-          ∙ ap (λ (e : Option Sqe). string_bytes old.report ++ line_text old.number ++ ended (visible_line line) ++ codes "wanted: " ++ ended (wanted_text e wanted) ++ reasons_by x (completion_wanted wanted)) (asked h f).asked
-          ∙ ap (λ (w : List ℕ). string_bytes old.report ++ line_text old.number ++ ended (visible_line line) ++ codes "wanted: " ++ ended (wanted_text (entry_asked (rules_of old.machine) h s) wanted) ++ w) (reasons_are (rules_of old.machine) h s x wanted (asked h f))
-          ∙ wrong_told (rules_of old.machine) h old.number line (string_bytes old.report) s wanted;
+          (rw (known.asked, known.why, known.chosen, known.found, known.poster) at told)
+          ∙ regroup (string_bytes old.report) (line_text old.number) (ended (visible_line line)) (codes "wanted: ") (ended (wanted_text (entry_asked (rules_of old.machine) h s) wanted)) (reasons_told (rules_of old.machine).setup h s wanted);
     }
 
 -- ---- all lines
@@ -145,14 +125,8 @@ took_looked g all lines old mid n line next over looks k =
       numbered = omega (arith, next, number);
       counted = l.counted ∙ ap (λ (x : ℕ). counted_with l.finding x) k.counted;
       decided = l.decided ∙ ap (λ (v : Verdict). judged v l.finding) k.decided;
-      stopped =
-          l.stopped ∙ ap (λ (b : Bool). stops b l.finding) k.is_all
-          ∙ sym (or-false (stops all l.finding))
-          ∙ ap (λ (b : Bool). stops all l.finding || b) (sym none);
-      told =
-          l.told ∙ ap (λ (t : List ℕ). t ++ told_of (rules_of old.machine) past old.number line l.finding) k.told
-          ∙ ap (λ (x : Rules). told_of_all g k.found ++ told_of x past old.number line l.finding) k.same
-          ∙ ap (λ (x : ℕ). told_of_all g k.found ++ told_of g past x line l.finding) k.numbered;
+      stopped = l.stopped ∙ rw (k.is_all, none, or-false);
+      told = l.told ∙ rw (k.told, k.same, k.numbered);
     }
 
 pub took_awaits : (g : Rules) (all : Bool) (lines : List (List ℕ)) (old mid : Checker) (line : List ℕ)

@@ -1,55 +1,37 @@
 -- Whose completions were posted.
-use Rattle.std.proofs.Common.{◌≡◌, ℕ, Bool, List, [], ◌∷◌, ◌++◌, length, Some, sym, ap, ◌∙◌, append-nil, arith}
-use Rattle.uring_check.proofs.Common.{Answer, AnyEnd, CallOrAgain, EndOrNoMemory, Ending, FitsBy, Follower, History, IsLawfulApart, Only, Setup, Step, Wanted, World, entry_of, if◌then◌else◌, le-leb, length-append, noted_poster, number_in, poster_of, posters, resumed, rules_of, world}
+use Rattle.std.proofs.Common.{◌≡◌, ℕ, Bool, List, [], ◌∷◌, ◌++◌, length, Some, append-nil, arith}
+use Rattle.uring_check.proofs.Common.{Answer, Ending, FitsBy, Follower, History, IsLawfulApart, Only, Setup, Step, Wanted, World, entry_of, if◌then◌else◌, length-append, noted_poster, number_in, poster_of, posters, resumed, rules_of, world}
 use Rattle.uring_entry.specs.Completions.{Completions, completion_for, with_posted}
 use Rattle.uring_entry.specs.Layout.{Cqe}
 use Rattle.uring_rules.specs.Rules.{posts}
 use Rattle.uring_core.specs.Events.{end_told_by}
+use Rattle.uring_core.specs.declared.answer.Answer.TheVariants as answer
 use Rattle.uring_core.specs.declared.step.Step.TheVariants as step
 use Rattle.uring_core.specs.declared.wanted.Refusal.TheVariants as refusal
 use Rattle.uring_core.proofs.CompletionMoves.{CompletionMove, stays, ends, completion_move}
 
 -- ---- what one step posts
 
-issue_end : (n : ℕ) (a : Answer) (e : Ending) → end_told_by (step.Issue n, a) ≡ Some e
-    → n ∷ [] ≡ e.number ∷ []
-issue_end n a e is = grind arith
-
-finish_end : (n : ℕ) (a : Answer) (e : Ending) → end_told_by (step.Finish n, a) ≡ Some e
-    → n ∷ [] ≡ e.number ∷ []
-finish_end n a e is = grind arith
-
 -- the request of an end is that of its step
 number_told : (s : Step) (a : Answer) (e : Ending) → end_told_by (s, a) ≡ Some e
     → number_in s ≡ e.number ∷ []
-number_told (step.Issue n) a e is = issue_end n a e is
-number_told (step.Finish n) a e is = finish_end n a e is
-number_told _ a e is = absurd cc
-
--- nothing was posted
-none_noted : (s : Step) (n : ℕ) → noted_poster s n n ≡ []
-none_noted s n = ap (λ (b : Bool). if b then [] else number_in s) (le-leb n n (omega arith))
-
--- one more was posted
-one_noted : (s : Step) (posted : List Cqe) (c : Cqe)
-    → noted_poster s (length posted) (length (posted ++ c ∷ [])) ≡ number_in s
-one_noted s posted c = grind (arith, length-append)
+number_told (step.Issue n) (answer.Ended res bytes) e is = cc
+number_told (step.Finish n) (answer.Ended res bytes) e is = cc
+number_told _ _ e is = absurd cc
 
 end_noted : (s : Step) (size n : ℕ) (l : Completions) (c : Cqe) (posts : Bool)
     → number_in s ≡ n ∷ []
     → noted_poster s (length l.posted) (length (if posts then with_posted size l c else l).posted)
     ≡ (if posts then n ∷ [] else [])
-end_noted s size n l c posts is = grind (arith, one_noted)
+end_noted s size n l c posts is = grind (arith, length-append)
 
 noted_by : (g : Setup) (w : World) (s : Step) (a : Answer) (v : World) → CompletionMove g w s a v
     → noted_poster s (length w.completions.posted) (length v.completions.posted)
     ≡ poster_of g.linux w.requests (end_told_by (s, a))
-noted_by g w s a v (stays _ _ l r is_closed off none left) =
-    none_noted s (length w.completions.posted) ∙ sym (ap (poster_of g.linux w.requests) none)
+noted_by g w s a v (stays _ _ l r is_closed off none left) = rw none (grind arith)
 noted_by g w s a v (ends _ _ n res bytes r off is same one) =
-    end_noted s g.cq n w.completions (completion_for (entry_of w.requests n) res bytes) (posts g.linux w.requests n res) (number_told s a (record { number = n; res = res; bytes = bytes }) is)
-    ∙ sym (ap (poster_of g.linux w.requests) is)
-noted_by g w s a v _ = none_noted s (length w.completions.posted)
+    rw is (end_noted s g.cq n w.completions (completion_for (entry_of w.requests n) res bytes) (posts g.linux w.requests n res) (number_told s a (record { number = n; res = res; bytes = bytes }) is))
+noted_by g w s a v _ = grind arith
 
 -- ---- what is known after a step
 
@@ -62,13 +44,6 @@ pub knows_step : (g : Setup) (s : Step) (a : Answer) (h : History) (known later 
 knows_step g s a h known later before after lawful is was now more =
     grind (arith, (noted_by g (world g h) s a (world g ((s, a) ∷ h)) (completion_move g s a h lawful)))
 
--- a step that counts as not made
-knows_same : (g : Setup) (s : Step) (h : History) (known later : List ℕ) (before after : ℕ)
-    → known ≡ posters g h → before ≡ length (world g h).completions.posted
-    → after ≡ length (world g h).completions.posted → later ≡ known ++ noted_poster s before after
-    → later ≡ posters g h
-knows_same g s h known later before after is was now more = grind (arith, append-nil)
-
 -- after a wrong answer
 pub knows_resumed : (g : Setup) (s : Step) (wanted : Wanted) (h : History) (known later : List ℕ) (before after : ℕ)
     → IsLawfulApart g (resumed s (refusal.Wrong wanted) h) → known ≡ posters g h
@@ -77,9 +52,7 @@ pub knows_resumed : (g : Setup) (s : Step) (wanted : Wanted) (h : History) (know
     → later ≡ known ++ noted_poster s before after
     → later ≡ posters g (resumed s (refusal.Wrong wanted) h)
 knows_resumed g s (Only x) h known later before after lawful is was now more = knows_step g s x h known later before after lawful is was now more
-knows_resumed g s (CallOrAgain count) h known later before after lawful is was now more = knows_same g s h known later before after is was now more
-knows_resumed g s AnyEnd h known later before after lawful is was now more = knows_same g s h known later before after is was now more
-knows_resumed g s (EndOrNoMemory res) h known later before after lawful is was now more = knows_same g s h known later before after is was now more
+knows_resumed g s _ h known later before after lawful is was now more = grind (arith, append-nil)
 
 -- a history that a follower fits is lawful apart from what operations gave
 pub fits_lawful : (m : Follower) (h : History) → FitsBy m h → IsLawfulApart (rules_of m).setup h

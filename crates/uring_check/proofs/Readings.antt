@@ -1,15 +1,15 @@
 -- What a reading takes in, byte by byte, and what is returned and written of it.
-use Rattle.std.proofs.Common.{◌≡◌, ◌≢◌, ℕ, Bool, List, [], ◌∷◌, ◌++◌, Option, Some, None, Result, Ok, Err, refl, sym, ap, subst, ◌∙◌}
+use Rattle.std.proofs.Common.{◌≡◌, ◌≢◌, ℕ, Bool, List, [], ◌∷◌, ◌++◌, Option, Result, Ok, Err, sym, ap, subst, arith}
 use Rattle.std.specs.Io.KnownBytes.{Consumes, Appends, IsAtEnd, Keeps}
 use Rattle.std.proofs.KnownBytes.{Consumes-nil, Consumes-trans, Consumes-kept, Appends-nil}
-use Rattle.uring_check.proofs.Common.{Checker, Has, Holds, IsTold, IsToldIf, Looks, ReadsIn, Rules, TakesIn, Verdict, append-nil}
+use Rattle.uring_check.proofs.Common.{Checker, Has, Holds, IsTold, Looks, ReadsIn, Rules, Verdict, append-nil}
 use Rattle.uring_text.specs.KeptLine.{KeptLine, kept_of}
 use Rattle.uring_text.specs.Lines.{with_last}
 use Rattle.uring_text.specs.Writing.{WritesText}
 use Rattle.uring_text.specs.declared.trace_fault.TraceFault.{TraceFault}
 use Rattle.uring_text.specs.declared.trace_fault.TraceFault.TheVariants as fault
 use Rattle.uring_text.proofs.Splits.{split_more, split_end, last_some}
-use Rattle.uring_check.specs.Checks.{AreLinesOf, IsReportedBy, IsVerdict, Says, Writes, ReadsAll, IsChecked}
+use Rattle.uring_check.specs.Checks.{AreLinesOf, IsVerdict, IsChecked}
 use Rattle.uring_check.specs.declared.reading.Reading.{Reading}
 use Rattle.uring_check.proofs.LawfulTexts.{said}
 
@@ -22,49 +22,20 @@ Takes kept old new = (g : Rules) (all : Bool) (lines : List (List ℕ)) (text : 
 pub took_line : (g : Rules) (all : Bool) (kept : KeptLine) (old new : Checker) (before : List ℕ)
     → Takes kept old new → Holds g all kept old before
     → Holds g all (kept_of []) new (before ++ 10 ∷ [])
-took_line g all kept old new before takes h = record {
-  whole = h.line ∷ h.whole;
-  line = [];
-  splits = split_end before h.whole h.line h.splits;
-  keeps = refl;
-  looks = takes g all h.whole h.line h.keeps h.looks;
-}
+took_line g all kept old new before takes h =
+    grind (arith, (split_end before h.whole h.line h.splits), (takes g all h.whole h.line h.keeps h.looks))
 
 -- one byte more of a line
 pub kept_byte : (g : Rules) (all : Bool) (kept kept' : KeptLine) (c : Checker) (before : List ℕ) (b : ℕ)
     → b ≢ 10 → ((line : List ℕ) → kept ≡ kept_of line → kept' ≡ kept_of (line ++ b ∷ []))
     → Holds g all kept c before → Holds g all kept' c (before ++ b ∷ [])
-kept_byte g all kept kept' c before b ne more h = record {
-  whole = h.whole;
-  line = h.line ++ b ∷ [];
-  splits = split_more before h.whole h.line b ne h.splits;
-  keeps = more h.line h.keeps;
-  looks = h.looks;
-}
+kept_byte g all kept kept' c before b ne more h = grind (arith, (split_more before h.whole h.line b ne h.splits))
 
 -- ---- the end of the input
 
-reported_by : (rules : Option Rules) (all : Bool) (lines : List (List ℕ)) (text : List ℕ) (v : Verdict)
-    → IsToldIf rules all lines v text → IsReportedBy rules all lines text v
-reported_by None all lines text v t = t
-reported_by (Some g) all lines text v t = record {
-  found = t.found;
-  are = t.are;
-  lines_are = t.lines_are;
-  decided = t.decided;
-  reported = t.reported;
-  says = subst (λ (ls : List (List ℕ)). Says g ls v) t.lines_are (said g all t.found v t.are t.decided);
-}
-
 told_verdict : (g : Rules) (all : Bool) (lines : List (List ℕ)) (bytes text : List ℕ) (v : Verdict)
     → AreLinesOf bytes lines → IsTold g all lines v text → IsVerdict g all bytes text v
-told_verdict g all lines bytes text v are t = record {
-  lines = lines;
-  are_lines = are;
-  rules = t.rules;
-  ruled = t.ruled;
-  reported = reported_by t.rules all lines text v t.told;
-}
+told_verdict g all lines bytes text v are t = grind (arith, said)
 
 -- what a checker's end returns
 abbrev pub Ends : Checker → Verdict → List ℕ → Type 0
@@ -111,21 +82,18 @@ pub goes_on : (g : Rules) (all : Bool) (a r r' : Known) (s s' : Reading) (more :
 goes_on g all a r r' s s' more read took so =
     (so.0 ++ more, Consumes-trans a r r' so.0 more so.1 read, took g all so.0 so.2)
 
-memory_alone : (e : TraceFault) → e ≡ fault.Memory → e ≢ fault.Write
-memory_alone e is other = absurd cc
-
 -- bytes that were not
 pub not_taken : (g : Rules) (all : Bool) (answer : Result (Unit {0}) TraceFault) (e : TraceFault) (a r r' : Known) (s s' : Reading) (more : List ℕ)
     → answer ≡ Err e → e ≡ fault.Memory → Consumes r r' more → So g all a r s
     → ReadsIn g all answer a r' s'
 not_taken g all answer e a r r' s s' more is memory read so =
-    (so.0 ++ more, Consumes-trans a r r' so.0 more so.1 read, subst (λ (x : Result (Unit {0}) TraceFault). TakesIn g all x r' s' (so.0 ++ more)) (sym is) (memory_alone e memory))
+    (so.0 ++ more, Consumes-trans a r r' so.0 more so.1 read, rw is (λ other. absurd cc))
 
 -- the end of the input
 pub all_read : (g : Rules) (all : Bool) (a r r' : Known) (s : Reading) → Consumes r r' []
     → IsAtEnd r' → So g all a r s
     → (bytes : List ℕ) × Consumes a r' bytes × (Has g all s bytes × IsAtEnd r')
-all_read g all a r r' s read end so = (so.0 ++ [], Consumes-trans a r r' so.0 [] so.1 read, (subst (λ (l : List ℕ). Has g all s l) (sym (append-nil so.0)) so.2, end))
+all_read g all a r r' s read end so = (so.0 ++ [], Consumes-trans a r r' so.0 [] so.1 read, (rw (append-nil so.0) so.2, end))
 
 -- a read that failed wrote nothing
 pub read_alone : fault.Read ≢ fault.Write
@@ -136,27 +104,9 @@ read_alone e = absurd cc
 abbrev Answer : Type 0
 Answer = Result Verdict TraceFault
 
-nothing_said : (g : Rules) (all : Bool) (e : TraceFault) (bytes : List ℕ) → e ≢ fault.Write
-    → Writes g all (Err e) bytes []
-nothing_said g all fault.Read bytes other = refl
-nothing_said g all fault.Memory bytes other = refl
-nothing_said g all fault.Write bytes other = absurd (other refl)
-
-early_end : (e : TraceFault) (left : Known) → e ≢ fault.Write → ReadsAll (Err e) left
-early_end fault.Read left other = tt
-early_end fault.Memory left other = tt
-early_end fault.Write left other = absurd (other refl)
-
 stopped_at : (g : Rules) (all : Bool) (e : TraceFault) (a r d : Known) (bytes : List ℕ)
     → e ≢ fault.Write → Consumes a r bytes → IsChecked g all (Err e) a r d d
-stopped_at g all e a r d bytes other read = record {
-  bytes = bytes;
-  text = [];
-  consumed = read;
-  appended = Appends-nil d;
-  written = nothing_said g all e bytes other;
-  whole = early_end e r other;
-}
+stopped_at g all e a r d bytes other read = grind (arith, (Appends-nil d))
 
 -- not all was read
 pub part_checked : (g : Rules) (all : Bool) (answer : Answer) (e : TraceFault) (a r d : Known) (s : Reading)
@@ -166,7 +116,7 @@ part_checked g all answer e a r d s is so = subst (λ (x : Answer). IsChecked g 
 -- all was read, and memory was refused
 pub unsaid_checked : (g : Rules) (all : Bool) (answer : Answer) (a r d : Known) (s : Reading)
     → answer ≡ Err fault.Memory → ReadsIn g all (Ok tt) a r s → IsChecked g all answer a r d d
-unsaid_checked g all answer a r d s is so = subst (λ (x : Answer). IsChecked g all x a r d d) (sym is) (stopped_at g all fault.Memory a r d so.0 (memory_alone fault.Memory refl) so.1)
+unsaid_checked g all answer a r d s is so = rw is (stopped_at g all fault.Memory a r d so.0 (λ other. absurd cc) so.1)
 
 -- the report was written in part
 pub cut_checked : (g : Rules) (all : Bool) (answer : Answer) (e : TraceFault) (a r d d' : Known) (s : Reading) (v : Verdict) (text : List ℕ)
@@ -176,23 +126,12 @@ pub cut_checked : (g : Rules) (all : Bool) (answer : Answer) (e : TraceFault) (a
     → IsChecked g all answer a r d d'
 cut_checked g all answer e a r d d' s v text is so ends w =
     let some = w.2 in
-    let verdict_is : IsVerdict g all so.0 (w.0 ++ some.1) v = subst (λ (l : List ℕ). IsVerdict g all so.0 l v) some.3 (ends g all so.0 so.2.0) in
-    subst (λ (x : Answer). IsChecked g all x a r d d') (sym (is ∙ ap (λ (f : TraceFault). failed f) some.0))
-    (record { bytes = so.0; text = w.0; consumed = so.1; appended = w.1; written = (v, some.1, some.2, verdict_is); whole = so.2.1 })
-  where
-    failed : TraceFault → Answer
-    failed f = Err f
+    let verdict_is : IsVerdict g all so.0 (w.0 ++ some.1) v = rw some.3 at (ends g all so.0 so.2.0) in
+    rw (is, some.0) (record { bytes = so.0; text = w.0; consumed = so.1; appended = w.1; written = (v, some.1, some.2, verdict_is); whole = so.2.1 })
 
 -- the report was written
 pub whole_checked : (g : Rules) (all : Bool) (a r d d' : Known) (s : Reading) (v : Verdict) (text : List ℕ)
     → ReadsIn g all (Ok tt) a r s
     → ((g : Rules) (all : Bool) (bytes : List ℕ) → Has g all s bytes → IsVerdict g all bytes text v)
     → (written : List ℕ) × Appends d d' written × (written ≡ text) → IsChecked g all (Ok v) a r d d'
-whole_checked g all a r d d' s v text so ends w = record {
-  bytes = so.0;
-  text = w.0;
-  consumed = so.1;
-  appended = w.1;
-  written = subst (λ (l : List ℕ). IsVerdict g all so.0 l v) (sym w.2) (ends g all so.0 so.2.0);
-  whole = so.2.1;
-}
+whole_checked g all a r d d' s v text so ends w = grind (arith, (ends g all so.0 so.2.0))

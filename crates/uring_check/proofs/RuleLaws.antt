@@ -1,7 +1,6 @@
 -- What the rules of a check make of histories and answers.
-use Rattle.std.proofs.Common.{◌≡◌, ◌∷◌, ◌<◌, ◌^◌, ◌∙◌, ℕ, Bool, true, false, List, [], drop, sym, ap, arith}
+use Rattle.std.proofs.Common.{◌≡◌, ◌∷◌, ◌∙◌, ℕ, Bool, true, false, List, drop, sym, ap, arith}
 use Rattle.uring_check.proofs.Common.{Answer, CalledForApart, FinishesApart, History, IsCalled, IsLawfulBy, IsPlain, Rules, Setup, Step, World, begin_answer, is_apart, is_running, signed_decimal, text_of, ℤ}
-use Rattle.std.specs.Int.Signed.{mag}
 use Rattle.std.proofs.lemmas.Fmt.{signed_decimal_injective}
 use Rattle.uring_core.specs.declared.answer.Answer.TheVariants as answer
 use Rattle.uring_core.specs.declared.step.Step.TheVariants as step
@@ -10,36 +9,20 @@ use Rattle.uring_check.proofs.SameTexts.{answer_once, begin_once}
 
 -- ---- histories
 
-pub called_first : (g : Rules) (s : Step) (a : Answer) (h : History) → IsLawfulBy g ((s, a) ∷ h)
-    → IsCalled g h s a
-called_first g s a h p = grind arith
-
-pub lawful_rest : (g : Rules) (s : Step) (a : Answer) (h : History) → IsLawfulBy g ((s, a) ∷ h)
-    → IsLawfulBy g h
-lawful_rest g s a h p = grind arith
-
-pub lawful_more : (g : Rules) (s : Step) (a : Answer) (h : History) → IsCalled g h s a
-    → IsLawfulBy g h → IsLawfulBy g ((s, a) ∷ h)
-lawful_more g s a h called lawful = grind arith
-
-pub lawful_none : (g : Rules) → IsLawfulBy g []
-lawful_none g = grind arith
+pub lawful_first : (g : Rules) (s : Step) (a : Answer) (h : History) → IsLawfulBy g ((s, a) ∷ h)
+    → IsCalled g h s a × IsLawfulBy g h
+lawful_first g s a h p = grind arith
 
 -- ---- ends without files
 
-bounded : (z : ℤ) → IsFile z → mag z < 2 ^ 63
-bounded z h = grind arith
-
 pub result_once : (y z : ℤ) → IsFile y → IsFile z → signed_decimal y ≡ signed_decimal z → y ≡ z
-result_once y z p q e = signed_decimal_injective y z (bounded y p) (bounded z q) e
+result_once y z p q e = signed_decimal_injective y z (grind arith) (grind arith) e
 
 finish_once : (n : ℕ) (running : Bool) (a b : Answer) → FinishesApart running a
     → FinishesApart running b → text_of a ≡ text_of b → IsPlain a true (step.Finish n)
     → IsPlain b true (step.Finish n) → a ≡ b
 finish_once n true (answer.Ended res bytes) (answer.Ended res' bytes') e f same p q =
-    let results : res ≡ res' = result_once res res' p.0 q.0 (ap (λ (l : List ℕ). drop 6 l) same) in
-    let given : bytes ≡ bytes' = p.1 ∙ sym q.1 in
-    λ i. answer.Ended (results i) (given i)
+    let results : res ≡ res' = result_once res res' p.0 q.0 (ap (λ (l : List ℕ). drop 6 l) same) in cc
 finish_once n true (answer.Ended res bytes) _ e f same p q = absurd f
 finish_once n true _ b e f same p q = absurd e
 finish_once n false a b e f same p q = e ∙ sym f

@@ -1,12 +1,12 @@
 -- No two answers that are called for to one step have the same text.
-use Rattle.std.proofs.Common.{◌≡◌, ℕ, pos, neg_ℤ, ◌^◌, ◌<◌, Bool, true, false, List, drop, sym, ap, ◌∙◌, inl, inr, arith}
+use Rattle.std.proofs.Common.{◌≡◌, ℕ, pos, neg_ℤ, ◌^◌, ◌<◌, Bool, true, false, List, drop, sym, ap, ◌∙◌, arith}
 use Rattle.std.proofs.lemmas.Fmt.{signed_decimal_injective}
 use Rattle.uring_check.proofs.Common.{Answer, ENOMEM, OrAgain, Requests, Setup, Step, World, begin_answer, entry_of, is_running, no_bytes, text_of}
 use Rattle.uring_entry.specs.Preparation.{operation_of}
 use Rattle.uring_entry.specs.declared.operation.Op.{Op}
 use Rattle.uring_entry.specs.declared.operation.Outcome.{Outcome}
 use Rattle.uring_files.specs.Contents.{FileContents}
-use Rattle.uring_files.specs.Operations.{IsOutcome, ended_with, is_lengthening, result_of}
+use Rattle.uring_files.specs.Operations.{IsOutcome}
 use Rattle.uring_core.specs.CalledFor.{CalledFor, EndsOn, files_of}
 use Rattle.uring_core.specs.declared.answer.Answer.TheVariants as answer
 use Rattle.uring_core.specs.declared.step.Step.TheVariants as step
@@ -17,13 +17,7 @@ call_again : (n : ℕ) → text_of (answer.Call n) ≡ text_of answer.Again → 
 call_again n e = grind arith
 
 pub begin_once : (x a b : Answer) → OrAgain x a → OrAgain x b → text_of a ≡ text_of b → a ≡ b
-begin_once (answer.Call n) a b (inl e) (inl f) same = e ∙ sym f
-begin_once (answer.Call n) a b (inl e) (inr f) same =
-    absurd (call_again n (ap text_of (sym e) ∙ same ∙ ap text_of f.0))
-begin_once (answer.Call n) a b (inr e) (inl f) same =
-    absurd (call_again n (ap text_of (sym f) ∙ sym same ∙ ap text_of e.0))
-begin_once (answer.Call n) a b (inr e) (inr f) same = e.0 ∙ sym f.0
-begin_once x a b e f same = e ∙ sym f
+begin_once x a b e f same = grind (arith, call_again)
 
 -- ---- Finish
 
@@ -36,14 +30,9 @@ growth_text n small e = signed_decimal_injective (pos n) (neg_ℤ ENOMEM) small 
 abbrev ended_as : Outcome → Answer
 ended_as outcome = answer.Ended outcome.res outcome.bytes
 
-grown_once : (files : List FileContents) (op : Op) (x y : Outcome) → x ≡ result_of files op
-    → is_lengthening files op ≡ true → y ≡ ended_with (neg_ℤ ENOMEM)
-    → text_of (ended_as x) ≡ text_of (ended_as y) → x ≡ y
-grown_once files op x y e long f same = grind (arith, growth_text)
-
 outcome_once : (files : List FileContents) (op : Op) (x y : Outcome) → IsOutcome files op x
     → IsOutcome files op y → text_of (ended_as x) ≡ text_of (ended_as y) → x ≡ y
-outcome_once files op x y h h2 same = grind (arith, grown_once)
+outcome_once files op x y h h2 same = grind (arith, growth_text)
 
 end_once : (files : List FileContents) (r : Requests) (n : ℕ) (running : Bool) (a b : Answer)
     → EndsOn files r n running a → EndsOn files r n running b → text_of a ≡ text_of b → a ≡ b

@@ -17,14 +17,8 @@ none_and_one : (xs ys : List ℕ) → HasNone (xs ++ 61 ∷ ys) → ⊥
 none_and_one [] ys h = h.0 refl
 none_and_one (x ∷ xs) ys h = none_and_one xs ys h.1
 
-abbrev IsOther : ℕ → Type 0
-IsOther b = b ≢ 61
-
-other : IsOther 32
-other e = absurd (omega (arith, e))
-
 none_more : (xs : List ℕ) → HasNone xs → HasNone (xs ++ 32 ∷ [])
-none_more [] h = (other, tt)
+none_more [] h = (omega arith, tt)
 none_more (x ∷ xs) h = (h.0, none_more xs h.1)
 
 -- the first `=` stands at one place
@@ -59,12 +53,10 @@ cut_split : (line front back before text : List ℕ) (n : ℕ) → IsCut line fr
 cut_split line front back before text n c h = elim (cases_lt n (length line)) [
   | inl lt ↦
       let next : drop n line ≡ 61 ∷ drop (n + 1) line = drop_more line n 0 lt ∙ ap (λ (b : ℕ). b ∷ drop (n + 1) line) (c.here lt) in
-      let whole : take n line ++ 61 ∷ drop (n + 1) line ≡ (before ++ 32 ∷ []) ++ 61 ∷ 32 ∷ text = ap (λ (l : List ℕ). take n line ++ l) (sym next) ∙ take-append-drop n line ∙ at_sign line before text h in
-      let same = first_once (take n line) (drop (n + 1) line) (before ++ 32 ∷ []) (32 ∷ text) c.none (none_more before h.first) whole in
+      let same = first_once (take n line) (drop (n + 1) line) (before ++ 32 ∷ []) (32 ∷ text) c.none (none_more before h.first) (rw (← next, take-append-drop n line) (at_sign line before text h)) in
       (c.front_is ∙ same.0, c.back_is ∙ next ∙ ap (λ (l : List ℕ). 61 ∷ l) same.1)
   | inr ge ↦
-      let all : HasNone line = subst HasNone (take_all n line ge) c.none in
-      absurd (none_and_one (before ++ 32 ∷ []) (32 ∷ text) (subst HasNone (at_sign line before text h) all))
+      absurd (none_and_one (before ++ 32 ∷ []) (32 ∷ text) (rw (take_all n line ge, at_sign line before text h) at c.none))
 ]
 
 -- what is left of a cut, each without its space, is the split

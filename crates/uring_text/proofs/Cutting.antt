@@ -1,5 +1,5 @@
 -- The tokens of a line, one after another.
-use Rattle.std.proofs.Common.{◌≡◌, ℕ, ◌+◌, ◌<◌, true, false, eqb, List, [], ◌∷◌, ◌++◌, length, take, drop, get_or, map, sym, ap, ◌∙◌, append_assoc, append-nil, arith}
+use Rattle.std.proofs.Common.{◌≡◌, ℕ, ◌+◌, ◌<◌, true, false, eqb, List, [], ◌∷◌, ◌++◌, length, take, drop, get_or, map, append_assoc, append-nil, arith}
 use Rattle.uring_text.proofs.Common.{All, IfNone, IfSome, None, Option, Some, drop_more, map-append, take-append-drop, tokens_of}
 use Rattle.std.specs.Borrow.{Bor}
 use Rattle.std.proofs.lemmas.List.Splits.{slice_split_at}
@@ -12,8 +12,8 @@ HasNoBlank bytes = All (λ b. eqb b 32 ≡ false) bytes
 pub cut_at : (line : List ℕ) (i : ℕ) → i < length line → eqb (get_or line i 0) 32 ≡ true
     → HasNoBlank (take i line) → tokens_of line ≡ take i line ∷ tokens_of (drop (i + 1) line)
 cut_at line i below blank none =
-    ap tokens_of (sym (take-append-drop i line) ∙ ap (λ (t : List ℕ). take i line ++ t) (drop_more line i 0 below))
-    ∙ slice_split_at (λ b. eqb b 32) (take i line) (get_or line i 0) (drop (i + 1) line) none blank
+    let cut = slice_split_at (λ b. eqb b 32) (take i line) (get_or line i 0) (drop (i + 1) line) none blank in
+    rw (← drop_more line i 0 below, take-append-drop i line) at cut
 
 -- the tokens of what is left of a line, if something is
 abbrev pub left_tokens : Option (Bor (List ℕ)) → List (List ℕ)
@@ -36,16 +36,9 @@ pub cut_more : (all : List (List ℕ)) (before after : List (Bor (List ℕ))) (t
     → IfNone over (tokens_of rest.now ≡ token.now ∷ [])
     → words before ++ left_tokens left ≡ all → words after ++ left_tokens over ≡ all
 cut_more all before after token rest left (Some b) is made some none told =
-    ap (λ (t : List (Bor (List ℕ))). words t ++ tokens_of b.now) made
-    ∙ ap (λ (t : List (List ℕ)). t ++ tokens_of b.now) (map-append (λ (t : Bor (List ℕ)). t.now) before (token ∷ []))
-    ∙ append_assoc (words before) (token.now ∷ []) (tokens_of b.now)
-    ∙ ap (λ (t : List (List ℕ)). words before ++ t) (sym some)
-    ∙ ap (λ (o : Option (Bor (List ℕ))). words before ++ left_tokens o) (sym is) ∙ told
+    simp (made, map-append, append_assoc, ← some) (rw is at told)
 cut_more all before after token rest left None is made some none told =
-    ap (λ (t : List (Bor (List ℕ))). words t ++ []) made ∙ append-nil (words (before ++ token ∷ []))
-    ∙ map-append (λ (t : Bor (List ℕ)). t.now) before (token ∷ [])
-    ∙ ap (λ (t : List (List ℕ)). words before ++ t) (sym none)
-    ∙ ap (λ (o : Option (Bor (List ℕ))). words before ++ left_tokens o) (sym is) ∙ told
+    simp (made, map-append, append-nil, ← none) (rw is at told)
 
 -- less is left
 pub cut_less : (rest : Bor (List ℕ)) (left over : Option (Bor (List ℕ))) → left ≡ Some rest

@@ -1,5 +1,5 @@
 -- A form has one entry.
-use Rattle.std.proofs.Common.{◌≡◌, ℕ, List, ◌++◌, take, drop, sym, ap, ◌∙◌}
+use Rattle.std.proofs.Common.{◌≡◌, ℕ, List, drop, sym, ◌∙◌}
 use Rattle.uring_text.proofs.Common.{Form, HasData, IsEntryNamed, IsEntryOf, Name, Parts, Sqe, take-append-drop}
 use Rattle.uring_entry.proofs.CompletionWords.{same_words}
 use Rattle.uring_text.specs.declared.forms.Name.TheVariants as name
@@ -8,7 +8,7 @@ use Rattle.uring_text.specs.declared.forms.Name.TheVariants as name
 data_once : (a b first bytes : List ℕ) → HasData a first bytes → HasData b first bytes → a ≡ b
 data_once a b first bytes h k =
     let after : drop 8 a ≡ drop 8 b = same_words (drop 8 a) (drop 8 b) h.rest k.rest (h.payload ∙ sym k.payload) in
-    sym (take-append-drop 8 a) ∙ ap (λ (l : List ℕ). l ++ drop 8 a) (h.first ∙ sym k.first) ∙ ap (λ (l : List ℕ). take 8 b ++ l) after ∙ take-append-drop 8 b
+    cc (take-append-drop 8 a, take-append-drop 8 b)
 
 named_once : (n : Name) (p : Parts) (a b : Sqe) → IsEntryNamed n p a → IsEntryNamed n p b → a ≡ b
 named_once name.Write p a b h k = data_once a b _ p.bytes h k

@@ -1,14 +1,11 @@
 -- Flags are read of just the tokens that are their letters.
-use Rattle.std.proofs.Common.{◌≡◌, ◌≢◌, ℕ, ◌+◌, ◌<◌, false, cond, eqb, List, [], ◌∷◌, length, Some, None, ap, ◌∙◌, arith}
-use Rattle.uring_text.proofs.Common.{AllByRecursion, AreFlags, NoneAgain, bytes_eq, bytes_eq-Decides, eqb-false, eqb-true, flag_value, flags_of, letters_of, ne_eqb, same_Some, sum_by}
+use Rattle.std.proofs.Common.{◌≡◌, ◌≢◌, ℕ, ◌+◌, ◌<◌, false, cond, List, [], ◌∷◌, length, Some, ap, ◌∙◌, arith}
+use Rattle.uring_text.proofs.Common.{AllByRecursion, AreFlags, NoneAgain, bytes_eq, bytes_eq-Decides, flag_value, flags_of, letters_of, ne_eqb, same_Some, sum_by}
 use Rattle.std.specs.Int.RustNames.{bit_and, bit_or}
 use Rattle.std.specs.Int.Bits.{and_zero_l}
 use Rattle.std.proofs.lemmas.List.Sums.{sum_by-cons}
 use Rattle.std.proofs.lemmas.Nat.{and_or_self, and_or_apart, or_disjoint}
-use Rattle.uring_text.proofs.Options.{no_dash, test_some, unless_some}
-
-abbrev letters : List ℕ
-letters = 68 ∷ 76 ∷ 72 ∷ 65 ∷ 83 ∷ []
+use Rattle.uring_text.proofs.Options.{no_dash}
 
 letters_apart : (b c : ℕ) → 0 < flag_value b → 0 < flag_value c → (c ≡ b → ⊥)
     → bit_and (flag_value b) (flag_value c) ≡ 0
@@ -33,11 +30,9 @@ letters_read : (flags : ℕ) (token : List ℕ) → AreLetterBytes token → Non
 unfolding letters_of
 letters_read flags [] l n a = ap (λ (k : ℕ). Some k) (omega arith)
 letters_read flags (b ∷ token) l n a =
-    let some : eqb (flag_value b) 0 ≡ false = ne_eqb (flag_value b) 0 (omega arith) in
     let more = letters_read (bit_or flags (flag_value b)) token l.1 n.1 (apart_after flags b token l.0 l.1 n.0 a.1) in
-    let added : bit_or flags (flag_value b) ≡ flags + flag_value b = or_disjoint flags (flag_value b) a.0 in
-    let all : bit_or flags (flag_value b) + sum_by flag_value token ≡ flags + sum_by flag_value (b ∷ token) = omega (arith, sum_by-cons flag_value b token) in
-    rw (some, a.0) (more ∙ ap (λ (k : ℕ). Some k) all)
+    let all : bit_or flags (flag_value b) + sum_by flag_value token ≡ flags + sum_by flag_value (b ∷ token) = omega (arith, sum_by-cons flag_value b token, or_disjoint flags (flag_value b) a.0) in
+    rw (ne_eqb (flag_value b) 0 (omega arith), a.0) (more ∙ ap (λ (k : ℕ). Some k) all)
 
 pub record IsRead (flags : ℕ) (token : List ℕ) (all : ℕ) : Type 0 where
   pub letters : AreLetterBytes token
@@ -58,18 +53,11 @@ read_letters : (flags : ℕ) (token : List ℕ) (all : ℕ) → letters_of flags
 unfolding letters_of
 read_letters flags [] all e = grind arith
 read_letters flags (b ∷ token) all e =
-    let p = unless_some (eqb (flag_value b) 0) (cond (eqb (bit_and flags (flag_value b)) 0) (letters_of (bit_or flags (flag_value b)) token) None) all e in
-    let q = test_some (eqb (bit_and flags (flag_value b)) 0) (letters_of (bit_or flags (flag_value b)) token) all p.1 in
-    let some : 0 < flag_value b = omega (arith, eqb-false (flag_value b) 0 p.0) in
-    let free : bit_and flags (flag_value b) ≡ 0 = eqb-true (bit_and flags (flag_value b)) 0 q.0 in
-    let more = read_letters (bit_or flags (flag_value b)) token all q.1 in
+    let some : 0 < flag_value b = grind arith in
+    let free : bit_and flags (flag_value b) ≡ 0 = grind arith in
+    let more = read_letters (bit_or flags (flag_value b)) token all (grind arith) in
     let others = apart_before flags b token some more.letters more.apart in
-    record {
-      letters = (some, more.letters);
-      once = (others.1, more.once);
-      apart = (free, others.0);
-      sum = omega (arith, more.sum, or_disjoint flags (flag_value b) free, sum_by-cons flag_value b token);
-    }
+    grind (arith, more, others, (or_disjoint flags (flag_value b) free), (sum_by-cons flag_value b token))
 
 not_empty : (token : List ℕ) → bytes_eq token [] ≡ false → 0 < length token
 not_empty [] e = absurd cc
@@ -81,7 +69,7 @@ none_apart (b ∷ token) = (and_zero_l (flag_value b), none_apart token)
 
 pub flags_found : (token : List ℕ) (flags : ℕ) → flags_of token ≡ Some flags → AreFlags token flags
 unfolding flags_of
-flags_found token flags e = grind (arith, cond, bytes_eq-Decides, same_Some, unless_some, read_letters, not_empty)
+flags_found token flags e = grind (arith, cond, bytes_eq-Decides, same_Some, read_letters, not_empty)
 
 pub flags_again : (token : List ℕ) (flags : ℕ) → AreFlags token flags → flags_of token ≡ Some flags
 unfolding flags_of

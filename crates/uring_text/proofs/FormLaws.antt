@@ -1,57 +1,34 @@
 -- The form that is read of tokens is the one that they spell.
-use Rattle.std.proofs.Common.{◌≡◌, ℕ, ◌^◌, ◌≤◌, List, [], ◌∷◌, Some, refl, sym, ap, subst, ◌∙◌, arith, inl, inr}
-use Rattle.uring_text.proofs.Common.{Form, Name, Parts, SayParts, SaysPart, SpellsForm, SpellsNumber, bytes_eq, bytes_eq-Decides, data_of, file_of, find, form_named, form_of, hex_of, kinds_of, name_of, name_text, names, number_of, option_map, part_of, parts_of}
+use Rattle.std.proofs.Common.{◌≡◌, ℕ, ◌^◌, List, [], ◌∷◌, Some, refl, sym, ap, arith}
+use Rattle.uring_text.proofs.Common.{Form, Name, Parts, SayParts, SaysPart, SpellsForm, bytes_eq-Decides, form_of, kinds_of, name_of, name_text, part_of, parts_of}
 use Rattle.uring_text.specs.declared.place.Kind.{Kind}
 use Rattle.uring_text.specs.declared.place.Kind.TheVariants as kind
-use Rattle.uring_text.proofs.Options.{bind_some, chosen, mapped}
+use Rattle.uring_text.proofs.Options.{bind_some, mapped}
 use Rattle.uring_text.proofs.NumberLaws.{number_found, number_again, file_found, file_again}
 use Rattle.uring_text.proofs.FlagLaws.{flags_found, flags_again}
 use Rattle.uring_text.proofs.HexLaws.{hex_found, hex_again, data_found, data_again}
 
 -- One part: what is read is said, and the other way round.
 
-number_said : (limit : ℕ) (token : List ℕ) (f : ℕ → Parts) (q : Parts) → limit ≤ 2 ^ 64
-    → option_map f (number_of limit token) ≡ Some q → (n : ℕ) × SpellsNumber limit token n × (q ≡ f n)
-number_said limit token f q small e =
-    let m = mapped f (number_of limit token) q e in
-    (m.0, number_found limit token m.0 small m.1, sym m.2)
-
 pub part_found : (k : Kind) (token : List ℕ) (p q : Parts) → part_of k token p ≡ Some q
     → SaysPart k token p q
 unfolding part_of
-part_found kind.Code token p q e = number_said 256 token _ q (omega arith) e
-part_found kind.UserData token p q e = number_said (2 ^ 64) token _ q (omega arith) e
-part_found kind.Flags token p q e = grind (arith, flags_found)
-part_found kind.File token p q e =
-    let m = mapped (λ fd. record p { fd = fd }) (file_of token) q e in
-    let is = file_found token m.0 m.1 in
-    (m.0, is.0, is.1, sym m.2)
-part_found kind.Offset token p q e = number_said (2 ^ 64) token _ q (omega arith) e
-part_found kind.Length token p q e = number_said (2 ^ 32) token _ q (omega arith) e
-part_found kind.Target token p q e = number_said (2 ^ 64) token _ q (omega arith) e
-part_found kind.Data token p q e =
-    let m = mapped (λ bytes. record p { bytes = bytes }) (data_of token) q e in
-    let is = data_found token m.0 m.1 in
-    (m.0, is.0, is.1, sym m.2)
-part_found kind.Bytes token p q e =
-    let m = mapped (λ bytes. record p { bytes = bytes }) (hex_of 128 token) q e in
-    let is = hex_found 128 token m.0 m.1 in
-    (m.0, is.0, is.1, sym m.2)
+part_found kind.Code token p q e = mapped _ _ _ q (λ n. number_found 256 token n (omega arith)) e
+part_found kind.UserData token p q e = mapped _ _ _ q (λ n. number_found (2 ^ 64) token n (omega arith)) e
+part_found kind.Flags token p q e = mapped _ _ _ q (flags_found token) e
+part_found kind.File token p q e = let m = mapped _ _ _ q (file_found token) e in (m.0, m.1.0, m.1.1, m.2)
+part_found kind.Offset token p q e = mapped _ _ _ q (λ n. number_found (2 ^ 64) token n (omega arith)) e
+part_found kind.Length token p q e = mapped _ _ _ q (λ n. number_found (2 ^ 32) token n (omega arith)) e
+part_found kind.Target token p q e = mapped _ _ _ q (λ n. number_found (2 ^ 64) token n (omega arith)) e
+part_found kind.Data token p q e = let m = mapped _ _ _ q (data_found token) e in (m.0, m.1.0, m.1.1, m.2)
+part_found kind.Bytes token p q e = let m = mapped _ _ _ q (hex_found 128 token) e in (m.0, m.1.0, m.1.1, m.2)
 part_found _ token p q e = absurd cc
 
 pub part_again : (k : Kind) (token : List ℕ) (p q : Parts) → SaysPart k token p q
     → part_of k token p ≡ Some q
 unfolding part_of
-part_again kind.Code token p q h = rw (h.1.0, number_again 256 h.0 (omega arith) h.1.1, h.2) refl
-part_again kind.UserData token p q h = grind (arith, number_again)
 part_again kind.Flags token p q h = rw (flags_again token h.0 h.1, h.2) refl
-part_again kind.File token p q h = rw (h.1, file_again h.0 h.2, h.3) refl
-part_again kind.Offset token p q h = grind (arith, number_again)
-part_again kind.Length token p q h = grind (arith, number_again)
-part_again kind.Target token p q h = grind (arith, number_again)
-part_again kind.Data token p q h = rw (h.1, data_again h.0 h.2, h.3) refl
-part_again kind.Bytes token p q h = rw (h.1, hex_again 128 h.0 h.2, h.3) refl
-part_again _ token p q h = absurd h
+part_again _ token p q h = grind (arith, number_again, file_again, data_again, hex_again)
 
 -- All parts.
 
@@ -71,34 +48,18 @@ parts_again _ _ q h = absurd h
 
 -- The name.
 
-found_among : (token : List ℕ) (among : List Name) (n : Name)
-    → find (λ name. bytes_eq token (name_text name)) among ≡ Some n → token ≡ name_text n
-found_among token [] n e = absurd cc
-found_among token (first ∷ later) n e =
-    elim (chosen (bytes_eq token (name_text first)) (Some first) (find (λ name. bytes_eq token (name_text name)) later) (Some n) e) [
-      | inl p ↦ (bytes_eq-Decides token (name_text first)).0 p.0 ∙ ap name_text (let same : first ≡ n = let e : Some first ≡ Some n = p.1 in cc in same)
-      | inr p ↦ found_among token later n p.1
-    ]
-
 name_found : (token : List ℕ) (n : Name) → name_of token ≡ Some n → token ≡ name_text n
 unfolding name_of
-name_found token n e = found_among token names n e
-
-name_again : (n : Name) → name_of (name_text n) ≡ Some n
-unfolding name_of
-name_again n = grind arith
+name_found token n e = grind (arith, bytes_eq-Decides)
 
 -- what is read is spelled so
 pub form_found : (tokens : List (List ℕ)) (f : Form) → form_of tokens ≡ Some f → SpellsForm tokens f
 unfolding form_of
 form_found [] f e = absurd cc
 form_found (token ∷ tokens) f e =
-    let s = bind_some (name_of token) (λ n. form_named n tokens) f e in
-    let m = mapped (λ parts. record { name = s.0; parts = parts }) (parts_of (kinds_of s.0) tokens) f s.2 in
-    subst (SpellsForm (token ∷ tokens)) m.2
-    (tokens, ap (λ (t : List ℕ). t ∷ tokens) (name_found token s.0 s.1), parts_found (kinds_of s.0) tokens m.0 m.1)
+    (tokens, grind (arith, name_found), parts_found (kinds_of f.name) tokens f.parts (grind arith))
 
 -- what is spelled so is read
 pub form_again : (tokens : List (List ℕ)) (f : Form) → SpellsForm tokens f → form_of tokens ≡ Some f
-unfolding form_of
-form_again tokens f h = grind (arith, name_again, parts_again)
+unfolding form_of name_of
+form_again tokens f h = grind (arith, parts_again)

@@ -1,24 +1,14 @@
 -- Bytes are read of just the tokens that are their lower case digits.
-use Rattle.std.proofs.Common.{◌≡◌, ℕ, zero, suc, ◌+◌, ◌*◌, ◌/◌, ◌%◌, ◌<◌, ◌≤◌, false, cond, ltb, eqb, List, [], ◌∷◌, length, Option, Some, None, Result, Ok, refl, sym, ap, subst, ◌∙◌, arith, inl, inr}
-use Rattle.uring_text.proofs.Common.{AllByRecursion, AreBytes, IsBytes, and_from, both_ways, bytes_eq, bytes_eq-Decides, cases_eq, codes, data_of, decode_of, decode_pairs, decode_sized, digit_or_error, encode_lower, encode_with, eqb-false, hex_digit_value, hex_of, hex_or_dash, is_capital, le-leb, le-ltb, leb-true, list_any, lower_digits, ltb-false, ne_eqb, or_parts, pair_value, same_Some, slice_index, value_at}
+use Rattle.std.proofs.Common.{◌≡◌, ℕ, zero, suc, ◌+◌, ◌*◌, ◌/◌, ◌%◌, ◌<◌, false, cond, List, [], ◌∷◌, length, Some, Result, Ok, refl, arith}
+use Rattle.uring_text.proofs.Common.{AllByRecursion, AreBytes, IsBytes, and_from, both_ways, bytes_eq-Decides, data_of, decode_pairs, encode_lower, encode_with, hex_of, hex_or_dash, is_capital, le-leb, leb-true, list_any, lower_digits, or_parts, pair_value, slice_index, value_at}
 use Rattle.hex.specs.Hex.{◌>>=◌}
-use Rattle.std.specs.Result.{result_ok}
 use Rattle.hex.specs.declared.error.FromHexError.{FromHexError}
-use Rattle.hex.proofs.HexLemmas.{decode_sized-encode_lower, decode_sized-ok, decode_sized-twice, decode_of-ok, decode_of-even, length-encode_with}
-use Rattle.uring_text.proofs.Options.{chosen, no_dash, unless_some}
-
--- what holds of each number below one
-abbrev Below : (ℕ → Type 0) → ℕ → Type 0
-Below P zero = Unit {0}
-Below P (suc n) = P n × Below P n
-
-at_below : (P : ℕ → Type 0) (n v : ℕ) → Below P n → v < n → P v
-at_below P zero v all lt = absurd (omega arith)
-at_below P (suc n) v all lt =
-    elim (cases_eq v n) [ inl same ↦ subst P (sym same) all.0 | inr other ↦ at_below P n v all.1 (omega arith) ]
+use Rattle.hex.proofs.HexLemmas.{decode_sized-encode_lower, length-encode_with, decode_pairs-ok}
+use Rattle.uring_text.proofs.Options.{no_dash}
+use Rattle.std.proofs.lemmas.List.Elements.{All-from_recursion}
 
 no_capital : (v : ℕ) → v < 16 → is_capital (slice_index lower_digits v) ≡ false
-no_capital v lt = at_below (λ v. is_capital (slice_index lower_digits v) ≡ false) 16 v (assumption) lt
+no_capital v lt = All-from_recursion (λ d. is_capital d ≡ false) lower_digits (assumption) v 0 lt
 
 bytes_from : (bytes : List ℕ) → AllByRecursion (λ b. b < 256) bytes → IsBytes bytes
 bytes_from [] h i = omega arith
@@ -30,28 +20,19 @@ bytes_to [] h = tt
 bytes_to (b ∷ bytes) h = (h 0, bytes_to bytes (λ i. h (suc i)))
 
 -- a digit that is no capital letter
-lower_digit : (c v : ℕ) → hex_digit_value c ≡ Some v → is_capital c ≡ false
+lower_digit : (c i v : ℕ) → value_at c i ≡ Ok v → is_capital c ≡ false
     → (slice_index lower_digits v ≡ c) × (v < 16)
-lower_digit c v e small = grind (arith, cond, leb-true, and_from, le-leb, both_ways)
+lower_digit c i v e small = grind (arith, cond, leb-true, and_from, le-leb, both_ways)
 
 bind_ok : {A B : Type 0} (r : Result A FromHexError) (f : A → Result B FromHexError) (y : B)
     → (r >>= f) ≡ Ok y → (x : A) × (r ≡ Ok x) × (f x ≡ Ok y)
 bind_ok r f y h = grind arith
 
-abbrev ok : {A : Type 0} → A → Result A FromHexError
-ok x = Ok x
-
-ok_is : {A : Type 0} (x y : A) → ok x ≡ ok y → x ≡ y
-ok_is x y e = cc
-
-digit_read : (c i : ℕ) (o : Option ℕ) (v : ℕ) → digit_or_error c i o ≡ Ok v → o ≡ Some v
-digit_read c i o v h = grind arith
-
 -- what decodes, and has no capital letter
 pairs_lower : (i : ℕ) (s bytes : List ℕ) → decode_pairs i s ≡ Ok bytes
     → list_any is_capital s ≡ false → s ≡ encode_lower bytes
 unfolding decode_pairs encode_with
-pairs_lower i [] bytes e n = ap encode_lower (ok_is [] bytes e)
+pairs_lower i [] bytes e n = cc
 pairs_lower i (a ∷ []) bytes e n = absurd cc
 pairs_lower i (a ∷ b ∷ rest) bytes e n =
     let p0 = bind_ok (pair_value a b i) (λ byte. decode_pairs (i + 2) rest >>= λ more. Ok (byte ∷ more)) bytes e in
@@ -60,33 +41,22 @@ pairs_lower i (a ∷ b ∷ rest) bytes e n =
     let p3 = bind_ok (decode_pairs (i + 2) rest) (λ more. Ok (p0.0 ∷ more)) bytes p0.2 in
     let small = or_parts (is_capital a) (list_any is_capital (b ∷ rest)) n in
     let smaller = or_parts (is_capital b) (list_any is_capital rest) small.1 in
-    let high = lower_digit a p1.0 (digit_read a i (hex_digit_value a) p1.0 p1.1) small.0 in
-    let low = lower_digit b p2.0 (digit_read b (i + 1) (hex_digit_value b) p2.0 p2.1) smaller.0 in
-    let byte : p1.0 * 16 + p2.0 ≡ p0.0 = ok_is (p1.0 * 16 + p2.0) p0.0 p2.2 in
-    let first : p0.0 / 16 ≡ p1.0 = omega (arith, high.1, low.1) in
-    let second : p0.0 % 16 ≡ p2.0 = omega (arith, high.1, low.1) in
-    let a_is : a ≡ slice_index lower_digits (p0.0 / 16) = sym (ap (slice_index lower_digits) first ∙ high.0) in
-    let b_is : b ≡ slice_index lower_digits (p0.0 % 16) = sym (ap (slice_index lower_digits) second ∙ low.0) in
-    let rest_is : rest ≡ encode_lower p3.0 = pairs_lower (i + 2) rest p3.0 p3.1 smaller.1 in
-    let all : a ∷ b ∷ rest ≡ encode_lower (p0.0 ∷ p3.0) = ap (λ (x : ℕ). x ∷ b ∷ rest) a_is ∙ ap (λ (x : ℕ). slice_index lower_digits (p0.0 / 16) ∷ x ∷ rest) b_is ∙ ap (λ (l : List ℕ). slice_index lower_digits (p0.0 / 16) ∷ slice_index lower_digits (p0.0 % 16) ∷ l) rest_is in
-    all ∙ ap encode_lower (ok_is (p0.0 ∷ p3.0) bytes p3.2)
-
-ok_from : (r : Result (List ℕ) FromHexError) (bytes : List ℕ) → result_ok r ≡ Some bytes
-    → r ≡ Ok bytes
-ok_from r bytes e = grind arith
+    let high = lower_digit a i p1.0 p1.1 small.0 in
+    let low = lower_digit b (i + 1) p2.0 p2.1 smaller.0 in
+    let byte : p1.0 * 16 + p2.0 ≡ p0.0 = cc (p2.2) in
+    let parts : (p0.0 / 16 ≡ p1.0) × (p0.0 % 16 ≡ p2.0) = omega (arith, high.1, low.1) in
+    let all : p0.0 ∷ p3.0 ≡ bytes = cc (p3.2) in
+    rw (← all, parts.0, parts.1, high.0, low.0, ← pairs_lower (i + 2) rest p3.0 p3.1 smaller.1)
 
 pub hex_found : (count : ℕ) (token bytes : List ℕ) → hex_of count token ≡ Some bytes
     → (token ≡ encode_lower bytes) × AreBytes bytes count count
 unfolding hex_of
 hex_found count token bytes e =
-    let p = unless_some (list_any is_capital token) (result_ok (decode_sized token count)) bytes e in
-    let decoded : decode_sized token count ≡ Ok bytes = ok_from (decode_sized token count) bytes p.1 in
-    let size : length token ≡ 2 * count = decode_sized-ok token count bytes decoded in
-    let whole : decode_of token ≡ Ok bytes = sym (decode_sized-twice token count size) ∙ decoded in
-    let facts = decode_of-ok token bytes whole in
-    let pairs : decode_pairs 0 token ≡ Ok bytes = sym (decode_of-even token facts.0) ∙ whole in
-    let both : length token ≡ 2 * length bytes = facts.2 in
-    (pairs_lower 0 token bytes pairs p.0, record { few = omega arith; enough = omega arith; each = bytes_to bytes facts.3 })
+    let low : list_any is_capital token ≡ false = grind arith in
+    let pairs : decode_pairs 0 token ≡ Ok bytes = grind arith in
+    let size : length token ≡ 2 * count = grind arith in
+    let all = decode_pairs-ok 0 token bytes pairs in
+    grind (arith, all.1, (pairs_lower 0 token bytes pairs low), (bytes_to bytes all.2))
 
 encoded_small : (bytes : List ℕ) → AllByRecursion (λ b. b < 256) bytes
     → list_any is_capital (encode_lower bytes) ≡ false
@@ -98,42 +68,14 @@ pub hex_again : (count : ℕ) (bytes : List ℕ) → AreBytes bytes count count
     → hex_of count (encode_lower bytes) ≡ Some bytes
 unfolding hex_of
 hex_again count bytes h =
-    let few : count ≤ length bytes = h.few in
-    let enough : length bytes ≤ count = h.enough in
-    rw (encoded_small bytes h.each, decode_sized-encode_lower bytes count (omega arith) (bytes_from bytes h.each)) refl
-
-shown : (bytes : List ℕ) → 0 < length bytes → hex_or_dash bytes ≡ encode_lower bytes
-shown bytes lt = grind arith
+    grind (arith, encoded_small, decode_sized-encode_lower, bytes_from)
 
 pub data_found : (token bytes : List ℕ) → data_of token ≡ Some bytes
     → (token ≡ hex_or_dash bytes) × AreBytes bytes 0 64
 unfolding data_of
-data_found token bytes e =
-    elim (chosen (bytes_eq token (codes "-")) (Some []) (cond (eqb (length token / 2) 0) None (cond (ltb 64 (length token / 2)) None (hex_of (length token / 2) token))) (Some bytes) e) [
-      | inl p ↦
-          let none : [] ≡ bytes = same_Some [] bytes p.1 in
-          subst (λ (l : List ℕ). (token ≡ hex_or_dash l) × AreBytes l 0 64) none ((bytes_eq-Decides token (codes "-")).0 p.0, record { few = omega arith; enough = omega arith; each = tt })
-      | inr p ↦
-          let q = unless_some (eqb (length token / 2) 0) (cond (ltb 64 (length token / 2)) None (hex_of (length token / 2) token)) bytes p.1 in
-          let s = unless_some (ltb 64 (length token / 2)) (hex_of (length token / 2) token) bytes q.1 in
-          let found = hex_found (length token / 2) token bytes s.1 in
-          let few : length token / 2 ≤ length bytes = found.1.few in
-          let enough : length bytes ≤ length token / 2 = found.1.enough in
-          let most : length token / 2 ≤ 64 = ltb-false 64 (length token / 2) s.0 in
-          let some : length token / 2 ≡ 0 → ⊥ = eqb-false (length token / 2) 0 q.0 in
-          (found.0 ∙ sym (shown bytes (omega arith)), record { few = omega arith; enough = omega arith; each = found.1.each })
-    ]
-
-data_again_of : (bytes token : List ℕ) → 0 < length bytes → token ≡ encode_lower bytes
-    → AreBytes bytes 0 64 → data_of token ≡ Some bytes
-unfolding data_of
-data_again_of bytes token lt is h =
-    let size : length token ≡ 2 * length bytes = ap length is ∙ length-encode_with lower_digits bytes in
-    let most : length bytes ≤ 64 = h.enough in
-    let half : length token / 2 ≡ length bytes = omega arith in
-    let all : hex_of (length bytes) token ≡ Some bytes = ap (hex_of (length bytes)) is ∙ hex_again (length bytes) bytes (record { few = omega arith; enough = omega arith; each = h.each }) in
-    rw (no_dash token (λ dash. omega (arith, ap length dash)), half, ne_eqb (length bytes) 0 (λ none. absurd (omega arith)), le-ltb 64 (length bytes) most) all
+data_found token [] e = grind (arith, bytes_eq-Decides, (hex_found (length token / 2) token []))
+data_found token (b ∷ bytes) e = grind (arith, bytes_eq-Decides, (hex_found (length token / 2) token (b ∷ bytes)))
 
 pub data_again : (bytes : List ℕ) → AreBytes bytes 0 64 → data_of (hex_or_dash bytes) ≡ Some bytes
 unfolding data_of
-data_again bytes h = grind (arith, data_again_of)
+data_again bytes h = grind (arith, length-encode_with, hex_again, no_dash)

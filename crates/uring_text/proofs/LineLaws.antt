@@ -1,5 +1,5 @@
 -- Bytes have lines in one way.
-use Rattle.std.proofs.Common.{◌≡◌, ℕ, List, [], ◌∷◌, ◌++◌, refl, sym, ap, subst, ◌∙◌, append_assoc}
+use Rattle.std.proofs.Common.{◌≡◌, ℕ, List, [], ◌∷◌, ◌++◌, refl, sym, subst, ◌∙◌, append_assoc, arith}
 use mathlib.Core.List.{head-eq_of_cons-eq, tail-eq_of_cons-eq}
 use Rattle.std.specs.List.{AllByRecursion}
 use Rattle.uring_text.specs.Lines.{IsUnbroken, Splits, joined}
@@ -14,11 +14,9 @@ last_end : (a b r s : List ℕ) → IsUnbroken r → IsUnbroken s → a ++ 10 �
     → (a ≡ b) × (r ≡ s)
 last_end [] [] r s hr hs e = (refl, tail-eq_of_cons-eq e)
 last_end [] (c ∷ b) r s hr hs e = absurd (broken b s (subst IsUnbroken (tail-eq_of_cons-eq e) hr))
-last_end (x ∷ a) [] r s hr hs e =
-    absurd (broken a r (subst IsUnbroken (sym (tail-eq_of_cons-eq e)) hs))
+last_end (x ∷ a) [] r s hr hs e = absurd (broken a r (rw (tail-eq_of_cons-eq e) hs))
 last_end (x ∷ a) (c ∷ b) r s hr hs e =
-    let same = last_end a b r s hr hs (tail-eq_of_cons-eq e) in
-    (ap (λ (y : ℕ). y ∷ a) (head-eq_of_cons-eq e) ∙ ap (λ (l : List ℕ). c ∷ l) same.0, same.1)
+    grind (arith, (last_end a b r s hr hs (tail-eq_of_cons-eq e)), head-eq_of_cons-eq)
 
 -- the newest line, between what stands before it and after it
 newest : (line rest : List ℕ) (before : List (List ℕ))
@@ -35,8 +33,7 @@ same_lines (l ∷ lines) [] rest other hl ho hr hs e =
     absurd (broken (joined lines ++ l) rest (subst IsUnbroken (sym e ∙ newest l rest lines) hs))
 same_lines (l ∷ lines) (m ∷ others) rest other hl ho hr hs e =
     let ends = last_end (joined lines ++ l) (joined others ++ m) rest other hr hs (sym (newest l rest lines) ∙ e ∙ newest m other others) in
-    let before = same_lines lines others l m hl.1 ho.1 hl.0 ho.0 ends.0 in
-    (ap (λ (x : List ℕ). x ∷ lines) before.1 ∙ ap (λ (ls : List (List ℕ)). m ∷ ls) before.0, ends.1)
+    let before = same_lines lines others l m hl.1 ho.1 hl.0 ho.0 ends.0 in (cc (before.0, before.1), ends.1)
 
 pub split_once : (bytes : List ℕ) (lines others : List (List ℕ)) (rest other_rest : List ℕ)
     → Splits bytes lines rest → Splits bytes others other_rest

@@ -1,92 +1,65 @@
 -- A number is read of just the token that is its decimal form.
-use Rattle.std.proofs.Common.{◌≡◌, ℕ, zero, suc, ◌^◌, ◌<◌, ◌≤◌, true, eqb, List, [], ◌∷◌, length, get_or, Option, Some, None, refl, sym, ap, subst, ◌∙◌, arith, inl, inr}
-use Rattle.std.specs.Char.{is_ascii_digit}
-use Rattle.uring_text.proofs.Common.{IsFile, MatchOption, eqb-true, file_of, is_numeral, list_all, lt-ltb, negative_of, negsuc, number_of, option_map, pos, ℤ, ◌>>=◌}
-use Rattle.std.specs.Str.Parse.{digits_value}
+use Rattle.std.proofs.Common.{◌≡◌, ℕ, zero, suc, ◌^◌, ◌<◌, ◌≤◌, true, List, [], ◌∷◌, length, get_or, Option, Some, None, sym, ap, ◌∙◌, arith}
+use Rattle.uring_text.proofs.Common.{IsFile, MatchOption, eqb-true, file_of, is_numeral, negative_of, negsuc, number_of, option_map, pos, ℤ}
 use Rattle.std.specs.Fmt.{decimal, signed_decimal}
 use Rattle.std.proofs.lemmas.Fmt.{decimal-digits_value, digits_decimal, first_decimal, decimal_nonempty, decimal_digit, decimal_is_IsNumeral}
 use Rattle.std.proofs.lemmas.Str.Parse.{digit_at}
-use Rattle.uring_text.proofs.Options.{bind_some, chosen, mapped}
-use Rattle.uring_text.proofs.Numbers.{own, numeral_digits, some_length, number_parts, file_other}
-
--- a numeral has no leading zero
-no_leading_zero : (w : List ℕ) → is_numeral w ≡ true → get_or w 0 0 ≡ 48 → length w ≡ 1
-unfolding is_numeral
-no_leading_zero w e z = grind arith
-
-numeral_from : (w : List ℕ) → list_all is_ascii_digit w ≡ true → 0 < length w
-    → (get_or w 0 0 ≡ 48 → length w ≡ 1) → is_numeral w ≡ true
-unfolding is_numeral
-numeral_from w digits lt one = grind arith
+use Rattle.uring_text.proofs.Numbers.{own, numeral_is, number_parts, file_other}
 
 -- the decimal form of a number has no leading zero
 leading : (n : ℕ) → n < 2 ^ 64 → get_or (decimal n) 0 0 ≡ 48 → length (decimal n) ≡ 1
 leading zero lt e = ap length (decimal_digit 0 (omega arith))
-leading (suc n) lt e = absurd (omega (arith, first_decimal (suc n) (omega arith) lt))
+leading (suc n) lt e = omega (arith, first_decimal (suc n) (omega arith) lt)
 
 numeral_decimal : (n : ℕ) → n < 2 ^ 64 → is_numeral (decimal n) ≡ true
-numeral_decimal n lt =
-    numeral_from (decimal n) (digits_decimal own n lt) (decimal_nonempty n lt) (leading n lt)
+unfolding is_numeral
+numeral_decimal n lt = grind (arith, (digits_decimal own n lt), (decimal_nonempty n lt), (leading n lt))
 
 pub number_found : (limit : ℕ) (w : List ℕ) (n : ℕ) → limit ≤ 2 ^ 64 → number_of limit w ≡ Some n
     → (w ≡ decimal n) × (n < limit)
 number_found limit w n le e =
     let p = number_parts limit w n e in
-    let small : digits_value 10 w < 2 ^ 64 = omega arith in
-    let same : decimal (digits_value 10 w) ≡ w = decimal-digits_value own w (numeral_digits w p.0) (some_length w p.0) (no_leading_zero w p.0) small in
-    (sym same ∙ ap decimal p.1, p.2)
+    let is = numeral_is w p.0 in
+    (rw (← p.1) (sym (decimal-digits_value own w is.0 is.1 is.2 (omega arith))), p.2)
 
 pub number_again : (limit n : ℕ) → limit ≤ 2 ^ 64 → n < limit → number_of limit (decimal n) ≡ Some n
 unfolding number_of
 number_again limit n le lt =
     let small : n < 2 ^ 64 = omega arith in
-    let value : digits_value 10 (decimal n) ≡ n = (decimal_is_IsNumeral n small).1 in
-    rw (numeral_decimal n small, value, lt-ltb n limit lt) refl
+    grind (arith, (numeral_decimal n small), (decimal_is_IsNumeral n small).1)
 
 -- ---- signed numbers
 
-negative_found : (n : ℕ) (fd : ℤ) → negative_of n ≡ Some fd
-    → (k : ℕ) × (n ≡ suc k) × (k < 2 ^ 31) × (fd ≡ negsuc k)
-negative_found n fd e = grind arith
+file_digits : (b : ℕ) (bs : List ℕ) (n : ℕ) → file_of (b ∷ bs) ≡ Some (pos n)
+    → number_of (2 ^ 31) (b ∷ bs) ≡ Some n
+unfolding file_of
+file_digits b bs n e = grind (arith, negative_of)
 
-abbrev IsSpelled : List ℕ → ℤ → Type 0
-IsSpelled w fd = (w ≡ signed_decimal fd) × IsFile fd
+minus_digits : (b : ℕ) (bs : List ℕ) (k : ℕ) → file_of (b ∷ bs) ≡ Some (negsuc k)
+    → (b ≡ 45) × (number_of (2 ^ 64) bs ≡ Some (suc k)) × (k < 2 ^ 31)
+unfolding file_of
+minus_digits b bs k e = grind (arith, eqb-true, negative_of)
 
 pub file_found : (w : List ℕ) (fd : ℤ) → file_of w ≡ Some fd → (w ≡ signed_decimal fd) × IsFile fd
 unfolding file_of
 file_found [] fd e = absurd cc
-file_found (b ∷ bs) fd e =
-    elim (chosen (eqb b 45) (number_of (2 ^ 64) bs >>= negative_of) (option_map (λ n. pos n) (number_of (2 ^ 31) (b ∷ bs))) (Some fd) e) [
-      | inl p ↦
-          let s = bind_some (number_of (2 ^ 64) bs) negative_of fd p.1 in
-          let m = negative_found s.0 fd s.2 in
-          let n = number_found (2 ^ 64) bs s.0 (omega arith) s.1 in
-          let minus : b ≡ 45 = eqb-true b 45 p.0 in
-          let digits : bs ≡ decimal (suc m.0) = n.0 ∙ ap decimal m.1 in
-          let same : b ∷ bs ≡ 45 ∷ decimal (suc m.0) = ap (λ (x : ℕ). x ∷ bs) minus ∙ ap (λ (l : List ℕ). 45 ∷ l) digits in
-          subst (IsSpelled (b ∷ bs)) (sym m.3) (same, m.2)
-      | inr p ↦
-          let m = mapped (λ k. pos k) (number_of (2 ^ 31) (b ∷ bs)) fd p.1 in
-          let n = number_found (2 ^ 31) (b ∷ bs) m.0 (omega arith) m.1 in
-          subst (IsSpelled (b ∷ bs)) m.2 n
-    ]
+file_found (b ∷ bs) (pos n) e = number_found (2 ^ 31) (b ∷ bs) n (omega arith) (file_digits b bs n e)
+file_found (b ∷ bs) (negsuc k) e =
+    let is = minus_digits b bs k e in
+    (rw (is.0, (number_found (2 ^ 64) bs (suc k) (omega arith) is.1).0), is.2)
 
 -- the decimal form of a number doesn't begin with a minus
 no_minus : (n : ℕ) → n < 2 ^ 64 → get_or (decimal n) 0 0 ≡ 45 → ⊥
 no_minus n lt e =
-    let digit = digit_at (decimal n) 0 (own.to (decimal n) (digits_decimal own n lt)) (decimal_nonempty n lt) in
-    absurd (omega (arith, digit.0))
+    omega (arith, digit_at (decimal n) 0 (own.to (decimal n) (digits_decimal own n lt)) (decimal_nonempty n lt))
 
 pub file_again : (fd : ℤ) → IsFile fd → file_of (signed_decimal fd) ≡ Some fd
 unfolding file_of
 file_again (pos n) lt = sym (file_other (decimal n) (no_minus n (omega arith))) ∙ ap (option_map (λ n. pos n)) (number_again (2 ^ 31) n (omega arith) lt)
 file_again (negsuc k) lt = grind (arith, number_again)
 
-signed_other : (w : List ℕ) → file_of w ≡ None → (fd : ℤ) → IsFile fd → signed_decimal fd ≡ w → ⊥
-signed_other w none fd is same = grind (arith, file_again)
-
 -- what a token spells that is read as a signed number, or as none
 pub signed_tells : (w : List ℕ) (r : Option ℤ) → r ≡ file_of w
     → MatchOption r ((fd : ℤ) → IsFile fd → signed_decimal fd ≡ w → ⊥) (λ fd. (signed_decimal fd ≡ w) × IsFile fd)
-signed_tells w None is = signed_other w (sym is)
+signed_tells w None is = λ fd file same. grind (arith, file_again)
 signed_tells w (Some fd) is = let found = file_found w fd (sym is) in (sym found.0, found.1)

@@ -1,5 +1,5 @@
 -- Words that are numbers.
-use Rattle.std.proofs.Common.{◌≡◌, ℕ, ◌^◌, ◌<◌, ◌≤◌, true, List, ◌∷◌, length, get_or, Some, None, Result, arith, rules}
+use Rattle.std.proofs.Common.{◌≡◌, ℕ, ◌^◌, ◌<◌, ◌≤◌, true, List, length, get_or, Some, None, Result, arith, rules}
 use Rattle.uring_text.proofs.Common.{IsUtf8, file_of, is_numeral, list_all, lt-ltb, ne_eqb, nil_from_length, number_of, option_map, pos}
 use Rattle.std.specs.Char.{is_ascii_digit}
 use Rattle.std.specs.Str.Parse.{digits_value, ParsesUnsigned}
@@ -11,33 +11,25 @@ use Rattle.std.proofs.lemmas.Str.Parse.{IsNumeralModel, numerals_by_value, parse
 pub own : IsNumeralModel (λ ds. list_all is_ascii_digit ds ≡ true) (digits_value 10)
 own = numerals_by_value _ (search rules)
 
-digits_from : (b : ℕ) (bs : List ℕ) → is_numeral (b ∷ bs) ≡ true
-    → list_all is_ascii_digit (b ∷ bs) ≡ true
+-- a numeral is digits, of which the first is no zero unless it is the only one
+pub numeral_is : (w : List ℕ) → is_numeral w ≡ true
+    → (list_all is_ascii_digit w ≡ true) × (0 < length w) × (get_or w 0 0 ≡ 48 → length w ≡ 1)
 unfolding is_numeral
-digits_from b bs e = grind (arith, nil_from_length)
-
--- a numeral's digits
-pub numeral_digits : (w : List ℕ) → is_numeral w ≡ true → list_all is_ascii_digit w ≡ true
-unfolding is_numeral
-numeral_digits w e = grind (arith, digits_from)
+numeral_is w e = grind (arith, nil_from_length)
 
 pub numeral_utf8 : (w : List ℕ) → is_numeral w ≡ true → IsUtf8 w
-numeral_utf8 w e = IsUtf8-from_ascii w (IsAscii-from_digits w (own.to w (numeral_digits w e)))
-
-pub some_length : (w : List ℕ) → is_numeral w ≡ true → 0 < length w
-unfolding is_numeral
-some_length w e = grind arith
+numeral_utf8 w e = IsUtf8-from_ascii w (IsAscii-from_digits w (own.to w (numeral_is w e).0))
 
 -- what parsing a numeral gives
 parsed_as : {E : Type 0} (w : List ℕ) (r : Result ℕ E) → is_numeral w ≡ true
     → OkIff r ((0 < length w) × (digits_value 10 w < 2 ^ 64)) (digits_value 10 w)
     → result_ok r ≡ number_of (2 ^ 64) w
 unfolding number_of
-parsed_as w r e h = grind (arith, lt-ltb, some_length)
+parsed_as w r e h = grind (arith, lt-ltb, (numeral_is w e).1)
 
 pub numeral_parsed : {E : Type 0} (w : List ℕ) (r : Result ℕ E) → is_numeral w ≡ true
     → ParsesUnsigned 64 10 w r → result_ok r ≡ number_of (2 ^ 64) w
-numeral_parsed w r e h = parsed_as w r e (parse_digits own 64 w r h (numeral_digits w e))
+numeral_parsed w r e h = parsed_as w r e (parse_digits own 64 w r h (numeral_is w e).0)
 
 -- what a token's number is
 pub number_parts : (limit : ℕ) (w : List ℕ) (n : ℕ) → number_of limit w ≡ Some n

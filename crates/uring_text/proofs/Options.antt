@@ -1,6 +1,6 @@
 -- Steps that may give nothing.
-use Rattle.std.proofs.Common.{◌≡◌, ℕ, Bool, true, false, cond, List, Option, Some, None, refl, ◌⊎◌, inl, inr}
-use Rattle.uring_text.proofs.Common.{bytes_eq, bytes_eq-Decides, cases_Bool, codes, option_map, same_Some, ◌>>=◌}
+use Rattle.std.proofs.Common.{◌≡◌, ℕ, false, List, Option, Some, None, refl, sym, arith}
+use Rattle.uring_text.proofs.Common.{bytes_eq, bytes_eq-Decides, codes, option_map, same_Some, ◌>>=◌}
 
 -- the value of a step that gave something
 pub bind_some : {A B : Type 0} (o : Option A) (f : A → Option B) (y : B) → (o >>= f) ≡ Some y
@@ -8,34 +8,12 @@ pub bind_some : {A B : Type 0} (o : Option A) (f : A → Option B) (y : B) → (
 bind_some (Some x) f y e = (x, refl, e)
 bind_some None f y e = absurd cc
 
--- the value that a mapped one is of
-pub mapped : {A B : Type 0} (f : A → B) (o : Option A) (y : B) → option_map f o ≡ Some y
-    → (x : A) × (o ≡ Some x) × (f x ≡ y)
-mapped f None y e = absurd cc
-mapped f (Some x) y e = (x, refl, same_Some (f x) y e)
-
--- a test that was passed
-pub test_some : {A : Type 0} (b : Bool) (o : Option A) (y : A) → cond b o None ≡ Some y
-    → (b ≡ true) × (o ≡ Some y)
-test_some true o y e = (refl, e)
-test_some false o y e = absurd cc
-
--- or wasn't
-pub unless_some : {A : Type 0} (b : Bool) (o : Option A) (y : A) → cond b None o ≡ Some y
-    → (b ≡ false) × (o ≡ Some y)
-unless_some true o y e = absurd cc
-unless_some false o y e = (refl, e)
-
--- one of two ways
-pub chosen : {A : Type 0} (b : Bool) (x y z : A) → cond b x y ≡ z
-    → ((b ≡ true) × (x ≡ z)) ⊎ ((b ≡ false) × (y ≡ z))
-chosen true x y z e = inl (refl, e)
-chosen false x y z e = inr (refl, e)
+-- the value that a mapped one is of, and what is said of it
+pub mapped : {A B : Type 0} (S : A → Type 0) (f : A → B) (o : Option A) (y : B)
+    → ((x : A) → o ≡ Some x → S x) → option_map f o ≡ Some y → (x : A) × S x × (y ≡ f x)
+mapped S f None y is e = absurd cc
+mapped S f (Some x) y is e = (x, is x refl, sym (same_Some (f x) y e))
 
 -- a token other than `-`
 pub no_dash : (token : List ℕ) → (token ≡ codes "-" → ⊥) → bytes_eq token (codes "-") ≡ false
-no_dash token other =
-    elim (cases_Bool (bytes_eq token (codes "-"))) [
-      | inl dash ↦ absurd (other ((bytes_eq-Decides token (codes "-")).0 dash))
-      | inr f ↦ f
-    ]
+no_dash token other = grind (arith, (bytes_eq-Decides token (codes "-")))

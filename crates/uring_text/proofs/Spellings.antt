@@ -1,6 +1,6 @@
 -- What is read of tokens is the entry or the number that they spell.
-use Rattle.std.proofs.Common.{◌≡◌, ℕ, ◌^◌, ◌≤◌, List, Option, Some, None, refl, sym, ap, subst, ◌∙◌}
-use Rattle.uring_text.proofs.Common.{Form, IsEntryOf, IsNoEntry, IsNoNumber, MatchOption, ReadsEntry, SpellsEntry, SpellsNumber, Sqe, form_of, number_of, same_Some}
+use Rattle.std.proofs.Common.{◌≡◌, ℕ, ◌^◌, ◌≤◌, List, Option, Some, None, refl, sym, ap, ◌∙◌, arith}
+use Rattle.uring_text.proofs.Common.{Form, IsNoEntry, IsNoNumber, MatchOption, ReadsEntry, SpellsEntry, SpellsNumber, Sqe, form_of, number_of, same_Some}
 use Rattle.uring_text.proofs.NumberLaws.{number_found, number_again}
 use Rattle.uring_text.proofs.FormLaws.{form_found, form_again}
 use Rattle.uring_text.proofs.EntryLaws.{entry_once}
@@ -8,14 +8,10 @@ use Rattle.uring_text.proofs.EntryLaws.{entry_once}
 -- what a reader of an entry's tokens tells
 entry_read : (tokens : List (List ℕ)) (f : Option Form) (read : Option Sqe) → form_of tokens ≡ f
     → ReadsEntry read f → MatchOption read (IsNoEntry tokens) (SpellsEntry tokens)
-entry_read tokens None None e h = λ entry s. absurd (let no : None ≡ Some s.form = sym e ∙ form_again tokens s.form s.spells in cc)
-entry_read tokens None (Some entry) e h = absurd (let no : Some entry ≡ None = h in cc)
+entry_read tokens None None e h = λ entry s. absurd (cc (e, form_again tokens s.form s.spells))
+entry_read tokens (Some f) (Some entry) e h = grind (arith, (form_found tokens f e))
+entry_read tokens None (Some entry) e h = absurd cc
 entry_read tokens (Some f) None e h = absurd h
-entry_read tokens (Some f) (Some entry) e h = record {
-  form = f;
-  spells = form_found tokens f e;
-  is_entry = h;
-}
 
 pub read_entry_tells : (tokens : List (List ℕ)) (read : Option Sqe)
     → ReadsEntry read (form_of tokens) → MatchOption read (IsNoEntry tokens) (SpellsEntry tokens)
@@ -25,18 +21,13 @@ read_entry_tells tokens read h = entry_read tokens (form_of tokens) read refl h
 pub spelled_once : (tokens : List (List ℕ)) (a b : Sqe) → SpellsEntry tokens a
     → SpellsEntry tokens b → a ≡ b
 spelled_once tokens a b h k =
-    let same : h.form ≡ k.form = same_Some h.form k.form (sym (form_again tokens h.form h.spells) ∙ form_again tokens k.form k.spells) in
-    entry_once k.form a b (subst (λ (f : Form). IsEntryOf f a) same h.is_entry) k.is_entry
-
-number_read : (limit : ℕ) (token : List ℕ) (n : Option ℕ) → limit ≤ 2 ^ 64
-    → number_of limit token ≡ n → MatchOption n (IsNoNumber limit token) (SpellsNumber limit token)
-number_read limit token None le e = λ n s. absurd (let no : None ≡ Some n = sym e ∙ ap (number_of limit) s.0 ∙ number_again limit n le s.1 in cc)
-number_read limit token (Some n) le e = number_found limit token n le e
+    grind (arith, (form_again tokens h.form h.spells), (form_again tokens k.form k.spells), (entry_once h.form a b))
 
 pub read_number_tells : (limit : ℕ) (token : List ℕ) (read : Option ℕ) → limit ≤ 2 ^ 64
     → read ≡ number_of limit token
     → MatchOption read (IsNoNumber limit token) (SpellsNumber limit token)
-read_number_tells limit token read le e = number_read limit token read le (sym e)
+read_number_tells limit token None le e = λ n s. grind (arith, number_again)
+read_number_tells limit token (Some n) le e = number_found limit token n le (sym e)
 
 -- a token is one number at most
 pub number_once : (limit : ℕ) (token : List ℕ) (n m : ℕ) → limit ≤ 2 ^ 64

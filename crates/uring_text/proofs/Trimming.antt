@@ -8,20 +8,13 @@ pub trimmed_zero : (bytes : List ℕ) → trimmed (bytes ++ 0 ∷ []) ≡ trimme
 trimmed_zero [] = refl
 trimmed_zero (b ∷ bytes) = ap (before_others b) (trimmed_zero bytes)
 
-alone : (b : ℕ) → (b ≡ 0 → ⊥) → before_others b [] ≡ b ∷ []
-alone b h = grind arith
-
-same_last : (b c : ℕ) (bytes : List ℕ) → get_or (c ∷ bytes) (length (c ∷ bytes) - 1) 0 ≡ 0
-    → get_or (b ∷ c ∷ bytes) (length (b ∷ c ∷ bytes) - 1) 0 ≡ 0
-same_last b c bytes e = grind arith
-
 -- bytes that don't end with a zero are whole
 pub trimmed_whole : (bytes : List ℕ)
     → (0 < length bytes → get_or bytes (length bytes - 1) 0 ≡ 0 → ⊥) → trimmed bytes ≡ bytes
 trimmed_whole [] h = refl
-trimmed_whole (b ∷ []) h = alone b (λ e. h (omega arith) e)
+trimmed_whole (b ∷ []) h = grind arith
 trimmed_whole (b ∷ c ∷ bytes) h =
-    grind (arith, (trimmed_whole (c ∷ bytes) (λ lt e. h (omega arith) (same_last b c bytes e))), same_last)
+    grind (arith, (trimmed_whole (c ∷ bytes) (λ lt e. h (omega arith) (grind arith))))
 
 -- a zero at the end is cut off
 pub cut_zero : (bytes : List ℕ) (used : ℕ) → 0 < used → used ≤ length bytes

@@ -1,9 +1,8 @@
 -- What an explainer keeps, byte by byte and line by line.
-use Rattle.std.proofs.Common.{◌≡◌, ◌≢◌, ℕ, ◌+◌, ◌-◌, ◌^◌, min, Bool, true, false, List, [], ◌∷◌, ◌++◌, length, Option, Result, refl, sym, ap, subst, ◌∙◌, append_assoc, arith}
-use Rattle.uring_trace.proofs.Common.{AppendsLine, Asked, Bad, Explaining, Explains, ExplainsBeginning, ExplainsWholeBy, Fits, History, IfOk, IsBad, IsGrantedTo, IsStep, KeptLine, Machine, Made, Remark, Saying, Step, Telling, TellsShown, TellsStep, Why, after_text, append-nil, bad_note, codes, ended, event_in, events_in, history_of, is_bad, joined, kept_of, line_number, lines_in, noted_of, option_to_list, told_of, with_event, with_last, world}
+use Rattle.std.proofs.Common.{◌≡◌, ◌≢◌, ℕ, ◌+◌, ◌-◌, ◌^◌, min, Bool, true, false, List, [], ◌∷◌, ◌++◌, length, Option, Result, refl, sym, ap, subst, ◌∙◌, append_assoc, arith, None, ◌||◌}
+use Rattle.uring_trace.proofs.Common.{AppendsLine, Asked, Bad, Explaining, Explains, ExplainsBeginning, ExplainsWholeBy, Fits, History, IfOk, IsBad, IsGrantedTo, IsStep, KeptLine, Machine, Made, Remark, Saying, Step, Telling, TellsShown, TellsStep, Why, after_text, append-nil, bad_note, codes, ended, event_in, events_in, history_of, is_bad, joined, kept_of, line_number, lines_in, noted_of, option_to_list, told_of, with_last, world}
 use Rattle.std.specs.List.{list_any}
 use Rattle.uring_entry.specs.Setup.{Setup}
-use Rattle.uring_core.specs.CalledFor.{IsLawful}
 use Rattle.uring_machine.specs.Settling.{AreUnrefused}
 use Rattle.uring_core.specs.declared.answer.Answer.{Answer}
 use Rattle.uring_dispatch.specs.declared.answers.Found.{Found}
@@ -16,6 +15,7 @@ use Rattle.uring_trace.specs.Questions.{IsQuestion, IsNoQuestion}
 use Rattle.uring_trace.specs.declared.questions.Question.{Question}
 use Rattle.uring_text.proofs.Splits.{split_more, split_end, split_whole, last_some}
 use Rattle.uring_trace.proofs.Sessions.{one_more, unrefused_more}
+use Rattle.uring_trace.specs.Explanations.{Said, IsSaid}
 
 -- two facts of a value, whatever the value
 pub if_ok_both : {T E : Type 0} (r : Result T E) (P Q R : T → Type 0) → ((x : T) → P x → Q x → R x)
@@ -46,47 +46,40 @@ line_made granted old new number bad line before after notes step is t = record 
   unrefused = t.unrefused;
 }
 
+-- a line that is no step
+no_step : (granted : Type 0) (m : Machine) (number : ℕ) (was_bad bad : Bool) (line before after notes notes' : List ℕ) (said : Said)
+    → event_in said ≡ None → IsSaid line said
+    → ((h : History) → Fits m h → after ≡ before ++ told_of m.core.setup (world m.core.setup h) said)
+    → notes' ≡ notes ++ noted_of number line said → bad ≡ (was_bad || is_bad said)
+    → AppendsLine granted m m number was_bad bad line before after notes notes'
+no_step granted m number was_bad bad line before after notes notes' said none read told noted bad_line = record {
+  said = said;
+  read = read;
+  told = told;
+  noted = noted;
+  bad_line = bad_line;
+  same = refl;
+  fits = λ h f. rw none f;
+  unrefused = λ sure h f. rw none tt;
+}
+
 pub line_asked : (granted : Type 0) (m : Machine) (number : ℕ) (bad : Bool) (line before after notes : List ℕ) (question : Question)
     → IsQuestion line question → TellsShown m question before after
     → AppendsLine granted m m number bad bad line before after notes notes
-line_asked granted m number bad line before after notes question is tells = record {
-  said = Asked question;
-  read = is;
-  told = tells;
-  noted = sym (append-nil notes);
-  bad_line = sym (or-false bad);
-  same = refl;
-  fits = λ h f. f;
-  unrefused = λ sure h f. tt;
-}
+line_asked granted m number bad line before after notes question is tells =
+    no_step granted m number bad bad line before after notes notes (Asked question) refl is tells (sym (append-nil notes)) (sym (or-false bad))
 
 pub line_bad : (granted : Type 0) (m : Machine) (number : ℕ) (was_bad : Bool) (line before after notes notes' : List ℕ)
     → IsBad line → is_remark line ≡ false → IsNoQuestion line
     → after ≡ before ++ ended (codes "bad line") → notes' ≡ notes ++ bad_note number line
     → AppendsLine granted m m number was_bad true line before after notes notes'
-line_bad granted m number was_bad line before after notes notes' is remark none told noted = record {
-  said = Bad;
-  read = (is, remark, none);
-  told = λ h f. told;
-  noted = noted;
-  bad_line = sym (or-true was_bad);
-  same = refl;
-  fits = λ h f. f;
-  unrefused = λ sure h f. tt;
-}
+line_bad granted m number was_bad line before after notes notes' is remark none told noted =
+    no_step granted m number was_bad true line before after notes notes' Bad refl (is, remark, none) (λ h f. told) noted (sym (or-true was_bad))
 
 pub line_remark : (granted : Type 0) (m : Machine) (number : ℕ) (bad : Bool) (line text notes : List ℕ)
     → is_remark line ≡ true → AppendsLine granted m m number bad bad line text text notes notes
-line_remark granted m number bad line text notes is = record {
-  said = Remark;
-  read = is;
-  told = λ h f. sym (append-nil text);
-  noted = sym (append-nil notes);
-  bad_line = sym (or-false bad);
-  same = refl;
-  fits = λ h f. f;
-  unrefused = λ sure h f. tt;
-}
+line_remark granted m number bad line text notes is =
+    no_step granted m number bad bad line text text notes notes Remark refl is (λ h f. sym (append-nil text)) (sym (append-nil notes)) (sym (or-false bad))
 
 -- before the first line
 pub explaining_none : (telling : Telling) (m : Machine) (kept : KeptLine) → kept ≡ kept_of []
@@ -111,25 +104,16 @@ explained_more granted telling m m' number was_bad bad xs line text before after
     let past : History = history_of (events_in xs) in
     let told : after ≡ before ++ told_of telling.setup (world telling.setup past) a.said = subst (λ (g : Setup). after ≡ before ++ told_of g (world g past) a.said) same (a.told past fits) in
     record {
-      lawful =
-          subst (λ (k : History). IsLawful telling.setup k) (one_more (event_in a.said) (events_in xs))
-          (subst (λ (g : Setup). IsLawful g (with_event (event_in a.said) past)) (a.same ∙ same) (a.fits past fits).lawful);
+      lawful = rw (a.same ∙ same, one_more (event_in a.said) (events_in xs)) at (a.fits past fits).lawful;
       unrefused = λ yes. unrefused_more telling.setup (event_in a.said) (events_in xs) (h.unrefused yes) (subst (λ (g : Setup). AreUnrefused g past (option_to_list (event_in a.said))) same (a.unrefused (sure yes) past fits));
       each = (a.read, h.each);
-      told =
-          ap (λ (t : List ℕ). text ++ t) told ∙ sym (append_assoc text before (told_of telling.setup (world telling.setup past) a.said))
-          ∙ ap (λ (t : List ℕ). t ++ told_of telling.setup (world telling.setup past) a.said) h.told;
-      noted =
-          ap (λ (t : List ℕ). notes ++ t) (a.noted ∙ ap (λ n. noted ++ noted_of n line a.said) numbered)
-          ∙ sym (append_assoc notes noted (noted_of (line_number (length xs)) line a.said))
-          ∙ ap (λ (t : List ℕ). t ++ noted_of (line_number (length xs)) line a.said) h.noted;
+      told = rw (told, ← append_assoc text before (told_of telling.setup (world telling.setup past) a.said), h.told);
+      noted = rw (a.noted, numbered, ← append_assoc notes noted (noted_of (line_number (length xs)) line a.said), h.noted);
     }
 
-bad_more : (granted : Type 0) (m m' : Machine) (number : ℕ) (was_bad bad : Bool) (xs : List Saying) (line before after noted noted' : List ℕ)
-    → was_bad ≡ list_any (λ x. is_bad x.said) xs
-    → (a : AppendsLine granted m m' number was_bad bad line before after noted noted')
-    → bad ≡ list_any (λ x. is_bad x.said) (record { line = line; said = a.said } ∷ xs)
-bad_more granted m m' number was_bad bad xs line before after noted noted' was a = grind arith
+bad_more : (was_bad bad : Bool) (xs : List Saying) (line : List ℕ) (said : Said) → was_bad ≡ list_any (λ x. is_bad x.said) xs
+    → bad ≡ (was_bad || is_bad said) → bad ≡ list_any (λ x. is_bad x.said) (record { line = line; said = said } ∷ xs)
+bad_more was_bad bad xs line said was is = grind arith
 
 -- a line that has its end
 pub explain_line : (granted : Type 0) (telling : Telling) (m m' : Machine) (kept : KeptLine) (number number' : ℕ) (was_bad bad : Bool) (bytes text before after notes noted noted' : List ℕ)
@@ -139,18 +123,10 @@ pub explain_line : (granted : Type 0) (telling : Telling) (m m' : Machine) (kept
     → Explaining telling m' (kept_of []) number' bad (bytes ++ 10 ∷ []) (text ++ after) (notes ++ noted')
 explain_line granted telling m m' kept number number' was_bad bad bytes text before after notes noted noted' next tells sure h =
     let a = tells h.line h.keeps in
-    let numbered = h.numbered in
-    record {
-      sayings = record { line = h.line; said = a.said } ∷ h.sayings;
-      line = [];
-      explains = explained_more granted telling m m' number was_bad bad h.sayings h.line text before after notes noted noted' sure h.explains h.numbered h.same h.fits a;
-      splits = split_end bytes (lines_in h.sayings) h.line h.splits;
-      keeps = refl;
-      numbered = omega (arith, next, numbered);
-      bad_lines = bad_more granted m m' number was_bad bad h.sayings h.line before after noted noted' h.bad_lines a;
-      same = a.same ∙ h.same;
-      fits = subst (λ (k : History). Fits m' k) (one_more (event_in a.said) (events_in h.sayings)) (a.fits (history_of (events_in h.sayings)) h.fits);
-    }
+    let all = explained_more granted telling m m' number was_bad bad h.sayings h.line text before after notes noted noted' sure h.explains h.numbered h.same h.fits a in
+    let fits = rw (one_more (event_in a.said) (events_in h.sayings)) at (a.fits (history_of (events_in h.sayings)) h.fits) in
+    let bad = bad_more was_bad bad h.sayings h.line a.said h.bad_lines a.bad_line in
+    grind (arith, all, (split_end bytes (lines_in h.sayings) h.line h.splits), bad, fits)
 
 -- the lines to their end, and the machine that fits them
 abbrev pub Ended : Telling → Machine → Bool → List ℕ → List ℕ → List ℕ → Type 0
@@ -165,15 +141,7 @@ pub explain_last : (granted : Type 0) (telling : Telling) (m m' : Machine) (kept
     → Ended telling m' bad bytes (text ++ after) (notes ++ noted')
 explain_last granted telling m m' kept number was_bad bad bytes text before after notes noted noted' some tells sure h =
     let a = tells h.line h.keeps in (
-      (
-        record { line = h.line; said = a.said } ∷ h.sayings,
-        lines_in h.sayings,
-        h.line,
-        explained_more granted telling m m' number was_bad bad h.sayings h.line text before after notes noted noted' sure h.explains h.numbered h.same h.fits a,
-        h.splits,
-        sym (last_some (lines_in h.sayings) h.line (some h.line h.keeps)),
-        bad_more granted m m' number was_bad bad h.sayings h.line before after noted noted' h.bad_lines a,
-      ),
+      grind (arith, (explained_more granted telling m m' number was_bad bad h.sayings h.line text before after notes noted noted' sure h.explains h.numbered h.same h.fits a), (last_some (lines_in h.sayings) h.line (some h.line h.keeps)), (bad_more was_bad bad h.sayings h.line a.said h.bad_lines a.bad_line)),
       a.same ∙ h.same,
       subst (λ (k : History). Fits m' k) (one_more (event_in a.said) (events_in h.sayings)) (a.fits (history_of (events_in h.sayings)) h.fits),
     )

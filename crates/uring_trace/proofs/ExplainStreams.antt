@@ -1,6 +1,6 @@
 -- What explain reads and writes.
-use Rattle.std.proofs.Common.{◌≡◌, ℕ, Bool, List, [], ◌++◌, Option, Result, Ok, Err, refl, sym, subst, ◌∙◌, append_assoc, arith, inr}
-use Rattle.uring_trace.proofs.Common.{Appends, Consumes, ExplainsBeginning, ExplainsLess, ExplainsWholeBy, HasToldBy, IsAtEnd, IsExplained, Keeps, ReadsWhole, Telling, TookBoth, WritesBoth, WritesPair, WritesTexts, WroteBoth, append-nil}
+use Rattle.std.proofs.Common.{◌≡◌, ℕ, Bool, List, [], ◌++◌, Option, Result, Ok, Err, refl, sym, ◌∙◌, append_assoc, arith, inr}
+use Rattle.uring_trace.proofs.Common.{Appends, Consumes, ExplainsBeginning, ExplainsWholeBy, HasToldBy, IsAtEnd, IsExplained, Keeps, ReadsWhole, Telling, TookBoth, WritesBoth, WritesPair, WritesTexts, WroteBoth, append-nil}
 use Rattle.std.proofs.KnownBytes.{Consumes-nil, Appends-nil, Appends-trans, Consumes-trans}
 use Rattle.uring_text.specs.declared.trace_fault.TraceFault.{TraceFault}
 use Rattle.uring_text.specs.declared.trace_fault.TraceFault.TheVariants as fault
@@ -30,11 +30,9 @@ pub pair_whole : (w w' e e' : Known) (result : Done) (text notes : List ℕ)
     → (written : List ℕ) × Appends w w' written × (written ≡ text)
     → (noted : List ℕ) × Appends e e' noted × WritesText result notes noted
     → WritesPair w w' e e' result text notes
-pair_whole w w' e e' result text notes x y = (x.0, y.0, x.1, y.1, go result y.2)
-  where
-    go : (r : Done) → WritesText r notes y.0 → WritesTexts r text notes x.0 y.0
-    go (Ok done) same = (x.2, same)
-    go (Err f) t = let some = t.2 in (t.0, [], t.1, omega arith, sym x.2 ∙ sym (append-nil x.0), t.3)
+pair_whole w w' e e' (Ok done) text notes x y = (x.0, y.0, x.1, y.1, (x.2, y.2))
+pair_whole w w' e e' (Err f) text notes x y =
+    let t = y.2 in let some = t.2 in (x.0, y.0, x.1, y.1, (t.0, [], t.1, omega arith, sym x.2 ∙ sym (append-nil x.0), t.3))
 
 -- ---- what is told and noted of some bytes
 
@@ -42,12 +40,6 @@ pub nothing_yet : (telling : Telling) (s : Explainer) (bytes told noted none non
     → none' ≡ [] → HasToldBy telling s bytes told noted
     → HasToldBy telling s bytes (told ++ none) (noted ++ none')
 nothing_yet telling s bytes told noted none none' a b h = grind (arith, append-nil)
-
-beginning : (telling : Telling) (s : Explainer) (bytes told noted more : List ℕ)
-    → HasToldBy telling s bytes told noted
-    → ExplainsBeginning telling (bytes ++ more) (told ++ []) (noted ++ [])
-beginning telling s bytes told noted more h =
-    grind (arith, (append-nil noted), (append-nil told), (explain_beginning telling s.machine s.line s.number s.has_bad bytes told noted more h))
 
 -- the same bytes, with nothing after them
 beginning_here : (telling : Telling) (s : Explainer) (bytes told noted : List ℕ)
@@ -59,12 +51,8 @@ pub none_told : (telling : Telling) (result : Done) (w e : Known) (s s' : Explai
     → result ≡ Err fault.Memory → HasToldBy telling s before told noted
     → WroteBoth w w e e told noted (TookBoth telling result s' (before ++ more))
 none_told telling result w e s s' before told noted more is h =
-    ([], [], Appends-nil w, Appends-nil e, subst (λ (x : Done). TookBoth telling x s' (before ++ more) (told ++ []) (noted ++ [])) (sym is) (beginning telling s before told noted more h))
-
--- a text of which a part was written
-split_text : (told new written more : List ℕ) → new ≡ written ++ more
-    → told ++ new ≡ (told ++ written) ++ more
-split_text told new written more e = grind (arith, append_assoc)
+    let so = explain_beginning telling s.machine s.line s.number s.has_bad before told noted more h in
+    ([], [], Appends-nil w, Appends-nil e, rw (is, append-nil told, append-nil noted) so)
 
 took : (telling : Telling) (result : Done) (s : Explainer) (bytes told noted new new' written written' : List ℕ)
     → HasToldBy telling s bytes (told ++ new) (noted ++ new')
@@ -72,7 +60,7 @@ took : (telling : Telling) (result : Done) (s : Explainer) (bytes told noted new
     → TookBoth telling result s bytes (told ++ written) (noted ++ written')
 took telling (Ok done) s bytes told noted new new' written written' h w = grind arith
 took telling (Err f) s bytes told noted new new' written written' h w =
-    grind (arith, (split_text told new written w.1 w.4), (beginning_here telling s bytes (told ++ new) (noted ++ new') h), (split_text noted new' written' w.2 w.5))
+    grind (arith, append_assoc, (beginning_here telling s bytes (told ++ new) (noted ++ new') h))
 
 pub bytes_told : (telling : Telling) (result : Done) (w w' e e' : Known) (s s' : Explainer) (before told noted more none none' new new' : List ℕ)
     → none ≡ [] → none' ≡ []
@@ -80,21 +68,16 @@ pub bytes_told : (telling : Telling) (result : Done) (w w' e e' : Known) (s s' :
     → WritesPair w w' e e' result new new' → HasToldBy telling s before told noted
     → WroteBoth w w' e e' told noted (TookBoth telling result s' (before ++ more))
 bytes_told telling result w w' e e' s s' before told noted more none none' new new' a b feed p h =
-    (p.0, p.1, p.2, p.3, took telling result s' (before ++ more) told noted new new' p.0 p.1 (feed before told noted (nothing_yet telling s before told noted none none' a b h)) p.4)
+    (p.0, p.1, p.2, p.3, took telling result s' (before ++ more) told noted new new' p.0 p.1 (feed before told noted (rw (a, b, append-nil told, append-nil noted) h)) p.4)
 
 -- ---- the last line
 
 pub last_none : (telling : Telling) (answer : Answer) (w e : Known) (s : Explainer) (before told noted : List ℕ)
     → answer ≡ Err fault.Memory → HasToldBy telling s before told noted
     → WroteBoth w w e e told noted (WritesBoth telling answer before)
-last_none telling answer w e s before told noted is h = (
-  [],
-  [],
-  Appends-nil w,
-  Appends-nil e,
-  subst (λ (x : Answer). WritesBoth telling x before (told ++ []) (noted ++ [])) (sym is)
-      (subst (λ (l : List ℕ). ExplainsBeginning telling l (told ++ []) (noted ++ [])) (append-nil before) (beginning telling s before told noted [] h)),
-)
+last_none telling answer w e s before told noted is h =
+    let so = beginning_here telling s before told noted h in
+    ([], [], Appends-nil w, Appends-nil e, rw (is, append-nil told, append-nil noted) so)
 
 pub last_cut : (telling : Telling) (answer : Answer) (f : TraceFault) (w w' e e' : Known) (s : Explainer) (bad : Bool) (before told noted none none' new new' : List ℕ)
     → answer ≡ Err f → none ≡ [] → none' ≡ []
@@ -103,17 +86,9 @@ pub last_cut : (telling : Telling) (answer : Answer) (f : TraceFault) (w w' e e'
     → WroteBoth w w' e e' told noted (WritesBoth telling answer before)
 last_cut telling answer f w w' e e' s bad before told noted none none' new new' is a b finish p h =
     let t = p.4 in
-    let whole = finish before told noted (nothing_yet telling s before told noted none none' a b h) in
-    let first = subst (λ (l : List ℕ). ExplainsWholeBy telling bad before l (noted ++ new')) (split_text told new p.0 t.1 t.4) whole in
-    let both = subst (λ (l : List ℕ). ExplainsWholeBy telling bad before ((told ++ p.0) ++ t.1) l) (split_text noted new' p.1 t.2 t.5) first in
-    let less : ExplainsLess telling before (told ++ p.0) (noted ++ p.1) = (t.1, t.2, t.3, inr (bad, both)) in (
-      p.0,
-      p.1,
-      p.2,
-      p.3,
-      subst (λ (x : Answer). WritesBoth telling x before (told ++ p.0) (noted ++ p.1)) (sym is)
-          (subst (λ (x : TraceFault). WritesBoth telling (Err x) before (told ++ p.0) (noted ++ p.1)) (sym t.0) less),
-    )
+    let whole = finish before told noted (rw (a, b, append-nil told, append-nil noted) h) in
+    let both = rw (t.4, t.5, ← append_assoc told p.0 t.1, ← append_assoc noted p.1 t.2) at whole in
+    (p.0, p.1, p.2, p.3, rw (is, t.0) (t.1, t.2, t.3, inr (bad, both)))
 
 pub last_told : (telling : Telling) (w w' e e' : Known) (s : Explainer) (bad found : Bool) (before told noted none none' new new' : List ℕ)
     → found ≡ bad → none ≡ [] → none' ≡ []
@@ -123,35 +98,36 @@ pub last_told : (telling : Telling) (w w' e e' : Known) (s : Explainer) (bad fou
     → HasToldBy telling s before told noted
     → WroteBoth w w' e e' told noted (WritesBoth telling (Ok found) before)
 last_told telling w w' e e' s bad found before told noted none none' new new' is a b finish p h =
-    let whole = finish before told noted (nothing_yet telling s before told noted none none' a b h) in (
-      p.0,
-      p.1,
-      p.2,
-      p.3,
-      subst (λ (x : Bool). ExplainsWholeBy telling x before (told ++ p.0) (noted ++ p.1)) (sym is)
-          (subst (λ (l : List ℕ). ExplainsWholeBy telling bad before (told ++ p.0) (noted ++ l)) (sym p.4.1)
-          (subst (λ (l : List ℕ). ExplainsWholeBy telling bad before (told ++ l) (noted ++ new')) (sym p.4.0) whole)),
-    )
+    let whole = finish before told noted (rw (a, b, append-nil told, append-nil noted) h) in
+    (p.0, p.1, p.2, p.3, rw (is, p.4.0, p.4.1) whole)
 
 -- ---- the whole run
 
--- What was read and written so far: the reader had a left and has r, the writers held d and x and hold w and e.
+-- Something is so of what was read and written so far: the reader had a left and has r, the writers held d and x and hold w and e.
+abbrev pub FarBy : Known → Known → Known → Known → Known → Known → (List ℕ → List ℕ → List ℕ → Type 0) → Type 0
+FarBy a r d w x e P = (bytes : List ℕ) × (text : List ℕ) × (notes : List ℕ) × Consumes a r bytes
+    × Appends d w text × Appends x e notes × P bytes text notes
+
 abbrev pub Far : Telling → Known → Known → Known → Known → Known → Known → Explainer → Type 0
-Far telling a r d w x e s = (bytes : List ℕ) × (text : List ℕ) × (notes : List ℕ) × Consumes a r bytes
-    × Appends d w text × Appends x e notes × HasToldBy telling s bytes text notes
+Far telling a r d w x e s = FarBy a r d w x e (HasToldBy telling s)
+
+-- bytes that were read, with what was written for them
+far_by : (a r r' d w w' x e e' : Known) (P Q : List ℕ → List ℕ → List ℕ → Type 0) (more : List ℕ) → Consumes r r' more
+    → ((before told noted : List ℕ) → P before told noted → WroteBoth w w' e e' told noted (Q (before ++ more)))
+    → FarBy a r d w x e P → FarBy a r' d w' x e' Q
+far_by a r r' d w w' x e e' P Q more read tells so =
+    let wrote = tells so.0 so.1 so.2 so.6 in
+    (so.0 ++ more, so.1 ++ wrote.0, so.2 ++ wrote.1, Consumes-trans a r r' so.0 more so.3 read, Appends-trans d w w' so.1 wrote.0 so.4 wrote.2, Appends-trans x e e' so.2 wrote.1 so.5 wrote.3, wrote.4)
+
+explained : (telling : Telling) (answer : Answer) (a r d w x e : Known) → ReadsWhole answer r
+    → FarBy a r d w x e (WritesBoth telling answer) → IsExplained telling answer a r d w x e
+explained telling answer a r d w x e whole so = grind arith
 
 pub none_read : (telling : Telling) (answer : Answer) (a d x : Known) → answer ≡ Err fault.Memory
     → IsExplained telling answer a a d d x x
-none_read telling answer a d x is = record {
-  bytes = [];
-  text = [];
-  notes = [];
-  consumed = Consumes-nil a;
-  appended = Appends-nil d;
-  noted = Appends-nil x;
-  written = subst (λ (r : Answer). WritesBoth telling r [] [] []) (sym is) ([], [], [], record { each = tt; lawful = tt; unrefused = λ yes. tt; told = refl; noted = refl }, record { whole = refl; each = tt; unbroken = tt }, refl);
-  whole = subst (λ (r : Answer). ReadsWhole r a) (sym is) tt;
-}
+none_read telling answer a d x is =
+    let none : ExplainsBeginning telling [] [] [] = ([], [], [], record { each = tt; lawful = tt; unrefused = λ yes. tt; told = refl; noted = refl }, record { whole = refl; each = tt; unbroken = tt }, refl) in
+    rw is (explained telling (Err fault.Memory) a a d d x x tt ([], [], [], Consumes-nil a, Appends-nil d, Appends-nil x, none))
 
 pub far_start : (telling : Telling) (a d x : Known) (s : Explainer) → HasToldBy telling s [] [] []
     → Far telling a a d d x x s
@@ -168,8 +144,7 @@ pub far_on : (telling : Telling) (a r r' d w w' x e e' : Known) (s s' : Explaine
     → ((before told noted : List ℕ) → HasToldBy telling s before told noted → WroteBoth w w' e e' told noted (HasToldBy telling s' (before ++ more)))
     → Far telling a r d w x e s → Far telling a r' d w' x e' s'
 far_on telling a r r' d w w' x e e' s s' more read tells so =
-    let wrote = tells so.0 so.1 so.2 so.6 in
-    (so.0 ++ more, so.1 ++ wrote.0, so.2 ++ wrote.1, Consumes-trans a r r' so.0 more so.3 read, Appends-trans d w w' so.1 wrote.0 so.4 wrote.2, Appends-trans x e e' so.2 wrote.1 so.5 wrote.3, wrote.4)
+    far_by a r r' d w w' x e e' (HasToldBy telling s) (HasToldBy telling s') more read tells so
 
 -- bytes that were read, and a fault
 pub far_cut : (telling : Telling) (answer : Answer) (f : TraceFault) (a r r' d w w' x e e' : Known) (s : Explainer) (more : List ℕ)
@@ -177,20 +152,8 @@ pub far_cut : (telling : Telling) (answer : Answer) (f : TraceFault) (a r r' d w
     → ((before told noted : List ℕ) → HasToldBy telling s before told noted → WroteBoth w w' e e' told noted (WritesBoth telling (Err f) (before ++ more)))
     → Far telling a r d w x e s → IsExplained telling answer a r' d w' x e'
 far_cut telling answer f a r r' d w w' x e e' s more is read tells so =
-    let wrote = tells so.0 so.1 so.2 so.6 in
-    record {
-      bytes = so.0 ++ more;
-      text = so.1 ++ wrote.0;
-      notes = so.2 ++ wrote.1;
-      consumed = Consumes-trans a r r' so.0 more so.3 read;
-      appended = Appends-trans d w w' so.1 wrote.0 so.4 wrote.2;
-      noted = Appends-trans x e e' so.2 wrote.1 so.5 wrote.3;
-      written = subst (λ (k : Answer). WritesBoth telling k (so.0 ++ more) (so.1 ++ wrote.0) (so.2 ++ wrote.1)) (sym is) wrote.4;
-      whole = subst (λ (k : Answer). ReadsWhole k r') (sym is) tt;
-    }
-
-at_end : (answer : Answer) (left : Known) → IsAtEnd left → ReadsWhole answer left
-at_end answer left h = grind arith
+    let far = far_by a r r' d w w' x e e' (HasToldBy telling s) (WritesBoth telling (Err f)) more read tells so in
+    rw is (explained telling (Err f) a r' d w' x e' tt far)
 
 -- the end of the input
 pub far_end : (telling : Telling) (answer : Answer) (a r r' d w w' x e e' : Known) (s : Explainer)
@@ -198,17 +161,8 @@ pub far_end : (telling : Telling) (answer : Answer) (a r r' d w w' x e e' : Know
     → ((before told noted : List ℕ) → HasToldBy telling s before told noted → WroteBoth w w' e e' told noted (WritesBoth telling answer before))
     → Far telling a r d w x e s → IsExplained telling answer a r' d w' x e'
 far_end telling answer a r r' d w w' x e e' s read end tells so =
-    let wrote = tells so.0 so.1 so.2 so.6 in
-    record {
-      bytes = so.0 ++ [];
-      text = so.1 ++ wrote.0;
-      notes = so.2 ++ wrote.1;
-      consumed = Consumes-trans a r r' so.0 [] so.3 read;
-      appended = Appends-trans d w w' so.1 wrote.0 so.4 wrote.2;
-      noted = Appends-trans x e e' so.2 wrote.1 so.5 wrote.3;
-      written = subst (λ (l : List ℕ). WritesBoth telling answer l (so.1 ++ wrote.0) (so.2 ++ wrote.1)) (sym (append-nil so.0)) wrote.4;
-      whole = at_end answer r' end;
-    }
+    explained telling answer a r' d w' x e' (grind arith)
+    (far_by a r r' d w w' x e e' (HasToldBy telling s) (WritesBoth telling answer) [] read (λ before told noted h. rw (append-nil before) (tells before told noted h)) so)
 
 -- no further read
 pub far_failed : (telling : Telling) (answer : Answer) (a r d w x e : Known) (s : Explainer)

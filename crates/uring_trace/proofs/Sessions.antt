@@ -1,8 +1,7 @@
 -- What a session keeps, byte by byte and line by line.
-use Rattle.std.proofs.Common.{◌≡◌, ◌≢◌, ℕ, Bool, List, [], ◌∷◌, ◌++◌, Option, Some, None, refl, sym, ap, subst, ◌∙◌, append_assoc}
+use Rattle.std.proofs.Common.{◌≡◌, ◌≢◌, ℕ, Bool, List, [], ◌∷◌, ◌++◌, Option, Some, None, refl, sym, ap, subst, ◌∙◌, append_assoc, arith}
 use Rattle.uring_trace.proofs.Common.{Answers, AppendsAnswer, Event, Exchange, Fits, History, Holds, IsBad, IsGranted, IsStep, IsUnrefused, KeptLine, Machine, Manner, Step, answer_text, append-nil, codes, ended, events_of, history_of, joined, kept_of, lines_of, option_to_list, step_text, with_event, world}
 use Rattle.uring_entry.specs.Setup.{Setup}
-use Rattle.uring_core.specs.CalledFor.{IsLawful}
 use Rattle.uring_core.proofs.Following.{history_of_snoc}
 use Rattle.uring_machine.specs.Settling.{AreUnrefused}
 use Rattle.uring_machine.proofs.Settling.{unrefused_append}
@@ -15,16 +14,8 @@ use Rattle.uring_text.proofs.Splits.{split_more, split_end, split_whole, last_so
 pub took_byte : (manner : Manner) (m : Machine) (is_echo : Bool) (kept kept' : KeptLine) (before text : List ℕ) (b : ℕ)
     → b ≢ 10 → ((line : List ℕ) → kept ≡ kept_of line → kept' ≡ kept_of (line ++ b ∷ []))
     → Holds manner m is_echo kept before text → Holds manner m is_echo kept' (before ++ b ∷ []) text
-took_byte manner m is_echo kept kept' before text b ne more h = record {
-  exchanges = h.exchanges;
-  line = h.line ++ b ∷ [];
-  answers = h.answers;
-  splits = split_more before (lines_of h.exchanges) h.line b ne h.splits;
-  keeps = more h.line h.keeps;
-  same = h.same;
-  echoes = h.echoes;
-  fits = h.fits;
-}
+took_byte manner m is_echo kept kept' before text b ne more h =
+    grind (arith, (split_more before (lines_of h.exchanges) h.line b ne h.splits))
 
 -- a step was made, and its answer appended after what stands before it
 pub told_step : (granted : Type 0) (old new : Machine) (is_echo : Bool) (line before middle told after : List ℕ) (s : Step) (a : Answer)
@@ -33,17 +24,10 @@ pub told_step : (granted : Type 0) (old new : Machine) (is_echo : Bool) (line be
     → new.core.setup ≡ old.core.setup → ((h : History) → Fits old h → Fits new ((s, a) ∷ h))
     → (granted → (h : History) → Fits old h → IsUnrefused old.core.setup (world old.core.setup h) s a)
     → AppendsAnswer granted old new is_echo line before after
-told_step granted old new is_echo line before middle told after s a read m t e same fits unrefused = record {
-  event = Some (s, a);
-  read = read;
-  appended =
-      e ∙ ap (λ (l : List ℕ). l ++ told) m
-      ∙ ap (λ (l : List ℕ). (before ++ step_text is_echo line) ++ l) t
-      ∙ append_assoc before (step_text is_echo line) (text_of a);
-  same = same;
-  fits = fits;
-  unrefused = λ sure h f. (unrefused sure h f, tt);
-}
+told_step granted old new is_echo line before middle told after s a read m t e same fits unrefused =
+    let event : Option Event = Some (s, a) in
+    let appended : after ≡ before ++ answer_text is_echo line event = rw (e, m, t, append_assoc) in
+    record { event = event; read = read; appended = appended; same = same; fits = fits; unrefused = λ sure h f. (unrefused sure h f, tt) }
 
 -- a line that is no step was told
 pub told_bad : (granted : Type 0) (m : Machine) (is_echo : Bool) (line before after : List ℕ)
@@ -70,9 +54,7 @@ answered : (granted : Type 0) (manner : Manner) (m m' : Machine) (is_echo : Bool
     → Answers manner (record { line = line; event = a.event } ∷ xs) (text ++ (after ++ 10 ∷ []))
 answered granted manner m m' is_echo xs line text before after sure h same echoes fits a = record {
   unrefused = λ yes. unrefused_more manner.setup a.event (events_of xs) (h.unrefused yes) (subst (λ (g : Setup). AreUnrefused g (history_of (events_of xs)) (option_to_list a.event)) same (a.unrefused (sure yes) (history_of (events_of xs)) fits));
-  lawful =
-      subst (λ (k : History). IsLawful manner.setup k) (one_more a.event (events_of xs))
-      (subst (λ (g : Setup). IsLawful g (with_event a.event (history_of (events_of xs)))) (a.same ∙ same) (a.fits (history_of (events_of xs)) fits).lawful);
+  lawful = rw (a.same ∙ same, one_more a.event (events_of xs)) at (a.fits (history_of (events_of xs)) fits).lawful;
   each = (a.read, h.each);
   all = ap (λ (t : List ℕ). text ++ (t ++ 10 ∷ [])) (a.appended ∙ ap (λ (e : Bool). before ++ answer_text e line a.event) echoes) ∙ simp append_assoc (refl) ∙ ap (λ (t : List ℕ). t ++ ended (answer_text manner.is_echo line a.event)) h.all;
 }
@@ -84,16 +66,9 @@ pub ended_line : (granted : Type 0) (manner : Manner) (m m' : Machine) (is_echo 
     → Holds manner m' is_echo (kept_of []) (bytes ++ 10 ∷ []) (text ++ (after ++ 10 ∷ []))
 ended_line granted manner m m' is_echo kept bytes text before after answer sure h =
     let a = answer h.line h.keeps in
-    record {
-      exchanges = record { line = h.line; event = a.event } ∷ h.exchanges;
-      line = [];
-      answers = answered granted manner m m' is_echo h.exchanges h.line text before after sure h.answers h.same h.echoes h.fits a;
-      splits = split_end bytes (lines_of h.exchanges) h.line h.splits;
-      keeps = refl;
-      same = a.same ∙ h.same;
-      echoes = h.echoes;
-      fits = subst (λ (k : History). Fits m' k) (one_more a.event (events_of h.exchanges)) (a.fits (history_of (events_of h.exchanges)) h.fits);
-    }
+    let all = answered granted manner m m' is_echo h.exchanges h.line text before after sure h.answers h.same h.echoes h.fits a in
+    let fits = rw (one_more a.event (events_of h.exchanges)) at (a.fits (history_of (events_of h.exchanges)) h.fits) in
+    grind (arith, all, (split_end bytes (lines_of h.exchanges) h.line h.splits), fits)
 
 -- the answer to a last line that has begun
 pub ended_last : (granted : Type 0) (manner : Manner) (m m' : Machine) (is_echo : Bool) (kept : KeptLine) (bytes text before after : List ℕ)

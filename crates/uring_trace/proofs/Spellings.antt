@@ -1,32 +1,23 @@
 -- What is read of a line's tokens is what they spell.
-use Rattle.std.proofs.Common.{◌≡◌, ℕ, ◌^◌, ◌<◌, ◌≤◌, Bool, true, false, cond, eqb, List, [], ◌∷◌, length, Option, Some, None, refl, sym, ap, subst, ◌∙◌, arith, inl, inr}
-use Rattle.uring_trace.proofs.Common.{Decides, IsBad, IsStep, MatchOption, Spells, Sqe, Step, bytes_eq-Decides, codes, decimal, eqb-true, find, name_of, nil_from_length, option_map, steps}
+use Rattle.std.proofs.Common.{◌≡◌, ℕ, ◌^◌, ◌≤◌, Bool, true, false, cond, eqb, List, [], ◌∷◌, length, Option, Some, None, refl, sym, subst, ◌∙◌, arith}
+use Rattle.uring_trace.proofs.Common.{Decides, IsBad, IsStep, MatchOption, Spells, Step, bytes_eq-Decides, codes, eqb-true, name_of, nil_from_length}
 use Rattle.std.specs.Bool.{MatchBool}
 use Rattle.std.specs.Str.{bytes_eq}
 use Rattle.std.proofs.lemmas.Option.{same_Some}
 use Rattle.uring_core.specs.declared.step.Step.TheVariants as step
 use Rattle.uring_text.specs.Tokens.{tokens_of}
-use Rattle.uring_text.specs.Forms.{Form, SpellsForm, IsEntryOf}
+use Rattle.uring_text.specs.Forms.{Form}
 use Rattle.uring_text.specs.Reading.{number_of, form_of}
 use Rattle.uring_trace.specs.Reading.{ReadsStep, ReadsFill, step_named, alone, numbered, step_of_one, step_of_two}
-use Rattle.uring_text.proofs.Options.{bind_some, chosen, mapped}
+use Rattle.uring_text.proofs.Options.{bind_some}
 use Rattle.uring_text.proofs.NumberLaws.{number_found, number_again}
 use Rattle.uring_text.proofs.FormLaws.{form_found, form_again}
 use Rattle.uring_text.proofs.EntryLaws.{entry_once}
 
 -- the name
-name_among : (name : List ℕ) (among : List Step) (t : Step)
-    → find (λ s. bytes_eq name (name_of s)) among ≡ Some t → name ≡ name_of t
-name_among name [] t e = absurd cc
-name_among name (first ∷ later) t e =
-    elim (chosen (bytes_eq name (name_of first)) (Some first) (find (λ s. bytes_eq name (name_of s)) later) (Some t) e) [
-      | inl p ↦ (bytes_eq-Decides name (name_of first)).0 p.0 ∙ ap name_of (same_Some first t p.1)
-      | inr p ↦ name_among name later t p.1
-    ]
-
 name_found : (name : List ℕ) (t : Step) → step_named name ≡ Some t → name ≡ name_of t
 unfolding step_named
-name_found name t e = name_among name steps t e
+name_found name t e = grind (arith, bytes_eq-Decides)
 
 -- one token
 alone_found : (t s : Step) → alone t ≡ Some s → Spells (name_of t ∷ []) s
@@ -38,17 +29,9 @@ one_found name s e =
     subst (λ (n : List ℕ). Spells (n ∷ []) s) (sym (name_found name t.0 t.1)) (alone_found t.0 s t.2)
 
 -- a name and a number
-number_said : (name token : List ℕ) (limit : ℕ) (made : ℕ → Step) (s : Step) → limit ≤ 2 ^ 64
-    → ((n : ℕ) → n < limit → Spells (name ∷ decimal n ∷ []) (made n))
-    → option_map made (number_of limit token) ≡ Some s → Spells (name ∷ token ∷ []) s
-number_said name token limit made s le h e =
-    let m = mapped made (number_of limit token) s e in
-    let n = number_found limit token m.0 le m.1 in
-    subst (λ (w : List ℕ). Spells (name ∷ w ∷ []) s) (sym n.0) (subst (Spells (name ∷ decimal m.0 ∷ [])) m.2 (h m.0 n.1))
-
 numbered_found : (token : List ℕ) (t s : Step) → numbered token t ≡ Some s
     → Spells (name_of t ∷ token ∷ []) s
-numbered_found token t s e = grind (arith, number_said)
+numbered_found token t s e = grind (arith, number_found)
 
 two_found : (name token : List ℕ) (s : Step) → step_of_two name token ≡ Some s
     → Spells (name ∷ token ∷ []) s
@@ -60,13 +43,12 @@ two_found name token s e =
 fill_found : (token : List ℕ) (rest : List (List ℕ)) (s : Step) (o : Option ℕ) (f : Option Form)
     → number_of (2 ^ 32) token ≡ o → form_of rest ≡ f → ReadsFill (Some s) o f
     → Spells (codes "fill" ∷ token ∷ rest) s
-fill_found token rest s None f n r e = absurd cc
-fill_found token rest s (Some slot) None n r e = absurd cc
 fill_found token rest s (Some slot) (Some f) n r e =
     let number = number_found (2 ^ 32) token slot (omega arith) n in
     let filled : Spells (codes "fill" ∷ token ∷ rest) (step.Fill slot e.0) =
-    (rest, ap (λ (w : List ℕ). codes "fill" ∷ w ∷ rest) number.0, number.1, record { form = f; spells = form_found rest f r; is_entry = e.2 }) in
-    subst (Spells (codes "fill" ∷ token ∷ rest)) (same_Some (step.Fill slot e.0) s (sym e.1)) filled
+    (rest, rw number.0, number.1, record { form = f; spells = form_found rest f r; is_entry = e.2 }) in
+    rw (same_Some s (step.Fill slot e.0) e.1) filled
+fill_found token rest s _ _ n r e = absurd cc
 
 some_of_more : (name token : List ℕ) (rest : List (List ℕ)) (s : Step) (b : Bool)
     → bytes_eq name (codes "fill") ≡ b
@@ -79,39 +61,17 @@ step_found tokens s e = grind (arith, one_found, some_of_more)
 
 -- ---- what is spelled is read
 
-one_again : (name : List ℕ) (s : Step) → step_of_one name ≡ Some s → (tokens : List (List ℕ))
-    → tokens ≡ name ∷ [] → ReadsStep (Some s) tokens
-one_again name s e tokens is = subst (ReadsStep (Some s)) (sym is) (sym e)
-
-two_again : (name : List ℕ) (n limit : ℕ) (made : ℕ → Step) → limit ≤ 2 ^ 64 → n < limit
-    → bytes_eq name (codes "fill") ≡ false
-    → step_of_two name (decimal n) ≡ option_map made (number_of limit (decimal n))
-    → (tokens : List (List ℕ)) → tokens ≡ name ∷ decimal n ∷ []
-    → ReadsStep (Some (made n)) tokens
-two_again name n limit made le lt other e tokens is = grind (arith, number_again)
-
-fill_again : (slot : ℕ) (entry : Sqe) (rest : List (List ℕ)) (f : Form) → slot < 2 ^ 32
-    → SpellsForm rest f → IsEntryOf f entry → (tokens : List (List ℕ))
-    → tokens ≡ codes "fill" ∷ decimal slot ∷ rest → ReadsStep (Some (step.Fill slot entry)) tokens
-fill_again slot entry rest f lt h is_entry tokens is = grind (arith, (form_again rest f h), number_again)
-
 step_again : (tokens : List (List ℕ)) (s : Step) → Spells tokens s → ReadsStep (Some s) tokens
 unfolding step_named
 step_again tokens (step.Fill slot entry) h =
-    fill_again slot entry h.0 h.3.form h.2 h.3.spells h.3.is_entry tokens h.1
-step_again tokens (step.Index n) h =
-    two_again (codes "index") n (2 ^ 32) (λ n. step.Index n) (omega arith) h.1 refl refl tokens h.0
-step_again tokens (step.Begin n) h =
-    two_again (codes "begin") n (2 ^ 32) (λ n. step.Begin n) (omega arith) h.1 refl refl tokens h.0
-step_again tokens (step.Issue n) h =
-    two_again (codes "issue") n (2 ^ 64) (λ n. step.Issue n) (omega arith) h.1 refl refl tokens h.0
-step_again tokens (step.Finish n) h = two_again (codes "finish") n (2 ^ 64) (λ n. step.Finish n) (omega arith) h.1 refl refl tokens h.0
-step_again tokens s h = one_again (name_of s) s refl tokens h
+    rw (h.1, number_again (2 ^ 32) slot (omega arith) h.2, form_again h.0 h.3.form h.3.spells) (entry, refl, h.3.is_entry)
+step_again tokens (step.Index n) h = rw (h.0, number_again (2 ^ 32) n (omega arith) h.1)
+step_again tokens (step.Begin n) h = rw (h.0, number_again (2 ^ 32) n (omega arith) h.1)
+step_again tokens (step.Issue n) h = rw (h.0, number_again (2 ^ 64) n (omega arith) h.1)
+step_again tokens (step.Finish n) h = rw (h.0, number_again (2 ^ 64) n (omega arith) h.1)
+step_again tokens s h = rw h refl
 
 -- ---- tokens are read in one way
-
-none_some : (o : Option Step) (s : Step) → None ≡ o → Some s ≡ o → ⊥
-none_some o s r q = absurd (let no : None ≡ Some s = r ∙ sym q in cc)
 
 no_more : (b : Bool) (o : Option ℕ) (f : Option Form) (other : Option Step) (s : Step)
     → MatchBool b (ReadsFill None o f) (None ≡ other)
@@ -121,7 +81,7 @@ no_more b o f other s r q = grind arith
 none_and_step : (tokens : List (List ℕ)) (s : Step) → ReadsStep None tokens
     → ReadsStep (Some s) tokens → ⊥
 none_and_step [] s r q = absurd cc
-none_and_step (name ∷ []) s r q = none_some (step_of_one name) s r q
+none_and_step (name ∷ []) s r q = absurd (let no : None ≡ Some s = r ∙ sym q in cc)
 none_and_step (name ∷ token ∷ rest) s r q = no_more (bytes_eq name (codes "fill")) (number_of (2 ^ 32) token) (form_of rest) (cond (eqb (length rest) 0) (step_of_two name token) None) s r q
 
 fill_once : (o : Option ℕ) (f : Option Form) (s t : Step) → ReadsFill (Some s) o f

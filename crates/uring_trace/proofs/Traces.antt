@@ -1,12 +1,12 @@
 -- The outcomes of a trace.
-use Rattle.std.proofs.Common.{◌≡◌, ℕ, ◌<◌, List, length, [], ◌++◌, Option, Result, Ok, Err, refl, sym, ap, subst, ◌∙◌, append_assoc, inl, inr}
+use Rattle.std.proofs.Common.{◌≡◌, ℕ, List, [], ◌++◌, Option, Result, Ok, Err, refl, append_assoc, inl, inr, arith}
 use Rattle.uring_trace.proofs.Common.{Appends, Consumes, Has, IsAtEnd, Keeps, Manner, TookIn, append-nil}
 use Rattle.std.proofs.KnownBytes.{Consumes-nil, Appends-nil, Appends-trans, Consumes-trans, Consumes-kept}
 use Rattle.uring_text.specs.declared.trace_fault.TraceFault.{TraceFault}
 use Rattle.uring_text.specs.declared.trace_fault.TraceFault.TheVariants as fault
 use Rattle.uring_trace.specs.declared.session.Session.{Session}
 use Rattle.uring_text.specs.Writing.{WritesText}
-use Rattle.uring_trace.specs.Traces.{Traces, Writes, ReadsAll, IsWhole, IsBeginning, IsCutShort}
+use Rattle.uring_trace.specs.Traces.{Traces, Writes, ReadsAll, IsWhole, IsBeginning}
 use Rattle.uring_trace.proofs.Sessions.{held_beginning, held_ended}
 
 abbrev Answer : Type 0
@@ -15,10 +15,13 @@ Answer = Result (Unit {0}) TraceFault
 abbrev Known : Type 0
 Known = Option (List ℕ)
 
--- What was read and written so far: the reader had a left and has r, the writer held d and holds w.
+-- Something is so of what was read and written so far: the reader had a left and has r, the writer held d and holds w.
+abbrev pub SoBy : Known → Known → Known → Known → (List ℕ → List ℕ → Type 0) → Type 0
+SoBy a r d w P = (bytes : List ℕ) × (text : List ℕ) × Consumes a r bytes × Appends d w text
+    × P bytes text
+
 abbrev pub So : Manner → Known → Known → Known → Known → Session → Type 0
-So manner a r d w s = (bytes : List ℕ) × (text : List ℕ) × Consumes a r bytes × Appends d w text
-    × Has manner s bytes text
+So manner a r d w s = SoBy a r d w (Has manner s)
 
 -- What a call wrote for the bytes that it was given, on a session that had taken in others.
 abbrev pub Wrote : Known → Known → List ℕ → (List ℕ → Type 0) → Type 0
@@ -29,37 +32,22 @@ abbrev pub WroteText : Known → Known → Answer → List ℕ → Type 0
 WroteText w w' answer new =
     (written : List ℕ) × Appends w w' written × WritesText answer new written
 
-no_text_yet : (manner : Manner) (s : Session) (bytes text none : List ℕ) → none ≡ []
-    → Has manner s bytes text → Has manner s bytes (text ++ none)
-no_text_yet manner s bytes text none e h = subst (λ (l : List ℕ). Has manner s bytes l) (sym (ap (λ (l : List ℕ). text ++ l) e ∙ append-nil text)) h
-
--- a beginning, as what is written when memory is refused
-beginning : (manner : Manner) (s : Session) (bytes told more : List ℕ) → Has manner s bytes told
-    → Writes manner (Err fault.Memory) (bytes ++ more) (told ++ [])
-beginning manner s bytes told more h = subst (λ (l : List ℕ). Writes manner (Err fault.Memory) (bytes ++ more) l) (sym (append-nil told)) (held_beginning manner s.machine s.is_echo s.line bytes told more h)
-
 -- ---- the answers to some bytes
 
 -- memory was refused
 pub none_answered : (manner : Manner) (answer : Answer) (w : Known) (s s' : Session) (before told more : List ℕ)
     → answer ≡ Err fault.Memory → Has manner s before told
     → Wrote w w told (TookIn manner answer s' (before ++ more))
-none_answered manner answer w s s' before told more e h = ([], Appends-nil w, subst (λ (x : Answer). TookIn manner x s' (before ++ more) (told ++ [])) (sym e) (beginning manner s before told more h))
-
-cut_short : (manner : Manner) (bytes told new written more : List ℕ)
-    → IsBeginning manner bytes (told ++ new) → 0 < length more → new ≡ written ++ more
-    → IsCutShort manner bytes (told ++ written)
-cut_short manner bytes told new written more h lt e = (more, lt, inl (subst (λ (l : List ℕ). IsBeginning manner bytes l) (ap (λ (l : List ℕ). told ++ l) e ∙ sym (append_assoc told written more)) h))
+none_answered manner answer w s s' before told more e h =
+    ([], Appends-nil w, rw (e, append-nil told) (held_beginning manner s.machine s.is_echo s.line before told more h))
 
 took_in : (manner : Manner) (answer : Answer) (s : Session) (bytes told new written : List ℕ)
     → Has manner s bytes (told ++ new) → WritesText answer new written
     → TookIn manner answer s bytes (told ++ written)
-took_in manner (Ok done) s bytes told new written h e =
-    subst (λ (l : List ℕ). Has manner s bytes (told ++ l)) (sym e) h
+took_in manner (Ok done) s bytes told new written h e = rw e h
 took_in manner (Err e) s bytes told new written h w =
-    let held = held_beginning manner s.machine s.is_echo s.line bytes (told ++ new) [] h in
-    let whole : IsBeginning manner bytes (told ++ new) = subst (λ (l : List ℕ). IsBeginning manner l (told ++ new)) (append-nil bytes) held in
-    subst (λ (x : TraceFault). Writes manner (Err x) bytes (told ++ written)) (sym w.0) (cut_short manner bytes told new written w.1 whole w.2 w.3)
+    let held = rw (append-nil bytes) at (held_beginning manner s.machine s.is_echo s.line bytes (told ++ new) [] h) in
+    rw w.0 (w.1, w.2, inl (rw (w.3, ← append_assoc told written w.1) at held))
 
 -- the answers were written, or a part of them
 pub answers_written : (manner : Manner) (answer : Answer) (w w' : Known) (s s' : Session) (before told more none new : List ℕ)
@@ -68,7 +56,7 @@ pub answers_written : (manner : Manner) (answer : Answer) (w w' : Known) (s s' :
     → WroteText w w' answer new → Has manner s before told
     → Wrote w w' told (TookIn manner answer s' (before ++ more))
 answers_written manner answer w w' s s' before told more none new nothing feed wrote h =
-    (wrote.0, wrote.1, took_in manner answer s' (before ++ more) told new wrote.0 (feed before told (no_text_yet manner s before told none nothing h)) wrote.2)
+    (wrote.0, wrote.1, took_in manner answer s' (before ++ more) told new wrote.0 (feed before told (rw (nothing, append-nil told) h)) wrote.2)
 
 -- ---- the answer to the last line
 
@@ -77,16 +65,15 @@ pub last_not_answered : (manner : Manner) (answer : Answer) (w : Known) (s : Ses
     → answer ≡ Err fault.Memory → Has manner s before told
     → Wrote w w told (Writes manner answer before)
 last_not_answered manner answer w s before told e h =
-    ([], Appends-nil w, subst (λ (x : Answer). Writes manner x before (told ++ [])) (sym e) (subst (λ (l : List ℕ). Writes manner (Err fault.Memory) l (told ++ [])) (append-nil before) (beginning manner s before told [] h)))
+    let held = rw (append-nil before) at (held_beginning manner s.machine s.is_echo s.line before told [] h) in
+    ([], Appends-nil w, rw (e, append-nil told) held)
 
 written_whole : (manner : Manner) (answer : Answer) (bytes told new written : List ℕ)
     → IsWhole manner bytes (told ++ new) → WritesText answer new written
     → Writes manner answer bytes (told ++ written)
-written_whole manner (Ok done) bytes told new written h e =
-    subst (λ (l : List ℕ). IsWhole manner bytes (told ++ l)) (sym e) h
+written_whole manner (Ok done) bytes told new written h e = rw e h
 written_whole manner (Err e) bytes told new written h w =
-    let cut : IsCutShort manner bytes (told ++ written) = (w.1, w.2, inr (subst (λ (l : List ℕ). IsWhole manner bytes l) (ap (λ (l : List ℕ). told ++ l) w.3 ∙ sym (append_assoc told written w.1)) h)) in
-    subst (λ (x : TraceFault). Writes manner (Err x) bytes (told ++ written)) (sym w.0) cut
+    rw w.0 (w.1, w.2, inr (rw (w.3, ← append_assoc told written w.1) at h))
 
 -- the answer was written, or a part of it
 pub last_written : (manner : Manner) (answer : Answer) (w w' : Known) (s : Session) (before told none new : List ℕ)
@@ -94,21 +81,28 @@ pub last_written : (manner : Manner) (answer : Answer) (w w' : Known) (s : Sessi
     → ((before told : List ℕ) → Has manner s before (told ++ none) → IsWhole manner before (told ++ new))
     → WroteText w w' answer new → Has manner s before told
     → Wrote w w' told (Writes manner answer before)
-last_written manner answer w w' s before told none new nothing finish wrote h = (wrote.0, wrote.1, written_whole manner answer before told new wrote.0 (finish before told (no_text_yet manner s before told none nothing h)) wrote.2)
+last_written manner answer w w' s before told none new nothing finish wrote h = (wrote.0, wrote.1, written_whole manner answer before told new wrote.0 (finish before told (rw (nothing, append-nil told) h)) wrote.2)
 
 -- ---- a whole trace
+
+-- bytes that were read, with what was written for them
+so_by : (a r r' d w w' : Known) (P Q : List ℕ → List ℕ → Type 0) (more : List ℕ) → Consumes r r' more
+    → ((before told : List ℕ) → P before told → Wrote w w' told (Q (before ++ more)))
+    → SoBy a r d w P → SoBy a r' d w' Q
+so_by a r r' d w w' P Q more read answer so =
+    let wrote = answer so.0 so.1 so.4 in
+    (so.0 ++ more, so.1 ++ wrote.0, Consumes-trans a r r' so.0 more so.2 read, Appends-trans d w w' so.1 wrote.0 so.3 wrote.1, wrote.2)
+
+traced : (manner : Manner) (answer : Answer) (a r d w : Known) → ReadsAll answer r
+    → SoBy a r d w (Writes manner answer) → Traces manner answer a r d w
+traced manner answer a r d w whole so = grind arith
 
 -- memory was refused at the start
 pub none_read : (manner : Manner) (answer : Answer) (a d : Known) → answer ≡ Err fault.Memory
     → Traces manner answer a a d d
-none_read manner answer a d e = record {
-  bytes = [];
-  text = [];
-  consumed = Consumes-nil a;
-  appended = Appends-nil d;
-  written = subst (λ (x : Answer). Writes manner x [] []) (sym e) ([], [], [], record { each = tt; lawful = tt; unrefused = λ sure. tt; all = refl }, record { whole = refl; each = tt; unbroken = tt }, refl);
-  whole = subst (λ (x : Answer). ReadsAll x a) (sym e) tt;
-}
+none_read manner answer a d e =
+    let none : IsBeginning manner [] [] = ([], [], [], record { each = tt; lawful = tt; unrefused = λ sure. tt; all = refl }, record { whole = refl; each = tt; unbroken = tt }, refl) in
+    rw e (traced manner (Err fault.Memory) a a d d tt ([], [], Consumes-nil a, Appends-nil d, none))
 
 -- nothing read yet
 pub at_start : (manner : Manner) (a d : Known) (s : Session) → Has manner s [] []
@@ -126,8 +120,7 @@ pub goes_on : (manner : Manner) (a r r' d w w' : Known) (s s' : Session) (more :
     → ((before told : List ℕ) → Has manner s before told → Wrote w w' told (Has manner s' (before ++ more)))
     → So manner a r d w s → So manner a r' d w' s'
 goes_on manner a r r' d w w' s s' more read answer so =
-    let wrote = answer so.0 so.1 so.4 in
-    (so.0 ++ more, so.1 ++ wrote.0, Consumes-trans a r r' so.0 more so.2 read, Appends-trans d w w' so.1 wrote.0 so.3 wrote.1, wrote.2)
+    so_by a r r' d w w' (Has manner s) (Has manner s') more read answer so
 
 -- bytes that were read, with answers that a fault cut short
 pub not_answered : (manner : Manner) (answer : Answer) (e : TraceFault) (a r r' d w w' : Known) (s : Session) (more : List ℕ)
@@ -135,19 +128,8 @@ pub not_answered : (manner : Manner) (answer : Answer) (e : TraceFault) (a r r' 
     → ((before told : List ℕ) → Has manner s before told → Wrote w w' told (Writes manner (Err e) (before ++ more)))
     → So manner a r d w s → Traces manner answer a r' d w'
 not_answered manner answer e a r r' d w w' s more is read answered so =
-    let wrote = answered so.0 so.1 so.4 in
-    record {
-      bytes = so.0 ++ more;
-      text = so.1 ++ wrote.0;
-      consumed = Consumes-trans a r r' so.0 more so.2 read;
-      appended = Appends-trans d w w' so.1 wrote.0 so.3 wrote.1;
-      written = subst (λ (x : Answer). Writes manner x (so.0 ++ more) (so.1 ++ wrote.0)) (sym is) wrote.2;
-      whole = subst (λ (x : Answer). ReadsAll x r') (sym is) tt;
-    }
-
-at_end : (answer : Answer) (left : Known) → IsAtEnd left → ReadsAll answer left
-at_end (Ok done) left h = h
-at_end (Err e) left h = tt
+    let all = so_by a r r' d w w' (Has manner s) (Writes manner (Err e)) more read answered so in
+    rw is (traced manner (Err e) a r' d w' tt all)
 
 -- the end of the input, with the last answer
 pub all_read : (manner : Manner) (answer : Answer) (a r r' d w w' : Known) (s : Session)
@@ -155,24 +137,12 @@ pub all_read : (manner : Manner) (answer : Answer) (a r r' d w w' : Known) (s : 
     → ((before told : List ℕ) → Has manner s before told → Wrote w w' told (Writes manner answer before))
     → So manner a r d w s → Traces manner answer a r' d w'
 all_read manner answer a r r' d w w' s read end answered so =
-    let wrote = answered so.0 so.1 so.4 in
-    record {
-      bytes = so.0 ++ [];
-      text = so.1 ++ wrote.0;
-      consumed = Consumes-trans a r r' so.0 [] so.2 read;
-      appended = Appends-trans d w w' so.1 wrote.0 so.3 wrote.1;
-      written = subst (λ (l : List ℕ). Writes manner answer l (so.1 ++ wrote.0)) (sym (append-nil so.0)) wrote.2;
-      whole = at_end answer r' end;
-    }
+    let all = so_by a r r' d w w' (Has manner s) (Writes manner answer) [] read (λ before told h. rw (append-nil before) (answered before told h)) so in
+    traced manner answer a r' d w' (grind arith) all
 
 -- no further read
 pub read_failed : (manner : Manner) (answer : Answer) (a r d w : Known) (s : Session)
     → answer ≡ Err fault.Read → So manner a r d w s → Traces manner answer a r d w
-read_failed manner answer a r d w s is so = record {
-  bytes = so.0;
-  text = so.1;
-  consumed = so.2;
-  appended = so.3;
-  written = subst (λ (x : Answer). Writes manner x so.0 so.1) (sym is) (held_ended manner s.machine s.is_echo s.line so.0 so.1 so.4);
-  whole = subst (λ (x : Answer). ReadsAll x r) (sym is) tt;
-}
+read_failed manner answer a r d w s is so =
+    let held = held_ended manner s.machine s.is_echo s.line so.0 so.1 so.4 in
+    rw is (traced manner (Err fault.Read) a r d w tt (so.0, so.1, so.2, so.3, held))
