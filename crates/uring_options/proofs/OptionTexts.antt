@@ -8,7 +8,6 @@ use Rattle.clap.specs.Facts.{parser_of_value}
 use Rattle.clap.specs.Lexer.{without_minus}
 use Rattle.clap.specs.Matches.{one_text, ReadsOne}
 use Rattle.clap.specs.Values.{reading_of}
-use Rattle.clap.specs.ValueTests.{accepts}
 use Rattle.clap.specs.declared.builder.value_parser.ValueParser.{ValueParser}
 use Rattle.clap.specs.declared.parser.matches.Found.{Found}
 use Rattle.clap.proofs.CallerReads.{signed_reads}
@@ -28,16 +27,7 @@ among_parsers : (id : Text) (rules : List Rule) (a : Rule) → Among a rules →
     → Among (parser_of_value a.parser) (parsers_of id rules)
 among_parsers id [] a among named = absurd among
 among_parsers id (b ∷ rules) a (inl here) named = grind arith
-among_parsers id (b ∷ rules) a (inr later) named =
-    go (bytes_eq b.id id) (among_parsers id rules a later named)
-  where
-    go : (test : Bool) → Among (parser_of_value a.parser) (parsers_of id rules) → Among (parser_of_value a.parser) (cond test (parser_of_value b.parser ∷ parsers_of id rules) (parsers_of id rules))
-    go true among = inr among
-    go false among = among
-
-first_passes : (ignore_case : Bool) (p : ValueParser) (t : Text) (rest : List Text)
-    → values_kinds ignore_case p (t ∷ rest) ≡ [] → accepts ignore_case p t ≡ true
-first_passes ignore_case p t rest passes = grind arith
+among_parsers id (b ∷ rules) a (inr later) named = grind (arith, (among_parsers id rules a later named))
 
 -- the rules have one of this option's name, with its parser
 abbrev pub parsers_for : List Rule → CommandOption → List ValueParser
@@ -56,10 +46,7 @@ option_taken rules rows option one each = row (find (λ r. bytes_eq r.id option.
         → values_kinds ignore_case (parser_for option.1) vs ≡ [] → TakesOption rows option
     value r found reading ignore_case [] is passes = inl (rw (found, is) refl)
     value r found reading ignore_case (t ∷ vs) is passes =
-        inr (t, ignore_case, rw (found, is, reading) refl, accepts-Accepts ignore_case (parser_for option.1) t (first_passes ignore_case (parser_for option.1) t vs passes))
-
-    only : (p : ValueParser) → Among p (only_parser option) → p ≡ parser_for option.1
-    only p h = grind arith
+        inr (t, ignore_case, rw (found, is, reading) refl, accepts-Accepts ignore_case (parser_for option.1) t (grind (arith, passes)))
 
     row : (o : Option Row) → find (λ r. bytes_eq r.id option.0) rows ≡ o → TakesOption rows option
     row None found = inl (rw found refl)
@@ -67,7 +54,7 @@ option_taken rules rows option one each = row (find (λ r. bytes_eq r.id option.
         let place = found_among (λ r. bytes_eq r.id option.0) rows r found in
         let of : IsRowOf rules r = each_among (IsRowOf rules) rows r each place.0 in
         let named : bytes_eq of.rule.id option.0 ≡ true = rw of.id at place.1 in
-        let parser = only (parser_of_value of.rule.parser) (subst (Among (parser_of_value of.rule.parser)) one (among_parsers option.0 rules of.rule of.among named)) in
+        let parser : parser_of_value of.rule.parser ≡ parser_for option.1 = grind (arith, one, (among_parsers option.0 rules of.rule of.among named)) in
         value r found (of.reading ∙ ap reading_of parser) of.rule.ignore_case r.values refl (subst (λ p. values_kinds of.rule.ignore_case p r.values ≡ []) parser of.values)
 
 -- and those of a list of options, if a test of all of them computes to it
