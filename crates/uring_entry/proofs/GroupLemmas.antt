@@ -16,21 +16,14 @@ joined_before r (suc k) end m n g low le =
 -- an earlier request is in a member's group if it isn't before the first member
 pub joined_member : (r : Requests) (from end m n : ℕ) → IsGroup r from end → from ≤ n → n < end
     → m ≤ n → is_joined r m n ≡ leb from m
-joined_member r from end m n g high lt le =
-    elim (cases_lt m from) [
-      | inl low ↦ grind (arith, (joined_before r from end m n g low high))
-      | inr up ↦ grind (arith, is_joined_yes)
-    ]
+joined_member r from end m n g high lt le = grind (arith, (cases_lt m from), (joined_before r from end m n g), is_joined_yes)
 
 -- a later one if it is before the end
 joined_after : (r : Requests) (from end n m : ℕ) → IsGroup r from end → from ≤ n → n < end
     → m < length r.accepted → n < m → is_joined r n m ≡ ltb m end
 joined_after r from zero n m g high lt within after = absurd (omega arith)
 joined_after r from (suc k) n m g high lt within after =
-    elim (cases_lt m (suc k)) [
-      | inl inside ↦ grind (arith, is_joined_yes)
-      | inr past ↦ grind (arith, (is_joined_no r n m k), (g.ends k refl))
-    ]
+    grind (arith, (cases_lt m (suc k)), is_joined_yes, (is_joined_no r n m k), (g.ends k refl))
 
 pub in_group_member : (r : Requests) (from end n m : ℕ) → IsGroup r from end → from ≤ n → n < end
     → m < length r.accepted
@@ -54,7 +47,7 @@ some_member_is : (r : Requests) (p : Sqe → Bool) (from end n : ℕ) → IsGrou
     → from ≤ n → n < end
     → some_member r p n ≡ is_some (first_member (λ m. p (entry_of r m)) from end)
 unfolding some_member
-some_member_is r p from end n g high lt = sym (is_some_least_below _ (length r.accepted)) ∙ ap is_some (least_member_is r p from end n g high lt)
+some_member_is r p from end n g high lt = rw (← is_some_least_below, least_member_is r p from end n g high lt)
 
 pub draining_is : (r : Requests) (from end n : ℕ) → IsGroup r from end → from ≤ n → n < end
     → is_draining r n ≡ is_some (first_drain r from end)

@@ -95,20 +95,12 @@ module _ (s : Shape) (plain_rules : list_all is_plain s.rules ≡ true) (once : 
       → Keeps rows (set_fault s.args_override_self a values rows) (with_values a.id (reading_by a) source.CommandLine values (without a.id rows))
   set_row a values rows among each passes = grind (arith, at_no_row, append-nil, with_values, new_row)
 
-  used_row : (a : Rule) (x : ArgAction) (values : List Text) (rows : List Row) → Among a s.rules → sets_or_helps x ≡ true
-      → Keeps rows (action_fault x s.args_override_self a values rows) (used_as x a.id (reading_by a) values rows)
-  used_row a x values rows among sets = grind (arith, set_row)
-
   use_row : (a : Rule) (values : List Text) (rows : List Row) → Among a s.rules → Keeps rows (use_fault s.args_override_self a values rows) (used a values rows)
-  use_row a values rows among each passes = grind (arith, used_row, passes_among)
-
-  use_found : (test : Rule → Bool) (values : List Text) (rows : List Row) (o : Option Rule) → find test s.rules ≡ o
-      → Keeps rows (option_map_or (λ a. use_fault s.args_override_self a values rows) o []) (used_by_id o values rows)
-  use_found test values rows o found = grind (arith, use_row, found_among)
+  use_row a values rows among each passes = grind (arith, set_row, (passes_among is_plain s.rules a plain_rules among))
 
   -- what was pending is used
   settled_row : (h : Held) → Keeps h.rows (settle_fault s.rules s.args_override_self h) (settled s.rules h).rows
-  settled_row h each passes = grind (arith, use_found)
+  settled_row h each passes = grind (arith, use_row, found_among)
 
   reacted_row : (a : Rule) (values : List Text) (h : Held) → Among a s.rules → Keeps h.rows (react_fault s.rules s.args_override_self a values h) (reacted s.rules a values h).rows
   reacted_row a values h among = grind (arith, settled_row, use_row)
@@ -166,21 +158,18 @@ module _ (s : Shape) (plain_rules : list_all is_plain s.rules ≡ true) (once : 
       → Keeps h.rows (word_fault s names is_trailing waiting word h) (word_met s.rules names is_trailing waiting position word h).0.rows
   word_row names is_trailing waiting position word h each passes = grind (arith, flag_word_row)
 
-  -- a word that goes to a positional ends what was pending
-  positional_row : (a : Rule) (word : Text) (h : Held) → Keeps h.rows (positional_fault s.rules s.args_override_self a h) (positional_held s.rules a word h).rows
-  positional_row a word h = grind (arith, settled_row)
-
   step_taken_row : (word : Text) (w : Walk) (h : Held) (step : Step) → Keeps h.rows (step_fault s w.position h step) (after_step s.rules word w h step).held.rows
   step_taken_row word w h value = go (arg_by_index s.rules w.position)
     where
       go : (o : Option Rule) → Keeps h.rows (option_map_or (λ a. positional_fault s.rules s.args_override_self a h) o (stray_fault s)) (to_positional s.rules o word w h).held.rows
-      go None = λ each passes. each
-      go (Some a) = positional_row a word h
+      go None each passes = each
+      -- a word that goes to a positional ends what was pending
+      go (Some a) each passes = grind (arith, settled_row)
   step_taken_row word w h _ = λ each passes. each
 
   turn_row : (names : Names) (w : Walk) (word : Text) → Keeps w.held.rows (turn_fault s names w word) (walked s.rules names w word).held.rows
   unfolding walked
-  turn_row names w word each passes = grind (arith, in_turn, word_row, step_taken_row)
+  turn_row names w word each passes = grind (arith, in_turn, flag_word_row, step_taken_row)
 
   walk_row : (names : Names) (w : Walk) (words : List Text) → Keeps w.held.rows (walk_fault s names w words) (fold (walked s.rules names) w words).held.rows
   unfolding walk_fault
