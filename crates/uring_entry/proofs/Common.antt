@@ -1,8 +1,8 @@
 -- The names that several of these files cite, passed on from one place. Declares nothing.
 pub use Rattle.std.proofs.Math.Bool.{or-false}
 pub use Rattle.std.proofs.lemmas.Bool.{and_from, and_left, and_right, both_ways, cases_eq, cases_lt, eq-eqb, eqb-true, or_left, or_right}
-pub use Rattle.std.proofs.lemmas.List.{append-nil, append_cancel_left, get_or_past, take_more_set}
-pub use Rattle.std.specs.Int.{IsNextPowerOfTwo, IsPowerOfTwo, cast_signed, cast_unsigned, from_le_bytes, to_le_bytes, w32, w64}
+pub use Rattle.std.proofs.lemmas.List.{append-nil, get_or_past, take_more_set}
+pub use Rattle.std.specs.Int.{IsNextPowerOfTwo, IsPowerOfTwo, from_le_bytes, to_le_bytes, w32, w64}
 pub use Rattle.std.specs.List.{list_any}
 pub use Rattle.std.specs.Prelude.{if◌then◌else◌, int_le}
 pub use Rattle.uring_entry.specs.Below.{all_below, found_or, least_below, some_below}

@@ -1,6 +1,6 @@
 -- What the steps make that settle requests.
 use Rattle.std.proofs.Common.{◌≡◌, ℕ, ℤ, ◌+◌, ◌-◌, ◌^◌, ◌≤◌, Bool, true, false, List, [], ◌∷◌, ◌++◌, length, Option, Some, None, is_some, refl, sym, subst, ◌∙◌, ap, arith, length-append}
-use Rattle.uring_machine.proofs.Common.{Answer, AreSettling, AreUnrefused, Core, Event, FileContents, FinishesApart, Fits, FitsApart, HasSettled, History, IsEnded, IsIssued, IsLawfulApart, IsSettled, IsSettledIf, IsUnrefused, LinuxRequests, Machine, Requests, Setup, World, and_from, and_parts, finishing, has_ended, history_of, history_of_append, history_of_cons, is_issue_or_finish, is_outstanding, is_running, is_running_started_same, issuing, least_of, next_answer_of, no_bytes, not-true, outstanding_in, requests_of, settling_step, started_last, world}
+use Rattle.uring_machine.proofs.Common.{Answer, AreSettling, AreUnrefused, Core, Event, FileContents, FinishesApart, Fits, FitsApart, HasSettled, History, IsEnded, IsIssued, IsLawfulApart, IsSettled, IsSettledIf, IsUnrefused, LinuxRequests, Machine, Requests, Setup, World, and_from, and_parts, finishing, has_ended, history_of, history_of_append, history_of_cons, is_issue_or_finish, is_outstanding, is_running, is_running_started_same, issuing, least_of, next_answer_of, no_bytes, not-true, outstanding_in, requests_of, started_last, world}
 use Rattle.std.proofs.lemmas.List.Folds.{list_all-append}
 use Rattle.uring_rules.specs.Rules.{next_of, with_issued_end}
 use Rattle.uring_entry.proofs.BelowLemmas.{least_below_tells, least_below_out}
@@ -39,12 +39,6 @@ pub next_fits : (m : Machine) (a : Answer) (h : History) → Fits m ((step.Next,
 next_fits m a h fits = record { core = record { shows = fits.core.shows; lawful = fits.core.lawful.1 }; files = fits.files; lawful = fits.lawful.1 }
 
 -- Steps that settle further.
-
-finished_least : (linux : Bool) (l : LinuxRequests) (n : ℕ) (a : Answer)
-    → a ≡ next_answer_of (next_of linux l) → ((k : ℕ) → a ≡ answer.Next k → ⊥)
-    → least_of l.requests ≡ Some n
-    → settling_step None (next_of linux l) (least_of l.requests) ≡ Some (step.Finish n)
-finished_least linux l n a told other is = grind arith
 
 -- events that settle further, after others that did
 
@@ -158,7 +152,7 @@ settled_finish granted old asked new n a b h same kept other fits least asked_fi
       settles = record {
         events = (step.Finish n, b) ∷ [];
         issues_and_finishes = refl;
-        settling = (finished_least g.linux (requests_of (world g h)) n a told other is, tt);
+        settling = (grind (arith, told, other, is), tt);
         fits = new_fits;
         many = refl;
         unrefused = λ sure. (unrefused sure, tt);
@@ -186,7 +180,7 @@ settled_more granted first old new h count more ended same before next =
     let b = before.settles in
     let last = next (history_of b.events ++ h) b.fits in
     let l = last.settles in
-    let after : AreSettling new.core.setup (history_of b.events ++ h) (started_last None b.events) l.events = subst (λ started. AreSettling new.core.setup (history_of b.events ++ h) started l.events) (sym before.none_started) l.settling in
+    let after : AreSettling new.core.setup (history_of b.events ++ h) (started_last None b.events) l.events = rw before.none_started l.settling in
     record {
       settles = record {
         events = b.events ++ l.events;

@@ -1,5 +1,5 @@
 -- What the option of a name gives of words that clap finds no fault in.
-use Rattle.std.proofs.Common.{◌≡◌, ◌∙◌, ◌<◌, ◌≤◌, ◌^◌, ℕ, Bool, true, false, cond, List, [], ◌∷◌, Option, Some, None, Result, Ok, refl, sym, ap, subst, inl, inr, arith}
+use Rattle.std.proofs.Common.{◌≡◌, ◌∙◌, ◌<◌, ◌≤◌, ◌^◌, ℕ, Bool, true, false, cond, List, [], ◌∷◌, Option, Some, None, Result, Ok, refl, ap, subst, inl, inr, arith}
 use Rattle.uring_options.proofs.Common.{CommandOption, Gives, IsGiven, IsWithin, ParsesUnsigned, Row, Rule, TakesOption, TakesOptions, Text, codes, find, flag, number, or_cases, parser_for, values_kinds}
 use Rattle.clap.specs.Walk.{rows_of}
 use Rattle.std.specs.Str.{bytes_eq}
@@ -72,29 +72,26 @@ pub number_given : {E : Type 0} (G : Text → Result ℕ E → Type 0) (f : Foun
     → ((t : Text) (x : Result ℕ E) → G t x → ParsesUnsigned 32 10 t x)
     → (low high : ℕ) → high ≤ 4294967295 → TakesOption (rows_of f) (number id low high)
     → Gives (rows_of f) id r × IsWithin low high r
-number_given G f id r none value only low high fits (inl absent) =
-    subst (λ (o : Option ℕ). Gives (rows_of f) id o × IsWithin low high o) (sym (none (one_text-rows f id ∙ absent))) (absent, tt)
+number_given G f id r none value only low high fits (inl absent) = rw (none (one_text-rows f id ∙ absent)) (absent, tt)
 number_given {E} G f id r none value only low high fits (inr (text, ignore_case, is, passed)) =
     let reads = value (without_minus text) (one_text-rows f id ∙ is) in
     let small : high < 2 ^ 32 = omega arith in
     let read = signed_reads E G 32 low high text r reads only small passed in
-    let parsed = only (without_minus text) (Ok read.0) (subst (ReadsOne G (without_minus text)) read.1 reads) in
-    subst (λ (o : Option ℕ). Gives (rows_of f) id o × IsWithin low high o) (sym read.1)
-    ((without_minus text, is, record { digits = parsed.0.0; value = parsed.1 }), (read.2, read.3))
+    let parsed = only (without_minus text) (Ok read.0) (rw read.1 at reads) in
+    rw read.1 ((without_minus text, is, record { digits = parsed.0.0; value = parsed.1 }), (read.2, read.3))
 
 -- whether an option is given that takes no value
 pub flag_given : (f : Found) (id : Text) (r : Bool) → (one_text f id ≡ None → r ≡ false)
     → (one_text f id ≡ Some (codes "true") → r ≡ true)
     → (one_text f id ≡ Some (codes "false") → r ≡ false)
     → TakesOption (rows_of f) (flag id) → IsGiven (rows_of f) id r
-flag_given f id r none set unset (inl absent) =
-    subst (IsGiven (rows_of f) id) (sym (none (one_text-rows f id ∙ absent))) (inl absent)
+flag_given f id r none set unset (inl absent) = rw (none (one_text-rows f id ∙ absent)) (inl absent)
 flag_given f id r none set unset (inr (text, ignore_case, is, passed)) =
     elim (or_cases (bytes_eq text (codes "true")) (bytes_eq text (codes "false")) passed) [
       | inl same ↦
-          let given = is ∙ ap (λ (t : Text). Some t) ((bytes_eq-Decides text (codes "true")).0 same) in
-          subst (IsGiven (rows_of f) id) (sym (set (one_text-rows f id ∙ given))) given
+          let given = rw ((bytes_eq-Decides text (codes "true")).0 same) at is in
+          rw (set (one_text-rows f id ∙ given)) given
       | inr same ↦
-          let given = is ∙ ap (λ (t : Text). Some t) ((bytes_eq-Decides text (codes "false")).0 same) in
-          subst (IsGiven (rows_of f) id) (sym (unset (one_text-rows f id ∙ given))) (inr given)
+          let given = rw ((bytes_eq-Decides text (codes "false")).0 same) at is in
+          rw (unset (one_text-rows f id ∙ given)) (inr given)
     ]

@@ -1,6 +1,6 @@
 -- What clap's walk over words without a fault leaves: each row has values that its option's parser took.
 use Rattle.std.proofs.Common.{◌≡◌, ℕ, zero, suc, Bool, true, false, cond, List, [], ◌∷◌, ◌++◌, Option, Some, None, refl, ◌⊎◌, inl, inr, append-nil, fold, is_some, arith}
-use Rattle.uring_options.proofs.Common.{Held, Kinds, Names, Outcome, Row, Rule, Shape, Step, Text, Waiting, Walk, action_fault, action_of, after_flag, after_step, arg_by_index, at_row, attached_value, bundle_met, bundle_step, bundle_step_fault, default_fault, defaults_fault, done, find, flag_met, flag_word_fault, flags_fault, has_row, level_fault, list_all, long_fault, long_met, long_or_other, nothing_held, option, option_fault, option_met, or_else, plain_word, positional_fault, positional_held, react_fault, reacted, reading_by, rows_after, set_fault, settle_fault, settled, short_fault, short_met, slice_get, step_fault, stray_fault, takes_values, to_positional, turn_fault, use_fault, used, used_as, used_by_id, value, values_fault, waits, walk_fault, walked, with_default, with_values, without, word_fault, word_met}
+use Rattle.uring_options.proofs.Common.{Held, Kinds, Names, Outcome, Row, Rule, Shape, Step, Text, Waiting, Walk, action_of, after_flag, after_step, arg_by_index, at_row, attached_value, bundle_met, default_fault, defaults_fault, done, find, flag_met, flag_word_fault, flags_fault, has_row, level_fault, list_all, long_or_other, nothing_held, option, option_fault, option_met, or_else, plain_word, positional_fault, react_fault, reacted, reading_by, rows_after, set_fault, settle_fault, settled, short_fault, short_met, slice_get, step_fault, stray_fault, takes_values, to_positional, turn_fault, use_fault, used, value, values_fault, waits, walk_fault, walked, with_default, with_values, without}
 use Rattle.std.specs.Option.{option_map_or}
 use Rattle.std.specs.Str.{chars}
 use Rattle.clap.specs.Lexer.{short_of}
@@ -116,9 +116,6 @@ module _ (s : Shape) (plain_rules : list_all is_plain s.rules ≡ true) (once : 
   flag_row a None h among = reacted_row a [] h among
   flag_row a (Some v) h among = λ each passes. each
 
-  long_row : (test : Rule → Bool) (o : Option Rule) (v : Option Text) (h : Held) → find test s.rules ≡ o → Keeps h.rows (long_fault s.rules s.args_override_self o v h) (long_met s.rules o v h).0.rows
-  long_row test o v h found each passes = grind (arith, found_among, option_row, flag_row)
-
   -- a flag of a bundle, where what comes after it keeps the rows
   short_row : (test : Rule → Bool) (o : Option Rule) (rest : Text) (h : Held) (go_on : Held → Held × Outcome) (go_on_fault : Held → Kinds) → find test s.rules ≡ o
       → ((g : Held) → Keeps g.rows (go_on_fault g) (go_on g).0.rows)
@@ -127,17 +124,11 @@ module _ (s : Shape) (plain_rules : list_all is_plain s.rules ≡ true) (once : 
   short_row test (Some a) rest h go_on go_on_fault found after each passes =
       grind (arith, (takes_values a), (found_among test s.rules a found), (option_row a (attached_value rest) h), (reacted_row a [] h), (after (reacted s.rules a [] h)), neither_fails)
 
-  -- one character of a bundle
-  step_row : (o : Option ℕ) (flags : Text) (skip : ℕ) (so_far : Outcome) (h : Held) (go_on : Text → ℕ → Outcome → Held → Held × Outcome) (go_on_fault : Text → ℕ → Held → Kinds)
-      → ((f : Text) (n : ℕ) (x : Outcome) (g : Held) → Keeps g.rows (go_on_fault f n g) (go_on f n x g).0.rows)
-      → Keeps h.rows (bundle_step_fault s.rules s.args_override_self o flags skip h go_on_fault) (bundle_step s.rules o flags skip so_far h go_on).0.rows
-  step_row o flags skip so_far h go_on go_on_fault later = grind (arith, short_row)
-
+  -- the characters of a bundle
   bundle_row : (k : ℕ) (flags : Text) (skip : ℕ) (so_far : Outcome) (h : Held) → Keeps h.rows (flags_fault s.rules s.args_override_self k flags skip h) (bundle_met s.rules k flags skip so_far h).0.rows
   unfolding bundle_met flags_fault
-  bundle_row zero flags skip so_far h = λ each passes. each
-  bundle_row (suc k) flags skip so_far h =
-      step_row (slice_get (chars flags) 0) flags skip so_far h (bundle_met s.rules k) (flags_fault s.rules s.args_override_self k) (λ f n x g. bundle_row k f n x g)
+  bundle_row zero flags skip so_far h each passes = each
+  bundle_row (suc k) flags skip so_far h each passes = grind (arith, (slice_get (chars flags) 0), short_row, (bundle_row k))
 
   -- ---- a word
 
@@ -152,11 +143,7 @@ module _ (s : Shape) (plain_rules : list_all is_plain s.rules ≡ true) (once : 
 
   flag_word_row : (waiting : Waiting) (word : Text) (o : Option (Text × Option Text)) (h : Held)
       → Keeps h.rows (flag_word_fault s.rules s.args_override_self o word h) (long_or_other s.rules waiting word o h).0.rows
-  flag_word_row waiting word o h each passes = grind (arith, long_row, (short_of word), plain_row, after_row, bundle_row)
-
-  word_row : (names : Names) (is_trailing : Bool) (waiting : Waiting) (position : ℕ) (word : Text) (h : Held)
-      → Keeps h.rows (word_fault s names is_trailing waiting word h) (word_met s.rules names is_trailing waiting position word h).0.rows
-  word_row names is_trailing waiting position word h each passes = grind (arith, flag_word_row)
+  flag_word_row waiting word o h each passes = grind (arith, found_among, option_row, flag_row, (short_of word), plain_row, after_row, bundle_row)
 
   step_taken_row : (word : Text) (w : Walk) (h : Held) (step : Step) → Keeps h.rows (step_fault s w.position h step) (after_step s.rules word w h step).held.rows
   step_taken_row word w h value = go (arg_by_index s.rules w.position)
