@@ -19,4 +19,4 @@ pub use Rattle.uring_files.specs.Contents.{FileContents, max_len}
 pub use Rattle.uring_files.specs.Operations.{IsOutcome, after, ended_with, is_lengthening, result_of}
 pub use Rattle.uring_linux.specs.LinuxRequests.{LinuxRequests, after_going_on, is_alone, is_deferred, is_doomed, is_faulty_from, is_in_faulty_group, is_issuable, with_accepted, with_cut, with_ended, with_group, with_last_entry}
 pub use Rattle.uring_machine.specs.Machine.{Fits, IsUnrefused, Machine, MayLackMemory, elements_for_step, finish_answer}
-pub use Rattle.uring_machine.specs.Settling.{AreSettling, AreUnrefused, HasSettled, IsSettled, IsSettledIf, is_issue_or_finish, settling_step, started_last}
+pub use Rattle.uring_machine.specs.Settling.{AreSettling, AreUnrefused, HasSettled, IsSettled, IsSettledIf, is_issue_or_finish, started_last}

@@ -1,6 +1,6 @@
 -- What the steps make that settle requests.
-use Rattle.std.proofs.Common.{◌≡◌, ℕ, ℤ, ◌+◌, ◌-◌, ◌^◌, ◌≤◌, Bool, true, false, List, [], ◌∷◌, ◌++◌, length, Option, Some, None, is_some, refl, sym, subst, ◌∙◌, ap, arith, length-append}
-use Rattle.uring_machine.proofs.Common.{Answer, AreSettling, AreUnrefused, Core, Event, FileContents, FinishesApart, Fits, FitsApart, HasSettled, History, IsEnded, IsIssued, IsLawfulApart, IsSettled, IsSettledIf, IsUnrefused, LinuxRequests, Machine, Requests, Setup, World, and_from, and_parts, finishing, has_ended, history_of, history_of_append, history_of_cons, is_issue_or_finish, is_outstanding, is_running, is_running_started_same, issuing, least_of, next_answer_of, no_bytes, not-true, outstanding_in, requests_of, started_last, world}
+use Rattle.std.proofs.Common.{◌≡◌, ℕ, ℤ, ◌+◌, ◌-◌, ◌^◌, ◌≤◌, Bool, true, false, List, [], ◌∷◌, ◌++◌, length, Option, Some, None, refl, sym, subst, ◌∙◌, ap, arith, length-append}
+use Rattle.uring_machine.proofs.Common.{Answer, AreSettling, AreUnrefused, Core, Event, FileContents, Fits, FitsApart, HasSettled, History, IsEnded, IsIssued, IsSettled, IsSettledIf, IsUnrefused, LinuxRequests, Machine, Requests, Setup, World, and_from, and_parts, finishing, has_ended, history_of, history_of_append, history_of_cons, is_issue_or_finish, is_outstanding, is_running, is_running_started_same, issuing, least_of, next_answer_of, no_bytes, not-true, outstanding_in, requests_of, started_last, world}
 use Rattle.std.proofs.lemmas.List.Folds.{list_all-append}
 use Rattle.uring_rules.specs.Rules.{next_of, with_issued_end}
 use Rattle.uring_entry.proofs.BelowLemmas.{least_below_tells, least_below_out}
@@ -26,13 +26,6 @@ issue_less g w n _ outstanding ended = absurd ended
 finish_less : (g : Setup) (w : World) (n : ℕ) (a : Answer) → is_outstanding w.requests n ≡ true
     → IsEnded a → outstanding_in (finishing g w n a).requests + 1 ≡ outstanding_in w.requests
 finish_less g w n a outstanding ended = grind (arith, ended_less)
-
--- where there is no next, the least outstanding request runs
-least_runs : (g : Setup) (h : History) (n : ℕ) (a : Answer) → IsLawfulApart g h
-    → a ≡ next_answer_of (next_of g.linux (requests_of (world g h)))
-    → ((k : ℕ) → a ≡ answer.Next k → ⊥) → least_of (world g h).requests ≡ Some n
-    → is_running (world g h).requests n ≡ true
-least_runs g h n a lawful is other least = grind (arith, least_goes_on, is_some, requests_of)
 
 -- a machine that answered Next fits what it fitted
 pub next_fits : (m : Machine) (a : Answer) (h : History) → Fits m ((step.Next, a) ∷ h) → Fits m h
@@ -68,14 +61,6 @@ pub outstanding_of : (m : Machine) (h : History) → Fits m h
     → m.core.dispatch.outstanding ≡ outstanding_in (world m.core.setup h).requests
 outstanding_of m h fits = fits.core.shows.requests.outstanding
 
--- one less is one less of what is held
-one_fewer : (old new : Machine) (h later : History) → new.core.setup ≡ old.core.setup → Fits old h
-    → Fits new later
-    → outstanding_in (world new.core.setup later).requests + 1
-    ≡ outstanding_in (world new.core.setup h).requests
-    → new.core.dispatch.outstanding + 1 ≡ old.core.dispatch.outstanding
-one_fewer old new h later same fits reached less = grind arith
-
 -- the next request ran, and was finished
 pub settled_run : (granted : Type 0) (old asked new : Machine) (n : ℕ) (a b c : Answer) (h : History)
     → asked.core.setup ≡ old.core.setup → new.core.setup ≡ asked.core.setup → a ≡ answer.Next n
@@ -90,9 +75,10 @@ settled_run granted old asked new n a b c h same kept next ran fits asked_fits n
     let now : Fits new ((step.Finish n, c) ∷ (step.Issue n, answer.Run) ∷ h) = rw ran at new_fits in
     let l : LinuxRequests = requests_of (world g h) in
     let named : answer.Next n ≡ next_answer_of (next_of g.linux l) = subst (λ (k : Setup). answer.Next n ≡ next_answer_of (next_of k.linux (requests_of (world k h)))) (sym kept) (sym next ∙ asked_fits.core.lawful.0) in
-    let issuable = next_tells g.linux l n named in
-    let outstanding = issuable_outstanding g.linux l n issuable in
+    let outstanding = issuable_outstanding g.linux l n (next_tells g.linux l n named) in
     let unended : has_ended r n ≡ false = not-true _ (and_parts _ _ outstanding).1 in
+    let before : old.core.dispatch.outstanding ≡ outstanding_in r = rw (kept, same) fits.core.shows.requests.outstanding in
+    let less = finish_less g (world g ((step.Issue n, answer.Run) ∷ h)) n c outstanding (rw (is_running_started_same r n unended) at now.core.lawful.0) in
     record {
       settles = record {
         events = (step.Issue n, b) ∷ (step.Finish n, c) ∷ [];
@@ -104,7 +90,7 @@ settled_run granted old asked new n a b c h same kept next ran fits asked_fits n
       };
       none_started = refl;
       few = omega arith;
-      fewer = grind (arith, one_fewer, finish_less, is_running_started_same);
+      fewer = omega (arith, less, now.core.shows.requests.outstanding, before);
     }
 
 -- the next request ended as it was issued
@@ -147,7 +133,8 @@ settled_finish granted old asked new n a b h same kept other fits least asked_fi
     let r : Requests = (world g h).requests in
     let is : least_of r ≡ Some n = rw (kept, same) (sym least) in
     let told : a ≡ next_answer_of (next_of g.linux (requests_of (world g h))) = subst (λ (k : Setup). a ≡ next_answer_of (next_of k.linux (requests_of (world k h)))) (sym kept) asked_fits.core.lawful.0 in
-    let running : is_running r n ≡ true = least_runs g h n a new_fits.core.lawful.1 told other is in
+    -- where there is no next, the least outstanding request runs
+    let running : is_running r n ≡ true = grind (arith, (least_goes_on g h n new_fits.core.lawful.1 is), told, other) in
     record {
       settles = record {
         events = (step.Finish n, b) ∷ [];
@@ -160,8 +147,7 @@ settled_finish granted old asked new n a b h same kept other fits least asked_fi
       none_started = refl;
       few = omega arith;
       fewer =
-          one_fewer old new h ((step.Finish n, b) ∷ h) (kept ∙ same) fits new_fits
-          (finish_less g (world g h) n b (least_below_tells (is_outstanding r) (length r.accepted) n is).holds (subst (λ running. FinishesApart running b) running new_fits.core.lawful.0));
+          grind (arith, (finish_less g (world g h) n b (least_below_tells (is_outstanding r) (length r.accepted) n is).holds (rw running at new_fits.core.lawful.0)));
     }
 
 -- something is outstanding, so there is a least
