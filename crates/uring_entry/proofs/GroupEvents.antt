@@ -1,8 +1,8 @@
 -- What each event makes of what is known of a group.
-use Rattle.std.proofs.Common.{◌≡◌, ◌≢◌, ℕ, suc, ◌+◌, ◌<◌, ◌≤◌, ℤ, List, [], ◌∷◌, length, length-append, Bool, true, false, not, ◌&&◌, ◌||◌, ◌==◌, leb, Option, Some, None, refl, sym, ◌∙◌, ap, arith, inl, inr}
-use Rattle.uring_entry.proofs.Common.{IsGroup, Requests, Sqe, and_from, and_left, and_right, both_ways, cases_Bool, cases_lt, earlier_of, entry_of, eq-eqb, first_broken, first_member, found_or, has_ended, has_failed, if◌then◌else◌, is_last, is_linked, is_soft, le-leb, le-ltb, least_below, lt-leb, lt-ltb, ne_eqb, or_right, with_accepted, with_cut, with_ended}
+use Rattle.std.proofs.Common.{◌≡◌, ◌≢◌, ℕ, zero, suc, ◌+◌, ◌<◌, ◌≤◌, ℤ, List, [], ◌∷◌, length, length-append, Bool, true, false, not, ◌&&◌, ◌==◌, leb, None, ap, ◌∙◌, arith}
+use Rattle.uring_entry.proofs.Common.{IsGroup, Requests, Sqe, and_left, cases_lt, earlier_of, entry_of, eq-eqb, first_broken, first_member, found_or, has_ended, has_failed, is_last, is_soft, least_below, or_right, with_accepted, with_cut, with_ended}
 use Rattle.uring_entry.specs.Success.{is_success}
-use Rattle.uring_entry.proofs.BelowLemmas.{least_below_none, least_below_some, least_below_same, least_below_out, least_below_tells}
+use Rattle.uring_entry.proofs.BelowLemmas.{least_below_none, least_below_same, least_below_low}
 use Rattle.uring_entry.proofs.RequestLemmas.{entry_of_accepted_at, entry_of_accepted_other, has_failed_accepted, has_failed_unended, has_failed_same, has_failed_other, added_other, added_same}
 use Rattle.uring_entry.proofs.EventLemmas.{is_last_accepted}
 
@@ -73,25 +73,19 @@ pub first_broken_accepted : (r : Requests) (entry : Sqe) (from end : ℕ)
     → first_broken (with_accepted r entry) from end ≡ first_broken r from end
 first_broken_accepted r entry from end none le = grind (arith, first_member_same, broke_accepted)
 
-found_or_false : (o : Option ℕ) (n : ℕ) → found_or o false n ≡ o
-found_or_false o n = grind arith
-
 pub first_broken_more : (r : Requests) (entry : Sqe) (from : ℕ)
     → has_ended r (length r.accepted) ≡ false
     → from ≤ length r.accepted
     → first_broken (with_accepted r entry) from (length r.accepted + 1)
     ≡ first_broken r from (length r.accepted)
 first_broken_more r entry from none le =
-    first_member_more (λ m. is_soft (entry_of (with_accepted r entry) m) && has_failed (with_accepted r entry) m) from (length r.accepted) le
-    ∙ ap (λ o. found_or o (is_soft (entry_of (with_accepted r entry) (length r.accepted)) && has_failed (with_accepted r entry) (length r.accepted)) (length r.accepted)) (first_broken_accepted r entry from (length r.accepted) none (omega arith))
-    ∙ ap (λ b. found_or (first_broken r from (length r.accepted)) b (length r.accepted)) (and_right _ _ (has_failed_unended (with_accepted r entry) (length r.accepted) none))
-    ∙ found_or_false _ _
+    grind (arith, first_member_more, first_broken_accepted, (has_failed_unended (with_accepted r entry) (length r.accepted) none))
 
 -- A call closes.
 
 pub is_last_cut : (r : Requests) (k : ℕ) → suc k ≢ length r.accepted
     → is_last (with_cut r) k ≡ is_last r k
-is_last_cut r k ne = ap (λ b. not (is_linked (entry_of r k)) || b) (added_other (λ cut. cut == k + 1) r.cuts (length r.accepted) (ne_eqb _ _ (λ e. ne (omega (arith, e)))))
+is_last_cut r k ne = grind (arith, added_other)
 
 pub is_last_cut_last : (r : Requests) (k : ℕ) → suc k ≡ length r.accepted
     → is_last (with_cut r) k ≡ true
@@ -103,66 +97,28 @@ group_cut r from end g = grind (arith, is_last_cut)
 -- A request ends.
 
 -- the test changes at one number
-pub first_member_changed : (p q : ℕ → Bool) (from end n : ℕ) → from ≤ n → n < end → p n ≡ false
-    → ((m : ℕ) → m ≢ n → q m ≡ p m)
-    → first_member q from end ≡ earlier_of (first_member p from end) (q n) n
-unfolding first_member
-first_member_changed p q from end n le lt was others =
-    elim (cases_Bool (q n)) [
-      | inl holds ↦ here (least_below (λ m. leb from m && p m) end) refl holds ∙ ap (λ b. earlier_of (least_below (λ m. leb from m && p m) end) b n) (sym holds)
-      | inr fails ↦ grind arith
-    ]
-  where
-    kept : (o : Option ℕ) → earlier_of o false n ≡ o
-    kept None = refl
-    kept (Some m) = refl
-
-    at_n : q n ≡ true → (leb from n && q n) ≡ true
-    at_n holds = and_from _ _ (le-leb from n le) holds
-
-    at_other : (m : ℕ) → m ≢ n → (leb from m && q m) ≡ (leb from m && p m)
-    at_other m ne = ap (λ b. leb from m && b) (others m ne)
-
-    here : (o : Option ℕ) → least_below (λ m. leb from m && p m) end ≡ o → q n ≡ true → least_below (λ m. leb from m && q m) end ≡ earlier_of o true n
-    here None e holds =
-        least_below_some (λ m. leb from m && q m) end n lt (at_n holds)
-        (λ j low. at_other j (λ s. absurd (omega arith)) ∙ least_below_out (λ m. leb from m && p m) end e j (omega arith))
-    here (Some k) e holds =
-        let least = least_below_tells (λ m. leb from m && p m) end k e in
-        elim (cases_lt n k) [
-          | inl low ↦
-              least_below_some (λ m. leb from m && q m) end n lt (at_n holds)
-              (λ j under. at_other j (λ s. absurd (omega arith)) ∙ least.before j (omega arith))
-              ∙ ap (λ b. if b then Some n else Some k) (sym (lt-ltb n k low))
-          | inr high ↦
-              let apart : k ≢ n = λ s. both_ways _ (ap (λ m. leb from m && p m) s ∙ and_right _ _ was) least.holds in
-              least_below_some (λ m. leb from m && q m) end k least.below (at_other k apart ∙ least.holds)
-              (λ j under. at_other j (λ s. absurd (omega arith)) ∙ least.before j under)
-              ∙ ap (λ b. if b then Some n else Some k) (sym (le-ltb n k high))
-        ]
+least_below_changed : (p q : ℕ → Bool) (end n : ℕ) → n < end → p n ≡ false → ((m : ℕ) → m ≢ n → q m ≡ p m)
+    → least_below q end ≡ earlier_of (least_below p end) (q n) n
+least_below_changed p q zero n lt was others = absurd (omega arith)
+least_below_changed p q (suc end) n lt was others = grind (arith, (cases_lt n end), (least_below_changed p q end n), least_below_same, least_below_low)
 
 pub first_broken_ended : (r : Requests) (n : ℕ) (res : ℤ) (bytes : List ℕ) (from end : ℕ) → from ≤ n
     → n < end
     → has_ended r n ≡ false
     → first_broken (with_ended r n res bytes) from end
     ≡ earlier_of (first_broken r from end) (is_soft (entry_of r n) && not (is_success (entry_of r n) res)) n
+unfolding first_member
 first_broken_ended r n res bytes from end le lt none =
-    first_member_changed (λ m. is_soft (entry_of r m) && has_failed r m) (λ m. is_soft (entry_of r m) && has_failed (with_ended r n res bytes) m) from end n le lt
-    (and_right _ _ (has_failed_unended r n none))
-    (λ m ne. ap (λ b. is_soft (entry_of r m) && b) (has_failed_other r n res bytes m ne))
-    ∙ ap (λ b. earlier_of (first_broken r from end) (is_soft (entry_of r n) && b) n) (has_failed_same r n res bytes none)
+    least_below_changed (λ m. leb from m && (is_soft (entry_of r m) && has_failed r m)) _ end n lt
+    (grind (arith, (has_failed_unended r n none))) (λ m ne. grind (arith, (has_failed_other r n res bytes m ne)))
+    ∙ grind (arith, (has_failed_same r n res bytes none))
 
 pub first_broken_elsewhere : (r : Requests) (n : ℕ) (res : ℤ) (bytes : List ℕ) (from end : ℕ)
     → ((m : ℕ) → from ≤ m → m < end → m ≢ n)
     → first_broken (with_ended r n res bytes) from end ≡ first_broken r from end
 unfolding first_member
 first_broken_elsewhere r n res bytes from end apart =
-    least_below_same _ _ end
-    (λ m lt.
-    elim (cases_lt m from) [
-      | inl low ↦ and_left _ _ (lt-leb from m low) ∙ sym (and_left _ _ (lt-leb from m low))
-      | inr high ↦ ap (λ b. leb from m && (is_soft (entry_of r m) && b)) (has_failed_other r n res bytes m (apart m high lt))
-    ])
+    least_below_same _ _ end (λ m lt. grind (arith, (apart m), (has_failed_other r n res bytes m)))
 
 pub group_ended : (r : Requests) (n : ℕ) (res : ℤ) (bytes : List ℕ) (from end : ℕ)
     → IsGroup r from end

@@ -1,5 +1,5 @@
 -- The 64 bytes of data and the eight words that hold them.
-use Rattle.std.proofs.Common.{◌≡◌, ℕ, zero, suc, ◌+◌, ◌*◌, ◌^◌, ◌<◌, ◌∙◌, refl, sym, ap, List, [], ◌∷◌, ◌++◌, length, get_or, take, drop, set, take-add, arith}
+use Rattle.std.proofs.Common.{◌≡◌, ℕ, zero, suc, ◌+◌, ◌*◌, ◌^◌, ◌<◌, ◌∙◌, refl, sym, ap, List, [], ◌∷◌, length, get_or, take, drop, set, take-add, arith}
 use Rattle.std.proofs.lemmas.List.{places, take_all, take_more}
 use Rattle.std.proofs.lemmas.Nat.{le_bytes_8}
 use Rattle.std.proofs.lemmas.Slice.{put_mid-paste, take-put_mid}
@@ -24,10 +24,9 @@ pub word_more : (i k word : ℕ) (bytes words eight : List ℕ) → i < length w
     → bytes_of (take i words) ≡ take (8 * i) bytes
     → bytes_of (take (i + 1) (set words i word)) ≡ take (8 * (i + 1)) bytes
 word_more i k word bytes words eight within fits next k_is size is same =
-    let eight_is : eight ≡ take 8 (drop (8 * i) bytes) = next ∙ ap (λ n. take n (drop (8 * i) bytes)) k_is in
-    let last : to_le_bytes w64 word ≡ take 8 (drop (8 * i) bytes) = le_bytes_8 _ _ (ap length (sym eight_is) ∙ size) (part_fits (8 * i) 8 bytes fits) (is ∙ ap (from_le_bytes w64) eight_is) in
-    ap bytes_of (take_more_set words i word within) ∙ flat_map-append (to_le_bytes w64) (take i words) (word ∷ [])
-    ∙ ap (λ xs. xs ++ to_le_bytes w64 word) same ∙ ap (λ xs. take (8 * i) bytes ++ xs) last ∙ sym (take-add (8 * i) 8 bytes) ∙ ap (λ n. take n bytes) (omega arith)
+    let last : to_le_bytes w64 word ≡ eight = le_bytes_8 eight word size (λ j. rw next (part_fits (8 * i) k bytes fits j)) is in
+    let end : 8 * i + k ≡ 8 * (i + 1) = omega arith in
+    cc (take_more_set words i word within, flat_map-append (to_le_bytes w64) (take i words) (word ∷ []), take-add (8 * i) k bytes)
 
 -- the bytes of one word more
 pub bytes_more : (i k : ℕ) (bytes words put : List ℕ) → i < 8 → length words ≡ 8 → k ≡ 8
@@ -36,8 +35,7 @@ pub bytes_more : (i k : ℕ) (bytes words put : List ℕ) → i < 8 → length w
     → (take (8 * (i + 1)) (put_mid (8 * i) k bytes put) ≡ bytes_of (take (i + 1) words)) × (length (put_mid (8 * i) k bytes put) ≡ 64)
 bytes_more i k bytes words put within words_length k_is put_is (same, bytes_length) =
     let size : length put ≡ 8 = ap length put_is in
-    let more : bytes_of (take (i + 1) words) ≡ bytes_of (take i words) ++ to_le_bytes w64 (get_or words i 0) = ap bytes_of (take_more words i 0 (omega arith)) ∙ flat_map-append (to_le_bytes w64) (take i words) (get_or words i 0 ∷ []) in
-    (take-put_mid (8 * i) k bytes put (8 * (i + 1)) (omega arith) (omega arith) ∙ ap (λ xs. xs ++ put) same ∙ ap (λ xs. bytes_of (take i words) ++ xs) put_is ∙ sym more, rw (put_mid-paste (8 * i) k bytes put put 8 refl (sym k_is) (sym size)) (grind (arith, places)))
+    (cc (take-put_mid (8 * i) k bytes put (8 * (i + 1)) (omega arith) (omega arith), take_more words i 0 (omega arith), flat_map-append (to_le_bytes w64) (take i words) (get_or words i 0 ∷ [])), rw (put_mid-paste (8 * i) k bytes put put 8 refl (sym k_is) (sym size)) (grind (arith, places)))
 
 -- the last eight of sixteen words
 pub last_eight : (words : List ℕ) → length words ≡ 16 → take 8 (drop 8 words) ≡ drop 8 words

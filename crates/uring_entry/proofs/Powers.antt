@@ -1,25 +1,16 @@
 -- Powers of two, and sizes rounded up to them.
-use Rattle.std.proofs.Common.{◌≡◌, ℕ, ◌*◌, ◌/◌, ◌^◌, ◌<◌, ◌≤◌, max, ◌⊎◌, arith}
+use Rattle.std.proofs.Common.{◌≡◌, ℕ, ◌*◌, ◌<◌, ◌≤◌, arith}
 use Rattle.uring_entry.proofs.Common.{IsNextPowerOfTwo, IsPowerOfTwo, cases_lt}
 use Rattle.std.proofs.Math.Pow.{pow_mono}
 use Rattle.std.proofs.Math.Nat.{pow-suc}
 
--- a lower power is at most half of a higher one
-half_power : (a b : ℕ) → a < b → 2 * 2 ^ a ≤ 2 ^ b
-half_power a b lower = grind (arith, (pow-suc 2 a), pow_mono)
-
-power_cases : (p q a b : ℕ) → p ≡ 2 ^ a → q ≡ 2 ^ b → p < 2 * q → (b < a) ⊎ (a ≤ b) → p ≤ q
-power_cases p q a b p_is q_is below h = grind (arith, half_power)
-
 -- of two powers, the one below twice the other is at most the other
-pub power_within : (p q : ℕ) → IsPowerOfTwo p → IsPowerOfTwo q → p < 2 * q → p ≤ q
-power_within p q (a, p_is) (b, q_is) below = power_cases p q a b p_is q_is below (cases_lt b a)
+power_within : (p q : ℕ) → IsPowerOfTwo p → IsPowerOfTwo q → p < 2 * q → p ≤ q
+power_within p q (a, p_is) (b, q_is) below = grind (arith, (cases_lt b a), (pow-suc 2 b), pow_mono)
 
 -- a size within a power of two is within it after rounding
 pub rounded_within : (n p q : ℕ) → IsNextPowerOfTwo n p → IsPowerOfTwo q → 1 ≤ n → n ≤ q → p ≤ q
-rounded_within n p q rounded power some within =
-    let half : p / 2 < max 1 n = rounded.2 in
-    power_within p q rounded.0 power (omega arith)
+rounded_within n p q rounded power some within = grind (arith, (power_within p q rounded.0 power), rounded.2)
 
 -- a size is rounded in one way
 pub rounded_once : (n p q : ℕ) → IsNextPowerOfTwo n p → IsNextPowerOfTwo n q → 1 ≤ n → p ≡ q

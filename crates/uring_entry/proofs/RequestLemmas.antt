@@ -1,12 +1,13 @@
 -- What the definitions on requests mean, and what each event changes in them.
-use Rattle.std.proofs.Common.{◌≡◌, ℕ, ◌<◌, ◌≤◌, ℤ, pos, negsuc, List, [], ◌∷◌, ◌++◌, length, get_or, Bool, true, false, not, ◌&&◌, ◌||◌, leb, Some, None, length-append, ◌==◌, ◌≢◌, refl, sym, ◌∙◌, ap, arith, inl, inr}
-use Rattle.uring_entry.proofs.Common.{Requests, Sqe, and_from, and_left, and_right, cases_Bool, cases_eq, entry_of, eq-eqb, get_or_past, has_ended, has_failed, holds_back, if◌then◌else◌, int_le, is_after_failure, is_cancel, is_cancel_all, is_cancelled, is_candidate, is_doomed, is_faulty, is_in_faulty_group, is_in_group, is_issuable, is_joined, is_last, is_outstanding, is_ready, is_running, is_target, is_transfer, le-leb, least_of, len_of, list_any, or-false, or_from, or_left, or_parts, or_right, some_member, target_of, targets_of, with_accepted, with_ended, with_started, zero_entry}
+use Rattle.std.proofs.Common.{◌≡◌, ℕ, ◌<◌, ◌≤◌, ℤ, pos, negsuc, List, [], ◌∷◌, ◌++◌, length, get_or, Bool, true, false, not, ◌&&◌, ◌||◌, leb, Some, None, length-append, ◌==◌, ◌≢◌, refl, ◌∙◌, ap, arith}
+use Rattle.uring_entry.proofs.Common.{Requests, Sqe, and_from, and_left, and_right, cases_eq, entry_of, eq-eqb, get_or_past, has_ended, has_failed, holds_back, if◌then◌else◌, int_le, is_after_failure, is_cancel, is_cancel_all, is_cancelled, is_candidate, is_doomed, is_faulty, is_in_faulty_group, is_in_group, is_issuable, is_joined, is_last, is_outstanding, is_ready, is_running, is_target, is_transfer, least_of, len_of, list_any, or-false, or_left, or_right, some_member, target_of, targets_of, with_accepted, with_ended, with_started, zero_entry}
 use Rattle.std.specs.Ordering.{int_eq}
 use Rattle.std.proofs.Math.ListN.{get_or-append}
 use Rattle.std.proofs.Math.Seq.{get_or-append_seam}
 use Rattle.std.proofs.lemmas.List.Folds.{list_any-append}
 use Rattle.uring_entry.specs.Success.{is_success}
-use Rattle.uring_entry.proofs.BelowLemmas.{some_below_none, some_below_some, least_below_none, least_below_some, least_below_tells, IsLeast, all_below_in, all_below_there}
+use Rattle.uring_entry.specs.Why.{is_faulty_member}
+use Rattle.uring_entry.proofs.BelowLemmas.{some_below_none, some_below_some, least_below_none, least_below_some, least_below_tells, all_below_in, all_below_there}
 
 -- Groups.
 
@@ -18,8 +19,7 @@ is_joined_yes r m n h = grind (arith, some_below_none, and_left)
 pub is_joined_no : (r : Requests) (m n k : ℕ) → m ≤ k → k < n → is_last r k ≡ true
     → is_joined r m n ≡ false
 unfolding is_joined
-is_joined_no r m n k le lt e =
-    ap not (some_below_some (λ j. leb m j && is_last r j) n k lt (and_from _ _ (le-leb m k le) e))
+is_joined_no r m n k le lt e = grind (arith, (some_below_some (λ j. leb m j && is_last r j) n k lt))
 
 pub is_joined_inside : (r : Requests) (m n k : ℕ) → is_joined r m n ≡ true → m ≤ k → k < n
     → is_last r k ≡ false
@@ -43,15 +43,11 @@ is_doomed_cancelled r n e = or_right _ _ e
 pub is_in_own_group : (r : Requests) (n : ℕ) → is_in_group r n n ≡ true
 is_in_own_group r n = grind (arith, is_joined_yes)
 
-pub some_member_own : (r : Requests) (p : Sqe → Bool) (n : ℕ) → n < length r.accepted
-    → p (entry_of r n) ≡ true → some_member r p n ≡ true
-unfolding some_member
-some_member_own r p n lt e = some_below_some (λ m. is_in_group r m n && p (entry_of r m)) (length r.accepted) n lt (and_from _ _ (is_in_own_group r n) e)
-
 -- a request's own fault dooms it
 pub is_doomed_own_fault : (r : Requests) (n : ℕ) → n < length r.accepted
     → is_faulty (entry_of r n) ≡ true → is_doomed r n ≡ true
-is_doomed_own_fault r n lt e = is_doomed_faulty r n (some_member_own r is_faulty n lt e)
+unfolding is_doomed some_member
+is_doomed_own_fault r n lt e = grind (arith, (some_below_some (is_faulty_member r n) (length r.accepted) n lt), is_in_own_group)
 
 -- Who may start.
 
@@ -104,21 +100,10 @@ all_success e res all = ap (λ b. if b then int_le (pos 0) res else int_eq res (
 pub never_success : (e : Sqe) (below : ℕ) → is_success e (negsuc below) ≡ false
 never_success e below = grind arith
 
--- what is before the least outstanding request has ended
-ended_before : (r : Requests) (n m : ℕ) → IsLeast (is_outstanding r) (length r.accepted) n → m < n
-    → has_ended r m ≡ true
-ended_before r n m least lt = grind arith
-
 -- the least outstanding request is running, or can be issued
 pub least_of_goes_on : (r : Requests) (n : ℕ) → least_of r ≡ Some n
     → (is_running r n || is_issuable r n) ≡ true
-least_of_goes_on r n e =
-    let least = least_below_tells (is_outstanding r) (length r.accepted) n e in
-    let ready = is_ready_yes r n (λ m lt. and_left _ _ (ap not (ended_before r n m least lt))) in
-    elim (cases_Bool (is_running r n)) [
-      | inl running ↦ or_left _ _ running
-      | inr still ↦ grind arith
-    ]
+least_of_goes_on r n e = grind (arith, (least_below_tells (is_outstanding r) (length r.accepted) n e), is_ready_yes)
 
 -- What each event changes.
 
@@ -162,9 +147,7 @@ is_running_started_other r n k ne = grind (arith, added_other)
 list_any_both : {X : Type 0} (p q : X → Bool) (xs : List X) → list_any p xs ≡ false
     → list_any (λ x. p x && q x) xs ≡ false
 list_any_both p q [] e = refl
-list_any_both p q (x ∷ xs) e =
-    let parts = or_parts (p x) (list_any p xs) e in
-    or_from _ _ (and_left _ _ parts.0) (list_any_both p q xs parts.1)
+list_any_both p q (x ∷ xs) e = grind (arith, (list_any_both p q xs))
 
 pub has_failed_unended : (r : Requests) (k : ℕ) → has_ended r k ≡ false → has_failed r k ≡ false
 has_failed_unended r k e =
@@ -195,9 +178,4 @@ pub has_failed_accepted : (r : Requests) (entry : Sqe) (k : ℕ)
     → has_ended r (length r.accepted) ≡ false
     → has_failed (with_accepted r entry) k ≡ has_failed r k
 has_failed_accepted r entry k none =
-    elim (cases_eq k (length r.accepted)) [
-      | inl same ↦
-          let unended = ap (has_ended r) same ∙ none in
-          has_failed_unended (with_accepted r entry) k unended ∙ sym (has_failed_unended r k unended)
-      | inr other ↦ grind (arith, entry_of_accepted_other)
-    ]
+    grind (arith, (cases_eq k (length r.accepted)), entry_of_accepted_other, (has_failed_unended r k), (has_failed_unended (with_accepted r entry) k))

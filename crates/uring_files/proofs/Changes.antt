@@ -1,7 +1,7 @@
 -- What an operation changes tells what becomes of its file, of whatever operation there is.
 -- Stable: other crates may import what is pub.
-use Rattle.std.proofs.Common.{◌≡◌, ◌≤◌, ℕ, ℤ, Bool, true, false, cond, List, length, Option, Some, None, refl, sym, ap, ◌∙◌, inl, inr}
-use Rattle.uring_files.proofs.Common.{ChangesAreAsked, ChangesStay, ChangesTellBytes, Decides-int_eq, FileContents, IsOutcome, Nothing, Op, Outcome, after, both_ways, bytes_after, cases_Bool, change_by, cond-false, cond-true, file_changed, file_of, int_eq, is_on, option_map, option_map_or, with_changed}
+use Rattle.std.proofs.Common.{◌≡◌, arith, ◌≤◌, ℕ, ℤ, Bool, cond, List, length, Some, None, refl, sym, ◌∙◌, inl, inr}
+use Rattle.uring_files.proofs.Common.{ChangesAreAsked, ChangesStay, ChangesTellBytes, Decides-int_eq, FileContents, IsOutcome, Nothing, Op, Outcome, after, bytes_after, cases_Bool, change_by, file_of, int_eq, is_on, with_changed}
 use Rattle.uring_files.specs.declared.change.Change.{Change}
 use Rattle.uring_files.proofs.OperationCases.{Task, Does, cases}
 use Rattle.uring_files.proofs.StandAlone.{changed_same, changed_other, unlike, others_stay}
@@ -17,33 +17,25 @@ left_of : (chosen : Bool) (files : List FileContents) (fd : ℤ) (change : FileC
     → file_of files fd ≡ Some was
     → file_of (cond chosen (with_changed files fd change) files) fd ≡ Some now
     → now ≡ cond chosen (change was) was
-left_of true files fd change was now here there =
-    let e : Some now ≡ Some (change was) = sym there ∙ changed_same files fd change ∙ ap (option_map change) here in cc
-left_of false files fd change was now here there = same_there files fd was now here there
+left_of chosen files fd change was now here there = grind (arith, (changed_same files fd change))
 
--- a file that is there afterwards was there before
-chosen_before : (chosen : Bool) (files : List FileContents) (own fd : ℤ) (change : FileContents → FileContents) (now : FileContents)
-    → file_of (cond chosen (with_changed files own change) files) fd ≡ Some now
-    → (was : FileContents) × (file_of files fd ≡ Some was)
-chosen_before false files own fd change now there = (now, there)
-chosen_before true files own fd change now there = elim (cases_Bool (int_eq fd own)) [
-  | inr other ↦ (now, sym (changed_other files own fd change (unlike fd own other)) ∙ there)
-  | inl same ↦
-      let at : fd ≡ own = (Decides-int_eq fd own).0 same in
-      some_before (file_of files fd) change now (sym (changed_same files fd change) ∙ ap (λ (k : ℤ). file_of (with_changed files k change) fd) at ∙ there)
-] where
-  some_before : (old : Option FileContents) (change : FileContents → FileContents) (now : FileContents)
-      → option_map change old ≡ Some now → (was : FileContents) × (old ≡ Some was)
-  some_before None change now e = let f : None ≡ Some now = e in absurd cc
-  some_before (Some was) change now e = (was, refl)
+-- a file that isn't there isn't afterwards
+none_after : (chosen : Bool) (files : List FileContents) (own fd : ℤ) (change : FileContents → FileContents)
+    → file_of files fd ≡ None → file_of (cond chosen (with_changed files own change) files) fd ≡ None
+none_after chosen files own fd change none =
+    grind (arith, (changed_same files fd change), (changed_other files own fd change), (Decides-int_eq fd own), (cases_Bool (int_eq fd own)), unlike)
+
+none_left : (files : List FileContents) (op : Op) (res : ℤ) (fd : ℤ) → file_of files fd ≡ None
+    → file_of (after files op res) fd ≡ None
+none_left files op res fd none = grind (arith, none_after)
 
 pub there_before : (files : List FileContents) (op : Op) (res : ℤ) (fd : ℤ) (now : FileContents)
     → file_of (after files op res) fd ≡ Some now → (was : FileContents) × (file_of files fd ≡ Some was)
-there_before files op res fd now there = elim (cases op) [
-  | inl idle ↦ (now, ap (λ fs. file_of fs fd) (sym (idle.after files res)) ∙ there)
-  | inr busy ↦
-      chosen_before (busy.0.changes res) files busy.0.fd fd busy.0.change now (ap (λ fs. file_of fs fd) (sym (busy.1.after files res)) ∙ there)
-]
+there_before files op res fd now there =
+    elim (file_of files fd) as (λ o. file_of files fd ≡ o → (was : FileContents) × (o ≡ Some was)) [
+      | Some was ↦ λ e. (was, refl)
+      | None ↦ λ none. absurd (cc (there, none_left files op res fd none))
+    ] refl
 
 -- on the file of the operation
 left_by : (files : List FileContents) (op : Op) (t : Task) (outcome : Outcome) (was now : FileContents) → Does op t
@@ -51,28 +43,24 @@ left_by : (files : List FileContents) (op : Op) (t : Task) (outcome : Outcome) (
     → file_of (after files op outcome.res) t.fd ≡ Some now
     → now.bytes ≡ bytes_after (change_by op (length was.bytes)) outcome.res was.bytes
 left_by files op t outcome was now does called here there =
-    ap (λ (f : FileContents). f.bytes) (left_of (t.changes outcome.res) files t.fd t.change was now here (ap (λ fs. file_of fs t.fd) (sym (does.after files outcome.res)) ∙ there))
-    ∙ sym (does.bytes files outcome was here called)
+    cc (left_of (t.changes outcome.res) files t.fd t.change was now here (rw (does.after files outcome.res) at there), does.bytes files outcome was here called)
 
 pub changes_tell_bytes : ChangesTellBytes
 changes_tell_bytes files op outcome fd was now called here there = elim (cases_Bool (is_on fd op)) [
-  | inr off ↦
-      ap (λ (f : FileContents). f.bytes) (same_there files fd was now here (sym (others_stay files op outcome.res fd off) ∙ there))
-      ∙ sym (cond-false (is_on fd op) (bytes_after (change_by op (length was.bytes)) outcome.res was.bytes) was.bytes off)
+  | inr off ↦ grind (arith, (others_stay files op outcome.res fd off))
   | inl on ↦ elim (cases op) [
-    | inl idle ↦ absurd (both_ways (is_on fd op) (ap (λ o. option_map_or (int_eq fd) o false) idle.asked) on)
+    | inl idle ↦ grind (arith, idle.asked)
     | inr busy ↦
-        let own : ℤ = busy.0.fd in
-        let at : fd ≡ own = (Decides-int_eq fd own).0 (ap (λ o. option_map_or (int_eq fd) o false) (sym busy.1.asked) ∙ on) in
-        left_by files op busy.0 outcome was now busy.1 called (ap (file_of files) (sym at) ∙ here) (ap (file_of (after files op outcome.res)) (sym at) ∙ there)
-        ∙ sym (cond-true (is_on fd op) (bytes_after (change_by op (length was.bytes)) outcome.res was.bytes) was.bytes on)
+        let at : fd ≡ busy.0.fd = grind (arith, busy.1.asked, (Decides-int_eq fd busy.0.fd)) in
+        let left = left_by files op busy.0 outcome was now busy.1 called (rw at at here) (rw at at there) in
+        rw on left
   ]
 ]
 
 pub changes_are_asked : ChangesAreAsked
 changes_are_asked op len fd changed = elim (cases op) [
-  | inl idle ↦ let e : None ≡ Some fd = sym (ap file_changed (idle.changed len)) ∙ changed in absurd cc
-  | inr busy ↦ busy.1.asked ∙ ap (λ (k : ℤ). Some k) (busy.1.changed len fd changed)
+  | inl idle ↦ grind (arith, (idle.changed len))
+  | inr busy ↦ cc (busy.1.asked, busy.1.changed len fd changed)
 ]
 
 pub changes_stay : ChangesStay
@@ -84,7 +72,4 @@ changes_stay op shorter longer within = elim (cases op) [
 -- so what is changed at all of the longer one
 pub change_before : (op : Op) (shorter longer : ℕ) (c : Change) → shorter ≤ longer → (c ≡ Nothing → ⊥)
     → change_by op longer ≡ c → change_by op shorter ≡ c
-change_before op shorter longer c within some is = elim (changes_stay op shorter longer within) [
-  | inl none ↦ absurd (some (sym is ∙ none))
-  | inr same ↦ same ∙ is
-]
+change_before op shorter longer c within some is = grind (arith, (changes_stay op shorter longer within))

@@ -1,7 +1,7 @@
 -- The names that several of these files cite, passed on from one place. Declares nothing.
-pub use Rattle.std.proofs.lemmas.Bool.{both_ways, cases_Bool, cond-false, cond-true, true≢false}
+pub use Rattle.std.proofs.lemmas.Bool.{both_ways, cases_Bool, true≢false}
 pub use Rattle.std.proofs.lemmas.Bool.Decides.{Decides-int_eq, nat_tests}
-pub use Rattle.std.proofs.lemmas.List.{length-set, places, take_all}
+pub use Rattle.std.proofs.lemmas.List.{length-set, places}
 pub use Rattle.std.specs.Option.{option_map, option_map_or}
 pub use Rattle.std.specs.Ordering.{int_eq}
 pub use Rattle.std.specs.Prelude.{if◌then◌else◌, nat_le, nat_lt, slice_get, slice_set, ◌&&◌, ◌==◌}

@@ -113,20 +113,13 @@ write_task fd off len bytes = record {
   change = written off (take len bytes);
 }
 
-few_bytes : (off len : ℕ) → is_too_long off len ≡ false → len < 2 ^ 63
-few_bytes off len e = grind arith
-
 -- how a write ends by whether it is too long
-
-given_at : (long : Bool) (len : ℕ)
-    → IsGiven len (ended_with (if long then neg_ℤ EFBIG else pos len)).res
-given_at long len = grind arith
 
 growth_at : (off len : ℕ) (file : FileContents) (long : Bool) → is_too_long off len ≡ long
     → (not long && is_past_end off len file) ≡ true
     → IsGrowth (ended_with (if long then neg_ℤ EFBIG else pos len))
 growth_at off len file true is e = absurd (true≢false (sym e))
-growth_at off len file false is e = (len, few_bytes off len is, refl)
+growth_at off len file false is e = (len, grind (arith, is), refl)
 
 abbrev longer_of : ℕ → ℕ → List ℕ → Bool
 longer_of off len bytes =
@@ -134,7 +127,7 @@ longer_of off len bytes =
 
 write_is : (fd : ℤ) (off len : ℕ) (bytes : List ℕ) → IsTask (write_task fd off len bytes)
 write_is fd off len bytes = record {
-  given = λ file. given_at (is_too_long off len) len;
+  given = λ file. grind (arith, is_too_long off len);
   grown = λ file e. growth_at off len file (is_too_long off len) refl e;
   failed = λ below. refl;
   same_end = λ file other same. refl;
@@ -185,13 +178,9 @@ failed files op below = grind arith
 
 -- as many files after an operation as before
 
-many_changed : (chosen : Bool) (files : List FileContents) (fd : ℤ) (change : FileContents → FileContents)
-    → length (cond chosen (with_changed files fd change) files) ≡ length files
-many_changed chosen files fd change = grind (arith, length-set)
-
 pub many_after : (files : List FileContents) (op : Op) (res : ℤ)
     → length (after files op res) ≡ length files
-many_after files op res = grind (arith, many_changed)
+many_after files op res = grind (arith, length-set)
 
 -- What is called for: a number, no file, or that the file would be too long.
 

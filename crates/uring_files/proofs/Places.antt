@@ -1,10 +1,10 @@
 -- What an operation makes of the file at a place, which its descriptor names.
-use Rattle.std.proofs.Common.{◌≡◌, ℕ, ◌<◌, ℤ, pos, neg_ℤ, not, ◌&&◌, Bool, true, false, cond, List, length, get_or, Option, Some, refl, sym, ap, ◌∙◌, inl, inr, ◌⊎◌}
+use Rattle.std.proofs.Common.{◌≡◌, arith, ℕ, ◌<◌, ℤ, pos, neg_ℤ, not, ◌&&◌, Bool, true, cond, List, length, get_or, Some, refl, sym, ap, ◌⊎◌}
 use Rattle.std.proofs.lemmas.List.{get_or_default, set-get_or}
 use Rattle.std.proofs.lemmas.Option.{slice_get_read}
 use Rattle.uring_entry.specs.declared.errno.TheConstants.{EFBIG, ENOMEM}
 use Rattle.uring_entry.specs.declared.operation.Op.TheVariants.{Write}
-use Rattle.uring_files.proofs.Common.{FileContents, IsOutcome, Outcome, empty_file, ended_with, file_of, if◌then◌else◌, is_past_end, is_too_long, on_file, option_map_or, slice_set, with_changed}
+use Rattle.uring_files.proofs.Common.{FileContents, IsOutcome, Outcome, empty_file, ended_with, file_of, if◌then◌else◌, is_past_end, is_too_long, on_file, slice_set, with_changed}
 
 -- The file of a descriptor is at a place.
 pub record IsAt (files : List FileContents) (fd : ℤ) (place : ℕ) (was : FileContents) : Type 0 where
@@ -14,8 +14,7 @@ pub record IsAt (files : List FileContents) (fd : ℤ) (place : ℕ) (was : File
 
 file_at : (files : List FileContents) (fd : ℤ) (place : ℕ) (was : FileContents) → IsAt files fd place was
     → file_of files fd ≡ Some was
-file_at files fd place was at =
-    ap (file_of files) at.named ∙ slice_get_read files (length files) place was refl at.within at.there
+file_at files fd place was at = rw at.named (slice_get_read files (length files) place was refl at.within at.there)
 
 pub ends_at : (files : List FileContents) (fd : ℤ) (place : ℕ) (was : FileContents) (ends : FileContents → Outcome)
     → IsAt files fd place was → ends was ≡ on_file (file_of files fd) ends
@@ -26,17 +25,11 @@ pub written_at : (files : List FileContents) (fd : ℤ) (place off len : ℕ) (b
     → IsAt files fd place was
     → (res ≡ (if is_too_long off len then neg_ℤ EFBIG else pos len)) ⊎ (((not (is_too_long off len) && is_past_end off len was) ≡ true) × (res ≡ neg_ℤ ENOMEM))
     → IsOutcome files (Write fd off len bytes) (ended_with res)
-written_at files fd place off len bytes was res at (inl is) =
-    inl (ap ended_with is ∙ ends_at files fd place was _ at)
-written_at files fd place off len bytes was res at (inr (longer, is)) =
-    inr (ap (λ (o : Option FileContents). option_map_or (λ f. not (is_too_long off len) && is_past_end off len f) o false) (file_at files fd place was at) ∙ longer, ap ended_with is)
+written_at files fd place off len bytes was res at ends = grind (arith, (file_at files fd place was at))
 
 -- and the files after a change of one
 pub files_at : (good : Bool) (files : List FileContents) (fd : ℤ) (place : ℕ) (was now : FileContents) (change : FileContents → FileContents)
     → IsAt files fd place was → now ≡ cond good (change was) was
     → slice_set files place now ≡ cond good (with_changed files fd change) files
-files_at true files fd place was now change at is =
-    ap (slice_set files place) (is ∙ ap change (at.there ∙ get_or_default files place was empty_file at.within))
-    ∙ ap (λ k. with_changed files k change) (sym at.named)
-files_at false files fd place was now change at is =
-    ap (slice_set files place) (is ∙ at.there) ∙ set-get_or files place was
+files_at good files fd place was now change at is =
+    grind (arith, at.named, at.there, (get_or_default files place was empty_file at.within), (set-get_or files place was))

@@ -1,9 +1,9 @@
 -- What a prepared entry asks of files, whichever operation it is.
 -- Stable: other crates may import what is pub.
-use Rattle.std.proofs.Common.{◌≡◌, ℕ, ℤ, ◌≤◌, arith, Bool, true, false, Option, Some, None, if◌then◌else◌}
+use Rattle.std.proofs.Common.{◌≡◌, ℤ, ◌≤◌, arith, Bool, true, false, Option, Some, None, if◌then◌else◌}
 use Rattle.uring_files.proofs.Common.{IsForFiles, file_asked}
 use Rattle.uring_entry.specs.Layout.{Sqe, opcode_of, len_of}
-use Rattle.uring_entry.specs.Preparation.{fault_of, operation_named, operation_of, is_cancel, is_served, is_transfer, is_on_file}
+use Rattle.uring_entry.specs.Preparation.{fault_of, operation_of, is_cancel, is_served, is_transfer, is_on_file}
 use Rattle.uring_entry.specs.declared.fault.Fault.{Fault}
 use Rattle.uring_files.proofs.OperationCases.{most_of}
 
@@ -21,13 +21,9 @@ is_served_of e none = grind arith
 pub is_short : (e : Sqe) → fault_of e ≡ None → len_of e ≤ 64
 is_short e none = grind (arith, not_first)
 
--- no operation gives more than its entry's length
-most_named : (code : ℕ) (e : Sqe) → most_of (operation_named code e) ≤ len_of e
-most_named code e = grind arith
-
 -- an entry without a fault that is no cancel asks for what can be asked of files
 pub prepared : (e : Sqe) → fault_of e ≡ None → is_cancel e ≡ false → IsForFiles (operation_of e)
-prepared e none other = grind (arith, is_short, most_named)
+prepared e none other = grind (arith, is_short)
 
 -- no served operation gives more than what its entry moves, if it moves any
 pub moved : (e : Sqe) → is_served (opcode_of e) ≡ true

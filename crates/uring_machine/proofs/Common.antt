@@ -1,5 +1,5 @@
 -- The names that several of these files cite, passed on from one place. Declares nothing.
-pub use Rattle.std.proofs.lemmas.Bool.{and_from, and_parts, both_ways, cases_eq, cases_lt, false≢true, ltb-false, ltb-true, not-false, not-true, or_cases, or_from, or_parts, true≢false}
+pub use Rattle.std.proofs.lemmas.Bool.{and_from, and_parts, both_ways, cases_eq, cases_lt, false≢true, ltb-true, not-false, not-true, or_parts}
 pub use Rattle.std.proofs.lemmas.Result.{IfErr-weaker, on_ok_weaker}
 pub use Rattle.std.specs.Prelude.{Err, IfErr, IfOk, IsOk, MatchOption, Ok, OnOk, Result, if◌then◌else◌, nat_lt}
 pub use Rattle.uring_core.proofs.Following.{follow_next, history_of_append, history_of_cons, no_finish, zip_next}
@@ -17,6 +17,6 @@ pub use Rattle.uring_entry.specs.Requests.{Requests, entry_of, has_ended, has_st
 pub use Rattle.uring_entry.specs.Setup.{Setup}
 pub use Rattle.uring_files.specs.Contents.{FileContents, max_len}
 pub use Rattle.uring_files.specs.Operations.{IsOutcome, after, ended_with, is_lengthening, result_of}
-pub use Rattle.uring_linux.specs.LinuxRequests.{LinuxRequests, after_going_on, is_alone, is_deferred, is_doomed, is_faulty_from, is_in_faulty_group, is_in_turn, is_issuable, with_accepted, with_cut, with_ended, with_group, with_last_entry}
+pub use Rattle.uring_linux.specs.LinuxRequests.{LinuxRequests, after_going_on, is_alone, is_deferred, is_doomed, is_faulty_from, is_in_faulty_group, is_issuable, with_accepted, with_cut, with_ended, with_group, with_last_entry}
 pub use Rattle.uring_machine.specs.Machine.{Fits, IsUnrefused, Machine, MayLackMemory, elements_for_step, finish_answer}
-pub use Rattle.uring_machine.specs.Settling.{AreSettling, AreUnrefused, HasSettled, IsSettled, IsSettledIf, is_issue_or_finish, settling_step, started_last}
+pub use Rattle.uring_machine.specs.Settling.{AreSettling, AreUnrefused, HasSettled, IsSettled, IsSettledIf, is_issue_or_finish, started_last}

@@ -1,6 +1,6 @@
 -- By Linux's rules whatever was started comes before whatever is deferred: groups are deferred in their order, go on in that order, and no later group starts before them.
-use Rattle.std.proofs.Common.{◌≡◌, ℕ, suc, ◌+◌, ◌<◌, ◌≤◌, ℤ, length, Bool, true, false, not, ◌||◌, List, [], ◌∷◌, ◌++◌, refl, sym, ◌∙◌, ap, arith, inl, inr, length-append}
-use Rattle.uring_machine.proofs.Common.{LinuxRequests, Requests, added_other, after_going_on, and_parts, both_ways, cases_eq, cases_lt, entry_of_accepted_at, has_started, if◌then◌else◌, is_alone, is_deferred, is_doomed, is_faulty_from, is_in_faulty_group, is_in_turn, is_issuable, is_last, is_linked, is_outstanding, ltb-false, ltb-true, nat_lt, not-false, not-true, or_from, or_parts, with_accepted, with_cut, with_ended, with_group, with_last_entry}
+use Rattle.std.proofs.Common.{◌≡◌, ℕ, suc, ◌+◌, ◌<◌, ◌≤◌, ℤ, length, Bool, true, false, not, ◌||◌, List, [], ◌∷◌, ◌++◌, refl, ◌∙◌, ap, arith, length-append}
+use Rattle.uring_machine.proofs.Common.{LinuxRequests, Requests, added_other, after_going_on, and_parts, both_ways, cases_eq, cases_lt, entry_of_accepted_at, has_started, if◌then◌else◌, is_alone, is_deferred, is_doomed, is_faulty_from, is_in_faulty_group, is_issuable, is_last, is_linked, is_outstanding, ltb-true, nat_lt, not-false, not-true, or_parts, with_accepted, with_cut, with_ended, with_group, with_last_entry}
 use Rattle.uring_entry.specs.Layout.{Sqe}
 use Rattle.uring_entry.specs.Requests as manual
 use Rattle.uring_entry.proofs.GroupEvents.{is_last_cut}
@@ -50,24 +50,17 @@ group_ordered r d some open_ order ring passed = go (not d.ring || is_faulty_fro
   all_order : InOrder IsAny 0 all (length r.accepted)
   all_order = order_push IsAny 0 d.deferred d.from g (omega arith) some tt order
 
-  -- members of the new group are in it
-  is_new : (n : ℕ) → d.from ≤ n → n < length r.accepted → is_in_some all n ≡ true
-  is_new n low lt = pushed_new d.deferred g n low lt
-
-  -- and nobody before it
+  -- nobody before it is in the new group
   is_old : (k : ℕ) → k < d.from → is_in_some all k ≡ true → is_in_some d.deferred k ≡ true
   is_old k lt e = grind (arith, in_pushed)
 
-  after : (n k : ℕ) → n < length r.accepted → k < n → (not d.ring || is_faulty_from r d.from) ≡ true → is_in_some d.deferred k ≡ true → is_in_some d.deferred n ≡ false → is_in_faulty_group r n ≡ true
-  after n k lt under e there out = grind (arith, ring, not-true, group_faulty)
-
   gone_on : (alone : Bool) (n k : ℕ) → n < length r.accepted → k < n → is_in_some (still_deferred alone all) k ≡ true → is_in_some (still_deferred alone all) n ≡ false → is_in_faulty_group r n ≡ true
   gone_on alone n k lt under there out =
-      grind (arith, still_before, all_order, passed, is_old, still_fewer, both_ways, pushed_old, is_new)
+      grind (arith, still_before, all_order, passed, is_old, still_fewer, both_ways, pushed_old, (pushed_new d.deferred g))
 
   go : (b : Bool) → (not d.ring || is_faulty_from r d.from) ≡ b
       → IsGrouped r d (if b then with_deferred d (length r.accepted) d.deferred else with_ring (with_deferred d (length r.accepted) (after_going_on r (deferred_with d (length r.accepted)))) d.group)
-  go b e = grind (arith, ring, passed, after, not-false, or_parts, ring_off, gone_on, is_old, still_fewer)
+  go b e = grind (arith, ring, passed, not-true, group_faulty, not-false, or_parts, ring_off, gone_on, is_old, still_fewer)
 
 -- of the requests
 pub record IsOrdered (l : LinuxRequests) : Type 0 where
@@ -82,21 +75,11 @@ grouped_ordered : (r : Requests) (d later : Drains) → IsGrouped r d later → 
     → ((n : ℕ) → has_started r n ≡ true → n < d.from)
     → ((n k : ℕ) → has_started r n ≡ true → is_in_some d.deferred k ≡ true → n < k)
     → IsOrdered (record { requests = r; drains = later })
-grouped_ordered r d later g some known started = record {
-  amid = λ k le lt. let e = g.from in absurd (omega (arith, e, le, lt));
-  ring = g.ring;
-  passed = λ n k lt. g.passed n k (let e = g.from in omega arith);
-  known = λ n is. let e = g.from in let lt = known n is in omega arith;
-  started = grind arith;
-}
+grouped_ordered r d later g some known started = grind (arith, g)
 
 accepted_open : (l : LinuxRequests) (e : Sqe) → IsOrdered l → (k : ℕ) → l.drains.from ≤ k
     → k < length l.requests.accepted → is_last (manual.with_accepted l.requests e) k ≡ false
 accepted_open l e o k le lt = last_accepted l.requests e k lt ∙ o.amid k le lt
-
-accepted_passed : (l : LinuxRequests) (e : Sqe) → IsSettled l → IsOrdered l
-    → OnlyFaultyPass (manual.with_accepted l.requests e) l.drains.from l.drains.deferred
-accepted_passed l e s o n k lt under there out = grind (arith, faulty_kept, accepted_faults)
 
 accepted_ordered : (l : LinuxRequests) (e : Sqe) → IsSettled l → IsOrdered l → IsOrdered (with_accepted l e)
 accepted_ordered l e s o = go (is_linked e) refl where
@@ -112,21 +95,24 @@ accepted_ordered l e s o = go (is_linked e) refl where
   ring : d.ring ≡ false → d.deferred ≡ []
   ring off = o.ring (or_parts l.drains.ring _ off).0
 
+  passed : OnlyFaultyPass r l.drains.from l.drains.deferred
+  passed n k lt under there out = grind (arith, faulty_kept, accepted_faults)
+
   new_open : is_linked e ≡ true → is_last r (length l.requests.accepted) ≡ false
-  new_open linked = or_from _ _ (ap (λ x. not (is_linked x)) (entry_of_accepted_at l.requests e) ∙ ap not linked) (s.later (length l.requests.accepted) (omega arith)).cut
+  new_open linked = grind (arith, (entry_of_accepted_at l.requests e), (s.later (length l.requests.accepted) (omega arith)).cut)
 
   go : (b : Bool) → is_linked e ≡ b → IsOrdered (record { requests = r; drains = if b then d else with_group r d })
   go true linked = record {
     amid = grind (arith, accepted_open, more, new_open);
     ring = ring;
-    passed = accepted_passed l e s o;
+    passed = passed;
     known = o.known;
     started = o.started;
   }
   go false free =
       let low = s.low in
       let some : d.from < length r.accepted = omega (arith, low, more) in
-      grouped_ordered r d (with_group r d) (group_ordered r d some (λ k le lt. accepted_open l e o k le (omega (arith, lt, more))) (in_order l s) ring (accepted_passed l e s o)) some o.known o.started
+      grouped_ordered r d (with_group r d) (group_ordered r d some (λ k le lt. accepted_open l e o k le (omega (arith, lt, more))) (in_order l s) ring passed) some o.known o.started
 
 entries_ordered : (l : LinuxRequests) (entries : List Sqe) → IsSettled l → IsOrdered l
     → IsOrdered (with_entries l entries)
@@ -148,15 +134,7 @@ cut_ordered l s o = go (nat_lt l.drains.from (length l.requests.accepted)) refl 
       grouped_ordered r l.drains (with_group r l.drains)
       (group_ordered r l.drains some (λ k le lt. is_last_cut l.requests k (λ f. absurd (omega (arith, f, lt))) ∙ o.amid k le (omega arith)) (in_order l s) o.ring passed)
       some o.known o.started
-  go false e =
-      let past : length l.requests.accepted ≤ l.drains.from = ltb-false _ _ e in
-      record {
-        amid = λ k le lt. absurd (omega (arith, le, lt, past));
-        ring = o.ring;
-        passed = passed;
-        known = o.known;
-        started = o.started;
-      }
+  go false e = grind (arith, o, passed)
 
 -- A request starts or ends.
 
@@ -165,21 +143,7 @@ start_before : (l : LinuxRequests) (n k : ℕ) → IsOrdered l
     → length l.requests.accepted ≤ l.drains.from → is_issuable l n ≡ true
     → is_doomed l.requests n ≡ false → is_deferred l k ≡ true → n < k
 start_before l n k o closed can spared there =
-    let parts = and_parts (is_outstanding l.requests n) _ can in
-    let rest = and_parts (not (manual.is_running l.requests n)) _ parts.1 in
-    let on = and_parts (is_in_turn l.requests n) _ rest.1 in
-    let low : n < length l.requests.accepted = ltb-true _ _ (and_parts _ _ parts.0).0 in
-    let out : is_deferred l n ≡ false = free (is_doomed l.requests n) (is_deferred l n) spared on.1 in
-    elim (cases_lt n k) [
-      | inl before ↦ before
-      | inr past ↦ elim (cases_eq n k) [
-        | inl same ↦ absurd (both_ways (is_deferred l k) (ap (is_deferred l) (sym same) ∙ out) there)
-        | inr other ↦ absurd (both_ways _ (or_parts (is_in_faulty_group l.requests n) _ spared).0 (o.passed n k (omega arith) (omega (arith, past, other)) there out))
-      ]
-    ] where
-      free : (doomed deferred : Bool) → doomed ≡ false → (doomed || not deferred) ≡ true → deferred ≡ false
-      free false deferred d e = not-true _ e
-      free true deferred d e = absurd (let f : true ≡ false = d in cc)
+    grind (arith, (cases_lt n k), (cases_eq n k), (o.passed n k))
 
 start_ordered : (l : LinuxRequests) (n : ℕ) → IsOrdered l → length l.requests.accepted ≤ l.drains.from
     → is_issuable l n ≡ true → is_doomed l.requests n ≡ false
@@ -202,25 +166,17 @@ end_ordered l n res bytes b o =
     let alone : Bool = is_alone r l.drains.deferred in
     record {
       amid = λ k le lt. absurd (omega (arith, le, lt, closed));
-      ring = λ off. none_left alone l.drains.deferred (o.ring off);
+      ring = λ off. ap (still_deferred alone) (o.ring off);
       passed = grind (arith, faulty_ended, still_before, in_order, still_fewer);
       known = o.known;
       started = λ m k is there. o.started m k is (still_fewer alone l.drains.deferred k there);
-    } where
-      none_left : (alone : Bool) (xs : List Deferred) → xs ≡ [] → still_deferred alone xs ≡ []
-      none_left alone xs none = ap (still_deferred alone) none
+    }
 
 -- Whatever happened, if nobody started that was doomed.
 
 pub all_ordered : (happened : List Happening) → MayHaveHappened happened → StartsSpared happened
     → IsOrdered (made_by happened)
-all_ordered [] may spared = record {
-  amid = λ k le lt. absurd (omega (arith, le, lt));
-  ring = λ off. refl;
-  passed = λ n k lt under there out. absurd (let f : false ≡ true = there in cc);
-  known = λ n is. absurd (let f : false ≡ true = is in cc);
-  started = λ n k is there. absurd (let f : false ≡ true = is in cc);
-}
+all_ordered [] may spared = grind arith
 all_ordered (Call entries ∷ earlier) may spared =
     grind (arith, all_between, cut_ordered, with_entries, entries_settled, entries_ordered, (all_ordered earlier may.1 spared.1))
 all_ordered (Start n ∷ earlier) may spared = grind (arith, start_ordered, (all_ordered earlier may.1 spared.1), all_between)

@@ -1,6 +1,6 @@
 -- Where something is outstanding, the least of it runs, or something can be issued: by either's rules.
-use Rattle.std.proofs.Common.{◌≡◌, ℕ, ◌<◌, Bool, true, false, not, ◌&&◌, length, Some, is_some, refl, sym, ◌∙◌, ap, subst, arith, ◌⊎◌, inl, inr}
-use Rattle.uring_machine.proofs.Common.{History, IsLawfulApart, LinuxRequests, Setup, is_deferred, is_outstanding, is_running, least_of, least_of_goes_on, or_cases, requests_of, world}
+use Rattle.std.proofs.Common.{◌≡◌, ℕ, ◌<◌, Bool, true, false, not, ◌&&◌, length, Some, is_some, refl, sym, ap, subst, arith, ◌⊎◌}
+use Rattle.uring_machine.proofs.Common.{History, IsLawfulApart, LinuxRequests, Setup, is_deferred, is_outstanding, is_running, least_of, least_of_goes_on, requests_of, world}
 use Rattle.uring_entry.proofs.BelowLemmas.{IsLeast, least_below_tells, is_some_least_below, some_below_some}
 use Rattle.uring_linux.specs.Happenings.{made_by}
 use Rattle.uring_linux.proofs.GoingOn.{goes_on_from}
@@ -22,7 +22,7 @@ GoesOn linux l n = (is_running l.requests n ≡ true) ⊎ (is_some (next_of linu
 issuable_next : (linux : Bool) (l : LinuxRequests) (n : ℕ) → n < length l.requests.accepted
     → is_issuable linux l n ≡ true → is_some (next_of linux l) ≡ true
 issuable_next linux l n lt can =
-    is_some_least_below (is_issuable linux l) (length l.requests.accepted) ∙ some_below_some (is_issuable linux l) (length l.requests.accepted) n lt can
+    rw is_some_least_below (some_below_some (is_issuable linux l) (length l.requests.accepted) n lt can)
 
 by_linux_goes : (l : LinuxRequests) (n : ℕ) → HasHappened l → least_of l.requests ≡ Some n → GoesOn true l n
 by_linux_goes l n so e = subst (λ k. GoesOn true k n) so.made (go (subst (λ (k : LinuxRequests). least_of k.requests ≡ Some n) (sym so.made) e)) where
@@ -33,17 +33,11 @@ by_linux_goes l n so e = subst (λ k. GoesOn true k n) so.made (go (subst (λ (k
       let m : ℕ = on.number in
       let free = least_below_tells (λ j. is_outstanding k.requests j && not (is_deferred k j)) (length k.requests.accepted) m on.least in
       let least = least_below_tells (is_outstanding k.requests) (length k.requests.accepted) n is in
-      elim on.goes [
-        | inr can ↦ inr (issuable_next true k m free.below can)
-        | inl running ↦ grind (arith, runs_first, all_ordered)
-      ]
+      grind (arith, on.goes, (issuable_next true k m), runs_first, all_ordered)
 
 by_manual_goes : (l : LinuxRequests) (n : ℕ) → least_of l.requests ≡ Some n → GoesOn false l n
 by_manual_goes l n e =
-    elim (or_cases _ _ (least_of_goes_on l.requests n e)) [
-      | inl going ↦ inl going
-      | inr can ↦ inr (issuable_next false l n (least_below_tells (is_outstanding l.requests) (length l.requests.accepted) n e).below can)
-    ]
+    grind (arith, (least_of_goes_on l.requests n e), (issuable_next false l n), (least_below_tells (is_outstanding l.requests) (length l.requests.accepted) n e))
 
 pub least_goes_on : (g : Setup) (h : History) (n : ℕ) → IsLawfulApart g h
     → least_of (world g h).requests ≡ Some n → GoesOn g.linux (requests_of (world g h)) n

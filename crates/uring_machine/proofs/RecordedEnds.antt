@@ -1,6 +1,6 @@
 -- Answers that were recorded elsewhere, with files: what a machine fits after a step was followed, and what is called for as a request ends.
-use Rattle.std.proofs.Common.{◌≡◌, ℕ, ℤ, neg_ℤ, true, false, List, ◌∷◌, Some, None, if◌then◌else◌, refl, sym, ap, subst, ◌∙◌, inl, inr}
-use Rattle.uring_machine.proofs.Common.{Answer, CalledFor, CalledForApart, Core, EndsOn, Err, FileContents, Fits, FitsApart, History, IfErr, IsFinished, IsLawful, IsNoFinish, IsOutcome, IsRefused, IsShortOfMemory, IsWrong, Machine, MayLackMemory, Meets, Ok, OnOk, Refusal, Requests, Result, Setup, Step, World, after, ended_with, entry_of, files_of, is_lengthening, is_running, no_bytes, operation_running, result_of, resumed, true≢false, world}
+use Rattle.std.proofs.Common.{◌≡◌, ◌↔◌, ℕ, arith, ℤ, neg_ℤ, true, false, List, ◌∷◌, Some, None, refl, sym, subst, ◌∙◌, inl, inr}
+use Rattle.uring_machine.proofs.Common.{Answer, CalledFor, CalledForApart, Core, EndsOn, Err, FileContents, Fits, FitsApart, History, IfErr, IsFinished, IsLawful, IsNoFinish, IsOutcome, IsRefused, IsShortOfMemory, IsWrong, Machine, MayLackMemory, Meets, Ok, OnOk, Refusal, Requests, Result, Setup, Step, World, after, ended_with, entry_of, files_of, is_lengthening, is_running, no_bytes, operation_running, result_of, resumed, world}
 use Rattle.uring_entry.specs.Preparation.{operation_of}
 use Rattle.uring_entry.specs.declared.errno.TheConstants.{ENOMEM}
 use Rattle.uring_entry.specs.declared.operation.Op.{Op}
@@ -9,7 +9,7 @@ use Rattle.uring_core.specs.declared.step.Step.TheVariants as step
 use Rattle.uring_core.specs.declared.answer.Answer.TheVariants as answer
 use Rattle.uring_core.specs.declared.wanted.Wanted.TheVariants.{Only, EndOrNoMemory}
 use Rattle.uring_core.specs.declared.wanted.Refusal.TheVariants.{Wrong}
-use Rattle.uring_machine.proofs.Fitting.{step_fits, finish_fits, not_running}
+use Rattle.uring_machine.proofs.Fitting.{step_fits, finish_fits}
 use Rattle.uring_core.proofs.Running.{runs_with}
 use Rattle.uring_core.proofs.RecordedAnswers.{wrong_beside}
 use Rattle.uring_files.proofs.OperationCases.{failed}
@@ -66,10 +66,8 @@ pub idle_refused : (g : Setup) (w : World) (n : ℕ) (a : Answer) (refusal : Ref
     → (a ≡ answer.NotRunning → ⊥)
     → IsRefused (CalledFor g w (step.Finish n)) a refusal
 idle_refused g w n a refusal none is other =
-    let idle : is_running w.requests n ≡ false = not_running (operation_of (entry_of w.requests n)) (is_running w.requests n) none in
-    subst (λ r. IsRefused (CalledFor g w (step.Finish n)) a r) (sym is)
-    (wrong_beside (CalledFor g w (step.Finish n)) answer.NotRunning a (subst (λ b. EndsOn (files_of g w) w.requests n b answer.NotRunning) (sym idle) refl)
-    (λ b called. subst (λ running. EndsOn (files_of g w) w.requests n running b) idle called) other)
+    let idle : is_running w.requests n ≡ false = grind arith in
+    rw is (wrong_beside (CalledFor g w (step.Finish n)) answer.NotRunning a (rw idle refl) (λ b called. rw idle at called) other)
 
 -- A Finish of what runs.
 
@@ -79,15 +77,10 @@ EndsWith files op (answer.Ended res bytes) =
     IsOutcome files op (record { res = res; bytes = bytes })
 EndsWith files op _ = ⊥
 
-ends_with : (files : List FileContents) (r : Requests) (n : ℕ) (a : Answer)
-    → EndsOn files r n true a → EndsWith files (operation_of (entry_of r n)) a
-ends_with files r n (answer.Ended res bytes) called = called
-ends_with files r n _ called = called
-
-with_ends : (files : List FileContents) (r : Requests) (n : ℕ) (a : Answer)
-    → EndsWith files (operation_of (entry_of r n)) a → EndsOn files r n true a
-with_ends files r n (answer.Ended res bytes) called = called
-with_ends files r n _ called = called
+ends_on : (files : List FileContents) (r : Requests) (n : ℕ) (a : Answer)
+    → EndsOn files r n true a ↔ EndsWith files (operation_of (entry_of r n)) a
+ends_on files r n (answer.Ended res bytes) = ((λ called. called), (λ called. called))
+ends_on files r n _ = ((λ called. called), (λ called. called))
 
 -- What runs in a machine that fits a history: what is called for, by the operation and the machine's files.
 pub record RunsWith (m : Machine) (h : History) (n : ℕ) (op : Op) : Type 0 where
@@ -101,26 +94,18 @@ pub record RunsWith (m : Machine) (h : History) (n : ℕ) (op : Op) : Type 0 whe
 pub runs_so : (m : Machine) (h : History) (n : ℕ) (op : Op) → Fits m h
     → Some op ≡ operation_running (world m.core.setup h).requests n → RunsWith m h n op
 runs_so m h n op fits is =
-    let g : Setup = m.core.setup in
-    let w : World = world g h in
+    let w : World = world m.core.setup h in
     let runs = runs_with w.requests n op is in
     record {
-      ends = λ a called.
-          subst (λ fs. EndsWith fs op a) (sym fits.files) (subst (λ o. EndsWith (files_of g w) o a) (sym runs.1) (ends_with (files_of g w) w.requests n a (subst (λ b. EndsOn (files_of g w) w.requests n b a) runs.0 called)));
-      called = λ a ends.
-          subst (λ b. EndsOn (files_of g w) w.requests n b a) (sym runs.0) (with_ends (files_of g w) w.requests n a (subst (λ o. EndsWith (files_of g w) o a) runs.1 (subst (λ fs. EndsWith fs op a) fits.files ends)));
-      is_same = ap (λ fs. is_lengthening fs op) fits.files ∙ ap (λ o. is_lengthening (files_of g w) o) runs.1;
+      ends = λ a called. rw (fits.files, runs.1) ((ends_on _ w.requests n a).0 (rw runs.0 at called));
+      called = λ a ends. rw runs.0 ((ends_on _ w.requests n a).1 (rw (fits.files, runs.1) at ends));
+      is_same = cc (fits.files, runs.1);
     }
 
 -- one end alone is called for where the operation doesn't make its file longer
 one_end : (files : List FileContents) (op : Op) → is_lengthening files op ≡ false → (a b : Answer)
     → EndsWith files op a → EndsWith files op b → a ≡ b
-one_end files op short (answer.Ended res bytes) (answer.Ended res' bytes') (inl e) (inl f) =
-    ap (λ (o : Outcome). answer.Ended o.res o.bytes) (e ∙ sym f)
-one_end files op short (answer.Ended res bytes) (answer.Ended res' bytes') (inr long) f =
-    absurd (true≢false (sym long.0 ∙ short))
-one_end files op short (answer.Ended res bytes) (answer.Ended res' bytes') (inl e) (inr long) =
-    absurd (true≢false (sym long.0 ∙ short))
+one_end files op short (answer.Ended res bytes) (answer.Ended res' bytes') e f = grind arith
 one_end files op short (answer.Ended res bytes) _ e f = absurd f
 one_end files op short _ b e f = absurd e
 
@@ -130,37 +115,29 @@ pub end_refused : (m : Machine) (h : History) (n : ℕ) (op : Op) (x a : Answer)
     → (a ≡ x → ⊥)
     → IsRefused (CalledFor m.core.setup (world m.core.setup h) (step.Finish n)) a refusal
 end_refused m h n op x a refusal runs short called is other =
-    subst (λ r. IsRefused (CalledFor m.core.setup (world m.core.setup h) (step.Finish n)) a r) (sym is)
-    (wrong_beside (CalledFor m.core.setup (world m.core.setup h) (step.Finish n)) x a called (λ b k. one_end m.files op short b x (runs.ends b k) (runs.ends x called)) other)
+    rw is (wrong_beside _ x a called (λ b k. one_end m.files op short b x (runs.ends b k) (runs.ends x called)) other)
 
 -- The write makes its file longer.
 
 growth_ends : (files : List FileContents) (op : Op) (res : ℤ) (a : Answer)
     → result_of files op ≡ ended_with res → EndsWith files op a → Meets (EndOrNoMemory res) a
-growth_ends files op res (answer.Ended r bytes) is (inl e) =
-    inl (ap (λ (o : Outcome). answer.Ended o.res o.bytes) (e ∙ is))
-growth_ends files op res (answer.Ended r bytes) is (inr e) =
-    inr (ap (λ (o : Outcome). answer.Ended o.res o.bytes) e.1)
+growth_ends files op res (answer.Ended r bytes) is e = grind arith
 growth_ends files op res _ is e = absurd e
 
 ends_growth : (files : List FileContents) (op : Op) (res : ℤ) (a : Answer)
     → is_lengthening files op ≡ true → result_of files op ≡ ended_with res
     → Meets (EndOrNoMemory res) a → EndsWith files op a
-ends_growth files op res a long is (inl e) = subst (EndsWith files op) (sym e) (inl (sym is))
-ends_growth files op res a long is (inr e) = subst (EndsWith files op) (sym e) (inr (long, refl))
+ends_growth files op res a long is e = grind arith
 
 pub growth_wrong : (m : Machine) (h : History) (n : ℕ) (op : Op) (res : ℤ) (a : Answer)
     → RunsWith m h n op → is_lengthening m.files op ≡ true → result_of m.files op ≡ ended_with res
     → (a ≡ answer.Ended (neg_ℤ ENOMEM) no_bytes → ⊥) → (a ≡ answer.Ended res no_bytes → ⊥)
     → IsWrong (CalledFor m.core.setup (world m.core.setup h) (step.Finish n)) a (EndOrNoMemory res)
 growth_wrong m h n op res a runs long is no_failure no_success = record {
-  not_called = λ k. neither (growth_ends m.files op res a is (runs.ends a k));
+  not_called = λ k. grind (arith, (growth_ends m.files op res a is (runs.ends a k)));
   called = λ b k. growth_ends m.files op res b is (runs.ends b k);
   only = λ b k. runs.called b (ends_growth m.files op res b long is k);
-} where
-  neither : Meets (EndOrNoMemory res) a → ⊥
-  neither (inl e) = no_success e
-  neither (inr e) = no_failure e
+}
 
 pub growth_called : (m : Machine) (h : History) (n : ℕ) (op : Op) (res : ℤ) (a : Answer)
     → RunsWith m h n op → is_lengthening m.files op ≡ true → result_of m.files op ≡ ended_with res
@@ -173,15 +150,12 @@ growth_called m h n op res a runs long is e =
 pub growth_failed : (files : List FileContents) (op : Op) (res : ℤ) (outcome : Outcome)
     → result_of files op ≡ ended_with res → IsOutcome files op outcome → (outcome.res ≡ res → ⊥)
     → outcome.res ≡ neg_ℤ ENOMEM
-growth_failed files op res outcome is (inl e) other =
-    absurd (other (ap (λ (o : Outcome). o.res) (e ∙ is)))
-growth_failed files op res outcome is (inr e) other = ap (λ (o : Outcome). o.res) e.1
+growth_failed files op res outcome is e other = grind arith
 
 -- no write gives bytes
 pub growth_bytes : (files : List FileContents) (op : Op) (res : ℤ) (outcome : Outcome)
     → result_of files op ≡ ended_with res → IsOutcome files op outcome → outcome.bytes ≡ no_bytes
-growth_bytes files op res outcome is (inl e) = ap (λ (o : Outcome). o.bytes) (e ∙ is)
-growth_bytes files op res outcome is (inr e) = ap (λ (o : Outcome). o.bytes) e.1
+growth_bytes files op res outcome is e = grind arith
 
 pub ended_alike : (x y : ℤ) (b c : List ℕ) → x ≡ y → b ≡ c → answer.Ended x b ≡ answer.Ended y c
 ended_alike x y b c e f = λ i. answer.Ended (e i) (f i)
@@ -196,10 +170,8 @@ pub followed_end : (core later : Core) (files : List FileContents) (n : ℕ) (op
     → given ≡ answer.Ended outcome.res outcome.bytes
     → Fits (record { core = later; files = left }) ((step.Finish n, given) ∷ h)
 followed_end core later files n op outcome left a given h same fits is allowed leaves next finished recorded =
-    let runs = runs_with (world core.setup h).requests n op is in
-    let ends : a ≡ answer.Ended outcome.res outcome.bytes = finished ∙ ap (λ b. if b then answer.Ended outcome.res outcome.bytes else answer.NotRunning) runs.0 in
-    subst (λ b. Fits (record { core = later; files = left }) ((step.Finish n, b) ∷ h)) (ends ∙ sym recorded)
-    (finish_fits core later files n op outcome left a h same fits is allowed leaves next finished)
+    let ends : given ≡ a = cc (recorded, rw (runs_with (world core.setup h).requests n op is).0 at finished) in
+    rw ends (finish_fits core later files n op outcome left a h same fits is allowed leaves next finished)
 
 -- it ended without memory, as was recorded
 pub followed_failure : (core later : Core) (files : List FileContents) (n : ℕ) (op : Op) (a given : Answer) (h : History)

@@ -1,6 +1,6 @@
 -- What the steps make that settle requests.
-use Rattle.std.proofs.Common.{◌≡◌, ℕ, ℤ, ◌+◌, ◌-◌, ◌^◌, ◌≤◌, Bool, true, false, List, [], ◌∷◌, ◌++◌, length, Option, Some, None, is_some, refl, sym, subst, ◌∙◌, ap, arith, length-append}
-use Rattle.uring_machine.proofs.Common.{Answer, AreSettling, AreUnrefused, Core, Event, FileContents, FinishesApart, Fits, FitsApart, HasSettled, History, IsEnded, IsIssued, IsLawfulApart, IsSettled, IsSettledIf, IsUnrefused, LinuxRequests, Machine, Requests, Setup, World, and_from, and_parts, finishing, has_ended, history_of, history_of_append, history_of_cons, is_issue_or_finish, is_outstanding, is_running, is_running_started_same, issuing, least_of, next_answer_of, no_bytes, not-true, outstanding_in, requests_of, settling_step, started_last, world}
+use Rattle.std.proofs.Common.{◌≡◌, ℕ, ℤ, ◌+◌, ◌-◌, ◌^◌, ◌≤◌, Bool, true, false, List, [], ◌∷◌, ◌++◌, length, Option, Some, None, refl, sym, subst, ◌∙◌, ap, arith, length-append}
+use Rattle.uring_machine.proofs.Common.{Answer, AreSettling, AreUnrefused, Core, Event, FileContents, Fits, FitsApart, HasSettled, History, IsEnded, IsIssued, IsSettled, IsSettledIf, IsUnrefused, LinuxRequests, Machine, Requests, Setup, World, and_from, and_parts, finishing, has_ended, history_of, history_of_append, history_of_cons, is_issue_or_finish, is_outstanding, is_running, is_running_started_same, issuing, least_of, next_answer_of, no_bytes, not-true, outstanding_in, requests_of, started_last, world}
 use Rattle.std.proofs.lemmas.List.Folds.{list_all-append}
 use Rattle.uring_rules.specs.Rules.{next_of, with_issued_end}
 use Rattle.uring_entry.proofs.BelowLemmas.{least_below_tells, least_below_out}
@@ -27,33 +27,11 @@ finish_less : (g : Setup) (w : World) (n : ℕ) (a : Answer) → is_outstanding 
     → IsEnded a → outstanding_in (finishing g w n a).requests + 1 ≡ outstanding_in w.requests
 finish_less g w n a outstanding ended = grind (arith, ended_less)
 
--- an issue not answered Run started nothing
-not_started : (n : ℕ) (a : Answer) → (a ≡ answer.Run → ⊥) → started_by (step.Issue n, a) ≡ None
-not_started n a other = grind arith
-
--- where there is no next, the least outstanding request runs
-least_runs : (g : Setup) (h : History) (n : ℕ) (a : Answer) → IsLawfulApart g h
-    → a ≡ next_answer_of (next_of g.linux (requests_of (world g h)))
-    → ((k : ℕ) → a ≡ answer.Next k → ⊥) → least_of (world g h).requests ≡ Some n
-    → is_running (world g h).requests n ≡ true
-least_runs g h n a lawful is other least = grind (arith, least_goes_on, is_some, requests_of)
-
 -- a machine that answered Next fits what it fitted
 pub next_fits : (m : Machine) (a : Answer) (h : History) → Fits m ((step.Next, a) ∷ h) → Fits m h
 next_fits m a h fits = record { core = record { shows = fits.core.shows; lawful = fits.core.lawful.1 }; files = fits.files; lawful = fits.lawful.1 }
 
 -- Steps that settle further.
-
-issued_next : (linux : Bool) (l : LinuxRequests) (n : ℕ)
-    → answer.Next n ≡ next_answer_of (next_of linux l)
-    → settling_step None (next_of linux l) (least_of l.requests) ≡ Some (step.Issue n)
-issued_next linux l n named = subst (λ k. settling_step None k (least_of l.requests) ≡ Some (step.Issue n)) (sym (next_is (next_of linux l) n named)) refl
-
-finished_least : (linux : Bool) (l : LinuxRequests) (n : ℕ) (a : Answer)
-    → a ≡ next_answer_of (next_of linux l) → ((k : ℕ) → a ≡ answer.Next k → ⊥)
-    → least_of l.requests ≡ Some n
-    → settling_step None (next_of linux l) (least_of l.requests) ≡ Some (step.Finish n)
-finished_least linux l n a told other is = grind arith
 
 -- events that settle further, after others that did
 
@@ -78,25 +56,10 @@ unrefused_append g before [] later e l = l
 unrefused_append g before ((s, a) ∷ earlier) later e l =
     (e.0, unrefused_append g ((s, a) ∷ before) earlier later e.1 (subst (λ h. AreUnrefused g h later) (history_of_cons (s, a) earlier before) l))
 
--- an end isn't Again
-not_again : (a : Answer) → IsEnded a → a ≡ answer.Again → ⊥
-not_again a ended is = grind arith
-
-run_not_again : (a : Answer) → a ≡ answer.Run → a ≡ answer.Again → ⊥
-run_not_again a run again = cc
-
 -- how many are outstanding
 pub outstanding_of : (m : Machine) (h : History) → Fits m h
     → m.core.dispatch.outstanding ≡ outstanding_in (world m.core.setup h).requests
 outstanding_of m h fits = fits.core.shows.requests.outstanding
-
--- one less is one less of what is held
-one_fewer : (old new : Machine) (h later : History) → new.core.setup ≡ old.core.setup → Fits old h
-    → Fits new later
-    → outstanding_in (world new.core.setup later).requests + 1
-    ≡ outstanding_in (world new.core.setup h).requests
-    → new.core.dispatch.outstanding + 1 ≡ old.core.dispatch.outstanding
-one_fewer old new h later same fits reached less = grind arith
 
 -- the next request ran, and was finished
 pub settled_run : (granted : Type 0) (old asked new : Machine) (n : ℕ) (a b c : Answer) (h : History)
@@ -109,24 +72,25 @@ pub settled_run : (granted : Type 0) (old asked new : Machine) (n : ℕ) (a b c 
 settled_run granted old asked new n a b c h same kept next ran fits asked_fits new_fits unrefused =
     let g : Setup = new.core.setup in
     let r : Requests = (world g h).requests in
-    let now : Fits new ((step.Finish n, c) ∷ (step.Issue n, answer.Run) ∷ h) = subst (λ d. Fits new ((step.Finish n, c) ∷ (step.Issue n, d) ∷ h)) ran new_fits in
+    let now : Fits new ((step.Finish n, c) ∷ (step.Issue n, answer.Run) ∷ h) = rw ran at new_fits in
     let l : LinuxRequests = requests_of (world g h) in
     let named : answer.Next n ≡ next_answer_of (next_of g.linux l) = subst (λ (k : Setup). answer.Next n ≡ next_answer_of (next_of k.linux (requests_of (world k h)))) (sym kept) (sym next ∙ asked_fits.core.lawful.0) in
-    let issuable = next_tells g.linux l n named in
-    let outstanding = issuable_outstanding g.linux l n issuable in
+    let outstanding = issuable_outstanding g.linux l n (next_tells g.linux l n named) in
     let unended : has_ended r n ≡ false = not-true _ (and_parts _ _ outstanding).1 in
+    let before : old.core.dispatch.outstanding ≡ outstanding_in r = rw (kept, same) fits.core.shows.requests.outstanding in
+    let less = finish_less g (world g ((step.Issue n, answer.Run) ∷ h)) n c outstanding (rw (is_running_started_same r n unended) at now.core.lawful.0) in
     record {
       settles = record {
         events = (step.Issue n, b) ∷ (step.Finish n, c) ∷ [];
         issues_and_finishes = refl;
-        settling = (issued_next g.linux l n named, (rw ran refl, tt));
+        settling = (rw (next_is (next_of g.linux l) n named), (rw ran refl, tt));
         fits = new_fits;
         many = refl;
-        unrefused = λ sure. (run_not_again b ran, (unrefused sure, tt));
+        unrefused = λ sure. ((λ again. cc (ran, again)), (unrefused sure, tt));
       };
       none_started = refl;
       few = omega arith;
-      fewer = grind (arith, one_fewer, finish_less, is_running_started_same);
+      fewer = omega (arith, less, now.core.shows.requests.outstanding, before);
     }
 
 -- the next request ended as it was issued
@@ -145,12 +109,12 @@ settled_end granted old asked new n a b h same kept next other fits asked_fits n
       settles = record {
         events = (step.Issue n, b) ∷ [];
         issues_and_finishes = refl;
-        settling = (issued_next g.linux l n named, tt);
+        settling = (rw (next_is (next_of g.linux l) n named), tt);
         fits = new_fits;
         many = refl;
-        unrefused = λ sure. (not_again b ended, tt);
+        unrefused = λ sure. ((λ again. rw again at ended), tt);
       };
-      none_started = not_started n b other;
+      none_started = grind arith;
       few = omega arith;
       fewer =
           grind (arith, (issue_less g (world g h) n b (issuable_outstanding g.linux l n issuable) ended), (issuable_outstanding g.linux l n issuable));
@@ -167,14 +131,15 @@ pub settled_finish : (granted : Type 0) (old asked new : Machine) (n : ℕ) (a b
 settled_finish granted old asked new n a b h same kept other fits least asked_fits new_fits unrefused =
     let g : Setup = new.core.setup in
     let r : Requests = (world g h).requests in
-    let is : least_of r ≡ Some n = subst (λ k. least_of (world k h).requests ≡ Some n) (sym (kept ∙ same)) (sym least) in
+    let is : least_of r ≡ Some n = rw (kept, same) (sym least) in
     let told : a ≡ next_answer_of (next_of g.linux (requests_of (world g h))) = subst (λ (k : Setup). a ≡ next_answer_of (next_of k.linux (requests_of (world k h)))) (sym kept) asked_fits.core.lawful.0 in
-    let running : is_running r n ≡ true = least_runs g h n a new_fits.core.lawful.1 told other is in
+    -- where there is no next, the least outstanding request runs
+    let running : is_running r n ≡ true = grind (arith, (least_goes_on g h n new_fits.core.lawful.1 is), told, other) in
     record {
       settles = record {
         events = (step.Finish n, b) ∷ [];
         issues_and_finishes = refl;
-        settling = (finished_least g.linux (requests_of (world g h)) n a told other is, tt);
+        settling = (grind (arith, told, other, is), tt);
         fits = new_fits;
         many = refl;
         unrefused = λ sure. (unrefused sure, tt);
@@ -182,8 +147,7 @@ settled_finish granted old asked new n a b h same kept other fits least asked_fi
       none_started = refl;
       few = omega arith;
       fewer =
-          one_fewer old new h ((step.Finish n, b) ∷ h) (kept ∙ same) fits new_fits
-          (finish_less g (world g h) n b (least_below_tells (is_outstanding r) (length r.accepted) n is).holds (subst (λ running. FinishesApart running b) running new_fits.core.lawful.0));
+          grind (arith, (finish_less g (world g h) n b (least_below_tells (is_outstanding r) (length r.accepted) n is).holds (rw running at new_fits.core.lawful.0)));
     }
 
 -- something is outstanding, so there is a least
@@ -191,8 +155,7 @@ pub some_least : (m : Machine) (h : History) → Fits m h → 1 ≤ m.core.dispa
     → None ≡ least_of (world m.core.setup h).requests → ⊥
 some_least m h fits some none =
     let r : Requests = (world m.core.setup h).requests in
-    let zero_of : outstanding_in r ≡ 0 = count_below_zero (is_outstanding r) (length r.accepted) (least_below_out (is_outstanding r) (length r.accepted) (sym none)) in
-    omega (arith, some, zero_of, outstanding_of m h fits)
+    omega (arith, count_below_zero (is_outstanding r) (length r.accepted) (least_below_out (is_outstanding r) (length r.accepted) (sym none)), fits.core.shows.requests.outstanding)
 
 -- what was settled so far, and what is settled then
 pub settled_more : (granted : Type 0) (first old new : Machine) (h : History) (count more ended : ℕ)
@@ -203,7 +166,7 @@ settled_more granted first old new h count more ended same before next =
     let b = before.settles in
     let last = next (history_of b.events ++ h) b.fits in
     let l = last.settles in
-    let after : AreSettling new.core.setup (history_of b.events ++ h) (started_last None b.events) l.events = subst (λ started. AreSettling new.core.setup (history_of b.events ++ h) started l.events) (sym before.none_started) l.settling in
+    let after : AreSettling new.core.setup (history_of b.events ++ h) (started_last None b.events) l.events = rw before.none_started l.settling in
     record {
       settles = record {
         events = b.events ++ l.events;

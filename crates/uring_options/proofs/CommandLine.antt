@@ -1,5 +1,5 @@
 -- What the words ask for, as clap's matches say.
-use Rattle.std.proofs.Common.{◌≡◌, ◌∙◌, Bool, List, Option, Some, None, refl, ap, ap₂, subst}
+use Rattle.std.proofs.Common.{◌≡◌, ◌∙◌, arith, Bool, List, Option, Some, None, refl, ap, ap₂, subst}
 use Rattle.uring_options.proofs.Common.{HasMatchesOf, IsGiven, IsPlayedOver, IsSetupOver, IsTracedOver, Numbers, Row, Setup, Text, codes, option_map, subcommand_of, subcommand_rows_of, uring}
 use Rattle.clap.specs.Matches.{subcommand_name_of}
 use Rattle.clap.specs.declared.parser.matches.ArgMatches.{ArgMatches}
@@ -18,13 +18,8 @@ both_given : (sub : Option (Text × List Row)) (name : Option Text) (rows : Opti
     → option_map (λ p. p.0) sub ≡ name → option_map (λ p. p.1) sub ≡ rows
     → (o : Option (Text × List Row)) → option_map (λ p. p.0) o ≡ name
     → option_map (λ p. p.1) o ≡ rows → o ≡ sub
-both_given None name rows n r None m s = refl
-both_given None name rows n r (Some p) m s = absurd cc
-both_given (Some q) name rows n r None m s = absurd cc
-both_given (Some q) name rows n r (Some p) m s =
-    let same_name : p.0 ≡ q.0 = cc in
-    let same_rows : p.1 ≡ q.1 = cc in
-    λ i. Some (same_name i, same_rows i)
+both_given (Some q) name rows n r (Some p) m s = grind arith
+both_given _ name rows n r _ m s = grind arith
 
 -- what clap's matches have of a command is what the words name
 pub named_by : (m : ArgMatches) (words : List Text) (o : Option (Text × List Row))

@@ -1,14 +1,14 @@
 -- The names that several of these files cite, passed on from one place. Declares nothing.
-pub use Rattle.std.proofs.lemmas.Bool.{and_parts, cases_lt, ne_eqb, or_cases}
+pub use Rattle.std.proofs.lemmas.Bool.{cases_lt, or_cases}
 pub use Rattle.std.proofs.lemmas.Result.{IfErr-weaker, IfOk-weaker}
 pub use Rattle.std.specs.List.{find, list_all}
 pub use Rattle.std.specs.Prelude.{IfErr, IfOk, IsErrAnd, IsErrOf, codes, option_map, slice_get, unwrap_or}
 pub use Rattle.std.specs.Str.Parse.{ExplainsUnsignedError, HasUnsignedDigitsIfOk, ParsesUnsigned}
-pub use Rattle.clap.specs.Faults.{action_fault, bundle_fault, bundle_step_fault, default_fault, entered_fault, flag_word_fault, given_default_fault, level_fault, long_fault, option_fault, other_fault, positional_fault, react_fault, set_fault, settle_fault, short_fault, step_fault, stray_fault, turn_fault, use_fault, values_fault, word_fault}
+pub use Rattle.clap.specs.Faults.{default_fault, entered_fault, flag_word_fault, level_fault, option_fault, positional_fault, react_fault, set_fault, settle_fault, short_fault, step_fault, stray_fault, turn_fault, use_fault, values_fault}
 unfoldable pub use Rattle.clap.specs.Faults.{defaults_fault, flags_fault, walk_fault}
-pub use Rattle.clap.specs.Kinds.{HasKind, Kinds, or_else, request_kinds, values_kinds}
+pub use Rattle.clap.specs.Kinds.{HasKind, Kinds, or_else, values_kinds}
 pub use Rattle.clap.specs.Simple.{HasMatchesOf, Shape, argument_words, built, built_leaf, entered, inherited, is_simple, label_of, marked_built, names_of, rows_at, subcommand_of, subcommand_rows_of, with_leaf_noted, with_subcommand}
-pub use Rattle.clap.specs.Walk.{Held, Names, Outcome, Row, Rule, Step, Text, Waiting, Walk, action_of, after_flag, after_step, answers_to, arg_by_id, arg_by_index, at_row, attached_value, bundle, bundle_step, default_rows, done, flag_met, has_row, is_empty, long_met, long_or_other, nothing_held, option, option_met, option_word, plain, plain_word, positional_held, reacted, reading_by, rows_after, settled, settled_rows, short_met, short_or_plain, stop_after, subcommand_or_other, takes_values, texts, to_positional, used, used_as, used_by_id, value, waits, walked_from, with_default, with_values, without, word_met}
+pub use Rattle.clap.specs.Walk.{Held, Names, Outcome, Row, Rule, Step, Text, Waiting, Walk, action_of, after_flag, after_step, answers_to, arg_by_index, at_row, attached_value, bundle, done, flag_met, has_row, long_or_other, nothing_held, option, option_met, plain, plain_word, reacted, reading_by, rows_after, settled, short_met, stop_after, takes_values, texts, to_positional, used, value, waits, with_default, with_values, without}
 unfoldable pub use Rattle.clap.specs.Walk.{bundle_met, walked}
 pub use Rattle.clap.specs.Words.{App, FailsBy, app_of, fault_of, found_of, is_simple_and_free, rows_of}
 pub use Rattle.uring_entry.specs.Setup.{IsBadCq, Setup}

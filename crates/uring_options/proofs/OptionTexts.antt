@@ -1,5 +1,5 @@
 -- What the option of a name gives of words that clap finds no fault in.
-use Rattle.std.proofs.Common.{◌≡◌, ◌∙◌, ◌<◌, ◌≤◌, ◌^◌, ℕ, Bool, true, false, cond, List, [], ◌∷◌, Option, Some, None, Result, Ok, refl, sym, ap, subst, inl, inr, arith}
+use Rattle.std.proofs.Common.{◌≡◌, ◌∙◌, ◌<◌, ◌≤◌, ◌^◌, ℕ, Bool, true, false, cond, List, [], ◌∷◌, Option, Some, None, Result, Ok, refl, ap, subst, inl, inr, arith}
 use Rattle.uring_options.proofs.Common.{CommandOption, Gives, IsGiven, IsWithin, ParsesUnsigned, Row, Rule, TakesOption, TakesOptions, Text, codes, find, flag, number, or_cases, parser_for, values_kinds}
 use Rattle.clap.specs.Walk.{rows_of}
 use Rattle.std.specs.Str.{bytes_eq}
@@ -8,7 +8,6 @@ use Rattle.clap.specs.Facts.{parser_of_value}
 use Rattle.clap.specs.Lexer.{without_minus}
 use Rattle.clap.specs.Matches.{one_text, ReadsOne}
 use Rattle.clap.specs.Values.{reading_of}
-use Rattle.clap.specs.ValueTests.{accepts}
 use Rattle.clap.specs.declared.builder.value_parser.ValueParser.{ValueParser}
 use Rattle.clap.specs.declared.parser.matches.Found.{Found}
 use Rattle.clap.proofs.CallerReads.{signed_reads}
@@ -28,16 +27,7 @@ among_parsers : (id : Text) (rules : List Rule) (a : Rule) → Among a rules →
     → Among (parser_of_value a.parser) (parsers_of id rules)
 among_parsers id [] a among named = absurd among
 among_parsers id (b ∷ rules) a (inl here) named = grind arith
-among_parsers id (b ∷ rules) a (inr later) named =
-    go (bytes_eq b.id id) (among_parsers id rules a later named)
-  where
-    go : (test : Bool) → Among (parser_of_value a.parser) (parsers_of id rules) → Among (parser_of_value a.parser) (cond test (parser_of_value b.parser ∷ parsers_of id rules) (parsers_of id rules))
-    go true among = inr among
-    go false among = among
-
-first_passes : (ignore_case : Bool) (p : ValueParser) (t : Text) (rest : List Text)
-    → values_kinds ignore_case p (t ∷ rest) ≡ [] → accepts ignore_case p t ≡ true
-first_passes ignore_case p t rest passes = grind arith
+among_parsers id (b ∷ rules) a (inr later) named = grind (arith, (among_parsers id rules a later named))
 
 -- the rules have one of this option's name, with its parser
 abbrev pub parsers_for : List Rule → CommandOption → List ValueParser
@@ -56,10 +46,7 @@ option_taken rules rows option one each = row (find (λ r. bytes_eq r.id option.
         → values_kinds ignore_case (parser_for option.1) vs ≡ [] → TakesOption rows option
     value r found reading ignore_case [] is passes = inl (rw (found, is) refl)
     value r found reading ignore_case (t ∷ vs) is passes =
-        inr (t, ignore_case, rw (found, is, reading) refl, accepts-Accepts ignore_case (parser_for option.1) t (first_passes ignore_case (parser_for option.1) t vs passes))
-
-    only : (p : ValueParser) → Among p (only_parser option) → p ≡ parser_for option.1
-    only p h = grind arith
+        inr (t, ignore_case, rw (found, is, reading) refl, accepts-Accepts ignore_case (parser_for option.1) t (grind (arith, passes)))
 
     row : (o : Option Row) → find (λ r. bytes_eq r.id option.0) rows ≡ o → TakesOption rows option
     row None found = inl (rw found refl)
@@ -67,7 +54,7 @@ option_taken rules rows option one each = row (find (λ r. bytes_eq r.id option.
         let place = found_among (λ r. bytes_eq r.id option.0) rows r found in
         let of : IsRowOf rules r = each_among (IsRowOf rules) rows r each place.0 in
         let named : bytes_eq of.rule.id option.0 ≡ true = rw of.id at place.1 in
-        let parser = only (parser_of_value of.rule.parser) (subst (Among (parser_of_value of.rule.parser)) one (among_parsers option.0 rules of.rule of.among named)) in
+        let parser : parser_of_value of.rule.parser ≡ parser_for option.1 = grind (arith, one, (among_parsers option.0 rules of.rule of.among named)) in
         value r found (of.reading ∙ ap reading_of parser) of.rule.ignore_case r.values refl (subst (λ p. values_kinds of.rule.ignore_case p r.values ≡ []) parser of.values)
 
 -- and those of a list of options, if a test of all of them computes to it
@@ -85,29 +72,26 @@ pub number_given : {E : Type 0} (G : Text → Result ℕ E → Type 0) (f : Foun
     → ((t : Text) (x : Result ℕ E) → G t x → ParsesUnsigned 32 10 t x)
     → (low high : ℕ) → high ≤ 4294967295 → TakesOption (rows_of f) (number id low high)
     → Gives (rows_of f) id r × IsWithin low high r
-number_given G f id r none value only low high fits (inl absent) =
-    subst (λ (o : Option ℕ). Gives (rows_of f) id o × IsWithin low high o) (sym (none (one_text-rows f id ∙ absent))) (absent, tt)
+number_given G f id r none value only low high fits (inl absent) = rw (none (one_text-rows f id ∙ absent)) (absent, tt)
 number_given {E} G f id r none value only low high fits (inr (text, ignore_case, is, passed)) =
     let reads = value (without_minus text) (one_text-rows f id ∙ is) in
     let small : high < 2 ^ 32 = omega arith in
     let read = signed_reads E G 32 low high text r reads only small passed in
-    let parsed = only (without_minus text) (Ok read.0) (subst (ReadsOne G (without_minus text)) read.1 reads) in
-    subst (λ (o : Option ℕ). Gives (rows_of f) id o × IsWithin low high o) (sym read.1)
-    ((without_minus text, is, record { digits = parsed.0.0; value = parsed.1 }), (read.2, read.3))
+    let parsed = only (without_minus text) (Ok read.0) (rw read.1 at reads) in
+    rw read.1 ((without_minus text, is, record { digits = parsed.0.0; value = parsed.1 }), (read.2, read.3))
 
 -- whether an option is given that takes no value
 pub flag_given : (f : Found) (id : Text) (r : Bool) → (one_text f id ≡ None → r ≡ false)
     → (one_text f id ≡ Some (codes "true") → r ≡ true)
     → (one_text f id ≡ Some (codes "false") → r ≡ false)
     → TakesOption (rows_of f) (flag id) → IsGiven (rows_of f) id r
-flag_given f id r none set unset (inl absent) =
-    subst (IsGiven (rows_of f) id) (sym (none (one_text-rows f id ∙ absent))) (inl absent)
+flag_given f id r none set unset (inl absent) = rw (none (one_text-rows f id ∙ absent)) (inl absent)
 flag_given f id r none set unset (inr (text, ignore_case, is, passed)) =
     elim (or_cases (bytes_eq text (codes "true")) (bytes_eq text (codes "false")) passed) [
       | inl same ↦
-          let given = is ∙ ap (λ (t : Text). Some t) ((bytes_eq-Decides text (codes "true")).0 same) in
-          subst (IsGiven (rows_of f) id) (sym (set (one_text-rows f id ∙ given))) given
+          let given = rw ((bytes_eq-Decides text (codes "true")).0 same) at is in
+          rw (set (one_text-rows f id ∙ given)) given
       | inr same ↦
-          let given = is ∙ ap (λ (t : Text). Some t) ((bytes_eq-Decides text (codes "false")).0 same) in
-          subst (IsGiven (rows_of f) id) (sym (unset (one_text-rows f id ∙ given))) (inr given)
+          let given = rw ((bytes_eq-Decides text (codes "false")).0 same) at is in
+          rw (unset (one_text-rows f id ∙ given)) (inr given)
     ]

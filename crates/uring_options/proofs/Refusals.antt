@@ -1,12 +1,10 @@
 -- When numbers are refused, and what else a command line can end with.
-use Rattle.std.proofs.Common.{◌≡◌, ◌∙◌, ◌*◌, ◌<◌, ◌≤◌, ◌^◌, ◌↔◌, ℕ, zero, suc, List, [], Option, Some, None, Result, Ok, Err, refl, sym, subst, inl, inr, arith}
-use Rattle.uring_options.proofs.Common.{AnswersNamed, AreInRange, AskFor, AskForTooSmall, Gives, HasKind, IfErr, IfErr-weaker, IfOk, IsBadCq, IsErrAnd, IsErrOf, IsFaultOf, IsMemory, IsSetupOver, IsTooSmall, IsWithin, Kinds, Numbers, Row, Setup, Text, Writes, cases_lt, codes, command_rows, subcommand_of, unwrap_or, uring}
+use Rattle.std.proofs.Common.{◌≡◌, ◌∙◌, ◌*◌, ◌≤◌, ◌^◌, ◌↔◌, ℕ, zero, suc, List, [], Option, Some, None, Result, Ok, Err, refl, inl, inr, arith}
+use Rattle.uring_options.proofs.Common.{AnswersNamed, AreInRange, AskFor, AskForTooSmall, Gives, HasKind, IfErr, IfOk, IsBadCq, IsErrAnd, IsErrOf, IsFaultOf, IsMemory, IsSetupOver, IsTooSmall, IsWithin, Numbers, Row, Setup, Text, Writes, cases_lt, codes, command_rows, subcommand_of, unwrap_or, uring}
 use Rattle.std.specs.Int.{IsNextPowerOfTwo}
 use Rattle.std.proofs.Math.Nat.{pow-suc}
 use Rattle.clap.specs.Faults.{fault_of}
-use Rattle.clap.specs.Values.{kind_of}
 use Rattle.clap.specs.declared.error.Error.{Error}
-use Rattle.clap.specs.declared.error.kind.ErrorKind.TheVariants.{OutOfMemory}
 use Rattle.uring_entry.proofs.Powers.{rounded_once}
 use Rattle.uring_options.specs.declared.answers.Options.{Options}
 use Rattle.uring_options.specs.declared.answers.Options.TheVariants.{Check, CheckPage, CheckJson, Outcomes}
@@ -30,14 +28,11 @@ too_small n ranges bad =
     let sq = asked n.sq ranges.sq in sizes (rounding 12 (unwrap_or n.sq 4) sq.0 sq.1)
   where
     asked : (sq : Option ℕ) → IsWithin 1 4096 sq → (1 ≤ unwrap_or sq 4) × (unwrap_or sq 4 ≤ 2 ^ 12)
-    asked None within = (omega arith, omega arith)
-    asked (Some sq) within = within
+    asked sq within = grind arith
 
     given : (p : ℕ) → IsNextPowerOfTwo (unwrap_or n.sq 4) p → (cq : Option ℕ) → n.cq ≡ cq → IsWithin 1 8192 cq → IsBadCq p cq → IsTooSmall n
     given p rounded None is within none = absurd none
-    given p rounded (Some cq) is within (inl (inl low)) = absurd (omega arith)
-    given p rounded (Some cq) is within (inl (inr high)) = absurd (omega arith)
-    given p rounded (Some cq) is within (inr smaller) = grind (arith, (rounding 13 cq within.0 within.1))
+    given p rounded (Some cq) is within bad = grind (arith, (rounding 13 cq within.0 within.1))
 
     sizes : ((p : ℕ) × IsNextPowerOfTwo (unwrap_or n.sq 4) p) → IsTooSmall n
     sizes p = given p.0 p.1 n.cq refl ranges.cq (bad p.0 p.1)
@@ -51,17 +46,12 @@ gives_once rows id a b x y = grind arith
 not_over : (words : List Text) (n : Numbers) (s : Setup) → Writes words n → IsSetupOver n s
     → AskForTooSmall words → ⊥
 not_over words n s writes set_up (m, small_writes, small) =
-    let sq : n.sq ≡ m.sq = gives_once (command_rows (subcommand_of uring words)) (codes "sq") n.sq m.sq writes.numbers.sq small_writes.numbers.sq in
-    let cq : n.cq ≡ m.cq = gives_once (command_rows (subcommand_of uring words)) (codes "cq") n.cq m.cq writes.numbers.cq small_writes.numbers.cq in
-    let given : n.cq ≡ Some small.cq = cq ∙ small.given in
-    let asked : 1 ≤ small.cq = subst (λ o. 1 ≤ unwrap_or o (2 * s.sq)) given set_up.cq_asked in
-    let size = subst (λ o. IsNextPowerOfTwo (unwrap_or o (2 * s.sq)) s.cq) given set_up.cq_rounded in
-    let sq_size : IsNextPowerOfTwo (unwrap_or n.sq 4) small.sq_size = subst (λ o. IsNextPowerOfTwo (unwrap_or o 4) small.sq_size) (sym sq) small.sq_rounded in
-    let same_sq = rounded_once (unwrap_or n.sq 4) s.sq small.sq_size set_up.sq_rounded sq_size set_up.sq_asked in
-    let same_cq = rounded_once small.cq s.cq small.cq_size size small.cq_rounded asked in
-    let holds : s.sq ≤ s.cq = set_up.limits.cq_holds_sq in
-    let smaller : small.cq_size < small.sq_size = small.smaller in
-    omega arith
+    let rows : List Row = command_rows (subcommand_of uring words) in
+    let sq = gives_once rows (codes "sq") n.sq m.sq writes.numbers.sq small_writes.numbers.sq in
+    let given = gives_once rows (codes "cq") n.cq m.cq writes.numbers.cq small_writes.numbers.cq ∙ small.given in
+    let same_sq = rounded_once (unwrap_or m.sq 4) s.sq small.sq_size (rw sq at set_up.sq_rounded) small.sq_rounded (rw sq at set_up.sq_asked) in
+    let same_cq = rounded_once small.cq s.cq small.cq_size (rw given at set_up.cq_rounded) small.cq_rounded (rw given at set_up.cq_asked) in
+    omega (arith, set_up.limits.cq_holds_sq, small.smaller)
 
 not_both : (words : List Text) (o : Options) → AskFor words o → AskForTooSmall words → ⊥
 not_both words (Outcomes _ _ _ _ _ _ _ _ _) (n, writes, over) small =
@@ -72,9 +62,6 @@ not_both words (CheckJson _) (n, writes, over) small = not_over words n _ writes
 not_both words _ (n, writes, over) small = not_over words n _ writes over.1.0 small
 
 -- words without a fault fail by memory alone
-memory_alone : (kinds : Kinds) (e : Error) → kinds ≡ [] → HasKind kinds e → kind_of e ≡ OutOfMemory
-memory_alone kinds e none h = grind arith
-
 -- what a refusal shows
 abbrev pub IsRefusal : List Text → OptionsFault → Type 0
 IsRefusal words Small = AskForTooSmall words
@@ -96,16 +83,13 @@ pub words_refused : (words : List Text) (r : Result Options OptionsFault) (e : E
     → IsErrAnd r (λ f. f ≡ Words e) → HasKind (fault_of uring words) e → Outcome words r
 words_refused words r e is kind = grind arith
 
-fault_shown : (words : List Text) (e : OptionsFault) → IsRefusal words e → IsFaultOf words e
-fault_shown words e shown = grind arith
-
 pub refusal_is_fault : (words : List Text) (r : Result Options OptionsFault) → Outcome words r
     → IfErr r (IsFaultOf words)
-refusal_is_fault words r outcome = IfErr-weaker r _ _ (fault_shown words) outcome.1
+refusal_is_fault words r outcome = grind (arith, outcome.1)
 
 pub small_exactly : (words : List Text) (r : Result Options OptionsFault) → Outcome words r
     → IsErrOf r Small ↔ (AskForTooSmall words × ¬ IsErrAnd r IsMemory)
 small_exactly words (Ok o) outcome =
     ((λ e. absurd cc), (λ h. absurd (not_both words o outcome.0 h.0)))
 small_exactly words (Err Small) outcome = ((λ _. (outcome.1, λ m. m)), (λ _. refl))
-small_exactly words (Err (Words e)) outcome = ((λ e. absurd cc), (λ h. absurd (h.1 (memory_alone (fault_of uring words) e h.0.1.no_fault outcome.1))))
+small_exactly words (Err (Words e)) outcome = ((λ e. absurd cc), (λ h. absurd (h.1 (grind (arith, h.0.1.no_fault, outcome.1)))))

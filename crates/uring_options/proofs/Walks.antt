@@ -1,8 +1,8 @@
 -- What clap's walk over words without a fault leaves: each row has values that its option's parser took.
-use Rattle.std.proofs.Common.{◌≡◌, ◌&&◌, ◌||◌, ℕ, zero, suc, Bool, true, false, cond, List, [], ◌∷◌, ◌++◌, Option, Some, None, refl, sym, ap, subst, ◌⊎◌, inl, inr, append-nil, fold, is_some, length, true≢false, arith}
-use Rattle.uring_options.proofs.Common.{Held, Kinds, Names, Outcome, Row, Rule, Shape, Step, Text, Waiting, Walk, action_fault, action_of, after_flag, after_step, and_parts, arg_by_id, arg_by_index, at_row, attached_value, bundle, bundle_fault, bundle_met, bundle_step, bundle_step_fault, default_fault, default_rows, defaults_fault, done, find, flag_met, flag_word_fault, flags_fault, given_default_fault, has_row, is_empty, level_fault, list_all, long_fault, long_met, long_or_other, ne_eqb, nothing_held, option, option_fault, option_met, option_word, or_else, other_fault, plain, plain_word, positional_fault, positional_held, react_fault, reacted, reading_by, request_kinds, rows_after, set_fault, settle_fault, settled, settled_rows, short_fault, short_met, short_or_plain, slice_get, step_fault, stray_fault, subcommand_or_other, takes_values, to_positional, turn_fault, use_fault, used, used_as, used_by_id, value, values_fault, waits, walk_fault, walked, walked_from, with_default, with_values, without, word_fault, word_met}
+use Rattle.std.proofs.Common.{◌≡◌, ℕ, zero, suc, Bool, true, false, cond, List, [], ◌∷◌, ◌++◌, Option, Some, None, refl, ◌⊎◌, inl, inr, append-nil, fold, is_some, arith}
+use Rattle.uring_options.proofs.Common.{Held, Kinds, Names, Outcome, Row, Rule, Shape, Step, Text, Waiting, Walk, action_of, after_flag, after_step, arg_by_index, at_row, attached_value, bundle_met, default_fault, defaults_fault, done, find, flag_met, flag_word_fault, flags_fault, has_row, level_fault, list_all, long_or_other, nothing_held, option, option_fault, option_met, or_else, plain_word, positional_fault, react_fault, reacted, reading_by, rows_after, set_fault, settle_fault, settled, short_fault, short_met, slice_get, step_fault, stray_fault, takes_values, to_positional, turn_fault, use_fault, used, value, values_fault, waits, walk_fault, walked, with_default, with_values, without}
 use Rattle.std.specs.Option.{option_map_or}
-use Rattle.std.specs.Str.{bytes_eq, chars}
+use Rattle.std.specs.Str.{chars}
 use Rattle.clap.specs.Lexer.{short_of}
 use Rattle.clap.specs.declared.builder.action.ArgAction.{ArgAction}
 use Rattle.clap.specs.declared.builder.action.ArgAction.TheVariants as action
@@ -33,23 +33,17 @@ Among y (x ∷ xs) = (x ≡ y) ⊎ Among y xs
 
 pub each_among : {X : Type 0} (P : X → Type 0) (xs : List X) (y : X) → Each P xs → Among y xs → P y
 each_among P [] y each among = absurd among
-each_among P (x ∷ xs) y each (inl here) = subst P here each.0
-each_among P (x ∷ xs) y each (inr later) = each_among P xs y each.1 later
+each_among P (x ∷ xs) y each among = grind (arith, (each_among P xs y))
 
 pub found_among : {X : Type 0} (p : X → Bool) (xs : List X) (y : X) → find p xs ≡ Some y
     → Among y xs × (p y ≡ true)
 found_among p [] y found = absurd cc
-found_among p (x ∷ xs) y found = go (found_among p xs y) (p x) refl found
-  where
-    go : (find p xs ≡ Some y → Among y xs × (p y ≡ true)) → (b : Bool) → p x ≡ b → cond b (Some x) (find p xs) ≡ Some y → Among y (x ∷ xs) × (p y ≡ true)
-    go later true here e = let same : x ≡ y = cc in (inl same, subst (λ z. p z ≡ true) same here)
-    go later false here e = let rest = later e in (inr rest.0, rest.1)
+found_among p (x ∷ xs) y found = grind (arith, (found_among p xs y))
 
 passes_among : {X : Type 0} (p : X → Bool) (xs : List X) (y : X) → list_all p xs ≡ true
     → Among y xs → p y ≡ true
 passes_among p [] y all among = absurd among
-passes_among p (x ∷ xs) y all (inl here) = subst (λ z. p z ≡ true) here (and_parts _ _ all).0
-passes_among p (x ∷ xs) y all (inr later) = passes_among p xs y (and_parts _ _ all).1 later
+passes_among p (x ∷ xs) y all among = grind (arith, (passes_among p xs y))
 
 -- ---- rules and rows
 
@@ -75,16 +69,7 @@ pub record IsRowOf (rules : List Rule) (r : Row) : Type 0 where
 at_no_row : (id : Text) (change : Row → List Row) (new rows : List Row) → has_row id rows ≡ false
     → at_row id change new rows ≡ rows ++ new
 at_no_row id change new [] none = refl
-at_no_row id change new (r ∷ rows) none = go (at_no_row id change new rows) (bytes_eq r.id id) none
-  where
-    go : (has_row id rows ≡ false → at_row id change new rows ≡ rows ++ new) → (b : Bool) → (b || has_row id rows) ≡ false
-        → cond b (change r ++ rows) (r ∷ at_row id change new rows) ≡ r ∷ (rows ++ new)
-    go later true e = absurd (true≢false e)
-    go later false e = ap (λ rs. r ∷ rs) (later e)
-
-no_repeat : (b : Bool) (ks : Kinds)
-    → or_else (cond (b && true) (kind.ArgumentConflict ∷ []) []) ks ≡ [] → (b ≡ false) × (ks ≡ [])
-no_repeat b ks e = grind arith
+at_no_row id change new (r ∷ rows) none = grind (arith, (at_no_row id change new rows))
 
 -- ---- the walk of a command, whose options take values or none, each once, or ask for help
 
@@ -99,12 +84,6 @@ module _ (s : Shape) (plain_rules : list_all is_plain s.rules ≡ true) (once : 
   in_turn : (a b : Kinds) (r t u : List Row) → Keeps r a t → Keeps t b u → Keeps r (or_else a b) u
   in_turn a b r t u first second each passes = grind arith
 
-  either : {X : Type 0} (f : X → List Row) (r : List Row) (b : Bool) (k l : Kinds) (x y : X) → Keeps r k (f x) → Keeps r l (f y) → Keeps r (cond b k l) (f (cond b x y))
-  either f r b k l x y first second = grind arith
-
-  with_same : (r t u : List Row) (k : Kinds) → u ≡ t → Keeps r k t → Keeps r k u
-  with_same r t u k same keeps each passes = subst Rows (sym same) (keeps each passes)
-
   -- ---- uses
 
   -- values of a rule that has no row yet add one
@@ -114,26 +93,14 @@ module _ (s : Shape) (plain_rules : list_all is_plain s.rules ≡ true) (once : 
 
   set_row : (a : Rule) (values : List Text) (rows : List Row) → Among a s.rules
       → Keeps rows (set_fault s.args_override_self a values rows) (with_values a.id (reading_by a) source.CommandLine values (without a.id rows))
-  set_row a values rows among each passes = grind (arith, no_repeat, at_no_row, append-nil, with_values, new_row)
-
-  used_row : (a : Rule) (x : ArgAction) (values : List Text) (rows : List Row) → Among a s.rules → sets_or_helps x ≡ true
-      → Keeps rows (action_fault x s.args_override_self a values rows) (used_as x a.id (reading_by a) values rows)
-  used_row a x values rows among sets = grind (arith, set_row)
+  set_row a values rows among each passes = grind (arith, at_no_row, append-nil, with_values, new_row)
 
   use_row : (a : Rule) (values : List Text) (rows : List Row) → Among a s.rules → Keeps rows (use_fault s.args_override_self a values rows) (used a values rows)
-  use_row a values rows among each passes = grind (arith, used_row, passes_among)
-
-  use_found : (test : Rule → Bool) (values : List Text) (rows : List Row) (o : Option Rule) → find test s.rules ≡ o
-      → Keeps rows (option_map_or (λ a. use_fault s.args_override_self a values rows) o []) (used_by_id o values rows)
-  use_found test values rows o found = grind (arith, use_row, found_among)
+  use_row a values rows among each passes = grind (arith, set_row, (passes_among is_plain s.rules a plain_rules among))
 
   -- what was pending is used
   settled_row : (h : Held) → Keeps h.rows (settle_fault s.rules s.args_override_self h) (settled s.rules h).rows
-  settled_row h = go h.pending
-    where
-      go : (pending : Option (Text × List Text)) → Keeps h.rows (settle_fault s.rules s.args_override_self (record h { pending = pending })) (settled_rows s.rules pending h.rows)
-      go None = λ each passes. each
-      go (Some p) = use_found (λ a. bytes_eq a.id p.0) p.1 h.rows (arg_by_id s.rules p.0) refl
+  settled_row h each passes = grind (arith, use_row, found_among)
 
   reacted_row : (a : Rule) (values : List Text) (h : Held) → Among a s.rules → Keeps h.rows (react_fault s.rules s.args_override_self a values h) (reacted s.rules a values h).rows
   reacted_row a values h among = grind (arith, settled_row, use_row)
@@ -149,40 +116,24 @@ module _ (s : Shape) (plain_rules : list_all is_plain s.rules ≡ true) (once : 
   flag_row a None h among = reacted_row a [] h among
   flag_row a (Some v) h among = λ each passes. each
 
-  long_row : (test : Rule → Bool) (o : Option Rule) (v : Option Text) (h : Held) → find test s.rules ≡ o → Keeps h.rows (long_fault s.rules s.args_override_self o v h) (long_met s.rules o v h).0.rows
-  long_row test o v h found = grind (arith, found_among, either, option_row, flag_row)
-
   -- a flag of a bundle, where what comes after it keeps the rows
   short_row : (test : Rule → Bool) (o : Option Rule) (rest : Text) (h : Held) (go_on : Held → Held × Outcome) (go_on_fault : Held → Kinds) → find test s.rules ≡ o
       → ((g : Held) → Keeps g.rows (go_on_fault g) (go_on g).0.rows)
       → Keeps h.rows (short_fault s.rules s.args_override_self o rest h go_on_fault) (short_met s.rules o rest h go_on).0.rows
-  short_row test None rest h go_on go_on_fault found after = λ each passes. each
-  short_row test (Some a) rest h go_on go_on_fault found after =
-      let among = (found_among test s.rules a found).0 in
-      let next : Held = reacted s.rules a [] h in
-      either (λ (m : Held × Outcome). m.0.rows) h.rows (takes_values a) _ _ (option_met s.rules a (attached_value rest) h) (go_on next) (option_row a (attached_value rest) h among)
-      (in_turn (react_fault s.rules s.args_override_self a [] h) (go_on_fault next) h.rows next.rows (go_on next).0.rows (reacted_row a [] h among) (after next))
+  short_row test None rest h go_on go_on_fault found after each passes = each
+  short_row test (Some a) rest h go_on go_on_fault found after each passes =
+      grind (arith, (takes_values a), (found_among test s.rules a found), (option_row a (attached_value rest) h), (reacted_row a [] h), (after (reacted s.rules a [] h)), neither_fails)
 
-  -- one character of a bundle
-  step_row : (o : Option ℕ) (flags : Text) (skip : ℕ) (so_far : Outcome) (h : Held) (go_on : Text → ℕ → Outcome → Held → Held × Outcome) (go_on_fault : Text → ℕ → Held → Kinds)
-      → ((f : Text) (n : ℕ) (x : Outcome) (g : Held) → Keeps g.rows (go_on_fault f n g) (go_on f n x g).0.rows)
-      → Keeps h.rows (bundle_step_fault s.rules s.args_override_self o flags skip h go_on_fault) (bundle_step s.rules o flags skip so_far h go_on).0.rows
-  step_row o flags skip so_far h go_on go_on_fault later = grind (arith, short_row)
-
+  -- the characters of a bundle
   bundle_row : (k : ℕ) (flags : Text) (skip : ℕ) (so_far : Outcome) (h : Held) → Keeps h.rows (flags_fault s.rules s.args_override_self k flags skip h) (bundle_met s.rules k flags skip so_far h).0.rows
   unfolding bundle_met flags_fault
-  bundle_row zero flags skip so_far h = λ each passes. each
-  bundle_row (suc k) flags skip so_far h =
-      step_row (slice_get (chars flags) 0) flags skip so_far h (bundle_met s.rules k) (flags_fault s.rules s.args_override_self k) (λ f n x g. bundle_row k f n x g)
+  bundle_row zero flags skip so_far h each passes = each
+  bundle_row (suc k) flags skip so_far h each passes = grind (arith, (slice_get (chars flags) 0), short_row, (bundle_row k))
 
   -- ---- a word
 
   plain_row : (waiting : Waiting) (word : Text) (h : Held) → (plain_word s.rules waiting word h).0.rows ≡ h.rows
-  plain_row (option id) word h = go (arg_by_id s.rules id)
-    where
-      go : (o : Option Rule) → (option_word o id word h).0.rows ≡ h.rows
-      go None = refl
-      go (Some a) = refl
+  plain_row (option id) word h = grind arith
   plain_row _ word h = refl
 
   after_row : (waiting : Waiting) (word : Text) (h : Held) (x : Outcome) → (after_flag s.rules waiting word h x).0.rows ≡ h.rows
@@ -192,44 +143,20 @@ module _ (s : Shape) (plain_rules : list_all is_plain s.rules ≡ true) (once : 
 
   flag_word_row : (waiting : Waiting) (word : Text) (o : Option (Text × Option Text)) (h : Held)
       → Keeps h.rows (flag_word_fault s.rules s.args_override_self o word h) (long_or_other s.rules waiting word o h).0.rows
-  flag_word_row waiting word (Some p) h = grind (arith, long_row)
-  flag_word_row waiting word None h = go (short_of word)
-    where
-      go : (o : Option Text) → Keeps h.rows (option_map_or (λ flags. bundle_fault s.rules s.args_override_self flags h) o []) (short_or_plain s.rules waiting word o h).0.rows
-      go None = λ each passes. subst Rows (sym (plain_row waiting word h)) each
-      go (Some flags) =
-          let met : Held × Outcome = bundle s.rules flags h in
-          with_same h.rows met.0.rows (after_flag s.rules waiting word met.0 met.1).0.rows _ (after_row waiting word met.0 met.1)
-          (bundle_row (length flags) flags h.skip plain (record h { skip = 0 }))
-
-  other_row : (o : Option Text) (waiting : Waiting) (position : ℕ) (word : Text) (h : Held) → Keeps h.rows (other_fault s o word h) (subcommand_or_other s.rules o waiting position word h).0.rows
-  other_row o waiting position word h = grind (arith, flag_word_row)
-
-  word_row : (names : Names) (is_trailing : Bool) (waiting : Waiting) (position : ℕ) (word : Text) (h : Held)
-      → Keeps h.rows (word_fault s names is_trailing waiting word h) (word_met s.rules names is_trailing waiting position word h).0.rows
-  word_row names is_trailing waiting position word h = grind (arith, other_row)
-
-  -- a word that goes to a positional ends what was pending
-  positional_row : (a : Rule) (word : Text) (h : Held) → Keeps h.rows (positional_fault s.rules s.args_override_self a h) (positional_held s.rules a word h).rows
-  positional_row a word h = grind (arith, settled_row)
+  flag_word_row waiting word o h each passes = grind (arith, found_among, option_row, flag_row, (short_of word), plain_row, after_row, bundle_row)
 
   step_taken_row : (word : Text) (w : Walk) (h : Held) (step : Step) → Keeps h.rows (step_fault s w.position h step) (after_step s.rules word w h step).held.rows
   step_taken_row word w h value = go (arg_by_index s.rules w.position)
     where
       go : (o : Option Rule) → Keeps h.rows (option_map_or (λ a. positional_fault s.rules s.args_override_self a h) o (stray_fault s)) (to_positional s.rules o word w h).held.rows
-      go None = λ each passes. each
-      go (Some a) = positional_row a word h
+      go None each passes = each
+      -- a word that goes to a positional ends what was pending
+      go (Some a) each passes = grind (arith, settled_row)
   step_taken_row word w h _ = λ each passes. each
 
   turn_row : (names : Names) (w : Walk) (word : Text) → Keeps w.held.rows (turn_fault s names w word) (walked s.rules names w word).held.rows
   unfolding walked
-  turn_row names w word = go w.stopped
-    where
-      met : Held × Step
-      met = word_met s.rules names w.is_trailing w.waiting w.position word w.held
-
-      go : (o : Option (Text × List Text)) → Keeps w.held.rows (cond (is_some o) [] (or_else (word_fault s names w.is_trailing w.waiting word w.held) (step_fault s w.position met.0 met.1))) (walked_from s.rules names o w word).held.rows
-      go o = grind (arith, in_turn, word_row, step_taken_row)
+  turn_row names w word each passes = grind (arith, in_turn, flag_word_row, step_taken_row)
 
   walk_row : (names : Names) (w : Walk) (words : List Text) → Keeps w.held.rows (walk_fault s names w words) (fold (walked s.rules names) w words).held.rows
   unfolding walk_fault
@@ -240,14 +167,7 @@ module _ (s : Shape) (plain_rules : list_all is_plain s.rules ≡ true) (once : 
 
   -- defaults that the parser takes add a row of their rule
   default_row : (a : Rule) (rows : List Row) → Among a s.rules → Keeps rows (default_fault rows a) (with_default rows a)
-  default_row a rows among = go (has_row a.id rows) refl a.defaults
-    where
-      go : (b : Bool) → has_row a.id rows ≡ b → (values : List Text) → Keeps rows (cond (b || is_empty values) [] (given_default_fault a values)) (cond b rows (default_rows a.id (reading_by a) values rows))
-      go true there values = λ each passes. each
-      go false none [] = λ each passes. each
-      go false none (v ∷ vs) = λ each passes.
-          let some : is_empty (v ∷ vs) ≡ false = ne_eqb _ _ (λ e. omega arith) in
-          new_row a source.DefaultValue (v ∷ vs) rows among none (neither_fails (request_kinds (action_of a)) _ (rw some at passes)).1 each
+  default_row a rows among each passes = grind (arith, new_row, neither_fails)
 
   defaults_rows : (others : List Rule) (rows : List Row) → ((a : Rule) → Among a others → Among a s.rules) → Keeps rows (defaults_fault rows others) (fold with_default rows others)
   unfolding defaults_fault

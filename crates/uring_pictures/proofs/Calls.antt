@@ -1,10 +1,10 @@
 -- What a step makes of the entries and cuts that are kept.
-use Rattle.std.proofs.Common.{◌≡◌, ℕ, ◌+◌, ◌<◌, ◌≤◌, Bool, false, List, [], ◌∷◌, ◌++◌, length, take, Option, Some, None, refl, sym, ap, subst, ◌∙◌, arith}
-use Rattle.uring_pictures.proofs.Common.{Accepted, Event, HasAll, History, IsLawfulApart, Keeping, Keeps, MakesStep, Requests, Setup, Sqe, entry_of, entry_outstanding, has_ended, length-append, requests_at, take-append-le, take_all, take_more, with_call, world}
+use Rattle.std.proofs.Common.{◌≡◌, ℕ, ◌+◌, ◌<◌, Bool, false, List, [], ◌∷◌, ◌++◌, length, take, Option, Some, None, sym, subst, ◌∙◌, arith}
+use Rattle.uring_pictures.proofs.Common.{Accepted, Event, HasAll, History, IsLawfulApart, Keeping, Keeps, MakesStep, Requests, Setup, Sqe, entry_outstanding, has_ended, length-append, requests_at, take-append-le, take_all, take_more, with_call, world}
 use Rattle.std.specs.Option.{option_to_list}
 use Rattle.uring_entry.specs.Submission.{Call, entries_from}
 use Rattle.uring_linux.specs.LinuxRequests.{LinuxRequests}
-use Rattle.uring_core.specs.World.{World, requests_of, ending, ending_of}
+use Rattle.uring_core.specs.World.{World, requests_of, ending}
 use Rattle.uring_core.specs.StepAnswers.{end_answer_in}
 use Rattle.uring_core.specs.declared.step.Step.{Step}
 use Rattle.uring_core.specs.declared.step.Step.TheVariants as step
@@ -30,11 +30,8 @@ AddsCut old new = (h : History) → Fits new.machine h
     → new.cuts.items ≡ old.cuts.items ++ length (requests_at new h).accepted ∷ []
 
 -- the same entries and cuts
-abbrev HasSameLists : Requests → Requests → Type 0
-HasSameLists r q = (r.accepted ≡ q.accepted) × (r.cuts ≡ q.cuts)
-
 same_lists : (linux : Bool) (l : LinuxRequests) (s : Step) (a : Answer) (q : Requests) → Move linux l s a q
-    → ClosesNone s a → HasSameLists l.requests q
+    → ClosesNone s a → (l.requests.accepted ≡ q.accepted) × (l.requests.cuts ≡ q.cuts)
 same_lists linux l s a q h none = grind arith
 
 -- a step by which no call closes
@@ -43,13 +40,9 @@ keeps_step : (m m' : Machine) (entries : List Sqe) (cuts : List ℕ) (s : Step) 
     → ClosesNone s a → Keeping m entries cuts h → Keeping m' entries cuts ((s, a) ∷ h)
 keeps_step m m' entries cuts s a h same fits none k =
     let now : Fits m' ((s, a) ∷ h) = fits h k.fits in
-    let lawful : IsLawfulApart m.core.setup ((s, a) ∷ h) = subst (λ (g : Setup). IsLawfulApart g ((s, a) ∷ h)) same now.core.lawful in
-    let lists = same_lists m.core.setup.linux (requests_of (world m.core.setup h)) s a (world m.core.setup ((s, a) ∷ h)).requests (move_of m.core.setup s a h lawful) none in
-    record {
-      fits = now;
-      entries = subst (λ (g : Setup). entries ≡ (world g ((s, a) ∷ h)).requests.accepted) (sym same) (k.entries ∙ lists.0);
-      cuts = subst (λ (g : Setup). cuts ≡ (world g ((s, a) ∷ h)).requests.cuts) (sym same) (k.cuts ∙ lists.1);
-    }
+    let g : Setup = m'.core.setup in
+    let lists = same_lists g.linux (requests_of (world g h)) s a (world g ((s, a) ∷ h)).requests (move_of g s a h now.core.lawful) none in
+    record { fits = now; entries = cc (k.entries, lists.0, same); cuts = cc (k.cuts, lists.1, same) }
 
 -- The end of a call accepts the entries that it took.
 
@@ -57,7 +50,8 @@ closed_by : (g : Setup) (w : World) (call : Option Call) (accepted missed head :
     → answer.Taken accepted missed head ≡ end_answer_in g w call
     → (entries : List Sqe) × ((ending g w (answer.Taken accepted missed head)).requests ≡ with_call w.requests entries)
 closed_by g w None accepted missed head opened is = absurd cc
-closed_by g w (Some call) accepted missed head opened is = (entries_from w.submission call.count, rw opened)
+closed_by g w (Some call) accepted missed head opened is =
+    (entries_from w.submission call.count, rw opened)
 
 closed : (g : Setup) (h : History) (accepted missed head : ℕ)
     → IsLawfulApart g ((step.End, answer.Taken accepted missed head) ∷ h)
@@ -65,13 +59,13 @@ closed : (g : Setup) (h : History) (accepted missed head : ℕ)
 closed g h accepted missed head lawful = grind (arith, closed_by)
 
 -- what wasn't accepted hasn't ended
-unended_by : (r : Requests) (n : ℕ) (ended : Bool) → IsSoundRequests r → length r.accepted ≤ n
-    → has_ended r n ≡ ended → has_ended r n ≡ false
-unended_by r n ended sound beyond is = grind arith
-
 -- the entries that are kept, seen from the requests after the call
 has_all : (r : Requests) (more : List Sqe) → IsSoundRequests r → HasAll r.accepted (with_call r more)
-has_all r more sound = grind (arith, take-append-le, take_all, length-append, unended_by)
+has_all r more sound = record {
+  front = sym (take-append-le (length r.accepted) r.accepted more (omega arith) ∙ take_all (length r.accepted) r.accepted (omega arith));
+  fewer = omega (arith, length-append r.accepted more);
+  unended = λ n beyond. grind (arith, sound);
+}
 
 -- a step by which a call closes, whose entries are added
 keeps_call : (old new : Accepted) (accepted missed head : ℕ) (h : History)
@@ -84,16 +78,26 @@ keeps_call old new accepted missed head h same fits adds marks k =
     let g = new.machine.core.setup in
     let now : Fits new.machine (e ∷ h) = fits h k.fits in
     let more = closed g h accepted missed head now.core.lawful in
-    let all : HasAll old.entries.items (world g (e ∷ h)).requests = rw (k.entries, ← same, more.1) (has_all (world g h).requests more.0 (sound_of g h now.core.lawful.1).requests) in
-    record { fits = now; entries = adds (e ∷ h) now all; cuts = marks (e ∷ h) now ∙ rw (k.cuts, ← same, more.1) }
+    let before : old.entries.items ≡ (world g h).requests.accepted = cc (k.entries, same) in
+    let ends : old.cuts.items ≡ (world g h).requests.cuts = cc (k.cuts, same) in
+    let all : HasAll old.entries.items (world g (e ∷ h)).requests = subst (λ (q : Requests). HasAll old.entries.items q) (sym more.1) (subst (λ (xs : List Sqe). HasAll xs (with_call (world g h).requests more.0)) (sym before) (has_all (world g h).requests more.0 (sound_of g h now.core.lawful.1).requests)) in
+    let cuts_now : (world g (e ∷ h)).requests.cuts ≡ (world g h).requests.cuts ++ length (world g (e ∷ h)).requests.accepted ∷ [] = cc (more.1) in
+    record {
+      fits = now;
+      entries = adds (e ∷ h) now all;
+      cuts = cc (marks (e ∷ h) now, ends, cuts_now);
+    }
 
 pub call_made : (old new : Accepted) (s : Step) (a : Answer) (accepted missed head : ℕ) → s ≡ step.End
     → a ≡ answer.Taken accepted missed head → new.machine.core.setup ≡ old.machine.core.setup
     → ((k : History) → Fits old.machine k → Fits new.machine ((s, a) ∷ k))
     → AddsAll old new → AddsCut old new → MakesStep old new s
 call_made old new s a accepted missed head ends is same fits adds marks =
-    let fits_now = rw (ends, is) at fits in
-    record { answer = a; same = same; keeps = λ h k. rw (ends, is) (keeps_call old new accepted missed head h same fits_now adds marks k) }
+    record {
+      answer = a;
+      same = same;
+      keeps = λ h k. rw (ends, is) (keeps_call old new accepted missed head h same (rw (ends, is) at fits) adds marks k);
+    }
 
 -- a step by which none closes
 pub step_made : (old new : Accepted) (s : Step) (a : Answer) → new.machine.core.setup ≡ old.machine.core.setup

@@ -1,5 +1,5 @@
 -- The members of chains that a graph names.
-use Rattle.std.proofs.Common.{◌≡◌, ℕ, zero, suc, Bool, true, false, Option, Some, None, refl, arith}
+use Rattle.std.proofs.Common.{◌≡◌, ℕ, zero, suc, Bool, true, false, Some, None, arith}
 use Rattle.uring_pictures.proofs.Common.{Requests, both_ways, entry_outstanding, first_of, if◌then◌else◌, is_joined, is_last, is_some, member_before}
 use Rattle.uring_entry.proofs.RequestLemmas.{is_joined_yes, is_joined_no, is_joined_inside}
 use Rattle.uring_pictures.specs.Members.{IsFirst, IsBefore}
@@ -12,29 +12,22 @@ on r m n goes joined = grind (arith, is_joined_yes, is_joined_inside)
 back : (r : Requests) (m n : ℕ) → is_joined r m (suc n) ≡ true → is_joined r m n ≡ true
 back r m n joined = grind (arith, is_joined_yes, is_joined_inside)
 
-not_back : (r : Requests) (m n : ℕ) → is_joined r m n ≡ false → is_joined r m (suc n) ≡ false
-not_back r m n apart = grind (arith, back)
-
 alone : (r : Requests) (n : ℕ) → is_joined r n n ≡ true
-alone r n = grind (arith, is_joined_yes)
+alone r n = is_joined_yes r n n (λ k le lt. absurd (omega (arith, le, lt)))
 
 first_on : (r : Requests) (n : ℕ) (last : Bool) → is_last r n ≡ last → IsFirst r n (first_of r n)
     → IsFirst r (suc n) (if last then suc n else first_of r n)
-first_on r n last ends i = grind (arith, alone, is_joined_no, on, not_back)
+first_on r n last ends i = grind (arith, alone, is_joined_no, on, back)
 
 pub first_is : (r : Requests) (n : ℕ) → IsFirst r n (first_of r n)
 first_is r zero = grind (arith, alone)
-first_is r (suc n) = first_on r n (is_last r n) refl (first_is r n)
+first_is r (suc n) = grind (arith, first_on, (first_is r n))
 
 -- the nearest one before the next request
-near : (r : Requests) (n : ℕ) (before : Option ℕ) → is_last r n ≡ false
-    → is_some (entry_outstanding r n) ≡ false → IsBefore r n before → IsBefore r (suc n) before
-near r n before goes gone b = grind (arith, on, is_some, back)
-
 before_on : (r : Requests) (n : ℕ) (last found : Bool) → is_last r n ≡ last
     → is_some (entry_outstanding r n) ≡ found → IsBefore r n (member_before r n)
     → IsBefore r (suc n) (if last then None else if found then Some n else member_before r n)
-before_on r n last found ends here b = grind (arith, both_ways, is_joined_no, on, alone, near)
+before_on r n last found ends here b = grind (arith, both_ways, is_joined_no, on, alone, is_some, back)
 
 pub before_is : (r : Requests) (n : ℕ) → IsBefore r n (member_before r n)
 before_is r zero = λ k within joined. absurd (omega (arith, within))

@@ -1,6 +1,6 @@
 -- What a moment keeps, byte by byte and line by line.
-use Rattle.std.proofs.Common.{◌≡◌, ◌≢◌, ℕ, ◌+◌, ◌-◌, ◌^◌, min, true, false, List, [], ◌∷◌, ◌++◌, length, Option, Some, None, refl, sym, ap, subst, ◌∙◌, arith}
-use Rattle.uring_pictures.proofs.Common.{Accepted, Followed, Following, History, Keeps, MakesStep, ReadsLine, Setup, does_count, history_of, up_to}
+use Rattle.std.proofs.Common.{◌≡◌, ◌≢◌, ℕ, ◌+◌, ◌-◌, ◌^◌, min, true, false, List, [], ◌∷◌, ◌++◌, length, Option, Some, None, refl, ◌∙◌, arith}
+use Rattle.uring_pictures.proofs.Common.{Accepted, Followed, Following, Keeps, MakesStep, ReadsLine, Setup, does_count, history_of, up_to}
 use Rattle.uring_core.specs.declared.step.Step.{Step}
 use Rattle.uring_text.specs.KeptLine.{KeptLine, kept_of}
 use Rattle.uring_text.proofs.Splits.{split_more, split_end, last_some}
@@ -41,11 +41,7 @@ kept_more : (a a' : Accepted) (line : List ℕ) (xs : List Exchange) (r : ReadsL
     → Keeps a (history_of (events_of xs))
     → Keeps a' (history_of (events_of (record { line = line; event = r.event } ∷ xs)))
 kept_more a a' line xs r k =
-    subst (λ (h : History). Keeps a' h) (one_more r.event (events_of xs)) (r.keeps (history_of (events_of xs)) k)
-
-next_number : (lines : List (List ℕ)) (line : List ℕ) (number number' : ℕ) → number ≡ line_number (length lines)
-    → number' ≡ min (number + 1) (2 ^ 64 - 1) → number' ≡ line_number (length (line ∷ lines))
-next_number lines line number number' is next = omega (arith, is, next)
+    rw one_more at (r.keeps (history_of (events_of xs)) k)
 
 -- the end of a line that counts
 pub follows_line : (at : Option ℕ) (setup : Setup) (a a' : Accepted) (kept kept' : KeptLine) (number number' : ℕ) (before : List ℕ)
@@ -60,9 +56,9 @@ follows_line at setup a a' kept kept' number number' before counts empty next re
       rest = [];
       splits = split_end before f.lines f.rest f.splits;
       keeps_line = empty;
-      numbered = next_number f.lines f.rest number number' f.numbered next;
+      numbered = omega (arith, f.numbered, next);
       exchanges = record { line = f.rest; event = r.event } ∷ f.exchanges;
-      taken = ap (λ (l : List (List ℕ)). f.rest ∷ l) f.taken ∙ sym (counted at f.rest f.lines number f.numbered counts);
+      taken = cc (f.taken, counted at f.rest f.lines number f.numbered counts);
       each = (r.read, f.each);
       same = r.same ∙ f.same;
       keeps = kept_more a a' f.rest f.exchanges r f.keeps;
@@ -74,7 +70,7 @@ pub follows_passed : (at : Option ℕ) (setup : Setup) (a : Accepted) (kept kept
     → Following at setup a kept number before
     → Following at setup a kept' number' (before ++ 10 ∷ [])
 follows_passed at setup a kept kept' number number' before counts empty next f =
-    grind (arith, (split_end before f.lines f.rest f.splits), (next_number f.lines f.rest number number' f.numbered next))
+    grind (arith, (split_end before f.lines f.rest f.splits), f.numbered, next)
 
 -- the end of the input, after the end of a line
 pub followed_none : (at : Option ℕ) (setup : Setup) (a : Accepted) (kept : KeptLine) (number : ℕ) (bytes : List ℕ)
@@ -94,7 +90,7 @@ followed_last at setup a a' kept number bytes some counts reads f =
       rest = f.rest;
       splits = f.splits;
       exchanges = record { line = f.rest; event = r.event } ∷ f.exchanges;
-      taken = ap (λ (l : List (List ℕ)). f.rest ∷ l) f.taken ∙ sym (ap (up_to at) (last_some f.lines f.rest (some f.rest f.keeps_line)) ∙ counted at f.rest f.lines number f.numbered counts);
+      taken = cc (f.taken, last_some f.lines f.rest (some f.rest f.keeps_line), counted at f.rest f.lines number f.numbered counts);
       each = (r.read, f.each);
       same = r.same ∙ f.same;
       keeps = kept_more a a' f.rest f.exchanges r f.keeps;

@@ -1,7 +1,6 @@
 -- What is drawn of all that was read.
-use Rattle.std.proofs.Common.{◌≡◌, ℕ, Bool, List, [], ◌++◌, Option, Ok, sym, ap, subst, ◌∙◌}
+use Rattle.std.proofs.Common.{◌≡◌, ℕ, Bool, List, [], ◌++◌, Option, Ok, sym, subst, ◌∙◌}
 use Rattle.uring_pictures.proofs.Common.{Accepted, Appends, Explainer, HasFollowed, History, Keeps, ReadsAll, Setup, graph_of, history_of, is_linux_at, linux_at, world}
-use Rattle.uring_core.specs.CalledFor.{IsLawful}
 use Rattle.uring_core.specs.World.{requests_of}
 use Rattle.uring_text.specs.Writing.{WritesText}
 use Rattle.uring_trace.specs.Exchanges.{events_of}
@@ -33,7 +32,7 @@ draws at setup bad m drawn a a' w w' x x' both same writes =
       first = f.taken;
       each = f.each;
       lawful = rw f.same at f.keeps.fits.lawful;
-      drawn = subst (λ (g : Setup). Appends w w' (graph_of g.linux (requests_of (world g h)))) f.same (subst (λ (d : Accepted). Appends w w' (graph_of (is_linux_at d) (linux_at d h))) same (writes h (rw same f.keeps)));
+      drawn = subst (λ (g : Setup). Appends w w' (graph_of g.linux (requests_of (world g h)))) f.same (subst (λ (d : Accepted). Appends w w' (graph_of (is_linux_at d) (linux_at d h))) same (writes h (subst (λ (d : Accepted). Keeps d h) (sym same) f.keeps)));
     }
 
 -- a text that was written
@@ -41,7 +40,8 @@ pub written_graph : (drawn : Accepted) (text none : List ℕ) (w w' : Known) →
     → ((h : History) → Keeps drawn h → text ≡ none ++ graph_of (is_linux_at drawn) (linux_at drawn h))
     → (written : List ℕ) × Appends w w' written × WritesText (Ok tt) text written
     → (h : History) → Keeps drawn h → Appends w w' (graph_of (is_linux_at drawn) (linux_at drawn h))
-written_graph drawn text none w w' start tells x = λ h keeps. rw (x.2, tells h keeps, start) at x.1
+written_graph drawn text none w w' start tells x = λ h keeps.
+    rw (x.2, tells h keeps, start) at x.1
 
 -- what was read, without a picture
 pub reads : (P : List ℕ → Type 0) (setup : Setup) (bad : Bool) (s : Explainer) (a a' x x' : Known)

@@ -21,7 +21,7 @@ pub took_in : (result : Done) (s s' : Explainer) (more none none' new new' : Lis
     → (written : List ℕ) × Appends e e' written × WritesText result new' written
     → OnOk result (TakesIn s s' more e e')
 took_in (Ok done) s s' more none none' new new' e e' a b feed w = λ setup before told noted h.
-    (new, new', rw w.2 at w.1, feed setup before told noted (nothing_yet (telling_on setup) s before told noted none none' a b h))
+    (new, new', subst (λ (l : List ℕ). Appends e e' l) w.2 w.1, feed setup before told noted (nothing_yet (telling_on setup) s before told noted none none' a b h))
 took_in (Err f) s s' more none none' new new' e e' a b feed w = tt
 
 -- the end of the input, and its notes written
@@ -29,7 +29,7 @@ pub ended_in : (s s' : Explainer) (none none' new new' : List ℕ) (e e' : Known
     → ((setup : Setup) (before told noted : List ℕ) → HasTold setup s before (told ++ none) (noted ++ none') → HasEnded setup s' before (told ++ new) (noted ++ new'))
     → (written : List ℕ) × Appends e e' written × WritesText (Ok tt) new' written → EndsLine s s' e e'
 ended_in s s' none none' new new' e e' a b finish w = λ setup before told noted h.
-    (new, new', rw w.2 at w.1, finish setup before told noted (nothing_yet (telling_on setup) s before told noted none none' a b h))
+    (new, new', subst (λ (l : List ℕ). Appends e e' l) w.2 w.1, finish setup before told noted (nothing_yet (telling_on setup) s before told noted none none' a b h))
 
 -- What was read so far: the reader had a left and has r, and what is noted was held after x and makes e.
 abbrev pub Far : Setup → Known → Known → Known → Known → Explainer → Type 0
@@ -58,6 +58,13 @@ unfoldable pub far_end : (setup : Setup) (bad : Bool) (a r r' x e e' : Known) (s
     → ReadsAll setup bad s' a r' x e'
 far_end setup bad a r r' x e e' s s' read end ends so =
     let ended = ends.1 setup so.0 so.1 so.2 so.5 in
-    let consumed = Consumes-trans a r r' so.0 [] so.3 read in
-    let noted = Appends-trans x e e' so.2 ended.1 so.4 ended.2 in
-    record { bytes = so.0 ++ []; told = so.1 ++ ended.0; notes = so.2 ++ ended.1; consumed = consumed; at_end = end; noted = noted; is_bad = ends.0; ended = rw append-nil ended.3 }
+    record {
+      bytes = so.0 ++ [];
+      told = so.1 ++ ended.0;
+      notes = so.2 ++ ended.1;
+      consumed = Consumes-trans a r r' so.0 [] so.3 read;
+      at_end = end;
+      noted = Appends-trans x e e' so.2 ended.1 so.4 ended.2;
+      is_bad = ends.0;
+      ended = subst (λ (l : List ℕ). HasEnded setup s' l (so.1 ++ ended.0) (so.2 ++ ended.1)) (sym (append-nil so.0)) ended.3;
+    }

@@ -34,7 +34,7 @@ pub with_end : (P Q : List ℕ → Type 0) (setup : Setup) (bad : Bool) (a r r' 
 unfolding far_end
 with_end P Q setup bad a r r' x e e' s s' read end ends last so = (
   far_end setup bad a r r' x e e' s s' read end ends so.0,
-  rw append-nil (last so.0.0 so.1),
+  subst (λ (l : List ℕ). Q l) (sym (append-nil so.0.0)) (last so.0.0 so.1),
 )
 
 -- what holds whatever was written

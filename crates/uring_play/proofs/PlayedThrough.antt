@@ -1,5 +1,5 @@
 -- A play in which all went through: its trace published all items, and nothing is left.
-use Rattle.std.proofs.Common.{◌≡◌, ℕ, ◌+◌, Bool, true, List, [], ◌∷◌, ◌++◌, ◌<◌, get_or, length, map, flat_map, sum, Option, Some, None, Result, inl, inr, refl, sym, ap, ◌∙◌, subst, arith, append-nil}
+use Rattle.std.proofs.Common.{◌≡◌, ℕ, ◌+◌, Bool, true, List, [], ◌∷◌, ◌++◌, ◌<◌, length, map, flat_map, sum, Option, Some, None, Result, inl, inr, refl, sym, ap, ◌∙◌, arith, append-nil}
 use Rattle.std.specs.Prelude.{unwrap_or}
 use Rattle.std.proofs.lemmas.List.{get_or-map, length-map}
 use Rattle.std.proofs.lemmas.List.Sums.{sum_by_push, sum_by-cons}
@@ -35,18 +35,13 @@ use Rattle.uring_play.specs.Totals.{accepted_in, accepted_of}
 closed_after : (g : Setup) (results : List JobResult) (h : History)
     → (world g (history_of (map finish_of results) ++ h)).is_closed ≡ (world g h).is_closed
 closed_after g [] h = refl
-closed_after g (r ∷ results) h =
-    ap (λ (k : History). (world g k).is_closed) (history_of_cons (finish_of r) (map finish_of results) h) ∙ closed_after g results (finish_of r ∷ h)
+closed_after g (r ∷ results) h = rw (history_of_cons (finish_of r) (map finish_of results) h) (closed_after g results (finish_of r ∷ h))
 
 closed_later : (g : Setup) (trace : List Event) (results : List JobResult)
     → (world g (history_of (trace ++ map finish_of results))).is_closed
     ≡ (world g (history_of trace)).is_closed
 closed_later g trace results =
-    let both = history_of_append trace (map finish_of results) [] in
-    let none = append-nil (history_of (trace ++ map finish_of results)) in
-    let first = append-nil (history_of trace) in
-    ap (λ (k : History). (world g k).is_closed) (sym none ∙ both ∙ ap (λ (k : History). history_of (map finish_of results) ++ k) first)
-    ∙ closed_after g results (history_of trace)
+    cc (history_of_append trace (map finish_of results) [], append-nil (history_of (trace ++ map finish_of results)), append-nil (history_of trace), closed_after g results (history_of trace))
 
 -- ---- all went through
 
@@ -69,22 +64,15 @@ pub over_is_play : (calls : List (List Item)) (app : AppEnd) (kernel : Kernel) (
     → IsPlay kernel.kept.setup calls r.trace completions
 over_is_play calls app kernel workers r completions over all =
     let results = all_waiting kernel.lanes workers in
-    let shut : (left_by r).is_closed ≡ true =
-    ap (λ (s : Setup). (world s (history_of r.trace)).is_closed) over.setup
-    ∙ ap (λ (t : List Event). (world kernel.kept.setup (history_of t)).is_closed) over.trace
-    ∙ closed_later kernel.kept.setup kernel.kept.trace results
-    ∙ over.idle.closed
-    in
+    let shut : (left_by r).is_closed ≡ true = rw (over.setup, over.trace) (closed_later kernel.kept.setup kernel.kept.trace results ∙ over.idle.closed) in
     let went = over.closed shut in
     let calls_are : app.submitted.calls ≡ calls = ap (λ (p : Put). p.calls) over.submitted in
-    let published =
-    sym (append-nil _) ∙ ap (λ (u : List Item). published_items (left_by r).submission ++ all_published_as u) (sym went.unsent) ∙ over.items
-    ∙ ap (λ (cs : List (List Item)). all_published_as (items_of_calls cs)) calls_are
+    let published : published_items (left_by r).submission ≡ all_published_as (items_of_calls calls) =
+        sym (append-nil _) ∙ rw went.unsent at over.items ∙ ap (λ cs. all_published_as (items_of_calls cs)) calls_are
     in
     let reaped = sym over.reaped ∙ sym all in
-    let posted = sym over.posted ∙ ap (λ (w : List Cqe). (left_by r).completions.reaped ++ w) over.none_waits ∙ append-nil _ ∙ reaped in
-    subst (λ (s : Setup). IsPlay s calls r.trace completions) over.setup
-    (record {
+    let posted = sym over.posted ∙ rw over.none_waits (append-nil _) ∙ reaped in
+    rw (← over.setup) (record {
       lawful = over.lawful;
       published = published;
       cut = went.calls ∙ ap (flat_map (calls_of r.setup)) calls_are;
@@ -120,29 +108,22 @@ told_all : (events : List Event) (h : History)
     ≡ sum (told accepted_by h) + accepted_in events
 told_all [] h = omega arith
 told_all (e ∷ events) h =
-    let later = told_all events (e ∷ h) in
-    let one = told_one (told accepted_by h) (accepted_by e) in
-    let head = sum_by-cons accepted_of e events in
-    ap (λ (k : History). sum (told accepted_by k)) (history_of_cons e events h) ∙ omega (arith, later, one, head)
+    rw (history_of_cons e events h) (omega (arith, told_all events (e ∷ h), told_one (told accepted_by h) (accepted_by e), sum_by-cons accepted_of e events))
 
 -- the calls of a lawful trace accepted as many requests as there are
 pub accepted_total : (g : Setup) (trace : List Event) → IsLawful g (history_of trace)
     → accepted_in trace ≡ length (world g (history_of trace)).requests.accepted
 accepted_total g trace lawful =
     let direct = direct_requests g (history_of trace) (lawful_apart g (history_of trace) lawful) in
-    let all = told_all trace [] in
-    let none = append-nil (history_of trace) in
-    let counted : sum (told accepted_by (history_of trace ++ [])) ≡ length (world g (history_of trace)).requests.accepted = ap (λ (k : History). sum (told accepted_by k)) none ∙ direct.counted in
-    omega (arith, all, counted)
+    let all = rw (append-nil (history_of trace)) at (told_all trace []) in
+    omega (arith, all, direct.counted)
 
 -- ---- the ends after their threads
 
 -- there are still as many workers
 pub as_many : (before after : List Worker) → StayWorkers before after
     → length after ≡ length before
-as_many before after so =
-    let count : Worker → ℕ = λ w. length w.files in
-    sym (length-map after count) ∙ ap length so.files ∙ length-map before count
+as_many before after so = cc (so.files, length-map after (λ (w : Worker). length w.files), length-map before (λ (w : Worker). length w.files))
 
 -- the ends are still all of one set-up
 pub still_together : {app app_after : AppEnd} {kernel kernel_after : Kernel} {workers workers_after : List Worker}
@@ -158,9 +139,5 @@ still_together {workers = workers} {workers_after = workers_after} t applies sta
       lanes = so.lanes ∙ t.lanes ∙ sym stays.lanes;
       files = λ k e low.
           let before : k < length workers = omega (arith, low, many) in
-          sym (get_or-map count workers_after k e (count e) low)
-          ∙ ap (λ (ns : List ℕ). get_or ns k (count e)) so.files
-          ∙ get_or-map count workers k e (count e) before
-          ∙ t.files k e before
-          ∙ ap (λ (s : Setup). s.files) (sym stays.setup);
+          cc (get_or-map count workers_after k e (count e) low, so.files, get_or-map count workers k e (count e) before, t.files k e before, stays.setup);
     }

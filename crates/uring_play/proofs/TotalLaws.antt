@@ -1,5 +1,5 @@
 -- What a trace says of its calls, event by event.
-use Rattle.std.proofs.Common.{◌≡◌, ℕ, ◌+◌, ◌<◌, List, [], ◌∷◌, ◌++◌, length, take, get_or, Option, Some, None, refl, sym, ap, ◌∙◌}
+use Rattle.std.proofs.Common.{◌≡◌, arith, ℕ, ◌+◌, ◌<◌, List, [], ◌∷◌, ◌++◌, length, take, get_or, Some, None, refl, ◌∙◌}
 use Rattle.std.specs.Prelude.{unwrap_or}
 use Rattle.std.proofs.lemmas.List.{take_more}
 use Rattle.uring_core.specs.Histories.{Event}
@@ -14,22 +14,21 @@ dropped_append before (d ∷ es) e = dropped_append (unwrap_or (dropped_by d.1) 
 
 dropped_more : (trace : List Event) (i : ℕ) (e : Event) → i < length trace → e ≡ get_or trace i e
     → dropped_last (take (i + 1) trace) ≡ unwrap_or (dropped_by e.1) (dropped_last (take i trace))
-dropped_more trace i e lt is = ap dropped_last (take_more trace i e lt ∙ ap (λ (x : Event). take i trace ++ x ∷ []) (sym is)) ∙ dropped_append 0 (take i trace) e
+dropped_more trace i e lt is = cc (take_more trace i e lt, dropped_append 0 (take i trace) e)
 
 -- an event that closes a call
 pub closed_more : (trace : List Event) (i : ℕ) (e : Event) (count so : ℕ) → i < length trace
     → e ≡ get_or trace i e → dropped_by e.1 ≡ Some count → so ≡ count
     → so ≡ dropped_last (take (i + 1) trace)
-closed_more trace i e count so lt is told s = s ∙ ap (λ (o : Option ℕ). unwrap_or o (dropped_last (take i trace))) (sym told) ∙ sym (dropped_more trace i e lt is)
+closed_more trace i e count so lt is told s = rw (dropped_more trace i e lt is, told) s
 
 not_taken : (a : Answer) → ((accepted dropped head : ℕ) → a ≡ answer.Taken accepted dropped head → ⊥)
     → dropped_by a ≡ None
-not_taken (answer.Taken accepted dropped head) other = absurd (other accepted dropped head refl)
-not_taken _ other = refl
+not_taken a other = grind arith
 
 -- another event
 pub other_more : (trace : List Event) (i : ℕ) (e : Event) (old so : ℕ) → i < length trace
     → e ≡ get_or trace i e
     → ((accepted dropped head : ℕ) → e.1 ≡ answer.Taken accepted dropped head → ⊥) → so ≡ old
     → old ≡ dropped_last (take i trace) → so ≡ dropped_last (take (i + 1) trace)
-other_more trace i e old so lt is other s h = s ∙ h ∙ ap (λ (o : Option ℕ). unwrap_or o (dropped_last (take i trace))) (sym (not_taken e.1 other)) ∙ sym (dropped_more trace i e lt is)
+other_more trace i e old so lt is other s h = rw (dropped_more trace i e lt is, not_taken e.1 other) (s ∙ h)

@@ -1,9 +1,10 @@
 -- All bytes tell something.
-use Rattle.std.proofs.Common.{◌≡◌, ℕ, zero, suc, ◌+◌, ◌*◌, ◌-◌, ◌<◌, ◌≤◌, ◌^◌, ltb, eqb, List, [], ◌∷◌, ◌++◌, length, take, drop, get_or, Option, Some, None, Ok, Err, refl, sym, ap, subst, ◌∙◌, append_assoc, arith, length-append, length-drop, reverse, ◌⊎◌, inl, inr}
+use Rattle.std.proofs.Common.{◌≡◌, ℕ, zero, suc, ◌+◌, ◌*◌, ◌<◌, ◌≤◌, ◌^◌, ltb, eqb, List, [], ◌∷◌, ◌++◌, length, take, drop, get_or, Option, Some, None, Ok, Err, refl, sym, ap, subst, ◌∙◌, append_assoc, arith, length-drop, reverse, ◌⊎◌, inl, inr}
 use mathlib.Core.List.{head-eq_of_cons-eq}
-use Rattle.uring_play_text.proofs.Common.{AllByRecursion, AreWords, Goes, IsBadLine, IsBadWord, IsItemLine, IsNoBadWord, IsNoItem, IsTold, Item, MatchOption, PlayFault, SpellsItem, Splits, Sqe, Tells, Told, append-nil, bytes_of, cases_Bool, codes, eqb-false, eqb-true, header, length-take, ltb-false, ltb-true, nil_from_length, one_call, padded, replicate, reverse-append, take-append-drop, true≢false, with_last}
+use Rattle.uring_play_text.proofs.Common.{AllByRecursion, AreWords, Goes, IsBadLine, IsBadWord, IsItemLine, IsNoBadWord, IsNoItem, IsTold, Item, MatchOption, PlayFault, SpellsItem, Splits, Sqe, Tells, Told, append-nil, bytes_of, cases_Bool, codes, eqb-false, eqb-true, header, length-take, ltb-false, ltb-true, nil_from_length, one_call, padded, reverse-append, take-append-drop, true≢false, with_last}
 use Rattle.std.specs.Str.{bytes_eq}
 use Rattle.std.specs.Int.{w64, to_le_bytes, from_le_bytes}
+use Rattle.std.proofs.lemmas.List.{places}
 use Rattle.std.proofs.lemmas.Nat.{le_bytes_8}
 use Rattle.std.proofs.lemmas.Slice.Eq.{bytes_eq-Decides}
 use Rattle.uring_entry.specs.declared.operation.opcode.TheConstants.{WRITE}
@@ -25,60 +26,33 @@ use Rattle.uring_play_text.proofs.ScriptLaws.{at_start, so_far, blank_more, item
 -- ---- each form has an entry
 
 abbrev AreSmall : List ℕ → Type 0
-AreSmall bytes = AllByRecursion (λ b. b < 256) bytes
+AreSmall bytes = (i : ℕ) → get_or bytes i 0 < 256
 
-byte_at : (bytes : List ℕ) (i : ℕ) → AreSmall bytes → get_or bytes i 0 < 256
-byte_at [] i h = omega arith
-byte_at (b ∷ bytes) zero h = h.0
-byte_at (b ∷ bytes) (suc i) h = byte_at bytes i h.1
-
-small_take : (n : ℕ) (bytes : List ℕ) → AreSmall bytes → AreSmall (take n bytes)
-small_take zero bytes h = tt
-small_take (suc n) [] h = tt
-small_take (suc n) (b ∷ bytes) h = (h.0, small_take n bytes h.1)
-
-small_drop : (n : ℕ) (bytes : List ℕ) → AreSmall bytes → AreSmall (drop n bytes)
-small_drop zero bytes h = h
-small_drop (suc n) [] h = tt
-small_drop (suc n) (b ∷ bytes) h = small_drop n bytes h.1
-
-small_append : (a b : List ℕ) → AreSmall a → AreSmall b → AreSmall (a ++ b)
-small_append [] b h k = k
-small_append (x ∷ a) b h k = (h.0, small_append a b h.1 k)
-
-abbrev zeros : ℕ → List ℕ
-zeros n = replicate n 0
-
-zeros_length : (n : ℕ) → length (zeros n) ≡ n
-zeros_length zero = refl
-zeros_length (suc n) = ap (λ m. suc m) (zeros_length n)
-
-small_zeros : (n : ℕ) → AreSmall (zeros n)
-small_zeros zero = tt
-small_zeros (suc n) = (omega arith, small_zeros n)
+all_small : (bytes : List ℕ) → AllByRecursion (λ b. b < 256) bytes → AreSmall bytes
+all_small [] h i = omega arith
+all_small (b ∷ bytes) h zero = h.0
+all_small (b ∷ bytes) h (suc i) = all_small bytes h.1 i
 
 -- the word that eight bytes hold
 word_of : (bytes : List ℕ) → length bytes ≡ 8 → AreSmall bytes
     → (w : ℕ) × (w < 2 ^ 64) × (to_le_bytes w64 w ≡ bytes)
-word_of (a ∷ b ∷ c ∷ d ∷ e ∷ f ∷ g ∷ h ∷ []) l s = (from_le_bytes w64 (a ∷ b ∷ c ∷ d ∷ e ∷ f ∷ g ∷ h ∷ []), omega (arith, s.0, s.1.0, s.1.1.0, s.1.1.1.0, s.1.1.1.1.0, s.1.1.1.1.1.0, s.1.1.1.1.1.1.0, s.1.1.1.1.1.1.1.0), le_bytes_8 (a ∷ b ∷ c ∷ d ∷ e ∷ f ∷ g ∷ h ∷ []) _ l (λ i. byte_at (a ∷ b ∷ c ∷ d ∷ e ∷ f ∷ g ∷ h ∷ []) i s) refl)
-word_of [] l s = absurd (omega arith)
-word_of (a ∷ []) l s = absurd (omega arith)
-word_of (a ∷ b ∷ []) l s = absurd (omega arith)
-word_of (a ∷ b ∷ c ∷ []) l s = absurd (omega arith)
-word_of (a ∷ b ∷ c ∷ d ∷ []) l s = absurd (omega arith)
-word_of (a ∷ b ∷ c ∷ d ∷ e ∷ []) l s = absurd (omega arith)
-word_of (a ∷ b ∷ c ∷ d ∷ e ∷ f ∷ []) l s = absurd (omega arith)
-word_of (a ∷ b ∷ c ∷ d ∷ e ∷ f ∷ g ∷ []) l s = absurd (omega arith)
-word_of (a ∷ b ∷ c ∷ d ∷ e ∷ f ∷ g ∷ h ∷ i ∷ more) l s = absurd (omega arith)
+word_of bytes l s =
+    (from_le_bytes w64 bytes, omega (arith, s 0, s 1, s 2, s 3, s 4, s 5, s 6, s 7), le_bytes_8 bytes _ l s refl)
+
+left_small : (n : ℕ) (bytes : List ℕ) → AreSmall bytes → AreSmall (drop n bytes)
+left_small n bytes s i = grind (arith, places, s (n + i))
+
+part_small : (n : ℕ) (bytes : List ℕ) → AreSmall bytes → AreSmall (take n bytes)
+part_small n bytes s i = grind (arith, places, s i)
 
 -- the words that bytes are
 words_of : (n : ℕ) (bytes : List ℕ) → length bytes ≡ 8 * n → AreSmall bytes
     → (ws : List ℕ) × (length ws ≡ n) × AreWords ws × (bytes_of ws ≡ bytes)
 words_of zero bytes l s = ([], refl, tt, sym (nil_from_length bytes (omega arith)))
 words_of (suc n) bytes l s =
-    let first = word_of (take 8 bytes) (omega (arith, length-take 8 bytes)) (small_take 8 bytes s) in
-    let rest = words_of n (drop 8 bytes) (omega (arith, length-drop 8 bytes)) (small_drop 8 bytes s) in
-    (first.0 ∷ rest.0, ap (λ m. suc m) rest.1, (first.1, rest.2), ap (λ (l : List ℕ). l ++ bytes_of rest.0) first.2 ∙ ap (λ (l : List ℕ). take 8 bytes ++ l) rest.3 ∙ take-append-drop 8 bytes)
+    let first = word_of (take 8 bytes) (omega (arith, length-take 8 bytes)) (part_small 8 bytes s) in
+    let rest = words_of n (drop 8 bytes) (omega (arith, length-drop 8 bytes)) (left_small 8 bytes s) in
+    (first.0 ∷ rest.0, ap (λ m. suc m) rest.1, (first.1, rest.2), cc (first.2, rest.3, take-append-drop 8 bytes))
 
 -- each form whose tokens say these parts has an entry
 entry_of : (n : Name) (tokens : List (List ℕ)) (p : Parts) → SayParts (kinds_of n) tokens p
@@ -86,13 +60,12 @@ entry_of : (n : Name) (tokens : List (List ℕ)) (p : Parts) → SayParts (kinds
 entry_of name.Write tokens p h =
     let are = data_said tokens p h in
     let most : length p.bytes ≤ 64 = are.enough in
-    let words = words_of 8 (padded p.bytes) (omega (arith, length-append p.bytes (zeros (64 - length p.bytes)), zeros_length (64 - length p.bytes))) (small_append p.bytes _ are.each (small_zeros (64 - length p.bytes))) in
+    let each = all_small p.bytes are.each in
+    let words = words_of 8 (padded p.bytes) (grind (arith, places)) (λ i. grind (arith, places, each i)) in
     (header WRITE p.flags p.fd p.off 0 (length p.bytes) p.user_data ++ words.0, record { size = omega (arith, words.1); first = refl; rest = words.2; payload = words.3 })
 entry_of name.Raw tokens p h =
     let are = entry_said tokens p h in
-    let few : 128 ≤ length p.bytes = are.few in
-    let most : length p.bytes ≤ 128 = are.enough in
-    let words = words_of 16 p.bytes (omega arith) are.each in
+    let words = words_of 16 p.bytes (omega (arith, are.few, are.enough)) (all_small p.bytes are.each) in
     (words.0, record { size = words.1; words = words.2; all = words.3 })
 entry_of _ tokens p h = (_, refl)
 
@@ -119,14 +92,12 @@ IsBadNamed tokens token = tokens ≡ codes "bad" ∷ token ∷ []
 named_or : (tokens : List (List ℕ))
     → ((token : List ℕ) × IsBadNamed tokens token)
     ⊎ ((token : List ℕ) → IsBadNamed tokens token → ⊥)
-named_or [] = inr (λ token e. absurd (let no : [] ≡ codes "bad" ∷ token ∷ [] = e in cc))
-named_or (t ∷ []) = inr (λ token e. absurd (let no : t ∷ [] ≡ codes "bad" ∷ token ∷ [] = e in cc))
-named_or (t ∷ u ∷ v ∷ more) = grind arith
 named_or (t ∷ u ∷ []) =
     elim (cases_Bool (bytes_eq t (codes "bad"))) [
       | inl is ↦ inl (u, ap (λ (l : List ℕ). l ∷ u ∷ []) ((bytes_eq-Decides t (codes "bad")).0 is))
       | inr not ↦ inr (λ token e. absurd (true≢false (sym ((bytes_eq-Decides t (codes "bad")).1 (head-eq_of_cons-eq e)) ∙ not)))
     ]
+named_or _ = grind arith
 
 item_or : (size : ℕ) (tokens : List (List ℕ))
     → ((i : Item) × SpellsItem size tokens i) ⊎ IsNoItem size tokens
@@ -138,30 +109,21 @@ item_or size tokens =
       ]
       | inr other ↦ elim (entry_or tokens (form_of tokens) refl) [
         | inl e ↦ inl (item.Entry e.0, e.1)
-        | inr none ↦ inr (no_item size tokens other none)
+        | inr none ↦ inr (λ i h. elim i as (λ j. SpellsItem size tokens j → ⊥) [ item.Entry e ↦ none e | item.Bad w ↦ λ k. other k.0 k.1 ] h)
       ]
     ]
-  where
-    no_item : (size : ℕ) (tokens : List (List ℕ)) → ((token : List ℕ) → IsBadNamed tokens token → ⊥) → IsNoEntry tokens → IsNoItem size tokens
-    no_item size tokens other none (item.Entry e) h = none e h
-    no_item size tokens other none (item.Bad w) h = other h.0 h.1
 
 line_or : (size : ℕ) (line : List ℕ)
     → (line ≡ []) ⊎ (((i : Item) × IsItemLine size line i) ⊎ IsBadLine size line)
 line_or size [] = inl refl
 line_or size (b ∷ line) =
     elim (cases_Bool (ltb 300 (length (b ∷ line)))) [
-      | inl long ↦ inr (inr (record { some = λ e. absurd (let no : b ∷ line ≡ [] = e in cc); none = λ i h. too_long (b ∷ line) i (ltb-true 300 (length (b ∷ line)) long) h }))
+      | inl long ↦ inr (inr (record { some = λ e. absurd (let no : b ∷ line ≡ [] = e in cc); none = λ i h. omega (arith, ltb-true 300 (length (b ∷ line)) long, h.short) }))
       | inr short ↦ elim (item_or size (tokens_of (b ∷ line))) [
         | inl i ↦ inr (inl (i.0, record { short = ltb-false 300 (length (b ∷ line)) short; spells = i.1 }))
         | inr none ↦ inr (inr (record { some = λ e. absurd (let no : b ∷ line ≡ [] = e in cc); none = λ i h. none i h.spells }))
       ]
     ]
-  where
-    too_long : (line : List ℕ) (i : Item) → 300 < length line → IsItemLine size line i → ⊥
-    too_long line i lt h =
-        let le : length line ≤ 300 = h.short in
-        absurd (omega arith)
 
 -- ---- all lines
 

@@ -4,17 +4,13 @@ use mathlib.Core.List.{head-eq_of_cons-eq, tail-eq_of_cons-eq}
 use Rattle.uring_play_text.proofs.Common.{IsItemLine, IsNoBadWord, IsNoItem, Item, SpellsItem, Sqe, codes, is_blank, ne_eqb}
 use Rattle.uring_text.specs.Tokens.{tokens_of}
 use Rattle.uring_text.specs.Spelling.{SpellsNumber}
-use Rattle.uring_text.specs.Forms.{name_text, SpellsEntry}
-use Rattle.uring_text.specs.declared.forms.Name.{Name}
+use Rattle.uring_text.specs.Forms.{SpellsEntry}
 use Rattle.uring_text.proofs.Spellings.{number_once, spelled_once}
 
 -- no form is named so
 
-no_form : (n : Name) (rest tokens : List (List ℕ)) → codes "bad" ∷ rest ≡ name_text n ∷ tokens → ⊥
-no_form n rest tokens e = grind arith
-
 pub no_entry : (rest : List (List ℕ)) (entry : Sqe) → SpellsEntry (codes "bad" ∷ rest) entry → ⊥
-no_entry rest entry h = no_form h.form.name rest h.spells.0 h.spells.1
+no_entry rest entry h = grind (arith, h.form.name, h.spells.1)
 
 -- `bad` and a token that is no such word
 pub bad_is_none : (size : ℕ) (token : List ℕ) (tokens : List (List ℕ))
@@ -43,10 +39,7 @@ item_line size text line tokens i same short are h = grind arith
 
 -- an empty line is no item
 
-empty_spells : (size : ℕ) (i : Item) → SpellsItem size ([] ∷ []) i → ⊥
-empty_spells size i h = grind arith
-
 pub item_not_blank : (size : ℕ) (line : List ℕ) (i : Item) → IsItemLine size line i
     → is_blank line ≡ false
-item_not_blank size [] i h = absurd (empty_spells size i h.spells)
+item_not_blank size [] i h = grind (arith, h.spells)
 item_not_blank size (b ∷ line) i h = ne_eqb (length (b ∷ line)) 0 (λ e. omega arith)

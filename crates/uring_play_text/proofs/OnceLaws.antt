@@ -1,9 +1,10 @@
 -- Lines tell one thing at most.
-use Rattle.std.proofs.Common.{◌≡◌, ℕ, ◌<◌, ◌≤◌, Bool, false, cond, List, [], ◌∷◌, ◌++◌, length, Ok, Err, refl, ap, subst, ◌∙◌, arith, ◌⊎◌, inl, inr}
-use Rattle.uring_play_text.proofs.Common.{AreCalls, AreItemLines, HasLines, IsBadFirst, IsBadLine, IsCall, IsItemLine, IsLongFirst, IsTold, Item, PlayFault, Reaches, SpellsCalls, Tells, Told, blocks_of, is_blank, last_block, ne_eqb, onto_first, open_block, slice_split}
-use Rattle.std.proofs.lemmas.List.Splits.{slice_split-cons_no, length-slice_split}
+use Rattle.std.proofs.Common.{◌≡◌, ℕ, ◌<◌, ◌≤◌, Bool, false, List, [], ◌∷◌, ◌++◌, length, Ok, Err, refl, ap, subst, ◌∙◌, arith, ◌⊎◌, inl, inr}
+use Rattle.uring_play_text.proofs.Common.{AreCalls, AreItemLines, IsBadLine, IsCall, IsItemLine, IsTold, Item, Reaches, SpellsCalls, Tells, Told, blocks_of, is_blank, last_block, ne_eqb, onto_first, open_block, slice_split}
+use Rattle.std.proofs.lemmas.List.Splits.{slice_split-cons_no}
 use Rattle.uring_text.proofs.LineLaws.{split_once}
 use Rattle.uring_play_text.specs.declared.play_fault.PlayFault.TheVariants as fault
+use Rattle.uring_play_text.proofs.CallLaws.{some_part}
 use Rattle.uring_play_text.proofs.ItemLaws.{line_once, item_not_blank}
 
 abbrev Line : Type 0
@@ -17,21 +18,16 @@ Block = List (List ℕ)
 items_once : (size : ℕ) (lines : Block) (a b : List Item) → AreItemLines size lines a
     → AreItemLines size lines b → a ≡ b
 items_once size [] [] [] h k = refl
-items_once size [] [] (j ∷ b) h k = absurd k
-items_once size [] (i ∷ a) b h k = absurd h
-items_once size (l ∷ lines) [] b h k = absurd h
-items_once size (l ∷ lines) (i ∷ a) [] h k = absurd k
-items_once size (l ∷ lines) (i ∷ a) (j ∷ b) h k = ap (λ (x : Item). x ∷ a) (line_once size l i j h.0 k.0) ∙ ap (λ (xs : List Item). j ∷ xs) (items_once size lines a b h.1 k.1)
+items_once size (l ∷ lines) (i ∷ a) (j ∷ b) h k = cc (line_once size l i j h.0 k.0, items_once size lines a b h.1 k.1)
+items_once size _ _ _ h k = grind arith
 
 calls_once : (size : ℕ) (blocks : List Block) (a b : List (List Item)) → AreCalls size blocks a
     → AreCalls size blocks b → a ≡ b
 calls_once size [] [] [] h k = refl
-calls_once size [] [] (d ∷ b) h k = absurd k
-calls_once size [] (c ∷ a) b h k = absurd h
 calls_once size ([] ∷ blocks) a b h k = calls_once size blocks a b h k
-calls_once size ((l ∷ lines) ∷ blocks) [] b h k = absurd h
-calls_once size ((l ∷ lines) ∷ blocks) (c ∷ a) [] h k = absurd k
-calls_once size ((l ∷ lines) ∷ blocks) (c ∷ a) (d ∷ b) h k = ap (λ (x : List Item). x ∷ a) (items_once size (l ∷ lines) c d h.0.lines_are k.0.lines_are) ∙ ap (λ (xs : List (List Item)). d ∷ xs) (calls_once size blocks a b h.1 k.1)
+calls_once size ((l ∷ lines) ∷ blocks) (c ∷ a) (d ∷ b) h k =
+    cc (items_once size (l ∷ lines) c d h.0.lines_are k.0.lines_are, calls_once size blocks a b h.1 k.1)
+calls_once size _ _ _ h k = grind arith
 
 -- ---- a line among others that spell calls
 
@@ -41,27 +37,12 @@ glue [] b bs = b ∷ bs
 glue (a ∷ []) b bs = (a ++ b) ∷ bs
 glue (a ∷ c ∷ parts) b bs = a ∷ glue (c ∷ parts) b bs
 
-glue_nil : {X : Type 0} (parts : List (List X)) (b : List X) (bs : List (List X)) → 0 < length parts
-    → [] ∷ glue parts b bs ≡ glue ([] ∷ parts) b bs
-glue_nil parts b bs lt = grind arith
-
-glue_first : {X : Type 0} (x : X) (parts : List (List X)) (b : List X) (bs : List (List X))
-    → 0 < length parts → onto_first x (glue parts b bs) ≡ glue (onto_first x parts) b bs
-glue_first x parts b bs lt = grind arith
-
-module _ {X : Type 0} (p : X → Bool) where
-  some_part : (xs : List X) → 0 < length (slice_split p xs)
-  some_part xs = omega (arith, length-slice_split p xs)
-
-  glue_of : (c : Bool) (x : X) (parts : List (List X)) (b : List X) (bs : List (List X)) → 0 < length parts → cond c ([] ∷ glue parts b bs) (onto_first x (glue parts b bs)) ≡ glue (cond c ([] ∷ parts) (onto_first x parts)) b bs
-  glue_of c x parts b bs lt = grind arith
-
-  -- an element that doesn't cut, among others
-  pub split_among : (xs : List X) (y : X) (ys : List X) (b : List X) (bs : List (List X))
-      → p y ≡ false → slice_split p ys ≡ b ∷ bs
-      → slice_split p (xs ++ y ∷ ys) ≡ glue (slice_split p xs) (y ∷ b) bs
-  split_among [] y ys b bs keeps e = slice_split-cons_no p y ys keeps ∙ ap (λ (l : List (List X)). onto_first y l) e
-  split_among (x ∷ xs) y ys b bs keeps e = ap (λ (l : List (List X)). cond (p x) ([] ∷ l) (onto_first x l)) (split_among xs y ys b bs keeps e) ∙ glue_of (p x) x (slice_split p xs) (y ∷ b) bs (some_part xs)
+-- an element that doesn't cut, among others
+split_among : {X : Type 0} (p : X → Bool) (xs : List X) (y : X) (ys : List X) (b : List X) (bs : List (List X))
+    → p y ≡ false → slice_split p ys ≡ b ∷ bs
+    → slice_split p (xs ++ y ∷ ys) ≡ glue (slice_split p xs) (y ∷ b) bs
+split_among p [] y ys b bs keeps e = slice_split-cons_no p y ys keeps ∙ ap (onto_first y) e
+split_among p (x ∷ xs) y ys b bs keeps e = grind (arith, (split_among p xs y ys b bs keeps e), (some_part p xs))
 
 some_list : {X : Type 0} (l : List X) → 0 < length l → (x : X) × (xs : List X) × (l ≡ x ∷ xs)
 some_list [] lt = absurd (omega arith)
@@ -86,15 +67,12 @@ of_call size a line b items h = grind (arith, among)
 inside : (size : ℕ) (blocks : List Block) (line : Line) (b : Block) (bs : List Block) (calls : List (List Item))
     → 0 < length blocks → AreCalls size (glue blocks (line ∷ b) bs) calls
     → Has size (last_block blocks) line
-inside size [] line b bs calls lt h = absurd (omega arith)
-inside size ([] ∷ []) line b bs [] lt h = absurd h
 inside size ([] ∷ []) line b bs (c ∷ calls) lt h = of_call size [] line b c h.0
-inside size ((l ∷ a) ∷ []) line b bs [] lt h = absurd h
 inside size ((l ∷ a) ∷ []) line b bs (c ∷ calls) lt h = of_call size (l ∷ a) line b c h.0
-inside size ([] ∷ c ∷ blocks) line b bs calls lt h = grind (arith, (inside size (c ∷ blocks) line b bs calls (omega arith) h))
-inside size ((l ∷ a) ∷ c ∷ blocks) line b bs [] lt h = absurd h
+inside size ([] ∷ c ∷ blocks) line b bs calls lt h = inside size (c ∷ blocks) line b bs calls (omega arith) h
 inside size ((l ∷ a) ∷ c ∷ blocks) line b bs (d ∷ calls) lt h =
     inside size (c ∷ blocks) line b bs calls (omega arith) h.1
+inside size _ line b bs _ lt h = absurd (grind arith)
 
 -- a line that isn't empty is an item for which its call has a place
 good : (size : ℕ) (before : Block) (line : Line) (after : Block) (calls : List (List Item))
@@ -102,7 +80,7 @@ good : (size : ℕ) (before : Block) (line : Line) (after : Block) (calls : List
     → Has size (open_block before) line
 good size before line after calls keeps h =
     let parts = some_list (blocks_of after) (some_part is_blank after) in
-    inside size (blocks_of before) line parts.0 parts.1 calls (some_part is_blank before) (subst (λ (l : List Block). AreCalls size l calls) (split_among is_blank before line after parts.0 parts.1 keeps parts.2) h)
+    inside size (blocks_of before) line parts.0 parts.1 calls (some_part is_blank before) (rw (split_among is_blank before line after parts.0 parts.1 keeps parts.2) at h)
 
 -- the line is faulty after these lines
 abbrev IsFaulty : ℕ → Block → Line → Type 0
@@ -115,67 +93,46 @@ not_blank (b ∷ line) some = ne_eqb (length (b ∷ line)) 0 (λ e. omega arith)
 
 no_fault : (size : ℕ) (before : Block) (line : Line) (after : Block) (calls : List (List Item))
     → SpellsCalls size (before ++ line ∷ after) calls → IsFaulty size before line → ⊥
-no_fault size before line after calls h (inl bad) = grind (arith, good, not_blank)
-no_fault size before line after calls h (inr long) = grind (arith, good, item_not_blank)
+no_fault size before line after calls h faulty = grind (arith, good, not_blank, item_not_blank)
 
 -- ---- the first faulty line stands at one place
 
-heads : (x y : Line) (a b : Block) → x ∷ a ≡ y ∷ b → x ≡ y
-heads x y a b e = cc
-
-tails : (x y : Line) (a b : Block) → x ∷ a ≡ y ∷ b → a ≡ b
-tails x y a b e = cc
-
 places : (b : Block) (l : Line) (a c : Block) (m : Line) (d : Block) → b ++ l ∷ a ≡ c ++ m ∷ d
     → ((b ≡ c) × (l ≡ m)) ⊎ (((x : Block) × (c ≡ b ++ l ∷ x)) ⊎ ((x : Block) × (b ≡ c ++ m ∷ x)))
-places [] l a [] m d e = inl (refl, heads l m a d e)
+places [] l a [] m d e = inl (refl, cc)
 places [] l a (y ∷ c) m d e = grind arith
-places (x ∷ b) l a [] m d e = inr (inr (b, ap (λ (z : Line). z ∷ b) (heads x m (b ++ l ∷ a) d e)))
-places (x ∷ b) l a (y ∷ c) m d e = grind (arith, heads, (places b l a c m d (tails x y (b ++ l ∷ a) (c ++ m ∷ d) e)))
+places (x ∷ b) l a [] m d e = inr (inr (b, cc))
+places (x ∷ b) l a (y ∷ c) m d e = grind (arith, (places b l a c m d cc))
 
 same_place : (size : ℕ) (lines : Block) (j k : ℕ) (r : Reaches size lines j) (s : Reaches size lines k)
     → IsFaulty size r.before r.line → IsFaulty size s.before s.line
     → (j ≡ k) × (r.before ≡ s.before) × (r.line ≡ s.line)
 same_place size lines j k r s f g = grind (arith, places, no_fault)
 
-not_both : (size : ℕ) (lines : Block) (j k : ℕ) → IsBadFirst size lines j → IsLongFirst size lines k
-    → ⊥
-not_both size lines j k h l = grind (arith, (same_place size lines j k h.0 l.0 (inl h.1) (inr (l.1, l.2, l.3))))
-
 not_calls : (size : ℕ) (lines : Block) (calls : List (List Item)) (k : ℕ) (r : Reaches size lines k)
     → IsFaulty size r.before r.line → SpellsCalls size lines calls → ⊥
 not_calls size lines calls k r f h = no_fault size r.before r.line r.after calls (subst (λ (b : Block). SpellsCalls size b calls) r.all h) f
 
-abbrev made : PlayFault → Told
-made f = Err f
-
-abbrev spelled : List (List Item) → Told
-spelled calls = Ok calls
-
 lines_once : (size : ℕ) (lines : Block) (a b : Told) → Tells size lines a → Tells size lines b
     → a ≡ b
-lines_once size lines (Ok a) (Ok b) h k = ap spelled (calls_once size (blocks_of lines) a b h k)
+lines_once size lines (Ok a) (Ok b) h k = cc (calls_once size (blocks_of lines) a b h k)
 lines_once size lines (Ok a) (Err (fault.Line j)) h k = grind (arith, (not_calls size lines a j k.0 (inl k.1) h))
 lines_once size lines (Ok a) (Err (fault.Long j)) h k = grind (arith, (not_calls size lines a j k.0 (inr (k.1, k.2, k.3)) h))
 lines_once size lines (Err (fault.Line i)) (Ok b) h k = grind (arith, (not_calls size lines b i h.0 (inl h.1) k))
 lines_once size lines (Err (fault.Long i)) (Ok b) h k = grind (arith, (not_calls size lines b i h.0 (inr (h.1, h.2, h.3)) k))
-lines_once size lines (Err (fault.Line i)) (Err (fault.Line j)) h k =
-    ap (λ (n : ℕ). made (fault.Line n)) (same_place size lines i j h.0 k.0 (inl h.1) (inl k.1)).0
-lines_once size lines (Err (fault.Long i)) (Err (fault.Long j)) h k = ap (λ (n : ℕ). made (fault.Long n)) (same_place size lines i j h.0 k.0 (inr (h.1, h.2, h.3)) (inr (k.1, k.2, k.3))).0
-lines_once size lines (Err (fault.Line i)) (Err (fault.Long j)) h k = grind (arith, (not_both size lines i j h k))
-lines_once size lines (Err (fault.Long i)) (Err (fault.Line j)) h k = grind (arith, (not_both size lines j i k h))
-lines_once size lines (Err fault.Read) b h k = absurd h
-lines_once size lines (Err fault.Write) b h k = absurd h
-lines_once size lines (Err fault.Memory) b h k = absurd h
-lines_once size lines a (Err fault.Read) h k = absurd k
-lines_once size lines a (Err fault.Write) h k = absurd k
-lines_once size lines a (Err fault.Memory) h k = absurd k
-
-one_list : (bytes : List ℕ) (lines others : Block) → HasLines bytes lines → HasLines bytes others
-    → lines ≡ others
-one_list bytes lines others h k = grind (arith, (split_once bytes h.ended k.ended h.rest k.rest h.splits k.splits))
+lines_once size lines (Err (fault.Line i)) (Err (fault.Line j)) h k = cc ((same_place size lines i j h.0 k.0 (inl h.1) (inl k.1)).0)
+lines_once size lines (Err (fault.Long i)) (Err (fault.Long j)) h k =
+    cc ((same_place size lines i j h.0 k.0 (inr (h.1, h.2, h.3)) (inr (k.1, k.2, k.3))).0)
+lines_once size lines (Err (fault.Line i)) (Err (fault.Long j)) h k =
+    grind (arith, (same_place size lines i j h.0 k.0 (inl h.1) (inr (k.1, k.2, k.3))))
+lines_once size lines (Err (fault.Long i)) (Err (fault.Line j)) h k =
+    grind (arith, (same_place size lines j i k.0 h.0 (inl k.1) (inr (h.1, h.2, h.3))))
+lines_once size lines _ _ h k = absurd (grind arith)
 
 -- bytes tell one thing at most
 pub told_once : (size : ℕ) (bytes : List ℕ) (a b : Told) → IsTold size bytes a → IsTold size bytes b
     → a ≡ b
-told_once size bytes a b h k = lines_once size k.0 a b (subst (λ (l : Block). Tells size l a) (one_list bytes h.0 k.0 h.1 k.1) h.2) k.2
+told_once size bytes a b h k =
+    let split = split_once bytes h.1.ended k.1.ended h.1.rest k.1.rest h.1.splits k.1.splits in
+    let same : h.0 ≡ k.0 = cc (split.0, split.1, h.1.all, k.1.all) in
+    lines_once size k.0 a b (rw same at h.2) k.2

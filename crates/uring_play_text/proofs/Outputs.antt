@@ -1,5 +1,5 @@
 -- The text of completions, line by line.
-use Rattle.std.proofs.Common.{◌≡◌, ℕ, ◌+◌, ◌<◌, List, [], ◌∷◌, ◌++◌, length, take, get_or, refl, sym, subst, ap, ◌∙◌, append_assoc}
+use Rattle.std.proofs.Common.{◌≡◌, ℕ, ◌+◌, ◌<◌, List, [], ◌∷◌, ◌++◌, length, take, get_or, refl, sym, ◌∙◌, append_assoc}
 use Rattle.uring_play_text.proofs.Common.{Cqe, append-nil, ended, take_more}
 use Rattle.uring_text.specs.Completions.{completion_text}
 use Rattle.uring_play_text.specs.Outputs.{Writes, counts_text, lines_text}
@@ -15,28 +15,22 @@ use Rattle.uring_play_text.specs.declared.play_fault.PlayFault.{PlayFault}
 lines_append : (cs : List Cqe) (c : Cqe)
     → lines_text (cs ++ c ∷ []) ≡ lines_text cs ++ ended (completion_text c)
 lines_append [] c = append-nil (ended (completion_text c))
-lines_append (d ∷ cs) c = ap (λ (l : List ℕ). ended (completion_text d) ++ l) (lines_append cs c) ∙ sym (append_assoc (ended (completion_text d)) (lines_text cs) (ended (completion_text c)))
+lines_append (d ∷ cs) c = rw (lines_append cs c) (sym (append_assoc (ended (completion_text d)) (lines_text cs) (ended (completion_text c))))
 
 -- one line more
 pub line_more : (cs : List Cqe) (i : ℕ) (c : Cqe) (before so mid after : List ℕ) → i < length cs
     → c ≡ get_or cs i c → so ≡ before ++ lines_text (take i cs) → mid ≡ so ++ completion_text c
     → after ≡ mid ++ 10 ∷ [] → after ≡ before ++ lines_text (take (i + 1) cs)
 line_more cs i c before so mid after lt is a b d =
-    let taken : take (i + 1) cs ≡ take i cs ++ c ∷ [] = take_more cs i c lt ∙ ap (λ (x : Cqe). take i cs ++ x ∷ []) (sym is) in
-    let line : after ≡ so ++ ended (completion_text c) = d ∙ ap (λ (l : List ℕ). l ++ 10 ∷ []) b ∙ append_assoc so (completion_text c) (10 ∷ []) in
-    line ∙ ap (λ (l : List ℕ). l ++ ended (completion_text c)) a ∙ append_assoc before (lines_text (take i cs)) (ended (completion_text c)) ∙ ap (λ (l : List ℕ). before ++ l) (sym (ap lines_text taken ∙ lines_append (take i cs) c))
-
-whole_text : {none lines all bytes : List ℕ} (cs : List Cqe) (taken dropped : ℕ) → none ≡ []
-    → lines ≡ none ++ lines_text cs → all ≡ lines ++ counts_text taken dropped → bytes ≡ all
-    → bytes ≡ lines_text cs ++ counts_text taken dropped
-whole_text cs taken dropped a b d e = e ∙ d ∙ ap (λ (l : List ℕ). l ++ counts_text taken dropped) (b ∙ ap (λ (l : List ℕ). l ++ lines_text cs) a)
+    let line : after ≡ so ++ ended (completion_text c) = cc (append_assoc so (completion_text c) (10 ∷ [])) in
+    cc (append_assoc before (lines_text (take i cs)) (ended (completion_text c)), take_more cs i c lt, lines_append (take i cs) c)
 
 -- the text of all, in an empty text, is written
 pub wrote : {none lines all bytes : List ℕ} (cs : List Cqe) (taken dropped : ℕ) (before after : Option (List ℕ))
     → none ≡ [] → lines ≡ none ++ lines_text cs → all ≡ lines ++ counts_text taken dropped → bytes ≡ all
     → (written : List ℕ) × Appends before after written × (written ≡ bytes)
     → Writes (Ok tt) before after (lines_text cs ++ counts_text taken dropped)
-wrote cs taken dropped before after a b d e w = (w.0, w.1, w.2 ∙ whole_text cs taken dropped a b d e)
+wrote cs taken dropped before after a b d e w = (w.0, w.1, w.2 ∙ rw (e, d, b, a))
 
 -- a part of it is
 pub wrote_part : {none lines all bytes : List ℕ} (cs : List Cqe) (taken dropped : ℕ) (before after : Option (List ℕ)) (f : TraceFault)
@@ -44,10 +38,10 @@ pub wrote_part : {none lines all bytes : List ℕ} (cs : List Cqe) (taken droppe
     → (written : List ℕ) × Appends before after written × WritesText (Err f) bytes written
     → Writes (Err fault.Write) before after (lines_text cs ++ counts_text taken dropped)
 wrote_part cs taken dropped before after f a b d e w =
-    (w.0, w.1, (w.2.1, w.2.2, sym (whole_text cs taken dropped a b d e) ∙ w.2.3))
+    (w.0, w.1, (w.2.1, w.2.2, rw (e, d, b, a) at w.2.3))
 
 -- nothing is written
 pub unwritten : (answer : Result (Unit {0}) PlayFault) (before : Option (List ℕ)) (text : List ℕ)
     → IsErrAnd answer (λ f. f ≡ fault.Memory) → Writes answer before before text
 unwritten (Ok done) before text h = absurd h
-unwritten (Err f) before text h = subst (λ (x : PlayFault). Writes (Err x) before before text) (sym h) ([], Appends-nil before, refl)
+unwritten (Err f) before text h = rw h ([], Appends-nil before, refl)

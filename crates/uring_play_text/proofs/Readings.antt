@@ -37,7 +37,7 @@ took_line size kept old new given before is takes h = record {
   line = [];
   splits = split_end before h.ended h.line h.splits;
   keeps = refl;
-  gathers = subst (λ (l : List (List ℕ)). Gathers size l new) (sym (reverse-append (h.line ∷ []) h.ended)) (takes size (reverse h.ended) h.line (is h.line h.keeps) h.gathers);
+  gathers = rw (reverse-append (h.line ∷ []) h.ended) (takes size (reverse h.ended) h.line (is h.line h.keeps) h.gathers);
 }
 
 -- a byte of the line
@@ -59,12 +59,10 @@ Answer = Result (Vec (Vec Item Global) Global) PlayFault
 
 returned : (size : ℕ) (bytes : List ℕ) (lines : List (List ℕ)) (answer : Answer)
     → HasLines bytes lines → Returns size lines answer → IsReturned size bytes answer
-returned size bytes lines (Ok calls) are h = (lines, are, h)
-returned size bytes lines (Err (fault.Line k)) are h = (lines, are, h)
-returned size bytes lines (Err (fault.Long k)) are h = (lines, are, h)
 returned size bytes lines (Err fault.Read) are h = tt
 returned size bytes lines (Err fault.Memory) are h = tt
 returned size bytes lines (Err fault.Write) are h = absurd h
+returned size bytes lines _ are h = (lines, are, h)
 
 -- a last line that has begun
 pub ended_last : (size : ℕ) (kept : KeptLine) (old new : Script) (given : Option (Bor (List ℕ))) (answer : Answer) (bytes : List ℕ)
@@ -73,10 +71,9 @@ pub ended_last : (size : ℕ) (kept : KeptLine) (old new : Script) (given : Opti
     → ((size : ℕ) (lines : List (List ℕ)) → Gathers size lines new → Returns size lines answer)
     → Holds size kept old bytes → IsReturned size bytes answer
 ended_last size kept old new given answer bytes is some takes ends h =
-    let lines : List (List ℕ) = reverse (h.line ∷ h.ended) in
     let all : reverse (with_last h.ended h.line) ≡ reverse (h.line ∷ h.ended) = ap (λ (l : List (List ℕ)). reverse l) (last_some h.ended h.line (some h.line h.keeps)) in
-    let gathers : Gathers size (reverse (h.line ∷ h.ended)) new = subst (λ (l : List (List ℕ)). Gathers size l new) (sym (reverse-append (h.line ∷ []) h.ended)) (takes size (reverse h.ended) h.line (is h.line h.keeps) h.gathers) in
-    returned size bytes (reverse (h.line ∷ h.ended)) answer (record { ended = h.ended; rest = h.line; splits = h.splits; all = sym all }) (ends size (reverse (h.line ∷ h.ended)) gathers)
+    returned size bytes (reverse (h.line ∷ h.ended)) answer (record { ended = h.ended; rest = h.line; splits = h.splits; all = sym all })
+    (ends size (reverse (h.line ∷ h.ended)) (rw (reverse-append (h.line ∷ []) h.ended) (takes size (reverse h.ended) h.line (is h.line h.keeps) h.gathers)))
 
 -- no last line has begun
 pub ended_none : (size : ℕ) (kept : KeptLine) (script : Script) (answer : Answer) (bytes : List ℕ)
@@ -86,15 +83,6 @@ pub ended_none : (size : ℕ) (kept : KeptLine) (script : Script) (answer : Answ
 ended_none size kept script answer bytes none ends h =
     let all : reverse (with_last h.ended h.line) ≡ reverse h.ended = ap (λ (l : List ℕ). reverse (with_last h.ended l)) (none h.line h.keeps) in
     returned size bytes (reverse h.ended) answer (record { ended = h.ended; rest = h.line; splits = h.splits; all = sym all }) (ends size (reverse h.ended) h.gathers)
-
--- a fault that comes early says nothing of lines
-pub early_returned : (size : ℕ) (bytes : List ℕ) (f : PlayFault) → IsEarly f
-    → IsReturned size bytes (Err f)
-early_returned size bytes fault.Read h = tt
-early_returned size bytes fault.Memory h = tt
-early_returned size bytes fault.Write h = absurd h
-early_returned size bytes (fault.Line k) h = absurd h
-early_returned size bytes (fault.Long k) h = absurd h
 
 -- ---- the reader
 
@@ -136,36 +124,34 @@ read_failed size a r s so = (so.0, so.1, tt)
 
 ends_at : (answer : Answer) (size : ℕ) (bytes : List ℕ) (left : Known)
     → IsReturned size bytes answer → IsAtEnd left → ReadsAll answer left
-ends_at (Ok calls) size bytes left h end = end
-ends_at (Err (fault.Line k)) size bytes left h end = end
-ends_at (Err (fault.Long k)) size bytes left h end = end
 ends_at (Err fault.Read) size bytes left h end = tt
 ends_at (Err fault.Memory) size bytes left h end = tt
 ends_at (Err fault.Write) size bytes left h end = absurd h
+ends_at _ size bytes left h end = end
 
 pub whole_read : (setup : Setup) (answer : Answer) (a r : Known) (s : Reading)
     → ((size : ℕ) (bytes : List ℕ) → Has size s bytes → IsReturned size bytes answer)
     → (bytes : List ℕ) × Consumes a r bytes × (Has setup.sq s bytes × IsAtEnd r)
     → ReadsCalls setup answer a r
 whole_read setup answer a r s ends so =
-    let told : IsReturned setup.sq so.0 answer = ends setup.sq so.0 so.2.0 in
+    let told = ends setup.sq so.0 so.2.0 in
     record { bytes = so.0; consumed = so.1; returned = told; whole = ends_at answer setup.sq so.0 r told so.2.1 }
 
-early_all : (f : PlayFault) (left : Known) → IsEarly f → ReadsAll (Err f) left
-early_all fault.Read left h = tt
-early_all fault.Memory left h = tt
-early_all fault.Write left h = absurd h
-early_all (fault.Line k) left h = absurd h
-early_all (fault.Long k) left h = absurd h
+-- a fault that comes early says nothing of lines, nor of what is left
+early_said : (size : ℕ) (bytes : List ℕ) (f : PlayFault) (left : Known) → IsEarly f
+    → IsReturned size bytes (Err f) × ReadsAll (Err f) left
+early_said size bytes fault.Read left h = (tt, tt)
+early_said size bytes fault.Memory left h = (tt, tt)
+early_said size bytes _ left h = absurd h
 
 pub stopped : (setup : Setup) (answer : Answer) (f : PlayFault) (a r : Known) (s : Reading)
     → answer ≡ Err f → ReadsIn setup.sq (Err f) a r s → ReadsCalls setup answer a r
 stopped setup answer f a r s is so =
-    let told : ReadsCalls setup (Err f) a r = record { bytes = so.0; consumed = so.1; returned = early_returned setup.sq so.0 f so.2; whole = early_all f r so.2 } in
-    subst (λ (x : Answer). ReadsCalls setup x a r) (sym is) told
+    let said = early_said setup.sq so.0 f r so.2 in
+    rw is (record { bytes = so.0; consumed = so.1; returned = said.0; whole = said.1 })
 
 -- nothing was read
 pub unread : (setup : Setup) (answer : Answer) (a : Known) → IsErrAnd answer (λ f. f ≡ fault.Memory)
     → ReadsCalls setup answer a a
 unread setup (Ok calls) a h = absurd h
-unread setup (Err f) a h = subst (λ (x : PlayFault). ReadsCalls setup (Err x) a a) (sym h) (record { bytes = []; consumed = Consumes-nil a; returned = tt; whole = tt })
+unread setup (Err f) a h = rw h (record { bytes = []; consumed = Consumes-nil a; returned = tt; whole = tt })

@@ -88,20 +88,9 @@ pub fault_stays : (size : ℕ) (lines : List (List ℕ)) (line : List ℕ) (f : 
     → Tells size lines (Err f) → Tells size (lines ++ line ∷ []) (Err f)
 fault_stays size lines line (fault.Line k) h = (reaches_more size lines line k h.0, h.1)
 fault_stays size lines line (fault.Long k) h = (reaches_more size lines line k h.0, h.1, h.2, h.3)
-fault_stays size lines line fault.Read h = absurd h
-fault_stays size lines line fault.Write h = absurd h
-fault_stays size lines line fault.Memory h = absurd h
+fault_stays size lines line _ h = absurd h
 
 -- ---- over scripts
-
-moved : (size : ℕ) (lines : List (List ℕ)) (f f' : Option PlayFault) (n n' : ℕ) (calls calls' : List (List Item)) (call call' : List Item)
-    → f' ≡ f → n' ≡ n → calls' ≡ calls → call' ≡ call → IsAt size lines f n calls call
-    → IsAt size lines f' n' calls' call'
-moved size lines f f' n n' calls calls' call call' a b c d h = rw (a, b, c, d) h
-
-goes : (size : ℕ) (lines : List (List ℕ)) (f : Option PlayFault) (n : ℕ) (calls : List (List Item)) (call : List Item)
-    → f ≡ None → IsAt size lines f n calls call → Goes size lines n calls call
-goes size lines f n calls call none h = rw none at h
 
 pub took_blank : (old new : Script) (number : ℕ) → old.fault ≡ None → number ≡ old.number + 1
     → EndsCall (record old { number = number }) new
@@ -115,19 +104,15 @@ pub took_item : (old new : Script) (number : ℕ) (i : Item) → old.fault ≡ N
     → Gathers size lines old → Gathers size (lines ++ text ∷ []) new
 took_item old new number i none next (inl a) size lines text is h = grind (arith, item_more)
 took_item old new number i none next (inr a) size lines text is h =
-    let g : Goes size lines old.number (lists_of old.calls.items) old.call.items = goes size lines old.fault _ _ _ none h.1 in
-    let here : IsItemLine size text i = subst (λ (n : ℕ). IsItemLine n text i) h.0 is in
-    let full : size ≤ length old.call.items = subst (λ (n : ℕ). n ≤ length old.call.items) h.0 a.0 in
-    let long : IsLongFirst size (lines ++ text ∷ []) number = subst (IsLongFirst size (lines ++ text ∷ [])) (sym next) (long_first size lines text _ _ _ i here full g) in
-    (ap (λ (s : Script). s.size) a.1 ∙ h.0, moved size (lines ++ text ∷ []) (Some (fault.Long number)) new.fault _ new.number _ (lists_of new.calls.items) _ new.call.items (ap (λ (s : Script). s.fault) a.1) refl refl refl long)
+    let g : Goes size lines old.number (lists_of old.calls.items) old.call.items = rw none at h.1 in
+    rw a.1 (h.0, rw next (long_first size lines text _ _ _ i (rw h.0 at is) (rw h.0 at a.0) g))
 
 pub took_bad : (old : Script) (number : ℕ) → old.fault ≡ None → number ≡ old.number + 1
     → (size : ℕ) (lines : List (List ℕ)) (text : List ℕ) → IsBadLine old.size text
     → Gathers size lines old → IsBadFirst size (lines ++ text ∷ []) number
 took_bad old number none next size lines text bad h =
-    let g : Goes size lines old.number (lists_of old.calls.items) old.call.items = goes size lines old.fault _ _ _ none h.1 in
-    let here : IsBadLine size text = subst (λ (n : ℕ). IsBadLine n text) h.0 bad in
-    subst (IsBadFirst size (lines ++ text ∷ [])) (sym next) (bad_first size lines text _ _ _ here g)
+    let g : Goes size lines old.number (lists_of old.calls.items) old.call.items = rw none at h.1 in
+    rw next (bad_first size lines text _ _ _ (rw h.0 at bad) g)
 
 -- a script with a fault keeps it
 pub stays : (size : ℕ) (lines : List (List ℕ)) (text : List ℕ) (f : Option PlayFault) (n : ℕ) (calls : List (List Item)) (call : List Item)
