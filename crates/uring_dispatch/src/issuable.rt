@@ -26,6 +26,7 @@ impl Outstanding {
     }
 
     /// How many requests can be issued.
+    #[tactic(auto, using(crate::proofs::Counting::block_counted))]
     pub(crate) fn count(&self) -> u64
         ensures { (r : Requests) → Shows self.now.grouped r
             → result ≡ length (issuables_of r) }
@@ -59,6 +60,7 @@ impl Outstanding {
 
 impl Grouped {
     /// The number below which the heads of groups are ready: the first group that drains begins there, or ends there if nothing before it is outstanding.
+    #[tactic(auto, using(crate::proofs::IssuableLemmas::limit_none, crate::proofs::IssuableLemmas::limit_begins, crate::proofs::IssuableLemmas::limit_ends))]
     pub(crate) fn limit(&self) -> u64
         ensures { (r : Requests) → Shows self.now r
             → IsLimit self.now.window self.now.groups r result }

@@ -94,6 +94,7 @@ impl Grouped {
     }
 
     /// Whether the cancel `n` of these user data may choose request `m`.
+    #[tactic(auto, using(crate::proofs::HeldLemmas::candidate_else))]
     fn is_candidate(&self, n: u64, m: u64, user_data: u64) -> bool
         ensures candidate { (r : Requests) → Shows self.now r → user_data ≡ addr_of (entry_of r n)
             → result ≡ spec.is_candidate r n m }

@@ -75,6 +75,7 @@ impl Grouped {
     }
 
     /// Why request `n` waits for `m`, an earlier one, if it does.
+    #[tactic(auto, using(crate::proofs::WhyHeld::since_is, crate::proofs::WhyHeld::joined_held))]
     fn since(&self, n: u64, request: &Request, m: u64) -> Since
         requires there { at self.now.window n ≡ Some request.now }
         requires earlier { m < n }

@@ -37,6 +37,7 @@ impl Model for Blocks {
 
 impl Blocks {
     /// The empty set. It takes no memory.
+    #[tactic(auto, using(crate::proofs::BlockLemmas::block_of_past))]
     pub(crate) fn new(alloc: Global) -> Blocks
         ensures none { (i : ℕ) → block_at result i ≡ 0 }
         ensures start { start_of result ≡ 0 }
@@ -91,6 +92,7 @@ impl Blocks {
     }
 
     /// The block at this place.
+    #[tactic(auto, using(crate::proofs::BlockLemmas::block_of_past))]
     pub(crate) fn block(&self, place: u64) -> u64
         ensures value { result ≡ block_at self.now place }
         ensures fits { 0 < result → 64 * place + 64 ≤ 2 ^ 64 }
@@ -129,6 +131,7 @@ impl Blocks {
     }
 
     /// The place of the first block from this one on that isn't zero.
+    #[tactic(auto, using(crate::proofs::BlockLemmas::block_of_low, crate::proofs::BlockLemmas::block_of_high))]
     fn first_filled(&self, from: u64) -> Option<u64>
         ensures { MatchOption result ((i : ℕ) → from ≤ i → block_at self.now i ≡ 0)
             (IsFirstBlock self.now from) }

@@ -36,6 +36,7 @@ impl Model for NumberSet {
 
 impl NumberSet {
     /// The empty set, which covers no number. It takes no memory.
+    #[tactic(auto, using(crate::proofs::BlockLemmas::holds_zero))]
     pub fn new(alloc: Global) -> NumberSet
         ensures none { (n : ℕ) → holds result n ≡ false }
         ensures start { start_of result ≡ 0 }
@@ -129,6 +130,7 @@ impl NumberSet {
     }
 
     /// Which of the 64 numbers from 64 times this place on are in the set: a bit for each, that of the least number the lowest.
+    #[tactic(auto, using(crate::proofs::BlockLemmas::holds_block))]
     pub fn block(&self, place: u64) -> u64
         ensures { (i : ℕ) → i < 64 → holds self.now (64 * place + i) ≡ (bit_at result i == 1) }
     {

@@ -48,6 +48,7 @@ pub fn put_call(lane: &mut Producer<Message, Global, WholeCalls>, items: &[Item]
 }
 
 /// Puts the close mark, if there is room for it.
+#[tactic(auto, using(crate::proofs::MessageSteps::sends_close, crate::proofs::MessageSteps::close_may_follow, crate::proofs::MessageSteps::places))]
 pub fn put_close(lane: &mut Producer<Message, Global, WholeCalls>) -> bool
     requires whole { AreWhole (sent lane.old) }
     requires open { has_close_mark (sent lane.old) ≡ false }

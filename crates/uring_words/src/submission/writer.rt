@@ -146,6 +146,7 @@ impl CallWriter {
     }
 
     /// Puts the close mark, if there is room for it.
+    #[tactic(auto, using(crate::proofs::CallLemmas::holds_close, crate::proofs::CallLemmas::places))]
     pub fn put_close(&mut self) -> bool
         requires rests { WriterRests self.old.knows.app }
         requires open { has_close_mark self.old.knows.app.published ≡ false }

@@ -6,9 +6,6 @@ use Rattle.uring_dispatch.proofs.ByData.{found_next, found_past}
 use Rattle.uring_dispatch.proofs.by_user_data.ByUserData.fill.Goals as goal
 use Rattle.uring_dispatch.proofs.by_user_data.ByUserData.fill.Goals.{in-Some, in_default}
 
-pub loop-n-init : goal.loop-n-init
-loop-n-init c = record { found = c.requires; stop = refl; places = omega arith }
-
 pub loop-n-preserved : goal.loop-n-preserved
 loop-n-preserved c =
     let i = c.loop-n.invariant in
@@ -29,10 +26,3 @@ loop-n-preserved c =
             places = omega (arith, i.places, i.stop);
           })
     ]
-
-pub returns-clause-full : goal.returns-clause-full
-returns-clause-full c =
-    omega (arith, c.loop-n.invariant.found.stop, c.loop-n.invariant.stop, c.end-n-end.ensures.value)
-
-pub returns-clause-fits : goal.returns-clause-fits
-returns-clause-fits c = omega (arith, c.end-n-end.ensures.limit, c.end-n-end.ensures.value)

@@ -1,13 +1,7 @@
-use Rattle.std.proofs.Common.{sym, ◌∙◌, refl, ap, is_some}
+use Rattle.std.proofs.Common.{sym, ◌∙◌, ap, is_some}
 use Rattle.uring_dispatch.proofs.Common.{drain_of}
-use Rattle.uring_dispatch.proofs.WhyHeld.{since_is, joined_held, joined_apart, draining_kept}
+use Rattle.uring_dispatch.proofs.WhyHeld.{since_is, joined_apart, draining_kept}
 use Rattle.uring_dispatch.proofs.grouped.Grouped.since.Goals as goal
-
-pub returns-then-other-request : goal.returns-then-other-request
-returns-then-other-request c = λ r h.
-    since_is r c.args.n c.args.m _ _
-    (joined_held c.args.self.now.sound h c.requires.there (sym c.in-Some.ensures) c.requires.earlier c.if-other-request.true)
-    refl
 
 pub returns-then-is_some : goal.returns-then-is_some
 returns-then-is_some c = λ r h.

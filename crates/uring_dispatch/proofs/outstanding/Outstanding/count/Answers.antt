@@ -1,4 +1,4 @@
-use Rattle.std.proofs.Common.{◌≡◌, ◌+◌, ◌*◌, sym, ◌∙◌, ap, refl, arith, count_ones}
+use Rattle.std.proofs.Common.{◌≡◌, ◌+◌, ◌*◌, sym, ◌∙◌, refl, arith, count_ones}
 use Rattle.uring_dispatch.proofs.Common.{can_go, count_below}
 use Rattle.uring_dispatch.proofs.Counting.{block_counted, count_below_within}
 use Rattle.uring_dispatch.proofs.IssuableLemmas.{count_start, count_end}
@@ -14,12 +14,6 @@ overflow_add-total c =
     let so_far : c.loop-place.total ≡ count_below (can_go c.args.self.now.waiting c.limit-limit.result) (64 * c.loop-place.place) = c.loop-place.invariant in
     let ones : c.from-total.result ≡ count_ones c.block.result = c.from-total.ensures in
     omega (arith, c.end.ensures.limit)
-
-pub loop-place-preserved : goal.loop-place-preserved
-loop-place-preserved c =
-    let step = block_counted (can_go c.args.self.now.waiting c.limit-limit.result) c.block.result c.loop-place.place 64 refl c.block.type_inv c.block.ensures in
-    let so_far : c.loop-place.total ≡ count_below (can_go c.args.self.now.waiting c.limit-limit.result) (64 * c.loop-place.place) = c.loop-place.invariant in
-    ap (λ t. t + c.from-total.result) so_far ∙ ap (λ o. count_below (can_go c.args.self.now.waiting c.limit-limit.result) (64 * c.loop-place.place) + o) c.from-total.ensures ∙ sym step
 
 pub returns : goal.returns
 returns c = λ r h.
