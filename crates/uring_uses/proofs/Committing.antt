@@ -29,13 +29,9 @@ not_given_up (e ∷ earlier) w none = not_given_up earlier w none
 abbrev pub with_record : History → Write → ℕ → History
 with_record h w s = SyncEnded s ∷ SyncIssued s Whole ∷ WriteEnded w.number ∷ WriteIssued w ∷ h
 
-record_is_safe : (h : History) (w : Write) (s : ℕ) → has_ended h w.number ≡ false
-    → is_safe (with_record h w s) w ≡ true
-record_is_safe h w s none = grind (arith, not_from_false, not_given_up)
-
 pub record_is_kept : (h : History) (w : Write) (s : ℕ) → has_ended h w.number ≡ false
     → EndsBy w.off h → IsKept (with_record h w s) w
-record_is_kept h w s none after = grind (arith, record_is_safe)
+record_is_kept h w s none after = grind (arith, not_from_false, not_given_up)
 
 just_begun : (n : ℕ) (ns : List ℕ) → is_one_of n (ns ++ n ∷ []) ≡ true
 just_begun n ns = grind (arith, list_any-append, or_right)
@@ -69,15 +65,11 @@ committed v v1 v2 v3 v4 end bytes n s ran synced e1 number r e2 e3 sync t e4 =
       history = h4 ∙ ap (λ h. SyncEnded s ∷ h) (h3 ∙ ap (λ h. SyncIssued s Whole ∷ h) (h2 ∙ ap (λ h. WriteEnded n ∷ h) h1));
     }
 
--- a write of the next number hasn't ended
-next_is_open : (v : Volume) (n : ℕ) → IsSound v → n ≡ v.next → has_ended v.history n ≡ false
-next_is_open v n sound same = grind arith
-
 pub commit_keeps : (old new : Volume) (end : ℕ) (bytes : List ℕ) (n : ℕ) → IsSound old
     → EndsBy end old.history → IsCommitted old new end bytes n
     → IsKept new.history (record { number = n; off = end; bytes = bytes })
 commit_keeps old new end bytes n sound after made =
-    rw made.history (record_is_kept old.history (record { number = n; off = end; bytes = bytes }) made.s (next_is_open old n sound made.number) after)
+    rw made.history (record_is_kept old.history (record { number = n; off = end; bytes = bytes }) made.s (grind (arith, made.number)) after)
 
 pub commit_leaves : (old new : Volume) (end : ℕ) (bytes : List ℕ) (n : ℕ)
     → EndsBy end old.history → IsCommitted old new end bytes n

@@ -39,17 +39,6 @@ lawful_before : (g : Setup) (h later : History) → IsLawful g (later ++ h) → 
 lawful_before g h [] lawful = lawful
 lawful_before g h ((s, a) ∷ later) lawful = lawful_before g h later lawful.1
 
--- the first of some events comes before the others
-first_before : (g : Setup) (h : History) (e : Event) (events : List Event)
-    → IsLawful g (history_of (e ∷ events) ++ h)
-    → IsLawful g (history_of events ++ e ∷ h)
-first_before g h e events lawful = subst (λ k. IsLawful g k) (history_of_cons e events h) lawful
-
--- one more answer, the same in both
-one_more : (x y : Answer) (xs ys : List Answer) → x ≡ y → AreReplays xs ys
-    → AreReplays (x ∷ xs) (y ∷ ys)
-one_more x y xs ys same h = grind arith
-
 -- the same steps after the same history
 replayed : (g : Setup) (h : History) (steps : List Step) (xs ys : List Answer)
     → length xs ≡ length steps
@@ -57,24 +46,16 @@ replayed : (g : Setup) (h : History) (steps : List Step) (xs ys : List Answer)
     → IsLawful g (history_of (zip steps ys) ++ h)
     → AreReplays xs ys
 replayed g h [] [] [] m n p q = inl refl
-replayed g h [] [] (y ∷ ys) m n p q = absurd (omega (arith, n))
-replayed g h [] (x ∷ xs) ys m n p q = absurd (omega (arith, m))
-replayed g h (s ∷ steps) [] ys m n p q = absurd (omega (arith, m))
-replayed g h (s ∷ steps) (x ∷ xs) [] m n p q = absurd (omega (arith, n))
 replayed g h (s ∷ steps) (x ∷ xs) (y ∷ ys) m n p q =
-    let one : IsLawful g (history_of (zip steps xs) ++ (s, x) ∷ h) = first_before g h (s, x) (zip steps xs) p in
-    let two : IsLawful g (history_of (zip steps ys) ++ (s, y) ∷ h) = first_before g h (s, y) (zip steps ys) q in
+    let one : IsLawful g (history_of (zip steps xs) ++ (s, x) ∷ h) = rw history_of_cons at p in
+    let two : IsLawful g (history_of (zip steps ys) ++ (s, y) ∷ h) = rw history_of_cons at q in
     let first = (lawful_before g ((s, x) ∷ h) (history_of (zip steps xs)) one).0 in
     let second = (lawful_before g ((s, y) ∷ h) (history_of (zip steps ys)) two).0 in
     elim (called_same g (world g h) s x y first second) [
-      | inl same ↦
-          one_more x y xs ys same
-          (replayed g ((s, x) ∷ h) steps xs ys (omega (arith, m)) (omega (arith, n)) one (subst (λ a. IsLawful g (history_of (zip steps ys) ++ (s, a) ∷ h)) (sym same) two))
-      | inr refused ↦ elim refused [
-        | inl e ↦ inr (inl (or_left (is_out_of_memory x) (list_any is_out_of_memory xs) e))
-        | inr e ↦ inr (inr (or_left (is_out_of_memory y) (list_any is_out_of_memory ys) e))
-      ]
+      | inl same ↦ grind (arith, (replayed g ((s, x) ∷ h) steps xs ys (omega (arith, m)) (omega (arith, n)) one (rw (← same) at two)))
+      | inr refused ↦ grind (arith, or_left)
     ]
+replayed g h _ _ _ m n p q = absurd (omega (arith, m, n))
 
 -- the same steps from the beginning
 pub replayed_anew : (g : Setup) (steps : List Step) (xs ys : List Answer) → length xs ≡ length steps
@@ -82,5 +63,4 @@ pub replayed_anew : (g : Setup) (steps : List Step) (xs ys : List Answer) → le
     → IsLawful g (history_of (zip steps xs)) → IsLawful g (history_of (zip steps ys))
     → AreReplays xs ys
 replayed_anew g steps xs ys m n p q =
-    let anew : (answers : List Answer) → IsLawful g (history_of (zip steps answers)) → IsLawful g (history_of (zip steps answers) ++ []) = λ answers. subst (λ k. IsLawful g k) (sym (append-nil (history_of (zip steps answers)))) in
-    replayed g [] steps xs ys m n (anew xs p) (anew ys q)
+    replayed g [] steps xs ys m n (rw append-nil p) (rw append-nil q)

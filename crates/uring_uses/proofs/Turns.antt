@@ -116,12 +116,6 @@ turn_run p h n res bytes quiet outstanding fits =
       fewer = ended_less (with_started (world p.setup h).requests n) n res bytes outstanding;
     }
 
--- the parts as a turn leaves them have the set-up that they had
-next_told : (old asked : Core) (h : History) (a : Answer) → asked.setup ≡ old.setup
-    → FitsApart asked ((step.Next, a) ∷ h)
-    → a ≡ next_answer_of (by_rules.next_of old.setup.linux (requests_of (world old.setup h)))
-next_told old asked h a same fits = grind arith
-
 -- Next is answered
 pub turn_goes_on : (old asked : Core) (h : History) (a : Answer) → asked.setup ≡ old.setup
     → NoneRuns (world old.setup h)
@@ -130,7 +124,7 @@ pub turn_goes_on : (old asked : Core) (h : History) (a : Answer) → asked.setup
     → ⊥
 turn_goes_on old asked h a same quiet some fits other =
     let lawful : IsLawfulApart old.setup h = subst (λ g. IsLawfulApart g h) same fits.lawful.1 in
-    some_next old.setup.linux (requests_of (world old.setup h)) a (λ n least. least_goes_on old.setup h n lawful least) quiet some (next_told old asked h a same fits) other
+    some_next old.setup.linux (requests_of (world old.setup h)) a (λ n least. least_goes_on old.setup h n lawful least) quiet some (grind arith) other
 
 -- it can be issued after this history
 abbrev IsNext : Setup → History → ℕ → Type 0
@@ -141,7 +135,7 @@ named_waits : (old asked : Core) (h : History) (n : ℕ) (a : Answer) → asked.
     → a ≡ answer.Next n
     → FitsApart asked ((step.Next, a) ∷ h) → IsNext old.setup h n
 named_waits old asked h n a same named fits =
-    next_tells old.setup.linux (requests_of (world old.setup h)) n (sym named ∙ next_told old asked h a same fits)
+    next_tells old.setup.linux (requests_of (world old.setup h)) n (sym named ∙ grind arith)
 
 -- the next request ends as it is issued
 pub turn_issue : (old asked new : Core) (h : History) (n : ℕ) (a b : Answer)
@@ -172,16 +166,10 @@ pub turn_operation : (p : Core) (h : History) (n : ℕ) → IsStarted p h n
     → None ≡ operation_running (world p.setup ((step.Issue n, answer.Run) ∷ h)).requests n → ⊥
 turn_operation p h n started none = grind arith
 
--- and is finished
-finish_ended : (p : Core) (h : History) (n : ℕ) (d : Answer)
-    → IsWaiting (world p.setup h).requests n → NoneRuns (world p.setup h)
-    → IsEnded d → FitsApart p ((step.Finish n, d) ∷ (step.Issue n, answer.Run) ∷ h) → HasRun p h 1
-finish_ended p h n d waits quiet ended fits = grind (arith, turn_run)
-
 pub turn_finish : (ran new : Core) (h : History) (n : ℕ) (d : Answer) → new.setup ≡ ran.setup
     → IsStarted ran h n
     → FitsApart new ((step.Finish n, d) ∷ (step.Issue n, answer.Run) ∷ h) → HasRun new h 1
-turn_finish ran new h n d same started fits = grind (arith, finish_ended)
+turn_finish ran new h n d same started fits = grind (arith, turn_run)
 
 -- Many turns.
 
