@@ -64,10 +64,7 @@ issued_in_order (WriteIssued v ∷ earlier) l =
       | inl same ↦ l.0 x (of_issued earlier x left) (ap (λ y. y.number) same)
       | inr none ↦ none
     ])
-issued_in_order (WriteEnded n ∷ earlier) l = same_order (WriteEnded n ∷ earlier) earlier (issued earlier) (λ m k. refl) (issued_in_order earlier l)
-issued_in_order (SyncIssued n range ∷ earlier) l = same_order (SyncIssued n range ∷ earlier) earlier (issued earlier) (λ m k. refl) (issued_in_order earlier l)
-issued_in_order (SyncEnded n ∷ earlier) l = same_order (SyncEnded n ∷ earlier) earlier (issued earlier) (λ m k. refl) (issued_in_order earlier l)
-issued_in_order (SyncFailed n ∷ earlier) l = same_order (SyncFailed n ∷ earlier) earlier (issued earlier) (λ m k. refl) (issued_in_order earlier l)
+issued_in_order (e ∷ earlier) l = same_order (e ∷ earlier) earlier (issued earlier) (λ m k. refl) (issued_in_order earlier l)
 
 none_before_itself : (h : History) (w : Write) → IsLawful h → IsIn w (writes h)
     → is_before h w.number w.number ≡ false

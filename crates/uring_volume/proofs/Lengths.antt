@@ -13,32 +13,17 @@ use Rattle.uring_volume.proofs.Puts.{any_is, is_any, in_put_old, in_put_new, of_
 -- a write that is before another has ended
 pub before_ended : (h : History) (m n : ℕ) → is_before h m n ≡ true → has_ended h m ≡ true
 before_ended [] m n is = absurd (both_ways false refl is)
-before_ended (WriteIssued w ∷ earlier) m n is =
-    elim (or_cases (w.number == n && has_ended earlier m) (is_before earlier m n) is) [
-      | inl now ↦ (and_parts (w.number == n) (has_ended earlier m) now).1
-      | inr was ↦ before_ended earlier m n was
-    ]
+before_ended (WriteIssued w ∷ earlier) m n is = grind (arith, (before_ended earlier m n), or_cases, and_parts)
 before_ended (WriteEnded k ∷ earlier) m n is = or_right (k == m) (has_ended earlier m) (before_ended earlier m n is)
-before_ended (SyncIssued k range ∷ earlier) m n is = before_ended earlier m n is
-before_ended (SyncEnded k ∷ earlier) m n is = before_ended earlier m n is
-before_ended (SyncFailed k ∷ earlier) m n is = before_ended earlier m n is
+before_ended (e ∷ earlier) m n is = before_ended earlier m n is
 
 -- what is before a write that is before another is before that
 pub before_before : (h : History) (a b c : ℕ) → IsLawful h → is_before h a b ≡ true
     → is_before h b c ≡ true → is_before h a c ≡ true
 before_before [] a b c l ab bc = bc
 before_before (WriteIssued w ∷ earlier) a b c l ab bc =
-    elim (or_cases (w.number == c && has_ended earlier b) (is_before earlier b c) bc) [
-      | inl now ↦ grind (arith, or_cases, before_ended)
-      | inr was ↦ elim (or_cases (w.number == b && has_ended earlier a) (is_before earlier a b) ab) [
-        | inl here ↦ absurd (both_ways (has_ended earlier b) (subst (λ n. has_ended earlier n ≡ false) (eqb-true w.number b (and_parts (w.number == b) (has_ended earlier a) here).0) l.1) (before_ended earlier b c was))
-        | inr old ↦ or_right (w.number == c && has_ended earlier a) (is_before earlier a c) (before_before earlier a b c l.2 old was)
-      ]
-    ]
-before_before (WriteEnded k ∷ earlier) a b c l ab bc = before_before earlier a b c l ab bc
-before_before (SyncIssued k range ∷ earlier) a b c l ab bc = before_before earlier a b c l ab bc
-before_before (SyncEnded k ∷ earlier) a b c l ab bc = before_before earlier a b c l ab bc
-before_before (SyncFailed k ∷ earlier) a b c l ab bc = before_before earlier a b c l ab bc
+    grind (arith, or_cases, before_ended, eqb-true, (before_before earlier a b c l.2))
+before_before (e ∷ earlier) a b c l ab bc = before_before earlier a b c l ab bc
 
 -- The fewest that may be left.
 
