@@ -1,5 +1,5 @@
 -- What a choice leaves is an image, and each image is what some choice leaves.
-use Rattle.std.proofs.Common.{◌≡◌, ◌==◌, ◌/◌, ℕ, Bool, true, false, ◌&&◌, List, [], ◌∷◌, length, refl, sym, subst, ap, ◌∙◌, inl, inr}
+use Rattle.std.proofs.Common.{◌≡◌, ◌==◌, ◌/◌, ℕ, Bool, true, false, ◌&&◌, List, [], ◌∷◌, length, refl, sym, subst, ap, ◌∙◌, inl, inr, arith}
 use Rattle.uring_volume.proofs.Common.{ChosenIsImage, History, ImageIsChosen, IsChosen, IsImage, IsIn, IsInOrder, IsLawful, MayBeLeft, SyncEnded, SyncFailed, SyncIssued, Write, WriteEnded, WriteIssued, and_left, and_right, byte_over, chosen, filter, has_ended, is_before, is_on, issued, length_over, ne_eqb, or_from, or_parts, slice_index, writes}
 use Rattle.uring_volume.proofs.Units.{in_filter, of_filter, filter_in_order}
 use Rattle.uring_volume.proofs.Fitting.{in_left, in_right, in_either, append_in_order, FitsIn, chosen_fits, AreApart, apart_filter, numbers, fits_chosen}
@@ -8,9 +8,7 @@ use Rattle.uring_volume.proofs.Fitting.{in_left, in_right, in_either, append_in_
 
 pub in_issued : (h : History) (w : Write) → IsIn w (writes h) → IsIn w (issued h)
 in_issued [] w among = among
-in_issued (WriteIssued v ∷ earlier) w (inl same) = in_right w (issued earlier) (v ∷ []) (inl same)
-in_issued (WriteIssued v ∷ earlier) w (inr more) =
-    in_left w (issued earlier) (v ∷ []) (in_issued earlier w more)
+in_issued (WriteIssued v ∷ earlier) w among = grind (arith, in_left, in_right, (in_issued earlier w))
 in_issued (e ∷ earlier) w among = in_issued earlier w among
 
 pub of_issued : (h : History) (w : Write) → IsIn w (issued h) → IsIn w (writes h)
@@ -45,9 +43,8 @@ with_issue h v (w ∷ later) differ o =
 -- a write that hasn't ended is before none
 pub not_before : (h : History) (m n : ℕ) → has_ended h m ≡ false → is_before h m n ≡ false
 not_before [] m n open_yet = refl
-not_before (WriteIssued w ∷ earlier) m n open_yet =
-    or_from (w.number == n && has_ended earlier m) (is_before earlier m n) (and_right (w.number == n) (has_ended earlier m) open_yet) (not_before earlier m n open_yet)
-not_before (WriteEnded k ∷ earlier) m n open_yet = not_before earlier m n (or_parts (k == m) (has_ended earlier m) open_yet).1
+not_before (WriteIssued w ∷ earlier) m n open_yet = grind (arith, (not_before earlier m n))
+not_before (WriteEnded k ∷ earlier) m n open_yet = grind (arith, (not_before earlier m n))
 not_before (e ∷ earlier) m n open_yet = not_before earlier m n open_yet
 
 issued_in_order : (h : History) → IsLawful h → IsInOrder h (issued h)
@@ -69,11 +66,7 @@ issued_in_order (e ∷ earlier) l = same_order (e ∷ earlier) earlier (issued e
 none_before_itself : (h : History) (w : Write) → IsLawful h → IsIn w (writes h)
     → is_before h w.number w.number ≡ false
 none_before_itself [] w l among = refl
-none_before_itself (WriteIssued v ∷ earlier) w l (inl same) =
-    let open_yet : has_ended earlier w.number ≡ false = subst (λ y. has_ended earlier y.number ≡ false) (sym same) l.1 in
-    or_from (v.number == w.number && has_ended earlier w.number) (is_before earlier w.number w.number) (and_right (v.number == w.number) (has_ended earlier w.number) open_yet) (not_before earlier w.number w.number open_yet)
-none_before_itself (WriteIssued v ∷ earlier) w l (inr more) =
-    issue_apart earlier v w.number w.number (l.0 w more) (none_before_itself earlier w l.2 more)
+none_before_itself (WriteIssued v ∷ earlier) w l among = grind (arith, not_before, issue_apart, (none_before_itself earlier w l.2))
 none_before_itself (e ∷ earlier) w l among = none_before_itself earlier w l among
 
 pub one_number : (h : History) (x y : Write) → IsLawful h → IsIn x (writes h) → IsIn y (writes h)
@@ -100,23 +93,13 @@ pub left_of_fit : (h : History) (touches : Write → Bool) (rest order : List Wr
     → ((w : Write) → IsIn w rest → IsIn w (writes h) × (touches w ≡ true))
     → ((w : Write) → IsIn w (writes h) → touches w ≡ true → IsIn w rest)
     → FitsIn h rest order → MayBeLeft h touches order
-left_of_fit h touches rest order of into f = record {
-  issued = λ w among. of w (f.within w among);
-  safe = λ w among on safe. f.safe w (into w among on) safe;
-  with_those_before = λ m w among on kept before. f.closed m w (into m among on) kept before;
-  in_order = f.in_order;
-}
+left_of_fit h touches rest order of into f = grind arith
 
 pub fit_of_left : (h : History) (touches : Write → Bool) (rest order : List Write)
     → ((w : Write) → IsIn w rest → IsIn w (writes h) × (touches w ≡ true))
     → ((w : Write) → IsIn w (writes h) → touches w ≡ true → IsIn w rest)
     → MayBeLeft h touches order → FitsIn h rest order
-fit_of_left h touches rest order of into l = record {
-  within = λ w among. into w (l.issued w among).0 (l.issued w among).1;
-  safe = λ w among safe. l.safe w (of w among).0 (of w among).1 safe;
-  closed = λ m w among kept before. l.with_those_before m w (of m among).0 (of m among).1 kept before;
-  in_order = l.in_order;
-}
+fit_of_left h touches rest order of into l = grind arith
 
 pub on_of : (h : History) (touches : Write → Bool) (w : Write) → IsIn w (filter touches (issued h))
     → IsIn w (writes h) × (touches w ≡ true)
@@ -174,9 +157,7 @@ NameWrites h ns = (n : ℕ) → IsIn n ns → (w : Write) × IsIn w (writes h) �
 numbers_name : (h : History) (order : List Write) → ((w : Write) → IsIn w order → IsIn w (writes h))
     → NameWrites h (numbers order)
 numbers_name h [] known n among = absurd among
-numbers_name h (w ∷ later) known n (inl same) = (w, known w (inl refl), sym same)
-numbers_name h (w ∷ later) known n (inr more) =
-    numbers_name h later (λ x among. known x (inr among)) n more
+numbers_name h (w ∷ later) known n among = grind (arith, (numbers_name h later))
 
 -- each image is left by choices that name writes alone
 pub image_is_named : (u : ℕ) (first : List ℕ) (h : History) (now : List ℕ) → IsLawful h

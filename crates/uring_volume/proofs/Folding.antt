@@ -13,27 +13,15 @@ use Rattle.uring_volume.proofs.Without.{SameBut, same_later, WritesBut, but_late
 covered_ended : (h : History) (s : ℕ) (w : Write) → is_covered h s w ≡ true
     → has_ended h w.number ≡ true
 covered_ended [] s w is = absurd (both_ways false refl is)
-covered_ended (WriteIssued v ∷ earlier) s w is = covered_ended earlier s w is
-covered_ended (WriteEnded k ∷ earlier) s w is = or_right (k == w.number) (has_ended earlier w.number) (covered_ended earlier s w is)
-covered_ended (SyncIssued t range ∷ earlier) s w is =
-    elim (or_cases (t == s && has_ended earlier w.number && lies_in range w) (is_covered earlier s w) is) [
-      | inl now ↦ (and_parts (t == s) (has_ended earlier w.number) (and_parts (t == s && has_ended earlier w.number) (lies_in range w) now).0).1
-      | inr was ↦ covered_ended earlier s w was
-    ]
-covered_ended (SyncEnded t ∷ earlier) s w is = covered_ended earlier s w is
-covered_ended (SyncFailed t ∷ earlier) s w is = covered_ended earlier s w is
+covered_ended (WriteEnded k ∷ earlier) s w is = grind (arith, (covered_ended earlier s w))
+covered_ended (SyncIssued t range ∷ earlier) s w is = grind (arith, (covered_ended earlier s w), or_cases, and_parts)
+covered_ended (e ∷ earlier) s w is = covered_ended earlier s w is
 
 pub safe_ended : (h : History) (w : Write) → is_safe h w ≡ true → has_ended h w.number ≡ true
 safe_ended [] w is = absurd (both_ways false refl is)
-safe_ended (WriteIssued v ∷ earlier) w is = safe_ended earlier w is
-safe_ended (WriteEnded k ∷ earlier) w is = or_right (k == w.number) (has_ended earlier w.number) (safe_ended earlier w is)
-safe_ended (SyncIssued t range ∷ earlier) w is = safe_ended earlier w is
-safe_ended (SyncEnded t ∷ earlier) w is =
-    elim (or_cases (is_covered earlier t w && not (is_given_up earlier w)) (is_safe earlier w) is) [
-      | inl now ↦ covered_ended earlier t w (and_parts (is_covered earlier t w) (not (is_given_up earlier w)) now).0
-      | inr was ↦ safe_ended earlier w was
-    ]
-safe_ended (SyncFailed t ∷ earlier) w is = safe_ended earlier w is
+safe_ended (WriteEnded k ∷ earlier) w is = grind (arith, (safe_ended earlier w))
+safe_ended (SyncEnded t ∷ earlier) w is = grind (arith, covered_ended, or_cases, and_parts, (safe_ended earlier w))
+safe_ended (e ∷ earlier) w is = safe_ended earlier w is
 
 still_issue : (v : Write) (h : History) (w : Write) → IsLawful (WriteIssued v ∷ h) → IsFoldable h w
     → IsFoldable (WriteIssued v ∷ h) w
@@ -43,10 +31,7 @@ pub still_foldable : (later h : History) (w : Write) → IsLawful (later ++ h) �
     → IsFoldable (later ++ h) w
 still_foldable [] h w l f = f
 still_foldable (WriteIssued v ∷ later) h w l f = still_issue v (later ++ h) w l (still_foldable later h w l.2 f)
-still_foldable (WriteEnded k ∷ later) h w l f = assumption (still_foldable later h w l f)
-still_foldable (SyncIssued k range ∷ later) h w l f = assumption (still_foldable later h w l f)
-still_foldable (SyncEnded k ∷ later) h w l f = grind (arith, (still_foldable later h w l f))
-still_foldable (SyncFailed k ∷ later) h w l f = assumption (still_foldable later h w l f)
+still_foldable (e ∷ later) h w l f = grind (arith, (still_foldable later h w l f))
 
 -- A history without a write that can be folded.
 record IsWithout (g h : History) (w : Write) : Type 0 where

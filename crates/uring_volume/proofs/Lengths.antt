@@ -13,8 +13,8 @@ use Rattle.uring_volume.proofs.Puts.{any_is, is_any, in_put_old, in_put_new, of_
 -- a write that is before another has ended
 pub before_ended : (h : History) (m n : ℕ) → is_before h m n ≡ true → has_ended h m ≡ true
 before_ended [] m n is = absurd (both_ways false refl is)
-before_ended (WriteIssued w ∷ earlier) m n is = grind (arith, (before_ended earlier m n), or_cases, and_parts)
-before_ended (WriteEnded k ∷ earlier) m n is = or_right (k == m) (has_ended earlier m) (before_ended earlier m n is)
+before_ended (WriteIssued w ∷ earlier) m n is = grind (arith, (before_ended earlier m n))
+before_ended (WriteEnded k ∷ earlier) m n is = grind (arith, (before_ended earlier m n))
 before_ended (e ∷ earlier) m n is = before_ended earlier m n is
 
 -- what is before a write that is before another is before that
