@@ -13,17 +13,13 @@ in_issued (e ∷ earlier) w among = in_issued earlier w among
 
 pub of_issued : (h : History) (w : Write) → IsIn w (issued h) → IsIn w (writes h)
 of_issued [] w among = among
-of_issued (WriteIssued v ∷ earlier) w among = elim (in_either w (issued earlier) (v ∷ []) among) [
-  | inl left ↦ inr (of_issued earlier w left)
-  | inr right ↦ elim right [ inl same ↦ inl same | inr none ↦ absurd none ]
-]
+of_issued (WriteIssued v ∷ earlier) w among = grind (arith, (in_either w (issued earlier) (v ∷ []) among), (of_issued earlier w))
 of_issued (e ∷ earlier) w among = of_issued earlier w among
 
 -- an issue of another write doesn't change what is before a write
 pub issue_apart : (h : History) (v : Write) (m n : ℕ) → (n ≡ v.number → ⊥)
     → is_before h m n ≡ false → is_before (WriteIssued v ∷ h) m n ≡ false
-issue_apart h v m n differs none =
-    or_from (v.number == n && has_ended h m) (is_before h m n) (and_left (v.number == n) (has_ended h m) (ne_eqb v.number n (λ e. differs (sym e)))) none
+issue_apart h v m n differs none = rw (ne_eqb v.number n (λ e. differs (sym e))) none
 
 -- the same writes are before one another
 same_order : (g h : History) (order : List Write)
@@ -72,12 +68,7 @@ none_before_itself (e ∷ earlier) w l among = none_before_itself earlier w l am
 pub one_number : (h : History) (x y : Write) → IsLawful h → IsIn x (writes h) → IsIn y (writes h)
     → x.number ≡ y.number → x ≡ y
 one_number [] x y l ax ay e = absurd ax
-one_number (WriteIssued v ∷ earlier) x y l (inl sx) (inl sy) e = sx ∙ sym sy
-one_number (WriteIssued v ∷ earlier) x y l (inl sx) (inr my) e =
-    absurd (l.0 y my (sym e ∙ ap (λ z. z.number) sx))
-one_number (WriteIssued v ∷ earlier) x y l (inr mx) (inl sy) e =
-    absurd (l.0 x mx (e ∙ ap (λ z. z.number) sy))
-one_number (WriteIssued v ∷ earlier) x y l (inr mx) (inr my) e = one_number earlier x y l.2 mx my e
+one_number (WriteIssued v ∷ earlier) x y l ax ay e = grind (arith, (one_number earlier x y l.2), (l.0 x), (l.0 y))
 one_number (f ∷ earlier) x y l ax ay e = one_number earlier x y l ax ay e
 
 pub issued_apart : (h : History) → IsLawful h → AreApart h (issued h)
@@ -125,7 +116,7 @@ left_chosen h touches order l left =
 whole_left : (h : History) (choice : List ℕ) → IsLawful h
     → MayBeLeft h (λ w. true) (chosen h (issued h) choice)
 whole_left h choice l =
-    left_of_fit h (λ w. true) (issued h) (chosen h (issued h) choice) (λ w among. (of_issued h w among, refl)) (λ w among on. in_issued h w among)
+    left_of_fit h (λ w. true) (issued h) (chosen h (issued h) choice) (grind (arith, of_issued)) (grind (arith, in_issued))
     (chosen_fits h (issued h) choice (issued_in_order h l))
 
 whole_chosen : (h : History) (order : List Write) → IsLawful h → MayBeLeft h (λ w. true) order

@@ -38,14 +38,8 @@ pub append_in_order : (h : History) (xs ys : List Write) → IsInOrder h xs → 
     → IsInOrder h (xs ++ ys)
 append_in_order h [] ys ox oy after apart = oy
 append_in_order h (x ∷ xs) ys ox oy after apart = (
-  λ m among. elim (in_either m xs ys among) [
-    | inl left ↦ ox.0 m left
-    | inr right ↦ after x m (inl refl) right
-  ],
-  λ among. elim (in_either x xs ys among) [
-    | inl left ↦ ox.1 left
-    | inr right ↦ apart x (inl refl) right
-  ],
+  λ m among. grind (arith, (in_either m xs ys among)),
+  λ among. grind (arith, (in_either x xs ys among)),
   append_in_order h xs ys ox.2 oy (λ y m among. after y m (inr among)) (λ y among. apart y (inr among)),
 )
 
@@ -160,8 +154,7 @@ rest_fits h rest w more a f = grind (arith, in_filter, of_filter, not_from_false
 
 pub fits_chosen : (h : History) (rest order : List Write) → AreApart h rest → FitsIn h rest order
     → chosen h rest (numbers order) ≡ order
-fits_chosen h rest [] a f = none_left h rest (λ w among safe. f.safe w among safe)
+fits_chosen h rest [] a f = grind (arith, none_left)
 fits_chosen h rest (w ∷ more) a f =
-    cond-false (waits_for_one h rest w.number) (chosen h rest (numbers more)) (named w.number rest ++ chosen h (without w.number rest) (numbers more)) (first_is_free h rest w more a f)
-    ∙ ap (λ xs. xs ++ chosen h (without w.number rest) (numbers more)) (named_is h w rest a (f.within w (inl refl)))
-    ∙ ap (λ xs. w ∷ xs) (fits_chosen h (without w.number rest) more (apart_filter h (lacks w.number) rest a) (rest_fits h rest w more a f))
+    rw (first_is_free h rest w more a f, named_is h w rest a (f.within w (inl refl)))
+    (ap (λ xs. w ∷ xs) (fits_chosen h (without w.number rest) more (apart_filter h (lacks w.number) rest a) (rest_fits h rest w more a f)))

@@ -14,7 +14,7 @@ use Rattle.uring_volume.proofs.Foldable.{foldable_by, can_fold_it}
 
 filter_twice : (p : ℕ → Bool) (ns : List ℕ) → filter p (filter p ns) ≡ filter p ns
 filter_twice p [] = refl
-filter_twice p (n ∷ ns) = elim (cases_Bool (p n)) [ inl is ↦ simp (is, filter_twice p ns) | inr out ↦ simp (out, filter_twice p ns) ]
+filter_twice p (n ∷ ns) = grind (arith, (filter_twice p ns))
 
 filter_swap : (p q : ℕ → Bool) (ns : List ℕ) → filter p (filter q ns) ≡ filter q (filter p ns)
 filter_swap p q [] = refl
@@ -22,9 +22,7 @@ filter_swap p q (n ∷ ns) = grind (arith, (filter_swap p q ns))
 
 but_none : (n : ℕ) (ns : List ℕ) → is_one_of n ns ≡ false → but n ns ≡ ns
 but_none n [] none = refl
-but_none n (m ∷ ns) none =
-    let parts = or_parts (m == n) (is_one_of n ns) none in
-    simp (parts.0, but_none n ns parts.1)
+but_none n (m ∷ ns) none = grind (arith, (but_none n ns))
 
 -- What runs.
 
@@ -40,7 +38,7 @@ syncs_without n (e ∷ earlier) = grind (arith, (syncs_without n earlier))
 
 out_of_but : (n : ℕ) (ns : List ℕ) → is_one_of n (but n ns) ≡ false
 out_of_but n [] = refl
-out_of_but n (m ∷ ns) = elim (cases_Bool (m == n)) [ inl is ↦ simp (is, out_of_but n ns) | inr out ↦ simp (out, out_of_but n ns) ]
+out_of_but n (m ∷ ns) = grind (arith, (out_of_but n ns))
 
 -- what runs hasn't ended
 runs_still : (h : History) (n : ℕ) → IsLawful h → is_one_of n (running_writes h) ≡ true
@@ -75,9 +73,7 @@ lawful_without n (WriteIssued w ∷ earlier) l =
     (λ _. (λ v among same. l.0 v (writes_of n earlier v among) same, not_ended n w.number earlier l.1, lawful_without n earlier l.2))
     (λ _. lawful_without n earlier l.2)
 lawful_without n (WriteEnded k ∷ earlier) l = grind (arith, (lawful_without n earlier l))
-lawful_without n (SyncIssued s range ∷ earlier) l = lawful_without n earlier l
-lawful_without n (SyncEnded s ∷ earlier) l = lawful_without n earlier l
-lawful_without n (SyncFailed s ∷ earlier) l = lawful_without n earlier l
+lawful_without n (e ∷ earlier) l = lawful_without n earlier l
 
 ended_later : (n m : ℕ) (later h : History) → has_ended (later ++ without_write n h) m ≡ true
     → has_ended (later ++ h) m ≡ true
@@ -176,10 +172,7 @@ folded_more old mid new l a b = record {
 
 pub reverse_filter : (p : Event → Bool) (es : List Event) → reverse (filter p es) ≡ filter p (reverse es)
 reverse_filter p [] = refl
-reverse_filter p (e ∷ es) = elim (cases_Bool (p e)) [
-  | inl is ↦ simp (is, reverse-append (e ∷ []), filter-append, reverse_filter p es)
-  | inr out ↦ simp (out, reverse-append (e ∷ []), filter-append, append-nil, reverse_filter p es)
-]
+reverse_filter p (e ∷ es) = grind (arith, (reverse-append (e ∷ [])), filter-append, append-nil, (reverse_filter p es))
 
 pub issued_after : (xs ys : History) → issued (xs ++ ys) ≡ issued ys ++ issued xs
 issued_after [] ys = sym (append-nil (issued ys))

@@ -134,15 +134,7 @@ over_others : (n k byte : ℕ) (order : List Write)
     → ((x : Write) → IsIn x order → x.number ≡ n → is_under x k ≡ false)
     → byte_over byte order k ≡ byte_over byte (filter (lacks n) order) k
 over_others n k byte [] off = refl
-over_others n k byte (x ∷ more) off = elim (cases_Bool (x.number == n)) [
-  | inl is ↦
-      ap (λ b. byte_over b more k) (cond-false (is_under x k) (slice_index x.bytes (k - x.off)) byte (off x (inl refl) (eqb-true x.number n is)))
-      ∙ over_others n k byte more (λ y among. off y (inr among))
-      ∙ sym (ap (λ ys. byte_over byte ys k) (cond-false (lacks n x) (x ∷ filter (lacks n) more) (filter (lacks n) more) (ap not is)))
-  | inr out ↦
-      over_others n k (over byte x k) more (λ y among. off y (inr among))
-      ∙ sym (ap (λ ys. byte_over byte ys k) (cond-true (lacks n x) (x ∷ filter (lacks n) more) (filter (lacks n) more) (ap not out)))
-]
+over_others n k byte (x ∷ more) off = grind (arith, (over_others n k byte more), (over_others n k (over byte x k) more), eqb-true)
 
 -- the write lies under the others
 lies_under : (g h : History) (w : Write) (k byte : ℕ) (order : List Write) → IsWithout g h w
@@ -150,15 +142,8 @@ lies_under : (g h : History) (w : Write) (k byte : ℕ) (order : List Write) →
     → is_under w k ≡ true
     → byte_over byte order k ≡ byte_over (over byte w k) (filter (lacks w.number) order) k
 lies_under g h w k byte [] f known o among under = absurd among
-lies_under g h w k byte (x ∷ more) f known o (inl same) under = grind (arith, over_others, it_is)
-lies_under g h w k byte (x ∷ more) f known o (inr later) under =
-    let differs = λ (e : x ≡ w). o.1 (subst (λ z. IsIn z more) (sym e) later) in
-    let off : is_under x k ≡ false = false_from_ne_true (is_under x k) (λ is. both_ways (is_before g w.number x.number) (o.0 w later) (f.fold.lowest x k (known x (inl refl)) differs is under)) in
-    let kept : lacks w.number x ≡ true = not_from_false (x.number == w.number) (ne_eqb x.number w.number (λ named. differs (it_is g h w x f (known x (inl refl)) named))) in
-    ap (λ b. byte_over b more k) (cond-false (is_under x k) (slice_index x.bytes (k - x.off)) byte off)
-    ∙ lies_under g h w k byte more f (λ y among. known y (inr among)) o.2 later under
-    ∙ ap (λ b. byte_over b (filter (lacks w.number) more) k) (sym (cond-false (is_under x k) (slice_index x.bytes (k - x.off)) (over byte w k) off))
-    ∙ sym (ap (λ ys. byte_over (over byte w k) ys k) (cond-true (lacks w.number x) (x ∷ filter (lacks w.number) more) (filter (lacks w.number) more) kept))
+lies_under g h w k byte (x ∷ more) f known o among under =
+    grind (arith, over_others, it_is, (lies_under g h w k byte more f), ne_eqb)
 
 folded_byte : (g h : History) (w : Write) (k byte : ℕ) (order : List Write) → IsWithout g h w
     → ((x : Write) → IsIn x order → IsIn x (writes g)) → IsInOrder g order

@@ -10,15 +10,7 @@ or_either x y is = grind arith
 
 pub is_in_but : (n m : ℕ) (ns : List ℕ) → is_one_of m (but n ns) ≡ true → is_one_of m ns ≡ true
 is_in_but n m [] is = is
-is_in_but n m (k ∷ ns) is = elim (cases_Bool (not (k == n))) [
-  | inl stays ↦
-      let here : is_one_of m (k ∷ but n ns) ≡ true = subst (λ ks. is_one_of m ks ≡ true) (cond-true (not (k == n)) (k ∷ but n ns) (but n ns) stays) is in
-      elim (or_either (k == m) (is_one_of m (but n ns)) here) [
-        | inl same ↦ or_left (k == m) (is_one_of m ns) same
-        | inr more ↦ or_right (k == m) (is_one_of m ns) (is_in_but n m ns more)
-      ]
-  | inr goes ↦ or_right (k == m) (is_one_of m ns) (is_in_but n m ns (subst (λ ks. is_one_of m ks ≡ true) (cond-false (not (k == n)) (k ∷ but n ns) (but n ns) goes) is))
-]
+is_in_but n m (k ∷ ns) is = grind (arith, (is_in_but n m ns))
 
 but_is_short : (n : ℕ) (ns : List ℕ) → length (but n ns) ≤ length ns
 but_is_short n [] = omega arith
@@ -27,12 +19,7 @@ but_is_short n (k ∷ ns) = grind (arith, (but_is_short n ns), cond-true)
 -- a list without one of its numbers is shorter
 pub but_is_shorter : (n : ℕ) (ns : List ℕ) → is_one_of n ns ≡ true → length (but n ns) < length ns
 but_is_shorter n [] is = absurd (cc is)
-but_is_shorter n (k ∷ ns) is = elim (cases_Bool (k == n)) [
-  | inl same ↦ omega (arith, but_is_short n ns, ap length (cond-false (not (k == n)) (k ∷ but n ns) (but n ns) (ap not same)))
-  | inr other ↦
-      let more : is_one_of n ns ≡ true = elim (or_either (k == n) (is_one_of n ns) is) [ inl same ↦ absurd (both_ways (k == n) other same) | inr later ↦ later ] in
-      omega (arith, but_is_shorter n ns more, ap length (cond-true (not (k == n)) (k ∷ but n ns) (but n ns) (ap not other)))
-]
+but_is_shorter n (k ∷ ns) is = grind (arith, but_is_short, (but_is_shorter n ns), or_either)
 
 pub one_more : (n m : ℕ) (ns : List ℕ) → is_one_of m (ns ++ n ∷ []) ≡ true
     → (is_one_of m ns ≡ true) ⊎ (m ≡ n)

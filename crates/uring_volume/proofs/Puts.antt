@@ -28,31 +28,16 @@ in_put_new same y xs tells = grind (arith, any_is, in_right)
 
 pub of_put : {X : Type 0} (same : X → X → Bool) (x y : X) (xs : List X) → IsIn x (put_by same xs y)
     → IsIn x xs ⊎ (x ≡ y)
-of_put same x y xs =
-    cond_both (list_any (λ z. same z y) xs) xs (xs ++ y ∷ []) (λ zs. IsIn x zs → IsIn x xs ⊎ (x ≡ y))
-    (λ _ among. inl among)
-    (λ _ among. elim (in_either x xs (y ∷ []) among) [
-      | inl left ↦ inl left
-      | inr right ↦ elim right [ inl is ↦ inr is | inr none ↦ absurd none ]
-    ])
+of_put same x y xs among = grind (arith, (in_either x xs (y ∷ [])))
 
 once_after : {X : Type 0} (y : X) (xs : List X) → IsEachOnce xs → (IsIn y xs → ⊥)
     → IsEachOnce (xs ++ y ∷ [])
 once_after y [] once new = (λ none. none, tt)
-once_after y (x ∷ xs) once new = (
-  λ among. elim (in_either x xs (y ∷ []) among) [
-    | inl left ↦ once.0 left
-    | inr right ↦ elim right [ inl is ↦ new (inl (sym is)) | inr none ↦ none ]
-  ],
-  once_after y xs once.1 (λ among. new (inr among)),
-)
+once_after y (x ∷ xs) once new = (λ among. grind (arith, (in_either x xs (y ∷ []) among)), once_after y xs once.1 (λ among. new (inr among)))
 
 pub put_once : {X : Type 0} (same : X → X → Bool) (y : X) (xs : List X) → Tells same
     → IsEachOnce xs → IsEachOnce (put_by same xs y)
-put_once same y xs tells once =
-    cond_both (list_any (λ z. same z y) xs) xs (xs ++ y ∷ []) (λ zs. IsEachOnce zs)
-    (λ _. once)
-    (λ out. once_after y xs once (λ among. both_ways (list_any (λ z. same z y) xs) out (is_any (λ z. same z y) y xs among (tells.itself y))))
+put_once same y xs tells once = grind (arith, (once_after y xs once), (is_any (λ z. same z y) y xs))
 
 -- The tests.
 
@@ -95,8 +80,7 @@ all_same (w ∷ ws) = and_from _ _ (write_same w) (all_same ws)
 ways_equal : (s t : Way) → same_way s t ≡ true → s ≡ t
 ways_equal s t is =
     let parts = and_parts (pointwise nat_eq s.now t.now) (pointwise same_write s.rest t.rest) is in
-    let at_now : s ≡ record { rest = s.rest; now = t.now } = ap (λ bs. record s { now = bs }) (same_text s.now t.now (sym parts.0)) in
-    at_now ∙ ap (λ ws. record t { rest = ws }) (all_equal s.rest t.rest parts.1)
+    grind (arith, (same_text s.now t.now (sym parts.0)), (all_equal s.rest t.rest parts.1))
 
 pub ways_tell : Tells same_way
 ways_tell = record { equal = ways_equal; itself = λ s. and_from _ _ (bytes_same s.now) (all_same s.rest) }

@@ -14,7 +14,7 @@ holds_at f p (x ∷ xs) (suc i) d within is = grind (arith, (holds_at f p xs i d
 -- the one that is looked for stands at i
 pub one_is : {X Y : Type 0} (f : X → Y) (p : Y → Bool) (xs : List X) (i : ℕ) (x : X)
     → i < length xs → x ≡ get_or xs i x → p (f x) ≡ true → list_any p (map f xs) ≡ true
-one_is f p xs i x within at is = holds_at f p xs i x within (ap (λ y. p (f y)) (sym at) ∙ is)
+one_is f p xs i x within at is = grind (arith, holds_at)
 
 pub none_more : {X Y : Type 0} (f : X → Y) (p : Y → Bool) (xs : List X) (i : ℕ) (x : X)
     → i < length xs → x ≡ get_or xs i x → p (f x) ≡ false
@@ -37,11 +37,7 @@ painted k now old w same done =
 pub put_new : {X Y : Type 0} (f : X → Y) (same : Y → Y → Bool) (old new : List X) (x : X) (y : Y)
     → f x ≡ y → list_any (λ z. same z y) (map f old) ≡ false → new ≡ old ++ x ∷ []
     → map f new ≡ put_by same (map f old) y
-put_new f same old new x y is none pushed =
-    ap (map f) pushed
-    ∙ map-append f old (x ∷ [])
-    ∙ ap (λ z. map f old ++ z ∷ []) is
-    ∙ sym (cond-false (list_any (λ z. same z y) (map f old)) (map f old) (map f old ++ y ∷ []) none)
+put_new f same old new x y is none pushed = grind (arith, map-append)
 
 pub on_ok : {T E : Type 0} (r : Result T E) (P Q : Type 0) → (P → Q) → OnOk r P → OnOk r Q
 on_ok r P Q follows holds = grind arith
@@ -51,12 +47,7 @@ pub kept_more : {X : Type 0} (f : X → Write) (p : Write → Bool) (xs : List X
     (len next : ℕ) (b : Bool) → i < length xs → x ≡ get_or xs i x → b ≡ p (f x)
     → next ≡ cond b (max len (end_of (f x))) len
     → length_over next (filter p (map f (drop (i + 1) xs))) ≡ length_over len (filter p (map f (drop i xs)))
-kept_more f p xs i x len next b within at is made =
-    let here : map f (drop i xs) ≡ f x ∷ map f (drop (i + 1) xs) = ap (map f) (drop_more xs i x within ∙ ap (λ z. z ∷ drop (i + 1) xs) (sym at)) in
-    sym (ap (λ ws. length_over len (filter p ws)) here ∙ elim (cases_Bool (p (f x))) as (λ _. length_over len (filter p (f x ∷ map f (drop (i + 1) xs))) ≡ length_over next (filter p (map f (drop (i + 1) xs)))) [
-      | inl is_kept ↦ grind arith
-      | inr is_out ↦ grind arith
-    ])
+kept_more f p xs i x len next b within at is made = grind (arith, drop_more)
 
 -- none is left after the last one
 pub kept_all : {X : Type 0} (f : X → Write) (p : Write → Bool) (xs : List X) (i len : ℕ)

@@ -56,8 +56,7 @@ one_found f p xs i x within at is = grind (arith, (map f xs), (length-map xs f),
 
 pub push_map : {X Y : Type 0} (f : X → Y) (old new : List X) (x : X) (ys : List Y)
     → new ≡ old ++ x ∷ [] → map f old ≡ ys → map f new ≡ ys ++ f x ∷ []
-push_map f old new x ys pushed same =
-    ap (map f) pushed ∙ map-append f old (x ∷ []) ∙ ap (λ zs. zs ++ f x ∷ []) same
+push_map f old new x ys pushed same = grind (arith, map-append)
 
 -- A choice among references, of which the first ones have been chosen.
 
@@ -94,11 +93,4 @@ pub all_chosen : {X : Type 0} (f : X → Write) (h : History) (xs : List X) (cou
     (choice : List ℕ) → length choice ≤ i
     → take r (map f (take (length xs - count) (drop count xs))) ≡ up_to_safe h (map f (take (length xs - count) (drop count xs)))
     → map f (take (count + r) xs) ≡ map f (take count xs) ++ chosen h (map f (drop count xs)) (drop i choice)
-all_chosen f h xs count r i choice past safe =
-    ap (map f) (take-add count r xs)
-    ∙ map-append f (take count xs) (take r (drop count xs))
-    ∙ ap (λ ws. map f (take count xs) ++ ws) (sym (take-map f r (drop count xs)))
-    ∙ ap (λ zs. map f (take count xs) ++ take r (map f zs)) (sym (others_of xs count))
-    ∙ ap (λ ws. map f (take count xs) ++ ws) safe
-    ∙ ap (λ zs. map f (take count xs) ++ up_to_safe h (map f zs)) (others_of xs count)
-    ∙ ap (λ ns. map f (take count xs) ++ chosen h (map f (drop count xs)) ns) (sym (drop_all i choice past))
+all_chosen f h xs count r i choice past safe = grind (arith, take-add, map-append, take-map, others_of, drop_all)

@@ -59,8 +59,7 @@ steps_old : (h : History) (k : ℕ) (s : Way) (ws : List Write) (next : List Way
     → IsIn t next → IsIn t (steps_of h k s ws next)
 steps_old h k s [] next t among = among
 steps_old h k s (w ∷ more) next t among =
-    steps_old h k s more (cond (waits_for_one h s.rest w.number) next (put_by same_way next (stepped k s w))) t
-    (cond_both (waits_for_one h s.rest w.number) next (put_by same_way next (stepped k s w)) (λ ns. IsIn t ns) (λ _. among) (λ _. in_put_old same_way t (stepped k s w) next among))
+    grind (arith, (steps_old h k s more (cond (waits_for_one h s.rest w.number) next (put_by same_way next (stepped k s w))) t), in_put_old)
 
 steps_new : (h : History) (k : ℕ) (s : Way) (ws : List Write) (next : List Way) (w : Write)
     → IsIn w ws → waits_for_one h s.rest w.number ≡ false
@@ -106,9 +105,7 @@ of_next h k (s ∷ more) next t among = grind (arith, (of_next h k more (steps_o
 at_old : (h : History) (ways : List Way) (found : List (List ℕ)) (c : List ℕ) → IsIn c found
     → IsIn c (found_at h ways found)
 at_old h [] found c among = among
-at_old h (s ∷ more) found c among =
-    at_old h more (cond (has_safe h s.rest) found (put_by (pointwise nat_eq) found s.now)) c
-    (cond_both (has_safe h s.rest) found (put_by (pointwise nat_eq) found s.now) (λ cs. IsIn c cs) (λ _. among) (λ _. in_put_old (pointwise nat_eq) c s.now found among))
+at_old h (s ∷ more) found c among = grind (arith, (at_old h more), in_put_old)
 
 at_new : (h : History) (ways : List Way) (found : List (List ℕ)) (s : Way) → IsIn s ways
     → has_safe h s.rest ≡ false → IsIn s.now (found_at h ways found)
@@ -131,9 +128,7 @@ of_at h (s ∷ more) found c among =
 at_once : (h : History) (ways : List Way) (found : List (List ℕ)) → IsEachOnce found
     → IsEachOnce (found_at h ways found)
 at_once h [] found once = once
-at_once h (s ∷ more) found once =
-    at_once h more (cond (has_safe h s.rest) found (put_by (pointwise nat_eq) found s.now))
-    (cond_both (has_safe h s.rest) found (put_by (pointwise nat_eq) found s.now) (λ cs. IsEachOnce cs) (λ _. once) (λ _. put_once (pointwise nat_eq) s.now found bytes_tell once))
+at_once h (s ∷ more) found once = grind (arith, (at_once h more), put_once, bytes_tell)
 
 -- All steps.
 
@@ -198,8 +193,7 @@ found_once (suc n) h k ways found once =
 
 first_short : (h : History) (rest : List Write) (bytes : List ℕ) → AreApart h rest → (t : Way)
     → IsIn t (way rest bytes ∷ []) → IsShort h (suc (length rest)) t
-first_short h rest bytes apart t (inl same) = grind arith
-first_short h rest bytes apart t (inr none) = absurd none
+first_short h rest bytes apart t among = grind arith
 
 pub of_contents : (h : History) (k : ℕ) (rest : List Write) (bytes c : List ℕ) → AreApart h rest
     → IsIn c (contents_of h k rest bytes) → Gives h k (way rest bytes) c
