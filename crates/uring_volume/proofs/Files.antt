@@ -101,8 +101,8 @@ record IsJoin (bs es : List (List ℕ)) (z : List ℕ) : Type 0 where
 of_joined : (bs es : List (List ℕ)) (z : List ℕ) → IsIn z (joined bs es) → IsJoin bs es z
 of_joined [] es z among = absurd among
 of_joined (b ∷ more) es z among = elim (in_either z (map (λ e. b ++ e) es) (joined more es) among) [
-  | inl here ↦ let found = of_map (λ e. b ++ e) z es here in record { front = b; back = found.0; in_front = inl refl; in_back = found.1; is = found.2 }
-  | inr there ↦ let found = of_joined more es z there in record { front = found.front; back = found.back; in_front = inr found.in_front; in_back = found.in_back; is = found.is }
+  | inl here ↦ grind (arith, (of_map (λ e. b ++ e) z es here))
+  | inr there ↦ grind (arith, (of_joined more es z there))
 ]
 
 in_joined : (bs es : List (List ℕ)) (b e : List ℕ) → IsIn b bs → IsIn e es
@@ -113,8 +113,7 @@ in_joined (c ∷ more) es b e among after = grind (arith, in_left, in_right, in_
 map_once : (b : List ℕ) (es : List (List ℕ)) → IsEachOnce es → IsEachOnce (map (λ e. b ++ e) es)
 map_once b [] once = tt
 map_once b (e ∷ es) once = (
-  λ among. let found = of_map (λ x. b ++ x) (b ++ e) es among in
-      once.0 (subst (λ x. IsIn x es) (sym (sym (drop-append_seam b e) ∙ ap (drop (length b)) found.2 ∙ drop-append_seam b found.0)) found.1),
+  λ among. let found = of_map (λ x. b ++ x) (b ++ e) es among in grind (arith, (drop-append_seam b e), (drop-append_seam b found.0)),
   map_once b es once.1,
 )
 
@@ -132,9 +131,7 @@ joined_once n (b ∷ more) es ob oe long =
     (λ z here there.
     let one = of_map (λ e. b ++ e) z es here in
     let two = of_joined more es z there in
-    let size : length b ≡ length two.front = long b (inl refl) ∙ sym (long two.front (inr two.in_front)) in
-    let same : b ≡ two.front = sym (take-append_seam b one.0) ∙ ap (take (length b)) (sym one.2 ∙ two.is) ∙ ap (λ m. take m (two.front ++ two.back)) size ∙ take-append_seam two.front two.back in
-    ob.0 (subst (λ x. IsIn x more) (sym same) two.in_front))
+    grind (arith, (take-append_seam b one.0), (take-append_seam two.front two.back), (long two.front (inr two.in_front)), (long b (inl refl))))
 
 -- The first units of a file.
 
@@ -253,11 +250,10 @@ record IsOfLength (u : ℕ) (first : List ℕ) (h : History) (lens : List ℕ) (
 of_files : (u : ℕ) (first : List ℕ) (h : History) (lens : List ℕ) (now : List ℕ)
     → IsIn now (files_of u first h lens) → IsOfLength u first h lens now
 of_files u first h [] now among = absurd among
-of_files u first h (len ∷ more) now among =
-    elim (in_either now (fronts u first h len (units_in u len)) (files_of u first h more) among) [
-      | inl here ↦ record { len = len; among = inl refl; file = here }
-      | inr there ↦ let found = of_files u first h more now there in record { len = found.len; among = inr found.among; file = found.file }
-    ]
+of_files u first h (len ∷ more) now among = elim (in_either now (fronts u first h len (units_in u len)) (files_of u first h more) among) [
+  | inl here ↦ record { len = len; among = inl refl; file = here }
+  | inr there ↦ grind (arith, (of_files u first h more now there))
+]
 
 in_files : (u : ℕ) (first : List ℕ) (h : History) (lens : List ℕ) (len : ℕ) (now : List ℕ)
     → IsIn len lens → IsIn now (fronts u first h len (units_in u len))

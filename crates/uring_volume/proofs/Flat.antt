@@ -11,8 +11,7 @@ HasNone ns = (n : ℕ) → IsIn n ns → n ≡ 0 → ⊥
 part_front : (ns rest : List ℕ) → HasNone ns → part (ns ++ 0 ∷ rest) 0 ≡ ns
 part_front [] rest none = refl
 part_front (n ∷ ns) rest none =
-    cond-false (n == 0) [] (n ∷ part (ns ++ 0 ∷ rest) 0) (ne_eqb n 0 (none n (inl refl)))
-    ∙ ap (λ ms. n ∷ ms) (part_front ns rest (λ m among. none m (inr among)))
+    rw (ne_eqb n 0 (none n (inl refl))) (ap (λ ms. n ∷ ms) (part_front ns rest (λ m among. none m (inr among))))
 
 part_back : (ns rest : List ℕ) (i : ℕ) → HasNone ns → part (ns ++ 0 ∷ rest) (suc i) ≡ part rest i
 part_back [] rest i none = refl

@@ -182,18 +182,8 @@ unit_of : (u : ℕ) (first under : List ℕ) (g h : History) (w : Write) (now : 
     → IsWithout g h w → IsOver first w under → UnitIsLeft u under h now i
     → UnitIsLeft u first g now i
 unit_of u first under g h w now i positive f is unit = elim (cases_Bool (is_on u i w)) [
-  | inl on ↦ record {
-    order = w ∷ unit.order;
-    left = left_under g h w (is_on u i) unit.order f on unit.left;
-    bytes = λ k at within. unit.bytes k at within ∙ ap (λ b. byte_over b unit.order k) (is.bytes k);
-  }
-  | inr off ↦ record {
-    order = unit.order;
-    left = left_apart g h w (is_on u i) unit.order f off unit.left;
-    bytes = λ k at within.
-        let out : is_under w k ≡ false = false_from_ne_true (is_under w k) (λ under_w. both_ways (is_on u i w) off (subst (λ j. is_on u j w ≡ true) at (on_from u w k positive under_w))) in
-        unit.bytes k at within ∙ ap (λ b. byte_over b unit.order k) (is.bytes k ∙ cond-false (is_under w k) (slice_index w.bytes (k - w.off)) (slice_index first k) out);
-  }
+  | inl on ↦ record { order = w ∷ unit.order; left = left_under g h w (is_on u i) unit.order f on unit.left; bytes = grind arith }
+  | inr off ↦ record { order = unit.order; left = left_apart g h w (is_on u i) unit.order f off unit.left; bytes = grind (arith, on_from) }
 ]
 
 image_to : (u : ℕ) (first under : List ℕ) (g h : History) (w : Write) (now : List ℕ) → 0 < u

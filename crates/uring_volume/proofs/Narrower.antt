@@ -12,16 +12,11 @@ pub record IsNoTighter (g h : History) : Type 0 where
 order_in : (g h : History) (order : List Write) → IsNoTighter g h → IsInOrder h order
     → IsInOrder g order
 order_in g h [] t o = tt
-order_in g h (w ∷ later) t o = (λ m among. t.before m.number w.number ∙ o.0 m among, o.1, order_in g h later t o.2)
+order_in g h (w ∷ later) t o = grind (arith, (order_in g h later t))
 
 left_in : (g h : History) (touches : Write → Bool) (order : List Write) → IsNoTighter g h
     → MayBeLeft h touches order → MayBeLeft g touches order
-left_in g h touches order t l = record {
-  issued = λ w among. (subst (λ ws. IsIn w ws) (sym t.writes) (l.issued w among).0, (l.issued w among).1);
-  safe = λ w among on safe. l.safe w (subst (λ ws. IsIn w ws) t.writes among) on (t.safe w safe);
-  with_those_before = λ m w among on kept before. l.with_those_before m w (subst (λ ws. IsIn m ws) t.writes among) on kept (sym (t.before m.number w.number) ∙ before);
-  in_order = order_in g h order t l.in_order;
-}
+left_in g h touches order t l = grind (arith, order_in)
 
 pub image_in : (g h : History) (u : ℕ) (first now : List ℕ) → IsNoTighter g h
     → IsImage u first h now → IsImage u first g now

@@ -20,11 +20,7 @@ pub none_more : {X Y : Type 0} (f : X → Y) (p : Y → Bool) (xs : List X) (i :
     → i < length xs → x ≡ get_or xs i x → p (f x) ≡ false
     → list_any p (map f (take i xs)) ≡ false → list_any p (map f (take (i + 1) xs)) ≡ false
 none_more f p xs i x within at out none =
-    ap (λ ys. list_any p (map f ys)) (take_more xs i x within)
-    ∙ ap (list_any p) (map-append f (take i xs) (get_or xs i x ∷ []))
-    ∙ list_any-append p (map f (take i xs)) (f (get_or xs i x) ∷ [])
-    ∙ or_from (list_any p (map f (take i xs))) (list_any p (f (get_or xs i x) ∷ [])) none
-    (or_from (p (f (get_or xs i x))) false (ap (λ y. p (f y)) (sym at) ∙ out) refl)
+    grind (arith, (take_more xs i x within), (map-append f (take i xs) (x ∷ [])), (list_any-append p (map f (take i xs)) (f x ∷ [])))
 
 -- all bytes are painted
 pub painted : (k : ℕ) (now old : List ℕ) (w : Write) → length now ≡ length old
@@ -104,9 +100,4 @@ padded_from first xs k n a b begins ends is =
     let size : length xs ≡ b - a = omega (arith, ap length is ∙ length-take (b - a) (drop a first), length-drop a first) in
     let long : length (xs ++ replicate (n - length xs) 0) ≡ n = omega (arith, size, length-append xs (replicate (n - length xs) 0), length-replicate {A = ℕ} (n - length xs) 0) in
     ext_get_or 0 (xs ++ replicate (n - length xs) 0) (bytes_from first k n) (long ∙ sym (length_bytes_from first k n))
-    (λ j within. padded xs (n - length xs) j
-    ∙ elim (below_or_from j (b - a)) as (λ _. get_or xs j 0 ≡ get_or first (k + j) 0) [
-      | inl here ↦ grind (arith, get_or-take, get_or-drop)
-      | inr past ↦ get_or_past xs j 0 (omega (arith, size)) ∙ sym (get_or_past first (k + j) 0 (omega (arith, long)))
-    ]
-    ∙ sym (bytes_from_at first k n j (omega (arith, long))))
+    (λ j within. grind (arith, (padded xs (n - length xs) j), (below_or_from j (b - a)), get_or-take, get_or-drop, get_or_past, (bytes_from_at first k n j)))

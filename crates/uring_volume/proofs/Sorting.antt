@@ -64,16 +64,7 @@ turned_part a b c ys turned x n m is begins size turns =
     let long : length (b ++ x ∷ []) ≡ m = length-append b (x ∷ []) ∙ size in
     let part : take m (drop n ys) ≡ b ++ x ∷ [] = ap (take m) after ∙ take_at (b ++ x ∷ []) c m long in
     let last : length (take m (drop n ys)) - 1 ≡ length b = omega (arith, ap length part, long, size) in
-    let turn : turned ≡ x ∷ b =
-    turns
-    ∙ ap (λ k. drop k (take m (drop n ys)) ++ take k (take m (drop n ys))) last
-    ∙ ap (λ zs. drop (length b) zs ++ take (length b) zs) part
-    ∙ ap (λ zs. zs ++ take (length b) (b ++ x ∷ [])) (drop_at b (x ∷ []) (length b) refl)
-    ∙ ap (λ zs. x ∷ zs) (take_at b (x ∷ []) (length b) refl) in
-    ap (λ zs. take n ys ++ (zs ++ drop m (drop n ys))) turn
-    ∙ ap (λ zs. take n ys ++ ((x ∷ b) ++ drop m zs)) after
-    ∙ ap (λ zs. take n ys ++ ((x ∷ b) ++ zs)) (drop_at (b ++ x ∷ []) c m long)
-    ∙ ap (λ zs. zs ++ ((x ∷ b) ++ c)) (ap (take n) is ∙ take_at a (b ++ x ∷ c) n begins)
+    grind (arith, (drop_at b (x ∷ []) (length b) refl), (take_at b (x ∷ []) (length b) refl), (drop_at (b ++ x ∷ []) c m long), (take_at a (b ++ x ∷ c) n begins))
 
 -- the element that was read at i is that of the list as it was
 stands : {X : Type 0} (p : X → Bool) (xs ys : List X) (i : ℕ) (x : X) → i < length xs

@@ -163,8 +163,8 @@ found_new : (n : ℕ) (h : History) (k : ℕ) (ways : List Way) (found : List (L
 found_new zero h k ways found s c all among g = absurd (let none : length s.rest < 0 = (all s among).short in omega arith)
 found_new (suc n) h k ways found s c all among g =
     elim (step_down h k s c (all s among).apart g) [
-      | inl e ↦ found_old n h k (next_ways h k ways []) (found_at h ways found) c (subst (λ bs. IsIn bs (found_at h ways found)) (sym e.is) (at_new h ways found s among e.none))
-      | inr on ↦ found_new n h k (next_ways h k ways []) (found_at h ways found) (stepped k s on.0) c (next_short h k n ways all) (next_new h k ways [] s on.0 among on.1) on.2
+      | inl e ↦ grind (arith, found_old, at_new)
+      | inr on ↦ grind (arith, (found_new n h k (next_ways h k ways []) (found_at h ways found) (stepped k s on.0) c (next_short h k n ways all)), next_new)
     ]
 
 of_found : (n : ℕ) (h : History) (k : ℕ) (ways : List Way) (found : List (List ℕ)) (c : List ℕ)
