@@ -49,14 +49,8 @@ issued_in_order (WriteIssued v ∷ earlier) l =
     append_in_order (WriteIssued v ∷ earlier) (issued earlier) (v ∷ [])
     (with_issue earlier v (issued earlier) (λ x among. l.0 x (of_issued earlier x among)) (issued_in_order earlier l.2))
     (λ m none. absurd none, λ none. none, tt)
-    (λ x m left right. elim right [
-      | inl same ↦ issue_apart earlier v m.number x.number (l.0 x (of_issued earlier x left)) (not_before earlier m.number x.number (subst (λ y. has_ended earlier y.number ≡ false) (sym same) l.1))
-      | inr none ↦ absurd none
-    ])
-    (λ x left right. elim right [
-      | inl same ↦ l.0 x (of_issued earlier x left) (ap (λ y. y.number) same)
-      | inr none ↦ none
-    ])
+    (λ x m left right. grind (arith, (issue_apart earlier v m.number x.number (l.0 x (of_issued earlier x left))), (not_before earlier m.number x.number)))
+    (λ x left right. grind (arith, (l.0 x (of_issued earlier x left))))
 issued_in_order (e ∷ earlier) l = same_order (e ∷ earlier) earlier (issued earlier) (λ m k. refl) (issued_in_order earlier l)
 
 none_before_itself : (h : History) (w : Write) → IsLawful h → IsIn w (writes h)

@@ -128,10 +128,8 @@ folded_one v w over sound f is = record {
   safe = λ later x l among. (same_later w.number later v.history).safe x ((but_later later v.history w l f.issued).of x among).1;
   lawful = λ later l. lawful_later later v.history w f.issued l;
   none_new = λ x among. writes_of w.number v.history x among;
-  gone = λ x among. elim (cases_Bool (x.number == w.number)) [
-    | inl same ↦ inr (subst (λ y. is_safe v.history y ≡ true) (sym (one_number v.history x w sound.lawful among f.issued (eqb-true x.number w.number same))) f.safe)
-    | inr out ↦ inl ((but_later [] v.history w sound.lawful f.issued).into x among (eqb-false x.number w.number out))
-  ];
+  gone = λ x among.
+      grind (arith, (one_number v.history x w sound.lawful among f.issued), ((but_later [] v.history w sound.lawful f.issued).into x among), eqb-true, eqb-false);
   writes_run = running_same v w sound f;
   syncs_run = syncs_without w.number v.history;
 }
@@ -157,13 +155,7 @@ folded_more old mid new l a b = record {
       b.safe later w (a.lawful later law) among ∙ a.safe later w law (kept_later later mid.history new.history b.none_new w among);
   lawful = λ later law. b.lawful later (a.lawful later law);
   none_new = λ w among. a.none_new w (b.none_new w among);
-  gone = λ w among. elim (a.gone w among) [
-    | inl still ↦ elim (b.gone w still) [
-      | inl kept ↦ inl kept
-      | inr safe ↦ inr (sym (a.safe [] w l still) ∙ safe)
-    ]
-    | inr safe ↦ inr safe
-  ];
+  gone = λ w among. grind (arith, (a.gone w among), (b.gone w), (a.safe [] w l));
   writes_run = b.writes_run ∙ a.writes_run;
   syncs_run = b.syncs_run ∙ a.syncs_run;
 }

@@ -23,14 +23,10 @@ safe_ended (WriteEnded k ∷ earlier) w is = grind (arith, (safe_ended earlier w
 safe_ended (SyncEnded t ∷ earlier) w is = grind (arith, covered_ended, or_cases, and_parts, (safe_ended earlier w))
 safe_ended (e ∷ earlier) w is = safe_ended earlier w is
 
-still_issue : (v : Write) (h : History) (w : Write) → IsLawful (WriteIssued v ∷ h) → IsFoldable h w
-    → IsFoldable (WriteIssued v ∷ h) w
-still_issue v h w l f = grind (arith, not_before, eq-eqb, safe_ended)
-
 pub still_foldable : (later h : History) (w : Write) → IsLawful (later ++ h) → IsFoldable h w
     → IsFoldable (later ++ h) w
 still_foldable [] h w l f = f
-still_foldable (WriteIssued v ∷ later) h w l f = still_issue v (later ++ h) w l (still_foldable later h w l.2 f)
+still_foldable (WriteIssued v ∷ later) h w l f = grind (arith, not_before, eq-eqb, safe_ended, (still_foldable later h w l.2 f))
 still_foldable (e ∷ later) h w l f = grind (arith, (still_foldable later h w l f))
 
 -- A history without a write that can be folded.

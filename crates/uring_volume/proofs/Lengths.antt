@@ -90,8 +90,7 @@ longest len (w ∷ more) = grind (arith, (longest (max len (end_of w)) more), ma
 by_old : (h : History) (all : List Write) (len : ℕ) (ws : List Write) (found : List ℕ) (n : ℕ)
     → IsIn n found → IsIn n (lengths_by h all len ws found)
 by_old h all len [] found n among = among
-by_old h all len (w ∷ more) found n among =
-    by_old h all len more (put_by nat_eq found (length_over len (fewest_with h all w.number))) n (in_put_old nat_eq n (length_over len (fewest_with h all w.number)) found among)
+by_old h all len (w ∷ more) found n among = grind (arith, (by_old h all len more), in_put_old)
 
 by_new : (h : History) (all : List Write) (len : ℕ) (ws : List Write) (found : List ℕ) (w : Write)
     → IsIn w ws → IsIn (length_over len (fewest_with h all w.number)) (lengths_by h all len ws found)
@@ -116,8 +115,7 @@ of_by h all len (w ∷ more) found n among =
 by_once : (h : History) (all : List Write) (len : ℕ) (ws : List Write) (found : List ℕ)
     → IsEachOnce found → IsEachOnce (lengths_by h all len ws found)
 by_once h all len [] found once = once
-by_once h all len (w ∷ more) found once =
-    by_once h all len more (put_by nat_eq found (length_over len (fewest_with h all w.number))) (put_once nat_eq (length_over len (fewest_with h all w.number)) found numbers_tell once)
+by_once h all len (w ∷ more) found once = grind (arith, (by_once h all len more), put_once, numbers_tell)
 
 pub lengths_once : (h : History) (len : ℕ) → IsEachOnce (lengths_of h len)
 lengths_once h len = grind (arith, by_once)
@@ -144,10 +142,9 @@ in_lengths h len order l fits =
     elim (longest len order) [
       | inl same ↦ grind (arith, no_longer_of, of_filter, needed_left, issued_apart, len_grows, by_old)
       | inr found ↦
-          let w = found.0 in
           let less : length_over len (fewest_with h (issued h) found.0.number) ≤ length_over len order =
           grind (arith, no_longer_of, of_filter, or_cases, goes_left, issued_apart, needed_left) in
-          let itself : IsIn found.0 (fewest_with h (issued h) found.0.number) = in_filter (λ x. goes_with h found.0.number x || is_needed h (issued h) x) found.0 (issued h) (fits.within found.0 found.1) (or_left (goes_with h found.0.number found.0) (is_needed h (issued h) found.0) (or_left (found.0.number == found.0.number) (is_before h found.0.number found.0.number) (eq-eqb found.0.number found.0.number refl))) in
+          let itself : IsIn found.0 (fewest_with h (issued h) found.0.number) = grind (arith, in_filter, (fits.within found.0 found.1)) in
           let reaches : end_of found.0 ≤ length_over len (fewest_with h (issued h) found.0.number) = end_within len found.0 (fewest_with h (issued h) found.0.number) itself in
           let equal : length_over len (fewest_with h (issued h) found.0.number) ≡ length_over len order = omega (arith, found.2) in
           subst (λ n. IsIn n (lengths_of h len)) equal

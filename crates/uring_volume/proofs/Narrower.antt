@@ -44,8 +44,7 @@ writes_same (e ∷ later) earlier s = writes_same later earlier s
 ended_same : (later earlier : History) (s n : ℕ)
     → has_ended (later ++ SyncEnded s ∷ earlier) n ≡ has_ended (later ++ earlier) n
 ended_same [] earlier s n = refl
-ended_same (WriteEnded m ∷ later) earlier s n =
-    ap (λ b. m == n || b) (ended_same later earlier s n)
+ended_same (WriteEnded m ∷ later) earlier s n = grind (arith, (ended_same later earlier s n))
 ended_same (e ∷ later) earlier s n = ended_same later earlier s n
 
 before_same : (later earlier : History) (s m n : ℕ)
@@ -76,14 +75,10 @@ given_up_same (e ∷ later) earlier s w = given_up_same later earlier s w
 abbrev makes_safe : History → ℕ → Write → Bool
 makes_safe h s w = is_covered h s w && not (is_given_up h w)
 
-makes_same : (later earlier : History) (s t : ℕ) (w : Write)
-    → makes_safe (later ++ SyncEnded s ∷ earlier) t w ≡ makes_safe (later ++ earlier) t w
-makes_same later earlier s t w = grind (arith, covered_same, given_up_same)
-
 safe_stays : (later earlier : History) (s : ℕ) (w : Write) → is_safe (later ++ earlier) w ≡ true
     → is_safe (later ++ SyncEnded s ∷ earlier) w ≡ true
 safe_stays [] earlier s w e = grind arith
-safe_stays (SyncEnded t ∷ later) earlier s w e = grind (arith, makes_same, (safe_stays later earlier s w))
+safe_stays (SyncEnded t ∷ later) earlier s w e = grind (arith, covered_same, given_up_same, (safe_stays later earlier s w))
 safe_stays (e ∷ later) earlier s w h = safe_stays later earlier s w h
 
 pub sync_adds_none : SyncAddsNone

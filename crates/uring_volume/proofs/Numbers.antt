@@ -49,14 +49,8 @@ held_write v off bytes write_list sync_list held =
         );
         numbered = record {
           some = omega arith;
-          positive = λ w among. elim among [
-            | inl same ↦ omega (arith, numbered.some, ap (λ x. x.number) same)
-            | inr old ↦ numbered.positive w old
-          ];
-          issued = λ w among. elim among [
-            | inl same ↦ omega (arith, ap (λ x. x.number) same)
-            | inr old ↦ omega (arith, numbered.issued w old)
-          ];
+          positive = λ w among. grind (arith, (numbered.positive w));
+          issued = λ w among. grind (arith, (numbered.issued w));
           ended = λ n is. omega (arith, numbered.ended n is);
           running = grind (arith, one_more);
         };

@@ -34,10 +34,6 @@ step_by h k s c [] apart fits made = inl (record {
 })
 step_by h k s c (w ∷ more) apart fits made = grind (arith, first_is_free, rest_fits)
 
-step_down : (h : History) (k : ℕ) (s : Way) (c : List ℕ) → AreApart h s.rest → Gives h k s c
-    → IsEnd h s c ⊎ ((w : Write) × IsStep h k s w × Gives h k (stepped k s w) c)
-step_down h k s c apart g = step_by h k s c g.order apart g.fits g.made
-
 end_gives : (h : History) (k : ℕ) (s : Way) (c : List ℕ) → IsEnd h s c → Gives h k s c
 end_gives h k s c e = grind (arith, not_in)
 
@@ -162,7 +158,7 @@ found_new : (n : ℕ) (h : History) (k : ℕ) (ways : List Way) (found : List (L
     → IsIn c (found_by n h k ways found)
 found_new zero h k ways found s c all among g = absurd (let none : length s.rest < 0 = (all s among).short in omega arith)
 found_new (suc n) h k ways found s c all among g =
-    elim (step_down h k s c (all s among).apart g) [
+    elim (step_by h k s c g.order (all s among).apart g.fits g.made) [
       | inl e ↦ grind (arith, found_old, at_new)
       | inr on ↦ grind (arith, (found_new n h k (next_ways h k ways []) (found_at h ways found) (stepped k s on.0) c (next_short h k n ways all)), next_new)
     ]

@@ -24,11 +24,8 @@ skip_issue n w g h is same = search rules
 skip_end : (n k : ℕ) (g h : History) → k ≡ n → SameBut n g h → SameBut n (WriteEnded k ∷ g) h
 skip_end n k g h is same = search rules
 
-same_nil : (n : ℕ) → SameBut n [] []
-same_nil n = search rules
-
 same_without : (n : ℕ) (h : History) → SameBut n h (without_write n h)
-same_without n [] = same_nil n
+same_without n [] = search rules
 same_without n (WriteIssued w ∷ earlier) = grind (arith, skip_issue, same_cons, (same_without n earlier))
 same_without n (WriteEnded k ∷ earlier) = grind (arith, skip_end, same_cons, (same_without n earlier))
 same_without n (e ∷ earlier) = same_cons n e earlier (without_write n earlier) (same_without n earlier)
