@@ -1,6 +1,6 @@
 -- The test tells which write can be folded.
 use Rattle.std.proofs.Common.{◌≡◌, ◌==◌, ℕ, max, true, false, not, ◌&&◌, ap, inl, inr, arith}
-use Rattle.uring_volume.proofs.Common.{History, IsFoldable, IsIn, IsLawful, Write, and_from, and_parts, both_ways, can_fold, cases_Bool, eqb-false, false_from_ne_true, is_before, is_in_way, is_safe, is_under, issued, list_any, ne_eqb, not-true, not_from_false, or_cases, or_left, or_right, overlap, writes}
+use Rattle.uring_volume.proofs.Common.{History, IsFoldable, IsIn, IsLawful, Write, and_from, and_parts, both_ways, can_fold, eqb-false, false_from_ne_true, is_before, is_in_way, is_safe, is_under, issued, list_any, ne_eqb, not-true, not_from_false, or_cases, overlap, writes}
 use Rattle.uring_volume.proofs.Chosen.{in_issued, of_issued, one_number}
 use Rattle.uring_volume.proofs.Puts.{any_is, is_any}
 

@@ -1,6 +1,6 @@
 -- Which history allows no image that another doesn't: the laws of syncs and of the events that change none.
-use Rattle.std.proofs.Common.{◌≡◌, ◌==◌, ℕ, Bool, true, not, ◌&&◌, ◌||◌, List, [], ◌∷◌, ◌++◌, refl, sym, subst, ap, ◌∙◌, inl, inr, arith}
-use Rattle.uring_volume.proofs.Common.{ChangesNone, FailedIsNeverSafe, History, IsImage, IsIn, IsInOrder, MayBeLeft, SyncAddsNone, SyncEnded, SyncFailed, SyncIssued, Write, WriteEnded, WriteIssued, and_right, has_ended, is_before, is_covered, is_given_up, is_reached, is_safe, lies_in, meets, not_from_true, or_cases, or_from, or_left, or_right, writes}
+use Rattle.std.proofs.Common.{◌≡◌, ◌==◌, ℕ, Bool, true, not, ◌&&◌, ◌||◌, List, [], ◌∷◌, ◌++◌, refl, sym, ◌∙◌, arith}
+use Rattle.uring_volume.proofs.Common.{ChangesNone, FailedIsNeverSafe, History, IsImage, IsInOrder, MayBeLeft, SyncAddsNone, SyncEnded, SyncFailed, SyncIssued, Write, WriteEnded, WriteIssued, has_ended, is_before, is_covered, is_given_up, is_reached, is_safe, writes}
 use Rattle.uring_volume.specs.declared.event.SyncRange.{SyncRange}
 
 -- The history g has the writes of h, in the same order, and each write that is safe in g is safe in h.
@@ -70,10 +70,6 @@ given_up_same : (later earlier : History) (s : ℕ) (w : Write)
 given_up_same [] earlier s w = refl
 given_up_same (SyncFailed t ∷ later) earlier s w = grind (arith, reached_same, (given_up_same later earlier s w))
 given_up_same (e ∷ later) earlier s w = given_up_same later earlier s w
-
--- whether a sync that ends at this moment makes write w safe
-abbrev makes_safe : History → ℕ → Write → Bool
-makes_safe h s w = is_covered h s w && not (is_given_up h w)
 
 safe_stays : (later earlier : History) (s : ℕ) (w : Write) → is_safe (later ++ earlier) w ≡ true
     → is_safe (later ++ SyncEnded s ∷ earlier) w ≡ true

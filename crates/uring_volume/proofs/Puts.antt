@@ -1,6 +1,6 @@
 -- Lists to which each thing is put once.
-use Rattle.std.proofs.Common.{◌≡◌, ◌==◌, ℕ, Bool, true, false, ◌&&◌, List, [], ◌∷◌, ◌++◌, ◌⊎◌, refl, sym, subst, ap, ◌∙◌, inl, inr, arith}
-use Rattle.uring_volume.proofs.Common.{IsEachOnce, IsIn, Way, Write, and_from, and_parts, both_ways, cond_both, eq-eqb, eqb-true, list_any, nat_eq, or_cases, or_left, or_right, pointwise, put_by, same_text, same_way, same_write}
+use Rattle.std.proofs.Common.{◌≡◌, ◌==◌, ℕ, Bool, true, false, ◌&&◌, List, [], ◌∷◌, ◌++◌, ◌⊎◌, refl, sym, ap, ◌∙◌, inr, arith}
+use Rattle.uring_volume.proofs.Common.{IsEachOnce, IsIn, Way, Write, and_from, and_parts, both_ways, eq-eqb, eqb-true, list_any, nat_eq, pointwise, put_by, same_text, same_way, same_write}
 use Rattle.uring_volume.proofs.Fitting.{in_left, in_right, in_either}
 
 pub any_is : {X : Type 0} (p : X → Bool) (xs : List X) → list_any p xs ≡ true

@@ -1,5 +1,5 @@
 -- A safe write that none has overlapped since is read back.
-use Rattle.std.proofs.Common.{◌≡◌, ◌==◌, ◌<◌, ◌≤◌, ◌+◌, ◌-◌, ◌/◌, ℕ, max, true, false, cond, List, [], ◌∷◌, length, refl, ap, ◌∙◌, inl, inr, arith}
+use Rattle.std.proofs.Common.{◌≡◌, ◌==◌, ◌<◌, ◌≤◌, ◌+◌, ◌-◌, ◌/◌, ℕ, max, true, false, cond, List, [], ◌∷◌, length, refl, ap, ◌∙◌, inr, arith}
 use Rattle.uring_volume.proofs.Common.{History, IsIn, IsInOrder, SafeIsReadBack, UnitIsLeft, Write, and_from, byte_over, cond-false, end_of, false_from_ne_true, is_before, is_on, is_under, le-leb, length_over, lt-ltb, ne_eqb, slice_index}
 
 -- a byte, with one write over it

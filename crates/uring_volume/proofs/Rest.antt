@@ -1,6 +1,6 @@
 -- A file at rest has one image: of the writes of a byte one comes after all others, whatever the list.
-use Rattle.std.proofs.Common.{◌≡◌, ◌<◌, ◌≤◌, ◌/◌, ℕ, max, Bool, true, false, List, [], ◌∷◌, ◌⊎◌, length, refl, sym, subst, ◌∙◌, inl, inr, arith}
-use Rattle.uring_volume.proofs.Common.{History, IsAtRest, IsIn, IsInOrder, MayBeLeft, RestHasOneImage, UnitIsLeft, Write, both_ways, byte_over, cases_Bool, end_of, ext_get_or, is_before, is_on, is_under, length_over, slice_index}
+use Rattle.std.proofs.Common.{◌≡◌, ◌<◌, ◌≤◌, ◌/◌, ℕ, max, Bool, true, false, List, [], ◌∷◌, ◌⊎◌, length, refl, sym, ◌∙◌, inl, inr, arith}
+use Rattle.uring_volume.proofs.Common.{History, IsAtRest, IsIn, IsInOrder, MayBeLeft, RestHasOneImage, UnitIsLeft, Write, byte_over, cases_Bool, end_of, ext_get_or, is_before, is_on, is_under, length_over, slice_index}
 use Rattle.uring_volume.proofs.ReadBack.{none_over, last_over, len_grows, end_within}
 
 -- The last of these writes that writes the byte at offset k: of those that do, none comes after it.

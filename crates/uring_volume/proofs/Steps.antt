@@ -1,6 +1,6 @@
 -- A list of events, the newest first, grows by one at its head.
-use Rattle.std.proofs.Common.{◌≡◌, ◌<◌, ◌+◌, ℕ, List, [], ◌∷◌, ◌++◌, length, get_or, take, reverse, refl, sym, ap, ◌∙◌, arith}
-use Rattle.uring_volume.proofs.Common.{Event, History, SyncEnded, SyncFailed, SyncIssued, Write, WriteEnded, WriteIssued, ended, issued, reverse-append, take_more}
+use Rattle.std.proofs.Common.{◌≡◌, ◌<◌, ◌+◌, ℕ, List, [], ◌∷◌, ◌++◌, length, get_or, take, reverse, refl, sym, ap, ◌∙◌}
+use Rattle.uring_volume.proofs.Common.{Event, History, Write, WriteEnded, WriteIssued, ended, issued, reverse-append, take_more}
 
 pub newest : {X : Type 0} (xs : List X) (i : ℕ) (d : X) → i < length xs
     → reverse (take (i + 1) xs) ≡ get_or xs i d ∷ reverse (take i xs)

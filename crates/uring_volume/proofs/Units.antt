@@ -1,6 +1,6 @@
 -- An image of larger units is one of smaller ones: of what is left of a large unit, what lies on the small one is left of that.
-use Rattle.std.proofs.Common.{◌≡◌, ◌<◌, ◌≤◌, ◌+◌, ◌-◌, ◌*◌, ◌/◌, ℕ, min, max, Bool, true, false, cond, List, [], ◌∷◌, length, refl, sym, subst, inl, inr, arith}
-use Rattle.uring_volume.proofs.Common.{History, IsIn, IsInOrder, SmallerUnitsAllowIt, UnitIsLeft, Write, both_ways, byte_over, cases_Bool, cond-false, cond-true, div-div-eq-div-mul, filter, is_on, is_under, lt-div-mul-add, lt-ltb, ltb-true, mul-div-le, mul-le-mul_left, slice_index}
+use Rattle.std.proofs.Common.{◌≡◌, ◌<◌, ◌≤◌, ◌+◌, ◌-◌, ◌*◌, ◌/◌, ℕ, min, max, Bool, true, false, cond, List, [], ◌∷◌, length, refl, arith}
+use Rattle.uring_volume.proofs.Common.{History, IsIn, IsInOrder, SmallerUnitsAllowIt, UnitIsLeft, Write, both_ways, byte_over, div-div-eq-div-mul, filter, is_on, is_under, lt-div-mul-add, lt-ltb, ltb-true, mul-div-le, mul-le-mul_left, slice_index}
 use Rattle.uring_volume.proofs.ReadBack.{on_from}
 
 pub in_filter : (p : Write → Bool) (x : Write) (xs : List Write) → IsIn x xs → p x ≡ true

@@ -1,6 +1,6 @@
 -- The ways through some writes lead to what each list that fits leaves, and to nothing else.
-use Rattle.std.proofs.Common.{◌≡◌, ◌≤◌, ◌<◌, ℕ, zero, suc, Bool, false, cond, List, [], ◌∷◌, ◌⊎◌, length, refl, sym, subst, inl, inr, arith}
-use Rattle.uring_volume.proofs.Common.{History, IsEachOnce, IsIn, Way, Write, bytes_over, cond-false, cond_both, contents_of, false_from_ne_true, filter, found_at, found_by, has_safe, is_safe, nat_eq, next_ways, pointwise, put_by, same_way, stepped, steps_of, waits_for_one, way}
+use Rattle.std.proofs.Common.{◌≡◌, ◌≤◌, ◌<◌, ℕ, zero, suc, Bool, false, cond, List, [], ◌∷◌, ◌⊎◌, length, refl, subst, inl, inr, arith}
+use Rattle.uring_volume.proofs.Common.{History, IsEachOnce, IsIn, Way, Write, bytes_over, cond-false, contents_of, false_from_ne_true, filter, found_at, found_by, has_safe, is_safe, nat_eq, next_ways, pointwise, put_by, same_way, stepped, steps_of, waits_for_one, way}
 use Rattle.uring_volume.proofs.Fitting.{FitsIn, AreApart, apart_filter, named_is, first_is_free, rest_fits, place_fits, none_in, not_in}
 use Rattle.uring_volume.proofs.Puts.{in_put_old, in_put_new, of_put, put_once, ways_tell, bytes_tell}
 
