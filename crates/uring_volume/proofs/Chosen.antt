@@ -1,6 +1,6 @@
 -- What a choice leaves is an image, and each image is what some choice leaves.
-use Rattle.std.proofs.Common.{◌≡◌, ◌==◌, ◌/◌, ℕ, Bool, true, false, ◌&&◌, List, [], ◌∷◌, length, refl, sym, subst, ap, ◌∙◌, inl, inr}
-use Rattle.uring_volume.proofs.Common.{ChosenIsImage, History, ImageIsChosen, IsChosen, IsImage, IsIn, IsInOrder, IsLawful, MayBeLeft, SyncEnded, SyncFailed, SyncIssued, Write, WriteEnded, WriteIssued, and_left, and_right, byte_over, chosen, filter, has_ended, is_before, is_on, issued, length_over, ne_eqb, or_from, or_parts, slice_index, writes}
+use Rattle.std.proofs.Common.{◌≡◌, ◌==◌, ◌/◌, ℕ, Bool, true, false, ◌&&◌, List, [], ◌∷◌, length, refl, sym, ap, ◌∙◌, inl, inr, arith}
+use Rattle.uring_volume.proofs.Common.{ChosenIsImage, History, ImageIsChosen, IsChosen, IsImage, IsIn, IsInOrder, IsLawful, MayBeLeft, Write, WriteEnded, WriteIssued, byte_over, chosen, filter, has_ended, is_before, is_on, issued, length_over, ne_eqb, slice_index, writes}
 use Rattle.uring_volume.proofs.Units.{in_filter, of_filter, filter_in_order}
 use Rattle.uring_volume.proofs.Fitting.{in_left, in_right, in_either, append_in_order, FitsIn, chosen_fits, AreApart, apart_filter, numbers, fits_chosen}
 
@@ -8,24 +8,18 @@ use Rattle.uring_volume.proofs.Fitting.{in_left, in_right, in_either, append_in_
 
 pub in_issued : (h : History) (w : Write) → IsIn w (writes h) → IsIn w (issued h)
 in_issued [] w among = among
-in_issued (WriteIssued v ∷ earlier) w (inl same) = in_right w (issued earlier) (v ∷ []) (inl same)
-in_issued (WriteIssued v ∷ earlier) w (inr more) =
-    in_left w (issued earlier) (v ∷ []) (in_issued earlier w more)
+in_issued (WriteIssued v ∷ earlier) w among = grind (arith, in_left, in_right, (in_issued earlier w))
 in_issued (e ∷ earlier) w among = in_issued earlier w among
 
 pub of_issued : (h : History) (w : Write) → IsIn w (issued h) → IsIn w (writes h)
 of_issued [] w among = among
-of_issued (WriteIssued v ∷ earlier) w among = elim (in_either w (issued earlier) (v ∷ []) among) [
-  | inl left ↦ inr (of_issued earlier w left)
-  | inr right ↦ elim right [ inl same ↦ inl same | inr none ↦ absurd none ]
-]
+of_issued (WriteIssued v ∷ earlier) w among = grind (arith, (in_either w (issued earlier) (v ∷ []) among), (of_issued earlier w))
 of_issued (e ∷ earlier) w among = of_issued earlier w among
 
 -- an issue of another write doesn't change what is before a write
 pub issue_apart : (h : History) (v : Write) (m n : ℕ) → (n ≡ v.number → ⊥)
     → is_before h m n ≡ false → is_before (WriteIssued v ∷ h) m n ≡ false
-issue_apart h v m n differs none =
-    or_from (v.number == n && has_ended h m) (is_before h m n) (and_left (v.number == n) (has_ended h m) (ne_eqb v.number n (λ e. differs (sym e)))) none
+issue_apart h v m n differs none = rw (ne_eqb v.number n (λ e. differs (sym e))) none
 
 -- the same writes are before one another
 same_order : (g h : History) (order : List Write)
@@ -45,9 +39,8 @@ with_issue h v (w ∷ later) differ o =
 -- a write that hasn't ended is before none
 pub not_before : (h : History) (m n : ℕ) → has_ended h m ≡ false → is_before h m n ≡ false
 not_before [] m n open_yet = refl
-not_before (WriteIssued w ∷ earlier) m n open_yet =
-    or_from (w.number == n && has_ended earlier m) (is_before earlier m n) (and_right (w.number == n) (has_ended earlier m) open_yet) (not_before earlier m n open_yet)
-not_before (WriteEnded k ∷ earlier) m n open_yet = not_before earlier m n (or_parts (k == m) (has_ended earlier m) open_yet).1
+not_before (WriteIssued w ∷ earlier) m n open_yet = grind (arith, (not_before earlier m n))
+not_before (WriteEnded k ∷ earlier) m n open_yet = grind (arith, (not_before earlier m n))
 not_before (e ∷ earlier) m n open_yet = not_before earlier m n open_yet
 
 issued_in_order : (h : History) → IsLawful h → IsInOrder h (issued h)
@@ -56,38 +49,20 @@ issued_in_order (WriteIssued v ∷ earlier) l =
     append_in_order (WriteIssued v ∷ earlier) (issued earlier) (v ∷ [])
     (with_issue earlier v (issued earlier) (λ x among. l.0 x (of_issued earlier x among)) (issued_in_order earlier l.2))
     (λ m none. absurd none, λ none. none, tt)
-    (λ x m left right. elim right [
-      | inl same ↦ issue_apart earlier v m.number x.number (l.0 x (of_issued earlier x left)) (not_before earlier m.number x.number (subst (λ y. has_ended earlier y.number ≡ false) (sym same) l.1))
-      | inr none ↦ absurd none
-    ])
-    (λ x left right. elim right [
-      | inl same ↦ l.0 x (of_issued earlier x left) (ap (λ y. y.number) same)
-      | inr none ↦ none
-    ])
-issued_in_order (WriteEnded n ∷ earlier) l = same_order (WriteEnded n ∷ earlier) earlier (issued earlier) (λ m k. refl) (issued_in_order earlier l)
-issued_in_order (SyncIssued n range ∷ earlier) l = same_order (SyncIssued n range ∷ earlier) earlier (issued earlier) (λ m k. refl) (issued_in_order earlier l)
-issued_in_order (SyncEnded n ∷ earlier) l = same_order (SyncEnded n ∷ earlier) earlier (issued earlier) (λ m k. refl) (issued_in_order earlier l)
-issued_in_order (SyncFailed n ∷ earlier) l = same_order (SyncFailed n ∷ earlier) earlier (issued earlier) (λ m k. refl) (issued_in_order earlier l)
+    (λ x m left right. grind (arith, (issue_apart earlier v m.number x.number (l.0 x (of_issued earlier x left))), (not_before earlier m.number x.number)))
+    (λ x left right. grind (arith, (l.0 x (of_issued earlier x left))))
+issued_in_order (e ∷ earlier) l = same_order (e ∷ earlier) earlier (issued earlier) (λ m k. refl) (issued_in_order earlier l)
 
 none_before_itself : (h : History) (w : Write) → IsLawful h → IsIn w (writes h)
     → is_before h w.number w.number ≡ false
 none_before_itself [] w l among = refl
-none_before_itself (WriteIssued v ∷ earlier) w l (inl same) =
-    let open_yet : has_ended earlier w.number ≡ false = subst (λ y. has_ended earlier y.number ≡ false) (sym same) l.1 in
-    or_from (v.number == w.number && has_ended earlier w.number) (is_before earlier w.number w.number) (and_right (v.number == w.number) (has_ended earlier w.number) open_yet) (not_before earlier w.number w.number open_yet)
-none_before_itself (WriteIssued v ∷ earlier) w l (inr more) =
-    issue_apart earlier v w.number w.number (l.0 w more) (none_before_itself earlier w l.2 more)
+none_before_itself (WriteIssued v ∷ earlier) w l among = grind (arith, not_before, issue_apart, (none_before_itself earlier w l.2))
 none_before_itself (e ∷ earlier) w l among = none_before_itself earlier w l among
 
 pub one_number : (h : History) (x y : Write) → IsLawful h → IsIn x (writes h) → IsIn y (writes h)
     → x.number ≡ y.number → x ≡ y
 one_number [] x y l ax ay e = absurd ax
-one_number (WriteIssued v ∷ earlier) x y l (inl sx) (inl sy) e = sx ∙ sym sy
-one_number (WriteIssued v ∷ earlier) x y l (inl sx) (inr my) e =
-    absurd (l.0 y my (sym e ∙ ap (λ z. z.number) sx))
-one_number (WriteIssued v ∷ earlier) x y l (inr mx) (inl sy) e =
-    absurd (l.0 x mx (e ∙ ap (λ z. z.number) sy))
-one_number (WriteIssued v ∷ earlier) x y l (inr mx) (inr my) e = one_number earlier x y l.2 mx my e
+one_number (WriteIssued v ∷ earlier) x y l ax ay e = grind (arith, (one_number earlier x y l.2), (l.0 x), (l.0 y))
 one_number (f ∷ earlier) x y l ax ay e = one_number earlier x y l ax ay e
 
 pub issued_apart : (h : History) → IsLawful h → AreApart h (issued h)
@@ -103,23 +78,13 @@ pub left_of_fit : (h : History) (touches : Write → Bool) (rest order : List Wr
     → ((w : Write) → IsIn w rest → IsIn w (writes h) × (touches w ≡ true))
     → ((w : Write) → IsIn w (writes h) → touches w ≡ true → IsIn w rest)
     → FitsIn h rest order → MayBeLeft h touches order
-left_of_fit h touches rest order of into f = record {
-  issued = λ w among. of w (f.within w among);
-  safe = λ w among on safe. f.safe w (into w among on) safe;
-  with_those_before = λ m w among on kept before. f.closed m w (into m among on) kept before;
-  in_order = f.in_order;
-}
+left_of_fit h touches rest order of into f = grind arith
 
 pub fit_of_left : (h : History) (touches : Write → Bool) (rest order : List Write)
     → ((w : Write) → IsIn w rest → IsIn w (writes h) × (touches w ≡ true))
     → ((w : Write) → IsIn w (writes h) → touches w ≡ true → IsIn w rest)
     → MayBeLeft h touches order → FitsIn h rest order
-fit_of_left h touches rest order of into l = record {
-  within = λ w among. into w (l.issued w among).0 (l.issued w among).1;
-  safe = λ w among safe. l.safe w (of w among).0 (of w among).1 safe;
-  closed = λ m w among kept before. l.with_those_before m w (of m among).0 (of m among).1 kept before;
-  in_order = l.in_order;
-}
+fit_of_left h touches rest order of into l = grind arith
 
 pub on_of : (h : History) (touches : Write → Bool) (w : Write) → IsIn w (filter touches (issued h))
     → IsIn w (writes h) × (touches w ≡ true)
@@ -145,7 +110,7 @@ left_chosen h touches order l left =
 whole_left : (h : History) (choice : List ℕ) → IsLawful h
     → MayBeLeft h (λ w. true) (chosen h (issued h) choice)
 whole_left h choice l =
-    left_of_fit h (λ w. true) (issued h) (chosen h (issued h) choice) (λ w among. (of_issued h w among, refl)) (λ w among on. in_issued h w among)
+    left_of_fit h (λ w. true) (issued h) (chosen h (issued h) choice) (grind (arith, of_issued)) (grind (arith, in_issued))
     (chosen_fits h (issued h) choice (issued_in_order h l))
 
 whole_chosen : (h : History) (order : List Write) → IsLawful h → MayBeLeft h (λ w. true) order
@@ -177,9 +142,7 @@ NameWrites h ns = (n : ℕ) → IsIn n ns → (w : Write) × IsIn w (writes h) �
 numbers_name : (h : History) (order : List Write) → ((w : Write) → IsIn w order → IsIn w (writes h))
     → NameWrites h (numbers order)
 numbers_name h [] known n among = absurd among
-numbers_name h (w ∷ later) known n (inl same) = (w, known w (inl refl), sym same)
-numbers_name h (w ∷ later) known n (inr more) =
-    numbers_name h later (λ x among. known x (inr among)) n more
+numbers_name h (w ∷ later) known n among = grind (arith, (numbers_name h later))
 
 -- each image is left by choices that name writes alone
 pub image_is_named : (u : ℕ) (first : List ℕ) (h : History) (now : List ℕ) → IsLawful h

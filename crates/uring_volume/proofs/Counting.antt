@@ -1,5 +1,5 @@
 -- How long a list is in which each thing comes once.
-use Rattle.std.proofs.Common.{◌≡◌, ◌≤◌, ℕ, suc, List, [], ◌∷◌, length, refl, sym, subst, ap, ◌∙◌, inl, inr, arith}
+use Rattle.std.proofs.Common.{◌≡◌, ◌≤◌, ℕ, suc, List, [], ◌∷◌, length, refl, ap, ◌∙◌, inl, inr, arith}
 use Rattle.uring_volume.proofs.Common.{IsEachOnce, IsIn, ListsAreAsLong}
 
 -- a list without one of its elements
@@ -10,26 +10,17 @@ record IsLess (x : List ℕ) (ys : List (List ℕ)) : Type 0 where
 
 less : (x : List ℕ) (ys : List (List ℕ)) → IsIn x ys → IsLess x ys
 less x [] among = absurd among
-less x (y ∷ ys) (inl same) = record {
-  others = ys;
-  long = refl;
-  within = λ z is_in other. elim is_in [ inl is ↦ absurd (other (is ∙ sym same)) | inr more ↦ more ];
-}
+less x (y ∷ ys) (inl same) = record { others = ys; long = refl; within = grind arith }
 less x (y ∷ ys) (inr more) =
     let rest = less x ys more in
-    record {
-      others = y ∷ rest.others;
-      long = ap suc rest.long;
-      within = λ z is_in other. elim is_in [ inl is ↦ inl is | inr later ↦ inr (rest.within z later other) ];
-    }
+    record { others = y ∷ rest.others; long = ap suc rest.long; within = grind (arith, (rest.within)) }
 
 no_longer : (xs ys : List (List ℕ)) → IsEachOnce xs → ((x : List ℕ) → IsIn x xs → IsIn x ys)
     → length xs ≤ length ys
 no_longer [] ys once within = omega arith
 no_longer (x ∷ xs) ys once within =
     let rest = less x ys (within x (inl refl)) in
-    let more : length xs ≤ length rest.others = no_longer xs rest.others once.1 (λ z among. rest.within z (within z (inr among)) (λ same. once.0 (subst (λ y. IsIn y xs) same among))) in
-    omega (arith, more, rest.long)
+    grind (arith, (no_longer xs rest.others once.1), (rest.within))
 
 pub lists_are_as_long : ListsAreAsLong
 lists_are_as_long u first h some others a b = grind (arith, no_longer)

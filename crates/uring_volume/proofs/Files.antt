@@ -84,14 +84,12 @@ in_unit_contents u first h len i c l is =
 
 in_map : (f : List ℕ → List ℕ) (x : List ℕ) (xs : List (List ℕ)) → IsIn x xs → IsIn (f x) (map f xs)
 in_map f x [] among = among
-in_map f x (y ∷ ys) (inl same) = inl (ap f same)
-in_map f x (y ∷ ys) (inr more) = inr (in_map f x ys more)
+in_map f x (y ∷ ys) among = grind (arith, (in_map f x ys))
 
 of_map : (f : List ℕ → List ℕ) (z : List ℕ) (xs : List (List ℕ)) → IsIn z (map f xs)
     → (x : List ℕ) × IsIn x xs × (z ≡ f x)
 of_map f z [] among = absurd among
-of_map f z (y ∷ ys) (inl same) = (y, inl refl, same)
-of_map f z (y ∷ ys) (inr more) = let found = of_map f z ys more in (found.0, inr found.1, found.2)
+of_map f z (y ∷ ys) among = grind (arith, (of_map f z ys))
 
 record IsJoin (bs es : List (List ℕ)) (z : List ℕ) : Type 0 where
   front : List ℕ
@@ -103,36 +101,27 @@ record IsJoin (bs es : List (List ℕ)) (z : List ℕ) : Type 0 where
 of_joined : (bs es : List (List ℕ)) (z : List ℕ) → IsIn z (joined bs es) → IsJoin bs es z
 of_joined [] es z among = absurd among
 of_joined (b ∷ more) es z among = elim (in_either z (map (λ e. b ++ e) es) (joined more es) among) [
-  | inl here ↦ let found = of_map (λ e. b ++ e) z es here in record { front = b; back = found.0; in_front = inl refl; in_back = found.1; is = found.2 }
-  | inr there ↦ let found = of_joined more es z there in record { front = found.front; back = found.back; in_front = inr found.in_front; in_back = found.in_back; is = found.is }
+  | inl here ↦ grind (arith, (of_map (λ e. b ++ e) z es here))
+  | inr there ↦ grind (arith, (of_joined more es z there))
 ]
 
 in_joined : (bs es : List (List ℕ)) (b e : List ℕ) → IsIn b bs → IsIn e es
     → IsIn (b ++ e) (joined bs es)
 in_joined [] es b e among after = absurd among
-in_joined (c ∷ more) es b e (inl same) after =
-    in_left (b ++ e) (map (λ x. c ++ x) es) (joined more es) (subst (λ y. IsIn (b ++ e) (map (λ x. y ++ x) es)) same (in_map (λ x. b ++ x) e es after))
-in_joined (c ∷ more) es b e (inr later) after =
-    in_right (b ++ e) (map (λ x. c ++ x) es) (joined more es) (in_joined more es b e later after)
+in_joined (c ∷ more) es b e among after = grind (arith, in_left, in_right, in_map, (in_joined more es b e))
 
 map_once : (b : List ℕ) (es : List (List ℕ)) → IsEachOnce es → IsEachOnce (map (λ e. b ++ e) es)
 map_once b [] once = tt
 map_once b (e ∷ es) once = (
-  λ among. let found = of_map (λ x. b ++ x) (b ++ e) es among in
-      once.0 (subst (λ x. IsIn x es) (sym (sym (drop-append_seam b e) ∙ ap (drop (length b)) found.2 ∙ drop-append_seam b found.0)) found.1),
+  λ among. let found = of_map (λ x. b ++ x) (b ++ e) es among in grind (arith, (drop-append_seam b e), (drop-append_seam b found.0)),
   map_once b es once.1,
 )
 
 both_once : (xs ys : List (List ℕ)) → IsEachOnce xs → IsEachOnce ys
     → ((x : List ℕ) → IsIn x xs → IsIn x ys → ⊥) → IsEachOnce (xs ++ ys)
 both_once [] ys ox oy apart = oy
-both_once (x ∷ xs) ys ox oy apart = (
-  λ among. elim (in_either x xs ys among) [
-    | inl left ↦ ox.0 left
-    | inr right ↦ apart x (inl refl) right
-  ],
-  both_once xs ys ox.1 oy (λ y left. apart y (inr left)),
-)
+both_once (x ∷ xs) ys ox oy apart =
+    (λ among. grind (arith, (in_either x xs ys among)), both_once xs ys ox.1 oy (λ y left. apart y (inr left)))
 
 joined_once : (n : ℕ) (bs es : List (List ℕ)) → IsEachOnce bs → IsEachOnce es
     → ((b : List ℕ) → IsIn b bs → length b ≡ n) → IsEachOnce (joined bs es)
@@ -142,9 +131,7 @@ joined_once n (b ∷ more) es ob oe long =
     (λ z here there.
     let one = of_map (λ e. b ++ e) z es here in
     let two = of_joined more es z there in
-    let size : length b ≡ length two.front = long b (inl refl) ∙ sym (long two.front (inr two.in_front)) in
-    let same : b ≡ two.front = sym (take-append_seam b one.0) ∙ ap (take (length b)) (sym one.2 ∙ two.is) ∙ ap (λ m. take m (two.front ++ two.back)) size ∙ take-append_seam two.front two.back in
-    ob.0 (subst (λ x. IsIn x more) (sym same) two.in_front))
+    grind (arith, (take-append_seam b one.0), (take-append_seam two.front two.back), (long two.front (inr two.in_front)), (long b (inl refl))))
 
 -- The first units of a file.
 
@@ -263,20 +250,16 @@ record IsOfLength (u : ℕ) (first : List ℕ) (h : History) (lens : List ℕ) (
 of_files : (u : ℕ) (first : List ℕ) (h : History) (lens : List ℕ) (now : List ℕ)
     → IsIn now (files_of u first h lens) → IsOfLength u first h lens now
 of_files u first h [] now among = absurd among
-of_files u first h (len ∷ more) now among =
-    elim (in_either now (fronts u first h len (units_in u len)) (files_of u first h more) among) [
-      | inl here ↦ record { len = len; among = inl refl; file = here }
-      | inr there ↦ let found = of_files u first h more now there in record { len = found.len; among = inr found.among; file = found.file }
-    ]
+of_files u first h (len ∷ more) now among = elim (in_either now (fronts u first h len (units_in u len)) (files_of u first h more) among) [
+  | inl here ↦ record { len = len; among = inl refl; file = here }
+  | inr there ↦ grind (arith, (of_files u first h more now there))
+]
 
 in_files : (u : ℕ) (first : List ℕ) (h : History) (lens : List ℕ) (len : ℕ) (now : List ℕ)
     → IsIn len lens → IsIn now (fronts u first h len (units_in u len))
     → IsIn now (files_of u first h lens)
 in_files u first h [] len now among file = absurd among
-in_files u first h (m ∷ more) len now (inl same) file =
-    in_left now (fronts u first h m (units_in u m)) (files_of u first h more) (subst (λ n. IsIn now (fronts u first h n (units_in u n))) same file)
-in_files u first h (m ∷ more) len now (inr later) file =
-    in_right now (fronts u first h m (units_in u m)) (files_of u first h more) (in_files u first h more len now later file)
+in_files u first h (m ∷ more) len now among file = grind (arith, in_left, in_right, (in_files u first h more len now))
 
 files_once : (u : ℕ) (first : List ℕ) (h : History) (lens : List ℕ) → 0 < u → IsLawful h
     → IsEachOnce lens → IsEachOnce (files_of u first h lens)

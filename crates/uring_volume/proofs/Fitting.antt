@@ -1,6 +1,6 @@
 -- What may be left of some writes, wherever they lie: a choice gives it, and it is what some choice gives.
-use Rattle.std.proofs.Common.{◌≡◌, ◌==◌, ℕ, Bool, true, false, not, List, [], ◌∷◌, ◌++◌, ◌⊎◌, refl, sym, subst, ap, ◌∙◌, inl, inr}
-use Rattle.uring_volume.proofs.Common.{History, IsIn, IsInOrder, Write, both_ways, cases_Bool, chosen, cond-false, cond-true, eq-eqb, eqb-true, false_from_ne_true, filter, has_safe, is_before, is_safe, list_any, named, ne_eqb, not-true, not_from_false, or_from, or_left, or_right, up_to_safe, waits_for_one, without}
+use Rattle.std.proofs.Common.{◌≡◌, ◌==◌, ℕ, Bool, true, false, not, List, [], ◌∷◌, ◌++◌, ◌⊎◌, refl, sym, subst, ap, ◌∙◌, inl, inr, arith}
+use Rattle.uring_volume.proofs.Common.{History, IsIn, IsInOrder, Write, both_ways, cases_Bool, chosen, cond-false, cond-true, eq-eqb, eqb-true, false_from_ne_true, filter, is_before, is_safe, list_any, named, ne_eqb, not-true, not_from_false, up_to_safe, waits_for_one, without}
 use Rattle.uring_volume.proofs.Units.{in_filter, of_filter, filter_in_order}
 
 -- Tests of lists.
@@ -8,15 +8,12 @@ use Rattle.uring_volume.proofs.Units.{in_filter, of_filter, filter_in_order}
 any_in : (p : Write → Bool) (x : Write) (xs : List Write) → IsIn x xs → p x ≡ true
     → list_any p xs ≡ true
 any_in p x [] among is = absurd among
-any_in p x (y ∷ ys) (inl same) is =
-    or_left (p y) (list_any p ys) (subst (λ z. p z ≡ true) same is)
-any_in p x (y ∷ ys) (inr more) is = or_right (p y) (list_any p ys) (any_in p x ys more is)
+any_in p x (y ∷ ys) among is = grind (arith, (any_in p x ys))
 
 pub none_in : (p : Write → Bool) (xs : List Write) → ((x : Write) → IsIn x xs → p x ≡ false)
     → list_any p xs ≡ false
 none_in p [] none = refl
-none_in p (y ∷ ys) none =
-    or_from (p y) (list_any p ys) (none y (inl refl)) (none_in p ys (λ x among. none x (inr among)))
+none_in p (y ∷ ys) none = grind (arith, (none_in p ys))
 
 pub not_in : (p : Write → Bool) (x : Write) (xs : List Write) → list_any p xs ≡ false → IsIn x xs
     → p x ≡ false
@@ -25,8 +22,7 @@ not_in p x xs none among =
 
 pub in_left : {X : Type 0} (x : X) (xs ys : List X) → IsIn x xs → IsIn x (xs ++ ys)
 in_left x [] ys among = absurd among
-in_left x (z ∷ xs) ys (inl same) = inl same
-in_left x (z ∷ xs) ys (inr more) = inr (in_left x xs ys more)
+in_left x (z ∷ xs) ys among = grind (arith, (in_left x xs ys))
 
 pub in_right : {X : Type 0} (x : X) (xs ys : List X) → IsIn x ys → IsIn x (xs ++ ys)
 in_right x [] ys among = among
@@ -34,11 +30,7 @@ in_right x (z ∷ xs) ys among = inr (in_right x xs ys among)
 
 pub in_either : {X : Type 0} (x : X) (xs ys : List X) → IsIn x (xs ++ ys) → IsIn x xs ⊎ IsIn x ys
 in_either x [] ys among = inr among
-in_either x (z ∷ xs) ys (inl same) = inl (inl same)
-in_either x (z ∷ xs) ys (inr more) = elim (in_either x xs ys more) [
-  | inl left ↦ inl (inr left)
-  | inr right ↦ inr right
-]
+in_either x (z ∷ xs) ys among = grind (arith, (in_either x xs ys))
 
 pub append_in_order : (h : History) (xs ys : List Write) → IsInOrder h xs → IsInOrder h ys
     → ((x m : Write) → IsIn x xs → IsIn m ys → is_before h m.number x.number ≡ false)
@@ -46,14 +38,8 @@ pub append_in_order : (h : History) (xs ys : List Write) → IsInOrder h xs → 
     → IsInOrder h (xs ++ ys)
 append_in_order h [] ys ox oy after apart = oy
 append_in_order h (x ∷ xs) ys ox oy after apart = (
-  λ m among. elim (in_either m xs ys among) [
-    | inl left ↦ ox.0 m left
-    | inr right ↦ after x m (inl refl) right
-  ],
-  λ among. elim (in_either x xs ys among) [
-    | inl left ↦ ox.1 left
-    | inr right ↦ apart x (inl refl) right
-  ],
+  λ m among. grind (arith, (in_either m xs ys among)),
+  λ among. grind (arith, (in_either x xs ys among)),
   append_in_order h xs ys ox.2 oy (λ y m among. after y m (inr among)) (λ y among. apart y (inr among)),
 )
 
@@ -70,36 +56,11 @@ pub record FitsIn (h : History) (rest order : List Write) : Type 0 where
 
 safe_fits_with : (h : History) (w : Write) (later : List Write) → IsInOrder h (w ∷ later)
     → FitsIn h later (up_to_safe h later) → FitsIn h (w ∷ later) (w ∷ up_to_safe h later)
-safe_fits_with h w later o f = record {
-  within = λ x among. elim among [ inl same ↦ inl same | inr more ↦ inr (f.within x more) ];
-  safe = λ x among safe. elim among [ inl same ↦ inl same | inr more ↦ inr (f.safe x more safe) ];
-  closed = λ m x among kept before. elim among [
-    | inl same ↦ inl same
-    | inr more ↦ elim kept [
-      | inl is ↦ absurd (both_ways (is_before h m.number w.number) (o.0 m more) (subst (λ y. is_before h m.number y.number ≡ true) is before))
-      | inr further ↦ inr (f.closed m x more further before)
-    ]
-  ];
-  in_order = (λ m among. o.0 m (f.within m among), λ among. o.1 (f.within w among), f.in_order);
-}
+safe_fits_with h w later o f = grind arith
 
 safe_fits : (h : History) (rest : List Write) → IsInOrder h rest → FitsIn h rest (up_to_safe h rest)
-safe_fits h [] o = record {
-  within = λ w among. among;
-  safe = λ w among safe. among;
-  closed = λ m w among kept before. among;
-  in_order = tt;
-}
-safe_fits h (w ∷ later) o =
-    elim (cases_Bool (has_safe h (w ∷ later))) [
-      | inl some ↦ subst (λ order. FitsIn h (w ∷ later) order) (sym (cond-true (has_safe h (w ∷ later)) (w ∷ up_to_safe h later) [] some)) (safe_fits_with h w later o (safe_fits h later o.2))
-      | inr none ↦ subst (λ order. FitsIn h (w ∷ later) order) (sym (cond-false (has_safe h (w ∷ later)) (w ∷ up_to_safe h later) [] none)) (record {
-        within = λ x among. absurd among;
-        safe = λ x among safe. absurd (both_ways (is_safe h x) (not_in (λ y. is_safe h y) x (w ∷ later) none among) safe);
-        closed = λ m x among kept before. absurd kept;
-        in_order = tt;
-      })
-    ]
+safe_fits h [] o = grind arith
+safe_fits h (w ∷ later) o = grind (arith, safe_fits_with, not_in, cond-true, cond-false, (safe_fits h later o.2))
 
 -- whether a write has the number n
 abbrev pub has : ℕ → Write → Bool
@@ -139,10 +100,7 @@ pub chosen_fits : (h : History) (rest : List Write) (choice : List ℕ) → IsIn
     → FitsIn h rest (chosen h rest choice)
 chosen_fits h rest [] o = safe_fits h rest o
 chosen_fits h rest (n ∷ more) o =
-    elim (cases_Bool (waits_for_one h rest n)) [
-      | inl waits ↦ subst (λ order. FitsIn h rest order) (sym (cond-true (waits_for_one h rest n) (chosen h rest more) (named n rest ++ chosen h (without n rest) more) waits)) (chosen_fits h rest more o)
-      | inr free ↦ subst (λ order. FitsIn h rest order) (sym (cond-false (waits_for_one h rest n) (chosen h rest more) (named n rest ++ chosen h (without n rest) more) free)) (place_fits h n rest (chosen h (without n rest) more) o free (chosen_fits h (without n rest) more (filter_in_order h (lacks n) rest o)))
-    ]
+    grind (arith, (place_fits h n rest), (chosen_fits h rest more o), (chosen_fits h (without n rest) more (filter_in_order h (lacks n) rest o)))
 
 -- Completeness.
 
@@ -163,30 +121,18 @@ apart_filter h p rest a = record {
 filter_none : (p : Write → Bool) (xs : List Write) → ((x : Write) → IsIn x xs → p x ≡ false)
     → filter p xs ≡ []
 filter_none p [] none = refl
-filter_none p (y ∷ ys) none =
-    cond-false (p y) (y ∷ filter p ys) (filter p ys) (none y (inl refl)) ∙ filter_none p ys (λ x among. none x (inr among))
+filter_none p (y ∷ ys) none = grind (arith, (filter_none p ys))
 
 pub named_is : (h : History) (w : Write) (rest : List Write) → AreApart h rest → IsIn w rest
     → named w.number rest ≡ w ∷ []
 named_is h w [] a among = absurd among
-named_is h w (y ∷ ys) a (inl same) =
-    cond-true (has w.number y) (y ∷ named w.number ys) (named w.number ys) (eq-eqb y.number w.number (ap (λ z. z.number) (sym same)))
-    ∙ ap (λ zs. y ∷ zs) (filter_none (has w.number) ys (λ x among. ne_eqb x.number w.number (λ e. a.in_order.1 (subst (λ z. IsIn z ys) (a.unique x w (inr among) (inl same) e ∙ same) among))))
-    ∙ ap (λ z. z ∷ []) (sym same)
-named_is h w (y ∷ ys) a (inr more) =
-    cond-false (has w.number y) (y ∷ named w.number ys) (named w.number ys) (ne_eqb y.number w.number (λ e. a.in_order.1 (subst (λ z. IsIn z ys) (sym (a.unique y w (inl refl) (inr more) e)) more)))
-    ∙ named_is h w ys (record {
-      in_order = a.in_order.2;
-      unique = λ x z ax az. a.unique x z (inr ax) (inr az);
-      irreflexive = λ x among. a.irreflexive x (inr among);
-    }) more
+named_is h w (y ∷ ys) a among = grind (arith, filter_none, ne_eqb, eq-eqb, (named_is h w ys))
 
 none_left : (h : History) (rest : List Write)
     → ((w : Write) → IsIn w rest → is_safe h w ≡ true → ⊥)
     → up_to_safe h rest ≡ []
 none_left h [] none = refl
-none_left h (w ∷ later) none =
-    cond-false (has_safe h (w ∷ later)) (w ∷ up_to_safe h later) [] (none_in (λ y. is_safe h y) (w ∷ later) (λ x among. false_from_ne_true (is_safe h x) (none x among)))
+none_left h (w ∷ later) none = grind (arith, none_in, false_from_ne_true, cond-false)
 
 -- the numbers of these writes
 abbrev pub numbers : List Write → List ℕ
@@ -195,12 +141,7 @@ numbers (w ∷ later) = w.number ∷ numbers later
 
 pub first_is_free : (h : History) (rest : List Write) (w : Write) (more : List Write) → AreApart h rest
     → FitsIn h rest (w ∷ more) → waits_for_one h rest w.number ≡ false
-first_is_free h rest w more a f =
-    none_in (λ y. is_before h y.number w.number) rest (λ m among. false_from_ne_true (is_before h m.number w.number) (λ before.
-    elim (f.closed m w among (inl refl) before) [
-      | inl same ↦ both_ways (is_before h w.number w.number) (a.irreflexive w (f.within w (inl refl))) (subst (λ y. is_before h y.number w.number ≡ true) same before)
-      | inr later ↦ both_ways (is_before h m.number w.number) (f.in_order.0 m later) before
-    ]))
+first_is_free h rest w more a f = grind (arith, none_in, false_from_ne_true)
 
 -- a write of a number isn't among those without it
 other : (w x : Write) (rest : List Write) → IsIn x (without w.number rest) → x ≡ w → ⊥
@@ -209,23 +150,11 @@ other w x rest among same =
 
 pub rest_fits : (h : History) (rest : List Write) (w : Write) (more : List Write) → AreApart h rest
     → FitsIn h rest (w ∷ more) → FitsIn h (without w.number rest) more
-rest_fits h rest w more a f = record {
-  within = λ x among. in_filter (lacks w.number) x rest (f.within x (inr among)) (not_from_false (has w.number x) (ne_eqb x.number w.number (λ e. f.in_order.1 (subst (λ z. IsIn z more) (a.unique x w (f.within x (inr among)) (f.within w (inl refl)) e) among))));
-  safe = λ x among safe. elim (f.safe x (of_filter (lacks w.number) x rest among).0 safe) [
-    | inl same ↦ absurd (other w x rest among same)
-    | inr later ↦ later
-  ];
-  closed = λ m x among kept before. elim (f.closed m x (of_filter (lacks w.number) m rest among).0 (inr kept) before) [
-    | inl same ↦ absurd (other w m rest among same)
-    | inr later ↦ later
-  ];
-  in_order = f.in_order.2;
-}
+rest_fits h rest w more a f = grind (arith, in_filter, of_filter, not_from_false, ne_eqb, other)
 
 pub fits_chosen : (h : History) (rest order : List Write) → AreApart h rest → FitsIn h rest order
     → chosen h rest (numbers order) ≡ order
-fits_chosen h rest [] a f = none_left h rest (λ w among safe. f.safe w among safe)
+fits_chosen h rest [] a f = grind (arith, none_left)
 fits_chosen h rest (w ∷ more) a f =
-    cond-false (waits_for_one h rest w.number) (chosen h rest (numbers more)) (named w.number rest ++ chosen h (without w.number rest) (numbers more)) (first_is_free h rest w more a f)
-    ∙ ap (λ xs. xs ++ chosen h (without w.number rest) (numbers more)) (named_is h w rest a (f.within w (inl refl)))
-    ∙ ap (λ xs. w ∷ xs) (fits_chosen h (without w.number rest) more (apart_filter h (lacks w.number) rest a) (rest_fits h rest w more a f))
+    rw (first_is_free h rest w more a f, named_is h w rest a (f.within w (inl refl)))
+    (ap (λ xs. w ∷ xs) (fits_chosen h (without w.number rest) more (apart_filter h (lacks w.number) rest a) (rest_fits h rest w more a f)))

@@ -1,6 +1,6 @@
 -- A choice as one list of numbers, for each image.
 use Rattle.std.proofs.Common.{◌≡◌, ◌==◌, ◌<◌, ◌/◌, ℕ, zero, suc, List, [], ◌∷◌, ◌++◌, length, refl, sym, ap, ◌∙◌, inl, inr, arith}
-use Rattle.uring_volume.proofs.Common.{AreBelow, History, IsChosen, IsImage, IsIn, IsLawful, IsLeftBy, Write, byte_over, chosen, cond-false, div-le_self, ext_get_or, filter, is_on, issued, length_over, ne_eqb, part, slice_index, writes}
+use Rattle.uring_volume.proofs.Common.{AreBelow, History, IsChosen, IsImage, IsIn, IsLawful, IsLeftBy, Write, byte_over, chosen, div-le_self, ext_get_or, filter, is_on, issued, length_over, ne_eqb, part, slice_index, writes}
 use Rattle.uring_volume.proofs.Fitting.{in_either}
 use Rattle.uring_volume.proofs.Chosen.{NameWrites, image_is_named}
 
@@ -11,8 +11,7 @@ HasNone ns = (n : ℕ) → IsIn n ns → n ≡ 0 → ⊥
 part_front : (ns rest : List ℕ) → HasNone ns → part (ns ++ 0 ∷ rest) 0 ≡ ns
 part_front [] rest none = refl
 part_front (n ∷ ns) rest none =
-    cond-false (n == 0) [] (n ∷ part (ns ++ 0 ∷ rest) 0) (ne_eqb n 0 (none n (inl refl)))
-    ∙ ap (λ ms. n ∷ ms) (part_front ns rest (λ m among. none m (inr among)))
+    rw (ne_eqb n 0 (none n (inl refl))) (ap (λ ms. n ∷ ms) (part_front ns rest (λ m among. none m (inr among))))
 
 part_back : (ns rest : List ℕ) (i : ℕ) → HasNone ns → part (ns ++ 0 ∷ rest) (suc i) ≡ part rest i
 part_back [] rest i none = refl

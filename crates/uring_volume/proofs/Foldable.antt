@@ -1,6 +1,6 @@
 -- The test tells which write can be folded.
 use Rattle.std.proofs.Common.{◌≡◌, ◌==◌, ℕ, max, true, false, not, ◌&&◌, ap, inl, inr, arith}
-use Rattle.uring_volume.proofs.Common.{History, IsFoldable, IsIn, IsLawful, Write, and_from, and_parts, both_ways, can_fold, cases_Bool, eqb-false, false_from_ne_true, is_before, is_in_way, is_safe, is_under, issued, list_any, ne_eqb, not-true, not_from_false, or_cases, or_left, or_right, overlap, writes}
+use Rattle.uring_volume.proofs.Common.{History, IsFoldable, IsIn, IsLawful, Write, and_from, and_parts, both_ways, can_fold, eqb-false, false_from_ne_true, is_before, is_in_way, is_safe, is_under, issued, list_any, ne_eqb, not-true, not_from_false, or_cases, overlap, writes}
 use Rattle.uring_volume.proofs.Chosen.{in_issued, of_issued, one_number}
 use Rattle.uring_volume.proofs.Puts.{any_is, is_any}
 
@@ -21,13 +21,8 @@ foldable_by h w l among can =
     record {
       issued = of_issued h w among;
       safe = parts.0;
-      oldest = λ m is_in. false_from_ne_true (is_before h m.number w.number) (λ before. both_ways (is_in_way h w m) (out_of_way h w m parts.1 is_in) (or_left (is_before h m.number w.number) (not (m.number == w.number) && (overlap m w && not (is_before h w.number m.number))) before));
-      lowest = λ m k is_in other under_m under_w. elim (cases_Bool (is_before h w.number m.number)) [
-        | inl before ↦ before
-        | inr not_before ↦
-            let differs : not (m.number == w.number) ≡ true = not_from_false (m.number == w.number) (ne_eqb m.number w.number (λ named. other (one_number h m w l is_in (of_issued h w among) named))) in
-            absurd (both_ways (is_in_way h w m) (out_of_way h w m parts.1 is_in) (or_right (is_before h m.number w.number) (not (m.number == w.number) && (overlap m w && not (is_before h w.number m.number))) (and_from _ _ differs (and_from _ _ (both_under m w k under_m under_w) (not_from_false (is_before h w.number m.number) not_before)))))
-      ];
+      oldest = grind (arith, (λ (m : Write). out_of_way h w m parts.1));
+      lowest = grind (arith, of_issued, one_number, ne_eqb, both_under, (λ (m : Write). out_of_way h w m parts.1));
     }
 
 -- a byte of both writes

@@ -1,6 +1,6 @@
 -- What a volume keeps when a write is folded.
 use Rattle.std.proofs.Common.{◌≡◌, ◌==◌, ◌<◌, ◌≤◌, ℕ, zero, suc, Bool, true, false, not, ◌||◌, List, [], ◌∷◌, ◌++◌, length, get_or, reverse, refl, sym, subst, ap, ◌∙◌, inl, inr, arith}
-use Rattle.uring_volume.proofs.Common.{Err, Event, History, IsFoldable, IsFoldedFrom, IsHeld, IsIn, IsLawful, IsOneFolded, IsOver, IsSound, Ok, Result, SyncEnded, SyncFailed, SyncIssued, Volume, Write, WriteEnded, WriteIssued, append-nil, append_assoc, both_ways, but, can_fold, cases_Bool, cond-false, cond_both, eqb-false, eqb-true, false_from_ne_true, filter, has_ended, is_of_write, is_one_of, is_safe, issued, list_any, or_cases, or_left, or_parts, or_right, reverse-append, running_syncs, running_writes, without_write, writes}
+use Rattle.uring_volume.proofs.Common.{Err, Event, History, IsFoldable, IsFoldedFrom, IsHeld, IsIn, IsLawful, IsOneFolded, IsOver, IsSound, Ok, Result, SyncEnded, SyncFailed, SyncIssued, Volume, Write, WriteEnded, WriteIssued, append-nil, append_assoc, both_ways, but, can_fold, cond-false, cond_both, eqb-false, eqb-true, false_from_ne_true, filter, has_ended, is_of_write, is_one_of, issued, list_any, reverse-append, running_syncs, running_writes, without_write, writes}
 use Rattle.std.specs.declared.alloc.AllocError.{AllocError}
 use Rattle.std.proofs.lemmas.List.Elements.{filter-append}
 use Rattle.uring_volume.proofs.Chosen.{in_issued, of_issued, one_number}
@@ -14,7 +14,7 @@ use Rattle.uring_volume.proofs.Foldable.{foldable_by, can_fold_it}
 
 filter_twice : (p : ℕ → Bool) (ns : List ℕ) → filter p (filter p ns) ≡ filter p ns
 filter_twice p [] = refl
-filter_twice p (n ∷ ns) = elim (cases_Bool (p n)) [ inl is ↦ simp (is, filter_twice p ns) | inr out ↦ simp (out, filter_twice p ns) ]
+filter_twice p (n ∷ ns) = grind (arith, (filter_twice p ns))
 
 filter_swap : (p q : ℕ → Bool) (ns : List ℕ) → filter p (filter q ns) ≡ filter q (filter p ns)
 filter_swap p q [] = refl
@@ -22,9 +22,7 @@ filter_swap p q (n ∷ ns) = grind (arith, (filter_swap p q ns))
 
 but_none : (n : ℕ) (ns : List ℕ) → is_one_of n ns ≡ false → but n ns ≡ ns
 but_none n [] none = refl
-but_none n (m ∷ ns) none =
-    let parts = or_parts (m == n) (is_one_of n ns) none in
-    simp (parts.0, but_none n ns parts.1)
+but_none n (m ∷ ns) none = grind (arith, (but_none n ns))
 
 -- What runs.
 
@@ -32,69 +30,41 @@ running_without : (n : ℕ) (h : History) → running_writes (without_write n h)
 running_without n [] = refl
 running_without n (WriteIssued w ∷ earlier) = grind (arith, filter-append, append-nil, (running_without n earlier))
 running_without n (WriteEnded k ∷ earlier) = grind (arith, (running_without n earlier), filter_twice, filter_swap)
-running_without n (SyncIssued s range ∷ earlier) = running_without n earlier
-running_without n (SyncEnded s ∷ earlier) = running_without n earlier
-running_without n (SyncFailed s ∷ earlier) = running_without n earlier
+running_without n (e ∷ earlier) = running_without n earlier
 
 syncs_without : (n : ℕ) (h : History) → running_syncs (without_write n h) ≡ running_syncs h
 syncs_without n [] = refl
-syncs_without n (WriteIssued w ∷ earlier) = grind (arith, (syncs_without n earlier))
-syncs_without n (WriteEnded k ∷ earlier) = grind (arith, (syncs_without n earlier))
-syncs_without n (SyncIssued s range ∷ earlier) = ap (λ ss. ss ++ s ∷ []) (syncs_without n earlier)
-syncs_without n (SyncEnded s ∷ earlier) = ap (but s) (syncs_without n earlier)
-syncs_without n (SyncFailed s ∷ earlier) = ap (but s) (syncs_without n earlier)
+syncs_without n (e ∷ earlier) = grind (arith, (syncs_without n earlier))
 
 out_of_but : (n : ℕ) (ns : List ℕ) → is_one_of n (but n ns) ≡ false
 out_of_but n [] = refl
-out_of_but n (m ∷ ns) = elim (cases_Bool (m == n)) [ inl is ↦ simp (is, out_of_but n ns) | inr out ↦ simp (out, out_of_but n ns) ]
+out_of_but n (m ∷ ns) = grind (arith, (out_of_but n ns))
 
 -- what runs hasn't ended
 runs_still : (h : History) (n : ℕ) → IsLawful h → is_one_of n (running_writes h) ≡ true
     → has_ended h n ≡ false
 runs_still [] n l is = refl
-runs_still (WriteIssued w ∷ earlier) n l is = elim (one_more w.number n (running_writes earlier) is) [
-  | inl old ↦ runs_still earlier n l.2 old
-  | inr new ↦ subst (λ m. has_ended earlier m ≡ false) (sym new) l.1
-]
+runs_still (WriteIssued w ∷ earlier) n l is = grind (arith, one_more, (runs_still earlier n l.2))
 runs_still (WriteEnded k ∷ earlier) n l is =
     grind (arith, both_ways, out_of_but, (runs_still earlier n l (is_in_but k n (running_writes earlier) is)), is_in_but)
-runs_still (SyncIssued s range ∷ earlier) n l is = runs_still earlier n l is
-runs_still (SyncEnded s ∷ earlier) n l is = runs_still earlier n l is
-runs_still (SyncFailed s ∷ earlier) n l is = runs_still earlier n l is
+runs_still (e ∷ earlier) n l is = runs_still earlier n l is
 
 -- One write folded.
 
 ended_of : (n m : ℕ) (h : History) → has_ended (without_write n h) m ≡ true → has_ended h m ≡ true
 ended_of n m [] is = is
-ended_of n m (WriteIssued w ∷ earlier) is =
-    cond_both (not (w.number == n)) (WriteIssued w ∷ without_write n earlier) (without_write n earlier) (λ g. has_ended g m ≡ true → has_ended earlier m ≡ true) (λ _ over. ended_of n m earlier over) (λ _ over. ended_of n m earlier over) is
-ended_of n m (WriteEnded k ∷ earlier) is =
-    cond_both (not (k == n)) (WriteEnded k ∷ without_write n earlier) (without_write n earlier) (λ g. has_ended g m ≡ true → (k == m || has_ended earlier m) ≡ true)
-    (λ _ over. elim (or_cases (k == m) (has_ended (without_write n earlier) m) over) [
-      | inl same ↦ or_left (k == m) (has_ended earlier m) same
-      | inr more ↦ or_right (k == m) (has_ended earlier m) (ended_of n m earlier more)
-    ])
-    (λ _ over. or_right (k == m) (has_ended earlier m) (ended_of n m earlier over))
-    is
-ended_of n m (SyncIssued s range ∷ earlier) is = ended_of n m earlier is
-ended_of n m (SyncEnded s ∷ earlier) is = ended_of n m earlier is
-ended_of n m (SyncFailed s ∷ earlier) is = ended_of n m earlier is
+ended_of n m (WriteIssued w ∷ earlier) is = grind (arith, (ended_of n m earlier))
+ended_of n m (WriteEnded k ∷ earlier) is = grind (arith, (ended_of n m earlier))
+ended_of n m (e ∷ earlier) is = ended_of n m earlier is
 
 not_ended : (n m : ℕ) (h : History) → has_ended h m ≡ false → has_ended (without_write n h) m ≡ false
 not_ended n m h out = false_from_ne_true (has_ended (without_write n h) m) (λ is. both_ways (has_ended h m) out (ended_of n m h is))
 
 writes_of : (n : ℕ) (h : History) (x : Write) → IsIn x (writes (without_write n h)) → IsIn x (writes h)
 writes_of n [] x among = among
-writes_of n (WriteIssued w ∷ earlier) x among =
-    cond_both (not (w.number == n)) (WriteIssued w ∷ without_write n earlier) (without_write n earlier) (λ g. IsIn x (writes g) → IsIn x (w ∷ writes earlier))
-    (λ _ is_in. elim is_in [ inl same ↦ inl same | inr more ↦ inr (writes_of n earlier x more) ])
-    (λ _ is_in. inr (writes_of n earlier x is_in))
-    among
-writes_of n (WriteEnded k ∷ earlier) x among =
-    cond_both (not (k == n)) (WriteEnded k ∷ without_write n earlier) (without_write n earlier) (λ g. IsIn x (writes g) → IsIn x (writes earlier)) (λ _ is_in. writes_of n earlier x is_in) (λ _ is_in. writes_of n earlier x is_in) among
-writes_of n (SyncIssued s range ∷ earlier) x among = writes_of n earlier x among
-writes_of n (SyncEnded s ∷ earlier) x among = writes_of n earlier x among
-writes_of n (SyncFailed s ∷ earlier) x among = writes_of n earlier x among
+writes_of n (WriteIssued w ∷ earlier) x among = grind (arith, (writes_of n earlier x))
+writes_of n (WriteEnded k ∷ earlier) x among = grind (arith, (writes_of n earlier x))
+writes_of n (e ∷ earlier) x among = writes_of n earlier x among
 
 lawful_without : (n : ℕ) (h : History) → IsLawful h → IsLawful (without_write n h)
 lawful_without n [] l = l
@@ -103,21 +73,13 @@ lawful_without n (WriteIssued w ∷ earlier) l =
     (λ _. (λ v among same. l.0 v (writes_of n earlier v among) same, not_ended n w.number earlier l.1, lawful_without n earlier l.2))
     (λ _. lawful_without n earlier l.2)
 lawful_without n (WriteEnded k ∷ earlier) l = grind (arith, (lawful_without n earlier l))
-lawful_without n (SyncIssued s range ∷ earlier) l = lawful_without n earlier l
-lawful_without n (SyncEnded s ∷ earlier) l = lawful_without n earlier l
-lawful_without n (SyncFailed s ∷ earlier) l = lawful_without n earlier l
+lawful_without n (e ∷ earlier) l = lawful_without n earlier l
 
 ended_later : (n m : ℕ) (later h : History) → has_ended (later ++ without_write n h) m ≡ true
     → has_ended (later ++ h) m ≡ true
 ended_later n m [] h is = ended_of n m h is
-ended_later n m (WriteEnded k ∷ later) h is = elim (or_cases (k == m) (has_ended (later ++ without_write n h) m) is) [
-  | inl same ↦ or_left (k == m) (has_ended (later ++ h) m) same
-  | inr more ↦ or_right (k == m) (has_ended (later ++ h) m) (ended_later n m later h more)
-]
-ended_later n m (WriteIssued w ∷ later) h is = ended_later n m later h is
-ended_later n m (SyncIssued s range ∷ later) h is = ended_later n m later h is
-ended_later n m (SyncEnded s ∷ later) h is = ended_later n m later h is
-ended_later n m (SyncFailed s ∷ later) h is = ended_later n m later h is
+ended_later n m (WriteEnded k ∷ later) h is = grind (arith, (ended_later n m later h))
+ended_later n m (e ∷ later) h is = ended_later n m later h is
 
 lawful_later : (later h : History) (w : Write) → IsIn w (writes h) → IsLawful (later ++ h)
     → IsLawful (later ++ without_write w.number h)
@@ -127,10 +89,7 @@ lawful_later (WriteIssued v ∷ later) h w among l = (
   false_from_ne_true (has_ended (later ++ without_write w.number h) v.number) (λ is. both_ways (has_ended (later ++ h) v.number) l.1 (ended_later w.number v.number later h is)),
   lawful_later later h w among l.2,
 )
-lawful_later (WriteEnded k ∷ later) h w among l = lawful_later later h w among l
-lawful_later (SyncIssued s range ∷ later) h w among l = lawful_later later h w among l
-lawful_later (SyncEnded s ∷ later) h w among l = lawful_later later h w among l
-lawful_later (SyncFailed s ∷ later) h w among l = lawful_later later h w among l
+lawful_later (e ∷ later) h w among l = lawful_later later h w among l
 
 -- a volume with a write folded
 abbrev pub with_folded : Write → List ℕ → Volume → Volume
@@ -169,10 +128,8 @@ folded_one v w over sound f is = record {
   safe = λ later x l among. (same_later w.number later v.history).safe x ((but_later later v.history w l f.issued).of x among).1;
   lawful = λ later l. lawful_later later v.history w f.issued l;
   none_new = λ x among. writes_of w.number v.history x among;
-  gone = λ x among. elim (cases_Bool (x.number == w.number)) [
-    | inl same ↦ inr (subst (λ y. is_safe v.history y ≡ true) (sym (one_number v.history x w sound.lawful among f.issued (eqb-true x.number w.number same))) f.safe)
-    | inr out ↦ inl ((but_later [] v.history w sound.lawful f.issued).into x among (eqb-false x.number w.number out))
-  ];
+  gone = λ x among.
+      grind (arith, (one_number v.history x w sound.lawful among f.issued), ((but_later [] v.history w sound.lawful f.issued).into x among), eqb-true, eqb-false);
   writes_run = running_same v w sound f;
   syncs_run = syncs_without w.number v.history;
 }
@@ -182,11 +139,8 @@ folded_one v w over sound f is = record {
 kept_later : (later g h : History) → ((w : Write) → IsIn w (writes h) → IsIn w (writes g))
     → (w : Write) → IsIn w (writes (later ++ h)) → IsIn w (writes (later ++ g))
 kept_later [] g h f w among = f w among
-kept_later (WriteIssued v ∷ later) g h f w among = elim among [ inl same ↦ inl same | inr more ↦ inr (kept_later later g h f w more) ]
-kept_later (WriteEnded k ∷ later) g h f w among = kept_later later g h f w among
-kept_later (SyncIssued s range ∷ later) g h f w among = kept_later later g h f w among
-kept_later (SyncEnded s ∷ later) g h f w among = kept_later later g h f w among
-kept_later (SyncFailed s ∷ later) g h f w among = kept_later later g h f w among
+kept_later (WriteIssued v ∷ later) g h f w among = grind (arith, (kept_later later g h f w))
+kept_later (e ∷ later) g h f w among = kept_later later g h f w among
 
 pub folded_more : (old mid new : Volume) → IsLawful old.history → IsFoldedFrom old mid
     → IsFoldedFrom mid new → IsFoldedFrom old new
@@ -201,13 +155,7 @@ folded_more old mid new l a b = record {
       b.safe later w (a.lawful later law) among ∙ a.safe later w law (kept_later later mid.history new.history b.none_new w among);
   lawful = λ later law. b.lawful later (a.lawful later law);
   none_new = λ w among. a.none_new w (b.none_new w among);
-  gone = λ w among. elim (a.gone w among) [
-    | inl still ↦ elim (b.gone w still) [
-      | inl kept ↦ inl kept
-      | inr safe ↦ inr (sym (a.safe [] w l still) ∙ safe)
-    ]
-    | inr safe ↦ inr safe
-  ];
+  gone = λ w among. grind (arith, (a.gone w among), (b.gone w), (a.safe [] w l));
   writes_run = b.writes_run ∙ a.writes_run;
   syncs_run = b.syncs_run ∙ a.syncs_run;
 }
@@ -216,18 +164,12 @@ folded_more old mid new l a b = record {
 
 pub reverse_filter : (p : Event → Bool) (es : List Event) → reverse (filter p es) ≡ filter p (reverse es)
 reverse_filter p [] = refl
-reverse_filter p (e ∷ es) = elim (cases_Bool (p e)) [
-  | inl is ↦ simp (is, reverse-append (e ∷ []), filter-append, reverse_filter p es)
-  | inr out ↦ simp (out, reverse-append (e ∷ []), filter-append, append-nil, reverse_filter p es)
-]
+reverse_filter p (e ∷ es) = grind (arith, (reverse-append (e ∷ [])), filter-append, append-nil, (reverse_filter p es))
 
 pub issued_after : (xs ys : History) → issued (xs ++ ys) ≡ issued ys ++ issued xs
 issued_after [] ys = sym (append-nil (issued ys))
 issued_after (WriteIssued w ∷ xs) ys = grind (arith, (issued_after xs ys), append_assoc)
-issued_after (WriteEnded k ∷ xs) ys = issued_after xs ys
-issued_after (SyncIssued s range ∷ xs) ys = issued_after xs ys
-issued_after (SyncEnded s ∷ xs) ys = issued_after xs ys
-issued_after (SyncFailed s ∷ xs) ys = issued_after xs ys
+issued_after (e ∷ xs) ys = issued_after xs ys
 
 pub issued_first : (e : Event) (es : List Event)
     → issued (reverse (e ∷ es)) ≡ issued (e ∷ []) ++ issued (reverse es)

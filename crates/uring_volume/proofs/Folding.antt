@@ -1,6 +1,6 @@
 -- A write that is folded into the first bytes changes no image: it lies under all others in each list that may be left.
-use Rattle.std.proofs.Common.{◌≡◌, ◌==◌, ◌-◌, ◌<◌, ℕ, max, Bool, true, false, not, ◌&&◌, List, [], ◌∷◌, ◌++◌, length, refl, sym, subst, ap, ◌∙◌, inl, inr, arith}
-use Rattle.uring_volume.proofs.Common.{FoldChangesNone, History, IsFoldable, IsImage, IsIn, IsInOrder, IsLawful, IsOver, MayBeLeft, SyncEnded, SyncFailed, SyncIssued, UnitIsLeft, Write, WriteEnded, WriteIssued, and_parts, both_ways, byte_over, cases_Bool, cond-false, cond-true, end_of, eq-eqb, eqb-false, eqb-true, false_from_ne_true, filter, has_ended, is_before, is_covered, is_given_up, is_on, is_safe, is_under, length_over, lies_in, ne_eqb, not_from_false, or_cases, or_right, slice_index, without_write, writes}
+use Rattle.std.proofs.Common.{◌≡◌, ◌==◌, ◌-◌, ◌<◌, ℕ, max, Bool, true, false, ◌&&◌, List, [], ◌∷◌, ◌++◌, length, refl, sym, subst, ap, ◌∙◌, inl, inr, arith}
+use Rattle.uring_volume.proofs.Common.{FoldChangesNone, History, IsFoldable, IsImage, IsIn, IsInOrder, IsLawful, IsOver, MayBeLeft, SyncEnded, SyncIssued, UnitIsLeft, Write, WriteEnded, WriteIssued, and_parts, both_ways, byte_over, cases_Bool, cond-false, end_of, eq-eqb, eqb-false, eqb-true, filter, has_ended, is_before, is_covered, is_on, is_safe, is_under, length_over, ne_eqb, not_from_false, or_cases, slice_index, without_write, writes}
 use Rattle.uring_volume.proofs.Units.{in_filter, of_filter, filter_in_order}
 use Rattle.uring_volume.proofs.ReadBack.{over, on_from, len_grows, end_within}
 use Rattle.uring_volume.proofs.Rest.{length_below}
@@ -13,40 +13,21 @@ use Rattle.uring_volume.proofs.Without.{SameBut, same_later, WritesBut, but_late
 covered_ended : (h : History) (s : ℕ) (w : Write) → is_covered h s w ≡ true
     → has_ended h w.number ≡ true
 covered_ended [] s w is = absurd (both_ways false refl is)
-covered_ended (WriteIssued v ∷ earlier) s w is = covered_ended earlier s w is
-covered_ended (WriteEnded k ∷ earlier) s w is = or_right (k == w.number) (has_ended earlier w.number) (covered_ended earlier s w is)
-covered_ended (SyncIssued t range ∷ earlier) s w is =
-    elim (or_cases (t == s && has_ended earlier w.number && lies_in range w) (is_covered earlier s w) is) [
-      | inl now ↦ (and_parts (t == s) (has_ended earlier w.number) (and_parts (t == s && has_ended earlier w.number) (lies_in range w) now).0).1
-      | inr was ↦ covered_ended earlier s w was
-    ]
-covered_ended (SyncEnded t ∷ earlier) s w is = covered_ended earlier s w is
-covered_ended (SyncFailed t ∷ earlier) s w is = covered_ended earlier s w is
+covered_ended (WriteEnded k ∷ earlier) s w is = grind (arith, (covered_ended earlier s w))
+covered_ended (SyncIssued t range ∷ earlier) s w is = grind (arith, (covered_ended earlier s w), or_cases, and_parts)
+covered_ended (e ∷ earlier) s w is = covered_ended earlier s w is
 
 pub safe_ended : (h : History) (w : Write) → is_safe h w ≡ true → has_ended h w.number ≡ true
 safe_ended [] w is = absurd (both_ways false refl is)
-safe_ended (WriteIssued v ∷ earlier) w is = safe_ended earlier w is
-safe_ended (WriteEnded k ∷ earlier) w is = or_right (k == w.number) (has_ended earlier w.number) (safe_ended earlier w is)
-safe_ended (SyncIssued t range ∷ earlier) w is = safe_ended earlier w is
-safe_ended (SyncEnded t ∷ earlier) w is =
-    elim (or_cases (is_covered earlier t w && not (is_given_up earlier w)) (is_safe earlier w) is) [
-      | inl now ↦ covered_ended earlier t w (and_parts (is_covered earlier t w) (not (is_given_up earlier w)) now).0
-      | inr was ↦ safe_ended earlier w was
-    ]
-safe_ended (SyncFailed t ∷ earlier) w is = safe_ended earlier w is
-
-still_issue : (v : Write) (h : History) (w : Write) → IsLawful (WriteIssued v ∷ h) → IsFoldable h w
-    → IsFoldable (WriteIssued v ∷ h) w
-still_issue v h w l f = grind (arith, not_before, eq-eqb, safe_ended)
+safe_ended (WriteEnded k ∷ earlier) w is = grind (arith, (safe_ended earlier w))
+safe_ended (SyncEnded t ∷ earlier) w is = grind (arith, covered_ended, or_cases, and_parts, (safe_ended earlier w))
+safe_ended (e ∷ earlier) w is = safe_ended earlier w is
 
 pub still_foldable : (later h : History) (w : Write) → IsLawful (later ++ h) → IsFoldable h w
     → IsFoldable (later ++ h) w
 still_foldable [] h w l f = f
-still_foldable (WriteIssued v ∷ later) h w l f = still_issue v (later ++ h) w l (still_foldable later h w l.2 f)
-still_foldable (WriteEnded k ∷ later) h w l f = assumption (still_foldable later h w l f)
-still_foldable (SyncIssued k range ∷ later) h w l f = assumption (still_foldable later h w l f)
-still_foldable (SyncEnded k ∷ later) h w l f = grind (arith, (still_foldable later h w l f))
-still_foldable (SyncFailed k ∷ later) h w l f = assumption (still_foldable later h w l f)
+still_foldable (WriteIssued v ∷ later) h w l f = grind (arith, not_before, eq-eqb, safe_ended, (still_foldable later h w l.2 f))
+still_foldable (e ∷ later) h w l f = grind (arith, (still_foldable later h w l f))
 
 -- A history without a write that can be folded.
 record IsWithout (g h : History) (w : Write) : Type 0 where
@@ -149,15 +130,7 @@ over_others : (n k byte : ℕ) (order : List Write)
     → ((x : Write) → IsIn x order → x.number ≡ n → is_under x k ≡ false)
     → byte_over byte order k ≡ byte_over byte (filter (lacks n) order) k
 over_others n k byte [] off = refl
-over_others n k byte (x ∷ more) off = elim (cases_Bool (x.number == n)) [
-  | inl is ↦
-      ap (λ b. byte_over b more k) (cond-false (is_under x k) (slice_index x.bytes (k - x.off)) byte (off x (inl refl) (eqb-true x.number n is)))
-      ∙ over_others n k byte more (λ y among. off y (inr among))
-      ∙ sym (ap (λ ys. byte_over byte ys k) (cond-false (lacks n x) (x ∷ filter (lacks n) more) (filter (lacks n) more) (ap not is)))
-  | inr out ↦
-      over_others n k (over byte x k) more (λ y among. off y (inr among))
-      ∙ sym (ap (λ ys. byte_over byte ys k) (cond-true (lacks n x) (x ∷ filter (lacks n) more) (filter (lacks n) more) (ap not out)))
-]
+over_others n k byte (x ∷ more) off = grind (arith, (over_others n k byte more), (over_others n k (over byte x k) more), eqb-true)
 
 -- the write lies under the others
 lies_under : (g h : History) (w : Write) (k byte : ℕ) (order : List Write) → IsWithout g h w
@@ -165,15 +138,8 @@ lies_under : (g h : History) (w : Write) (k byte : ℕ) (order : List Write) →
     → is_under w k ≡ true
     → byte_over byte order k ≡ byte_over (over byte w k) (filter (lacks w.number) order) k
 lies_under g h w k byte [] f known o among under = absurd among
-lies_under g h w k byte (x ∷ more) f known o (inl same) under = grind (arith, over_others, it_is)
-lies_under g h w k byte (x ∷ more) f known o (inr later) under =
-    let differs = λ (e : x ≡ w). o.1 (subst (λ z. IsIn z more) (sym e) later) in
-    let off : is_under x k ≡ false = false_from_ne_true (is_under x k) (λ is. both_ways (is_before g w.number x.number) (o.0 w later) (f.fold.lowest x k (known x (inl refl)) differs is under)) in
-    let kept : lacks w.number x ≡ true = not_from_false (x.number == w.number) (ne_eqb x.number w.number (λ named. differs (it_is g h w x f (known x (inl refl)) named))) in
-    ap (λ b. byte_over b more k) (cond-false (is_under x k) (slice_index x.bytes (k - x.off)) byte off)
-    ∙ lies_under g h w k byte more f (λ y among. known y (inr among)) o.2 later under
-    ∙ ap (λ b. byte_over b (filter (lacks w.number) more) k) (sym (cond-false (is_under x k) (slice_index x.bytes (k - x.off)) (over byte w k) off))
-    ∙ sym (ap (λ ys. byte_over (over byte w k) ys k) (cond-true (lacks w.number x) (x ∷ filter (lacks w.number) more) (filter (lacks w.number) more) kept))
+lies_under g h w k byte (x ∷ more) f known o among under =
+    grind (arith, over_others, it_is, (lies_under g h w k byte more f), ne_eqb)
 
 folded_byte : (g h : History) (w : Write) (k byte : ℕ) (order : List Write) → IsWithout g h w
     → ((x : Write) → IsIn x order → IsIn x (writes g)) → IsInOrder g order
@@ -212,18 +178,8 @@ unit_of : (u : ℕ) (first under : List ℕ) (g h : History) (w : Write) (now : 
     → IsWithout g h w → IsOver first w under → UnitIsLeft u under h now i
     → UnitIsLeft u first g now i
 unit_of u first under g h w now i positive f is unit = elim (cases_Bool (is_on u i w)) [
-  | inl on ↦ record {
-    order = w ∷ unit.order;
-    left = left_under g h w (is_on u i) unit.order f on unit.left;
-    bytes = λ k at within. unit.bytes k at within ∙ ap (λ b. byte_over b unit.order k) (is.bytes k);
-  }
-  | inr off ↦ record {
-    order = unit.order;
-    left = left_apart g h w (is_on u i) unit.order f off unit.left;
-    bytes = λ k at within.
-        let out : is_under w k ≡ false = false_from_ne_true (is_under w k) (λ under_w. both_ways (is_on u i w) off (subst (λ j. is_on u j w ≡ true) at (on_from u w k positive under_w))) in
-        unit.bytes k at within ∙ ap (λ b. byte_over b unit.order k) (is.bytes k ∙ cond-false (is_under w k) (slice_index w.bytes (k - w.off)) (slice_index first k) out);
-  }
+  | inl on ↦ record { order = w ∷ unit.order; left = left_under g h w (is_on u i) unit.order f on unit.left; bytes = grind arith }
+  | inr off ↦ record { order = unit.order; left = left_apart g h w (is_on u i) unit.order f off unit.left; bytes = grind (arith, on_from) }
 ]
 
 image_to : (u : ℕ) (first under : List ℕ) (g h : History) (w : Write) (now : List ℕ) → 0 < u

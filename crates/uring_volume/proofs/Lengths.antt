@@ -1,6 +1,6 @@
 -- The lengths that may be left: each is that of the fewest writes, or of the fewest with one more.
 use Rattle.std.proofs.Common.{◌≡◌, ◌==◌, ◌≤◌, ℕ, max, Bool, true, false, ◌&&◌, ◌||◌, List, [], ◌∷◌, ◌⊎◌, refl, subst, inl, inr, arith}
-use Rattle.uring_volume.proofs.Common.{History, IsEachOnce, IsIn, IsInOrder, IsLawful, SyncEnded, SyncFailed, SyncIssued, Write, WriteEnded, WriteIssued, and_from, and_parts, both_ways, end_of, eq-eqb, eqb-true, fewest, fewest_with, filter, goes_with, has_ended, is_before, is_needed, is_safe, issued, length_over, lengths_by, lengths_of, nat_eq, or_cases, or_left, or_right, put_by}
+use Rattle.uring_volume.proofs.Common.{History, IsEachOnce, IsIn, IsInOrder, IsLawful, Write, WriteEnded, WriteIssued, and_from, both_ways, end_of, eqb-true, fewest, fewest_with, filter, goes_with, has_ended, is_before, is_needed, is_safe, issued, length_over, lengths_by, lengths_of, nat_eq, or_cases, or_left, or_right, put_by}
 use Rattle.uring_volume.proofs.Units.{in_filter, of_filter, filter_in_order}
 use Rattle.uring_volume.proofs.ReadBack.{len_grows, end_within}
 use Rattle.uring_volume.proofs.Rest.{length_below}
@@ -13,32 +13,17 @@ use Rattle.uring_volume.proofs.Puts.{any_is, is_any, in_put_old, in_put_new, of_
 -- a write that is before another has ended
 pub before_ended : (h : History) (m n : ℕ) → is_before h m n ≡ true → has_ended h m ≡ true
 before_ended [] m n is = absurd (both_ways false refl is)
-before_ended (WriteIssued w ∷ earlier) m n is =
-    elim (or_cases (w.number == n && has_ended earlier m) (is_before earlier m n) is) [
-      | inl now ↦ (and_parts (w.number == n) (has_ended earlier m) now).1
-      | inr was ↦ before_ended earlier m n was
-    ]
-before_ended (WriteEnded k ∷ earlier) m n is = or_right (k == m) (has_ended earlier m) (before_ended earlier m n is)
-before_ended (SyncIssued k range ∷ earlier) m n is = before_ended earlier m n is
-before_ended (SyncEnded k ∷ earlier) m n is = before_ended earlier m n is
-before_ended (SyncFailed k ∷ earlier) m n is = before_ended earlier m n is
+before_ended (WriteIssued w ∷ earlier) m n is = grind (arith, (before_ended earlier m n))
+before_ended (WriteEnded k ∷ earlier) m n is = grind (arith, (before_ended earlier m n))
+before_ended (e ∷ earlier) m n is = before_ended earlier m n is
 
 -- what is before a write that is before another is before that
 pub before_before : (h : History) (a b c : ℕ) → IsLawful h → is_before h a b ≡ true
     → is_before h b c ≡ true → is_before h a c ≡ true
 before_before [] a b c l ab bc = bc
 before_before (WriteIssued w ∷ earlier) a b c l ab bc =
-    elim (or_cases (w.number == c && has_ended earlier b) (is_before earlier b c) bc) [
-      | inl now ↦ grind (arith, or_cases, before_ended)
-      | inr was ↦ elim (or_cases (w.number == b && has_ended earlier a) (is_before earlier a b) ab) [
-        | inl here ↦ absurd (both_ways (has_ended earlier b) (subst (λ n. has_ended earlier n ≡ false) (eqb-true w.number b (and_parts (w.number == b) (has_ended earlier a) here).0) l.1) (before_ended earlier b c was))
-        | inr old ↦ or_right (w.number == c && has_ended earlier a) (is_before earlier a c) (before_before earlier a b c l.2 old was)
-      ]
-    ]
-before_before (WriteEnded k ∷ earlier) a b c l ab bc = before_before earlier a b c l ab bc
-before_before (SyncIssued k range ∷ earlier) a b c l ab bc = before_before earlier a b c l ab bc
-before_before (SyncEnded k ∷ earlier) a b c l ab bc = before_before earlier a b c l ab bc
-before_before (SyncFailed k ∷ earlier) a b c l ab bc = before_before earlier a b c l ab bc
+    grind (arith, or_cases, before_ended, eqb-true, (before_before earlier a b c l.2))
+before_before (e ∷ earlier) a b c l ab bc = before_before earlier a b c l ab bc
 
 -- The fewest that may be left.
 
@@ -105,8 +90,7 @@ longest len (w ∷ more) = grind (arith, (longest (max len (end_of w)) more), ma
 by_old : (h : History) (all : List Write) (len : ℕ) (ws : List Write) (found : List ℕ) (n : ℕ)
     → IsIn n found → IsIn n (lengths_by h all len ws found)
 by_old h all len [] found n among = among
-by_old h all len (w ∷ more) found n among =
-    by_old h all len more (put_by nat_eq found (length_over len (fewest_with h all w.number))) n (in_put_old nat_eq n (length_over len (fewest_with h all w.number)) found among)
+by_old h all len (w ∷ more) found n among = grind (arith, (by_old h all len more), in_put_old)
 
 by_new : (h : History) (all : List Write) (len : ℕ) (ws : List Write) (found : List ℕ) (w : Write)
     → IsIn w ws → IsIn (length_over len (fewest_with h all w.number)) (lengths_by h all len ws found)
@@ -131,8 +115,7 @@ of_by h all len (w ∷ more) found n among =
 by_once : (h : History) (all : List Write) (len : ℕ) (ws : List Write) (found : List ℕ)
     → IsEachOnce found → IsEachOnce (lengths_by h all len ws found)
 by_once h all len [] found once = once
-by_once h all len (w ∷ more) found once =
-    by_once h all len more (put_by nat_eq found (length_over len (fewest_with h all w.number))) (put_once nat_eq (length_over len (fewest_with h all w.number)) found numbers_tell once)
+by_once h all len (w ∷ more) found once = grind (arith, (by_once h all len more), put_once, numbers_tell)
 
 pub lengths_once : (h : History) (len : ℕ) → IsEachOnce (lengths_of h len)
 lengths_once h len = grind (arith, by_once)
@@ -159,10 +142,9 @@ in_lengths h len order l fits =
     elim (longest len order) [
       | inl same ↦ grind (arith, no_longer_of, of_filter, needed_left, issued_apart, len_grows, by_old)
       | inr found ↦
-          let w = found.0 in
           let less : length_over len (fewest_with h (issued h) found.0.number) ≤ length_over len order =
           grind (arith, no_longer_of, of_filter, or_cases, goes_left, issued_apart, needed_left) in
-          let itself : IsIn found.0 (fewest_with h (issued h) found.0.number) = in_filter (λ x. goes_with h found.0.number x || is_needed h (issued h) x) found.0 (issued h) (fits.within found.0 found.1) (or_left (goes_with h found.0.number found.0) (is_needed h (issued h) found.0) (or_left (found.0.number == found.0.number) (is_before h found.0.number found.0.number) (eq-eqb found.0.number found.0.number refl))) in
+          let itself : IsIn found.0 (fewest_with h (issued h) found.0.number) = grind (arith, in_filter, (fits.within found.0 found.1)) in
           let reaches : end_of found.0 ≤ length_over len (fewest_with h (issued h) found.0.number) = end_within len found.0 (fewest_with h (issued h) found.0.number) itself in
           let equal : length_over len (fewest_with h (issued h) found.0.number) ≡ length_over len order = omega (arith, found.2) in
           subst (λ n. IsIn n (lengths_of h len)) equal

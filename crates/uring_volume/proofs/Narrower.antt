@@ -1,6 +1,6 @@
 -- Which history allows no image that another doesn't: the laws of syncs and of the events that change none.
-use Rattle.std.proofs.Common.{◌≡◌, ◌==◌, ℕ, Bool, true, not, ◌&&◌, ◌||◌, List, [], ◌∷◌, ◌++◌, refl, sym, subst, ap, ◌∙◌, inl, inr}
-use Rattle.uring_volume.proofs.Common.{ChangesNone, FailedIsNeverSafe, History, IsImage, IsIn, IsInOrder, MayBeLeft, SyncAddsNone, SyncEnded, SyncFailed, SyncIssued, Write, WriteEnded, WriteIssued, and_right, has_ended, is_before, is_covered, is_given_up, is_reached, is_safe, lies_in, meets, not_from_true, or_cases, or_from, or_left, or_right, writes}
+use Rattle.std.proofs.Common.{◌≡◌, ◌==◌, ℕ, Bool, true, not, ◌&&◌, ◌||◌, List, [], ◌∷◌, ◌++◌, refl, sym, ◌∙◌, arith}
+use Rattle.uring_volume.proofs.Common.{ChangesNone, FailedIsNeverSafe, History, IsImage, IsInOrder, MayBeLeft, SyncAddsNone, SyncEnded, SyncFailed, SyncIssued, Write, WriteEnded, WriteIssued, has_ended, is_before, is_covered, is_given_up, is_reached, is_safe, writes}
 use Rattle.uring_volume.specs.declared.event.SyncRange.{SyncRange}
 
 -- The history g has the writes of h, in the same order, and each write that is safe in g is safe in h.
@@ -12,16 +12,11 @@ pub record IsNoTighter (g h : History) : Type 0 where
 order_in : (g h : History) (order : List Write) → IsNoTighter g h → IsInOrder h order
     → IsInOrder g order
 order_in g h [] t o = tt
-order_in g h (w ∷ later) t o = (λ m among. t.before m.number w.number ∙ o.0 m among, o.1, order_in g h later t o.2)
+order_in g h (w ∷ later) t o = grind (arith, (order_in g h later t))
 
 left_in : (g h : History) (touches : Write → Bool) (order : List Write) → IsNoTighter g h
     → MayBeLeft h touches order → MayBeLeft g touches order
-left_in g h touches order t l = record {
-  issued = λ w among. (subst (λ ws. IsIn w ws) (sym t.writes) (l.issued w among).0, (l.issued w among).1);
-  safe = λ w among on safe. l.safe w (subst (λ ws. IsIn w ws) t.writes among) on (t.safe w safe);
-  with_those_before = λ m w among on kept before. l.with_those_before m w (subst (λ ws. IsIn m ws) t.writes among) on kept (sym (t.before m.number w.number) ∙ before);
-  in_order = order_in g h order t l.in_order;
-}
+left_in g h touches order t l = grind (arith, order_in)
 
 pub image_in : (g h : History) (u : ℕ) (first now : List ℕ) → IsNoTighter g h
     → IsImage u first h now → IsImage u first g now
@@ -43,68 +38,43 @@ image_in g h u first now t image = record {
 writes_same : (later earlier : History) (s : ℕ)
     → writes (later ++ SyncEnded s ∷ earlier) ≡ writes (later ++ earlier)
 writes_same [] earlier s = refl
-writes_same (WriteIssued w ∷ later) earlier s = ap (λ ws. w ∷ ws) (writes_same later earlier s)
+writes_same (WriteIssued w ∷ later) earlier s = grind (arith, (writes_same later earlier s))
 writes_same (e ∷ later) earlier s = writes_same later earlier s
 
 ended_same : (later earlier : History) (s n : ℕ)
     → has_ended (later ++ SyncEnded s ∷ earlier) n ≡ has_ended (later ++ earlier) n
 ended_same [] earlier s n = refl
-ended_same (WriteEnded m ∷ later) earlier s n =
-    ap (λ b. m == n || b) (ended_same later earlier s n)
+ended_same (WriteEnded m ∷ later) earlier s n = grind (arith, (ended_same later earlier s n))
 ended_same (e ∷ later) earlier s n = ended_same later earlier s n
 
 before_same : (later earlier : History) (s m n : ℕ)
     → is_before (later ++ SyncEnded s ∷ earlier) m n ≡ is_before (later ++ earlier) m n
 before_same [] earlier s m n = refl
-before_same (WriteIssued w ∷ later) earlier s m n =
-    ap (λ b. w.number == n && b || is_before (later ++ SyncEnded s ∷ earlier) m n) (ended_same later earlier s m)
-    ∙ ap (λ b. w.number == n && has_ended (later ++ earlier) m || b) (before_same later earlier s m n)
+before_same (WriteIssued w ∷ later) earlier s m n = grind (arith, ended_same, (before_same later earlier s m n))
 before_same (e ∷ later) earlier s m n = before_same later earlier s m n
 
 covered_same : (later earlier : History) (s t : ℕ) (w : Write)
     → is_covered (later ++ SyncEnded s ∷ earlier) t w ≡ is_covered (later ++ earlier) t w
 covered_same [] earlier s t w = refl
-covered_same (SyncIssued r range ∷ later) earlier s t w =
-    ap (λ b. r == t && b && lies_in range w || is_covered (later ++ SyncEnded s ∷ earlier) t w) (ended_same later earlier s w.number)
-    ∙ ap (λ b. r == t && has_ended (later ++ earlier) w.number && lies_in range w || b) (covered_same later earlier s t w)
+covered_same (SyncIssued r range ∷ later) earlier s t w = grind (arith, ended_same, (covered_same later earlier s t w))
 covered_same (e ∷ later) earlier s t w = covered_same later earlier s t w
 
 reached_same : (later earlier : History) (s t : ℕ) (w : Write)
     → is_reached (later ++ SyncEnded s ∷ earlier) t w ≡ is_reached (later ++ earlier) t w
 reached_same [] earlier s t w = refl
-reached_same (SyncIssued r range ∷ later) earlier s t w =
-    ap (λ b. r == t && b && meets range w || is_reached (later ++ SyncEnded s ∷ earlier) t w) (ended_same later earlier s w.number)
-    ∙ ap (λ b. r == t && has_ended (later ++ earlier) w.number && meets range w || b) (reached_same later earlier s t w)
+reached_same (SyncIssued r range ∷ later) earlier s t w = grind (arith, ended_same, (reached_same later earlier s t w))
 reached_same (e ∷ later) earlier s t w = reached_same later earlier s t w
 
 given_up_same : (later earlier : History) (s : ℕ) (w : Write)
     → is_given_up (later ++ SyncEnded s ∷ earlier) w ≡ is_given_up (later ++ earlier) w
 given_up_same [] earlier s w = refl
-given_up_same (SyncFailed t ∷ later) earlier s w =
-    ap (λ b. b || is_given_up (later ++ SyncEnded s ∷ earlier) w) (reached_same later earlier s t w)
-    ∙ ap (λ b. is_reached (later ++ earlier) t w || b) (given_up_same later earlier s w)
+given_up_same (SyncFailed t ∷ later) earlier s w = grind (arith, reached_same, (given_up_same later earlier s w))
 given_up_same (e ∷ later) earlier s w = given_up_same later earlier s w
-
--- whether a sync that ends at this moment makes write w safe
-abbrev makes_safe : History → ℕ → Write → Bool
-makes_safe h s w = is_covered h s w && not (is_given_up h w)
-
-makes_same : (later earlier : History) (s t : ℕ) (w : Write)
-    → makes_safe (later ++ SyncEnded s ∷ earlier) t w ≡ makes_safe (later ++ earlier) t w
-makes_same later earlier s t w =
-    ap (λ b. b && not (is_given_up (later ++ SyncEnded s ∷ earlier) w)) (covered_same later earlier s t w)
-    ∙ ap (λ b. is_covered (later ++ earlier) t w && not b) (given_up_same later earlier s w)
 
 safe_stays : (later earlier : History) (s : ℕ) (w : Write) → is_safe (later ++ earlier) w ≡ true
     → is_safe (later ++ SyncEnded s ∷ earlier) w ≡ true
-safe_stays [] earlier s w e = or_right (makes_safe earlier s w) (is_safe earlier w) e
-safe_stays (SyncEnded t ∷ later) earlier s w e =
-    elim (or_cases (makes_safe (later ++ earlier) t w) (is_safe (later ++ earlier) w) e) [
-      | inl now ↦
-          or_left (makes_safe (later ++ SyncEnded s ∷ earlier) t w) (is_safe (later ++ SyncEnded s ∷ earlier) w) (makes_same later earlier s t w ∙ now)
-      | inr was ↦
-          or_right (makes_safe (later ++ SyncEnded s ∷ earlier) t w) (is_safe (later ++ SyncEnded s ∷ earlier) w) (safe_stays later earlier s w was)
-    ]
+safe_stays [] earlier s w e = grind arith
+safe_stays (SyncEnded t ∷ later) earlier s w e = grind (arith, covered_same, given_up_same, (safe_stays later earlier s w))
 safe_stays (e ∷ later) earlier s w h = safe_stays later earlier s w h
 
 pub sync_adds_none : SyncAddsNone
@@ -133,15 +103,11 @@ failure_changes_none s u first h now =
 
 given_up_stays : (later earlier : History) (s : ℕ) (w : Write) → is_reached earlier s w ≡ true
     → is_given_up (later ++ SyncFailed s ∷ earlier) w ≡ true
-given_up_stays [] earlier s w c = or_left (is_reached earlier s w) (is_given_up earlier w) c
-given_up_stays (SyncFailed t ∷ later) earlier s w c =
-    or_right (is_reached (later ++ SyncFailed s ∷ earlier) t w) (is_given_up (later ++ SyncFailed s ∷ earlier) w) (given_up_stays later earlier s w c)
+given_up_stays [] earlier s w c = grind arith
+given_up_stays (SyncFailed t ∷ later) earlier s w c = grind (arith, (given_up_stays later earlier s w c))
 given_up_stays (e ∷ later) earlier s w c = given_up_stays later earlier s w c
 
 pub never_safe : FailedIsNeverSafe
 never_safe [] earlier s w c f = f
-never_safe (SyncEnded t ∷ later) earlier s w c f =
-    or_from (makes_safe (later ++ SyncFailed s ∷ earlier) t w) (is_safe (later ++ SyncFailed s ∷ earlier) w)
-    (and_right (is_covered (later ++ SyncFailed s ∷ earlier) t w) (not (is_given_up (later ++ SyncFailed s ∷ earlier) w)) (not_from_true (is_given_up (later ++ SyncFailed s ∷ earlier) w) (given_up_stays later earlier s w c)))
-    (never_safe later earlier s w c f)
+never_safe (SyncEnded t ∷ later) earlier s w c f = grind (arith, given_up_stays, (never_safe later earlier s w c f))
 never_safe (e ∷ later) earlier s w c f = never_safe later earlier s w c f

@@ -1,6 +1,6 @@
 -- What a volume's calls keep: each write has a number of its own, and the lists of what runs are those of the history.
-use Rattle.std.proofs.Common.{◌≡◌, ◌==◌, ◌<◌, ◌≤◌, ℕ, Bool, true, not, ◌||◌, List, [], ◌∷◌, ◌++◌, ◌⊎◌, length, subst, ap, inl, inr, arith}
-use Rattle.uring_volume.proofs.Common.{History, IsHeld, SyncEnded, SyncFailed, Volume, WriteEnded, both_ways, but, cases_Bool, cond-false, cond-true, false_from_ne_true, has_ended, is_one_of, list_any-append, or_left, or_right, with_event, with_sync, with_write}
+use Rattle.std.proofs.Common.{◌≡◌, ◌==◌, ◌<◌, ◌≤◌, ℕ, Bool, true, ◌||◌, List, [], ◌∷◌, ◌++◌, ◌⊎◌, length, ap, arith}
+use Rattle.uring_volume.proofs.Common.{History, IsHeld, SyncEnded, SyncFailed, Volume, WriteEnded, but, cond-true, false_from_ne_true, has_ended, is_one_of, list_any-append, with_event, with_sync, with_write}
 use Rattle.uring_volume.specs.declared.event.SyncRange.{SyncRange}
 
 pub or_either : (x y : Bool) → (x || y) ≡ true → (x ≡ true) ⊎ (y ≡ true)
@@ -10,15 +10,7 @@ or_either x y is = grind arith
 
 pub is_in_but : (n m : ℕ) (ns : List ℕ) → is_one_of m (but n ns) ≡ true → is_one_of m ns ≡ true
 is_in_but n m [] is = is
-is_in_but n m (k ∷ ns) is = elim (cases_Bool (not (k == n))) [
-  | inl stays ↦
-      let here : is_one_of m (k ∷ but n ns) ≡ true = subst (λ ks. is_one_of m ks ≡ true) (cond-true (not (k == n)) (k ∷ but n ns) (but n ns) stays) is in
-      elim (or_either (k == m) (is_one_of m (but n ns)) here) [
-        | inl same ↦ or_left (k == m) (is_one_of m ns) same
-        | inr more ↦ or_right (k == m) (is_one_of m ns) (is_in_but n m ns more)
-      ]
-  | inr goes ↦ or_right (k == m) (is_one_of m ns) (is_in_but n m ns (subst (λ ks. is_one_of m ks ≡ true) (cond-false (not (k == n)) (k ∷ but n ns) (but n ns) goes) is))
-]
+is_in_but n m (k ∷ ns) is = grind (arith, (is_in_but n m ns))
 
 but_is_short : (n : ℕ) (ns : List ℕ) → length (but n ns) ≤ length ns
 but_is_short n [] = omega arith
@@ -27,12 +19,7 @@ but_is_short n (k ∷ ns) = grind (arith, (but_is_short n ns), cond-true)
 -- a list without one of its numbers is shorter
 pub but_is_shorter : (n : ℕ) (ns : List ℕ) → is_one_of n ns ≡ true → length (but n ns) < length ns
 but_is_shorter n [] is = absurd (cc is)
-but_is_shorter n (k ∷ ns) is = elim (cases_Bool (k == n)) [
-  | inl same ↦ omega (arith, but_is_short n ns, ap length (cond-false (not (k == n)) (k ∷ but n ns) (but n ns) (ap not same)))
-  | inr other ↦
-      let more : is_one_of n ns ≡ true = elim (or_either (k == n) (is_one_of n ns) is) [ inl same ↦ absurd (both_ways (k == n) other same) | inr later ↦ later ] in
-      omega (arith, but_is_shorter n ns more, ap length (cond-true (not (k == n)) (k ∷ but n ns) (but n ns) (ap not other)))
-]
+but_is_shorter n (k ∷ ns) is = grind (arith, but_is_short, (but_is_shorter n ns), or_either)
 
 pub one_more : (n m : ℕ) (ns : List ℕ) → is_one_of m (ns ++ n ∷ []) ≡ true
     → (is_one_of m ns ≡ true) ⊎ (m ≡ n)
@@ -62,14 +49,8 @@ held_write v off bytes write_list sync_list held =
         );
         numbered = record {
           some = omega arith;
-          positive = λ w among. elim among [
-            | inl same ↦ omega (arith, numbered.some, ap (λ x. x.number) same)
-            | inr old ↦ numbered.positive w old
-          ];
-          issued = λ w among. elim among [
-            | inl same ↦ omega (arith, ap (λ x. x.number) same)
-            | inr old ↦ omega (arith, numbered.issued w old)
-          ];
+          positive = λ w among. grind (arith, (numbered.positive w));
+          issued = λ w among. grind (arith, (numbered.issued w));
           ended = λ n is. omega (arith, numbered.ended n is);
           running = grind (arith, one_more);
         };

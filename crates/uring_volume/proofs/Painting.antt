@@ -1,5 +1,5 @@
 -- Bytes of a file that a write doesn't touch.
-use Rattle.std.proofs.Common.{◌≡◌, ◌<◌, ◌≤◌, ◌+◌, ◌*◌, ◌/◌, ℕ, List, ◌++◌, length, take, drop, ◌⊎◌, ap, ◌∙◌, arith}
+use Rattle.std.proofs.Common.{◌≡◌, ◌<◌, ◌≤◌, ◌+◌, ◌*◌, ◌/◌, ℕ, List, ◌++◌, length, take, drop, ◌⊎◌, ◌∙◌, arith}
 use Rattle.uring_volume.proofs.Common.{add-mul, append-nil, div-eq_of_lt-le, drop_all, mul_comm, one-mul, take_all}
 
 pub below_or_from : (k n : ℕ) → (k < n) ⊎ (n ≤ k)
@@ -12,7 +12,4 @@ in_unit u i k from to = div-eq_of_lt-le {k = i} u {m = k} (omega (arith, mul_com
 -- what a slice that was written whole makes of the list that it lends from
 pub written_back : (now old : List ℕ) (n : ℕ) → n ≡ length old → length now ≡ length old
     → take n (now ++ drop (length now) old) ≡ now
-written_back now old n e same =
-    ap (λ ys. take n (now ++ ys)) (drop_all (length now) old (omega arith))
-    ∙ ap (take n) (append-nil now)
-    ∙ take_all n now (omega arith)
+written_back now old n e same = grind (arith, drop_all, append-nil, take_all)

@@ -1,22 +1,17 @@
 -- Lists to which each thing is put once.
-use Rattle.std.proofs.Common.{◌≡◌, ◌==◌, ℕ, Bool, true, false, ◌&&◌, List, [], ◌∷◌, ◌++◌, ◌⊎◌, refl, sym, subst, ap, ◌∙◌, inl, inr}
-use Rattle.uring_volume.proofs.Common.{IsEachOnce, IsIn, Way, Write, and_from, and_parts, both_ways, cond_both, eq-eqb, eqb-true, list_any, nat_eq, or_cases, or_left, or_right, pointwise, put_by, same_text, same_way, same_write}
+use Rattle.std.proofs.Common.{◌≡◌, ◌==◌, ℕ, Bool, true, false, ◌&&◌, List, [], ◌∷◌, ◌++◌, ◌⊎◌, refl, sym, ap, ◌∙◌, inr, arith}
+use Rattle.uring_volume.proofs.Common.{IsEachOnce, IsIn, Way, Write, and_from, and_parts, both_ways, eq-eqb, eqb-true, list_any, nat_eq, pointwise, put_by, same_text, same_way, same_write}
 use Rattle.uring_volume.proofs.Fitting.{in_left, in_right, in_either}
 
 pub any_is : {X : Type 0} (p : X → Bool) (xs : List X) → list_any p xs ≡ true
     → (x : X) × IsIn x xs × (p x ≡ true)
 any_is p [] is = absurd (both_ways false refl is)
-any_is p (x ∷ xs) is = elim (or_cases (p x) (list_any p xs) is) [
-  | inl here ↦ (x, inl refl, here)
-  | inr more ↦ let found = any_is p xs more in (found.0, inr found.1, found.2)
-]
+any_is p (x ∷ xs) is = grind (arith, (any_is p xs))
 
 pub is_any : {X : Type 0} (p : X → Bool) (x : X) (xs : List X) → IsIn x xs → p x ≡ true
     → list_any p xs ≡ true
 is_any p x [] among is = absurd among
-is_any p x (y ∷ ys) (inl same) is =
-    or_left (p y) (list_any p ys) (subst (λ z. p z ≡ true) same is)
-is_any p x (y ∷ ys) (inr more) is = or_right (p y) (list_any p ys) (is_any p x ys more is)
+is_any p x (y ∷ ys) among is = grind (arith, (is_any p x ys))
 
 -- a test that tells what is equal
 pub record Tells {X : Type 0} (same : X → X → Bool) : Type 0 where
@@ -25,43 +20,24 @@ pub record Tells {X : Type 0} (same : X → X → Bool) : Type 0 where
 
 pub in_put_old : {X : Type 0} (same : X → X → Bool) (x y : X) (xs : List X) → IsIn x xs
     → IsIn x (put_by same xs y)
-in_put_old same x y xs among =
-    cond_both (list_any (λ z. same z y) xs) xs (xs ++ y ∷ []) (λ zs. IsIn x zs) (λ _. among) (λ _. in_left x xs (y ∷ []) among)
+in_put_old same x y xs among = grind (arith, in_left)
 
 pub in_put_new : {X : Type 0} (same : X → X → Bool) (y : X) (xs : List X) → Tells same
     → IsIn y (put_by same xs y)
-in_put_new same y xs tells =
-    cond_both (list_any (λ z. same z y) xs) xs (xs ++ y ∷ []) (λ zs. IsIn y zs)
-    (λ is. let found = any_is (λ z. same z y) xs is in subst (λ z. IsIn z xs) (tells.equal found.0 y found.2) found.1)
-    (λ _. in_right y xs (y ∷ []) (inl refl))
+in_put_new same y xs tells = grind (arith, any_is, in_right)
 
 pub of_put : {X : Type 0} (same : X → X → Bool) (x y : X) (xs : List X) → IsIn x (put_by same xs y)
     → IsIn x xs ⊎ (x ≡ y)
-of_put same x y xs =
-    cond_both (list_any (λ z. same z y) xs) xs (xs ++ y ∷ []) (λ zs. IsIn x zs → IsIn x xs ⊎ (x ≡ y))
-    (λ _ among. inl among)
-    (λ _ among. elim (in_either x xs (y ∷ []) among) [
-      | inl left ↦ inl left
-      | inr right ↦ elim right [ inl is ↦ inr is | inr none ↦ absurd none ]
-    ])
+of_put same x y xs among = grind (arith, (in_either x xs (y ∷ [])))
 
 once_after : {X : Type 0} (y : X) (xs : List X) → IsEachOnce xs → (IsIn y xs → ⊥)
     → IsEachOnce (xs ++ y ∷ [])
 once_after y [] once new = (λ none. none, tt)
-once_after y (x ∷ xs) once new = (
-  λ among. elim (in_either x xs (y ∷ []) among) [
-    | inl left ↦ once.0 left
-    | inr right ↦ elim right [ inl is ↦ new (inl (sym is)) | inr none ↦ none ]
-  ],
-  once_after y xs once.1 (λ among. new (inr among)),
-)
+once_after y (x ∷ xs) once new = (λ among. grind (arith, (in_either x xs (y ∷ []) among)), once_after y xs once.1 (λ among. new (inr among)))
 
 pub put_once : {X : Type 0} (same : X → X → Bool) (y : X) (xs : List X) → Tells same
     → IsEachOnce xs → IsEachOnce (put_by same xs y)
-put_once same y xs tells once =
-    cond_both (list_any (λ z. same z y) xs) xs (xs ++ y ∷ []) (λ zs. IsEachOnce zs)
-    (λ _. once)
-    (λ out. once_after y xs once (λ among. both_ways (list_any (λ z. same z y) xs) out (is_any (λ z. same z y) y xs among (tells.itself y))))
+put_once same y xs tells once = grind (arith, (once_after y xs once), (is_any (λ z. same z y) y xs))
 
 -- The tests.
 
@@ -104,8 +80,7 @@ all_same (w ∷ ws) = and_from _ _ (write_same w) (all_same ws)
 ways_equal : (s t : Way) → same_way s t ≡ true → s ≡ t
 ways_equal s t is =
     let parts = and_parts (pointwise nat_eq s.now t.now) (pointwise same_write s.rest t.rest) is in
-    let at_now : s ≡ record { rest = s.rest; now = t.now } = ap (λ bs. record s { now = bs }) (same_text s.now t.now (sym parts.0)) in
-    at_now ∙ ap (λ ws. record t { rest = ws }) (all_equal s.rest t.rest parts.1)
+    grind (arith, (same_text s.now t.now (sym parts.0)), (all_equal s.rest t.rest parts.1))
 
 pub ways_tell : Tells same_way
 ways_tell = record { equal = ways_equal; itself = λ s. and_from _ _ (bytes_same s.now) (all_same s.rest) }

@@ -1,5 +1,5 @@
 -- A safe write that none has overlapped since is read back.
-use Rattle.std.proofs.Common.{◌≡◌, ◌==◌, ◌<◌, ◌≤◌, ◌+◌, ◌-◌, ◌/◌, ℕ, max, true, false, cond, List, [], ◌∷◌, length, refl, ap, ◌∙◌, inl, inr, arith}
+use Rattle.std.proofs.Common.{◌≡◌, ◌==◌, ◌<◌, ◌≤◌, ◌+◌, ◌-◌, ◌/◌, ℕ, max, true, false, cond, List, [], ◌∷◌, length, refl, ap, ◌∙◌, inr, arith}
 use Rattle.uring_volume.proofs.Common.{History, IsIn, IsInOrder, SafeIsReadBack, UnitIsLeft, Write, and_from, byte_over, cond-false, end_of, false_from_ne_true, is_before, is_on, is_under, le-leb, length_over, lt-ltb, ne_eqb, slice_index}
 
 -- a byte, with one write over it
@@ -16,9 +16,8 @@ pub last_over : (h : History) (w : Write) (k byte : ℕ) (order : List Write) �
     → ((m : Write) → IsIn m order → (m ≡ w → ⊥) → is_under m k ≡ true → is_before h m.number w.number ≡ true)
     → byte_over byte order k ≡ slice_index w.bytes (k - w.off)
 last_over h w k byte [] among o under last = absurd among
-last_over h w k byte (x ∷ later) (inl same) o under last = grind (arith, none_over, false_from_ne_true)
-last_over h w k byte (x ∷ later) (inr more) o under last =
-    last_over h w k (over byte x k) later more o.2 under (λ m among. last m (inr among))
+last_over h w k byte (x ∷ later) among o under last =
+    grind (arith, none_over, false_from_ne_true, (last_over h w k (over byte x k) later))
 
 -- A unit and the writes of its bytes.
 
@@ -37,8 +36,7 @@ len_grows len (w ∷ later) = omega (arith, len_grows (max len (end_of w)) later
 pub end_within : (len : ℕ) (w : Write) (order : List Write) → IsIn w order
     → end_of w ≤ length_over len order
 end_within len w [] among = absurd among
-end_within len w (x ∷ later) (inl same) = grind (arith, len_grows)
-end_within len w (x ∷ later) (inr more) = end_within (max len (end_of x)) w later more
+end_within len w (x ∷ later) among = grind (arith, len_grows, (end_within (max len (end_of x)) w later))
 
 end_at : (w : Write) (k : ℕ) → k < length w.bytes → end_of w ≡ w.off + length w.bytes
 end_at w k within = cond-false (length w.bytes == 0) 0 (w.off + length w.bytes) (ne_eqb (length w.bytes) 0 (omega arith))

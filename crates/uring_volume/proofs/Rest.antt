@@ -1,6 +1,6 @@
 -- A file at rest has one image: of the writes of a byte one comes after all others, whatever the list.
-use Rattle.std.proofs.Common.{◌≡◌, ◌<◌, ◌≤◌, ◌/◌, ℕ, max, Bool, true, false, List, [], ◌∷◌, ◌⊎◌, length, refl, sym, subst, ◌∙◌, inl, inr, arith}
-use Rattle.uring_volume.proofs.Common.{History, IsAtRest, IsIn, IsInOrder, MayBeLeft, RestHasOneImage, UnitIsLeft, Write, both_ways, byte_over, cases_Bool, end_of, ext_get_or, is_before, is_on, is_under, length_over, slice_index}
+use Rattle.std.proofs.Common.{◌≡◌, ◌<◌, ◌≤◌, ◌/◌, ℕ, max, Bool, true, false, List, [], ◌∷◌, ◌⊎◌, length, refl, sym, ◌∙◌, inl, inr, arith}
+use Rattle.uring_volume.proofs.Common.{History, IsAtRest, IsIn, IsInOrder, MayBeLeft, RestHasOneImage, UnitIsLeft, Write, byte_over, cases_Bool, end_of, ext_get_or, is_before, is_on, is_under, length_over, slice_index}
 use Rattle.uring_volume.proofs.ReadBack.{none_over, last_over, len_grows, end_within}
 
 -- The last of these writes that writes the byte at offset k: of those that do, none comes after it.
@@ -19,18 +19,8 @@ last_with : (h : History) (k : ℕ) (x : Write) (later : List Write) → IsInOrd
     → HasLast h k later → HasLast h k (x ∷ later)
 last_with h k x later o (inr more) = grind arith
 last_with h k x later o (inl none) = elim (cases_Bool (is_under x k)) [
-  | inl is ↦ inr (
-    x,
-    record {
-      among = inl refl;
-      under = is;
-      last = grind arith;
-    },
-  )
-  | inr out ↦ inl (λ m among. elim among [
-    | inl same ↦ subst (λ y. is_under y k ≡ false) (sym same) out
-    | inr further ↦ none m further
-  ])
+  | inl is ↦ inr (x, record { among = inl refl; under = is; last = grind arith })
+  | inr out ↦ inl (grind arith)
 ]
 
 find_last : (h : History) (k : ℕ) (order : List Write) → IsInOrder h order → HasLast h k order
@@ -48,24 +38,12 @@ same_byte : (h : History) (touches : Write → Bool) (a b : List Write) (byte k 
     → MayBeLeft h touches a → MayBeLeft h touches b → HasLast h k a
     → byte_over byte a k ≡ byte_over byte b k
 same_byte h touches a b byte k rest la lb (inl none) = grind (arith, none_over)
-same_byte h touches a b byte k rest la lb (inr found) =
-    let w = found.0 in
-    let before = λ (m : Write) (among : IsIn m a) (differs : m ≡ found.0 → ⊥) (under : is_under m k ≡ true).
-    elim (rest.ordered m found.0 k (la.issued m among).0 (la.issued found.0 found.1.among).0 differs under found.1.under) as (λ _. is_before h m.number found.0.number ≡ true) [
-      | inl is ↦ is
-      | inr after ↦ elim (found.1.last m among under) as (λ _. is_before h m.number found.0.number ≡ true) [
-        | inl same ↦ absurd (differs same)
-        | inr out ↦ absurd (both_ways (is_before h found.0.number m.number) out after)
-      ]
-    ] in
-    last_over h found.0 k byte a found.1.among la.in_order found.1.under before
-    ∙ sym (last_over h found.0 k byte b (moves h touches a b rest la lb found.0 found.1.among) lb.in_order found.1.under (λ m among. before m (moves h touches b a rest lb la m among)))
+same_byte h touches a b byte k rest la lb (inr found) = grind (arith, (last_over h found.0 k byte a), (last_over h found.0 k byte b), moves)
 
 pub length_below : (len bound : ℕ) (order : List Write) → len ≤ bound
     → ((w : Write) → IsIn w order → end_of w ≤ bound) → length_over len order ≤ bound
 length_below len bound [] low ends = low
-length_below len bound (w ∷ later) low ends =
-    length_below (max len (end_of w)) bound later (omega (arith, ends w (inl refl))) (λ x among. ends x (inr among))
+length_below len bound (w ∷ later) low ends = grind (arith, (length_below (max len (end_of w)) bound later))
 
 no_longer : (h : History) (touches : Write → Bool) (a b : List Write) (len : ℕ) → IsAtRest h
     → MayBeLeft h touches a → MayBeLeft h touches b → length_over len a ≤ length_over len b

@@ -1,6 +1,6 @@
 -- A search through a list, and loops over lists of references.
-use Rattle.std.proofs.Common.{◌≡◌, ◌+◌, ◌-◌, ◌*◌, ◌<◌, ◌≤◌, ℕ, zero, suc, min, max, Bool, true, false, cond, List, [], ◌∷◌, ◌++◌, length, map, get_or, take, drop, replicate, refl, sym, ap, ◌∙◌, inl, inr, arith}
-use Rattle.uring_volume.proofs.Common.{History, append_assoc, joined, OnOk, Result, Write, byte_over, bytes_from, bytes_over, cases_Bool, cond-false, drop_all, drop_more, end_of, ext_get_or, filter, fronts, get_or-drop, get_or-take, get_or_past, length-append, length-drop, length-replicate, length-take, length_over, list_any, list_any-append, map-append, mul-le-mul_left, or_from, or_left, put_by, take_more, unit_contents}
+use Rattle.std.proofs.Common.{◌≡◌, ◌+◌, ◌-◌, ◌*◌, ◌<◌, ◌≤◌, ℕ, zero, suc, min, max, Bool, true, false, cond, List, [], ◌∷◌, ◌++◌, length, map, get_or, take, drop, replicate, sym, ap, ◌∙◌, inl, inr, arith}
+use Rattle.uring_volume.proofs.Common.{History, append_assoc, joined, OnOk, Result, Write, byte_over, bytes_from, bytes_over, cond-false, drop_all, drop_more, end_of, ext_get_or, filter, fronts, get_or-drop, get_or-take, get_or_past, length-append, length-drop, length-replicate, length-take, length_over, list_any, list_any-append, map-append, mul-le-mul_left, or_left, put_by, take_more, unit_contents}
 use Rattle.uring_volume.proofs.Painting.{below_or_from}
 use Rattle.uring_volume.proofs.Leaving.{padded}
 use Rattle.uring_volume.proofs.Files.{length_bytes_over, bytes_over_at, length_bytes_from, bytes_from_at, length_joined}
@@ -14,17 +14,13 @@ holds_at f p (x ∷ xs) (suc i) d within is = grind (arith, (holds_at f p xs i d
 -- the one that is looked for stands at i
 pub one_is : {X Y : Type 0} (f : X → Y) (p : Y → Bool) (xs : List X) (i : ℕ) (x : X)
     → i < length xs → x ≡ get_or xs i x → p (f x) ≡ true → list_any p (map f xs) ≡ true
-one_is f p xs i x within at is = holds_at f p xs i x within (ap (λ y. p (f y)) (sym at) ∙ is)
+one_is f p xs i x within at is = grind (arith, holds_at)
 
 pub none_more : {X Y : Type 0} (f : X → Y) (p : Y → Bool) (xs : List X) (i : ℕ) (x : X)
     → i < length xs → x ≡ get_or xs i x → p (f x) ≡ false
     → list_any p (map f (take i xs)) ≡ false → list_any p (map f (take (i + 1) xs)) ≡ false
 none_more f p xs i x within at out none =
-    ap (λ ys. list_any p (map f ys)) (take_more xs i x within)
-    ∙ ap (list_any p) (map-append f (take i xs) (get_or xs i x ∷ []))
-    ∙ list_any-append p (map f (take i xs)) (f (get_or xs i x) ∷ [])
-    ∙ or_from (list_any p (map f (take i xs))) (list_any p (f (get_or xs i x) ∷ [])) none
-    (or_from (p (f (get_or xs i x))) false (ap (λ y. p (f y)) (sym at) ∙ out) refl)
+    grind (arith, (take_more xs i x within), (map-append f (take i xs) (x ∷ [])), (list_any-append p (map f (take i xs)) (f x ∷ [])))
 
 -- all bytes are painted
 pub painted : (k : ℕ) (now old : List ℕ) (w : Write) → length now ≡ length old
@@ -37,11 +33,7 @@ painted k now old w same done =
 pub put_new : {X Y : Type 0} (f : X → Y) (same : Y → Y → Bool) (old new : List X) (x : X) (y : Y)
     → f x ≡ y → list_any (λ z. same z y) (map f old) ≡ false → new ≡ old ++ x ∷ []
     → map f new ≡ put_by same (map f old) y
-put_new f same old new x y is none pushed =
-    ap (map f) pushed
-    ∙ map-append f old (x ∷ [])
-    ∙ ap (λ z. map f old ++ z ∷ []) is
-    ∙ sym (cond-false (list_any (λ z. same z y) (map f old)) (map f old) (map f old ++ y ∷ []) none)
+put_new f same old new x y is none pushed = grind (arith, map-append)
 
 pub on_ok : {T E : Type 0} (r : Result T E) (P Q : Type 0) → (P → Q) → OnOk r P → OnOk r Q
 on_ok r P Q follows holds = grind arith
@@ -51,12 +43,7 @@ pub kept_more : {X : Type 0} (f : X → Write) (p : Write → Bool) (xs : List X
     (len next : ℕ) (b : Bool) → i < length xs → x ≡ get_or xs i x → b ≡ p (f x)
     → next ≡ cond b (max len (end_of (f x))) len
     → length_over next (filter p (map f (drop (i + 1) xs))) ≡ length_over len (filter p (map f (drop i xs)))
-kept_more f p xs i x len next b within at is made =
-    let here : map f (drop i xs) ≡ f x ∷ map f (drop (i + 1) xs) = ap (map f) (drop_more xs i x within ∙ ap (λ z. z ∷ drop (i + 1) xs) (sym at)) in
-    sym (ap (λ ws. length_over len (filter p ws)) here ∙ elim (cases_Bool (p (f x))) as (λ _. length_over len (filter p (f x ∷ map f (drop (i + 1) xs))) ≡ length_over next (filter p (map f (drop (i + 1) xs)))) [
-      | inl is_kept ↦ grind arith
-      | inr is_out ↦ grind arith
-    ])
+kept_more f p xs i x len next b within at is made = grind (arith, drop_more)
 
 -- none is left after the last one
 pub kept_all : {X : Type 0} (f : X → Write) (p : Write → Bool) (xs : List X) (i len : ℕ)
@@ -113,9 +100,4 @@ padded_from first xs k n a b begins ends is =
     let size : length xs ≡ b - a = omega (arith, ap length is ∙ length-take (b - a) (drop a first), length-drop a first) in
     let long : length (xs ++ replicate (n - length xs) 0) ≡ n = omega (arith, size, length-append xs (replicate (n - length xs) 0), length-replicate {A = ℕ} (n - length xs) 0) in
     ext_get_or 0 (xs ++ replicate (n - length xs) 0) (bytes_from first k n) (long ∙ sym (length_bytes_from first k n))
-    (λ j within. padded xs (n - length xs) j
-    ∙ elim (below_or_from j (b - a)) as (λ _. get_or xs j 0 ≡ get_or first (k + j) 0) [
-      | inl here ↦ grind (arith, get_or-take, get_or-drop)
-      | inr past ↦ get_or_past xs j 0 (omega (arith, size)) ∙ sym (get_or_past first (k + j) 0 (omega (arith, long)))
-    ]
-    ∙ sym (bytes_from_at first k n j (omega (arith, long))))
+    (λ j within. grind (arith, (padded xs (n - length xs) j), (below_or_from j (b - a)), get_or-take, get_or-drop, get_or_past, (bytes_from_at first k n j)))

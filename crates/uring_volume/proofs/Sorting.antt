@@ -37,10 +37,7 @@ sorted_in p xs i x within is =
 pub sorted_out : {X : Type 0} (p : X → Bool) (xs : List X) (i : ℕ) (x : X) → i < length xs → p (get_or xs i x) ≡ false
     → sorted p i xs ≡ sorted p (i + 1) xs
 sorted_out p xs i x within out =
-    ap (λ ys. filter p (take i xs) ++ (filter (λ y. not (p y)) (take i xs) ++ ys)) (drop_more xs i x within)
-    ∙ ap (λ ys. filter p (take i xs) ++ ys) (sym (append_assoc (filter (λ y. not (p y)) (take i xs)) (get_or xs i x ∷ []) (drop (i + 1) xs)))
-    ∙ ap (λ ys. ys ++ ((filter (λ y. not (p y)) (take i xs) ++ get_or xs i x ∷ []) ++ drop (i + 1) xs)) (sym (ap (filter p) (take_more xs i x within) ∙ fails p (take i xs) (get_or xs i x) out))
-    ∙ ap (λ ys. filter p (take (i + 1) xs) ++ (ys ++ drop (i + 1) xs)) (sym (ap (filter (λ y. not (p y))) (take_more xs i x within) ∙ passes (λ y. not (p y)) (take i xs) (get_or xs i x) (ap not out)))
+    grind (arith, (get_or xs i x), (drop_more xs i x within), (take_more xs i x within), (fails p (take i xs) (get_or xs i x) out), (passes (λ y. not (p y)) (take i xs) (get_or xs i x)), append_assoc)
 
 pub sizes : {X : Type 0} (p : X → Bool) (xs : List X)
     → length (filter p xs) + length (filter (λ x. not (p x)) xs) ≡ length xs
@@ -50,17 +47,7 @@ sizes p xs = length-filter_both p (λ x. not (p x)) (λ x. refl) xs
 pub sorted_all : {X : Type 0} (p : X → Bool) (xs ys : List X) (i n : ℕ) → length xs ≤ i
     → ys ≡ sorted p i xs → n ≡ length (filter p (take i xs))
     → (take n ys ≡ filter p xs) × (drop n ys ≡ filter (λ x. not (p x)) xs)
-sorted_all p xs ys i n past is size =
-    let all : take i xs ≡ xs = take_all i xs past in
-    let long : n ≡ length (filter p xs) = size ∙ ap (λ zs. length (filter p zs)) all in
-    let whole : ys ≡ filter p xs ++ filter (λ x. not (p x)) xs =
-    is
-    ∙ ap (λ zs. filter p zs ++ (filter (λ x. not (p x)) zs ++ drop i xs)) all
-    ∙ ap (λ zs. filter p xs ++ (filter (λ x. not (p x)) xs ++ zs)) (drop_all i xs past)
-    ∙ ap (λ zs. filter p xs ++ zs) (append-nil (filter (λ x. not (p x)) xs)) in (
-      ap (take n) whole ∙ take-append-le n (filter p xs) (filter (λ x. not (p x)) xs) (omega (arith, long)) ∙ take_all n (filter p xs) (omega (arith, long)),
-      ap (drop n) whole ∙ drop-append-le n (filter p xs) (filter (λ x. not (p x)) xs) (omega (arith, long)) ∙ ap (λ zs. zs ++ filter (λ x. not (p x)) xs) (drop_all n (filter p xs) (omega (arith, long))),
-    )
+sorted_all p xs ys i n past is size = grind (arith, take_all, drop_all, append-nil, take-append-le, drop-append-le)
 
 -- the next one stands where it stood
 pub sorted_at : {X : Type 0} (p : X → Bool) (xs : List X) (i : ℕ) (d : X) → i < length xs
@@ -77,16 +64,7 @@ turned_part a b c ys turned x n m is begins size turns =
     let long : length (b ++ x ∷ []) ≡ m = length-append b (x ∷ []) ∙ size in
     let part : take m (drop n ys) ≡ b ++ x ∷ [] = ap (take m) after ∙ take_at (b ++ x ∷ []) c m long in
     let last : length (take m (drop n ys)) - 1 ≡ length b = omega (arith, ap length part, long, size) in
-    let turn : turned ≡ x ∷ b =
-    turns
-    ∙ ap (λ k. drop k (take m (drop n ys)) ++ take k (take m (drop n ys))) last
-    ∙ ap (λ zs. drop (length b) zs ++ take (length b) zs) part
-    ∙ ap (λ zs. zs ++ take (length b) (b ++ x ∷ [])) (drop_at b (x ∷ []) (length b) refl)
-    ∙ ap (λ zs. x ∷ zs) (take_at b (x ∷ []) (length b) refl) in
-    ap (λ zs. take n ys ++ (zs ++ drop m (drop n ys))) turn
-    ∙ ap (λ zs. take n ys ++ ((x ∷ b) ++ drop m zs)) after
-    ∙ ap (λ zs. take n ys ++ ((x ∷ b) ++ zs)) (drop_at (b ++ x ∷ []) c m long)
-    ∙ ap (λ zs. zs ++ ((x ∷ b) ++ c)) (ap (take n) is ∙ take_at a (b ++ x ∷ c) n begins)
+    grind (arith, (drop_at b (x ∷ []) (length b) refl), (take_at b (x ∷ []) (length b) refl), (drop_at (b ++ x ∷ []) c m long), (take_at a (b ++ x ∷ c) n begins))
 
 -- the element that was read at i is that of the list as it was
 stands : {X : Type 0} (p : X → Bool) (xs ys : List X) (i : ℕ) (x : X) → i < length xs
@@ -115,9 +93,7 @@ sorted_same p xs ys i x within is at failed =
 pub count_next : {X : Type 0} (p : X → Bool) (xs ys : List X) (i n : ℕ) (x : X) (b : Bool)
     → i < length xs → ys ≡ sorted p i xs → n ≡ length (filter p (take i xs)) → x ≡ get_or ys i x
     → p x ≡ b → n + cond b 1 0 ≡ length (filter p (take (i + 1) xs))
-count_next p xs ys i n x b within is size at passed =
-    ap (λ k. k + cond b 1 0) size
-    ∙ sym (length-filter_more p xs i x within ∙ ap (λ q. length (filter p (take i xs)) + cond q 1 0) (ap p (stands p xs ys i x within is at) ∙ passed))
+count_next p xs ys i n x b within is size at passed = grind (arith, length-filter_more, (stands p xs ys i x within is at))
 
 -- of the elements up to index i no more pass than there are
 pub no_more : {X : Type 0} (p : X → Bool) (xs : List X) (i n : ℕ) → i < length xs

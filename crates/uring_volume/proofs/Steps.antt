@@ -1,6 +1,6 @@
 -- A list of events, the newest first, grows by one at its head.
 use Rattle.std.proofs.Common.{◌≡◌, ◌<◌, ◌+◌, ℕ, List, [], ◌∷◌, ◌++◌, length, get_or, take, reverse, refl, sym, ap, ◌∙◌}
-use Rattle.uring_volume.proofs.Common.{Event, History, SyncEnded, SyncFailed, SyncIssued, Write, WriteEnded, WriteIssued, ended, issued, reverse-append, take_more}
+use Rattle.uring_volume.proofs.Common.{Event, History, Write, WriteEnded, WriteIssued, ended, issued, reverse-append, take_more}
 
 pub newest : {X : Type 0} (xs : List X) (i : ℕ) (d : X) → i < length xs
     → reverse (take (i + 1) xs) ≡ get_or xs i d ∷ reverse (take i xs)
@@ -26,10 +26,7 @@ at_event f es i e d within at is =
 not_issued : (e : Event) (h : History) → ((w : Write) → e ≡ WriteIssued w → ⊥)
     → issued (e ∷ h) ≡ issued h
 not_issued (WriteIssued w) h other = absurd (other w refl)
-not_issued (WriteEnded n) h other = refl
-not_issued (SyncIssued s range) h other = refl
-not_issued (SyncEnded s) h other = refl
-not_issued (SyncFailed s) h other = refl
+not_issued e h other = refl
 
 pub issued_same : (es : List Event) (i : ℕ) (e : Event) → i < length es → e ≡ get_or es i e
     → ((w : Write) → e ≡ WriteIssued w → ⊥)
@@ -39,11 +36,8 @@ issued_same es i e within at other =
 
 not_ended : (e : Event) (h : History) → ((n : ℕ) → e ≡ WriteEnded n → ⊥)
     → ended (e ∷ h) ≡ ended h
-not_ended (WriteIssued w) h other = refl
 not_ended (WriteEnded n) h other = absurd (other n refl)
-not_ended (SyncIssued s range) h other = refl
-not_ended (SyncEnded s) h other = refl
-not_ended (SyncFailed s) h other = refl
+not_ended e h other = refl
 
 pub ended_same : (es : List Event) (i : ℕ) (e : Event) → i < length es → e ≡ get_or es i e
     → ((n : ℕ) → e ≡ WriteEnded n → ⊥) → ended (reverse (take (i + 1) es)) ≡ ended (reverse (take i es))

@@ -1,9 +1,10 @@
 -- Lists of references, and which of their writes a choice takes.
 use Rattle.std.proofs.Common.{◌≡◌, ◌<◌, ◌≤◌, ◌+◌, ◌-◌, ℕ, zero, suc, Bool, true, false, List, [], ◌∷◌, ◌++◌, length, get_or, map, take, drop, take-add, append_assoc, refl, sym, ap, ◌∙◌, add-one, arith}
-use Rattle.uring_volume.proofs.Common.{History, Write, append-nil, chosen, cond-false, cond-true, drop_all, filter, has_safe, is_safe, length-drop, length-map, length-take-le, list_any, map-append, named, or_left, take-map, take_all, up_to_safe, waits_for_one, without}
+use Rattle.uring_volume.proofs.Common.{History, Write, append-nil, chosen, cond-false, cond-true, drop_all, filter, has_safe, is_safe, length-drop, length-map, length-take-le, list_any, map-append, named, take-map, take_all, up_to_safe, waits_for_one, without}
 use Rattle.std.proofs.Math.Seq.{drop-cons}
 use borrow.Rule.Slice.PartMut.{put_mid}
 use Rattle.uring_volume.proofs.Sorting.{past_first, after_first}
+use Rattle.uring_volume.proofs.Seeking.{one_is}
 
 pub filter_of_map : {X Y : Type 0} (f : X → Y) (p : Y → Bool) (xs : List X)
     → filter p (map f xs) ≡ map f (filter (λ x. p (f x)) xs)
@@ -15,12 +16,6 @@ pub none_safe : (h : History) (rest : List Write) → has_safe h rest ≡ false
     → up_to_safe h rest ≡ []
 none_safe h [] none = refl
 none_safe h (w ∷ later) none = cond-false (has_safe h (w ∷ later)) (w ∷ up_to_safe h later) [] none
-
-pub any_at : (p : Write → Bool) (ws : List Write) (i : ℕ) (d : Write) → i < length ws
-    → p (get_or ws i d) ≡ true → list_any p ws ≡ true
-any_at p [] i d within is = absurd (omega arith)
-any_at p (w ∷ later) zero d within is = or_left (p w) (list_any p later) is
-any_at p (w ∷ later) (suc i) d within is = grind (arith, (any_at p later i d (omega arith) is))
 
 -- the last safe one of these stands at i
 pub up_to_last : (h : History) (rest : List Write) (i : ℕ) (d : Write) → i < length rest
@@ -52,12 +47,11 @@ one_less f p xs n i x e within at out none = grind (arith, (map f xs), (length-m
 
 pub one_found : {X : Type 0} (f : X → Write) (p : Write → Bool) (xs : List X) (i : ℕ) (x : X)
     → i < length xs → x ≡ get_or xs i x → p (f x) ≡ true → list_any p (map f xs) ≡ true
-one_found f p xs i x within at is = grind (arith, (map f xs), (length-map xs f), (get_map f xs i x), any_at)
+one_found f p xs i x within at is = one_is f p xs i x within at is
 
 pub push_map : {X Y : Type 0} (f : X → Y) (old new : List X) (x : X) (ys : List Y)
     → new ≡ old ++ x ∷ [] → map f old ≡ ys → map f new ≡ ys ++ f x ∷ []
-push_map f old new x ys pushed same =
-    ap (map f) pushed ∙ map-append f old (x ∷ []) ∙ ap (λ zs. zs ++ f x ∷ []) same
+push_map f old new x ys pushed same = grind (arith, map-append)
 
 -- A choice among references, of which the first ones have been chosen.
 
@@ -76,14 +70,8 @@ pub one_chosen : {X : Type 0} (f : X → Write) (h : History) (xs ys part : List
 one_chosen f h xs ys part count m n more within free took left is =
     let made : ys ≡ take count xs ++ part = grind (arith, drop_all, length-drop, append-nil) in
     let sum : count + m ≡ length (take count xs) + m = ap (λ k. k + m) (sym (length-take-le count xs within)) in
-    ap (λ zs. map f zs ++ chosen h (map f (drop (count + m) ys)) more) (ap (take (count + m)) made ∙ ap (λ k. take k (take count xs ++ part)) sum ∙ past_first (take count xs) part m)
-    ∙ ap (λ zs. map f (take count xs ++ take m part) ++ chosen h (map f zs) more) (ap (drop (count + m)) made ∙ ap (λ k. drop k (take count xs ++ part)) sum ∙ after_first (take count xs) part m)
-    ∙ ap (λ ws. ws ++ chosen h (map f (drop m part)) more) (map-append f (take count xs) (take m part))
-    ∙ ap (λ ws. (map f (take count xs) ++ ws) ++ chosen h (map f (drop m part)) more) took
-    ∙ ap (λ ws. (map f (take count xs) ++ named n (map f (take (length xs - count) (drop count xs)))) ++ chosen h ws more) left
-    ∙ append_assoc (map f (take count xs)) (named n (map f (take (length xs - count) (drop count xs)))) (chosen h (without n (map f (take (length xs - count) (drop count xs)))) more)
-    ∙ ap (λ ws. map f (take count xs) ++ ws) (sym (cond-false (waits_for_one h (map f (take (length xs - count) (drop count xs))) n) (chosen h (map f (take (length xs - count) (drop count xs))) more) (named n (map f (take (length xs - count) (drop count xs))) ++ chosen h (without n (map f (take (length xs - count) (drop count xs)))) more) free))
-    ∙ ap (λ zs. map f (take count xs) ++ chosen h (map f zs) (n ∷ more)) (others_of xs count)
+    rw (made, sum, past_first (take count xs) part m, after_first (take count xs) part m, map-append, took, left, append_assoc)
+    (ap (λ ws. map f (take count xs) ++ ws) (grind (arith, (others_of xs count))))
 
 pub none_chosen : {X : Type 0} (f : X → Write) (h : History) (xs : List X) (count n : ℕ)
     (more : List ℕ) → waits_for_one h (map f (take (length xs - count) (drop count xs))) n ≡ true
@@ -94,11 +82,4 @@ pub all_chosen : {X : Type 0} (f : X → Write) (h : History) (xs : List X) (cou
     (choice : List ℕ) → length choice ≤ i
     → take r (map f (take (length xs - count) (drop count xs))) ≡ up_to_safe h (map f (take (length xs - count) (drop count xs)))
     → map f (take (count + r) xs) ≡ map f (take count xs) ++ chosen h (map f (drop count xs)) (drop i choice)
-all_chosen f h xs count r i choice past safe =
-    ap (map f) (take-add count r xs)
-    ∙ map-append f (take count xs) (take r (drop count xs))
-    ∙ ap (λ ws. map f (take count xs) ++ ws) (sym (take-map f r (drop count xs)))
-    ∙ ap (λ zs. map f (take count xs) ++ take r (map f zs)) (sym (others_of xs count))
-    ∙ ap (λ ws. map f (take count xs) ++ ws) safe
-    ∙ ap (λ zs. map f (take count xs) ++ up_to_safe h (map f zs)) (others_of xs count)
-    ∙ ap (λ ns. map f (take count xs) ++ chosen h (map f (drop count xs)) ns) (sym (drop_all i choice past))
+all_chosen f h xs count r i choice past safe = grind (arith, take-add, map-append, take-map, others_of, drop_all)

@@ -1,29 +1,17 @@
 -- An image of larger units is one of smaller ones: of what is left of a large unit, what lies on the small one is left of that.
-use Rattle.std.proofs.Common.{◌≡◌, ◌<◌, ◌≤◌, ◌+◌, ◌-◌, ◌*◌, ◌/◌, ℕ, min, max, Bool, true, false, cond, List, [], ◌∷◌, length, refl, sym, subst, inl, inr, arith}
-use Rattle.uring_volume.proofs.Common.{History, IsIn, IsInOrder, SmallerUnitsAllowIt, UnitIsLeft, Write, both_ways, byte_over, cases_Bool, cond-false, cond-true, div-div-eq-div-mul, filter, is_on, is_under, lt-div-mul-add, lt-ltb, ltb-true, mul-div-le, mul-le-mul_left, slice_index}
+use Rattle.std.proofs.Common.{◌≡◌, ◌<◌, ◌≤◌, ◌+◌, ◌-◌, ◌*◌, ◌/◌, ℕ, min, max, Bool, true, false, cond, List, [], ◌∷◌, length, refl, arith}
+use Rattle.uring_volume.proofs.Common.{History, IsIn, IsInOrder, SmallerUnitsAllowIt, UnitIsLeft, Write, both_ways, byte_over, div-div-eq-div-mul, filter, is_on, is_under, lt-div-mul-add, lt-ltb, ltb-true, mul-div-le, mul-le-mul_left, slice_index}
 use Rattle.uring_volume.proofs.ReadBack.{on_from}
 
 pub in_filter : (p : Write → Bool) (x : Write) (xs : List Write) → IsIn x xs → p x ≡ true
     → IsIn x (filter p xs)
 in_filter p x [] among is = absurd among
-in_filter p x (y ∷ ys) (inl same) is = grind arith
-in_filter p x (y ∷ ys) (inr more) is = grind (arith, (in_filter p x ys more is))
+in_filter p x (y ∷ ys) among is = grind (arith, (in_filter p x ys))
 
 pub of_filter : (p : Write → Bool) (x : Write) (xs : List Write) → IsIn x (filter p xs)
     → IsIn x xs × (p x ≡ true)
 of_filter p x [] among = absurd among
-of_filter p x (y ∷ ys) among =
-    elim (cases_Bool (p y)) [
-      | inl is ↦
-          let inside : IsIn x (y ∷ filter p ys) = subst (λ zs. IsIn x zs) (cond-true (p y) (y ∷ filter p ys) (filter p ys) is) among in
-          elim inside [
-            | inl same ↦ (inl same, subst (λ z. p z ≡ true) (sym same) is)
-            | inr more ↦ (inr (of_filter p x ys more).0, (of_filter p x ys more).1)
-          ]
-      | inr out ↦
-          let more : IsIn x (filter p ys) = subst (λ zs. IsIn x zs) (cond-false (p y) (y ∷ filter p ys) (filter p ys) out) among in
-          (inr (of_filter p x ys more).0, (of_filter p x ys more).1)
-    ]
+of_filter p x (y ∷ ys) among = grind (arith, (of_filter p x ys))
 
 pub filter_in_order : (h : History) (p : Write → Bool) (xs : List Write) → IsInOrder h xs
     → IsInOrder h (filter p xs)

@@ -1,6 +1,6 @@
 -- The ways through some writes lead to what each list that fits leaves, and to nothing else.
-use Rattle.std.proofs.Common.{◌≡◌, ◌≤◌, ◌<◌, ℕ, zero, suc, Bool, false, cond, List, [], ◌∷◌, ◌⊎◌, length, refl, sym, subst, inl, inr, arith}
-use Rattle.uring_volume.proofs.Common.{History, IsEachOnce, IsIn, Way, Write, bytes_over, cond-false, cond_both, contents_of, false_from_ne_true, filter, found_at, found_by, has_safe, is_safe, nat_eq, next_ways, pointwise, put_by, same_way, stepped, steps_of, waits_for_one, way}
+use Rattle.std.proofs.Common.{◌≡◌, ◌≤◌, ◌<◌, ℕ, zero, suc, Bool, false, cond, List, [], ◌∷◌, ◌⊎◌, length, refl, subst, inl, inr, arith}
+use Rattle.uring_volume.proofs.Common.{History, IsEachOnce, IsIn, Way, Write, bytes_over, cond-false, contents_of, false_from_ne_true, filter, found_at, found_by, has_safe, is_safe, nat_eq, next_ways, pointwise, put_by, same_way, stepped, steps_of, waits_for_one, way}
 use Rattle.uring_volume.proofs.Fitting.{FitsIn, AreApart, apart_filter, named_is, first_is_free, rest_fits, place_fits, none_in, not_in}
 use Rattle.uring_volume.proofs.Puts.{in_put_old, in_put_new, of_put, put_once, ways_tell, bytes_tell}
 
@@ -34,10 +34,6 @@ step_by h k s c [] apart fits made = inl (record {
 })
 step_by h k s c (w ∷ more) apart fits made = grind (arith, first_is_free, rest_fits)
 
-step_down : (h : History) (k : ℕ) (s : Way) (c : List ℕ) → AreApart h s.rest → Gives h k s c
-    → IsEnd h s c ⊎ ((w : Write) × IsStep h k s w × Gives h k (stepped k s w) c)
-step_down h k s c apart g = step_by h k s c g.order apart g.fits g.made
-
 end_gives : (h : History) (k : ℕ) (s : Way) (c : List ℕ) → IsEnd h s c → Gives h k s c
 end_gives h k s c e = grind (arith, not_in)
 
@@ -59,8 +55,7 @@ steps_old : (h : History) (k : ℕ) (s : Way) (ws : List Write) (next : List Way
     → IsIn t next → IsIn t (steps_of h k s ws next)
 steps_old h k s [] next t among = among
 steps_old h k s (w ∷ more) next t among =
-    steps_old h k s more (cond (waits_for_one h s.rest w.number) next (put_by same_way next (stepped k s w))) t
-    (cond_both (waits_for_one h s.rest w.number) next (put_by same_way next (stepped k s w)) (λ ns. IsIn t ns) (λ _. among) (λ _. in_put_old same_way t (stepped k s w) next among))
+    grind (arith, (steps_old h k s more (cond (waits_for_one h s.rest w.number) next (put_by same_way next (stepped k s w))) t), in_put_old)
 
 steps_new : (h : History) (k : ℕ) (s : Way) (ws : List Write) (next : List Way) (w : Write)
     → IsIn w ws → waits_for_one h s.rest w.number ≡ false
@@ -106,9 +101,7 @@ of_next h k (s ∷ more) next t among = grind (arith, (of_next h k more (steps_o
 at_old : (h : History) (ways : List Way) (found : List (List ℕ)) (c : List ℕ) → IsIn c found
     → IsIn c (found_at h ways found)
 at_old h [] found c among = among
-at_old h (s ∷ more) found c among =
-    at_old h more (cond (has_safe h s.rest) found (put_by (pointwise nat_eq) found s.now)) c
-    (cond_both (has_safe h s.rest) found (put_by (pointwise nat_eq) found s.now) (λ cs. IsIn c cs) (λ _. among) (λ _. in_put_old (pointwise nat_eq) c s.now found among))
+at_old h (s ∷ more) found c among = grind (arith, (at_old h more), in_put_old)
 
 at_new : (h : History) (ways : List Way) (found : List (List ℕ)) (s : Way) → IsIn s ways
     → has_safe h s.rest ≡ false → IsIn s.now (found_at h ways found)
@@ -131,9 +124,7 @@ of_at h (s ∷ more) found c among =
 at_once : (h : History) (ways : List Way) (found : List (List ℕ)) → IsEachOnce found
     → IsEachOnce (found_at h ways found)
 at_once h [] found once = once
-at_once h (s ∷ more) found once =
-    at_once h more (cond (has_safe h s.rest) found (put_by (pointwise nat_eq) found s.now))
-    (cond_both (has_safe h s.rest) found (put_by (pointwise nat_eq) found s.now) (λ cs. IsEachOnce cs) (λ _. once) (λ _. put_once (pointwise nat_eq) s.now found bytes_tell once))
+at_once h (s ∷ more) found once = grind (arith, (at_once h more), put_once, bytes_tell)
 
 -- All steps.
 
@@ -167,9 +158,9 @@ found_new : (n : ℕ) (h : History) (k : ℕ) (ways : List Way) (found : List (L
     → IsIn c (found_by n h k ways found)
 found_new zero h k ways found s c all among g = absurd (let none : length s.rest < 0 = (all s among).short in omega arith)
 found_new (suc n) h k ways found s c all among g =
-    elim (step_down h k s c (all s among).apart g) [
-      | inl e ↦ found_old n h k (next_ways h k ways []) (found_at h ways found) c (subst (λ bs. IsIn bs (found_at h ways found)) (sym e.is) (at_new h ways found s among e.none))
-      | inr on ↦ found_new n h k (next_ways h k ways []) (found_at h ways found) (stepped k s on.0) c (next_short h k n ways all) (next_new h k ways [] s on.0 among on.1) on.2
+    elim (step_by h k s c g.order (all s among).apart g.fits g.made) [
+      | inl e ↦ grind (arith, found_old, at_new)
+      | inr on ↦ grind (arith, (found_new n h k (next_ways h k ways []) (found_at h ways found) (stepped k s on.0) c (next_short h k n ways all)), next_new)
     ]
 
 of_found : (n : ℕ) (h : History) (k : ℕ) (ways : List Way) (found : List (List ℕ)) (c : List ℕ)
@@ -198,8 +189,7 @@ found_once (suc n) h k ways found once =
 
 first_short : (h : History) (rest : List Write) (bytes : List ℕ) → AreApart h rest → (t : Way)
     → IsIn t (way rest bytes ∷ []) → IsShort h (suc (length rest)) t
-first_short h rest bytes apart t (inl same) = grind arith
-first_short h rest bytes apart t (inr none) = absurd none
+first_short h rest bytes apart t among = grind arith
 
 pub of_contents : (h : History) (k : ℕ) (rest : List Write) (bytes c : List ℕ) → AreApart h rest
     → IsIn c (contents_of h k rest bytes) → Gives h k (way rest bytes) c

@@ -1,6 +1,6 @@
 -- A history without one of its writes tells the same of all others.
-use Rattle.std.proofs.Common.{◌≡◌, ◌==◌, ℕ, [], ◌∷◌, ◌++◌, refl, sym, ap, ◌∙◌, inl, inr, rules}
-use Rattle.uring_volume.proofs.Common.{Event, History, IsIn, IsLawful, SyncEnded, SyncFailed, SyncIssued, Write, WriteEnded, WriteIssued, cases_Bool, eqb-true, filter, has_ended, is_before, is_covered, is_given_up, is_reached, is_safe, ne_eqb, not-true, without_write, writes}
+use Rattle.std.proofs.Common.{◌≡◌, ◌==◌, ℕ, [], ◌∷◌, ◌++◌, refl, sym, ap, ◌∙◌, inl, inr, rules, arith}
+use Rattle.uring_volume.proofs.Common.{Event, History, IsIn, IsLawful, Write, WriteEnded, WriteIssued, filter, has_ended, is_before, is_covered, is_given_up, is_reached, is_safe, ne_eqb, not-true, without_write, writes}
 use Rattle.uring_volume.proofs.Units.{in_filter, of_filter}
 use Rattle.uring_volume.proofs.Fitting.{lacks}
 
@@ -24,22 +24,11 @@ skip_issue n w g h is same = search rules
 skip_end : (n k : ℕ) (g h : History) → k ≡ n → SameBut n g h → SameBut n (WriteEnded k ∷ g) h
 skip_end n k g h is same = search rules
 
-same_nil : (n : ℕ) → SameBut n [] []
-same_nil n = search rules
-
 same_without : (n : ℕ) (h : History) → SameBut n h (without_write n h)
-same_without n [] = same_nil n
-same_without n (WriteIssued w ∷ earlier) = elim (cases_Bool (w.number == n)) [
-  | inl is ↦ simp is (skip_issue n w earlier (without_write n earlier) (eqb-true w.number n is) (same_without n earlier))
-  | inr out ↦ simp out (same_cons n (WriteIssued w) earlier (without_write n earlier) (same_without n earlier))
-]
-same_without n (WriteEnded k ∷ earlier) = elim (cases_Bool (k == n)) [
-  | inl is ↦ simp is (skip_end n k earlier (without_write n earlier) (eqb-true k n is) (same_without n earlier))
-  | inr out ↦ simp out (same_cons n (WriteEnded k) earlier (without_write n earlier) (same_without n earlier))
-]
-same_without n (SyncIssued s range ∷ earlier) = same_cons n (SyncIssued s range) earlier (without_write n earlier) (same_without n earlier)
-same_without n (SyncEnded s ∷ earlier) = same_cons n (SyncEnded s) earlier (without_write n earlier) (same_without n earlier)
-same_without n (SyncFailed s ∷ earlier) = same_cons n (SyncFailed s) earlier (without_write n earlier) (same_without n earlier)
+same_without n [] = search rules
+same_without n (WriteIssued w ∷ earlier) = grind (arith, skip_issue, same_cons, (same_without n earlier))
+same_without n (WriteEnded k ∷ earlier) = grind (arith, skip_end, same_cons, (same_without n earlier))
+same_without n (e ∷ earlier) = same_cons n e earlier (without_write n earlier) (same_without n earlier)
 
 pub same_later : (n : ℕ) (later h : History) → SameBut n (later ++ h) (later ++ without_write n h)
 same_later n [] h = same_without n h
@@ -51,9 +40,7 @@ pub writes_without : (n : ℕ) (h : History) → writes (without_write n h) ≡ 
 writes_without n [] = refl
 writes_without n (WriteIssued w ∷ earlier) = search (rules, (writes_without n earlier))
 writes_without n (WriteEnded k ∷ earlier) = search (rules, (writes_without n earlier))
-writes_without n (SyncIssued s range ∷ earlier) = writes_without n earlier
-writes_without n (SyncEnded s ∷ earlier) = writes_without n earlier
-writes_without n (SyncFailed s ∷ earlier) = writes_without n earlier
+writes_without n (e ∷ earlier) = writes_without n earlier
 
 -- the writes of one history are those of another but n
 pub record WritesBut (n : ℕ) (g h : History) : Type 0 where
@@ -64,10 +51,7 @@ pub record WritesBut (n : ℕ) (g h : History) : Type 0 where
 pub in_later : (later h : History) (w : Write) → IsIn w (writes h) → IsIn w (writes (later ++ h))
 in_later [] h w among = among
 in_later (WriteIssued v ∷ later) h w among = inr (in_later later h w among)
-in_later (WriteEnded k ∷ later) h w among = in_later later h w among
-in_later (SyncIssued k range ∷ later) h w among = in_later later h w among
-in_later (SyncEnded k ∷ later) h w among = in_later later h w among
-in_later (SyncFailed k ∷ later) h w among = in_later later h w among
+in_later (e ∷ later) h w among = in_later later h w among
 
 but_without : (n : ℕ) (h : History) → WritesBut n h (without_write n h)
 but_without n h = search (rules, of_filter, writes_without, not-true, in_filter, ne_eqb)
@@ -87,7 +71,4 @@ but_later (WriteIssued v ∷ later) h w l among =
         | inr rest ↦ inr (more.into x rest other)
       ];
     }
-but_later (WriteEnded k ∷ later) h w l among = assumption (but_later later h w l among)
-but_later (SyncIssued k range ∷ later) h w l among = assumption (but_later later h w l among)
-but_later (SyncEnded k ∷ later) h w l among = assumption (but_later later h w l among)
-but_later (SyncFailed k ∷ later) h w l among = assumption (but_later later h w l among)
+but_later (e ∷ later) h w l among = assumption (but_later later h w l among)
