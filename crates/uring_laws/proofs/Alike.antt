@@ -6,7 +6,8 @@ use Rattle.uring_laws.proofs.Common.{AlikeAnswerAlike, AlikeGoOnAlike, Answer, A
 use Rattle.uring_core.proofs.Changes.{closes}
 use Rattle.uring_core.specs.declared.step.Step.TheVariants as step
 use Rattle.uring_core.specs.declared.answer.Answer.TheVariants as answer
-use Rattle.uring_laws.proofs.AlikeRequests.{AreSame, ReadSame, read_same, listed, running_same, found_same, posts_same}
+use Rattle.uring_laws.proofs.AlikeRequests.{AreSame, ReadSame, read_same, listed, running_same, found_same}
+use Rattle.uring_laws.proofs.AlikeLinux.{posts_same}
 use Rattle.uring_laws.proofs.AlikeRules.{may_start_same, next_of_same, drains_called_same, drains_ended_same, issued_end_same, ended_same, pushed}
 use Rattle.uring_laws.proofs.WholeLaws.{lawful_apart}
 

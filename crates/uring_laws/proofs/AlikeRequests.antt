@@ -1,6 +1,6 @@
--- Requests with other lists, of which the definitions read the same: each reads who started, was doomed by a cancel, ended and failed, and nothing else of them. So cancels choose the same by the manual pages' rules, and ends post the same by Linux's.
+-- Requests with other lists, of which the definitions read the same: each reads who started, was doomed by a cancel, ended and failed, and nothing else of them. So cancels choose the same by the manual pages' rules.
 use Rattle.std.proofs.Common.{◌≡◌, ℕ, zero, suc, ◌==◌, ℤ, Bool, List, Option, refl, ◌<◌, arith}
-use Rattle.uring_laws.proofs.Common.{Ending, HaveSame, Requests, all_below, chosen_by, has_ended, has_failed, has_started, is_after_failure, is_cancelled, is_candidate, is_doomed, is_joined, is_running, is_target, list_any, result_for, some_member, target_of, targets_of, breaker_of, first_of, is_failure_before, is_in_faulty_group, posts_after}
+use Rattle.uring_laws.proofs.Common.{Ending, HaveSame, Requests, all_below, chosen_by, has_ended, has_failed, has_started, is_after_failure, is_cancelled, is_candidate, is_doomed, is_joined, is_running, is_target, list_any, result_for, some_member, target_of, targets_of}
 
 -- Requests with other lists of who started, was doomed and ended.
 
@@ -44,7 +44,3 @@ module _ (r : Requests) (s c : List ℕ) (e : List Ending) (a : ReadSame r s c e
   pub chosen_same : (n : ℕ) (res : ℤ) → chosen_by q n res ≡ chosen_by r n res
   unfolding targets_of target_of is_doomed is_after_failure some_member is_joined
   chosen_same n res = simp (a.started, a.cancelled, a.ended, a.failed, is_candidate, is_target)
-
-  pub posts_same : (n : ℕ) (res : ℤ) → posts_after q (breaker_of q n) n res ≡ posts_after r (breaker_of r n) n res
-  unfolding is_in_faulty_group first_of is_joined
-  posts_same n res = simp (a.failed, posts_after, is_failure_before)

@@ -36,6 +36,7 @@ pub mod LinuxLaws
 -- Events that change places:
 pub mod AlikeRequests
 pub mod AlikeDrains
+pub mod AlikeLinux
 pub mod AlikeRules
 pub mod StartedRequests
 pub mod Alike

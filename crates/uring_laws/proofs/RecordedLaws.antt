@@ -34,8 +34,7 @@ decided_end files op o =
 decided_on : (files : List FileContents) (r : Requests) (n : ℕ) (running : Bool) (a : Answer)
     → Decided (EndsOn files r n running a)
 decided_on files r n true (answer.Ended res bytes) = decided_end files (operation_of (entry_of r n)) (record { res = res; bytes = bytes })
-decided_on files r n true _ = inr (λ k. k)
-decided_on files r n false a = decided a answer.NotRunning
+decided_on files r n running a = grind (arith, (decided a answer.NotRunning))
 
 pub decided_called : CalledIsDecided
 decided_called g w (step.Finish n) a = grind (arith, decided_on)

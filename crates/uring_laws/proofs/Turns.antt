@@ -1,6 +1,6 @@
 -- Who runs, or is to end as doomed, in a lawful history: by Linux's rules all earlier members of its group have ended, and it isn't deferred.
-use Rattle.std.proofs.Common.{◌≡◌, ℕ, true, subst, arith}
-use Rattle.uring_laws.proofs.Common.{History, IsBetween, IsLawfulApart, LinuxRequests, Setup, all_between, and_parts, both_ways, ends_doomed, false_from_ne_true, held_by, history_happens, is_in_turn, is_outstanding, is_running, not_doomed, outstanding_tells, requests_of, sound_of, world}
+use Rattle.std.proofs.Common.{◌≡◌, ℕ, true, subst, arith, false}
+use Rattle.uring_laws.proofs.Common.{History, IsBetween, IsLawfulApart, LinuxRequests, Setup, all_between, and_parts, both_ways, ends_doomed, false_from_ne_true, held_by, history_happens, is_in_turn, is_outstanding, is_running, not_doomed, outstanding_tells, requests_of, sound_of, world, is_in_some}
 use Rattle.uring_linux.specs.LinuxRequests.{is_doomed}
 use Rattle.uring_laws.proofs.EndedRequests.{IsApart}
 use Rattle.uring_laws.proofs.LinuxSound.{IsFirst, of_linux, linux_sound, turn_first, IsSoundLinux}
@@ -31,12 +31,5 @@ pub doomed_goes_on : (g : Setup) (h : History) (n : ℕ) → IsLawfulApart g h
 doomed_goes_on g h n lawful outstanding doomed is =
     let l : LinuxRequests = requests_of (world g h) in
     let p = and_parts (is_in_turn l.requests n) (is_doomed l.requests n) (subst (λ b. ends_doomed b l.requests n ≡ true) is doomed) in
-    let t = outstanding_tells l.requests n outstanding in
-    record {
-      first = turn_first l.requests n p.0;
-      apart = record {
-        accepted = t.0;
-        still = t.1;
-        free = false_from_ne_true _ (λ held. let k = held_by l.requests 0 l.drains.deferred l.drains.from n (between g h lawful is).settled.waiting held in both_ways _ (not_doomed l.requests k.group n k.waiting k.low k.high) p.1);
-      };
-    }
+    let free : is_in_some l.drains.deferred n ≡ false = false_from_ne_true _ (λ held. let k = held_by l.requests 0 l.drains.deferred l.drains.from n (between g h lawful is).settled.waiting held in both_ways _ (not_doomed l.requests k.group n k.waiting k.low k.high) p.1) in
+    grind (arith, free, (outstanding_tells l.requests n outstanding), (turn_first l.requests n p.0))
