@@ -1,10 +1,9 @@
 -- Worlds that are alike answer alike, and stay alike by each event, by either's rules: `alike_go_on`.
 -- Each definition on requests and drains reads their lists only by what is found in them, so that the order of what started and ended is read by none.
 -- Stable: other crates may import what is pub.
-use Rattle.uring_linux.specs.LinuxRequests.{is_in_faulty_group}
 use Rattle.std.proofs.Common.{◌≡◌, ℕ, ℤ, true, List, [], ◌∷◌, sym, ap, ◌∙◌, rules}
-use Rattle.uring_laws.proofs.Common.{AlikeAnswerAlike, AlikeGoOnAlike, Answer, AreAlike, CalledFor, Change, ChangeAnywhere, Drains, Ending, History, IsLawful, IsLawfulApart, Setup, StandAlike, Step, World, cancels, change_of, dooms, entries_from, files_ended, files_kept, files_of, finishes, happens, issue_answer, next_answer_of, no_bytes, refuses, requests_of, runs, with_end_of, world, is_in_turn, is_doomed, is_after_failure, found_by, targets_of, target_of, some_member, is_joined, keeps_back, is_found, is_candidate, is_target}
-use Rattle.uring_core.proofs.Changes.{takes, drops, closes}
+use Rattle.uring_laws.proofs.Common.{AlikeAnswerAlike, AlikeGoOnAlike, Answer, AreAlike, CalledFor, Change, ChangeAnywhere, Drains, Ending, History, IsLawful, IsLawfulApart, Setup, StandAlike, Step, World, cancels, change_of, dooms, entries_from, files_ended, files_kept, files_of, finishes, happens, issue_answer, next_answer_of, no_bytes, refuses, requests_of, runs, with_end_of, world, is_in_turn, is_doomed, is_after_failure, found_by, targets_of, target_of, some_member, is_joined, keeps_back, is_found, is_candidate, is_target, is_in_faulty_group}
+use Rattle.uring_core.proofs.Changes.{closes}
 use Rattle.uring_core.specs.declared.step.Step.TheVariants as step
 use Rattle.uring_core.specs.declared.answer.Answer.TheVariants as answer
 use Rattle.uring_laws.proofs.AlikeRequests.{AreSame, ReadSame, read_same, listed, running_same, found_same}
@@ -72,8 +71,6 @@ module _ (g : Setup) (v : World) (s c : List ℕ) (e : List Ending) (d : Drains)
   rings_then : (x : Step) (b : Answer) → Change g v x b
       → HaveSameRings g (happens g v x b) (happens g (with_lists v s c e d) x b)
   rings_then x b (refuses _ _ still silent) = search rules
-  rings_then x b (takes entry call place opened left at valid) = search rules
-  rings_then x b (drops call place opened left at invalid) = search rules
   rings_then x b (closes accepted missed head call opened all told) =
       let drains = λ (is : g.linux ≡ true). drains_called_same (requests_of v) s c e (read_same v.requests s c e a) g.linux d (same is) (entries_from v.submission call.count) in
       rw opened (search (rules, drains, a.started, a.cancelled, a.ended))

@@ -1,7 +1,6 @@
 -- Requests with other lists, of which the definitions read the same, post the same by Linux's rules too.
 use Rattle.std.proofs.Common.{◌≡◌, ℕ, ℤ, List}
-use Rattle.uring_laws.proofs.Common.{Ending, Requests, breaker_of, first_of, is_failure_before, is_joined, posts_after}
-use Rattle.uring_linux.specs.LinuxRequests.{is_in_faulty_group}
+use Rattle.uring_laws.proofs.Common.{Ending, Requests, breaker_of, first_of, is_failure_before, is_joined, posts_after, is_in_faulty_group}
 use Rattle.uring_laws.proofs.AlikeRequests.{ReadSame, listed}
 
 module _ (r : Requests) (s c : List ℕ) (e : List Ending) (a : ReadSame r s c e) where

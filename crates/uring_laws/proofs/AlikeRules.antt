@@ -1,7 +1,6 @@
 -- Requests with other lists, of which the definitions read the same, stand alike by the rules of each set-up, if by Linux's the drains stand the same.
 use Rattle.std.proofs.Common.{◌≡◌, ℕ, ◌==◌, ℤ, Bool, true, false, ◌++◌, ◌∷◌, [], List, refl, sym, rules}
-use Rattle.uring_laws.proofs.Common.{Drains, Ending, LinuxRequests, Sqe, StandAlike, drains_called, drains_ended, list_any, may_start, no_bytes, is_after_failure, is_doomed, is_in_turn, is_joined, is_ready, keeps_back, some_member}
-use Rattle.uring_linux.specs.LinuxRequests.{is_in_faulty_group}
+use Rattle.uring_laws.proofs.Common.{Drains, Ending, LinuxRequests, Sqe, StandAlike, drains_called, drains_ended, list_any, may_start, no_bytes, is_after_failure, is_doomed, is_in_turn, is_joined, is_ready, keeps_back, some_member, is_in_faulty_group}
 use Rattle.uring_rules.specs.Rules.{next_of, with_issued_end, is_issuable}
 use Rattle.std.proofs.lemmas.List.Folds.{list_any-append}
 use Rattle.uring_entry.specs.Requests as manual

@@ -1,6 +1,6 @@
 -- Operations that stay apart don't meet: `apart_dont_meet`. What one leaves of a file, the other finds as it was, and both orders leave the same bytes.
-use Rattle.std.proofs.Common.{◌≡◌, ℕ, zero, suc, ◌+◌, ◌-◌, ◌≤◌, ℤ, Bool, true, cond, List, [], ◌∷◌, length, drop, get_or, refl, sym, ap, arith, ◌⊎◌}
-use Rattle.uring_laws.proofs.Common.{ApartDontMeet, FileContents, Fsync, Op, Read, Write, after, are_on_others, cond-true, ended_with, get_or-drop, leb-true, length-drop, length-take, on_file, or_cases, overwritten, read_outcome, result_of, slice_set, stay_apart_on_one, true≢false, with_changed, with_writes_synced}
+use Rattle.std.proofs.Common.{◌≡◌, ℕ, zero, suc, ◌+◌, ◌-◌, ◌≤◌, ℤ, Bool, true, cond, List, [], ◌∷◌, length, drop, get_or, refl, ap, arith, ◌⊎◌}
+use Rattle.uring_laws.proofs.Common.{ApartDontMeet, FileContents, Op, Write, after, are_on_others, cond-true, ended_with, get_or-drop, leb-true, length-drop, length-take, on_file, or_cases, overwritten, read_outcome, result_of, slice_set, stay_apart_on_one, true≢false, with_changed, with_writes_synced}
 use Rattle.std.proofs.lemmas.Grind.{same_number_lists}
 use Rattle.uring_files.proofs.OperationCases.{cases}
 use Rattle.uring_files.proofs.Overwrites.{is_written_over}
@@ -39,9 +39,8 @@ set_either : {X : Type 0} (xs : List X) (i j : ℕ) (d : X) (f g : X → X)
     ≡ slice_set (slice_set xs j (g (get_or xs j d))) i (f (get_or (slice_set xs j (g (get_or xs j d))) i d))
 set_either [] i j d f g same = refl
 set_either (x ∷ xs) zero zero d f g same = ap (λ y. y ∷ xs) (same refl x)
-set_either (x ∷ xs) zero (suc j) d f g same = refl
-set_either (x ∷ xs) (suc i) zero d f g same = refl
 set_either (x ∷ xs) (suc i) (suc j) d f g same = grind (arith, (set_either xs i j d f g (λ e. same (ap suc e))))
+set_either (x ∷ xs) i j d f g same = grind arith
 
 -- the same where each is made if some test is passed
 chosen_either : (a b : Bool) (files : List FileContents) (fd other : ℤ) (f g : FileContents → FileContents)
@@ -68,12 +67,9 @@ leaves_elsewhere files d e x y apart = grind (arith, (cases d), (cases e), cond,
 
 leaves_on_one : (files : List FileContents) (d e : Op) (x y : ℤ) → stay_apart_on_one d e ≡ true
     → after (after files d x) e y ≡ after (after files e y) d x
-leaves_on_one files (Read fd off len) e x y apart = refl
-leaves_on_one files d (Read fd off len) x y apart = refl
 leaves_on_one files (Write fd off len bytes) (Write other at count more) x y apart =
     chosen_either _ _ files fd other _ _ (λ same file. grind (arith, over_either, or_cases, length-take))
-leaves_on_one files (Fsync fd) (Fsync other) x y apart = grind (arith, chosen_either)
-leaves_on_one files d e x y apart = absurd (true≢false (sym apart))
+leaves_on_one files d e x y apart = grind (arith, chosen_either)
 
 pub apart_dont_meet : ApartDontMeet
 apart_dont_meet files d e x y apart one two = grind (arith, gives_on_one, ends_apart, others_stay, leaves_elsewhere, leaves_on_one)

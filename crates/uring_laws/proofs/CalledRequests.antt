@@ -1,6 +1,6 @@
 -- Who can start before a call accepts entries can start after it, and the other way round, by either's rules. By Linux's no group that was deferred goes on by a call: something else is outstanding then.
 use Rattle.std.proofs.Common.{◌≡◌, ℕ, ◌<◌, ◌≤◌, Bool, true, false, not, ◌&&◌, List, [], ◌∷◌, length, arith}
-use Rattle.uring_laws.proofs.Common.{HasGoneOn, IsBetween, LinuxRequests, Requests, Sqe, both_ways, deferred_with, doom_kept, entry_kept, false_from_ne_true, has_ended, in_pushed, is_alone, is_deferred, is_in_some, is_in_turn, is_outstanding, is_ready, join_kept, keeps_back, length_push, longer, member_kept, not-false, not_alone, pushed_old, some_below_in, some_below_same, still_fewer, true_from_ne_false, with_accepted, with_call, with_cut, with_entries, with_group, with_last_entry}
+use Rattle.uring_laws.proofs.Common.{HasGoneOn, IsBetween, LinuxRequests, Requests, Sqe, both_ways, deferred_with, doom_kept, entry_kept, false_from_ne_true, has_ended, in_pushed, is_alone, is_deferred, is_in_some, is_in_turn, is_outstanding, is_ready, join_kept, keeps_back, length_push, longer, member_kept, not-false, not_alone, pushed_old, some_below_in, some_below_same, still_fewer, true_from_ne_false, with_accepted, with_call, with_cut, with_entries, with_group, with_last_entry, ◌↔◌}
 use Rattle.uring_laws.proofs.Growth.{IsCut}
 use Rattle.uring_entry.specs.Requests as manual
 use Rattle.uring_rules.specs.RulesCalls.{called_by}
@@ -62,9 +62,7 @@ module _ (r : Requests) (entries : List Sqe) (cut : IsCut r) (n : ℕ) (within :
   pub outstanding_kept : is_outstanding (with_call r entries) n ≡ is_outstanding r n
   outstanding_kept = grind (arith, (longer r entries cut))
 
-module _ (l : LinuxRequests) (entries : List Sqe) (cut : IsCut l.requests) (n : ℕ) (within : n < length l.requests.accepted) where
-  pub start_kept : (linux : Bool) → (linux ≡ true → IsBetween l) → CanStart linux l n → CanStart linux (called_by linux l entries) n
-  start_kept linux so c = grind (arith, outstanding_kept, turn_kept, doom_called, doom_kept, deferred_called, ready_kept, entry_kept)
-
-  pub start_was : (linux : Bool) → (linux ≡ true → IsBetween l) → CanStart linux (called_by linux l entries) n → CanStart linux l n
-  start_was linux so c = grind (arith, outstanding_kept, turn_kept, doom_called, doom_kept, deferred_called, ready_kept, entry_kept)
+pub start_kept : (l : LinuxRequests) (entries : List Sqe) → IsCut l.requests → (n : ℕ) → n < length l.requests.accepted
+    → (linux : Bool) → (linux ≡ true → IsBetween l) → CanStart linux l n ↔ CanStart linux (called_by linux l entries) n
+start_kept l entries cut n within linux so =
+    grind (arith, outstanding_kept, turn_kept, doom_called, doom_kept, deferred_called, ready_kept, entry_kept)

@@ -1,6 +1,6 @@
 -- What an end leaves of other requests, by either's rules: who can start, who is to end as doomed and who posts; and the drains that two ends leave, in either order.
-use Rattle.std.proofs.Common.{◌≡◌, ◌≢◌, ℕ, ◌<◌, ℤ, Bool, true, false, ◌||◌, List, length, refl, arith}
-use Rattle.uring_laws.proofs.Common.{Deferred, LinuxRequests, Requests, and_from, and_right, both_ways, drains_ended, ends_doomed, false_from_ne_true, faulty_ended, first_of, has_ended, has_ended_other, has_ended_same, is_alone, is_doomed, is_failure_before, is_in_some, is_in_turn, is_joined, is_outstanding, is_ready, is_ready_inside, is_ready_yes, is_running, least_below_same, list_any_push, may_start, no_bytes, not-true, not_alone, posts, some_below_none, some_member, still_deferred, still_fewer, waits_for, with_ended}
+use Rattle.std.proofs.Common.{◌≡◌, ◌≢◌, ℕ, ◌<◌, ℤ, Bool, true, false, ◌||◌, List, length, arith}
+use Rattle.uring_laws.proofs.Common.{Deferred, LinuxRequests, Requests, and_from, and_right, both_ways, drains_ended, ends_doomed, false_from_ne_true, faulty_ended, first_of, has_ended, has_ended_other, is_alone, is_doomed, is_failure_before, is_in_some, is_in_turn, is_joined, is_outstanding, is_ready, is_ready_inside, least_below_same, list_any_push, may_start, no_bytes, not-true, not_alone, posts, some_below_none, some_member, still_deferred, still_fewer, with_ended, holds_back, some_below_out}
 use Rattle.uring_laws.proofs.LinuxSound.{IsFirst, after_end, failure_end, doom_ended, doom_stays, first_ended, turn_first, after_stays}
 use Rattle.uring_laws.proofs.StartedRequests.{CanStart}
 
@@ -19,12 +19,9 @@ module _ (r : Requests) (m : ℕ) (res : ℤ) (bytes : List ℕ) (n : ℕ) where
   unfolding is_doomed some_member is_joined
   doomed_end apart = grind (arith, after_end)
 
-  waits_end : (k : ℕ) → waits_for q n k ≡ waits_for r n k
-  unfolding some_member is_joined
-  waits_end k = refl
-
   pub ready_end : is_ready r n ≡ true → is_ready q n ≡ true
-  ready_end ready = grind (arith, is_ready_yes, is_ready_inside, waits_end, list_any_push)
+  unfolding is_ready some_member is_joined
+  ready_end ready = grind (arith, (some_below_none (holds_back q n) n), (some_below_out (holds_back r n) n), list_any_push)
 
   -- By Linux's rules.
 
@@ -42,14 +39,11 @@ module _ (r : Requests) (m : ℕ) (res : ℤ) (bytes : List ℕ) (n : ℕ) where
   unfolding is_doomed some_member is_joined
   ends_doomed_stays linux doomed = grind (arith, and_from, turn_end, doom_stays, after_stays)
 
-  first_one_end : first_of q n ≡ first_of r n
-  unfolding first_of is_joined
-  first_one_end = refl
-
   -- whether n posts isn't changed by the end of one that isn't before it in its group
   pub posts_end : (linux : Bool) → (linux ≡ true → IsFirst r n) → has_ended r m ≡ false → (other : ℤ)
       → posts linux q n other ≡ posts linux r n other
-  posts_end linux first still other = grind (arith, (faulty_ended r m res bytes), first_one_end, (least_below_same (is_failure_before q n) (is_failure_before r n) n), (failure_end r m res bytes n))
+  unfolding first_of is_joined
+  posts_end linux first still other = grind (arith, (faulty_ended r m res bytes), (least_below_same (is_failure_before q n) (is_failure_before r n) n), (failure_end r m res bytes n))
 
 -- Who can start beside an end.
 
@@ -64,14 +58,6 @@ module _ (l : LinuxRequests) (m : ℕ) (res : ℤ) (bytes : List ℕ) (n : ℕ) 
 
 pub not_ended : (r : Requests) (n : ℕ) → is_outstanding r n ≡ true → has_ended r n ≡ false
 not_ended r n out = grind arith
-
-pub not_over : (r : Requests) (n : ℕ) → is_running r n ≡ true → has_ended r n ≡ false
-not_over r n running = grind arith
-
--- whoever is outstanding after an end isn't the one that ended
-pub other_than : (r : Requests) (m : ℕ) (res : ℤ) (bytes : List ℕ) (n : ℕ)
-    → is_outstanding (with_ended r m res bytes) n ≡ true → n ≢ m
-other_than r m res bytes n outstanding same = grind (arith, has_ended_same)
 
 -- The drains that two ends leave.
 

@@ -1,6 +1,6 @@
 -- What a cancel of one request finds, from what is told of it.
-use Rattle.std.proofs.Common.{◌≡◌, ℕ, length, Bool, true, false, not, ◌&&◌, Option, Some, None, refl, sym, arith}
-use Rattle.uring_laws.proofs.Common.{Cancel, Op, Requests, cancel_result, entry_of, if◌then◌else◌, is_cancel_all, is_candidate, is_faulty, is_outstanding, least_below_none, least_below_out, least_below_some, operation_of, result_for, target_of}
+use Rattle.std.proofs.Common.{◌≡◌, ℕ, length, Bool, true, false, not, ◌&&◌, Option, Some, None, refl, arith}
+use Rattle.uring_laws.proofs.Common.{Cancel, Op, Requests, entry_of, if◌then◌else◌, is_candidate, is_faulty, is_outstanding, least_below_none, least_below_out, least_below_some, operation_of, result_for, target_of}
 use Rattle.uring_laws.proofs.ReasonLaws.{least_of}
 use Rattle.uring_entry.proofs.Preparations.{asks_cancel, cancel_asked}
 use Rattle.uring_dispatch.specs.Cancels.{found_as, found_for, found_by}
@@ -12,12 +12,7 @@ use Rattle.uring_laws.specs.Reasons.{IsFound, Finds, ends_with}
 target_found : (r : Requests) (n : ℕ) (o : Option ℕ) → target_of r n ≡ o
     → IsFound r n (found_as r o) × (result_for r o ≡ ends_with (found_as r o))
 unfolding target_of
-target_found r n None e = (least_below_out (is_candidate r n) (length r.accepted) e, refl)
-target_found r n (Some m) e = grind (arith, (least_of (is_candidate r n) (length r.accepted) m e))
-
-found_one : (r : Requests) (n : ℕ) (f : Found) → is_cancel_all (entry_of r n) ≡ false
-    → found_as r (target_of r n) ≡ f → IsFound r n f × (cancel_result r n ≡ ends_with f)
-found_one r n f one is = grind (arith, (target_found r n (target_of r n) refl))
+target_found r n o e = grind (arith, (least_below_out (is_candidate r n) (length r.accepted)), (least_of (is_candidate r n) (length r.accepted)))
 
 pub found_said : (r : Requests) (n : ℕ) (f : Found) → found_by r n ≡ Some f → Finds r n f
 found_said r n f e = by_standing (is_outstanding r n) (is_faulty (entry_of r n)) refl refl e
@@ -25,8 +20,7 @@ found_said r n f e = by_standing (is_outstanding r n) (is_faulty (entry_of r n))
     by_operation : is_outstanding r n ≡ true → is_faulty (entry_of r n) ≡ false → (op : Op) → operation_of (entry_of r n) ≡ op → found_for r n (Some op) ≡ Some f → Finds r n f
     by_operation given right (Cancel t false) does is =
         let asks = cancel_asked (entry_of r n) t false does in
-        let one = sym asks.1 in
-        assumption (given, right, asks, one, found_one r n f one (let same : found_as r (target_of r n) ≡ f = cc in same))
+        grind (arith, given, right, asks, (target_found r n (target_of r n) refl))
     by_operation given right _ does is = cc
 
     by_standing : (b c : Bool) → is_outstanding r n ≡ b → is_faulty (entry_of r n) ≡ c → found_for r n (if b && not c then Some (operation_of (entry_of r n)) else None) ≡ Some f → Finds r n f

@@ -2,7 +2,7 @@
 -- By `Move`, event by event (`event_grows`), and over a history by induction (`grows`).
 -- Stable: other crates may import `Grows` with its fields, as `same_entry`, and `event_grows`, `grows`, `lawful_before`.
 use Rattle.std.proofs.Common.{◌≡◌, ℕ, ◌<◌, ◌≤◌, ℤ, Bool, true, false, List, [], ◌∷◌, ◌++◌, length, refl, ◌⊎◌, inl, inr, arith, rules}
-use Rattle.uring_laws.proofs.Common.{Answer, History, IsChoice, IsLawfulApart, LinuxRequests, Move, Requests, Setup, Sqe, Step, accepts, choice_of, doom_kept, end_doom, ended_as, ends_cancel, ends_run, entry_kept, entry_of, is_cancelled, is_doomed, is_doomed_started, is_drain, is_draining, is_draining_started, is_joined, is_joined_started, join_kept, list_any, longer, member_kept, move_of, no_choice, requests_of, some_member, sound_of, starts, with_call, world}
+use Rattle.uring_laws.proofs.Common.{Answer, History, IsChoice, IsLawfulApart, LinuxRequests, Move, Requests, Setup, Step, accepts, choice_of, doom_kept, end_doom, ended_as, ends_cancel, ends_run, entry_kept, entry_of, is_cancelled, is_doomed, is_doomed_started, is_draining, is_draining_started, is_joined, is_joined_started, join_kept, list_any, longer, member_kept, move_of, no_choice, requests_of, some_member, sound_of, starts, world}
 use Rattle.uring_core.proofs.Moves.{stays, ends_doomed}
 use Rattle.uring_rules.specs.Rules.{doomed_result, cancel_result, with_issued_end}
 use Rattle.std.proofs.Common.{◌==◌}
@@ -29,10 +29,6 @@ end_grows r n res bytes cancelled choice = grind (arith, end_doom)
 abbrev pub IsCut : Requests → Type 0
 IsCut r = (length r.accepted ≡ 0) ⊎ (list_any (λ c. c == length r.accepted) r.cuts ≡ true)
 
-call_grows : (r : Requests) (entries : List Sqe) → IsCut r → Grows r (with_call r entries)
-call_grows r entries cut =
-    search (rules, longer r entries cut, entry_kept r entries cut, join_kept r entries cut, member_kept r entries cut is_drain, doom_kept r entries cut)
-
 issued_grows : (linux : Bool) (r : Requests) (n : ℕ) (res : ℤ)
     → (res ≡ doomed_result linux r n) ⊎ (res ≡ cancel_result linux r n) → Grows r (with_issued_end linux r n res)
 issued_grows true r n res how = end_grows r n _ _ r.cancelled (no_choice r n)
@@ -41,7 +37,7 @@ issued_grows false r n res how = end_grows r n _ _ _ (choice_of r n res how)
 move_grows : (linux : Bool) (l : LinuxRequests) (s : Step) (a : Answer) (later : Requests)
     → Move linux l s a later → IsCut l.requests → Grows l.requests later
 move_grows linux l s a later (stays _ _ no_start no_end) cut = search (rules, arith)
-move_grows linux l s a later (accepts accepted missed head entries) cut = grind (arith, call_grows)
+move_grows linux l s a later (accepts accepted missed head entries) cut = search (rules, longer, entry_kept, join_kept, member_kept, doom_kept, cut)
 move_grows linux l s a later (starts n outstanding idle spared ready no_cancel) cut =
     search (rules, is_joined_started, is_draining_started, is_doomed_started)
 move_grows linux l s a later (ends_doomed n outstanding) cut = issued_grows linux l.requests n _ (inl refl)

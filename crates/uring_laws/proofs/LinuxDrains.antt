@@ -1,8 +1,8 @@
 -- By Linux's rules what isn't deferred waits for no drain: whoever may start has nobody before it that a drain puts there. By what has happened, one submission call, start or end after the other.
 use Rattle.std.proofs.Common.{◌≡◌, ℕ, suc, ◌+◌, ◌<◌, ◌≤◌, length, Bool, true, false, not, ◌&&◌, ◌||◌, ◌==◌, List, [], ◌∷◌, refl, arith, inl, inr, rules, subst}
-use Rattle.uring_laws.proofs.Common.{Deferred, Drains, End, Happening, IsSettled, LinuxRequests, MayHaveHappened, Requests, Sqe, Start, accepted_faults, accepted_settled, after_going_on, all_between, and_parts, any_kept, both_ways, cases_lt, cond_both, cut_faults, deferred_with, drains, entry_of_accepted_at, false_from_ne_true, group_faulty, has_ended, has_fault, healthy_from, is_alone, is_faulty_from, is_first, is_granted_drain, is_joined_no, is_joined_yes, is_last, is_linked, is_owed_by, length_push, lt-ltb, made_by, may_take, nat_lt, not-true, not_alone, or_parts, order_higher, order_push, order_still, owes_drain, pushed_new, pushed_old, ring_off, some_below, some_below_in, some_below_none, some_below_out, some_below_some, takes_drain, true_from_ne_false, with_accepted, with_cut, with_deferred, with_entries, with_group, with_last_entry, with_ring}
+use Rattle.uring_laws.proofs.Common.{Deferred, Drains, End, Happening, IsSettled, LinuxRequests, MayHaveHappened, Requests, Sqe, Start, accepted_faults, accepted_settled, after_going_on, all_between, and_parts, any_kept, both_ways, cases_eq, cases_lt, cond_both, cut_faults, deferred_with, drains, entry_of_accepted_at, false_from_ne_true, group_faulty, has_ended, has_fault, healthy_from, is_alone, is_faulty_from, is_first, is_granted_drain, is_joined_no, is_joined_yes, is_last, is_linked, is_owed_by, length_push, lt-ltb, made_by, may_take, nat_lt, not-true, not_alone, or_parts, order_higher, order_push, order_still, owes_drain, pushed_new, pushed_old, ring_off, some_below_in, some_below_none, some_below_out, some_below_some, takes_drain, true_from_ne_false, with_accepted, with_cut, with_deferred, with_entries, with_group, with_last_entry, with_ring, is_in_faulty_group}
 use Rattle.uring_linux.specs.Happenings.{Call}
-use Rattle.uring_linux.specs.LinuxRequests.{is_in_faulty_group, with_ended}
+use Rattle.uring_linux.specs.LinuxRequests.{with_ended}
 use Rattle.uring_entry.specs.Requests as manual
 use Rattle.uring_entry.proofs.RequestLemmas.{entry_of_accepted_other}
 use Rattle.uring_entry.proofs.GroupEvents.{is_last_cut, is_last_cut_last}
@@ -75,9 +75,6 @@ module _ (r : Requests) (d : Drains) (i : IsAmid r d) where
 first_after : (r : Requests) (k : ℕ) → is_first r (suc k) ≡ is_last r k
 first_after r k = grind (arith, some_below_none, some_below_some, is_joined_no, is_joined_yes)
 
-none_between : (p : ℕ → Bool) (n k f : ℕ) → some_below (λ j. nat_lt k j && p j) n ≡ false → k < f → f < n → p f ≡ false
-none_between p n k f none past lt = grind (arith, (some_below_out (λ j. nat_lt k j && p j) n none f lt), lt-ltb)
-
 module _ (l : LinuxRequests) (e : Sqe) (s : IsSettled l) (i : IsDrained l.requests l.drains) where
   abbrev q : Requests
   q = manual.with_accepted l.requests e
@@ -103,7 +100,7 @@ module _ (l : LinuxRequests) (e : Sqe) (s : IsSettled l) (i : IsDrained l.reques
   was_owed takes =
       let found = some_below_in (is_owed_by q last) last (and_parts (may_take q last) _ takes).1 in
       let parts = and_parts (owes_drain q found.0) _ found.2 in
-      grind (arith, found, parts, (more_owed l.requests q l.drains keeps i.low i.holds found.0), (none_between (may_take q) last found.0), not-true)
+      grind (arith, found, parts, (more_owed l.requests q l.drains keeps i.low i.holds found.0), (some_below_out (λ f. nat_lt found.0 f && may_take q f) last), lt-ltb, not-true)
 
   group_last : next.group ≡ false → has_fault q last ≡ false → marks q last ≡ false
   group_last still fine =
@@ -111,10 +108,8 @@ module _ (l : LinuxRequests) (e : Sqe) (s : IsSettled l) (i : IsDrained l.reques
       grind (arith, was_owed, first_is, (fine_let_in q last fine), p)
 
   group : next.group ≡ false → (k : ℕ) → next.from ≤ k → k < length q.accepted → has_fault q k ≡ false → marks q k ≡ false
-  group still k le lt fine = elim (cases_lt k last) [
-    | inl before ↦ more_group l.requests q l.drains keeps i.low i.holds (or_parts l.drains.group _ still).0 k le before fine
-    | inr past ↦ subst (λ j. has_fault q j ≡ false → marks q j ≡ false) (omega (arith, past, lt, more)) (group_last still) fine
-  ]
+  group still k le lt fine =
+      grind (arith, (cases_eq k last), more, (more_group l.requests q l.drains keeps i.low i.holds), group_last)
 
   owed_before : l.drains.owed ≡ true → may_take q last ≡ false → next.owed ≡ true
   owed_before owed none = grind (arith, first_is)

@@ -1,7 +1,6 @@
 -- Of groups that drain by Linux's rules: what is so of the requests whatever happened, and stays as more is accepted after them.
 use Rattle.std.proofs.Common.{◌≡◌, ℕ, suc, ◌<◌, ◌≤◌, length, true, false, ◌&&◌, List, arith, ◌⊎◌, rules}
-use Rattle.uring_laws.proofs.Common.{Deferred, Drains, FaultsKept, Requests, drains, entry_of, has_ended, has_fault, is_drain, is_first, is_in_group, is_in_some, is_joined, is_last, is_let_in, is_owed_by, joined_kept, may_take, nat_lt, order_kept, owes_drain, right_kept, some_below_between, some_below_same}
-use Rattle.uring_linux.specs.LinuxRequests.{is_in_faulty_group}
+use Rattle.uring_laws.proofs.Common.{Deferred, Drains, FaultsKept, Requests, drains, entry_of, has_ended, has_fault, is_drain, is_first, is_in_group, is_in_some, is_joined, is_last, is_let_in, is_owed_by, joined_kept, may_take, nat_lt, order_kept, owes_drain, right_kept, some_below_between, some_below_same, is_in_faulty_group}
 use Rattle.uring_laws.proofs.LinuxGroups.{marks, IsTold, AreTold, parted}
 
 -- n's group drains, and has no fault

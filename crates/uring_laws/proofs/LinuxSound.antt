@@ -1,9 +1,9 @@
 -- What holds of the requests of every lawful history by Linux's rules: whoever started or ended did so in its turn, so that it stays as doomed or spared as it was then.
 -- By `Change`, event by event, and over a history by induction (`linux_sound`).
 use Rattle.std.proofs.Common.{◌≡◌, ℕ, ◌-◌, ◌==◌, ◌<◌, ◌≤◌, ℤ, min, max, List, [], ◌∷◌, length, Bool, true, false, not, ◌&&◌, refl, sym, subst, ◌∙◌, ap, arith}
-use Rattle.uring_laws.proofs.Common.{Answer, Change, Decides-int_eq, Ending, History, IsLawfulApart, IsSoundRequests, Requests, Setup, Sqe, Step, World, any_kept, any_looser, any_new, both_ways, by_linux, cancels, change_of, dooms, entry_kept, eqb-true, false_from_ne_true, faulty_ended, finishes, happens, has_ended, has_failed_other, has_fault, has_started, int_eq, is_after_failure, is_after_failure_from, is_after_failure_tells, is_failure_before, is_in_group, is_in_turn, is_joined, is_joined_ended, is_joined_no, is_joined_started, is_refused_drain, join_kept, keeps_back, list_any, list_any_push, longer, not-true, or_from, outstanding_tells, refuses, requests_of, runs, some_below_between, some_below_out, some_below_same, sound_of, with_call, with_ended, with_started, world}
-use Rattle.uring_core.proofs.Changes.{takes, drops, closes}
-use Rattle.uring_linux.specs.LinuxRequests.{is_in_faulty_group, is_doomed, doomed_result}
+use Rattle.uring_laws.proofs.Common.{Answer, Change, Decides-int_eq, Ending, History, IsLawfulApart, IsSoundRequests, Requests, Setup, Sqe, Step, World, any_kept, any_looser, any_new, both_ways, by_linux, cancels, change_of, dooms, entry_kept, eqb-true, false_from_ne_true, faulty_ended, finishes, happens, has_ended, has_failed_other, has_fault, has_started, int_eq, is_after_failure, is_after_failure_from, is_after_failure_tells, is_failure_before, is_in_group, is_in_turn, is_joined, is_joined_ended, is_joined_no, is_joined_started, is_refused_drain, join_kept, keeps_back, list_any, list_any_push, longer, not-true, or_from, outstanding_tells, refuses, requests_of, runs, some_below_between, some_below_out, some_below_same, sound_of, with_call, with_ended, with_started, world, is_in_faulty_group}
+use Rattle.uring_core.proofs.Changes.{closes}
+use Rattle.uring_linux.specs.LinuxRequests.{is_doomed, doomed_result}
 use Rattle.uring_laws.proofs.Growth.{IsCut}
 
 -- what is so of each set-up once its rules are Linux's is so of those of which they are
@@ -67,11 +67,6 @@ module _ (r : Requests) (n : ℕ) (res : ℤ) (bytes : List ℕ) where
       → is_doomed (with_ended r n res bytes) m ≡ is_doomed r m
   doom_ended m still first = grind (arith, faulty_ended, after_end)
 
-  -- the ends of another stay its ends
-  ends_kept : (m : ℕ) → (n == m) ≡ false → list_any (is_otherwise r m) r.ended ≡ false
-      → list_any (is_otherwise (with_ended r n res bytes) m) (with_ended r n res bytes).ended ≡ false
-  ends_kept m differ d = grind (arith, list_any_push, or_from)
-
   -- the first end of a doomed request
   ends_first : has_ended r n ≡ false → res ≡ doomed_result r n
       → list_any (is_otherwise (with_ended r n res bytes) n) (with_ended r n res bytes).ended ≡ false
@@ -86,7 +81,7 @@ module _ (r : Requests) (n : ℕ) (res : ℤ) (bytes : List ℕ) where
         started_spared = λ m e. doom_ended m still (s.started_first m e) ∙ s.started_spared m e;
         started_first = λ m e. first_ended m (s.started_first m e);
         ended_first = grind (arith, any_new, first_ended);
-        ended_how = grind (arith, any_new, ends_kept, false_from_ne_true, both_ways, eqb-true, doom_ended, ends_first);
+        ended_how = grind (arith, any_new, list_any_push, or_from, false_from_ne_true, both_ways, eqb-true, doom_ended, ends_first);
       }
 
   -- who is after a failure, or doomed, stays so, whoever ends
@@ -133,15 +128,13 @@ linux_kept : (g : Setup) (w : World) (s : Step) (a : Answer) → Change (by_linu
     → IsSoundRequests w.requests → IsSoundLinux w.requests
     → IsSoundLinux (happens (by_linux g) w s a).requests
 linux_kept g w s a (refuses _ _ same silent) i sound = grind arith
-linux_kept g w s a (takes entry call place opened left at valid) i sound = grind arith
-linux_kept g w s a (drops call place opened left at invalid) i sound = grind arith
 linux_kept g w s a (closes accepted missed head call opened all told) i sound = grind (arith, call_linux)
 linux_kept g w s a (runs n outstanding idle spared ready no_cancel) i sound = grind (arith, start_linux, turn_first)
 linux_kept g w s a (dooms n outstanding idle doomed) i sound = grind (arith, end_linux, turn_first)
 linux_kept g w s a (cancels n outstanding idle spared ready cancel) i sound =
     grind (arith, requests_of, end_linux, outstanding_tells, turn_first, both_ways)
 linux_kept g w s a (finishes n res bytes running) i sound = grind (arith, end_linux, not-true)
-linux_kept g w s a _ i sound = sound
+linux_kept g w s a _ i sound = grind arith
 
 pub linux_sound : (g : Setup) (h : History) → IsLawfulApart (by_linux g) h
     → IsSoundLinux (world (by_linux g) h).requests

@@ -1,12 +1,9 @@
 -- The law `published_is_told`: the items published are those that the events tell, and so is the count of dropped words.
 -- The items: from `own_submission`, position by position. The count: what all calls took less the entries among it,
 -- which `takes_places` has; kept from the last close on by induction over the history.
-use Rattle.std.proofs.lemmas.Grind.{common_steps}
-use Rattle.std.proofs.Common.{◌≡◌, ℕ, suc, ◌+◌, ◌<◌, ◌≤◌, List, [], ◌∷◌, length, map, take, count_by, get_or, Option, Some, None, slice_get, refl, arith}
-use Rattle.uring_laws.proofs.Common.{All, All-cons, All-nil, Answer, History, IsItem, IsLawfulApart, OwnSubmission, Place, Setup, Sqe, Step, SubmissionMove, World, closes, dropped_in, entries_taken, enumerate_from, get_or-map, get_or_append_left, get_or_from_slice_get, item_of, length-map, length-take-le, length_push, positions_taken, published_entry, published_items, slice_get_within, sound_of, staged_words, stays, stores, submission_move, sum_by_push, take-append-le, taken, world}
-use Rattle.uring_laws.specs.Published.{items_told, drops_position, positions_dropped, OwnPublished}
-use Rattle.uring_core.specs.declared.step.Step.TheVariants as step
-use Rattle.uring_core.specs.declared.answer.Answer.TheVariants as answer
+use Rattle.std.proofs.Common.{◌≡◌, ℕ, suc, ◌+◌, ◌≤◌, List, [], ◌∷◌, length, map, take, count_by, get_or, Option, Some, None, slice_get, refl, arith}
+use Rattle.uring_laws.proofs.Common.{All, All-cons, All-nil, Answer, History, IsItem, IsLawfulApart, OwnSubmission, Place, Setup, Sqe, Step, SubmissionMove, World, closes, dropped_in, entries_taken, enumerate_from, get_or-map, get_or_append_left, get_or_from_slice_get, item_of, length-map, length-take-le, length_push, positions_taken, published_entry, published_items, slice_get_within, sound_of, staged_words, stays, stores, submission_move, sum_by_push, take-append-le, taken, world, common_steps}
+use Rattle.uring_laws.specs.Published.{drops_position, positions_dropped, OwnPublished}
 use Rattle.uring_laws.proofs.ReadOff.{own_submission}
 use Rattle.uring_laws.proofs.TakenPlaces.{takes_places}
 use Rattle.uring_rings.proofs.Places.{entries_and_dropped}
@@ -21,11 +18,6 @@ items_are : (entry_at : ℕ → Option Sqe) (places : List Place) (n : ℕ)
 items_are entry_at [] n at = refl
 items_are entry_at (p ∷ places) n at = grind (arith, (at 0 p refl), (items_are entry_at places (n + 1) (λ k q e. grind (arith, (at (suc k) q e)))))
 
-items_tell : (g : Setup) (h : History) → OwnSubmission g h
-    → published_items (world g h).submission ≡ items_told g.sq h
-items_tell g h own =
-    rw (← own.published) (items_are (published_entry g.sq h) (world g h).submission.published 0 (λ k p at. grind (arith, (own.entries k p at))))
-
 -- the entry of a place, by its word
 all_items : (size : ℕ) (places : List Place)
     → ((k : ℕ) (p : Place) → slice_get places k ≡ Some p → p.entry ≡ None → size ≤ p.word)
@@ -37,8 +29,7 @@ word_is : (g : Setup) (h : History) → OwnSubmission g h → (k : ℕ) (p : Pla
     → slice_get (world g h).submission.published k ≡ Some p → get_or (staged_words h) k 0 ≡ p.word
 word_is g h own k p at =
     let places : List Place = (world g h).submission.published in
-    let within : k < length places = slice_get_within places k p at in
-    rw (← own.staged, ← own.published, get_or_append_left (map (λ q. q.word) places) (world g h).submission.fresh 0 k (omega (arith, length-map places (λ (q : Place). q.word))), get_or-map (λ q. q.word) places k p 0 within, get_or_from_slice_get places k p p at)
+    grind (arith, own.staged, own.published, (get_or_append_left (map (λ q. q.word) places) (world g h).submission.fresh 0 k), (length-map places (λ (q : Place). q.word)), (get_or-map (λ q. q.word) places k p 0), (get_or_from_slice_get places k p p at), (slice_get_within places k p at))
 
 items_sound : (g : Setup) (h : History) → OwnSubmission g h
     → All (IsItem g.sq) (published_items (world g h).submission)
@@ -52,9 +43,7 @@ items_sound g h own =
 taken_or_dropped : (h : History)
     → length (entries_taken h) + count_by drops_position h ≡ positions_taken h
 taken_or_dropped [] = refl
-taken_or_dropped ((step.Take, answer.Entry entry) ∷ h) = grind (arith, common_steps, length_push, (taken_or_dropped h))
-taken_or_dropped ((step.Take, answer.Dropped) ∷ h) = grind (arith, common_steps, (taken_or_dropped h))
-taken_or_dropped (e ∷ h) = grind (arith, common_steps, (taken_or_dropped h))
+taken_or_dropped (e ∷ h) = grind (arith, common_steps, length_push, (taken_or_dropped h))
 
 -- as many were dropped before the last close as the positions of closed calls have no entry
 abbrev Drops : History → World → Type 0
@@ -73,4 +62,6 @@ drops_told g [] lawful = refl
 drops_told g ((s, a) ∷ before) lawful = drops_kept g before s a _ lawful.1 (submission_move g s a before lawful) (drops_told g before lawful.1)
 
 pub own_published : (g : Setup) (h : History) → IsLawfulApart g h → OwnPublished g h
-own_published g h lawful = grind (arith, (own_submission g h lawful), (items_tell g h (own_submission g h lawful)), (items_sound g h (own_submission g h lawful)), (drops_told g h lawful))
+own_published g h lawful =
+    let own = own_submission g h lawful in
+    grind (arith, own, (items_are (published_entry g.sq h) (world g h).submission.published 0 (λ k p at. grind (arith, (own.entries k p at)))), (items_sound g h own), (drops_told g h lawful))

@@ -1,6 +1,6 @@
 -- What why says, from what each case of it says: proofs of the laws on reasons.
 use Rattle.std.proofs.Common.{◌≡◌, ℕ, ◌<◌, ◌≤◌, length, Bool, true, false, not, Option, Some, is_some, refl, sym, ap, arith, inl, inr}
-use Rattle.uring_laws.proofs.Common.{IsLeast, Requests, entry_of, failed_member_of, fault_of, faulty_member_of, first_doom, has_ended, holder_of, holds_back, is_after_failure, is_doomed, is_failure_before, is_faulty_member, is_in_turn, is_issuable, is_joined, is_joined_inside, is_joined_yes, is_outstanding, is_ready, is_running, is_some_least_below, keeps_back, least_below, least_below_tells, since_of, some_member, waits_for, why_of, ◌↔◌, ◌⊎◌}
+use Rattle.uring_laws.proofs.Common.{IsLeast, Requests, entry_of, failed_member_of, fault_of, faulty_member_of, first_doom, has_ended, holder_of, holds_back, is_after_failure, is_doomed, is_failure_before, is_faulty_member, is_in_turn, is_issuable, is_joined_inside, is_joined_yes, is_outstanding, is_ready, is_running, is_some_least_below, keeps_back, least_below, least_below_tells, since_of, some_member, waits_for, why_of, ◌↔◌, ◌⊎◌}
 use Rattle.uring_entry.specs.declared.fault.Fault.{Fault}
 use Rattle.uring_entry.specs.declared.why.Why.{Why}
 use Rattle.uring_entry.specs.declared.why.Why.TheVariants.{NeverAccepted, HasEnded, Runs, IsDoomed, Waits, MayStart}
@@ -78,14 +78,10 @@ stands r m why is t given going = grind (arith, issuable_said, (least_below_tell
 holder_going : (r : Requests) (n m : ℕ) → holds_back r n m ≡ true → has_ended r m ≡ false
 holder_going r n m holds = grind arith
 
-joined_on : (r : Requests) (k m n : ℕ) → is_joined r k m ≡ true → is_joined r m n ≡ true → is_joined r k n ≡ true
-joined_on r k m n lower upper =
-    grind (arith, (is_joined_yes r k n), (λ (i : ℕ). is_joined_inside r k m i lower), (λ (i : ℕ). is_joined_inside r m n i upper))
-
 -- The least that holds one back, the least that holds that one back, and again the least: three in a row there never are.
 three_none : (r : Requests) (n m k j : ℕ) → IsLeast (holds_back r n) n m
     → IsLeast (holds_back r m) m k → IsLeast (holds_back r k) k j → ⊥
-three_none r n m k j a b d = grind (arith, joined_on)
+three_none r n m k j a b d = grind (arith, (is_joined_yes r j m), (is_joined_yes r k n), is_joined_inside)
 
 pub two_steps : (r : Requests) (n m : ℕ) (since : Since) → why_of r n ≡ Waits m since
     → GoesOn r m ⊎ ((k : ℕ) × (other : Since) × (why_of r m ≡ Waits k other) × GoesOn r k)
@@ -100,11 +96,6 @@ two_steps r n m since e =
 
 -- The answer to an Issue, by either's rules.
 
--- whom no earlier member of its group keeps back is in its turn
-turn_is : (r : Requests) (n : ℕ)
-    → is_in_turn r n ≡ not (is_some (least_below (keeps_back r n) n))
-unfolding is_in_turn
-turn_is r n = ap not (sym (is_some_least_below (keeps_back r n) n))
-
 pub answer_agrees : AnswerAgrees
-answer_agrees g w n = grind (arith, turn_is, ready_is)
+unfolding is_in_turn
+answer_agrees g w n = grind (arith, (λ (r : Requests). is_some_least_below (keeps_back r n) n), ready_is)

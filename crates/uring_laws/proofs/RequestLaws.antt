@@ -1,18 +1,10 @@
 -- The laws `each_ends_once` and `least_can_go_on`.
 -- From what is sound of the requests, and from what can be issued.
-use Rattle.std.proofs.Common.{◌≡◌, ℕ, ◌<◌, ◌==◌, Bool, true, false, List, Option, Some, None, length, count_by, refl, arith}
-use Rattle.uring_laws.proofs.Common.{EachEndsOnce, History, IsLawfulApart, LeastCanGoOn, LinuxRequests, Setup, World, both_ways, by_manual, count_none, count_some, is_outstanding, least_below_out, least_below_some, least_below_tells, least_of, least_of_goes_on, list_any, lt-ltb, requests_of, sound_of, outstanding_tells}
-use Rattle.uring_rules.specs.Rules.{is_issuable, next_of}
+use Rattle.std.proofs.Common.{◌≡◌, ℕ, ◌==◌, true, false, Option, Some, None, length, refl, arith}
+use Rattle.uring_laws.proofs.Common.{EachEndsOnce, History, IsLawfulApart, LeastCanGoOn, Setup, World, both_ways, by_manual, count_none, count_some, is_outstanding, least_below_out, least_below_some, least_below_tells, least_of, least_of_goes_on, lt-ltb, requests_of, sound_of, outstanding_tells, world}
+use Rattle.uring_rules.specs.Rules.{is_issuable}
 use Rattle.uring_core.proofs.Issuable.{issue_goes, issuable_outstanding}
 use Rattle.uring_laws.proofs.ToldRequests.{tells_requests}
-
--- the least outstanding request is the next, where it can be issued
-least_is_next : (linux : Bool) (l : LinuxRequests) (m : ℕ) → least_of l.requests ≡ Some m
-    → is_issuable linux l m ≡ true → next_of linux l ≡ Some m
-least_is_next linux l m least issuable =
-    let low = least_below_tells (is_outstanding l.requests) (length l.requests.accepted) m least in
-    least_below_some (is_issuable linux l) (length l.requests.accepted) m low.below issuable
-    (λ k lt. grind (arith, (low.before k lt), (issuable_outstanding linux l k)))
 
 pub least_goes_on : (g : Setup) (w : World) (n : ℕ) → is_outstanding w.requests n ≡ true
     → LeastCanGoOn (by_manual g) w
@@ -23,12 +15,8 @@ least_goes_on g w n outstanding = by_least (least_of w.requests) refl where
       record {
         least = m;
         is_least = e;
-        goes_on = grind (arith, (least_of_goes_on w.requests m e), (least_is_next false (requests_of w) m e), (issue_goes (by_manual g) w m));
+        goes_on = grind (arith, (least_of_goes_on w.requests m e), (least_below_tells (is_outstanding w.requests) (length w.requests.accepted) m e), (least_below_some (is_issuable false (requests_of w)) (length w.requests.accepted) m), (issuable_outstanding false (requests_of w)), (issue_goes (by_manual g) w m));
       }
-
--- what is counted is there
-counted : {X : Type 0} (p : X → Bool) (xs : List X) → 0 < count_by p xs → list_any p xs ≡ true
-counted p xs some = grind (arith, (count_none p xs))
 
 pub ends_once : (g : Setup) (h : History) → IsLawfulApart g h → EachEndsOnce g h
 ends_once g h lawful =
@@ -37,7 +25,7 @@ ends_once g h lawful =
     record {
       starts_once = λ n. rw t.started (s.starts_once n);
       ends_once = λ n. rw t.ended (s.ends_once n);
-      accepted_start = λ n some. s.started_accepted n (counted (λ m. m == n) _ (rw t.started at some));
-      accepted_end = λ n some. s.ended_accepted n (counted (λ e. e.number == n) _ (rw t.ended at some));
+      accepted_start = λ n some. grind (arith, (s.started_accepted n), (count_none (λ m. m == n) (world g h).requests.started), t.started);
+      accepted_end = λ n some. grind (arith, (s.ended_accepted n), (count_none (λ e. e.number == n) (world g h).requests.ended), t.ended);
       all_end = λ none n within. rw t.ended (grind (arith, (s.ends_once n), (none n), lt-ltb, count_some));
     }

@@ -1,7 +1,7 @@
 -- What a start leaves as it was, by either's rules: who is doomed, who may start, who posts and how the drains stand. Only who runs changes.
 use Rattle.std.proofs.Common.{◌≡◌, ◌≢◌, ℕ, ℤ, Bool, true, false, List, refl, arith}
-use Rattle.uring_laws.proofs.Common.{LinuxRequests, Requests, Setup, Sqe, World, drains_called, drains_ended, ends_doomed, entry_of, first_of, is_after_failure, is_alone, is_cancel, is_doomed, is_in_turn, is_joined, is_outstanding, is_ready, is_running, is_running_started_other, issue_answer, may_start, posts, requests_of, some_member}
-use Rattle.uring_linux.specs.LinuxRequests.{is_in_faulty_group, with_started}
+use Rattle.uring_laws.proofs.Common.{LinuxRequests, Requests, Setup, Sqe, World, drains_called, drains_ended, ends_doomed, entry_of, first_of, is_after_failure, is_alone, is_cancel, is_doomed, is_in_turn, is_joined, is_outstanding, is_ready, is_running, is_running_started_other, issue_answer, may_start, posts, requests_of, some_member, is_in_faulty_group, ◌↔◌}
+use Rattle.uring_linux.specs.LinuxRequests.{with_started}
 use Rattle.uring_entry.specs.Requests as manual
 use Rattle.uring_core.specs.declared.answer.Answer.TheVariants as answer
 use Rattle.uring_laws.proofs.AlikeDrains.{called_same}
@@ -47,13 +47,8 @@ pub start_called : (g : Setup) (w : World) (n : ℕ) → CanStart g.linux (reque
     → answer.Run ≡ issue_answer g w n
 start_called g w n c = rw (c.outstanding, c.idle, c.spared, c.ready, c.no_cancel)
 
--- a request that can start could start before another one did, and can after it
-pub start_before : (linux : Bool) (l : LinuxRequests) (m n : ℕ) → n ≢ m
-    → CanStart linux (with_started l m) n → CanStart linux l n
+-- a request can start once another did exactly if it could before it
+pub start_beside : (linux : Bool) (l : LinuxRequests) (m n : ℕ) → n ≢ m
+    → CanStart linux l n ↔ CanStart linux (with_started l m) n
 unfolding is_in_turn is_ready some_member is_joined
-start_before linux l m n differ c = grind (arith, is_running_started_other, ends_doomed_started)
-
-pub start_after : (linux : Bool) (l : LinuxRequests) (m n : ℕ) → n ≢ m → CanStart linux l n
-    → CanStart linux (with_started l m) n
-unfolding is_in_turn is_ready some_member is_joined
-start_after linux l m n differ c = grind (arith, is_running_started_other, ends_doomed_started)
+start_beside linux l m n differ = grind (arith, is_running_started_other, ends_doomed_started)

@@ -1,21 +1,11 @@
 -- The laws of where submission calls end: from the open call as it is read off the history, and by induction over it.
-use Rattle.std.proofs.lemmas.Grind.{common_steps}
 use Rattle.std.proofs.Common.{◌≡◌, ◌↔◌, ℕ, ◌+◌, ◌≤◌, true, false, cond, List, [], ◌∷◌, ◌++◌, length, count_by, Option, Some, None, is_some, ◌⊎◌, refl, subst, arith, append-nil}
-use Rattle.uring_laws.proofs.Common.{Answer, Call, History, IsLawfulApart, Setup, Step, SubmissionMove, World, begins, cases_Bool, closes, drops, end_answer_in, has_stopped, open_count, open_taken, opened_by, slice_get-get_or, sound_of, stays, submission_move, sum_by-cons, take_answer_in, take_at, taken, taken_since, takes, told, world}
+use Rattle.uring_laws.proofs.Common.{Answer, Call, History, IsLawfulApart, Setup, Step, SubmissionMove, World, begins, cases_Bool, closes, drops, has_stopped, open_count, open_taken, opened_by, slice_get-get_or, sound_of, stays, submission_move, sum_by-cons, take_at, taken, taken_since, takes, told, world, common_steps}
 use Rattle.uring_laws.specs.Stopping.{EndsThere, OpenCallEndsThere, CallsTakeAll, drops_word}
-use Rattle.uring_core.specs.declared.answer.Answer.TheVariants as answer
 use Rattle.uring_core.proofs.SoundRings.{open_count as positions_open}
 use Rattle.uring_laws.proofs.DirectSubmission.{IsOpened, direct_submission}
 
 -- The open call.
-
--- in a call, a take gives no more, and the call may be closed, exactly if all its positions are taken
-in_call : (g : Setup) (w : World) (call : Call) → call.taken ≤ call.count
-    → taken w.submission + call.count ≤ length w.submission.published
-    → ((take_answer_in w (Some call) ≡ answer.NoMore) ↔ (call.taken ≡ call.count))
-    × ((end_answer_in g w (Some call) ≡ answer.NotAll → ⊥) ↔ (call.taken ≡ call.count))
-in_call g w call within published =
-    grind (arith, (slice_get-get_or w.submission.published (taken w.submission + call.taken) (record { word = 0; entry = None })))
 
 pub ends_there : (g : Setup) → OpenCallEndsThere g
 ends_there g h opened lawful there last = by_call (world g h).submission.call refl there
@@ -29,9 +19,8 @@ ends_there g h opened lawful there last = by_call (world g h).submission.call re
         let told : (call.taken ≡ taken_since h) × (call.count ≡ open_count g h) = subst (IsOpened g h) is (direct_submission g h lawful).opened in
         let within : call.taken ≤ call.count = subst (λ o. open_taken o ≤ positions_open o) is s.within_call in
         let published : taken l + call.count ≤ length l.published = subst (λ o. taken l + positions_open o ≤ length l.published) is s.call_published in
-        let ends = in_call g w call within published in
         let all : (call.taken ≡ call.count) ↔ ((taken_since h ≡ opened) ⊎ (has_stopped g h ≡ true)) = grind (arith, told, last) in
-        grind (arith, is, ends, all)
+        grind (arith, is, within, published, all, (slice_get-get_or l.published (taken l + call.taken) (record { word = 0; entry = None })))
 
 -- Rings that go on.
 

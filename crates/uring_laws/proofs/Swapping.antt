@@ -1,12 +1,12 @@
 -- Starts that change places with starts and ends, by either's rules: `starts_change`, `start_then_end` and `end_then_start`.
 -- A start changes nothing that a definition reads but who runs; an end changes who has ended and failed, which counts for those alone that wait for it.
-use Rattle.std.proofs.Common.{◌≡◌, ◌≢◌, ℕ, Bool, true, false, List, [], ◌∷◌, ◌++◌, sym, subst, ap, ◌∙◌, append-nil, arith, rules}
-use Rattle.uring_laws.proofs.Common.{AreAlike, CalledFor, ChangePlaces, EndThenStart, Ends, Event, History, IsLawful, IsOutcome, Outcome, Requests, Setup, StartThenEnd, StartsChange, Step, World, doomed_fails, ends_doomed, entry_of, files_kept, files_of, happens, has_ended, is_outstanding, is_running, is_running_started_other, is_running_started_same, issue_answer, list_any, list_any_push, may_start, no_bytes, operation_of, requests_of, start_of, with_started, world}
+use Rattle.std.proofs.Common.{◌≡◌, ◌≢◌, ℕ, Bool, true, false, List, [], ◌∷◌, ◌++◌, sym, subst, ◌∙◌, append-nil, arith, rules}
+use Rattle.uring_laws.proofs.Common.{AreAlike, CalledFor, ChangePlaces, EndThenStart, Ends, Event, History, IsLawful, IsOutcome, Outcome, Requests, Setup, StartThenEnd, StartsChange, Step, World, doomed_fails, ends_doomed, entry_of, files_kept, files_of, happens, has_ended, has_ended_same, is_outstanding, is_running, is_running_started_other, is_running_started_same, issue_answer, list_any, list_any_push, may_start, no_bytes, operation_of, requests_of, start_of, with_started, world}
 use Rattle.uring_rules.specs.Rules.{doomed_result}
 use Rattle.uring_core.specs.declared.step.Step.TheVariants as step
 use Rattle.uring_core.specs.declared.answer.Answer.TheVariants as answer
-use Rattle.uring_laws.proofs.StartedRequests.{CanStart, can_start, start_called, start_before, start_after, ends_doomed_started, posts_started, drains_ended_started}
-use Rattle.uring_laws.proofs.EndedRequests.{start_past, start_ahead, not_ended, other_than, either_order}
+use Rattle.uring_laws.proofs.StartedRequests.{CanStart, can_start, start_called, ends_doomed_started, posts_started, drains_ended_started, start_beside}
+use Rattle.uring_laws.proofs.EndedRequests.{start_past, start_ahead, not_ended, either_order}
 use Rattle.uring_laws.proofs.WholeLaws.{lawful_apart}
 
 -- Worlds.
@@ -30,8 +30,8 @@ starts_change g h m n lawful =
     let one : CanStart g.linux (requests_of w) m = can_start g w m lawful.1.0 in
     let two : CanStart g.linux (requests_of (begun w m)) n = can_start g (begun w m) n lawful.0 in
     let differ : n ≢ m = grind (arith, is_running_started_same, not_ended) in
-    let first = start_before g.linux (requests_of w) m n differ two in
-    let second = start_after g.linux (requests_of w) n m (λ e. differ (sym e)) one in
+    let first = (start_beside g.linux (requests_of w) m n differ).1 two in
+    let second = (start_beside g.linux (requests_of w) n m (λ e. differ (sym e))).0 one in
     record { lawful = (start_called g (begun w n) m second, (start_called g w n first, lawful.1.1)); alike = grind (arith, two_pushed, files_kept) }
 
 -- A start and an end.
@@ -75,9 +75,6 @@ may_same : (g : Setup) (w : World) (n m : ℕ) (x : Outcome) → m ≢ n → fil
     → (MayEnd g w runs m x → MayEnd g (begun w n) runs m x) × (MayEnd g (begun w n) runs m x → MayEnd g w runs m x)
 may_same g w n m x differ files runs = grind (arith, is_running_started_other, ends_doomed_started)
 
-ended_either : (g : Setup) (w : World) (n m : ℕ) (x : Outcome) → ended g (begun w n) m x ≡ begun (ended g w m x) n
-ended_either g w n m x = rw (drains_ended_started g.linux (requests_of w) n m x.res, posts_started g.linux w.requests n m x.res)
-
 -- both orders of a start and an end
 both_orders : (g : Setup) (h : History) (runs : Bool) (m n : ℕ) (x : Outcome) → m ≢ n → MayEnd g (world g h) runs m x
     → CanStart g.linux (requests_of (world g h)) n → IsLawful g h
@@ -89,7 +86,7 @@ both_orders g h runs m n x differ may can lawful =
     let first : IsEnd g w m x (end_step runs m) = is_end g w runs m x may in
     let second : IsEnd g (begun w n) m x (end_step runs m) = is_end g (begun w n) runs m x ((may_same g w n m x differ files runs).0 may) in
     let could : CanStart g.linux (requests_of (ended g w m x)) n = start_past (requests_of w) m x.res x.bytes n first.still g.linux (λ e. differ (sym e)) can in
-    let same : world g (end_by runs m x ∷ start_of n ∷ h) ≡ world g (start_of n ∷ end_by runs m x ∷ h) = second.makes ∙ (ended_either g w n m x ∙ ap (λ (u : World). begun u n) (sym first.makes)) in
+    let same : world g (end_by runs m x ∷ start_of n ∷ h) ≡ world g (start_of n ∷ end_by runs m x ∷ h) = grind (arith, second.makes, first.makes, (drains_ended_started g.linux (requests_of w) n m x.res), (posts_started g.linux w.requests n m x.res)) in
     let after : CalledFor g (world g (end_by runs m x ∷ h)) (step.Issue n) answer.Run = subst (λ u. answer.Run ≡ issue_answer g u n) (sym first.makes) (start_called g (ended g w m x) n could) in
     (record { lawful = (after, (first.called, lawful)); alike = alike_same g _ _ same }, record { lawful = (second.called, started); alike = alike_same g _ _ (sym same) })
 
@@ -121,7 +118,7 @@ then_start g h m n e (ends_by runs x doomed) ready lawful =
     let may : MayEnd g w runs m x = may_end g w runs m x doomed lawful.1.0 in
     let end : IsEnd g w m x (end_step runs m) = is_end g w runs m x may in
     let could : CanStart g.linux (requests_of (ended g w m x)) n = can_start g (ended g w m x) n (subst (λ u. answer.Run ≡ issue_answer g u n) end.makes lawful.0) in
-    let differ : n ≢ m = other_than w.requests m x.res x.bytes n could.outstanding in
+    let differ : n ≢ m = grind (arith, could.outstanding, (has_ended_same w.requests m x.res x.bytes)) in
     (both_orders g h runs m n x (λ e. differ (sym e)) may (start_ahead (requests_of w) m x.res x.bytes n end.still g.linux differ ready could) lawful.1.1).1
 
 pub end_then_start : (g : Setup) → EndThenStart g

@@ -1,7 +1,6 @@
 -- Which positions were taken.
-use Rattle.std.proofs.lemmas.Grind.{common_steps}
 use Rattle.std.proofs.Common.{◌≡◌, ◌+◌, [], ◌∷◌, take, Some, None, refl, arith, append-nil}
-use Rattle.uring_laws.proofs.Common.{Answer, History, IsLawfulApart, IsSoundSubmission, IsWithinLimits, Setup, Step, SubmissionMove, TakenOnceInOrder, World, begins, closes, drops, entries_of, entries_taken, ltb-false, positions_taken, reached, sound_of, stays, stores, submission_move, sum_by_push, take-append-le, taken, takes, world}
+use Rattle.uring_laws.proofs.Common.{Answer, History, IsLawfulApart, IsSoundSubmission, IsWithinLimits, Setup, Step, SubmissionMove, TakenOnceInOrder, World, begins, closes, drops, entries_of, entries_taken, ltb-false, positions_taken, reached, sound_of, stays, stores, submission_move, sum_by_push, take-append-le, taken, takes, world, common_steps}
 use Rattle.uring_core.proofs.TakenEntries.{one_further}
 
 -- as many positions were taken as the lists say, and the entries are those that they have

@@ -1,25 +1,17 @@
 -- The starts and the ends are those that a history tells.
-use Rattle.std.proofs.Common.{◌≡◌, ℕ, ℤ, Bool, [], ◌∷◌, refl, arith}
-use Rattle.uring_laws.proofs.Common.{Answer, History, IsLawfulApart, LinuxRequests, Move, Requests, Setup, Step, move_of, no_bytes, requests_of, world}
+use Rattle.std.proofs.Common.{◌≡◌, Bool, [], ◌∷◌, refl, arith}
+use Rattle.uring_laws.proofs.Common.{Answer, History, IsLawfulApart, cases_Bool, LinuxRequests, Move, Requests, Setup, Step, move_of, requests_of, world}
 use Rattle.uring_core.proofs.Moves.{stays, ends_doomed}
-use Rattle.uring_rules.specs.Rules.{with_issued_end}
 use Rattle.uring_laws.specs.Direct.{starts as starts_of, ends}
-use Rattle.uring_core.specs.declared.step.Step.TheVariants as step
-use Rattle.uring_core.specs.declared.answer.Answer.TheVariants as answer
 
 pub record TellsRequests (h : History) (r : Requests) : Type 0 where
   pub started : starts_of h ≡ r.started
   pub ended : ends h ≡ r.ended
 
--- an end by either's rules, as its request is issued
-issued_told : (linux : Bool) (h : History) (r : Requests) (n : ℕ) (res : ℤ) → TellsRequests h r
-    → TellsRequests ((step.Issue n, answer.Ended res no_bytes) ∷ h) (with_issued_end linux r n res)
-issued_told linux h r n res i = grind arith
-
 told_kept : (linux : Bool) (h : History) (l : LinuxRequests) (s : Step) (a : Answer) (later : Requests)
     → Move linux l s a later → TellsRequests h l.requests → TellsRequests ((s, a) ∷ h) later
 told_kept linux h l s a later (stays _ _ no_start no_end) i = grind arith
-told_kept linux h l s a later (ends_doomed n outstanding) i = issued_told linux h l.requests n _ i
+told_kept linux h l s a later (ends_doomed n outstanding) i = grind (arith, (cases_Bool linux))
 told_kept linux h l s a later _ i = grind arith
 
 pub tells_requests : (g : Setup) (h : History) → IsLawfulApart g h

@@ -1,12 +1,11 @@
 -- A start changes places with each step that is on the rings, by either's rules: `start_then_rings` and `rings_then_start`.
 -- Such a step asks nobody who runs; of the requests it changes at most which are accepted, after all that there are.
-use Rattle.std.proofs.Common.{◌≡◌, ℕ, ◌<◌, true, ◌∷◌, length, sym}
-use Rattle.uring_laws.proofs.Common.{Answer, CalledFor, Change, IsBetween, IsLawful, IsLawfulApart, IsOnRings, LinuxRequests, RingsThenStart, Setup, StartThenRings, Step, World, change_of, entries_from, happens, refuses, requests_of, sound_of, world, outstanding_tells}
+use Rattle.std.proofs.Common.{◌≡◌, ℕ, ◌<◌, true, ◌∷◌, length, sym, arith}
+use Rattle.uring_laws.proofs.Common.{Answer, CalledFor, Change, IsBetween, IsLawful, IsLawfulApart, IsOnRings, RingsThenStart, Setup, StartThenRings, Step, World, change_of, entries_from, happens, refuses, requests_of, sound_of, world, outstanding_tells, ◌↔◌}
 use Rattle.uring_core.proofs.Changes.{takes, drops, closes}
 use Rattle.uring_laws.proofs.Growth.{IsCut}
-use Rattle.uring_core.specs.declared.step.Step.TheVariants as step
 use Rattle.uring_laws.proofs.StartedRequests.{CanStart, can_start, start_called, drains_called_started}
-use Rattle.uring_laws.proofs.CalledRequests.{start_kept, start_was}
+use Rattle.uring_laws.proofs.CalledRequests.{start_kept}
 use Rattle.uring_laws.proofs.Turns.{between}
 use Rattle.uring_laws.proofs.Swapping.{begun, alike_same}
 use Rattle.uring_laws.proofs.WholeLaws.{lawful_apart}
@@ -14,8 +13,7 @@ use Rattle.uring_laws.proofs.WholeLaws.{lawful_apart}
 -- called for exactly if it is without the start
 called_either : (g : Setup) (w : World) (n : ℕ) (s : Step) (a : Answer) → IsOnRings s
     → (CalledFor g (begun w n) s a → CalledFor g w s a) × (CalledFor g w s a → CalledFor g (begun w n) s a)
-called_either g w n (step.Issue m) a on = absurd on
-called_either g w n _ a on = search
+called_either g w n s a on = grind arith
 
 -- Both orders make the same.
 
@@ -31,18 +29,13 @@ made_either g w n s a _ on = search
 -- Who could start before such a step can start after it, and the other way round.
 
 module _ (g : Setup) (w : World) (n : ℕ) (cut : IsCut w.requests) (so : g.linux ≡ true → IsBetween (requests_of w)) (within : n < length w.requests.accepted) where
-  abbrev can : LinuxRequests → Type 0
-  can l = CanStart g.linux l n
-
-  abbrev Either : World → Type 0
-  Either v = (can (requests_of w) → can (requests_of v)) × (can (requests_of v) → can (requests_of w))
-
-  start_either : (s : Step) (a : Answer) → Change g w s a → IsOnRings s → Either (happens g w s a)
+  start_either : (s : Step) (a : Answer) → Change g w s a → IsOnRings s
+      → CanStart g.linux (requests_of w) n ↔ CanStart g.linux (requests_of (happens g w s a)) n
   start_either s a (refuses _ _ same silent) on = rw (same w) (search)
   start_either s a (takes entry call place opened left at valid) on = rw opened (search)
   start_either s a (drops call place opened left at invalid) on = rw opened (search)
   start_either s a (closes accepted missed head call opened all told) on =
-      rw opened (start_kept (requests_of w) _ cut n within g.linux so, start_was (requests_of w) _ cut n within g.linux so)
+      rw opened (start_kept (requests_of w) _ cut n within g.linux so)
   start_either s a _ on = search
 
 pub start_then_rings : (g : Setup) → StartThenRings g
