@@ -26,15 +26,11 @@ pub record IsSameAt (r s : Requests) (k : ℕ) : Type 0 where
   pub cancelled : is_cancelled s k ≡ is_cancelled r k
   pub started : has_started s k ≡ has_started r k
 
-pub shown_same : {r s : Requests} {k : ℕ} {q : Request} → IsSameAt r s k → IsShown r k q
-    → IsShown s k q
-shown_same same old = grind arith
-
 -- each request is shown, if that which was written is, and the lists say of the others what they said
 pub shown_written : {w v : Window} {r s : Requests} {n : ℕ} {now : Request} → Changes w v n (Some now)
     → ((k : ℕ) (q : Request) → at w k ≡ Some q → IsShown r k q) → IsShown s n now
     → ((k : ℕ) → k ≢ n → IsSameAt r s k) → (k : ℕ) (q : Request) → at v k ≡ Some q → IsShown s k q
-shown_written c old here elsewhere k q e = grind (arith, shown_same, (old k q), (before_write c e), (elsewhere k))
+shown_written c old here elsewhere k q e = grind (arith, (old k q), (before_write c e), (elsewhere k))
 
 -- Request n is written, and stays in its group.
 

@@ -1,5 +1,5 @@
 -- When a request ends: the window and the groups still fit one another, and what is held is what the lists say.
-use Rattle.std.proofs.Common.{◌≡◌, ◌≢◌, ℕ, ◌+◌, ◌<◌, ◌≤◌, ◌⊎◌, ℤ, List, not, ◌&&◌, Option, Some, None, sym, ◌∙◌, arith, inl, inr}
+use Rattle.std.proofs.Common.{◌≡◌, ◌≢◌, ℕ, ◌+◌, ◌<◌, ◌≤◌, ◌⊎◌, ℤ, List, length, true, not, ◌&&◌, Option, Some, None, sym, ◌∙◌, arith, inl, inr}
 use Rattle.uring_dispatch.proofs.Common.{AreHeld, Changes, Exchanges, Group, Groups, HasLost, IsBeyond, IsNext, IsShownGroup, IsSound, Request, Requests, Window, at, cases_eq, cases_lt, earlier_of, end_of, entry_of, group_at, has_ended_other, has_ended_same, is_outstanding, is_running, is_running_ended_other, is_running_ended_same, is_soft, is_success, one_if, outstanding_in, running_in, with_ended}
 use Rattle.uring_entry.proofs.GroupEvents.{group_ended, first_broken_ended, first_broken_elsewhere}
 use Rattle.uring_dispatch.proofs.Changes.{before_end}
@@ -71,17 +71,11 @@ module _ {w v : Window} {g h : Groups} {n : ℕ} {request : Request} {q : Group}
 
 -- The lists.
 
-module _ {w : Window} {g : Groups} {r : Requests} (n : ℕ) {request : Request} (res : ℤ) (bytes : List ℕ) (s : IsSound w g)
-    (h : AreHeld w g r) (e : at w n ≡ Some request) where
-  outstanding_less : outstanding_in (with_ended r n res bytes) + 1 ≡ outstanding_in r
-  outstanding_less =
-      grind (arith, outstanding_some, has_ended_same, has_ended_other, (shown_within s h e),
-        (count_below_changed (is_outstanding r) (is_outstanding (with_ended r n res bytes))))
-
-  running_less : running_in (with_ended r n res bytes) + one_if request.is_running ≡ running_in r
-  running_less =
-      grind (arith, running_some, is_running_ended_same, is_running_ended_other, (shown_within s h e),
-        (count_below_changed (is_running r) (is_running (with_ended r n res bytes))))
+outstanding_less : (r : Requests) (n : ℕ) (res : ℤ) (bytes : List ℕ) → is_outstanding r n ≡ true → n < length r.accepted
+    → outstanding_in (with_ended r n res bytes) + 1 ≡ outstanding_in r
+outstanding_less r n res bytes was within =
+    grind (arith, has_ended_same,
+      (count_below_changed (is_outstanding r) (is_outstanding (with_ended r n res bytes)) _ n within (λ j ne. grind (arith, has_ended_other))))
 
 module _ {w v : Window} {g h : Groups} {r : Requests} {n : ℕ} {request : Request} {q : Group} {least : ℕ} {broken : Option ℕ} (res : ℤ)
     (bytes : List ℕ) (s : IsSound w g) (e : Ends w v g h n request q least broken) (a : AreHeld w g r) where
@@ -92,10 +86,6 @@ module _ {w v : Window} {g h : Groups} {r : Requests} {n : ℕ} {request : Reque
       grind (arith, (a.groups request.group q e.group), (within_group s e.there e.group), (group_ended r n res bytes q.from q.end),
         (first_broken_ended r n res bytes q.from q.end))
 
-  shown_elsewhere : {key : ℕ} {p : Group} → group_at g key ≡ Some p → key ≢ request.group
-      → IsShownGroup (with_ended r n res bytes) p
-  shown_elsewhere {key} {p} is ne = grind (arith, group_ended, first_broken_elsewhere, apart, (a.groups key p is))
-
   pub end_held : HasLost w v (one_if request.is_running) → g.last ≡ None
       → (least < q.end → broken ≡ earlier_of q.broken (is_soft (entry_of r n) && not (is_success (entry_of r n) res)) n)
       → AreHeld v h (with_ended r n res bytes)
@@ -103,15 +93,17 @@ module _ {w v : Window} {g h : Groups} {r : Requests} {n : ℕ} {request : Reque
       let within = shown_within s a e.there in
       record {
         count = a.count ∙ sym e.end;
-        outstanding = omega (arith, lost.outstanding, a.outstanding, outstanding_less n res bytes s a e.there);
-        running = omega (arith, lost.runs, a.running, running_less n res bytes s a e.there);
+        outstanding = omega (arith, lost.outstanding, a.outstanding, outstanding_less r n res bytes (outstanding_some s a n e.there) within);
+        running =
+            grind (arith, lost.runs, a.running, (running_some a n e.there), is_running_ended_same, is_running_ended_other,
+              (count_below_changed (is_running r) (is_running (with_ended r n res bytes))));
         ended = λ m gone lt.
             grind (arith, (cases_eq m n), has_ended_same, (has_ended_other r n res bytes m), (a.ended m), (e.changes.others m));
         shown = λ k x there. grind (arith, (before_end e.changes there), (has_ended_other r n res bytes k), (a.shown k x));
         groups = λ key x found.
             elim (now s e key x found) [
               | inl left ↦ rw left.2 (shown_left (breaks left.1))
-              | inr kept ↦ shown_elsewhere kept.1 kept.0
+              | inr kept ↦ grind (arith, group_ended, first_broken_elsewhere, (apart s e kept.1 kept.0), (a.groups key x kept.1))
             ];
         last = λ k end. grind (arith, (a.last k), e.closed);
         untouched = λ m past. grind (arith, (a.untouched m), (has_ended_other r n res bytes m));

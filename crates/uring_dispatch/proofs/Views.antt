@@ -5,23 +5,20 @@ use Rattle.uring_dispatch.specs.Outstanding.{HasRoom, Stays}
 use Rattle.uring_dispatch.specs.declared.outstanding.Outstanding.{Outstanding}
 use Rattle.uring_dispatch.specs.declared.answers.Issued.{Issued}
 use Rattle.uring_dispatch.specs.declared.answers.Posts.{Posts}
-use Rattle.uring_dispatch.proofs.Alike.{alike_from, held_alike}
 use Rattle.uring_dispatch.proofs.HeldLemmas.{shown_within, outstanding_none, outstanding_some}
 use Rattle.uring_dispatch.specs.Cancels.{found_for, found_by, operation_outstanding}
 
 pub shows_held : (w : Window) (g : Groups) (r : Requests) (room : ℕ) (between : Bool)
     → AreHeld w g r → ShowsRequests (dispatch_of w g room between) r
-unfolding StandsFor
+unfolding StandsFor at
 shows_held w g r room between h =
-    grind (arith,
-      (held_alike w (record w { room = 0 }) g (record g { room = 0 }) r (alike_from w _ g _ refl refl) h))
+    record { accepted = grind arith; outstanding = h.outstanding; running = h.running; held = assumption (h) }
 
 -- what is held, where the value was opened
 pub held_from : (d : Dispatch) (w : Window) (g : Groups) (room : ℕ) (between : Bool) (r : Requests)
     → dispatch_of w g room between ≡ d → ShowsRequests d r → AreHeld w g r
-unfolding StandsFor
-held_from d w g room between r e s =
-    held_alike (record w { room = 0 }) w (record g { room = 0 }) g r (alike_from _ w _ g refl refl) (rw (← e) at s).held
+unfolding StandsFor at
+held_from d w g room between r e s = let held = (rw (← e) at s).held in assumption
 
 -- What the queries answer.
 
