@@ -1,6 +1,6 @@
 -- The window and the groups where only how much more there is memory for differs, or nothing of what they say.
-use Rattle.std.proofs.Common.{◌≡◌, ℕ, ◌≤◌, Result, not, is_some, sym, ◌∙◌, ap, arith}
-use Rattle.uring_dispatch.proofs.Common.{AreHeld, Groups, HasSameRecords, IsListed, IsSound, OnErr, OnOk, Requests, Waiting, Window, at, end_of, group_at, has_member}
+use Rattle.std.proofs.Common.{◌≡◌, ℕ, ◌≤◌, Result, is_some, sym, ◌∙◌, ap, arith}
+use Rattle.uring_dispatch.proofs.Common.{Groups, HasSameRecords, IsListed, IsSound, OnErr, OnOk, Waiting, Window, at, end_of, group_at, has_member}
 use Rattle.uring_dispatch.specs.declared.grouped.Grouped.{Grouped}
 use Rattle.uring_dispatch.proofs.HeldLemmas.{kept_on}
 

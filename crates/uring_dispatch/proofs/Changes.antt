@@ -34,17 +34,12 @@ shown_written c old here elsewhere k q e = grind (arith, (old k q), (before_writ
 
 -- Request n is written, and stays in its group.
 
-written : {w v : Window} {n : ℕ} {p q : Request} → at w n ≡ Some p → Changes w v n (Some q)
-    → q.group ≡ p.group → (k : ℕ) {x : Request} → at v k ≡ Some x
-    → (y : Request) × (at w k ≡ Some y) × (x.group ≡ y.group)
-written {w} {p = p} there c same k {x} is = grind arith
-
 pub write_sound : {w v : Window} {g : Groups} {n : ℕ} {p q : Request} → IsSound w g
     → at w n ≡ Some p → Changes w v n (Some q) → q.group ≡ p.group → end_of v ≡ end_of w
     → IsSound v g
 write_sound {g = g} s there c same end = record {
-  linked = λ k x is. grind (arith, (written there c same k is), s.linked);
-  members = λ key y k x found from to is. grind (arith, (written there c same k is), (s.members key y k));
+  linked = λ k x is. grind (arith, (before_write c is), (s.linked k), same);
+  members = λ key y k x found from to is. grind (arith, (before_write c is), (s.members key y k), same);
   kept = λ key y found. kept_on (s.kept key y found) (omega (arith, end)) (λ m from to. still_there c (ap is_some there) m);
   beyond = rw end s.beyond;
   last = λ key y e found. s.last key y e found ∙ sym end;

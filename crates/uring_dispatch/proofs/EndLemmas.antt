@@ -1,6 +1,6 @@
 -- When a request ends: the window and the groups still fit one another, and what is held is what the lists say.
 use Rattle.std.proofs.Common.{◌≡◌, ◌≢◌, ℕ, ◌+◌, ◌<◌, ◌≤◌, ◌⊎◌, ℤ, List, length, true, not, ◌&&◌, Option, Some, None, sym, ◌∙◌, arith, inl, inr}
-use Rattle.uring_dispatch.proofs.Common.{AreHeld, Changes, Exchanges, Group, Groups, HasLost, IsBeyond, IsNext, IsShownGroup, IsSound, Request, Requests, Window, at, cases_eq, cases_lt, earlier_of, end_of, entry_of, group_at, has_ended_other, has_ended_same, is_outstanding, is_running, is_running_ended_other, is_running_ended_same, is_soft, is_success, one_if, outstanding_in, running_in, with_ended}
+use Rattle.uring_dispatch.proofs.Common.{AreHeld, Changes, Exchanges, Group, Groups, HasLost, IsBeyond, IsNext, IsSound, Request, Requests, Window, at, cases_eq, cases_lt, earlier_of, end_of, entry_of, group_at, has_ended_other, has_ended_same, is_outstanding, is_running, is_running_ended_other, is_running_ended_same, is_soft, is_success, one_if, outstanding_in, with_ended}
 use Rattle.uring_entry.proofs.GroupEvents.{group_ended, first_broken_ended, first_broken_elsewhere}
 use Rattle.uring_dispatch.proofs.Changes.{before_end}
 use Rattle.uring_dispatch.proofs.Counting.{count_below_changed}
@@ -79,13 +79,6 @@ outstanding_less r n res bytes was within =
 
 module _ {w v : Window} {g h : Groups} {r : Requests} {n : ℕ} {request : Request} {q : Group} {least : ℕ} {broken : Option ℕ} (res : ℤ)
     (bytes : List ℕ) (s : IsSound w g) (e : Ends w v g h n request q least broken) (a : AreHeld w g r) where
-  shown_left : broken ≡ earlier_of q.broken (is_soft (entry_of r n) && not (is_success (entry_of r n) res)) n
-      → IsShownGroup (with_ended r n res bytes) (left_with q least broken)
-  shown_left breaks =
-      let old = a.shown n request e.there in
-      grind (arith, (a.groups request.group q e.group), (within_group s e.there e.group), (group_ended r n res bytes q.from q.end),
-        (first_broken_ended r n res bytes q.from q.end))
-
   pub end_held : HasLost w v (one_if request.is_running) → g.last ≡ None
       → (least < q.end → broken ≡ earlier_of q.broken (is_soft (entry_of r n) && not (is_success (entry_of r n) res)) n)
       → AreHeld v h (with_ended r n res bytes)
@@ -102,7 +95,12 @@ module _ {w v : Window} {g h : Groups} {r : Requests} {n : ℕ} {request : Reque
         shown = λ k x there. grind (arith, (before_end e.changes there), (has_ended_other r n res bytes k), (a.shown k x));
         groups = λ key x found.
             elim (now s e key x found) [
-              | inl left ↦ rw left.2 (shown_left (breaks left.1))
+              | inl left ↦
+                  let old = a.shown n request e.there in
+                  let broken_is = breaks left.1 in
+                  rw left.2
+                  (grind (arith, (a.groups request.group q e.group), (within_group s e.there e.group), (group_ended r n res bytes q.from q.end),
+                    (first_broken_ended r n res bytes q.from q.end)))
               | inr kept ↦ grind (arith, group_ended, first_broken_elsewhere, (apart s e kept.1 kept.0), (a.groups key x kept.1))
             ];
         last = λ k end. grind (arith, (a.last k), e.closed);

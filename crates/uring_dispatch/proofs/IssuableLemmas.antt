@@ -1,5 +1,5 @@
 -- Which requests can be issued, from who waits.
-use Rattle.uring_dispatch.proofs.Common.{AreHeld, Group, Groups, HasBefore, IsFirstDraining, IsLeastBelow, IsLeastFrom, IsLimit, IsListed, IsSound, MatchOption, Request, Requests, Waiting, Window, and_parts, at, can_go, cases_lt, count_below, drain_of, end_of, first_member_inside, group_at, groups_apart, holds, is_issuable, is_ready, is_some_value, least_below, least_below_none, least_below_some, lesser_of, slice_get_past}
+use Rattle.uring_dispatch.proofs.Common.{AreHeld, Group, Groups, HasBefore, IsFirstDraining, IsLeastBelow, IsLeastFrom, IsLimit, IsListed, IsSound, MatchOption, Request, Requests, Waiting, Window, at, can_go, cases_lt, count_below, drain_of, end_of, first_member_inside, group_at, groups_apart, holds, is_issuable, is_ready, is_some_value, least_below, least_below_none, least_below_some, lesser_of, slice_get_past}
 use Rattle.std.proofs.Common.{◌≡◌, ℕ, ◌*◌, ◌/◌, ◌<◌, ◌≤◌, length, slice_get, Bool, true, false, ◌&&◌, leb, Option, Some, None, refl, sym, ap, arith}
 use Rattle.uring_dispatch.specs.Issuable.{issuables_of, issuable_from}
 use Rattle.uring_dispatch.proofs.Counting.{count_below_zero, count_below_past, count_below_same, length_all_below, get_all_below}

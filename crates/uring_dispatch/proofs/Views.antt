@@ -1,5 +1,5 @@
 -- From what a dispatcher shows to what it holds, and back; and what its queries find.
-use Rattle.std.proofs.Common.{◌≡◌, ℕ, ◌≤◌, length, Bool, true, false, Option, Some, None, refl, arith, not, ◌&&◌}
+use Rattle.std.proofs.Common.{◌≡◌, ℕ, ◌≤◌, length, Bool, true, false, Option, Some, None, arith, not, ◌&&◌}
 use Rattle.uring_dispatch.proofs.Common.{AreHeld, Cancel, Dispatch, EndCounts, Groups, IsFirst, IsSound, IssueCounts, MatchOption, Op, Request, Requests, ShowsRequests, StandsFor, Window, at, dispatch_of, end_of, entry_of, entry_outstanding, if◌then◌else◌, is_faulty, is_outstanding, is_running, is_some_value, least_below_none, least_below_some, least_of, operation_running}
 use Rattle.uring_dispatch.specs.Outstanding.{HasRoom, Stays}
 use Rattle.uring_dispatch.specs.declared.outstanding.Outstanding.{Outstanding}
