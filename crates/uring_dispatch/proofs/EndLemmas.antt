@@ -4,7 +4,7 @@ use Rattle.uring_dispatch.proofs.Common.{AreHeld, Changes, Exchanges, Group, Gro
 use Rattle.uring_entry.proofs.GroupEvents.{group_ended, first_broken_ended, first_broken_elsewhere}
 use Rattle.uring_dispatch.proofs.Changes.{before_end}
 use Rattle.uring_dispatch.proofs.Counting.{count_below_changed}
-use Rattle.uring_dispatch.proofs.HeldLemmas.{some_none, linked, within_group, shown_within, outstanding_some, running_some}
+use Rattle.uring_dispatch.proofs.HeldLemmas.{linked, within_group, shown_within, outstanding_some, running_some}
 
 -- what is left of a group
 abbrev pub left_with : Group → ℕ → Option ℕ → Group
@@ -38,10 +38,6 @@ module _ {w v : Window} {g h : Groups} {n : ℕ} {request : Request} {q : Group}
 
 module _ {w v : Window} {g h : Groups} {n : ℕ} {request : Request} {q : Group} {least : ℕ} {broken : Option ℕ} (s : IsSound w g)
     (e : Ends w v g h n request q least broken) where
-  -- a group of another key hasn't n
-  apart : {key : ℕ} {p : Group} → group_at g key ≡ Some p → key ≢ request.group → p.from ≤ n → n < p.end → ⊥
-  apart {key} {p} is ne from to = ne (sym (s.members key p n request is from to e.there))
-
   -- what is kept under a key now
   now : (key : ℕ) (x : Group) → group_at h key ≡ Some x
       → ((key ≡ request.group) × (least < q.end) × (x ≡ left_with q least broken)) ⊎ ((key ≢ request.group) × (group_at g key ≡ Some x))
@@ -54,7 +50,7 @@ module _ {w v : Window} {g h : Groups} {n : ℕ} {request : Request} {q : Group}
   -- where another member is
   pub left_member : {k : ℕ} {x : Request} → at v k ≡ Some x → x.group ≡ request.group
       → (q.from ≤ k) × (least ≤ k) × (k < q.end)
-  left_member {k} there same = grind (arith, within_group, some_none, over)
+  left_member {k} there same = grind (arith, within_group, over)
 
   pub end_sound : IsBeyond h.barriers (end_of w) → IsSound v h
   end_sound beyond = record {
@@ -64,9 +60,9 @@ module _ {w v : Window} {g h : Groups} {n : ℕ} {request : Request} {q : Group}
     members = λ key x k y found from to there.
         grind (arith, (before_end e.changes there), (now key x found), (s.members key x k y), (s.members key q k y));
     kept = λ key x found.
-        grind (arith, (now key x found), (s.kept key x), (s.kept request.group q e.group), over, apart, e.changes.others);
+        grind (arith, (now key x found), (s.kept key x), (s.kept request.group q e.group), over, (s.members key x n request), e.there, e.changes.others);
     beyond = rw e.end beyond;
-    last = λ key x is found. some_none e.closed is;
+    last = λ key x is found. cc (e.closed);
   }
 
 -- The lists.
@@ -101,7 +97,7 @@ module _ {w v : Window} {g h : Groups} {r : Requests} {n : ℕ} {request : Reque
                   rw left.2
                   (grind (arith, (a.groups request.group q e.group), (within_group s e.there e.group), (group_ended r n res bytes q.from q.end),
                     (first_broken_ended r n res bytes q.from q.end)))
-              | inr kept ↦ grind (arith, group_ended, first_broken_elsewhere, (apart s e kept.1 kept.0), (a.groups key x kept.1))
+              | inr kept ↦ grind (arith, group_ended, first_broken_elsewhere, (s.members key x n request kept.1), e.there, kept.0, (a.groups key x kept.1))
             ];
         last = λ k end. grind (arith, (a.last k), e.closed);
         untouched = λ m past. grind (arith, (a.untouched m), (has_ended_other r n res bytes m));

@@ -3,9 +3,6 @@ use Rattle.uring_dispatch.proofs.Common.{is_drain, AreHeld, Group, Groups, HasBa
 use Rattle.std.proofs.Common.{◌≡◌, ◌≢◌, ℕ, ◌<◌, ◌≤◌, length, Bool, true, false, not, ◌&&◌, ◌||◌, Option, Some, None, is_some, sym, ◌∙◌, ap, arith}
 use Rattle.std.proofs.Math.Numerals.{lt_of_le_of_ne}
 
-pub some_none : {X P : Type 0} {x : X} {o : Option X} → o ≡ None → o ≡ Some x → P
-some_none a b = cc
-
 -- a number without a request
 pub vacant : (w : Window) (n : ℕ) → is_some (at w n) ≡ false → at w n ≡ None
 vacant w n e = grind arith
