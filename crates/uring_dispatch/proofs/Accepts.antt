@@ -1,6 +1,6 @@
 -- When an entry is accepted and when a call ends: the window and the groups still fit one another, and what is held is what the lists say.
 use Rattle.std.proofs.Common.{◌≡◌, ◌≢◌, ◌⊎◌, ℕ, ◌+◌, ◌<◌, ◌≤◌, length, Bool, ◌==◌, Option, Some, None, is_some, refl, sym, ◌∙◌, ap, subst, arith, inl, inr, zero, suc, [], ◌∷◌, length-append, false, not, ◌||◌}
-use Rattle.uring_dispatch.proofs.Common.{Accepts, AreHeld, Changes, Exchanges, Group, Groups, IfErr, IfOk, IsBeyond, IsGroup, IsKept, IsShownGroup, IsSound, Op, Request, Requests, Result, Sqe, Window, added_other, cases_eq, end_of, entry_of, entry_of_accepted_at, entry_of_accepted_other, false≢true, fault_of, group_at, has_ended, has_started, if◌then◌else◌, is_drain, is_faulty, is_last, is_linked, is_some_value, last_group, list_any, ne_eqb, new_request, op_of, operation_of, or-false, outstanding_in, running_in, with_accepted, with_cut, with_member}
+use Rattle.uring_dispatch.proofs.Common.{Accepts, AreHeld, Changes, Exchanges, Group, Groups, IfErr, IfOk, IsBeyond, IsGroup, IsKept, IsShownGroup, IsSound, Op, Request, Requests, Result, Sqe, Window, added_other, groups_apart, cases_eq, end_of, entry_of, entry_of_accepted_at, entry_of_accepted_other, false≢true, fault_of, group_at, has_ended, has_started, if◌then◌else◌, is_drain, is_faulty, is_last, is_linked, is_some_value, last_group, list_any, ne_eqb, new_request, op_of, operation_of, or-false, outstanding_in, running_in, with_accepted, with_cut, with_member}
 use Rattle.uring_entry.proofs.GroupEvents.{group_cut, is_last_cut_last, group_accepted, group_joined, group_new, first_entry_accepted, first_entry_more, first_broken_accepted, first_broken_more, first_member_none}
 use Rattle.uring_dispatch.proofs.GroupsKept.{only_key}
 use Rattle.uring_dispatch.proofs.HeldLemmas.{linked, kept_on}
@@ -61,22 +61,10 @@ module _ {w v : Window} {g h : Groups} {entry : Sqe} {request : Request} (s : Is
 
 -- The lists, when an entry is accepted.
 
--- two groups with one end begin together
-same_from : (r : Requests) (a b end : ℕ) → IsGroup r a end → IsGroup r b end → a < b → ⊥
-same_from r a zero end g h lt = omega arith
-same_from r a (suc k) end g h lt = grind (arith, (g.joined k), (h.begins k), h.some)
-
 -- the counts
-outstanding_more : (r : Requests) (entry : Sqe) → has_ended r (length r.accepted) ≡ false
-    → outstanding_in (with_accepted r entry) ≡ outstanding_in r + 1
-outstanding_more r entry none = grind (arith, length-append, count_below_same)
-
-running_same : (r : Requests) (entry : Sqe) → has_started r (length r.accepted) ≡ false
-    → running_in (with_accepted r entry) ≡ running_in r
-running_same r entry none = grind (arith, length-append)
-
-not_linked : (b : Bool) (key : ℕ) → not (is_some (if b then Some key else None)) ≡ not b
-not_linked b key = grind arith
+counts_more : (r : Requests) (entry : Sqe) → has_ended r (length r.accepted) ≡ false → has_started r (length r.accepted) ≡ false
+    → (outstanding_in (with_accepted r entry) ≡ outstanding_in r + 1) × (running_in (with_accepted r entry) ≡ running_in r)
+counts_more r entry none idle = (grind (arith, length-append, count_below_same), grind (arith, length-append))
 
 module _ {w v : Window} {g h : Groups} {r : Requests} {entry : Sqe} {request : Request} (s : IsSound w g) (a : AreHeld w g r)
     (c : Accepts w v g h entry request) where
@@ -113,7 +101,7 @@ module _ {w v : Window} {g h : Groups} {r : Requests} {entry : Sqe} {request : R
       let kept = s.kept other x is in
       let one = a.groups other x is in
       let two = a.groups request.group q here in
-      grind (arith, (same_from r x.from q.from x.end), (s.members other x x.least), (s.members request.group q x.least), is_some_value)
+      grind (arith, (groups_apart r x.from x.end q.from q.end x.least), (s.members other x x.least), (s.members request.group q x.least), is_some_value)
 
   -- a group of another key is closed, and so stays as it was
   elsewhere_shown : {other : ℕ} {x : Group} → group_at g other ≡ Some x → other ≢ request.group
@@ -136,8 +124,8 @@ accept_held {w} {v} {g} {h} {r} {entry} {key} s a c outstanding running =
     let here = entry_of_accepted_at r entry in
     record {
       count = omega (arith, c.end);
-      outstanding = omega (arith, outstanding_more r entry fresh.ended, a.outstanding);
-      running = running ∙ a.running ∙ sym (running_same r entry fresh.started);
+      outstanding = omega (arith, (counts_more r entry fresh.ended fresh.started).0, a.outstanding);
+      running = running ∙ a.running ∙ sym (counts_more r entry fresh.ended fresh.started).1;
       ended = λ m e lt. grind (arith, (cases_eq m (end_of w)), (a.ended m), (c.changes.others m), c.changes.here);
       shown =
           shown_written c.changes a.shown
@@ -154,7 +142,7 @@ accept_held {w} {v} {g} {h} {r} {entry} {key} s a c outstanding running =
           ap (is_last (with_accepted r entry)) at_n
           ∙ ap (λ x. not (is_linked x) || list_any (λ cut. cut == n + 1) r.cuts) here
           ∙ ap (λ b. not (is_linked entry) || b) fresh.cut ∙ or-false (not (is_linked entry))
-          ∙ sym (ap (λ o. not (is_some o)) c.last ∙ not_linked (is_linked entry) key);
+          ∙ grind (arith, c.last);
       untouched = λ m le. let old = a.untouched m (omega arith) in assumption;
     }
 

@@ -1,7 +1,7 @@
 -- Who waits, when an entry is accepted, a call ends and memory is asked for.
 use Rattle.std.proofs.Common.{◌≡◌, ◌≢◌, ◌⊎◌, ℕ, ◌+◌, ◌/◌, ◌<◌, ◌≤◌, length, Bool, ◌||◌, Option, Some, None, is_some, refl, sym, ◌∙◌, ap, arith, inl, inr}
-use Rattle.uring_dispatch.proofs.Common.{Accepts, Group, Groups, GrowsTo, HasSame, IsListed, IsListedAt, IsSound, NumberSet, Reaches, Request, Sqe, StandsAsBefore, Starts, Waiting, Window, at, cases_eq, end_of, found_or, group_at, holds_same, is_before, is_drain, is_faulty, with_member}
-use Rattle.uring_dispatch.proofs.HeldLemmas.{some_none, linked, least_before}
+use Rattle.uring_dispatch.proofs.Common.{Accepts, Group, Groups, GrowsTo, HasSame, IsListed, IsListedAt, IsSound, NumberSet, Reaches, Request, Sqe, Starts, Waiting, Window, at, cases_eq, end_of, found_or, group_at, holds_same, is_drain, is_faulty, with_member}
+use Rattle.uring_dispatch.proofs.HeldLemmas.{linked, least_before}
 use Rattle.uring_dispatch.proofs.WaitingLemmas.{told_before, stands_apart, stands_in}
 
 -- An entry is accepted.
@@ -50,28 +50,21 @@ accept_listed w v g h entry request s t n sound l a is own members told heads do
   doomed = reaches_accepted w v s.doomed t.doomed n l.doomed doomed is a.end (λ k ne. a.changes.others k ne);
 }
   where
-    stays : (k : ℕ) → StandsAsBefore w v g h k → IsListedAt v h t k
-    stays k b = told k (told_before w v g h s k (l.told k) b)
-
     older : (k : ℕ) → k ≢ end_of w → (o : Option Request) → at w k ≡ o → IsListedAt v h t k
-    older k ne None e = stays k (stands_apart w v g h k (a.changes.others k ne) (λ x there. some_none e there))
+    older k ne None e =
+        grind (arith, (told k), (told_before w v g h s k (l.told k)), (stands_apart w v g h k), (a.changes.others k ne))
     older k ne (Some x) e =
         elim (cases_eq x.group request.group) [
-          | inr apart ↦ stays k (grind (arith, (a.changes.others k ne), (a.exchange.others x.group apart)))
+          | inr apart ↦
+              grind (arith, (told k), (told_before w v g h s k (l.told k)), (a.changes.others k ne), (a.exchange.others x.group apart))
           | inl here ↦
               let link = linked sound e in
               let q : Group = link.group in
               let was : group_at g request.group ≡ Some q = ap (group_at g) (sym here) ∙ link.found in
               let p : Group = with_member (Some q) (end_of w) (is_drain entry) (is_faulty entry) in
               let now : group_at h request.group ≡ Some p = a.exchange.here ∙ ap (λ o. Some (with_member o (end_of w) (is_drain entry) (is_faulty entry))) (sym a.joins ∙ was) in
-              elim (fault_cases q.fault (is_faulty entry) (end_of w)) [
-                | inl same ↦
-                    stays k
-                    (stands_in w v g h k x p q (a.changes.others k ne) e link.found (ap (group_at h) here ∙ now) refl (ap (λ b. b || is_before q.broken k) same))
-                | inr fresh ↦
-                    let end = (sound.kept request.group q was).end in
-                    members p now (fresh ∙ ap Some (sym is)) k (least_before sound e link.found) (omega (arith, end, link.to))
-              ]
+              grind (arith, (told k), (told_before w v g h s k (l.told k)), (stands_in w v g h k x p q), (a.changes.others k ne),
+                (fault_cases q.fault (is_faulty entry) (end_of w)), (members p now), (least_before sound e), (sound.kept request.group q was), link.to)
         ]
 
 -- A call ends.

@@ -1,8 +1,7 @@
 -- The window and the groups where only how much more there is memory for differs, or nothing of what they say.
-use Rattle.std.proofs.Common.{◌≡◌, ℕ, ◌≤◌, Result, not, is_some, sym, ◌∙◌, ap, arith}
-use Rattle.uring_dispatch.proofs.Common.{AreHeld, Groups, HasSameRecords, IsListed, IsSound, OnErr, OnOk, Requests, Waiting, Window, at, end_of, group_at, has_member}
+use Rattle.std.proofs.Common.{◌≡◌, ℕ, ◌≤◌, Result, is_some, sym, ◌∙◌, ap, arith}
+use Rattle.uring_dispatch.proofs.Common.{Groups, HasSameRecords, IsListed, IsSound, OnErr, OnOk, Waiting, Window, at, end_of, group_at, has_member}
 use Rattle.uring_dispatch.specs.declared.grouped.Grouped.{Grouped}
-use Rattle.uring_dispatch.proofs.WindowFront.{at_room}
 use Rattle.uring_dispatch.proofs.HeldLemmas.{kept_on}
 
 -- each number has its request, and each key its group
@@ -17,7 +16,8 @@ pub record IsAlike (w v : Window) (g h : Groups) : Type 0 where
 
 pub alike_from : (w v : Window) (g h : Groups) → record v { room = 0 } ≡ record w { room = 0 }
     → record h { room = 0 } ≡ record g { room = 0 } → IsAlike w v g h
-alike_from w v g h a b = grind (arith, (at_room v 0), (at_room w 0))
+unfolding at
+alike_from w v g h a b = grind arith
 
 pub alike_records : (d e : Grouped) → HasSameRecords d e
     → IsAlike d.window e.window d.groups e.groups
@@ -30,19 +30,6 @@ sound_alike w v g h a s = record {
   kept = λ key q found. kept_on (s.kept key q (sym (a.groups key) ∙ found)) (omega (arith, a.end)) (λ m from to. ap is_some (a.rows m));
   beyond = rw (a.barriers, a.end) s.beyond;
   last = λ key q e found. s.last key q (sym a.last ∙ e) (sym (a.groups key) ∙ found) ∙ sym a.end;
-}
-
-pub held_alike : (w v : Window) (g h : Groups) (r : Requests) → IsAlike w v g h → AreHeld w g r
-    → AreHeld v h r
-held_alike w v g h r a held = record {
-  count = held.count ∙ sym a.end;
-  outstanding = a.outstanding ∙ held.outstanding;
-  running = a.running ∙ held.running;
-  ended = λ n e lt. held.ended n (sym (a.rows n) ∙ e) lt;
-  shown = λ n q e. held.shown n q (sym (a.rows n) ∙ e);
-  groups = λ key q e. held.groups key q (sym (a.groups key) ∙ e);
-  last = λ k e. held.last k e ∙ ap (λ o. not (is_some o)) (sym a.last);
-  untouched = held.untouched;
 }
 
 pub listed_alike : (w v : Window) (g h : Groups) (s : Waiting) → IsAlike w v g h → IsListed w g s

@@ -26,29 +26,20 @@ pub record IsSameAt (r s : Requests) (k : ℕ) : Type 0 where
   pub cancelled : is_cancelled s k ≡ is_cancelled r k
   pub started : has_started s k ≡ has_started r k
 
-pub shown_same : {r s : Requests} {k : ℕ} {q : Request} → IsSameAt r s k → IsShown r k q
-    → IsShown s k q
-shown_same same old = grind arith
-
 -- each request is shown, if that which was written is, and the lists say of the others what they said
 pub shown_written : {w v : Window} {r s : Requests} {n : ℕ} {now : Request} → Changes w v n (Some now)
     → ((k : ℕ) (q : Request) → at w k ≡ Some q → IsShown r k q) → IsShown s n now
     → ((k : ℕ) → k ≢ n → IsSameAt r s k) → (k : ℕ) (q : Request) → at v k ≡ Some q → IsShown s k q
-shown_written c old here elsewhere k q e = grind (arith, shown_same, (old k q), (before_write c e), (elsewhere k))
+shown_written c old here elsewhere k q e = grind (arith, (old k q), (before_write c e), (elsewhere k))
 
 -- Request n is written, and stays in its group.
-
-written : {w v : Window} {n : ℕ} {p q : Request} → at w n ≡ Some p → Changes w v n (Some q)
-    → q.group ≡ p.group → (k : ℕ) {x : Request} → at v k ≡ Some x
-    → (y : Request) × (at w k ≡ Some y) × (x.group ≡ y.group)
-written {w} {p = p} there c same k {x} is = grind arith
 
 pub write_sound : {w v : Window} {g : Groups} {n : ℕ} {p q : Request} → IsSound w g
     → at w n ≡ Some p → Changes w v n (Some q) → q.group ≡ p.group → end_of v ≡ end_of w
     → IsSound v g
 write_sound {g = g} s there c same end = record {
-  linked = λ k x is. grind (arith, (written there c same k is), s.linked);
-  members = λ key y k x found from to is. grind (arith, (written there c same k is), (s.members key y k));
+  linked = λ k x is. grind (arith, (before_write c is), (s.linked k), same);
+  members = λ key y k x found from to is. grind (arith, (before_write c is), (s.members key y k), same);
   kept = λ key y found. kept_on (s.kept key y found) (omega (arith, end)) (λ m from to. still_there c (ap is_some there) m);
   beyond = rw end s.beyond;
   last = λ key y e found. s.last key y e found ∙ sym end;

@@ -77,18 +77,13 @@ pub chosen_noted : (d e : Outstanding) → e.grouped.window ≡ d.grouped.window
     → (x y : ByUserData) → d.by_user_data ≡ x → e.by_user_data ≡ y → KeepsPlaces x y → HasChosen d e
 chosen_noted d e window groups waiting x y before after places = grind arith
 
-one_more : (p : ℕ → Bool) (m : ℕ) → p m ≡ true → all_below p (m + 1) ≡ all_below p m ++ m ∷ []
-one_more p m e = grind arith
-
-none_more : (p : ℕ → Bool) (m : ℕ) → p m ≡ false → all_below p (m + 1) ≡ all_below p m
-none_more p m e = grind (arith, append-nil)
-
 module _ {old now : Outstanding} {n user_data m count : ℕ} (c : AreChosen old now n user_data m count) where
-  -- what the test of the next number answers
-  target_tested : {tested : Bool}
+  -- the targets before the number after the next, by what its test answers
+  targets_next : {tested : Bool}
       → ((r : Requests) → Shows now.grouped r → user_data ≡ addr_of (entry_of r n) → tested ≡ is_target r n m)
-      → (r : Requests) → Shows old.grouped r → user_data ≡ addr_of (entry_of r n) → is_target r n m ≡ tested
-  target_tested test r h named = grind (arith, (target_next r n m))
+      → (r : Requests) → Shows old.grouped r → user_data ≡ addr_of (entry_of r n)
+      → all_below (is_target r n) (m + 1) ≡ all_below (is_target r n) m ++ (if tested then m ∷ [] else [])
+  targets_next test r h named = grind (arith, (target_next r n m), (c.shows r h named), append-nil)
 
   -- the next number is a target, and was chosen
   pub chosen_more : {next : Outstanding}
@@ -100,9 +95,9 @@ module _ {old now : Outstanding} {n user_data m count : ℕ} (c : AreChosen old 
     chosen = chosen_both old now next c.chosen chosen;
     few = omega (arith, c.few);
     count_is = λ r h named.
-        grind (arith, (c.count_is r h named), (one_more (is_target r n) m), (target_tested test r h named), length-append);
+        grind (arith, (c.count_is r h named), (targets_next test r h named), length-append);
     shows = λ r h named.
-        rw (one_more (is_target r n) m (target_tested test r h named), ← append_assoc r.cancelled _ (m ∷ []))
+        rw (targets_next test r h named, ← append_assoc r.cancelled _ (m ∷ []))
         (shows _ (c.shows r h named));
   }
 
@@ -112,8 +107,8 @@ module _ {old now : Outstanding} {n user_data m count : ℕ} (c : AreChosen old 
   chosen_past test = record {
     chosen = c.chosen;
     few = omega (arith, c.few);
-    count_is = λ r h named. grind (arith, (c.count_is r h named), (target_tested test r h named), none_more);
-    shows = λ r h named. rw (none_more (is_target r n) m (target_tested test r h named)) (c.shows r h named);
+    count_is = λ r h named. grind (arith, (c.count_is r h named), (targets_next test r h named), append-nil);
+    shows = λ r h named. rw (targets_next test r h named, append-nil) (c.shows r h named);
   }
 
 -- all numbers were tested

@@ -1,13 +1,12 @@
 -- The names that several of these files cite, passed on from one place. Declares nothing.
 pub use Rattle.std.proofs.Math.Bool.{or-false}
-pub use Rattle.std.proofs.lemmas.Bool.{and_from, and_left, and_parts, both_ways, cases_Bool, cases_eq, cases_lt, eq-eqb, eqb-true, false≢true, le-leb, le-ltb, lt-ltb, ltb-true, ne_eqb, or_cases, or_right}
+pub use Rattle.std.proofs.lemmas.Bool.{and_from, and_left, both_ways, cases_Bool, cases_eq, cases_lt, eq-eqb, eqb-true, false≢true, le-leb, le-ltb, lt-ltb, ltb-true, ne_eqb, or_cases, or_right}
 pub use Rattle.std.proofs.lemmas.Int.{to_z-of_z}
 pub use Rattle.std.proofs.lemmas.List.{append-nil, append_assoc, get_or-set_other, get_or-set_same, get_or_past, get_or_read, length-set}
 pub use Rattle.std.proofs.lemmas.Nat.Bits.{bit_at-lt, bit_at-suc, bit_at_lowest, bit_at_ones, bit_at_ones_above, shr_and_one}
 pub use Rattle.std.proofs.lemmas.Option.{same_Some, slice_get_past}
 pub use Rattle.std.specs.Int.{bit_at, w32}
-pub use Rattle.std.specs.List.{AllByRecursion, count_by, list_all, list_any}
-unfoldable pub use Rattle.std.specs.List.{IsDistinct}
+pub use Rattle.std.specs.List.{count_by, list_all, list_any}
 pub use Rattle.std.specs.Option.{option_to_list}
 pub use Rattle.std.specs.Prelude.{IfErr, IfOk, IfSome, MatchOption, OnErr, OnOk, Result, if◌then◌else◌, int_le, nat_eq, pos}
 pub use Rattle.std.specs.VecDeque.{deque_capacity, deque_len}

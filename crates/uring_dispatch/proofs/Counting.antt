@@ -1,8 +1,10 @@
 -- Counts below a bound: what one change does to them, the bits of a block, and the list of all that are counted.
-use Rattle.std.proofs.Common.{◌≡◌, ◌≢◌, ℕ, zero, suc, ◌+◌, ◌-◌, ◌*◌, ◌/◌, ◌^◌, ◌<◌, ◌≤◌, ◌==◌, count_ones, Bool, true, false, List, [], ◌∷◌, ◌++◌, length, slice_get, Some, None, refl, arith, inl, inr, length-append}
+use Rattle.std.proofs.Common.{◌≡◌, ◌≢◌, ℕ, zero, suc, ◌+◌, ◌-◌, ◌*◌, ◌/◌, ◌^◌, ◌<◌, ◌≤◌, ◌==◌, count_ones, Bool, true, false, [], ◌∷◌, ◌++◌, length, slice_get, Some, refl, arith, length-append}
 use Rattle.uring_dispatch.proofs.Common.{all_below, bit_at, bit_at-suc, bit_at_lowest, cases_eq, count_below, one_if}
 use Rattle.std.specs.Int.Count.{ones_step}
 use Rattle.std.proofs.lemmas.Nat.{ones_le_self}
+use Rattle.std.proofs.lemmas.List.{get_or_push, get_or_append_left}
+use Rattle.std.proofs.lemmas.Option.{get_or_from_slice_get, slice_get-get_or, slice_get_within}
 
 pub count_below_same : (p q : ℕ → Bool) (n : ℕ) → ((k : ℕ) → k < n → p k ≡ q k)
     → count_below p n ≡ count_below q n
@@ -32,7 +34,7 @@ count_below_zero p (suc n) none = grind (arith, (count_below_zero p n (λ k lt. 
 -- a count goes on after a number
 pub count_below_apart : (p : ℕ → Bool) (n k : ℕ)
     → count_below p (n + k) ≡ count_below p n + count_below (λ i. p (n + i)) k
-count_below_apart p n zero = let same : n + 0 ≡ n = omega arith in rw same (omega arith)
+count_below_apart p n zero = grind arith
 count_below_apart p n (suc k) =
     let more : n + suc k ≡ suc (n + k) = omega arith in
     let rest = count_below_apart p n k in
@@ -46,8 +48,7 @@ count_below_past p n m le none = grind (arith, (count_below_apart p n (m - n)), 
 -- the first number apart
 count_below_front : (p : ℕ → Bool) (n : ℕ)
     → count_below p (suc n) ≡ one_if (p 0) + count_below (λ i. p (suc i)) n
-count_below_front p zero = omega arith
-count_below_front p (suc n) = let rest = count_below_front p n in omega arith
+count_below_front p n = grind (arith, (count_below_apart p 1 n), count_below_same)
 
 -- the bits of a number
 pub ones_counted : (n k : ℕ) → n < 2 ^ k → count_ones n ≡ count_below (λ i. bit_at n i == 1) k
@@ -62,24 +63,13 @@ pub length_all_below : (p : ℕ → Bool) (n : ℕ) → length (all_below p n) �
 length_all_below p zero = refl
 length_all_below p (suc n) = grind (arith, length-append, (length_all_below p n))
 
-get_left : (xs ys : List ℕ) (i x : ℕ) → slice_get xs i ≡ Some x → slice_get (xs ++ ys) i ≡ Some x
-get_left [] ys i x e = absurd (let f : None ≡ Some x = e in cc)
-get_left (y ∷ xs) ys zero x e = e
-get_left (y ∷ xs) ys (suc i) x e = get_left xs ys i x e
-
-get_last : (xs : List ℕ) (x : ℕ) → slice_get (xs ++ x ∷ []) (length xs) ≡ Some x
-get_last [] x = refl
-get_last (y ∷ xs) x = get_last xs x
-
 -- a number that is counted stands after those before it
 pub get_all_below : (p : ℕ → Bool) (n m : ℕ) → m < n → p m ≡ true
     → slice_get (all_below p n) (count_below p m) ≡ Some m
 get_all_below p zero m lt e = absurd (omega arith)
 get_all_below p (suc n) m lt e =
-    elim (cases_eq m n) [
-      | inl same ↦ grind (arith, (get_last (all_below p n) n), (length_all_below p n))
-      | inr other ↦ get_left (all_below p n) _ (count_below p m) m (get_all_below p n m (omega arith) e)
-    ]
+    grind (arith, (cases_eq m n), (length_all_below p n), (get_all_below p n m), get_or_push, get_or_append_left, length-append,
+      (slice_get-get_or (all_below p (suc n)) (count_below p m) m), slice_get_within, get_or_from_slice_get)
 
 -- The numbers of a block of 64.
 

@@ -1,10 +1,10 @@
 -- When a request ends: the window and the groups still fit one another, and what is held is what the lists say.
-use Rattle.std.proofs.Common.{◌≡◌, ◌≢◌, ℕ, ◌+◌, ◌<◌, ◌≤◌, ◌⊎◌, ℤ, List, not, ◌&&◌, Option, Some, None, sym, ◌∙◌, arith, inl, inr}
-use Rattle.uring_dispatch.proofs.Common.{AreHeld, Changes, Exchanges, Group, Groups, HasLost, IsBeyond, IsNext, IsShownGroup, IsSound, Request, Requests, Window, at, cases_eq, cases_lt, earlier_of, end_of, entry_of, group_at, has_ended_other, has_ended_same, is_outstanding, is_running, is_running_ended_other, is_running_ended_same, is_soft, is_success, one_if, outstanding_in, running_in, with_ended}
+use Rattle.std.proofs.Common.{◌≡◌, ◌≢◌, ℕ, ◌+◌, ◌<◌, ◌≤◌, ◌⊎◌, ℤ, List, length, true, not, ◌&&◌, Option, Some, None, sym, ◌∙◌, arith, inl, inr}
+use Rattle.uring_dispatch.proofs.Common.{AreHeld, Changes, Exchanges, Group, Groups, HasLost, IsBeyond, IsNext, IsSound, Request, Requests, Window, at, cases_eq, cases_lt, earlier_of, end_of, entry_of, group_at, has_ended_other, has_ended_same, is_outstanding, is_running, is_running_ended_other, is_running_ended_same, is_soft, is_success, one_if, outstanding_in, with_ended}
 use Rattle.uring_entry.proofs.GroupEvents.{group_ended, first_broken_ended, first_broken_elsewhere}
 use Rattle.uring_dispatch.proofs.Changes.{before_end}
 use Rattle.uring_dispatch.proofs.Counting.{count_below_changed}
-use Rattle.uring_dispatch.proofs.HeldLemmas.{some_none, linked, within_group, shown_within, outstanding_some, running_some}
+use Rattle.uring_dispatch.proofs.HeldLemmas.{linked, within_group, shown_within, outstanding_some, running_some}
 
 -- what is left of a group
 abbrev pub left_with : Group → ℕ → Option ℕ → Group
@@ -38,10 +38,6 @@ module _ {w v : Window} {g h : Groups} {n : ℕ} {request : Request} {q : Group}
 
 module _ {w v : Window} {g h : Groups} {n : ℕ} {request : Request} {q : Group} {least : ℕ} {broken : Option ℕ} (s : IsSound w g)
     (e : Ends w v g h n request q least broken) where
-  -- a group of another key hasn't n
-  apart : {key : ℕ} {p : Group} → group_at g key ≡ Some p → key ≢ request.group → p.from ≤ n → n < p.end → ⊥
-  apart {key} {p} is ne from to = ne (sym (s.members key p n request is from to e.there))
-
   -- what is kept under a key now
   now : (key : ℕ) (x : Group) → group_at h key ≡ Some x
       → ((key ≡ request.group) × (least < q.end) × (x ≡ left_with q least broken)) ⊎ ((key ≢ request.group) × (group_at g key ≡ Some x))
@@ -54,7 +50,7 @@ module _ {w v : Window} {g h : Groups} {n : ℕ} {request : Request} {q : Group}
   -- where another member is
   pub left_member : {k : ℕ} {x : Request} → at v k ≡ Some x → x.group ≡ request.group
       → (q.from ≤ k) × (least ≤ k) × (k < q.end)
-  left_member {k} there same = grind (arith, within_group, some_none, over)
+  left_member {k} there same = grind (arith, within_group, over)
 
   pub end_sound : IsBeyond h.barriers (end_of w) → IsSound v h
   end_sound beyond = record {
@@ -64,38 +60,21 @@ module _ {w v : Window} {g h : Groups} {n : ℕ} {request : Request} {q : Group}
     members = λ key x k y found from to there.
         grind (arith, (before_end e.changes there), (now key x found), (s.members key x k y), (s.members key q k y));
     kept = λ key x found.
-        grind (arith, (now key x found), (s.kept key x), (s.kept request.group q e.group), over, apart, e.changes.others);
+        grind (arith, (now key x found), (s.kept key x), (s.kept request.group q e.group), over, (s.members key x n request), e.there, e.changes.others);
     beyond = rw e.end beyond;
-    last = λ key x is found. some_none e.closed is;
+    last = λ key x is found. cc (e.closed);
   }
 
 -- The lists.
 
-module _ {w : Window} {g : Groups} {r : Requests} (n : ℕ) {request : Request} (res : ℤ) (bytes : List ℕ) (s : IsSound w g)
-    (h : AreHeld w g r) (e : at w n ≡ Some request) where
-  outstanding_less : outstanding_in (with_ended r n res bytes) + 1 ≡ outstanding_in r
-  outstanding_less =
-      grind (arith, outstanding_some, has_ended_same, has_ended_other, (shown_within s h e),
-        (count_below_changed (is_outstanding r) (is_outstanding (with_ended r n res bytes))))
-
-  running_less : running_in (with_ended r n res bytes) + one_if request.is_running ≡ running_in r
-  running_less =
-      grind (arith, running_some, is_running_ended_same, is_running_ended_other, (shown_within s h e),
-        (count_below_changed (is_running r) (is_running (with_ended r n res bytes))))
+outstanding_less : (r : Requests) (n : ℕ) (res : ℤ) (bytes : List ℕ) → is_outstanding r n ≡ true → n < length r.accepted
+    → outstanding_in (with_ended r n res bytes) + 1 ≡ outstanding_in r
+outstanding_less r n res bytes was within =
+    grind (arith, has_ended_same,
+      (count_below_changed (is_outstanding r) (is_outstanding (with_ended r n res bytes)) _ n within (λ j ne. grind (arith, has_ended_other))))
 
 module _ {w v : Window} {g h : Groups} {r : Requests} {n : ℕ} {request : Request} {q : Group} {least : ℕ} {broken : Option ℕ} (res : ℤ)
     (bytes : List ℕ) (s : IsSound w g) (e : Ends w v g h n request q least broken) (a : AreHeld w g r) where
-  shown_left : broken ≡ earlier_of q.broken (is_soft (entry_of r n) && not (is_success (entry_of r n) res)) n
-      → IsShownGroup (with_ended r n res bytes) (left_with q least broken)
-  shown_left breaks =
-      let old = a.shown n request e.there in
-      grind (arith, (a.groups request.group q e.group), (within_group s e.there e.group), (group_ended r n res bytes q.from q.end),
-        (first_broken_ended r n res bytes q.from q.end))
-
-  shown_elsewhere : {key : ℕ} {p : Group} → group_at g key ≡ Some p → key ≢ request.group
-      → IsShownGroup (with_ended r n res bytes) p
-  shown_elsewhere {key} {p} is ne = grind (arith, group_ended, first_broken_elsewhere, apart, (a.groups key p is))
-
   pub end_held : HasLost w v (one_if request.is_running) → g.last ≡ None
       → (least < q.end → broken ≡ earlier_of q.broken (is_soft (entry_of r n) && not (is_success (entry_of r n) res)) n)
       → AreHeld v h (with_ended r n res bytes)
@@ -103,15 +82,22 @@ module _ {w v : Window} {g h : Groups} {r : Requests} {n : ℕ} {request : Reque
       let within = shown_within s a e.there in
       record {
         count = a.count ∙ sym e.end;
-        outstanding = omega (arith, lost.outstanding, a.outstanding, outstanding_less n res bytes s a e.there);
-        running = omega (arith, lost.runs, a.running, running_less n res bytes s a e.there);
+        outstanding = omega (arith, lost.outstanding, a.outstanding, outstanding_less r n res bytes (outstanding_some s a n e.there) within);
+        running =
+            grind (arith, lost.runs, a.running, (running_some a n e.there), is_running_ended_same, is_running_ended_other,
+              (count_below_changed (is_running r) (is_running (with_ended r n res bytes))));
         ended = λ m gone lt.
             grind (arith, (cases_eq m n), has_ended_same, (has_ended_other r n res bytes m), (a.ended m), (e.changes.others m));
         shown = λ k x there. grind (arith, (before_end e.changes there), (has_ended_other r n res bytes k), (a.shown k x));
         groups = λ key x found.
             elim (now s e key x found) [
-              | inl left ↦ rw left.2 (shown_left (breaks left.1))
-              | inr kept ↦ shown_elsewhere kept.1 kept.0
+              | inl left ↦
+                  let old = a.shown n request e.there in
+                  let broken_is = breaks left.1 in
+                  rw left.2
+                  (grind (arith, (a.groups request.group q e.group), (within_group s e.there e.group), (group_ended r n res bytes q.from q.end),
+                    (first_broken_ended r n res bytes q.from q.end)))
+              | inr kept ↦ grind (arith, group_ended, first_broken_elsewhere, (s.members key x n request kept.1), e.there, kept.0, (a.groups key x kept.1))
             ];
         last = λ k end. grind (arith, (a.last k), e.closed);
         untouched = λ m past. grind (arith, (a.untouched m), (has_ended_other r n res bytes m));

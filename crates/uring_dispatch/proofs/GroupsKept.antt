@@ -50,26 +50,12 @@ front_of : (barriers : List Barrier) (b c : Barrier) (rest : List Barrier)
 front_of [] b c rest e = inl (cc)
 front_of (d ∷ more) b c rest e = inr (more, cc)
 
--- who stood first still does
-front_kept : (records new : List (Option Group)) (barriers more : List Barrier) (last : Option ℕ) (key n : ℕ)
-    (drains faulty : Bool) (b : Barrier)
-    → IsLiveFront records barriers → IsAccepted records new last key n drains faulty
-    → barriers ≡ b ∷ more → drain_of (get_or new b.key None) ≡ Some b.number
-front_kept records new barriers more last key n drains faulty b live a is =
-    grind (arith, (live b more is), (cases_eq b.key key))
-
 pub accept_front : (records new : List (Option Group)) (barriers : List Barrier) (last : Option ℕ) (key n : ℕ) (drains faulty : Bool)
     → IsLiveFront records barriers → IsAccepted records new last key n drains faulty
     → IsLiveFront new (with_barrier barriers (with_member (last_group records last) n drains faulty).drain n key)
 accept_front records new barriers last key n drains faulty live a b rest e =
-    elim (with_cases barriers (with_member (last_group records last) n drains faulty).drain n key) [
-      | inl added ↦
-          elim (front_of barriers (record { number = n; key = key }) b rest (sym added.1 ∙ e)) [
-            | inl first ↦ grind arith
-            | inr longer ↦ front_kept records new barriers longer.0 last key n drains faulty b live a longer.1
-          ]
-      | inr same ↦ front_kept records new barriers rest last key n drains faulty b live a (sym same ∙ e)
-    ]
+    grind (arith, (with_cases barriers (with_member (last_group records last) n drains faulty).drain n key),
+      (front_of barriers (record { number = n; key = key }) b rest), (live b), (cases_eq b.key key))
 
 pub only_key : (b : Bool) (key k : ℕ) (o : Option ℕ) → o ≡ (if b then Some key else None)
     → o ≡ Some k → k ≡ key

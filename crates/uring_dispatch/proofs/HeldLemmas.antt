@@ -3,9 +3,6 @@ use Rattle.uring_dispatch.proofs.Common.{is_drain, AreHeld, Group, Groups, HasBa
 use Rattle.std.proofs.Common.{◌≡◌, ◌≢◌, ℕ, ◌<◌, ◌≤◌, length, Bool, true, false, not, ◌&&◌, ◌||◌, Option, Some, None, is_some, sym, ◌∙◌, ap, arith}
 use Rattle.std.proofs.Math.Numerals.{lt_of_le_of_ne}
 
-pub some_none : {X P : Type 0} {x : X} {o : Option X} → o ≡ None → o ≡ Some x → P
-some_none a b = cc
-
 -- a number without a request
 pub vacant : (w : Window) (n : ℕ) → is_some (at w n) ≡ false → at w n ≡ None
 vacant w n e = grind arith
@@ -92,11 +89,6 @@ module _ {w : Window} {g : Groups} {r : Requests} {n : ℕ} {request : Request} 
   pub its_group : (q : Group) × InGroup w g r n request q
   its_group = let link = linked s e in (link.group, in_group link.found)
 
--- a group that drains is kept
-pub drain_group : (o : Option Group) (d : ℕ) → drain_of o ≡ Some d
-    → (p : Group) × (o ≡ Some p) × (p.drain ≡ Some d)
-drain_group o d e = grind arith
-
 module _ {w : Window} {g : Groups} {r : Requests} {n : ℕ} {request : Request} {q : Group} (i : InGroup w g r n request q) where
   pub doomed_held : is_doomed r n ≡ ((is_some q.fault || is_before q.broken n) || request.is_cancelled)
   doomed_held = grind (arith, doomed_is)
@@ -112,7 +104,7 @@ module _ {w : Window} {g : Groups} {r : Requests} {n : ℕ} {request : Request} 
   -- A group that drains from a number before this group on has an outstanding member before it, and that drains too.
   pub after_barrier : HasBarrierBefore g q.from → is_ready r n ≡ false
   after_barrier b =
-      let other = drain_group (group_at g b.key) b.number b.drains in
+      let other : (p : Group) × (group_at g b.key ≡ Some p) × (p.drain ≡ Some b.number) = grind (arith, b.drains) in
       let p : Group = other.0 in
       let kept = i.sound.kept b.key p other.1 in
       let shown = i.held.groups b.key p other.1 in

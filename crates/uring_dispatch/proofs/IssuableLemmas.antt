@@ -1,5 +1,5 @@
 -- Which requests can be issued, from who waits.
-use Rattle.uring_dispatch.proofs.Common.{AreHeld, Group, Groups, HasBefore, IsFirstDraining, IsLeastBelow, IsLeastFrom, IsLimit, IsListed, IsSound, MatchOption, Request, Requests, Waiting, Window, and_parts, at, can_go, cases_lt, count_below, drain_of, end_of, first_member_inside, group_at, groups_apart, holds, is_issuable, is_ready, is_some_value, least_below, least_below_none, least_below_some, lesser_of, slice_get_past}
+use Rattle.uring_dispatch.proofs.Common.{AreHeld, Group, Groups, HasBefore, IsFirstDraining, IsLeastBelow, IsLeastFrom, IsLimit, IsListed, IsSound, MatchOption, Request, Requests, Waiting, Window, at, can_go, cases_lt, count_below, drain_of, end_of, first_member_inside, group_at, groups_apart, holds, is_issuable, is_ready, is_some_value, least_below, least_below_none, least_below_some, lesser_of, slice_get_past}
 use Rattle.std.proofs.Common.{◌≡◌, ℕ, ◌*◌, ◌/◌, ◌<◌, ◌≤◌, length, slice_get, Bool, true, false, ◌&&◌, leb, Option, Some, None, refl, sym, ap, arith}
 use Rattle.uring_dispatch.specs.Issuable.{issuables_of, issuable_from}
 use Rattle.uring_dispatch.proofs.Counting.{count_below_zero, count_below_past, count_below_same, length_all_below, get_all_below}
@@ -69,9 +69,6 @@ module _ {w : Window} {g : Groups} {r : Requests} (s : IsSound w g) (h : AreHeld
 
 -- The next from one number on.
 
-issuable_within : (r : Requests) (k : ℕ) → is_issuable r k ≡ true → k < length r.accepted
-issuable_within r k e = grind arith
-
 -- the lesser of what the two searches found is the least that is told of
 least_told : (s : Waiting) (n limit : ℕ) (a b : Option ℕ)
     → MatchOption a ((k : ℕ) → n ≤ k → holds s.doomed k ≡ false) (IsLeastFrom s.doomed n)
@@ -106,7 +103,7 @@ module _ {w : Window} {g : Groups} {r : Requests} {s : Waiting} (limit : ℕ) (s
   next_is n a b doomed head =
       least_is _ _ (length r.accepted) (lesser_of a b) (least_told s n limit a b doomed head)
       (λ k. ap (λ b. leb n k && b) (sym (can_go_is k)))
-      (λ k is. issuable_within r k (and_parts (leb n k) _ is).1)
+      (λ k is. grind arith)
 
   -- All of them, counted by the blocks of 64.
 
@@ -120,7 +117,7 @@ module _ {w : Window} {g : Groups} {r : Requests} {s : Waiting} (limit : ℕ) (s
   pub nth_is : {n k : ℕ} → can_go s limit n ≡ true → count_below (can_go s limit) n ≡ k
       → Some n ≡ slice_get (issuables_of r) k
   nth_is {n} {k} told counted =
-      grind (arith, (count_below_same (can_go s limit) (is_issuable r) n), can_go_is, get_all_below, issuable_within)
+      grind (arith, (count_below_same (can_go s limit) (is_issuable r) n), can_go_is, get_all_below)
 
 -- none is counted before the first that is outstanding
 pub count_start : {w : Window} {g : Groups} {s : Waiting} (limit first : ℕ) → IsListed w g s

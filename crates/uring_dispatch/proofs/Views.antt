@@ -1,27 +1,24 @@
 -- From what a dispatcher shows to what it holds, and back; and what its queries find.
-use Rattle.std.proofs.Common.{◌≡◌, ℕ, ◌≤◌, length, Bool, true, false, Option, Some, None, refl, arith, not, ◌&&◌}
+use Rattle.std.proofs.Common.{◌≡◌, ℕ, ◌≤◌, length, Bool, true, false, Option, Some, None, arith, not, ◌&&◌}
 use Rattle.uring_dispatch.proofs.Common.{AreHeld, Cancel, Dispatch, EndCounts, Groups, IsFirst, IsSound, IssueCounts, MatchOption, Op, Request, Requests, ShowsRequests, StandsFor, Window, at, dispatch_of, end_of, entry_of, entry_outstanding, if◌then◌else◌, is_faulty, is_outstanding, is_running, is_some_value, least_below_none, least_below_some, least_of, operation_running}
 use Rattle.uring_dispatch.specs.Outstanding.{HasRoom, Stays}
 use Rattle.uring_dispatch.specs.declared.outstanding.Outstanding.{Outstanding}
 use Rattle.uring_dispatch.specs.declared.answers.Issued.{Issued}
 use Rattle.uring_dispatch.specs.declared.answers.Posts.{Posts}
-use Rattle.uring_dispatch.proofs.Alike.{alike_from, held_alike}
 use Rattle.uring_dispatch.proofs.HeldLemmas.{shown_within, outstanding_none, outstanding_some}
 use Rattle.uring_dispatch.specs.Cancels.{found_for, found_by, operation_outstanding}
 
 pub shows_held : (w : Window) (g : Groups) (r : Requests) (room : ℕ) (between : Bool)
     → AreHeld w g r → ShowsRequests (dispatch_of w g room between) r
-unfolding StandsFor
+unfolding StandsFor at
 shows_held w g r room between h =
-    grind (arith,
-      (held_alike w (record w { room = 0 }) g (record g { room = 0 }) r (alike_from w _ g _ refl refl) h))
+    record { accepted = grind arith; outstanding = h.outstanding; running = h.running; held = assumption (h) }
 
 -- what is held, where the value was opened
 pub held_from : (d : Dispatch) (w : Window) (g : Groups) (room : ℕ) (between : Bool) (r : Requests)
     → dispatch_of w g room between ≡ d → ShowsRequests d r → AreHeld w g r
-unfolding StandsFor
-held_from d w g room between r e s =
-    held_alike (record w { room = 0 }) w (record g { room = 0 }) g r (alike_from _ w _ g refl refl) (rw (← e) at s).held
+unfolding StandsFor at
+held_from d w g room between r e s = let held = (rw (← e) at s).held in assumption
 
 -- What the queries answer.
 

@@ -1,5 +1,5 @@
 -- What is told of who waits: how it is kept when other requests are told of anew.
-use Rattle.std.proofs.Common.{◌≡◌, ◌≢◌, ℕ, ◌<◌, ◌≤◌, Bool, true, false, ◌⊎◌, Option, Some, None, is_some, refl, arith}
+use Rattle.std.proofs.Common.{◌≡◌, ◌≢◌, ℕ, ◌<◌, ◌≤◌, Bool, true, false, ◌⊎◌, Option, Some, None, is_some, arith}
 use Rattle.uring_dispatch.proofs.Common.{CanTell, Changes, Group, Groups, GrowsTo, HasGrown, HasMoved, IsListed, IsListedAt, IsSameReach, IsSound, Keeps, NumberSet, Puts, Reaches, Request, StandsAsBefore, Waiting, Window, at, dooms, earlier_of, end_of, group_at, holds_same, is_before, is_some_value, leads, waits_at_head, waits_doomed}
 use Rattle.uring_dispatch.proofs.WindowFront.{within_end}
 use Rattle.uring_dispatch.proofs.EndLemmas.{Ends, left_member}
@@ -53,13 +53,9 @@ pub stands_ended : {w v : Window} {g h : Groups} {n : ℕ} {request : Request} {
     → (least < q.end → broken ≡ earlier_of q.broken breaks n)
     → (breaks ≡ true → k < q.end → (k < n) ⊎ (is_before q.broken k ≡ true)) → k ≢ n
     → (least < q.end → k ≢ least) → StandsAsBefore w v g h k
-stands_ended {w} {v} {g} {h} {n} {request} {q} {least} {k} {broken} s e breaks broken_is after ne_n ne_least = go (at w k) refl
-  where
-    go : (o : Option Request) → at w k ≡ o → StandsAsBefore w v g h k
-    go None is = grind (arith, (e.changes.others k ne_n))
-    go (Some x) is =
-        let same = e.changes.others k ne_n in
-        grind (arith, (left_member s e), (e.exchange.others x.group), e.next.from_on)
+stands_ended {w} {v} {g} {h} {n} {request} {q} {least} {k} {broken} s e breaks broken_is after ne_n ne_least =
+    grind (arith, (e.changes.others k ne_n), (left_member s e), (λ (x : Request). e.exchange.others x.group), e.next.from_on,
+      (is_some_value (at w k)))
 
 -- What is covered.
 
@@ -72,10 +68,6 @@ tell_outstanding w g s n l there = grind (arith, within_end)
 pub grows_told : (s t u : NumberSet) (n : ℕ) → HasGrown s t n → IsSameReach t u → GrowsTo s u n
 grows_told s t u n g r =
     record { start = omega arith; longer = omega arith; covered = omega arith; few = λ m old below. let most = g.few m old below in omega arith; limit = omega arith }
-
-pub told_moved : (w : Window) (g : Groups) (s t : Waiting) (k a b : ℕ) → IsListedAt w g s k
-    → HasMoved s.heads t.heads a → HasMoved s.doomed t.doomed b → IsListedAt w g t k
-told_moved w g s t k a b l x y = grind (arith, holds_same)
 
 -- request n ended, others were told of anew, and what was let go at the front isn't needed
 reaches_ended : (w v : Window) (s t u : NumberSet) (first : ℕ) {n : ℕ} → Reaches w s → end_of v ≡ end_of w
@@ -92,7 +84,8 @@ pub end_listed : (w v : Window) (g h : Groups) (s t u : Waiting) (n head stop fi
     → ((k : ℕ) → k < first → at v k ≡ None) → IsListed v h u
 end_listed w v g h s t u n head stop first l c end others keeps own at_head between x y within before = record {
   told = λ k.
-      told_moved v h t u k first first (grind (arith, (keeps.told k), (told_before w v g h s k (l.told k)), (others k))) x y;
+      let anew : IsListedAt v h t k = grind (arith, (keeps.told k), (told_before w v g h s k (l.told k)), (others k)) in
+      grind (arith, holds_same);
   heads = reaches_ended w v s.heads t.heads u.heads first l.heads end keeps.heads x within before c;
   doomed = reaches_ended w v s.doomed t.doomed u.doomed first l.doomed end keeps.doomed y within before c;
 }
