@@ -52,7 +52,5 @@ pub kind_steps : (kind : ℕ → Step) (p : Event → Bool) (events : List Event
     → length numbers ≡ count_by p events
 kind_steps kind p [] [] passes e served = refl
 kind_steps kind p ((s, a) ∷ es) (n ∷ ns) passes e served =
-    let first : s ≡ kind n = cc in
-    let here : is_refused (s, a) ≡ false → p (s, a) ≡ true = subst (λ t. is_refused (t, a) ≡ false → p (t, a) ≡ true) (sym first) (passes n a) in
-    grind (arith, here, served, (kind_steps kind p es ns passes (ap (drop 1) e)), (sum_by-cons (λ x. cond (p x) 1 0) (s, a) es), (sum_by-cons (λ x. cond (is_refused x) 1 0) (s, a) es))
+    grind (arith, (passes n a), e, served, (kind_steps kind p es ns passes (ap (drop 1) e)), (sum_by-cons (λ x. cond (p x) 1 0) (s, a) es), (sum_by-cons (λ x. cond (is_refused x) 1 0) (s, a) es))
 kind_steps kind p _ _ passes e served = absurd cc

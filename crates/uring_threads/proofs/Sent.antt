@@ -29,10 +29,9 @@ pub record Accounts (r : Requests) (jobs : List Job) (done : List Done) : Type 0
 -- an end of what doesn't run changes nothing of it
 issued_accounts : (linux : Bool) (r : Requests) (m : ℕ) (res : ℤ) (jobs : List Job) (done : List Done)
     → is_running r m ≡ false → Accounts r jobs done → Accounts (with_issued_end linux r m res) jobs done
-issued_accounts true r m res jobs done idle a =
-    record { sent = a.sent; carried = a.carried; counts = λ n. grind (arith, (a.counts n), is_running_ended_same, is_running_ended_other) }
-issued_accounts false r m res jobs done idle a =
-    record { sent = a.sent; carried = a.carried; counts = λ n. grind (arith, (a.counts n), is_running_ended_same, is_running_ended_other) }
+issued_accounts linux r m res jobs done idle a =
+    let same : (with_issued_end linux r m res).accepted ≡ r.accepted = grind arith in
+    record { sent = rw same a.sent; carried = rw same a.carried; counts = λ n. grind (arith, (a.counts n), is_running_ended_same, is_running_ended_other) }
 
 accounts_then : (g : Setup) (w : World) (q : Requests) (s : Step) (a : Answer) (jobs : List Job) (done : List Done)
     → Move g.linux (requests_of w) s a q → CalledForApart g w s a → IsSoundRequests w.requests
@@ -88,11 +87,6 @@ at_place job place k n accepted (x ∷ xs) all =
 
 -- What is left.
 
-left_count : (own runs : Bool) (jobs done sent carried later : ℕ) → sent ≡ cond own jobs 0
-    → carried ≡ cond own done 0 → jobs ≡ done + cond runs 1 0 → sent ≡ carried + later
-    → later ≡ cond own (cond runs 1 0) 0
-left_count own runs jobs done sent carried later s c counts all = grind arith
-
 module _ (g : Setup) (h : History) (lawful : IsLawfulApart g h) (place : Op → ℕ) (k : ℕ) (later : List Job) (all : jobs_at place k (jobs_in g h) ≡ jobs_of (done_at place k (done_in g h)) ++ later) where
   -- a job for each request of the place that runs
   left_times : (n : ℕ) → count_by (λ j. j.number == n) later ≡ cond (place (op_at (world g h).requests.accepted n) == k) (cond (is_running (world g h).requests n) 1 0) 0
@@ -101,8 +95,8 @@ module _ (g : Setup) (h : History) (lawful : IsLawfulApart g h) (place : Op → 
       let sent = at_place (λ j. j) place k n (world g h).requests.accepted (jobs_in g h) a.sent in
       let carried = at_place job_of place k n (world g h).requests.accepted (done_in g h) a.carried in
       let ds : List Done = done_at place k (done_in g h) in
-      left_count _ _ _ _ _ _ _ sent carried (a.counts n)
-      (ap (count_by (λ j. j.number == n)) all ∙ omega (arith, sum_by-append (λ (j : Job). cond (j.number == n) 1 0) (jobs_of ds) later, fold-map (λ (m : ℕ) (j : Job). m + cond (j.number == n) 1 0) job_of 0 ds))
+      let whole : count_by (λ j. j.number == n) (jobs_at place k (jobs_in g h)) ≡ count_by (λ d. d.number == n) ds + count_by (λ j. j.number == n) later = ap (count_by (λ j. j.number == n)) all ∙ omega (arith, sum_by-append (λ (j : Job). cond (j.number == n) 1 0) (jobs_of ds) later, fold-map (λ (m : ℕ) (j : Job). m + cond (j.number == n) 1 0) job_of 0 ds) in
+      grind (arith, sent, carried, (a.counts n), whole)
 
   -- what is left is the place's own, and runs
   pub left_runs : (n : ℕ) → list_any (λ j. j.number == n) later ≡ true

@@ -27,13 +27,9 @@ pub drains_none : (first : Kept) (seen before : List JobResult) → Wait first s
 drains_none first seen before left = grind (arith, append-nil)
 
 -- the next one
-abbrev pub OneMore : Kept → Kept → List JobResult → List JobResult → List JobResult → List JobResult
-    → Type 0
-OneMore a b known later received now =
-    (r : JobResult) × (known ≡ r ∷ later) × (now ≡ received ++ r ∷ []) × Grows a b (finish_of r)
-
 pub drains_one : (first a b : Kept) (seen known later before received now : List JobResult) (count : ℕ)
-    → Drains first a seen known before received count → OneMore a b known later received now
+    → Drains first a seen known before received count
+    → (r : JobResult) × (known ≡ r ∷ later) × (now ≡ received ++ r ∷ []) × Grows a b (finish_of r)
     → Wait b later
     → Drains first b seen later before now (count + 1)
 drains_one first a b seen known later before received now count d (r, next, came, grows) left =

@@ -88,9 +88,7 @@ module _ {E : Type 0} {answer : Result Turn E} {old : Kernel} {b c : Kept} {pull
     -- or up to an earlier end
     pub goes_issued : IfOk answer (λ made. made ≡ record { popped = n; issued = s; finished = f; delivered = 0 })
         → Goes old d pulled before i ns (record { popped = n; issued = s; finished = f; delivered = 0 }) answer
-    goes_issued =
-        let ties = ties_posted (issues_counted s) (ties_posted (finishes_counted f) t.ties p.tally refl p.posts carried) q.tally refl q.posts later in
-        goes (delivers_none (still d) (record { submission = refl; requests = refl; drains = refl; is_closed = refl; posted = refl }) ties.delivered)
+    goes_issued = goes (delivers_none (still d) (grind arith) (grind (arith, t.ties.delivered, p.posts, q.posts)))
 
   pub goes_collected : IfOk answer (λ made. made ≡ record { popped = n; issued = 0; finished = f; delivered = 0 })
       → Goes old c pulled before i ms (record { popped = n; issued = 0; finished = f; delivered = 0 }) answer
