@@ -1,9 +1,7 @@
 -- What calls that are made one after the other leave: which are left, how the ring stands, what they append, and which rows of steps they are.
-use Rattle.std.proofs.Common.{◌≡◌, ℕ, suc, ◌+◌, ◌-◌, ◌≤◌, Bool, true, not, ◌&&◌, List, [], ◌∷◌, ◌++◌, length, map, sum, Some, None, is_some, if◌then◌else◌, refl, sym, ap, ap₂, ◌∙◌, arith, append_assoc, append-nil, length-drop, ◌<◌, drop_at}
+use Rattle.std.proofs.Common.{◌≡◌, ℕ, suc, ◌+◌, ◌-◌, ◌≤◌, Bool, true, List, [], ◌∷◌, ◌++◌, length, map, sum, refl, sym, ap, ◌∙◌, arith, append_assoc, append-nil, length-drop, ◌<◌, drop_at}
 use Rattle.uring_threads.proofs.Common.{Appends, AreBegun, AreTaken, HasBegun, HaveMade, Intake, IsFirst, IsUnmoved, Item, Kept, Published, Records, Setup, Sqe, Stands, Step, Submission, World, after_call, after_calls, all_published_as, call_row, calls_after, calls_counted, calls_left, calls_of, calls_row, drop_of_length-le, ends_after_item, ends_of, is_spent, items_fresh, items_keep, items_row, length-map, lt-ltb, now, refused_row, sum_by-cons, taken, with_items, with_items_published, with_published, words_of}
 use Rattle.uring_entry.specs.Submission.{place_of}
-use Rattle.uring_core.specs.Stops.{stops_at_word}
-use Rattle.uring_ports.specs.declared.item.Item.TheVariants as item
 use Rattle.uring_threads.specs.declared.calls.CallMade.TheVariants as made
 use Rattle.uring_threads.proofs.TraceSteps.{appends_none, appends_then, still}
 use Rattle.uring_core.specs.declared.step.Step.TheVariants as step
@@ -33,9 +31,7 @@ ends_published : (g : Setup) (content : ℕ → Sqe) (slot : ℕ) (items : List 
     → ends_of g (map (place_of g.sq content) (words_of slot (all_published_as items)))
     ≡ map (ends_after_item g) items
 ends_published g content slot [] few = refl
-ends_published g content slot (item.Entry entry ∷ later) few =
-    ap₂ (λ b bs. b ∷ bs) (ap (λ b. not (is_some (if b then Some (content slot) else None)) && stops_at_word g) (lt-ltb slot g.sq (omega arith))) (ends_published g content (slot + 1) later (omega arith))
-ends_published g content slot (item.Bad word ∷ later) few = ap₂ (λ b bs. b ∷ bs) (grind arith) (ends_published g content (slot + 1) later (omega arith))
+ends_published g content slot (first ∷ later) few = grind (arith, (lt-ltb slot g.sq), (ends_published g content (slot + 1) later))
 
 -- the calls that are left once items are published are those of the items
 pub published_left : (g : Setup) (l : Submission) (items : List Item) → l.fresh ≡ [] → Stands l [] 0

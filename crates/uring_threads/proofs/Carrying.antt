@@ -64,11 +64,10 @@ pub carried_run : (a b : Kept) (n place : ℕ) (op : Op) (old new : List WorkLan
 carried_run a b n place op old new issued carried at low many was_sent others = λ k d within.
     let j : Job = record { number = n; op = op } in
     let within' : k < length old = omega (arith, within, many) in
-    let before = carried k d within' in
     let longer : history b ≡ (step.Issue n, answer.Run) ∷ history a = grown_history a b _ issued.0 in
     let one = one_more_at (λ (i : Job). place_of (length old) a.setup.files i.op) k (jobs_in a.setup (history a)) j in
     let none = none_more_at (λ (i : Job). place_of (length old) a.setup.files i.op) k (jobs_in a.setup (history a)) j in
-    rw many (grind (arith, (cases_eq k place), (was_sent d), (others k d within'), before, longer, issued.0.setup, issued.1, one, none))
+    rw many (grind (arith, (cases_eq k place), (was_sent d), (others k d within'), (carried k d within'), longer, issued.0.setup, issued.1, one, none))
 
 -- each request that starts sends a job
 jobs_count : (g : Setup) (events : List Event) (h : History)

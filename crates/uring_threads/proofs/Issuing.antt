@@ -55,8 +55,7 @@ looked_on k r first old new u many looked carried same = (
       let before : j < length old = omega (arith, low, many) in
       let had = carried_stays k r old (quiet_stays k r none_counted (appends_none k r u) refl refl) carried j d before in
       grind (arith, had, (looked j d before), many),
-  lanes_then first old new same
-      (record { many = many; jobs = λ j d low. (looked j d low).ring; results = λ j d low. looked_results _ _ (looked j d low) }),
+  grind (arith, (lanes_then first old new same), (λ (j : ℕ) (d : WorkLanes) (low : j < length old). looked_results _ _ (looked j d low))),
 )
 
 -- one request more was issued

@@ -2,8 +2,7 @@
 -- And of what is left at a place: of the jobs sent to it, those after the operations that were carried out are of the requests that run.
 -- By `Moves` and induction over the history, and by counting how often a number stands among what was sent and carried out.
 use Rattle.std.proofs.Common.{◌≡◌, ℕ, ◌<◌, ◌==◌, ℤ, List, [], ◌∷◌, ◌++◌, length, Bool, true, false, cond, refl, ◌∙◌, ap, arith, ◌≢◌, ◌+◌, append-nil, count_by}
-use Rattle.uring_threads.proofs.Common.{All-push, All-weaker, AllByRecursion, Answer, CalledForApart, Done, History, IsLawfulApart, IsSoundRequests, Job, Op, Requests, Setup, Sqe, Step, World, and_parts, done_at, done_by, done_in, eq-eqb, eqb-true, filter, is_running, is_running_ended_other, is_running_ended_same, is_running_started_other, is_running_started_same, job_by, job_in, job_of, jobs_at, jobs_in, jobs_of, length-append, list_any, operation_of, outstanding_tells, requests_of, slice_index_or, sum_by-append, sum_by-cons, sum_by_push, with_ended, with_issued_end, with_told, world, zero_entry}
-use Rattle.uring_entry.specs.Requests.{with_started}
+use Rattle.uring_threads.proofs.Common.{All-push, All-weaker, AllByRecursion, Answer, CalledForApart, Done, History, IsLawfulApart, IsSoundRequests, Job, Op, Requests, Setup, Sqe, Step, World, and_parts, done_at, done_by, done_in, eq-eqb, eqb-true, filter, is_running, is_running_ended_other, is_running_ended_same, is_running_started_other, is_running_started_same, job_by, job_in, job_of, jobs_at, jobs_in, jobs_of, length-append, list_any, operation_of, outstanding_tells, requests_of, slice_index_or, sum_by-append, sum_by-cons, sum_by_push, with_issued_end, with_told, world, zero_entry}
 use Rattle.uring_core.proofs.Moves.{Move, stays, accepts, starts, ends_run, move_of}
 use Rattle.uring_core.proofs.Running.{entry_stays}
 use Rattle.uring_core.proofs.Sound.{sound_of}
@@ -47,22 +46,16 @@ accounts_then g w q s a jobs done (accepts accepted missed head entries) called 
       counts = all.counts;
     }
 accounts_then g w q s a jobs done (starts m outstanding idle spared ready no_cancel) called i all =
-    let r : Requests = w.requests in
-    let more : (n : ℕ) → cond (is_running (with_started r m) n) 1 0 ≡ cond (is_running r n) 1 0 + cond (m == n) 1 0 =
-    λ n. grind (arith, outstanding_tells, is_running_started_same, is_running_started_other, eqb-true) in
     record {
       sent = All-push (IsOf w.requests.accepted) jobs _ all.sent ((outstanding_tells w.requests m outstanding).0, refl);
       carried = all.carried;
-      counts = λ n. omega (arith, all.counts n, more n, sum_by_push (λ (j : Job). cond (j.number == n) 1 0) jobs (job_in w.requests m));
+      counts = λ n. grind (arith, (all.counts n), outstanding_tells, is_running_started_same, is_running_started_other, eqb-true, (sum_by_push (λ (j : Job). cond (j.number == n) 1 0) jobs (job_in w.requests m)));
     }
 accounts_then g w q s a jobs done (ends_run m res bytes running) called i all =
-    let r : Requests = w.requests in
-    let less : (n : ℕ) → cond (is_running r n) 1 0 ≡ cond (is_running (with_ended r m res bytes) n) 1 0 + cond (m == n) 1 0 =
-    λ n. grind (arith, is_running_ended_same, is_running_ended_other, eqb-true) in
     record {
       sent = all.sent;
       carried = All-push (λ d. IsOf w.requests.accepted (job_of d)) done _ all.carried (i.started_accepted m (and_parts _ _ running).0, refl);
-      counts = λ n. omega (arith, all.counts n, less n, sum_by_push (λ (d : Done). cond (d.number == n) 1 0) done (record { number = m; op = op_at w.requests.accepted m; outcome = record { res = res; bytes = bytes } }));
+      counts = λ n. grind (arith, (all.counts n), running, is_running_ended_same, is_running_ended_other, eqb-true, (sum_by_push (λ (d : Done). cond (d.number == n) 1 0) done (record { number = m; op = op_at w.requests.accepted m; outcome = record { res = res; bytes = bytes } })));
     }
 accounts_then g w q s a jobs done _ called i all =
     issued_accounts g.linux w.requests _ _ jobs done (grind (arith, called)) all

@@ -59,12 +59,8 @@ takes_nothing a b u = grind (arith, appends_none)
 pub takes_then : (a b c : Kept) (n m k : ℕ) → TakesIn a b n → TakesIn b c m → n + m ≡ k
     → TakesIn a c k
 takes_then a b c n m k p q sums =
-    record {
-      calls = p.calls + q.calls;
-      closes = p.closes + q.closes;
-      appends = appends_then a b c _ _ _ p.appends q.appends (ap (λ i. record { items = i; issues = 0; finishes = 0; reaps = 0; calls = p.calls + q.calls; closes = p.closes + q.closes }) sums);
-      idle = λ none. q.idle (omega (arith, none, sums)) ∙ p.idle (omega (arith, none, sums));
-    }
+    let appends = appends_then a b c _ _ _ p.appends q.appends (ap (λ i. record { items = i; issues = 0; finishes = 0; reaps = 0; calls = p.calls + q.calls; closes = p.closes + q.closes }) sums) in
+    grind (arith, appends)
 
 -- A row of the intake where nothing happened before but that room was asked for.
 
