@@ -1,9 +1,7 @@
 -- What calls that are made one after the other leave: which are left, how the ring stands, what they append, and which rows of steps they are.
-use Rattle.std.proofs.Common.{◌≡◌, ℕ, zero, suc, ◌+◌, ◌-◌, ◌≤◌, Bool, true, false, not, ◌&&◌, List, [], ◌∷◌, ◌++◌, length, map, sum, Some, None, is_some, if◌then◌else◌, refl, sym, subst, ap, ap₂, ◌∙◌, arith, append_assoc, append-nil, length-drop, ◌<◌, drop_at}
+use Rattle.std.proofs.Common.{◌≡◌, ℕ, suc, ◌+◌, ◌-◌, ◌≤◌, Bool, true, List, [], ◌∷◌, ◌++◌, length, map, sum, refl, sym, ap, ◌∙◌, arith, append_assoc, append-nil, length-drop, ◌<◌, drop_at}
 use Rattle.uring_threads.proofs.Common.{Appends, AreBegun, AreTaken, HasBegun, HaveMade, Intake, IsFirst, IsUnmoved, Item, Kept, Published, Records, Setup, Sqe, Stands, Step, Submission, World, after_call, after_calls, all_published_as, call_row, calls_after, calls_counted, calls_left, calls_of, calls_row, drop_of_length-le, ends_after_item, ends_of, is_spent, items_fresh, items_keep, items_row, length-map, lt-ltb, now, refused_row, sum_by-cons, taken, with_items, with_items_published, with_published, words_of}
 use Rattle.uring_entry.specs.Submission.{place_of}
-use Rattle.uring_core.specs.Stops.{stops_at_word}
-use Rattle.uring_ports.specs.declared.item.Item.TheVariants as item
 use Rattle.uring_threads.specs.declared.calls.CallMade.TheVariants as made
 use Rattle.uring_threads.proofs.TraceSteps.{appends_none, appends_then, still}
 use Rattle.uring_core.specs.declared.step.Step.TheVariants as step
@@ -16,10 +14,8 @@ use Rattle.uring_threads.proofs.ItemSteps.{items_stand}
 -- they have all positions together
 sum_calls : (ends : List Bool) (before : ℕ) → sum (calls_after ends before) ≡ before + length ends
 unfolding calls_after
-sum_calls [] zero = refl
-sum_calls [] (suc before) = sum_by-cons (λ x. x) (suc before) [] ∙ omega arith
-sum_calls (true ∷ later) before = sum_by-cons (λ x. x) (suc before) (calls_after later 0) ∙ omega (arith, sum_calls later 0)
-sum_calls (false ∷ later) before = sum_calls later (suc before) ∙ omega arith
+sum_calls [] before = grind (arith, (sum_by-cons (λ x. x) before []))
+sum_calls (ends ∷ later) before = grind (arith, (sum_calls later 0), (sum_calls later (suc before)), (sum_by-cons (λ x. x) (suc before) (calls_after later 0)))
 
 pub sum_left : (g : Setup) (l : Submission) (count : ℕ) → Stands l [] count
     → sum (calls_left g l) ≡ count
@@ -35,9 +31,7 @@ ends_published : (g : Setup) (content : ℕ → Sqe) (slot : ℕ) (items : List 
     → ends_of g (map (place_of g.sq content) (words_of slot (all_published_as items)))
     ≡ map (ends_after_item g) items
 ends_published g content slot [] few = refl
-ends_published g content slot (item.Entry entry ∷ later) few =
-    ap₂ (λ b bs. b ∷ bs) (ap (λ b. not (is_some (if b then Some (content slot) else None)) && stops_at_word g) (lt-ltb slot g.sq (omega arith))) (ends_published g content (slot + 1) later (omega arith))
-ends_published g content slot (item.Bad word ∷ later) few = ap₂ (λ b bs. b ∷ bs) (grind arith) (ends_published g content (slot + 1) later (omega arith))
+ends_published g content slot (first ∷ later) few = grind (arith, (lt-ltb slot g.sq), (ends_published g content (slot + 1) later))
 
 -- the calls that are left once items are published are those of the items
 pub published_left : (g : Setup) (l : Submission) (items : List Item) → l.fresh ≡ [] → Stands l [] 0
@@ -80,34 +74,18 @@ none_made k count s = grind (arith, appends_none)
 -- One call more.
 module _ (a b c : Kept) (done : List ℕ) (rest : ℕ) (h : HaveMade a b done rest) where
   -- it is the next of those that were left
-  next_left : (n : ℕ) → IsFirst b.setup (now b).submission (now c).submission rest (made.Taken n)
-      → calls_left a.setup (now b).submission ≡ n ∷ calls_left a.setup (now c).submission
-  next_left n first = subst (λ (g : Setup). calls_left g (now b).submission ≡ n ∷ calls_left g (now c).submission) h.appends.setup first.2
-
   pub one_made : (n : ℕ) → now c ≡ after_call b.setup (now b) n
       → IsFirst b.setup (now b).submission (now c).submission rest (made.Taken n)
       → Appends b c (calls_counted 1) → HaveMade a c (done ++ n ∷ []) (rest - n)
   one_made n e first p =
-      record {
-        world = rw (e, h.world, h.appends.setup, after_snoc);
-        calls = rw append_assoc (ap (λ ns. done ++ ns) (sym (next_left n first)) ∙ h.calls);
-        stands = first.3;
-        begun = h.begun + 1;
-        appends = appends_then a b c (calls_counted h.begun) (calls_counted 1) (calls_counted (h.begun + 1)) h.appends p refl;
-        idle = λ none. absurd (omega (arith, none));
-      }
+      let appends = appends_then a b c (calls_counted h.begun) (calls_counted 1) (calls_counted (h.begun + 1)) h.appends p refl in
+      grind (arith, appends, first, (after_snoc a.setup (now a) done n), append_assoc)
 
   -- or the next doesn't open
   one_refused : now c ≡ now b → Appends b c (calls_counted 1) → HaveMade a c done rest
   one_refused e p =
-      record {
-        world = e ∙ h.world;
-        calls = rw e h.calls;
-        stands = rw e h.stands;
-        begun = h.begun + 1;
-        appends = appends_then a b c (calls_counted h.begun) (calls_counted 1) (calls_counted (h.begun + 1)) h.appends p refl;
-        idle = λ none. absurd (omega (arith, none));
-      }
+      let appends = appends_then a b c (calls_counted h.begun) (calls_counted 1) (calls_counted (h.begun + 1)) h.appends p refl in
+      grind (arith, appends)
 
 -- The rows of calls that were begun.
 
@@ -122,7 +100,7 @@ module _ (a b c : Kept) (done : List ℕ) (rest : ℕ) (h : HaveMade a b done re
       → Records b c (call_row rest (made.Taken n))
       → Records a c (calls_row (done ++ n ∷ []) (calls_left a.setup (now c).submission))
   next_recorded n first q =
-      let next = next_left a b c done rest h n first in
+      let next : calls_left a.setup (now b).submission ≡ n ∷ calls_left a.setup (now c).submission = grind (arith, first, h.appends.setup) in
       let many : rest ≡ n + sum (calls_left a.setup (now c).submission) = omega (arith, sum_left a.setup (now b).submission rest h.stands, ap sum next, sum_by-cons (λ x. x) n (calls_left a.setup (now c).submission)) in
       rw calls_row_snoc (records_then a b c _ _ (rw next at p) (rw many at q))
 

@@ -1,5 +1,5 @@
 -- What the lanes of the workers have carried, as the trace goes on; a lane for jobs that shows no room has carried as many as it holds, so as many requests were started.
-use Rattle.std.proofs.Common.{◌≡◌, ◌≢◌, ℕ, ◌<◌, ◌==◌, cond, List, [], ◌∷◌, ◌++◌, length, get_or, count_by, Option, Some, None, refl, sym, ap, ◌∙◌, inl, inr, arith, ◌+◌, ◌≤◌, false, append-nil}
+use Rattle.std.proofs.Common.{◌≡◌, ◌≢◌, ℕ, ◌<◌, ◌==◌, cond, List, [], ◌∷◌, ◌++◌, length, get_or, count_by, Option, Some, None, refl, ap, ◌∙◌, arith, ◌+◌, ◌≤◌, false, append-nil}
 use Rattle.uring_threads.proofs.Common.{Answer, Appends, Bool, Event, Grows, HaveCarried, History, HoldJobs, IsEnded, IsSent, Job, Kept, None, Op, Setup, SomeIsFull, Tally, WorkLanes, cases_eq, count_by-le-length, done_by_worker, done_in, entry_of, history, history_of, history_of_cons, issues_request, jobs_in, jobs_to, length-append, length-filter, now, operation_of, place_of, starts_request, sum_by-cons, takes_result}
 use Rattle.uring_core.specs.declared.step.Step.TheVariants as step
 use Rattle.uring_core.specs.declared.answer.Answer.TheVariants as answer
@@ -15,8 +15,7 @@ none_told : {X : Type 0} (told : History → X) (p : Event → Bool)
     → count_by p events ≡ 0 → told (history_of events ++ h) ≡ told h
 none_told told p stays [] h none = refl
 none_told told p stays (e ∷ later) h none =
-    let both = sum_by-cons (λ x. cond (p x) 1 0) e later in
-    ap told (history_of_cons e later h) ∙ none_told told p stays later (e ∷ h) (omega (arith, none, both)) ∙ stays e h (grind (arith, none, both))
+    grind (arith, (history_of_cons e later h), (none_told told p stays later (e ∷ h)), (stays e h), (sum_by-cons (λ x. cond (p x) 1 0) e later))
 
 pub done_stays : (a b : Kept) (t : Tally) → Appends a b t → t.finishes ≡ 0 → (workers k : ℕ)
     → done_by_worker b.setup workers k (history b) ≡ done_by_worker a.setup workers k (history a)
@@ -65,29 +64,17 @@ pub carried_run : (a b : Kept) (n place : ℕ) (op : Op) (old new : List WorkLan
 carried_run a b n place op old new issued carried at low many was_sent others = λ k d within.
     let j : Job = record { number = n; op = op } in
     let within' : k < length old = omega (arith, within, many) in
-    let before = carried k d within' in
     let longer : history b ≡ (step.Issue n, answer.Run) ∷ history a = grown_history a b _ issued.0 in
-    rw many (elim (cases_eq k place) [
-      | inl here ↦
-          let s : IsSent j (get_or old k d) (get_or new k d) = rw here (was_sent d) in
-          record {
-            jobs = rw (issued.0.setup, longer, ← issued.1, one_more_at (λ (i : Job). place_of (length old) a.setup.files i.op) k (jobs_in a.setup (history a)) j (sym at ∙ sym here)) (s.jobs ∙ ap (λ js. js ++ j ∷ []) before.jobs);
-            results = rw (issued.0.setup, longer, s.results) before.results;
-          }
-      | inr other ↦
-          rw (others k d within' other) (record {
-            jobs = rw (issued.0.setup, longer, ← issued.1, none_more_at (λ (i : Job). place_of (length old) a.setup.files i.op) k (jobs_in a.setup (history a)) j (λ e. other (sym e ∙ sym at))) before.jobs;
-            results = rw (issued.0.setup, longer) before.results;
-          })
-    ])
+    let one = one_more_at (λ (i : Job). place_of (length old) a.setup.files i.op) k (jobs_in a.setup (history a)) j in
+    let none = none_more_at (λ (i : Job). place_of (length old) a.setup.files i.op) k (jobs_in a.setup (history a)) j in
+    rw many (grind (arith, (cases_eq k place), (was_sent d), (others k d within'), (carried k d within'), longer, issued.0.setup, issued.1, one, none))
 
 -- each request that starts sends a job
 jobs_count : (g : Setup) (events : List Event) (h : History)
     → length (jobs_in g (history_of events ++ h)) ≡ count_by starts_request events + length (jobs_in g h)
 jobs_count g [] h = omega arith
 jobs_count g (e ∷ later) h =
-    let one : length (jobs_in g (e ∷ h)) ≡ cond (starts_request e) 1 0 + length (jobs_in g h) = grind (arith, length-append) in
-    ap (λ l. length (jobs_in g l)) (history_of_cons e later h) ∙ omega (arith, jobs_count g later (e ∷ h), one, sum_by-cons (λ x. cond (starts_request x) 1 0) e later)
+    grind (arith, (history_of_cons e later h), (jobs_count g later (e ∷ h)), length-append, (sum_by-cons (λ x. cond (starts_request x) 1 0) e later))
 
 -- a lane that shows no room has carried 64 jobs
 pub some_full : (k : Kept) (lanes : List WorkLanes) → HaveCarried k lanes → HoldJobs lanes

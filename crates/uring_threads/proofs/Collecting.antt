@@ -1,5 +1,5 @@
 -- What is sent and taken in, as a result is taken in: the operation is the last of its worker's, and all else stays; and how many results of each worker a turn takes in.
-use Rattle.std.proofs.Common.{◌≡◌, ℕ, ◌+◌, ◌<◌, arith, Bool, true, false, List, [], ◌∷◌, ◌++◌, length, refl, sym, subst, ap, ◌∙◌, inl, inr, ◌*◌, ◌≤◌, get_or, add-zero}
+use Rattle.std.proofs.Common.{◌≡◌, ℕ, ◌+◌, ◌<◌, arith, Bool, true, false, List, [], ◌∷◌, ◌++◌, length, refl, sym, ap, ◌∙◌, inl, inr, ◌*◌, ◌≤◌, get_or, add-zero}
 use Rattle.uring_threads.proofs.Common.{Answer, AreSameLanes, AreTakenIn, CanBeTaken, Collects, CollectsNext, CollectsSeen, Done, Grows, HasCarried, HaveCarried, IsLawfulApart, IsTakenIn, IsUnmoved, JobResult, Kept, NextStays, NoneComes, OnErr, OnlyReceives, Repeats, Result, TakesFewResults, TakesSeen, Wait, WorkLanes, cases_lt, done_by_worker, done_in, entry_of, finish_of, finishes_counted, history, is_running, is_running_ended_other, is_running_ended_same, length-set, length_push, map-append, most_results, now, operation_of, place_of, results_of, results_received, results_seen, results_taken_in, set}
 use mathlib.Core.List.{IsPrefix}
 use Rattle.uring_core.specs.Core.{IsFinished}
@@ -8,7 +8,7 @@ use Rattle.uring_core.specs.declared.answer.Answer.TheVariants as answer
 use Rattle.uring_threads.proofs.Sent.{one_more_at, none_more_at}
 use Rattle.uring_threads.proofs.Repeating.{repeats_none, repeats_then, repeats_one}
 use Rattle.uring_threads.proofs.Settling.{results_run}
-use Rattle.uring_threads.proofs.TraceSteps.{grown, grown_history, unmoved_is}
+use Rattle.uring_threads.proofs.TraceSteps.{grown, grown_history}
 use Rattle.uring_threads.proofs.SameLanes.{lanes_then, lanes_set, set_cases}
 use Rattle.uring_threads.proofs.Posting.{posts_only}
 
@@ -47,10 +47,7 @@ collects_first {a} {b} {workers} {place} r can grows =
         jobs = λ k. rw (grows.setup, longer);
         results = λ k other. rw (grows.setup, longer) (none_more_at at k (done_in a.setup (history a)) end (λ same. other (sym same ∙ can.own)));
       };
-      none_comes = λ k number left.
-          let ended = grown a b (step.Finish r.number) (answer.Ended r.outcome.res r.outcome.bytes) grows in
-          let runs = rw ended at left.runs in
-          record { runs = grind (arith, is_running_ended_same, is_running_ended_other); own = rw (ended, grows.setup) at left.own };
+      none_comes = λ k number left. grind (arith, (grown a b (step.Finish r.number) (answer.Ended r.outcome.res r.outcome.bytes) grows), grows.setup, left, is_running_ended_same, is_running_ended_other);
     }
 
 -- and it is the last of those that the trace has taken in
@@ -60,7 +57,7 @@ pub taken_in_more : {a u b : Kept} {workers place : ℕ} {before after : List Jo
 taken_in_more {a} {u} {b} {workers} {place} {before} {after} r can unmoved grows taken more =
     let end : Done = record { number = r.number; op = operation_of (entry_of (now u).requests r.number); outcome = r.outcome } in
     let at : Done → ℕ = λ d. place_of workers u.setup.files d.op in
-    let known : before ≡ results_of (done_by_worker u.setup workers place (history u)) = subst (λ (k : Kept). AreTakenIn k workers place before) (sym (unmoved_is a u unmoved)) taken in
+    let known : before ≡ results_of (done_by_worker u.setup workers place (history u)) = cc in
     rw (grows.setup, grown_history u b (finish_of r) grows, one_more_at at place (done_in u.setup (history u)) end can.own, map-append, more, known)
 
 pub collects_then : {a b c : Kept} {workers place n m : ℕ} → Collects a b workers place n
@@ -147,8 +144,7 @@ few_in_all {place = place} p = λ k. elim (cases_lt k place) [ inl low ↦ p.bef
 -- what couldn't be taken in next still can't
 next_stays : (a b : Kept) (workers k : ℕ) (seen : List JobResult) → NoneComes a b workers
     → NextStays a workers k seen → NextStays b workers k seen
-next_stays a b workers k [] none stays = tt
-next_stays a b workers k (r ∷ later) none stays = λ can. stays (none k r.number can)
+next_stays a b workers k seen none stays = grind (arith, (λ (r : JobResult). none k r.number))
 
 -- of each of them, fewer were taken in only if no other result is seen, or the next can't be taken in
 abbrev pub SeenBefore : ℕ → ℕ → Kept → Kept → List WorkLanes → Type 0

@@ -4,7 +4,7 @@ pub use Rattle.std.proofs.Math.ListN.{drop_of_length-le, set}
 pub use Rattle.std.proofs.lemmas.Bool.{and_parts, cases_eq, cases_lt, eq-eqb, eqb-true, false≢true, lt-ltb, or_cases, or_left, or_right}
 pub use Rattle.std.proofs.lemmas.Grind.{common_steps, flat_map-append}
 pub use Rattle.std.proofs.lemmas.List.Sums.{count_by-le-length, length-filter, sum_by-append, sum_by-cons, sum_by_push}
-pub use Rattle.std.proofs.lemmas.List.{append_cancel_left, drop_more, get_or-map, get_or-set_other, get_or-set_same, get_or_append_left, get_or_default, length-append, length-map, length-set, length-take-le, length_push, map-append, nil_from_length, replicate_more, reverse-append, take_all, take_more}
+pub use Rattle.std.proofs.lemmas.List.{append_cancel_left, drop_more, get_or-map, get_or-set_other, get_or-set_same, get_or_default, length-append, length-map, length-set, length-take-le, length_push, map-append, nil_from_length, replicate_more, reverse-append, take_all, take_more}
 pub use Rattle.std.proofs.lemmas.Result.{IfOk-from_err, IfOk-weaker}
 pub use Rattle.std.specs.List.{AllByRecursion, filter, list_any}
 pub use Rattle.std.specs.Option.{option_and_then, option_map}
@@ -13,7 +13,7 @@ pub use Rattle.uring_core.proofs.Following.{history_of_append, history_of_cons, 
 pub use Rattle.uring_core.proofs.SoundRequests.{IsSoundRequests, outstanding_tells}
 pub use Rattle.uring_core.specs.CalledFor.{IsLawful, files_of}
 pub use Rattle.uring_core.specs.Histories.{Event, History, IsLawfulApart, history_of, world}
-pub use Rattle.uring_core.specs.StepAnswers.{CalledForApart, FinishesApart, IsEnded, close_answer, is_spent, issue_answer, place_answer}
+pub use Rattle.uring_core.specs.StepAnswers.{CalledForApart, FinishesApart, IsEnded, close_answer, is_spent, place_answer}
 pub use Rattle.uring_core.specs.World.{World, beginning, closing, happens, requests_of, with_end_of}
 pub use Rattle.uring_core.specs.declared.answer.Answer.{Answer}
 pub use Rattle.uring_core.specs.declared.step.Step.{Step}
@@ -21,24 +21,24 @@ pub use Rattle.uring_entry.proofs.RequestLemmas.{is_running_ended_other, is_runn
 pub use Rattle.uring_entry.specs.Completions.{Completions, unreaped, with_flushed, with_head_stored, with_tail_loaded}
 pub use Rattle.uring_entry.specs.Layout.{Cqe, Sqe, zero_entry}
 pub use Rattle.uring_entry.specs.Preparation.{operation_of}
-pub use Rattle.uring_entry.specs.Requests.{Requests, entry_of, is_outstanding, is_running, operation_running, with_call, with_ended}
+pub use Rattle.uring_entry.specs.Requests.{Requests, entry_of, is_running, operation_running}
 pub use Rattle.uring_entry.specs.Setup.{IsWithinLimits, Setup}
-pub use Rattle.uring_entry.specs.Submission.{IsItem, Place, Published, Submission, bad_word, dropped, taken, with_entry, with_published}
+pub use Rattle.uring_entry.specs.Submission.{IsItem, Place, Published, Submission, dropped, taken, with_published}
 pub use Rattle.uring_entry.specs.declared.operation.Op.{Op}
-pub use Rattle.uring_files.specs.Done.{AreDone, Done, files_left}
-pub use Rattle.uring_files.specs.Operations.{byte_of, file_of, state_of}
+pub use Rattle.uring_files.specs.Done.{Done}
+pub use Rattle.uring_files.specs.Operations.{byte_of, state_of}
 pub use Rattle.uring_laws.proofs.Standing.{call_closes, call_opens, items_fresh, items_keep, items_published, position_taken, tail_publishes, words_of}
 pub use Rattle.uring_laws.specs.Direct.{with_told}
-pub use Rattle.uring_laws.specs.Finishes.{done_at, done_by, done_in, first_files}
+pub use Rattle.uring_laws.specs.Finishes.{done_at, done_by, done_in}
 pub use Rattle.uring_laws.specs.Standing.{Stands, after_call, ends_after, in_call, with_item, with_items}
 pub use Rattle.uring_ports.specs.AppEnd.{AppEnd}
 pub use Rattle.uring_ports.specs.Items.{AreItems, all_published_as, published_as}
 pub use Rattle.uring_ports.specs.Ports.{LeavesCompletions, LeavesItems, Pulls, Put, Sizes, items_of_calls, nothing_put, sizes_of, with_close}
 pub use Rattle.uring_ports.specs.declared.item.Item.{Item}
-pub use Rattle.uring_rules.specs.Rules.{is_issuable, next_of, posts, with_issued_end}
+pub use Rattle.uring_rules.specs.Rules.{is_issuable, posts, with_issued_end}
 pub use Rattle.uring_threads.specs.Calls.{AreBegun, calls_left, calls_of, ends_after_item, ends_of}
 unfoldable pub use Rattle.uring_threads.specs.Calls.{after_calls, calls_after, calls_row, refused_row}
-pub use Rattle.uring_threads.specs.Collected.{CanBeTaken, Collects, CollectsNext, CollectsSeen, NextStays, NoneComes, OthersStay, TakesAll, TakesSeen, Wait}
+pub use Rattle.uring_threads.specs.Collected.{CanBeTaken, Collects, CollectsNext, CollectsSeen, NextStays, NoneComes, TakesAll, TakesSeen, Wait}
 pub use Rattle.uring_threads.specs.Dealt.{DealtByFile, FilesByWorker, IsDealtByFile, WorkersJoin, done_by_worker, job_by, job_in, jobs_at, jobs_in, jobs_to}
 pub use Rattle.uring_threads.specs.Delivered.{KeepsAllBut, OnlyPosts, on_completions, with_reaped_all}
 pub use Rattle.uring_threads.specs.Dispatched.{AreTakenIn, HasCarried, HaveCarried}

@@ -1,6 +1,6 @@
 -- How the Issue of the next request is answered, and the loop of issues: lanes are looked at, and then a request is issued.
-use Rattle.std.proofs.Common.{◌≡◌, ℕ, true, List, Option, Some, None, length, ℤ, refl, sym, subst, ap, ◌∙◌, ◌+◌, ◌<◌, ◌≤◌, get_or, arith}
-use Rattle.uring_threads.proofs.Common.{Answer, AreSameLanes, CalledForApart, Grows, HasCarried, HaveCarried, IsLookedAt, IsUnmoved, Kept, Op, Repeats, WorkLanes, World, count_by-le-length, entry_of, is_issuable, is_running, is_running_started_same, issues_counted, issues_request, length-append, next_in, none_counted, now, operation_of, operation_running, outstanding_tells, requests_of, results_received}
+use Rattle.std.proofs.Common.{◌≡◌, ℕ, true, List, Option, Some, None, length, ℤ, refl, sym, ap, ◌∙◌, ◌+◌, ◌<◌, ◌≤◌, get_or, arith}
+use Rattle.uring_threads.proofs.Common.{Answer, AreSameLanes, CalledForApart, Grows, HaveCarried, IsLookedAt, IsUnmoved, Kept, Op, Repeats, WorkLanes, World, count_by-le-length, entry_of, is_issuable, is_running, is_running_started_same, issues_counted, issues_request, length-append, next_in, none_counted, now, operation_of, operation_running, outstanding_tells, requests_of}
 use Rattle.std.proofs.lemmas.Option.{cond_some}
 use Rattle.uring_entry.proofs.BelowLemmas.{least_below_tells}
 use Rattle.uring_core.proofs.Issuable.{issue_goes, issued_ends, issuable_outstanding}
@@ -28,9 +28,7 @@ pub started_runs : (a b : Kept) (n : ℕ) → next_in a ≡ Some n
 started_runs a b n next grows none =
     let issuable : is_issuable a.setup.linux (requests_of (now a)) n ≡ true = grind (arith, least_below_tells) in
     let waits = issuable_outstanding a.setup.linux (requests_of (now a)) n issuable in
-    let runs = is_running_started_same (now a).requests n (outstanding_tells (now a).requests n waits).1 in
-    let nothing = rw (grown a b (step.Issue n) answer.Run grows, runs) at none in
-    absurd cc
+    grind (arith, none, (grown a b (step.Issue n) answer.Run grows), (outstanding_tells (now a).requests n waits), is_running_started_same)
 
 -- and it is the operation of its entry
 pub started_op : (a b : Kept) (n : ℕ) (op : Op) → Grows a b (step.Issue n, answer.Run)
@@ -56,9 +54,8 @@ looked_on k r first old new u many looked carried same = (
   λ j d low.
       let before : j < length old = omega (arith, low, many) in
       let had = carried_stays k r old (quiet_stays k r none_counted (appends_none k r u) refl refl) carried j d before in
-      subst (λ n. HasCarried r n j (get_or new j d)) (sym many) (record { jobs = (looked j d before).jobs ∙ had.jobs; results = ap (λ rs. results_received (record (get_or old j d) { results = rs })) (looked j d before).results ∙ had.results }),
-  lanes_then first old new same
-      (record { many = many; jobs = λ j d low. (looked j d low).ring; results = λ j d low. looked_results _ _ (looked j d low) }),
+      grind (arith, had, (looked j d before), many),
+  grind (arith, (lanes_then first old new same), (λ (j : ℕ) (d : WorkLanes) (low : j < length old). looked_results _ _ (looked j d low))),
 )
 
 -- one request more was issued

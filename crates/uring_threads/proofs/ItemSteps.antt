@@ -1,8 +1,7 @@
 -- What a list of items makes of a ring that stands between calls: it stands after each of them, and after they are published.
 use Rattle.std.proofs.Common.{◌≡◌, ℕ, ◌+◌, ◌<◌, ◌≤◌, List, [], ◌∷◌, ◌++◌, length, take, get_or, refl, ap, ◌∙◌, arith, zero-add}
-use Rattle.uring_threads.proofs.Common.{Answer, Grows, Item, Kept, Published, Stands, Submission, World, all_published_as, bad_word, length-map, length-take-le, length_push, map-append, now, published_as, tail_publishes, take_more, with_entry, with_item, with_item_put, with_items, with_items_published, with_items_put}
+use Rattle.uring_threads.proofs.Common.{Answer, Grows, Item, Kept, Published, Stands, Submission, World, all_published_as, length-map, length-take-le, length_push, map-append, now, published_as, tail_publishes, take_more, with_item, with_item_put, with_items, with_items_published, with_items_put}
 use Rattle.uring_core.specs.declared.step.Step.TheVariants as step
-use Rattle.uring_ports.specs.declared.item.Item.TheVariants as item
 use Rattle.uring_threads.proofs.TraceSteps.{grown}
 
 -- the ring stands after items are put, with a word staged for each, and has the same calls
@@ -11,12 +10,10 @@ pub items_stand : (l : Submission) (words : List ℕ) (slot : ℕ) (items : List
     × (length (with_items l slot (all_published_as items)).fresh ≡ length words + length items)
     × ((with_items l slot (all_published_as items)).calls ≡ l.calls)
 items_stand l words slot [] s = (record { fresh = refl; call = s.call; head = s.head; waiting = s.waiting }, omega (arith, ap length s.fresh), refl)
-items_stand l words slot (item.Entry entry ∷ later) s =
-    let next = items_stand (with_item l slot (with_entry entry)) (words ++ slot ∷ []) (slot + 1) later (record { fresh = ap (λ ws. ws ++ slot ∷ []) s.fresh; call = s.call; head = s.head; waiting = s.waiting }) in
-    (next.0, omega (arith, next.1, length_push words slot), next.2)
-items_stand l words slot (item.Bad word ∷ later) s =
-    let next = items_stand (with_item l slot (bad_word word)) (words ++ word ∷ []) (slot + 1) later (record { fresh = ap (λ ws. ws ++ word ∷ []) s.fresh; call = s.call; head = s.head; waiting = s.waiting }) in
-    (next.0, omega (arith, next.1, length_push words word), next.2)
+items_stand l words slot (first ∷ later) s =
+    let put : Submission = with_item l slot (published_as first) in
+    let next = items_stand put put.fresh (slot + 1) later (grind arith) in
+    (next.0, grind (arith, next.1, length_push), grind (arith, next.2))
 
 -- the last item is put last
 with_items_snoc : (l : Submission) (slot : ℕ) (items : List Published) (item : Published)

@@ -1,8 +1,8 @@
 -- What ends of requests and a delivery leave of the rings: ends leave them as they were, but for what is posted.
-use Rattle.std.proofs.Common.{◌≡◌, ℕ, ◌+◌, ◌-◌, ◌≤◌, List, length, refl, sym, subst, arith, min}
-use Rattle.uring_threads.proofs.Common.{Answer, Appends, Cqe, DeliversMost, Grows, IsDelivered, IsUnmoved, KeepsAllBut, Kept, OnlyPosts, Setup, World, happens, none_counted, now, on_completions, reaps_counted, with_flushed, with_head_stored, with_reaped_all, with_tail_loaded}
+use Rattle.std.proofs.Common.{◌≡◌, ℕ, ◌+◌, ◌-◌, ◌≤◌, List, length, refl, sym, subst, arith, min, append_assoc}
+use Rattle.uring_threads.proofs.Common.{Answer, Appends, Cqe, DeliversMost, sum_by-append, Grows, IsDelivered, IsUnmoved, KeepsAllBut, Kept, OnlyPosts, Setup, World, happens, now, on_completions, reaps_counted, with_flushed, with_head_stored, with_reaped_all, with_tail_loaded}
 use Rattle.uring_core.specs.declared.step.Step.TheVariants as step
-use Rattle.uring_threads.proofs.TraceSteps.{grown, unmoved_now, appends_one, appends_then, appends_after, both_none, none_both}
+use Rattle.uring_threads.proofs.TraceSteps.{grown, unmoved_now}
 
 -- the Issue or the end of a request posts a completion, or none
 pub posts_only : (g : Setup) (w : World) (n : ℕ) (x : Answer)
@@ -26,9 +26,7 @@ module _ (a room flushed loaded reaped b : Kept) (x y z : Answer) (all : List Cq
 
   pub row_counts : (n : ℕ) → Appends loaded reaped (reaps_counted n) → Appends a b (reaps_counted n)
   row_counts n p =
-      appends_after a room b _ u (appends_then room flushed b _ _ _ (appends_one room flushed _ none_counted flush refl refl)
-      (appends_then flushed loaded b _ _ _ (appends_one flushed loaded _ none_counted load refl refl)
-      (appends_then loaded reaped b _ _ _ p (appends_one reaped b _ none_counted store refl refl) (both_none (reaps_counted n))) (none_both (reaps_counted n))) (none_both (reaps_counted n)))
+      grind (arith, append_assoc, sum_by-append)
 
   -- the least was delivered of what waited, of what there was space for, and of what the ring holds
   pub row_most : (posted reaped space free size n : ℕ) → reaped ≤ posted

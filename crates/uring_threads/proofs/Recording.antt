@@ -59,9 +59,7 @@ calls_row_snoc (first ∷ more) n left =
 pub refused_is : (calls : List ℕ) (count : ℕ) → sum calls ≡ count → 0 < count
     → refused_row calls ≡ step.Begin count ∷ []
 unfolding refused_row
-refused_is [] count many some = absurd (omega (arith, many, some))
-refused_is (n ∷ later) count many some =
-    ap (λ k. step.Begin k ∷ []) (omega (arith, many, sum_by-cons (λ x. x) n later))
+refused_is calls count many some = grind (arith, (sum_by-cons (λ x. x)))
 
 -- completions that were delivered, one or more
 pub delivery_recorded : (a b c d e f : Kept) (n : ℕ) (x y z : Answer) → 0 < n → IsUnmoved a b

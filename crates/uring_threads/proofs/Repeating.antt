@@ -1,6 +1,6 @@
 -- One kind of step, so many times: results that are taken in, and requests that are issued.
 use Rattle.std.proofs.Common.{◌≡◌, ℕ, ◌+◌, Bool, true, List, [], ◌∷◌, ◌++◌, map, length, count_by, refl, sym, subst, ap, ◌∙◌, arith, append-nil, drop, false, cond}
-use Rattle.uring_threads.proofs.Common.{Answer, Event, Grows, IsUnmoved, Kept, OnlyPosts, Repeats, Step, Tally, append_cancel_left, both, happens, is_refused, length-map, map-append, nil_from_length, none_counted, now, step_of, steps_of, sum_by-cons, tally_of}
+use Rattle.uring_threads.proofs.Common.{Answer, Event, Grows, IsUnmoved, Kept, OnlyPosts, Records, Repeats, Step, Tally, append_cancel_left, both, happens, is_refused, length-map, map-append, nil_from_length, none_counted, now, step_of, steps_of, sum_by-cons, tally_of}
 use Rattle.uring_threads.proofs.Posting.{posts_then}
 use Rattle.uring_threads.proofs.Recording.{records_none, records_then, records_one}
 use Rattle.uring_threads.proofs.TraceSteps.{appends_none, appends_then, both_none, appends_one, grown}
@@ -19,13 +19,9 @@ repeats_one {a} {b} kind n x t g counted served posts =
 -- and then some more
 pub repeats_then : {a b c : Kept} {kind : ℕ → Step} {t u : Tally} → Repeats a b kind t
     → Repeats b c kind u → Repeats a c kind (both t u)
-repeats_then {a} {b} {c} {kind} p q =
-    record {
-      numbers = p.numbers ++ q.numbers;
-      row = records_then a b c (map kind p.numbers) (map kind q.numbers) p.row q.row ∙ ap (λ zs. steps_of a ++ zs) (sym (map-append kind p.numbers q.numbers));
-      tally = appends_then a b c _ _ _ p.tally q.tally refl;
-      posts = posts_then (now a) (now b) (now c) p.posts q.posts;
-    }
+repeats_then {a} {b} {c} {kind} {t} {u} p q =
+    let row : Records a c (map kind (p.numbers ++ q.numbers)) = records_then a b c (map kind p.numbers) (map kind q.numbers) p.row q.row ∙ ap (λ zs. steps_of a ++ zs) (sym (map-append kind p.numbers q.numbers)) in
+    grind (arith, row, (appends_then a b c _ _ (both t u) p.tally q.tally refl), (posts_then (now a) (now b) (now c) p.posts q.posts))
 
 -- and then nothing happened
 pub repeats_still : {a k r : Kept} {kind : ℕ → Step} {t : Tally} → Repeats a k kind t → IsUnmoved k r
@@ -52,7 +48,5 @@ pub kind_steps : (kind : ℕ → Step) (p : Event → Bool) (events : List Event
     → length numbers ≡ count_by p events
 kind_steps kind p [] [] passes e served = refl
 kind_steps kind p ((s, a) ∷ es) (n ∷ ns) passes e served =
-    let first : s ≡ kind n = cc in
-    let here : is_refused (s, a) ≡ false → p (s, a) ≡ true = subst (λ t. is_refused (t, a) ≡ false → p (t, a) ≡ true) (sym first) (passes n a) in
-    grind (arith, here, served, (kind_steps kind p es ns passes (ap (drop 1) e)), (sum_by-cons (λ x. cond (p x) 1 0) (s, a) es), (sum_by-cons (λ x. cond (is_refused x) 1 0) (s, a) es))
+    grind (arith, (passes n a), e, served, (kind_steps kind p es ns passes (ap (drop 1) e)), (sum_by-cons (λ x. cond (p x) 1 0) (s, a) es), (sum_by-cons (λ x. cond (is_refused x) 1 0) (s, a) es))
 kind_steps kind p _ _ passes e served = absurd cc

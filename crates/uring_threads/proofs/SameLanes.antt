@@ -1,5 +1,5 @@
 -- Lanes that stay the same, as they are looked at and as jobs and results go through them.
-use Rattle.std.proofs.Common.{◌≡◌, ◌≢◌, ℕ, ◌<◌, List, length, get_or, arith, refl}
+use Rattle.std.proofs.Common.{◌≡◌, ◌≢◌, ℕ, ◌<◌, List, length, get_or, arith}
 use Rattle.uring_threads.proofs.Common.{AreSameLanes, IsSent, Job, OnlyReceives, WorkLanes, get_or-set_other, get_or-set_same, get_or_default, length-set, set}
 
 -- what holds of one element that is set, and of each other as it was
@@ -19,10 +19,7 @@ lanes_then a b c p q = grind arith
 pub lanes_set : (lanes : List WorkLanes) (place : ℕ) (y d : WorkLanes) → place < length lanes
     → OnlyReceives (get_or lanes place d) y → AreSameLanes lanes (set lanes place y)
 lanes_set lanes place y d low receives =
-    let all : (k : ℕ) (e : WorkLanes) → OnlyReceives (get_or lanes k e) (get_or (set lanes place y) k e) =
-    λ k e. set_cases (λ j l. OnlyReceives (get_or lanes j e) l) lanes place y k e low
-    (rw (get_or_default lanes place e d low) receives) (λ other. record { jobs = refl; ring = ((refl, refl, refl, refl), refl) }) in
-    grind (arith, length-set, all)
+    grind (arith, length-set, get_or_default, get_or-set_same, get_or-set_other)
 
 -- lanes of which one was sent a job
 pub lanes_sent : (old new : List WorkLanes) (place : ℕ) (j : Job) → length new ≡ length old

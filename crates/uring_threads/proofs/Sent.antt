@@ -2,8 +2,7 @@
 -- And of what is left at a place: of the jobs sent to it, those after the operations that were carried out are of the requests that run.
 -- By `Moves` and induction over the history, and by counting how often a number stands among what was sent and carried out.
 use Rattle.std.proofs.Common.{◌≡◌, ℕ, ◌<◌, ◌==◌, ℤ, List, [], ◌∷◌, ◌++◌, length, Bool, true, false, cond, refl, ◌∙◌, ap, arith, ◌≢◌, ◌+◌, append-nil, count_by}
-use Rattle.uring_threads.proofs.Common.{All-push, All-weaker, AllByRecursion, Answer, CalledForApart, Done, History, IsLawfulApart, IsSoundRequests, Job, Op, Requests, Setup, Sqe, Step, World, and_parts, done_at, done_by, done_in, eq-eqb, eqb-true, filter, is_running, is_running_ended_other, is_running_ended_same, is_running_started_other, is_running_started_same, job_by, job_in, job_of, jobs_at, jobs_in, jobs_of, length-append, list_any, operation_of, outstanding_tells, requests_of, slice_index_or, sum_by-append, sum_by-cons, sum_by_push, with_ended, with_issued_end, with_told, world, zero_entry}
-use Rattle.uring_entry.specs.Requests.{with_started}
+use Rattle.uring_threads.proofs.Common.{All-push, All-weaker, AllByRecursion, Answer, CalledForApart, Done, History, IsLawfulApart, IsSoundRequests, Job, Op, Requests, Setup, Sqe, Step, World, and_parts, done_at, done_by, done_in, eq-eqb, eqb-true, filter, is_running, is_running_ended_other, is_running_ended_same, is_running_started_other, is_running_started_same, job_by, job_in, job_of, jobs_at, jobs_in, jobs_of, length-append, list_any, operation_of, outstanding_tells, requests_of, slice_index_or, sum_by-append, sum_by-cons, sum_by_push, with_issued_end, with_told, world, zero_entry}
 use Rattle.uring_core.proofs.Moves.{Move, stays, accepts, starts, ends_run, move_of}
 use Rattle.uring_core.proofs.Running.{entry_stays}
 use Rattle.uring_core.proofs.Sound.{sound_of}
@@ -29,10 +28,9 @@ pub record Accounts (r : Requests) (jobs : List Job) (done : List Done) : Type 0
 -- an end of what doesn't run changes nothing of it
 issued_accounts : (linux : Bool) (r : Requests) (m : ℕ) (res : ℤ) (jobs : List Job) (done : List Done)
     → is_running r m ≡ false → Accounts r jobs done → Accounts (with_issued_end linux r m res) jobs done
-issued_accounts true r m res jobs done idle a =
-    record { sent = a.sent; carried = a.carried; counts = λ n. grind (arith, (a.counts n), is_running_ended_same, is_running_ended_other) }
-issued_accounts false r m res jobs done idle a =
-    record { sent = a.sent; carried = a.carried; counts = λ n. grind (arith, (a.counts n), is_running_ended_same, is_running_ended_other) }
+issued_accounts linux r m res jobs done idle a =
+    let same : (with_issued_end linux r m res).accepted ≡ r.accepted = grind arith in
+    record { sent = rw same a.sent; carried = rw same a.carried; counts = λ n. grind (arith, (a.counts n), is_running_ended_same, is_running_ended_other) }
 
 accounts_then : (g : Setup) (w : World) (q : Requests) (s : Step) (a : Answer) (jobs : List Job) (done : List Done)
     → Move g.linux (requests_of w) s a q → CalledForApart g w s a → IsSoundRequests w.requests
@@ -48,22 +46,16 @@ accounts_then g w q s a jobs done (accepts accepted missed head entries) called 
       counts = all.counts;
     }
 accounts_then g w q s a jobs done (starts m outstanding idle spared ready no_cancel) called i all =
-    let r : Requests = w.requests in
-    let more : (n : ℕ) → cond (is_running (with_started r m) n) 1 0 ≡ cond (is_running r n) 1 0 + cond (m == n) 1 0 =
-    λ n. grind (arith, outstanding_tells, is_running_started_same, is_running_started_other, eqb-true) in
     record {
       sent = All-push (IsOf w.requests.accepted) jobs _ all.sent ((outstanding_tells w.requests m outstanding).0, refl);
       carried = all.carried;
-      counts = λ n. omega (arith, all.counts n, more n, sum_by_push (λ (j : Job). cond (j.number == n) 1 0) jobs (job_in w.requests m));
+      counts = λ n. grind (arith, (all.counts n), outstanding_tells, is_running_started_same, is_running_started_other, eqb-true, (sum_by_push (λ (j : Job). cond (j.number == n) 1 0) jobs (job_in w.requests m)));
     }
 accounts_then g w q s a jobs done (ends_run m res bytes running) called i all =
-    let r : Requests = w.requests in
-    let less : (n : ℕ) → cond (is_running r n) 1 0 ≡ cond (is_running (with_ended r m res bytes) n) 1 0 + cond (m == n) 1 0 =
-    λ n. grind (arith, is_running_ended_same, is_running_ended_other, eqb-true) in
     record {
       sent = all.sent;
       carried = All-push (λ d. IsOf w.requests.accepted (job_of d)) done _ all.carried (i.started_accepted m (and_parts _ _ running).0, refl);
-      counts = λ n. omega (arith, all.counts n, less n, sum_by_push (λ (d : Done). cond (d.number == n) 1 0) done (record { number = m; op = op_at w.requests.accepted m; outcome = record { res = res; bytes = bytes } }));
+      counts = λ n. grind (arith, (all.counts n), running, is_running_ended_same, is_running_ended_other, eqb-true, (sum_by_push (λ (d : Done). cond (d.number == n) 1 0) done (record { number = m; op = op_at w.requests.accepted m; outcome = record { res = res; bytes = bytes } })));
     }
 accounts_then g w q s a jobs done _ called i all =
     issued_accounts g.linux w.requests _ _ jobs done (grind (arith, called)) all
@@ -88,11 +80,6 @@ at_place job place k n accepted (x ∷ xs) all =
 
 -- What is left.
 
-left_count : (own runs : Bool) (jobs done sent carried later : ℕ) → sent ≡ cond own jobs 0
-    → carried ≡ cond own done 0 → jobs ≡ done + cond runs 1 0 → sent ≡ carried + later
-    → later ≡ cond own (cond runs 1 0) 0
-left_count own runs jobs done sent carried later s c counts all = grind arith
-
 module _ (g : Setup) (h : History) (lawful : IsLawfulApart g h) (place : Op → ℕ) (k : ℕ) (later : List Job) (all : jobs_at place k (jobs_in g h) ≡ jobs_of (done_at place k (done_in g h)) ++ later) where
   -- a job for each request of the place that runs
   left_times : (n : ℕ) → count_by (λ j. j.number == n) later ≡ cond (place (op_at (world g h).requests.accepted n) == k) (cond (is_running (world g h).requests n) 1 0) 0
@@ -101,8 +88,8 @@ module _ (g : Setup) (h : History) (lawful : IsLawfulApart g h) (place : Op → 
       let sent = at_place (λ j. j) place k n (world g h).requests.accepted (jobs_in g h) a.sent in
       let carried = at_place job_of place k n (world g h).requests.accepted (done_in g h) a.carried in
       let ds : List Done = done_at place k (done_in g h) in
-      left_count _ _ _ _ _ _ _ sent carried (a.counts n)
-      (ap (count_by (λ j. j.number == n)) all ∙ omega (arith, sum_by-append (λ (j : Job). cond (j.number == n) 1 0) (jobs_of ds) later, fold-map (λ (m : ℕ) (j : Job). m + cond (j.number == n) 1 0) job_of 0 ds))
+      let whole : count_by (λ j. j.number == n) (jobs_at place k (jobs_in g h)) ≡ count_by (λ d. d.number == n) ds + count_by (λ j. j.number == n) later = ap (count_by (λ j. j.number == n)) all ∙ omega (arith, sum_by-append (λ (j : Job). cond (j.number == n) 1 0) (jobs_of ds) later, fold-map (λ (m : ℕ) (j : Job). m + cond (j.number == n) 1 0) job_of 0 ds) in
+      grind (arith, sent, carried, (a.counts n), whole)
 
   -- what is left is the place's own, and runs
   pub left_runs : (n : ℕ) → list_any (λ j. j.number == n) later ≡ true

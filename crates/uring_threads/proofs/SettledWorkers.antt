@@ -27,24 +27,14 @@ pub drains_none : (first : Kept) (seen before : List JobResult) → Wait first s
 drains_none first seen before left = grind (arith, append-nil)
 
 -- the next one
-abbrev pub OneMore : Kept → Kept → List JobResult → List JobResult → List JobResult → List JobResult
-    → Type 0
-OneMore a b known later received now =
-    (r : JobResult) × (known ≡ r ∷ later) × (now ≡ received ++ r ∷ []) × Grows a b (finish_of r)
-
 pub drains_one : (first a b : Kept) (seen known later before received now : List JobResult) (count : ℕ)
-    → Drains first a seen known before received count → OneMore a b known later received now
+    → Drains first a seen known before received count
+    → (r : JobResult) × (known ≡ r ∷ later) × (now ≡ received ++ r ∷ []) × Grows a b (finish_of r)
     → Wait b later
     → Drains first b seen later before now (count + 1)
 drains_one first a b seen known later before received now count d (r, next, came, grows) left =
-    record {
-      taken = d.taken ++ r ∷ [];
-      all = d.all ∙ ap (λ rs. d.taken ++ rs) next ∙ sym (append_assoc d.taken (r ∷ []) later);
-      came = came ∙ ap (λ rs. rs ++ r ∷ []) d.came ∙ append_assoc before d.taken (r ∷ []);
-      recorded = takes_then first a b d.taken (r ∷ []) d.recorded (record { trace = grows.trace; setup = grows.setup; room = omega (arith, grows.room) });
-      counted = omega (arith, d.counted, length-append d.taken (r ∷ []));
-      left = left;
-    }
+    let recorded = takes_then first a b d.taken (r ∷ []) d.recorded (record { trace = grows.trace; setup = grows.setup; room = omega (arith, grows.room) }) in
+    grind (arith, recorded, append_assoc, length-append)
 
 -- there is room for one more, and there is one, while there are some
 pub room_left : (first a : Kept) (seen known before received : List JobResult) (count : ℕ)

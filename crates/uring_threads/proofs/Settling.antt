@@ -1,7 +1,7 @@
 -- The laws of settling: a result that waits can be taken in, and once none waits the history is settled.
 -- From what is left at a place, worker by worker.
-use Rattle.std.proofs.Common.{◌≡◌, ◌≢◌, ℕ, zero, suc, ◌+◌, ◌<◌, ◌≤◌, ◌==◌, List, [], ◌∷◌, ◌++◌, map, drop, true, refl, sym, subst, ◌∙◌, ap, arith, inl, inr, append_assoc, append-nil}
-use Rattle.uring_threads.proofs.Common.{AllByRecursion, Done, FinishesApart, History, IsDealtByFile, IsLawfulApart, IsWork, Job, JobResult, NoneWaits, Op, ResultsRun, Settles, Setup, Sqe, Work, all_kept_by, cases_eq, done_by_worker, done_in, entry_of, eq-eqb, finish_of, history_of_append, history_of_cons, job_of, jobs_in, jobs_of, jobs_to, length, length-map, list_any, map-append, nil_from_length, operation_of, or_left, place_of, place_of_file, result_of, results_of, waiting_of, with_taken_in, world}
+use Rattle.std.proofs.Common.{◌≡◌, ◌≢◌, ℕ, zero, suc, ◌+◌, ◌<◌, ◌≤◌, ◌==◌, List, [], ◌∷◌, ◌++◌, map, drop, true, refl, sym, subst, ◌∙◌, ap, arith, append_assoc, append-nil}
+use Rattle.uring_threads.proofs.Common.{AllByRecursion, Done, FinishesApart, History, IsDealtByFile, IsLawfulApart, IsWork, Job, JobResult, NoneWaits, Op, ResultsRun, Settles, Setup, Sqe, Work, all_kept_by, cases_eq, done_by_worker, done_in, entry_of, eq-eqb, finish_of, history_of_append, history_of_cons, job_of, jobs_in, jobs_of, jobs_to, length-map, list_any, map-append, nil_from_length, operation_of, or_left, place_of, place_of_file, result_of, results_of, waiting_of, with_taken_in, world}
 use Rattle.uring_core.specs.declared.answer.Answer.TheVariants as answer
 use Rattle.uring_threads.proofs.Dealing.{dealt_by_file, workers_join, files_by_worker}
 use Rattle.uring_threads.proofs.Sent.{IsOf, accounts, left_runs, runs_left, one_more_at, none_more_at}
@@ -67,8 +67,7 @@ none_waits g workers h works some lawful are done none =
     let dealt : IsDealtByFile workers g.files = dealt_by_file workers g.files some in
     let came : (k : ℕ) → k < workers → (done_by_worker g workers k h ≡ (works k).done) × (jobs_to g workers k h ≡ jobs_of (done_by_worker g workers k h) ++ (works k).untaken) = λ k lt.
     let more = work_begins g workers h k lawful (works k) (are k lt) in
-    let no_more : more.0 ≡ [] = nil_from_length more.0 (sym (length-map more.0 result_of) ∙ ap length (more.2 ∙ none k lt)) in
-    grind (arith, more.1, no_more, append-nil, (are k lt).jobs)
+    grind (arith, more, (nil_from_length more.0), (length-map more.0 result_of), (none k lt), append-nil, (are k lt).jobs)
     in
     record {
       lawful = workers_join g workers h some lawful (λ k lt. rw (came k lt).0 (done k lt));
@@ -120,10 +119,7 @@ drain_first g workers h works lawful are (suc count) le =
     rw (map-append finish_of (waiting_of works count) work.waiting, history_of_append (map finish_of (waiting_of works count)) (map finish_of work.waiting) h)
     (record {
       lawful = one.lawful;
-      before = λ k lt. elim (cases_eq k count) [
-        | inl same ↦ subst (λ j. IsWork g workers (with_taken_in work.waiting there) j (record (works j) { waiting = [] })) (sym same) one.own
-        | inr other ↦ grind (arith, (so_far.before k (omega arith)), one)
-      ];
+      before = λ k lt. grind (arith, (cases_eq k count), (so_far.before k), one);
       after = λ k from lt. grind (arith, (so_far.after k (omega arith) lt), one);
     })
 

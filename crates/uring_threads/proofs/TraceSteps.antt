@@ -1,5 +1,5 @@
 -- What a step makes of the trace's world, and how tallies add up.
-use Rattle.std.proofs.Common.{◌≡◌, ◌+◌, List, [], ◌∷◌, ◌++◌, length, count_by, refl, ap, ap₂, ◌∙◌, arith, append_assoc, append-nil, add-zero, zero-add}
+use Rattle.std.proofs.Common.{◌≡◌, ◌+◌, List, [], ◌∷◌, ◌++◌, length, count_by, refl, ap, ap₂, ◌∙◌, arith, append_assoc, append-nil, add-zero}
 use Rattle.uring_threads.proofs.Common.{Answer, Appends, Event, Grows, IsUnmoved, Kept, Setup, Step, Tally, both, happens, history, history_of, history_of_snoc, is_refused, length_push, none_counted, now, reverse-append, sum_by-append, tally_of, world}
 
 -- the world after one event more
@@ -19,12 +19,9 @@ pub longer_history : (a b : Kept) (events : List Event) → b.trace ≡ a.trace 
     → history b ≡ history_of events ++ history a
 longer_history a b events same = ap history_of same ∙ reverse-append a.trace events
 
--- where nothing happened there is only more memory, and the world stays
-pub unmoved_is : (a b : Kept) → IsUnmoved a b → b ≡ record a { room = b.room }
-unmoved_is a b u = λ i. record { trace = u.trace i; room = b.room; setup = u.setup i }
-
+-- where nothing happened the world stays
 pub unmoved_now : (a b : Kept) → IsUnmoved a b → now b ≡ now a
-unmoved_now a b u = ap now (unmoved_is a b u)
+unmoved_now a b u = grind arith
 
 -- nothing happened
 pub still : (a : Kept) → IsUnmoved a a
@@ -35,9 +32,6 @@ still a = record { trace = refl; room = omega arith; setup = refl }
 -- nothing counted beside it changes no tally
 pub both_none : (t : Tally) → both t none_counted ≡ t
 both_none t = simp add-zero
-
-pub none_both : (t : Tally) → both none_counted t ≡ t
-none_both t = simp zero-add
 
 -- one event
 pub appends_one : (a b : Kept) (e : Event) (t : Tally) → Grows a b e → tally_of (e ∷ []) ≡ t
@@ -56,4 +50,4 @@ appends_then a b c t u v p q sums = grind (arith, append_assoc, sum_by-append)
 
 -- after where nothing happened
 pub appends_after : (a b c : Kept) (t : Tally) → IsUnmoved a b → Appends b c t → Appends a c t
-appends_after a b c t u q = appends_then a b c none_counted t t (appends_none a b u) q (none_both t)
+appends_after a b c t u q = grind arith

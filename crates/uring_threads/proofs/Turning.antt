@@ -1,6 +1,6 @@
 -- The parts of a turn put together: what went through the dispatcher's hands stays tied to its trace, and what they appended adds up.
 use Rattle.std.proofs.Common.{add-zero, zero-add, ◌≡◌, ℕ, List, refl, ◌∙◌, arith, false, true, ap, append_assoc, count_by, ◌<◌}
-use Rattle.uring_threads.proofs.Common.{Appends, AreSameLanes, AreTies, ClosesOnce, Counts, Cqe, HasServed, HaveCarried, HoldJobs, IfOk, IfOk-from_err, IfOk-weaker, Intake, IsDelivered, IsErr, IsKernel, IsOk, IsUnmoved, KeepsAllBut, Kept, Kernel, None, OnErr, OnlyPosts, Put, Records, RecordsIntake, RecordsTurn, Repeats, Result, TakesFewResults, TakesIn, Tally, Tied, Turn, Turns, WorkLanes, delivery_row, false≢true, finishes_counted, issues_counted, issues_request, length, next_in, now, reaps_counted, starts_request, takes_result}
+use Rattle.uring_threads.proofs.Common.{Appends, AreSameLanes, AreTies, ClosesOnce, Counts, Cqe, HasServed, HaveCarried, HoldJobs, IfOk, IfOk-from_err, IfOk-weaker, Intake, IsDelivered, IsErr, IsKernel, IsOk, IsUnmoved, KeepsAllBut, Kept, Kernel, None, OnErr, Put, Records, RecordsIntake, RecordsTurn, Repeats, Result, TakesFewResults, TakesIn, Tally, Tied, Turn, Turns, WorkLanes, delivery_row, false≢true, finishes_counted, issues_counted, issues_request, length, next_in, now, reaps_counted, starts_request, takes_result}
 use Rattle.uring_core.specs.declared.step.Step.TheVariants as step
 use Rattle.uring_threads.proofs.Carrying.{quiet_stays, done_stays, some_full}
 use Rattle.uring_threads.proofs.Tying.{once_stays}
@@ -23,12 +23,6 @@ pub has_taken : (old : Kernel) (b : Kept) (pulled : Put) (reaped : List Cqe) (i 
     → (now b).completions ≡ (now old.kept).completions → reaped ≡ old.reaped
     → HasTaken old b pulled reaped i n
 has_taken old b pulled reaped i n t p row tied once same none = grind (arith, (quiet_stays old.kept b _ p.appends refl refl))
-
--- results were taken in, or requests issued
-ties_posted : {a b : Kept} {pulled : Put} {reaped : List Cqe} {i : Intake} {lanes later : List WorkLanes} (t : Tally)
-    → AreTies a pulled reaped i lanes → Appends a b t → t.closes ≡ 0 → OnlyPosts (now a) (now b)
-    → HaveCarried b later → AreTies b pulled reaped i later
-ties_posted {a} {b} {pulled} {reaped} {i} t s p closes posts carried = grind (arith, (once_stays a b t i p closes s.once))
 
 -- What was delivered, so many completions.
 pub record HasDelivered (a b : Kept) (n : ℕ) (reaped : List Cqe) : Type 0 where
@@ -59,17 +53,14 @@ module _ {E : Type 0} {answer : Result Turn E} {old : Kernel} {b c : Kept} {pull
     goes {e} {reaped} {k} r told =
         let finished : length p.numbers ≡ f = kind_steps step.Finish takes_result p.tally.events p.numbers (λ n a e. refl) (appended p) p.tally.served ∙ ap (λ (t : Tally). t.finishes) p.tally.tally in
         let issued : length q.numbers ≡ s = kind_steps step.Issue issues_request q.tally.events q.numbers (λ n a e. grind arith) (appended q) q.tally.served ∙ ap (λ (t : Tally). t.issues) q.tally.tally in
-        let posted = ties_posted (issues_counted s) (ties_posted (finishes_counted f) t.ties p.tally refl p.posts carried) q.tally refl q.posts later in
+        let once = once_stays c d _ i q.tally refl (once_stays b c _ i p.tally refl t.ties.once) in
+        let posted : AreTies d pulled before i ns = grind (arith, t.ties, p.posts, q.posts, p.tally.setup, q.tally.setup, later, once) in
         let last : Appends c e (record { items = 0; issues = s; finishes = 0; reaps = k; calls = 0; closes = 0 }) = appends_then c d e _ _ _ q.tally r.tally (simp (add-zero, zero-add)) in
         let rest : Appends b e (record { items = 0; issues = s; finishes = f; reaps = k; calls = 0; closes = 0 }) = appends_then b c e _ _ _ p.tally last (simp (add-zero, zero-add)) in
+        let appends : Appends old.kept e (record { items = n; issues = s; finishes = f; reaps = k; calls = t.taken.calls; closes = t.taken.closes }) = appends_then old.kept b e _ _ _ t.taken.appends rest (simp (add-zero, zero-add)) in
         record {
           ties = grind (arith, posted, (quiet_stays d e _ r.tally refl refl), (once_stays d e _ i r.tally refl posted.once));
-          counts = record {
-            calls = t.taken.calls;
-            closes = t.taken.closes;
-            appends = appends_then old.kept b e _ _ _ t.taken.appends rest (simp (add-zero, zero-add));
-            idle = λ none. r.idle (omega (arith, none)) ∙ repeats_idle q (issued ∙ omega (arith, none)) ∙ repeats_idle p (finished ∙ omega (arith, none)) ∙ t.taken.idle (omega (arith, none));
-          };
+          counts = grind (arith, appends, finished, issued, (repeats_idle p), (repeats_idle q), r.idle, t.taken.idle);
           rows = record {
             again = t.row.again;
             pulled = t.row.pulled;
@@ -88,9 +79,7 @@ module _ {E : Type 0} {answer : Result Turn E} {old : Kernel} {b c : Kept} {pull
     -- or up to an earlier end
     pub goes_issued : IfOk answer (λ made. made ≡ record { popped = n; issued = s; finished = f; delivered = 0 })
         → Goes old d pulled before i ns (record { popped = n; issued = s; finished = f; delivered = 0 }) answer
-    goes_issued =
-        let ties = ties_posted (issues_counted s) (ties_posted (finishes_counted f) t.ties p.tally refl p.posts carried) q.tally refl q.posts later in
-        goes (delivers_none (still d) (record { submission = refl; requests = refl; drains = refl; is_closed = refl; posted = refl }) ties.delivered)
+    goes_issued = goes (delivers_none (still d) (grind arith) (grind (arith, t.ties.delivered, p.posts, q.posts)))
 
   pub goes_collected : IfOk answer (λ made. made ≡ record { popped = n; issued = 0; finished = f; delivered = 0 })
       → Goes old c pulled before i ms (record { popped = n; issued = 0; finished = f; delivered = 0 }) answer

@@ -16,14 +16,9 @@ pub tied_begun : (a b : Kept) (put : Put) (count : ℕ) (x : Intake)
     → Tied a.setup (now a) put (intake.Waiting count) → HasBegun a b x
     → Tied a.setup (now b) put x
 tied_begun a b put count x t h =
-    record {
-      published = λ good. rw (h.have.world, kept_after a.setup (λ (v : World). v.submission.published) (λ v n. refl) (now a) h.made) (t.published good);
-      calls = grind (arith, calls_add_up, append_assoc);
-      stands = h.have.stands;
-      spent = grind arith;
-      closed = rw (h.have.world, kept_after a.setup (λ (v : World). v.is_closed) (λ v n. refl) (now a) h.made) t.closed;
-      shut = h.not_shut ∙ t.shut;
-    }
+    let published = kept_after a.setup (λ (v : World). v.submission.published) (λ v n. refl) (now a) h.made in
+    let closed = kept_after a.setup (λ (v : World). v.is_closed) (λ v n. refl) (now a) h.made in
+    grind (arith, calls_add_up, append_assoc)
 
 -- what holds of all of two lists holds of all of the first
 pub all_first : {X : Type 0} (P : X → Type 0) (xs ys : List X) → All P (xs ++ ys) → All P xs
@@ -64,12 +59,8 @@ takes_nothing a b u = grind (arith, appends_none)
 pub takes_then : (a b c : Kept) (n m k : ℕ) → TakesIn a b n → TakesIn b c m → n + m ≡ k
     → TakesIn a c k
 takes_then a b c n m k p q sums =
-    record {
-      calls = p.calls + q.calls;
-      closes = p.closes + q.closes;
-      appends = appends_then a b c _ _ _ p.appends q.appends (ap (λ i. record { items = i; issues = 0; finishes = 0; reaps = 0; calls = p.calls + q.calls; closes = p.closes + q.closes }) sums);
-      idle = λ none. q.idle (omega (arith, none, sums)) ∙ p.idle (omega (arith, none, sums));
-    }
+    let appends = appends_then a b c _ _ _ p.appends q.appends (ap (λ i. record { items = i; issues = 0; finishes = 0; reaps = 0; calls = p.calls + q.calls; closes = p.closes + q.closes }) sums) in
+    grind (arith, appends)
 
 -- A row of the intake where nothing happened before but that room was asked for.
 
