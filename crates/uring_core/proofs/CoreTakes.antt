@@ -61,7 +61,8 @@ pub take_entry_goes : (p : Core) (q stops : Sq) (entry : Sqe) (has_skipped : Boo
     → FitsApart (record p { sq = stops; held = p.held ++ entry ∷ []; has_skipped = has_skipped }) ((step.Take, answer.Entry entry) ∷ h)
 take_entry_goes p q stops entry has_skipped is answered shown stopped h f =
     let e = answered p.setup (world p.setup h).submission f.shows.submission in
-    grind (arith, (take_entry p (world p.setup h) stops entry has_skipped _ f.shows refl is e), (called p (world p.setup h) (Some entry) _ f.shows refl e))
+    grind (arith, (take_entry p (world p.setup h) stops entry has_skipped _ f.shows refl is e),
+        (called p (world p.setup h) (Some entry) _ f.shows refl e))
 
 -- the ring after a word was dropped, and then with its call stopped, if it stops there
 pub take_dropped_goes : (p : Core) (q stops : Sq)
