@@ -60,13 +60,9 @@ pub take_entry_goes : (p : Core) (q stops : Sq) (entry : Sqe) (has_skipped : Boo
     → (h : History) → FitsApart p h
     → FitsApart (record p { sq = stops; held = p.held ++ entry ∷ []; has_skipped = has_skipped }) ((step.Take, answer.Entry entry) ∷ h)
 take_entry_goes p q stops entry has_skipped is answered shown stopped h f =
-    let w = world p.setup h in
-    let e = answered p.setup w.submission f.shows.submission in
-    record {
-      shows = take_entry p w stops entry has_skipped w.submission.call f.shows refl is e
-          (stopped p.setup _ (shown p.setup w.submission f.shows.submission));
-      lawful = (called p w (Some entry) w.submission.call f.shows refl e, f.lawful);
-    }
+    let e = answered p.setup (world p.setup h).submission f.shows.submission in
+    grind (arith, (take_entry p (world p.setup h) stops entry has_skipped _ f.shows refl is e),
+        (called p (world p.setup h) (Some entry) _ f.shows refl e))
 
 -- the ring after a word was dropped, and then with its call stopped, if it stops there
 pub take_dropped_goes : (p : Core) (q stops : Sq)
@@ -76,12 +72,8 @@ pub take_dropped_goes : (p : Core) (q stops : Sq)
     → (h : History) → FitsApart p h
     → FitsApart (record p { sq = stops }) ((step.Take, answer.Dropped) ∷ h)
 take_dropped_goes p q stops answered shown stopped h f =
-    let w = world p.setup h in
-    let e = answered p.setup w.submission f.shows.submission in
-    record {
-      shows = take_dropped p w stops w.submission.call f.shows refl e (stopped p.setup _ (shown p.setup w.submission f.shows.submission));
-      lawful = (called p w None w.submission.call f.shows refl e, f.lawful);
-    }
+    let e = answered p.setup (world p.setup h).submission f.shows.submission in
+    grind (arith, (take_dropped p (world p.setup h) stops _ f.shows refl e), (called p (world p.setup h) None _ f.shows refl e))
 
 -- what a call took fits its positions
 pub few_entries : (places : List Place) (n : ℕ) → length (entries_of (take n places)) ≤ n

@@ -9,7 +9,7 @@ use Rattle.uring_files.specs.Contents.{FileContents, empty_files}
 use Rattle.uring_files.specs.Operations.{after}
 use Rattle.uring_files.proofs.OperationCases.{failed}
 use Rattle.uring_core.specs.CalledFor.{files_after, files_of}
-use Rattle.uring_core.proofs.Moves.{Move, stays, accepts, starts, ends_doomed, ends_cancel, ends_run, move_of}
+use Rattle.uring_core.proofs.Moves.{Move, accepts, ends_doomed, ends_cancel, move_of}
 use Rattle.uring_core.proofs.Running.{entry_stays}
 use Rattle.uring_core.proofs.Sound.{sound_of}
 use Rattle.uring_core.proofs.SoundRequests.{IsSoundRequests}
@@ -49,16 +49,14 @@ issued_end linux r n res files = grind (arith, files_same, files_more)
 move_keeps : (linux : Bool) (l : LinuxRequests) (q : Requests) (s : Step) (a : Answer) (files : List FileContents)
     → Move linux l s a q → IsNoFinish s → IsSoundRequests l.requests
     → files_after q files q.ended ≡ files_after l.requests files l.requests.ended
-move_keeps linux l q s a files (stays _ _ no_start no_end) other i = refl
 move_keeps linux l q s a files (accepts accepted missed head entries) other i = files_same l.requests (with_call l.requests entries) files l.requests.ended (λ n there. entry_stays l.requests entries n (i.ended_accepted n there))
-move_keeps linux l q s a files (starts n outstanding idle spared ready no_cancel) other i = grind (arith, files_same)
 move_keeps linux l q s a files (ends_doomed n outstanding) other i =
     issued_end linux l.requests n (doomed_result linux l.requests n) files
     ∙ doomed_changes_none _ (operation_of (entry_of l.requests n)) (is_refused_drain l.requests n) (is_faulty (entry_of l.requests n)) linux
 move_keeps linux l q s a files (ends_cancel n outstanding spared ready cancel) other i =
     issued_end linux l.requests n (cancel_result linux l.requests n) files
     ∙ ap (λ op. after (files_after l.requests files l.requests.ended) op (cancel_result linux l.requests n)) (asks_cancel (entry_of l.requests n) cancel)
-move_keeps linux l q s a files (ends_run n res bytes running) other i = absurd other
+move_keeps linux l q s a files _ other i = grind (arith, files_same)
 
 -- a step but a finish leaves the files as they are, whatever files there were at first
 pub files_kept_from : (first : List FileContents) (g : Setup) (s : Step) (a : Answer) (before : History)

@@ -3,7 +3,7 @@ use Rattle.std.proofs.Common.{◌≡◌, ℕ, ◌+◌, ◌-◌, ◌==◌, ◌<�
 use Rattle.uring_core.proofs.Common.{Requests, Sqe, entry_of, eq-eqb, get_or_append_left, int_eq, is_after_failure, is_doomed, is_faulty, is_in_group, is_joined, is_joined_no, is_last, length-append, list_any, list_any_push, ne_eqb, some_member, with_call, zero_entry}
 use Rattle.uring_entry.specs.declared.errno.TheConstants.{EINVAL, ECANCELED}
 use Rattle.uring_entry.proofs.BelowLemmas.{some_below_same, some_below_between}
-use Rattle.uring_core.proofs.SoundRequests.{IsSoundRequests, IsSoundManual, IsFree, EndsDoomed}
+use Rattle.uring_core.proofs.SoundRequests.{IsSoundRequests, IsSoundManual, EndsDoomed}
 use Rattle.uring_core.proofs.ListCounts.{any_kept}
 
 module _ (r : Requests) (entries : List Sqe) (cut : (length r.accepted ≡ 0) ⊎ (list_any (λ c. c == length r.accepted) r.cuts ≡ true)) where
@@ -51,9 +51,6 @@ module _ (r : Requests) (entries : List Sqe) (cut : (length r.accepted ≡ 0) �
   unfolding is_doomed
   doom_kept n below = grind (arith, member_kept, after_kept)
 
-  call_free : (n : ℕ) → n < length r.accepted → IsFree r n → IsFree (with_call r entries) n
-  call_free n below f = grind (arith, doom_kept, join_kept)
-
   ends_kept : (n : ℕ) → n < length r.accepted → EndsDoomed r n → EndsDoomed (with_call r entries) n
   ends_kept n below d = ap (λ e. list_any (λ x. (x.number == n) && not (int_eq x.res (if is_faulty e then neg_ℤ EINVAL else neg_ℤ ECANCELED))) r.ended) (entry_kept n below) ∙ d
 
@@ -61,4 +58,4 @@ module _ (r : Requests) (entries : List Sqe) (cut : (length r.accepted ≡ 0) �
   call_sound s = grind (arith, longer, list_any_push, eq-eqb, entry_kept)
 
   pub call_manual : IsSoundRequests r → IsSoundManual r → IsSoundManual (with_call r entries)
-  call_manual s m = grind (arith, (λ (n : ℕ). call_free n), (λ (n : ℕ). ends_kept n))
+  call_manual s m = grind (arith, (λ (n : ℕ). doom_kept n), join_kept, (λ (n : ℕ). ends_kept n))

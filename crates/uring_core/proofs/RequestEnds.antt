@@ -75,10 +75,6 @@ module _ (r : Requests) (n : ℕ) (res : ℤ) (bytes : List ℕ) (cancelled : Li
   free_kept : (m : ℕ) → has_ended r n ≡ false → (IsChosen r n m → ⊥) → IsFree r m → IsFree (ended_as r n res bytes cancelled) m
   free_kept m unended unchosen f = grind (arith, end_doomed, end_join, list_any_push)
 
-  -- the ends of another stay its ends
-  ends_doomed_kept : (m : ℕ) → m ≢ n → EndsDoomed r m → EndsDoomed (ended_as r n res bytes cancelled) m
-  ends_doomed_kept m differ d = grind (arith, list_any_push)
-
   -- the first end of a doomed request
   ends_doomed_first : has_ended r n ≡ false → res ≡ doomed_result r n → EndsDoomed (ended_as r n res bytes cancelled) n
   ends_doomed_first unended is =
@@ -90,7 +86,7 @@ module _ (r : Requests) (n : ℕ) (res : ℤ) (bytes : List ℕ) (cancelled : Li
   end_manual outstanding how s = record {
     started_free = λ m e. grind (arith, outstanding_tells, (free_kept m), (s.started_free m e));
     ended_how = λ m e. grind (arith, outstanding_tells, (any_new (λ x. x.number == m) r.ended (record { number = n; res = res; bytes = bytes }) e),
-        (s.ended_how m), ends_doomed_kept, ends_doomed_first, free_kept, eqb-true);
+        (s.ended_how m), list_any_push, ends_doomed_first, free_kept, eqb-true);
   }
 
 -- nothing is chosen where a running request ends
