@@ -8,8 +8,7 @@ use Rattle.uring_check.specs.declared.verdict.Verdict.TheVariants as verdict
 ruled_more : (given : Rules) (lines : List (List ℕ)) (line : List ℕ) (rules : Option Rules)
     → awaits_first lines ≡ false → AreJudgedBy given lines rules
     → AreJudgedBy given (line ∷ lines) rules
-ruled_more given [] line rules late are = absurd cc
-ruled_more given (next ∷ before) line rules late are = are
+ruled_more given lines line rules late are = grind arith
 
 -- what a step over one line makes of a checker that looks by rules, and of one that is over
 abbrev pub Goes : List ℕ → Checker → Checker → Type 0
@@ -40,8 +39,7 @@ took_next d all lines text old new late goes rests k =
 at_first : (d : Rules) (all : Bool) (lines : List (List ℕ)) (text : List ℕ) (old new : Checker)
     → old.awaits ≡ true → (LooksBy d all [] old → Looks d all (text ∷ []) new) → Looks d all lines old
     → Looks d all (text ∷ lines) new
-at_first d all [] text old new waits made k = made (rw k.ruled at k.looked)
-at_first d all (line ∷ before) text old new waits made k = absurd (cc (k.awaits, waits))
+at_first d all lines text old new waits made k = grind (arith, made, (k.ruled), (k.looked))
 
 none_found : (found : List Found) → lines_of found ≡ [] → found ≡ []
 none_found [] is = refl

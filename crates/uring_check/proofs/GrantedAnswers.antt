@@ -41,8 +41,7 @@ any_apart m s h is off =
 no_either : (running : Bool) (res : ℤ)
     → ((a : Answer) → FinishesApart running a → Meets (EndOrNoMemory res) a)
     → ((a : Answer) → Meets (EndOrNoMemory res) a → FinishesApart running a) → ⊥
-no_either true res called only = elim (called (end_with (0 ∷ [])) tt) [ inl e ↦ absurd cc | inr e ↦ absurd cc ]
-no_either false res called only = absurd (cc (only (answer.Ended res no_bytes) (inl refl)))
+no_either running res called only = grind (arith, (called (end_with (0 ∷ []))), (only (answer.Ended res no_bytes)))
 
 -- so results need not be allowed where they are
 pub either_allowed : (m : Follower) (s : Step) (h : History) (res : ℤ) (x : Answer)

@@ -66,8 +66,7 @@ same_history g (line ∷ lines) h k p (inr x) q (inr y) =
 -- the lines before are the text of a lawful history too
 lawful_before : (g : Rules) (line : List ℕ) (lines : List (List ℕ)) → IsLawfulText g (line ∷ lines)
     → IsLawfulText g lines
-lawful_before g line lines (h, lawful, inl passed) = (h, lawful, passed.1)
-lawful_before g line lines (h, lawful, inr r) = (r.1, (lawful_first g r.0.0 r.0.1 r.1 (rw r.2 at lawful)).1, r.4)
+lawful_before g line lines is = grind (arith, lawful_first)
 
 -- the first line that isn't right is no line of a lawful history
 none_more : (g : Rules) (line : List ℕ) (lines : List (List ℕ)) (known h : History) (f : Finding)

@@ -15,9 +15,7 @@ use Rattle.uring_core.proofs.CompletionMoves.{CompletionMove, stays, ends, compl
 -- the request of an end is that of its step
 number_told : (s : Step) (a : Answer) (e : Ending) → end_told_by (s, a) ≡ Some e
     → number_in s ≡ e.number ∷ []
-number_told (step.Issue n) (answer.Ended res bytes) e is = cc
-number_told (step.Finish n) (answer.Ended res bytes) e is = cc
-number_told _ _ e is = absurd cc
+number_told s a e is = grind arith
 
 end_noted : (s : Step) (size n : ℕ) (l : Completions) (c : Cqe) (posts : Bool)
     → number_in s ≡ n ∷ []

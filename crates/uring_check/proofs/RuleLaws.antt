@@ -21,11 +21,7 @@ result_once y z p q e = signed_decimal_injective y z (grind arith) (grind arith)
 finish_once : (n : ℕ) (running : Bool) (a b : Answer) → FinishesApart running a
     → FinishesApart running b → text_of a ≡ text_of b → IsPlain a true (step.Finish n)
     → IsPlain b true (step.Finish n) → a ≡ b
-finish_once n true (answer.Ended res bytes) (answer.Ended res' bytes') e f same p q =
-    let results : res ≡ res' = result_once res res' p.0 q.0 (ap (λ (l : List ℕ). drop 6 l) same) in cc
-finish_once n true (answer.Ended res bytes) _ e f same p q = absurd f
-finish_once n true _ b e f same p q = absurd e
-finish_once n false a b e f same p q = e ∙ sym f
+finish_once n running a b e f same p q = grind (arith, result_once)
 
 -- ---- any step
 

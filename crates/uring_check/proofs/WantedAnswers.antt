@@ -22,13 +22,11 @@ one_answer false g w _ a b one p q = p ∙ sym q
 
 -- such a step is no Finish
 pub no_finish : (s : Step) → HasOneAnswer s → IsNoFinish s
-no_finish (step.Finish n) one = one
-no_finish _ one = tt
+no_finish s one = grind arith
 
 -- an answer to such a step is told by its text
 plain_one : (a : Answer) (apart : Bool) (s : Step) → HasOneAnswer s → IsPlain a apart s
-plain_one (answer.Ended res bytes) true (step.Finish n) one = absurd one
-plain_one _ _ _ one = tt
+plain_one a apart s one = grind arith
 
 -- nor is anything asked of its result
 allowed_one : (a : Answer) (e : Ends) (r : Requests) (s : Step) → HasOneAnswer s
@@ -68,9 +66,7 @@ sure_judged old new s text x (Some wanted) one rules fits judged = λ h f.
 only_end : (running : Bool) (res : ℤ) (bytes : List ℕ)
     → ((a : Answer) → FinishesApart running a → a ≡ answer.Ended res bytes)
     → FinishesApart running (answer.Ended res bytes) → ⊥
-only_end true res bytes called is =
-    absurd (cc (called (answer.Ended res []) tt, called (answer.Ended res (0 ∷ [])) tt))
-only_end false res bytes called is = absurd cc
+only_end running res bytes called is = grind (arith, (called (answer.Ended res [])), (called (answer.Ended res (0 ∷ []))))
 
 -- an answer that alone is called for is told by its text, and whatever its result, it is allowed
 only_one : (x : Answer) (e : Ends) (g : Setup) (h : History) (s : Step)
@@ -129,10 +125,7 @@ pub either_wrong : (h : History) (m : Follower) (s : Step) (text : List ℕ) (wa
     → IsEither wanted one other → (text_of one ≡ text → ⊥) → (text_of other ≡ text → ⊥)
     → IsWanted h m s wanted → IsJudged (rules_of m) h m s text (Some wanted)
 either_wrong h m s text wanted one other either apart other_apart is =
-    (wrong_text (rules_of m) h s text wanted is.0.called is.0.only (λ a meets allowed same plain. elim (either.meets a meets) [
-      | inl e ↦ apart (ap text_of (sym e) ∙ same)
-      | inr e ↦ other_apart (ap text_of (sym e) ∙ same)
-    ]), is.1)
+    (wrong_text (rules_of m) h s text wanted is.0.called is.0.only (λ a meets allowed same plain. grind (arith, (either.meets a meets))), is.1)
 
 -- ---- what a refusal told
 

@@ -35,10 +35,8 @@ pub cut_more : (all : List (List ℕ)) (before after : List (Bor (List ℕ))) (t
     → IfSome over (λ b. tokens_of rest.now ≡ token.now ∷ tokens_of b.now)
     → IfNone over (tokens_of rest.now ≡ token.now ∷ [])
     → words before ++ left_tokens left ≡ all → words after ++ left_tokens over ≡ all
-cut_more all before after token rest left (Some b) is made some none told =
-    simp (made, map-append, append_assoc, ← some) (rw is at told)
-cut_more all before after token rest left None is made some none told =
-    simp (made, map-append, append-nil, ← none) (rw is at told)
+cut_more all before after token rest left over is made some none told =
+    grind (arith, map-append, append_assoc, append-nil)
 
 -- less is left
 pub cut_less : (rest : Bor (List ℕ)) (left over : Option (Bor (List ℕ))) → left ≡ Some rest

@@ -34,11 +34,10 @@ part_again _ token p q h = grind (arith, number_again, file_again, data_again, h
 
 pub parts_found : (kinds : List Kind) (tokens : List (List ℕ)) (q : Parts)
     → parts_of kinds tokens ≡ Some q → SayParts kinds tokens q
-parts_found [] [] q e = cc
+parts_found [] tokens q e = grind arith
+parts_found kinds [] q e = grind arith
 parts_found (k ∷ kinds) (token ∷ tokens) q e =
-    let s = bind_some (parts_of kinds tokens) (part_of k token) q e in
-    (s.0, parts_found kinds tokens s.0 s.1, part_found k token s.0 q s.2)
-parts_found _ _ q e = absurd cc
+    grind (arith, bind_some, (parts_found kinds tokens), part_found)
 
 pub parts_again : (kinds : List Kind) (tokens : List (List ℕ)) (q : Parts)
     → SayParts kinds tokens q → parts_of kinds tokens ≡ Some q

@@ -8,8 +8,7 @@ use Rattle.uring_text.proofs.Numbers.{own, numeral_is, number_parts, file_other}
 
 -- the decimal form of a number has no leading zero
 leading : (n : ℕ) → n < 2 ^ 64 → get_or (decimal n) 0 0 ≡ 48 → length (decimal n) ≡ 1
-leading zero lt e = ap length (decimal_digit 0 (omega arith))
-leading (suc n) lt e = omega (arith, first_decimal (suc n) (omega arith) lt)
+leading n lt e = grind (arith, first_decimal, decimal_digit)
 
 numeral_decimal : (n : ℕ) → n < 2 ^ 64 → is_numeral (decimal n) ≡ true
 unfolding is_numeral
@@ -61,5 +60,4 @@ file_again (negsuc k) lt = grind (arith, number_again)
 -- what a token spells that is read as a signed number, or as none
 pub signed_tells : (w : List ℕ) (r : Option ℤ) → r ≡ file_of w
     → MatchOption r ((fd : ℤ) → IsFile fd → signed_decimal fd ≡ w → ⊥) (λ fd. (signed_decimal fd ≡ w) × IsFile fd)
-signed_tells w None is = λ fd file same. grind (arith, file_again)
-signed_tells w (Some fd) is = let found = file_found w fd (sym is) in (sym found.0, found.1)
+signed_tells w r is = grind (arith, file_again, file_found)

@@ -5,14 +5,12 @@ use Rattle.uring_text.proofs.Common.{bytes_eq, bytes_eq-Decides, codes, option_m
 -- the value of a step that gave something
 pub bind_some : {A B : Type 0} (o : Option A) (f : A → Option B) (y : B) → (o >>= f) ≡ Some y
     → (x : A) × (o ≡ Some x) × (f x ≡ Some y)
-bind_some (Some x) f y e = (x, refl, e)
-bind_some None f y e = absurd cc
+bind_some o f y e = grind arith
 
 -- the value that a mapped one is of, and what is said of it
 pub mapped : {A B : Type 0} (S : A → Type 0) (f : A → B) (o : Option A) (y : B)
     → ((x : A) → o ≡ Some x → S x) → option_map f o ≡ Some y → (x : A) × S x × (y ≡ f x)
-mapped S f None y is e = absurd cc
-mapped S f (Some x) y is e = (x, is x refl, sym (same_Some (f x) y e))
+mapped S f o y is e = grind (arith, is)
 
 -- a token other than `-`
 pub no_dash : (token : List ℕ) → (token ≡ codes "-" → ⊥) → bytes_eq token (codes "-") ≡ false

@@ -26,8 +26,7 @@ spelled_once tokens a b h k =
 pub read_number_tells : (limit : ℕ) (token : List ℕ) (read : Option ℕ) → limit ≤ 2 ^ 64
     → read ≡ number_of limit token
     → MatchOption read (IsNoNumber limit token) (SpellsNumber limit token)
-read_number_tells limit token None le e = λ n s. grind (arith, number_again)
-read_number_tells limit token (Some n) le e = number_found limit token n le (sym e)
+read_number_tells limit token read le e = grind (arith, number_again, number_found)
 
 -- a token is one number at most
 pub number_once : (limit : ℕ) (token : List ℕ) (n m : ℕ) → limit ≤ 2 ^ 64

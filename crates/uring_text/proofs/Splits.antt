@@ -26,5 +26,4 @@ split_whole lines each = assumption (sym (append-nil (joined lines)))
 -- a rest of some bytes is the last line
 pub last_some : (lines : List (List ℕ)) (rest : List ℕ) → rest ≢ []
     → with_last lines rest ≡ rest ∷ lines
-last_some lines [] some = absurd (some refl)
-last_some lines (b ∷ rest) some = refl
+last_some lines rest some = grind arith

@@ -38,8 +38,7 @@ told_bad granted m is_echo line before after bad e =
 -- the history of one exchange more
 pub one_more : (event : Option Event) (events : List Event)
     → with_event event (history_of events) ≡ history_of (events ++ option_to_list event)
-one_more None events = ap (λ (es : List Event). history_of es) (sym (append-nil events))
-one_more (Some event) events = sym (history_of_snoc events event)
+one_more event events = grind (arith, append-nil, history_of_snoc)
 
 -- one answer more that refuses no memory
 pub unrefused_more : (g : Setup) (event : Option Event) (events : List Event) → AreUnrefused g [] events

@@ -80,9 +80,7 @@ no_more b o f other s r q = grind arith
 
 none_and_step : (tokens : List (List ℕ)) (s : Step) → ReadsStep None tokens
     → ReadsStep (Some s) tokens → ⊥
-none_and_step [] s r q = absurd cc
-none_and_step (name ∷ []) s r q = absurd (let no : None ≡ Some s = r ∙ sym q in cc)
-none_and_step (name ∷ token ∷ rest) s r q = no_more (bytes_eq name (codes "fill")) (number_of (2 ^ 32) token) (form_of rest) (cond (eqb (length rest) 0) (step_of_two name token) None) s r q
+none_and_step tokens s r q = grind (arith, no_more)
 
 fill_once : (o : Option ℕ) (f : Option Form) (s t : Step) → ReadsFill (Some s) o f
     → ReadsFill (Some t) o f → s ≡ t

@@ -44,10 +44,7 @@ none_answered manner answer w s s' before told more e h =
 took_in : (manner : Manner) (answer : Answer) (s : Session) (bytes told new written : List ℕ)
     → Has manner s bytes (told ++ new) → WritesText answer new written
     → TookIn manner answer s bytes (told ++ written)
-took_in manner (Ok done) s bytes told new written h e = rw e h
-took_in manner (Err e) s bytes told new written h w =
-    let held = rw (append-nil bytes) at (held_beginning manner s.machine s.is_echo s.line bytes (told ++ new) [] h) in
-    rw w.0 (w.1, w.2, inl (rw (w.3, ← append_assoc told written w.1) at held))
+took_in manner answer s bytes told new written h e = grind (arith, append_assoc, append-nil, held_beginning)
 
 -- the answers were written, or a part of them
 pub answers_written : (manner : Manner) (answer : Answer) (w w' : Known) (s s' : Session) (before told more none new : List ℕ)
