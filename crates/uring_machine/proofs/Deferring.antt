@@ -138,13 +138,6 @@ cut_ordered l s o = go (nat_lt l.drains.from (length l.requests.accepted)) refl 
 
 -- A request starts or ends.
 
--- what starts, and isn't doomed, comes before whatever is deferred
-start_before : (l : LinuxRequests) (n k : ℕ) → IsOrdered l
-    → length l.requests.accepted ≤ l.drains.from → is_issuable l n ≡ true
-    → is_doomed l.requests n ≡ false → is_deferred l k ≡ true → n < k
-start_before l n k o closed can spared there =
-    grind (arith, (cases_lt n k), (cases_eq n k), (o.passed n k))
-
 start_ordered : (l : LinuxRequests) (n : ℕ) → IsOrdered l → length l.requests.accepted ≤ l.drains.from
     → is_issuable l n ≡ true → is_doomed l.requests n ≡ false
     → IsOrdered (record l { requests = manual.with_started l.requests n })
@@ -155,7 +148,8 @@ start_ordered l n o closed can spared =
       ring = o.ring;
       passed = λ m k lt under there out. faulty_started l.requests n m ∙ o.passed m k lt under there out;
       known = grind (arith, added_other);
-      started = grind (arith, start_before, added_other);
+      -- what starts, and isn't doomed, comes before whatever is deferred
+      started = λ m k is there. grind (arith, (cases_lt n k), (cases_eq n k), (o.passed n k), (o.started m k), added_other);
     }
 
 end_ordered : (l : LinuxRequests) (n : ℕ) (res : ℤ) (bytes : List ℕ) → IsBetween l → IsOrdered l

@@ -10,12 +10,6 @@ use Rattle.uring_machine.proofs.Deferring.{IsOrdered, all_ordered}
 
 -- What goes on.
 
--- a running request comes before whatever is deferred: so if the least outstanding one is deferred, none runs
-runs_first : (l : LinuxRequests) (n m : ℕ) → IsOrdered l
-    → IsLeast (is_outstanding l.requests) (length l.requests.accepted) n
-    → m < length l.requests.accepted → is_running l.requests m ≡ true → is_deferred l n ≡ false
-runs_first l n m o least within running = grind arith
-
 abbrev GoesOn : Bool → LinuxRequests → ℕ → Type 0
 GoesOn linux l n = (is_running l.requests n ≡ true) ⊎ (is_some (next_of linux l) ≡ true)
 
@@ -33,17 +27,15 @@ by_linux_goes l n so e = subst (λ k. GoesOn true k n) so.made (go (subst (λ (k
       let m : ℕ = on.number in
       let free = least_below_tells (λ j. is_outstanding k.requests j && not (is_deferred k j)) (length k.requests.accepted) m on.least in
       let least = least_below_tells (is_outstanding k.requests) (length k.requests.accepted) n is in
-      grind (arith, on.goes, (issuable_next true k m), runs_first, all_ordered)
-
-by_manual_goes : (l : LinuxRequests) (n : ℕ) → least_of l.requests ≡ Some n → GoesOn false l n
-by_manual_goes l n e =
-    grind (arith, (least_of_goes_on l.requests n e), (issuable_next false l n), (least_below_tells (is_outstanding l.requests) (length l.requests.accepted) n e))
+      grind (arith, on.goes, (issuable_next true k m), all_ordered)
 
 pub least_goes_on : (g : Setup) (h : History) (n : ℕ) → IsLawfulApart g h
     → least_of (world g h).requests ≡ Some n → GoesOn g.linux (requests_of (world g h)) n
 least_goes_on g h n lawful least = go g.linux refl where
   go : (linux : Bool) → g.linux ≡ linux → GoesOn linux (requests_of (world g h)) n
-  go false is = by_manual_goes (requests_of (world g h)) n least
+  go false is =
+      let l = requests_of (world g h) in
+      grind (arith, (least_of_goes_on l.requests n least), (issuable_next false l n), (least_below_tells (is_outstanding l.requests) (length l.requests.accepted) n least))
   go true is =
       let same : g ≡ by_linux g = ap (λ linux. record g { linux = linux }) is in
       by_linux_goes (requests_of (world g h)) n

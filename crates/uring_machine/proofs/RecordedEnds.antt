@@ -56,8 +56,7 @@ refused_apart g w _ a refusal other refused = refused
 
 pub lacks_apart : (m : Machine) (w : World) (s : Step) → IsNoFinish s → IsShortOfMemory m.core w s
     → MayLackMemory m w s
-lacks_apart m w (step.Finish n) other short = absurd other
-lacks_apart m w _ other short = short
+lacks_apart m w s other short = grind arith
 
 -- A Finish of what doesn't run.
 
@@ -79,8 +78,7 @@ EndsWith files op _ = ⊥
 
 ends_on : (files : List FileContents) (r : Requests) (n : ℕ) (a : Answer)
     → EndsOn files r n true a ↔ EndsWith files (operation_of (entry_of r n)) a
-ends_on files r n (answer.Ended res bytes) = ((λ called. called), (λ called. called))
-ends_on files r n _ = ((λ called. called), (λ called. called))
+ends_on files r n a = (λ called. grind arith, λ called. grind arith)
 
 -- What runs in a machine that fits a history: what is called for, by the operation and the machine's files.
 pub record RunsWith (m : Machine) (h : History) (n : ℕ) (op : Op) : Type 0 where
@@ -105,9 +103,7 @@ runs_so m h n op fits is =
 -- one end alone is called for where the operation doesn't make its file longer
 one_end : (files : List FileContents) (op : Op) → is_lengthening files op ≡ false → (a b : Answer)
     → EndsWith files op a → EndsWith files op b → a ≡ b
-one_end files op short (answer.Ended res bytes) (answer.Ended res' bytes') e f = grind arith
-one_end files op short (answer.Ended res bytes) _ e f = absurd f
-one_end files op short _ b e f = absurd e
+one_end files op short a b e f = grind arith
 
 pub end_refused : (m : Machine) (h : History) (n : ℕ) (op : Op) (x a : Answer) (refusal : Refusal)
     → RunsWith m h n op → is_lengthening m.files op ≡ false
@@ -121,8 +117,7 @@ end_refused m h n op x a refusal runs short called is other =
 
 growth_ends : (files : List FileContents) (op : Op) (res : ℤ) (a : Answer)
     → result_of files op ≡ ended_with res → EndsWith files op a → Meets (EndOrNoMemory res) a
-growth_ends files op res (answer.Ended r bytes) is e = grind arith
-growth_ends files op res _ is e = absurd e
+growth_ends files op res a is e = grind arith
 
 ends_growth : (files : List FileContents) (op : Op) (res : ℤ) (a : Answer)
     → is_lengthening files op ≡ true → result_of files op ≡ ended_with res
