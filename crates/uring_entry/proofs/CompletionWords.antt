@@ -7,12 +7,11 @@ use Rattle.std.proofs.lemmas.Int.{of_z-to_z}
 -- words of 64 bits that have the same bytes are the same
 pub same_words : (xs ys : List ℕ) → AreWords xs → AreWords ys → bytes_of xs ≡ bytes_of ys → xs ≡ ys
 same_words [] [] p q e = refl
-same_words [] (y ∷ ys) p q e = cc
-same_words (x ∷ xs) [] p q e = cc
 same_words (x ∷ xs) (y ∷ ys) p q e =
     let parts : (to_le_bytes w64 x ≡ to_le_bytes w64 y) × (bytes_of xs ≡ bytes_of ys) = (cc, cc) in
     let first = ap (from_le_bytes w64) parts.0 in
     cc (first, from_le_bytes-to_le_bytes_8 x p.0, from_le_bytes-to_le_bytes_8 y q.0, same_words xs ys p.1 q.1 parts.1)
+same_words _ _ p q e = absurd (grind arith)
 
 -- two words, and others after them
 pub words_after : (a b : ℕ) (rest more : List ℕ) → a < 2 ^ 64 → b < 2 ^ 64 → rest ≡ more

@@ -7,26 +7,17 @@ use Rattle.uring_entry.proofs.RequestLemmas.{is_joined_yes, is_joined_no, is_rea
 
 -- Who is a member.
 
-joined_before : (r : Requests) (from end m n : ℕ) → IsGroup r from end → m < from → from ≤ n
-    → is_joined r m n ≡ false
-joined_before r from end m n g low le = grind (arith, (is_joined_no r m n (from - 1)), (g.begins (from - 1)))
-
 -- an earlier request is in a member's group if it isn't before the first member
 pub joined_member : (r : Requests) (from end m n : ℕ) → IsGroup r from end → from ≤ n → n < end
     → m ≤ n → is_joined r m n ≡ leb from m
-joined_member r from end m n g high lt le = grind (arith, (cases_lt m from), (joined_before r from end m n g), is_joined_yes)
+joined_member r from end m n g high lt le = grind (arith, (cases_lt m from), (is_joined_no r m n (from - 1)), (g.begins (from - 1)), is_joined_yes)
 
 -- a later one if it is before the end
-joined_after : (r : Requests) (from end n m : ℕ) → IsGroup r from end → from ≤ n → n < end
-    → m < length r.accepted → n < m → is_joined r n m ≡ ltb m end
-joined_after r from end n m g high lt within after =
-    grind (arith, (cases_lt m end), is_joined_yes, (is_joined_no r n m (end - 1)), (g.ends (end - 1)))
-
 pub in_group_member : (r : Requests) (from end n m : ℕ) → IsGroup r from end → from ≤ n → n < end
     → m < length r.accepted
     → is_in_group r m n ≡ (leb from m && ltb m end)
 in_group_member r from end n m g high lt within =
-    grind (arith, (min m n), (max m n), (joined_member r from end m n g high lt), (joined_after r from end n m g high lt within))
+    grind (arith, (min m n), (max m n), (joined_member r from end m n g high lt), (cases_lt m end), is_joined_yes, (is_joined_no r n m (end - 1)), (g.ends (end - 1)))
 
 -- Whether some member has a property.
 
@@ -90,7 +81,7 @@ pub ready_yes : (r : Requests) (from end n : ℕ) → IsGroup r from end → fro
     → ((m : ℕ) → m < from → has_ended r m ≡ false → is_draining r m ≡ false)
     → (is_draining r n ≡ true → (m : ℕ) → m < from → has_ended r m ≡ true) → is_ready r n ≡ true
 ready_yes r from end n g high lt members drains alone =
-    is_ready_yes r n (λ m low. grind (arith, (joined_before r from end m n g), (members m), (drains m), alone))
+    is_ready_yes r n (λ m low. grind (arith, (joined_member r from end m n g high lt), (members m), (drains m), alone))
 
 pub ready_not_member : (r : Requests) (from end n m : ℕ) → IsGroup r from end → n < end → from ≤ m
     → m < n → has_ended r m ≡ false

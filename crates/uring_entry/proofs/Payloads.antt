@@ -1,5 +1,5 @@
 -- The 64 bytes of data and the eight words that hold them.
-use Rattle.std.proofs.Common.{◌≡◌, ℕ, zero, suc, ◌+◌, ◌*◌, ◌^◌, ◌<◌, ◌∙◌, refl, sym, ap, List, [], ◌∷◌, length, get_or, take, drop, set, take-add, arith}
+use Rattle.std.proofs.Common.{◌≡◌, ℕ, zero, suc, ◌+◌, ◌-◌, ◌*◌, ◌^◌, ◌<◌, ◌∙◌, refl, sym, ap, List, [], ◌∷◌, length, get_or, take, drop, set, take-add, arith}
 use Rattle.std.proofs.lemmas.List.{places, take_all, take_more}
 use Rattle.std.proofs.lemmas.Nat.{le_bytes_8}
 use Rattle.std.proofs.lemmas.Slice.{put_mid-paste, take-put_mid}
@@ -41,5 +41,4 @@ last_eight words size = grind (arith, common_steps)
 pub words_set : (i word : ℕ) (words : List ℕ) → word < 2 ^ 64 → AreWords words
     → AreWords (set words i word)
 words_set i word [] lt h = tt
-words_set zero word (w ∷ words) lt h = (lt, h.1)
-words_set (suc i) word (w ∷ words) lt h = (h.0, words_set i word words lt h.1)
+words_set i word (w ∷ words) lt h = grind (arith, (words_set (i - 1) word words lt h.1))

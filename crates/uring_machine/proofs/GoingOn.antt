@@ -19,15 +19,14 @@ issuable_next linux l n lt can =
     rw is_some_least_below (some_below_some (is_issuable linux l) (length l.requests.accepted) n lt can)
 
 by_linux_goes : (l : LinuxRequests) (n : ℕ) → HasHappened l → least_of l.requests ≡ Some n → GoesOn true l n
-by_linux_goes l n so e = subst (λ k. GoesOn true k n) so.made (go (subst (λ (k : LinuxRequests). least_of k.requests ≡ Some n) (sym so.made) e)) where
-  go : least_of (made_by so.happened).requests ≡ Some n → GoesOn true (made_by so.happened) n
-  go is =
-      let k : LinuxRequests = made_by so.happened in
-      let on = goes_on_from so.happened n so.may is in
-      let m : ℕ = on.number in
-      let free = least_below_tells (λ j. is_outstanding k.requests j && not (is_deferred k j)) (length k.requests.accepted) m on.least in
-      let least = least_below_tells (is_outstanding k.requests) (length k.requests.accepted) n is in
-      grind (arith, on.goes, (issuable_next true k m), all_ordered)
+by_linux_goes l n so e =
+    let k : LinuxRequests = made_by so.happened in
+    let is : least_of k.requests ≡ Some n = cc (so.made, e) in
+    let on = goes_on_from so.happened n so.may is in
+    let m : ℕ = on.number in
+    let free = least_below_tells (λ j. is_outstanding k.requests j && not (is_deferred k j)) (length k.requests.accepted) m on.least in
+    let least = least_below_tells (is_outstanding k.requests) (length k.requests.accepted) n is in
+    subst (λ l. GoesOn true l n) so.made (grind (arith, on.goes, (issuable_next true k m), all_ordered))
 
 pub least_goes_on : (g : Setup) (h : History) (n : ℕ) → IsLawfulApart g h
     → least_of (world g h).requests ≡ Some n → GoesOn g.linux (requests_of (world g h)) n

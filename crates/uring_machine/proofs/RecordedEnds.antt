@@ -21,11 +21,7 @@ pub kept_fits : (core later : Core) (files left : List FileContents) (h : Histor
     → later.setup ≡ core.setup → left ≡ files → Fits (record { core = core; files = files }) h
     → FitsApart later h
     → Fits (record { core = later; files = left }) h
-kept_fits core later files left h same untouched fits next = record {
-  core = next;
-  files = untouched ∙ subst (λ k. files ≡ files_of k (world k h)) (sym same) fits.files;
-  lawful = subst (λ k. IsLawful k h) (sym same) fits.lawful;
-}
+kept_fits core later files left h same untouched fits next = grind (arith, fits, next)
 
 pub resumed_fits : (core later : Core) (files : List FileContents) (s : Step) (refusal : Refusal) (h : History)
     → later.setup ≡ core.setup → IsNoFinish s
