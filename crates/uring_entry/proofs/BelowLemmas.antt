@@ -1,5 +1,5 @@
 -- Searches below a bound: what an answer tells, and what gives it.
-use Rattle.std.proofs.Common.{◌≡◌, ℕ, zero, suc, ◌<◌, ◌≤◌, Bool, true, false, ◌==◌, [], ◌∷◌, cond, Option, Some, None, is_some, refl, sym, ◌∙◌, ap, arith, inl, inr}
+use Rattle.std.proofs.Common.{◌≡◌, ℕ, zero, suc, ◌<◌, ◌≤◌, Bool, true, false, ◌==◌, [], ◌∷◌, cond, Option, Some, None, is_some, refl, sym, ◌∙◌, ap, arith}
 use Rattle.uring_entry.proofs.Common.{all_below, both_ways, cases_eq, cases_lt, least_below, list_any, some_below}
 use Rattle.std.proofs.lemmas.List.Folds.{list_any-append}
 

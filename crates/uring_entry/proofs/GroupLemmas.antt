@@ -1,5 +1,5 @@
 -- What is doomed, drains and is ready, from what is known of its group: no more is needed of the members that have ended.
-use Rattle.std.proofs.Common.{◌≡◌, ℕ, zero, suc, ◌-◌, ◌<◌, ◌≤◌, min, max, length, Bool, true, false, ◌&&◌, ◌||◌, leb, ltb, Option, Some, None, is_some, refl, ◌∙◌, arith, inl, inr}
+use Rattle.std.proofs.Common.{◌≡◌, ℕ, zero, suc, ◌-◌, ◌<◌, ◌≤◌, min, max, length, Bool, true, false, ◌&&◌, ◌||◌, leb, ltb, Option, Some, None, is_some, ◌∙◌, arith}
 use Rattle.uring_entry.proofs.Common.{IsGroup, Requests, Sqe, cases_eq, cases_lt, entry_of, first_broken, first_drain, first_fault, first_member, has_ended, has_failed, if◌then◌else◌, is_after_failure, is_before, is_cancelled, is_doomed, is_drain, is_draining, is_faulty, is_in_faulty_group, is_in_group, is_joined, is_ready, is_soft, least_below, some_member}
 use Rattle.uring_entry.specs.Why.{failed_member_of, is_failure_before}
 use Rattle.uring_entry.proofs.BelowLemmas.{least_below_between, least_below_same, least_below_tells, is_some_least_below, least_below_low}

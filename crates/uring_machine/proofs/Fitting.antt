@@ -9,21 +9,17 @@ use Rattle.uring_core.specs.declared.answer.Answer.TheVariants as answer
 use Rattle.uring_core.proofs.FileHistory.{files_kept, files_ended}
 use Rattle.uring_core.proofs.Running.{runs_with}
 
--- but for a finish, answers are called for as they are apart from files
-called_apart : (g : Setup) (w : World) (s : Step) (a : Answer) → IsNoFinish s
-    → CalledForApart g w s a → CalledFor g w s a
-called_apart g w s a other called = grind arith
-
--- the machine with another core of its shape
+-- the machine with another core of its shape: but for a finish, answers are called for as they are apart from files
 pub step_fits : (core later : Core) (files : List FileContents) (s : Step) (a : Answer) (h : History)
     → later.setup ≡ core.setup → IsNoFinish s
     → Fits (record { core = core; files = files }) h → FitsApart later ((s, a) ∷ h)
     → Fits (record { core = later; files = files }) ((s, a) ∷ h)
 step_fits core later files s a h same other fits next =
+    let called : CalledForApart later.setup (world later.setup h) s a = next.lawful.0 in
     record {
       core = next;
       files = rw (files_kept later.setup s a h next.lawful other, same) fits.files;
-      lawful = (called_apart later.setup (world later.setup h) s a other next.lawful.0, subst (λ k. IsLawful k h) (sym same) fits.lawful);
+      lawful = (grind arith, subst (λ k. IsLawful k h) (sym same) fits.lawful);
     }
 
 -- a running request ended

@@ -1,12 +1,12 @@
 -- Where something is outstanding, the least of it runs, or something can be issued: by either's rules.
 use Rattle.std.proofs.Common.{◌≡◌, ℕ, ◌<◌, Bool, true, false, not, ◌&&◌, length, Some, is_some, refl, sym, ap, subst, arith, ◌⊎◌}
 use Rattle.uring_machine.proofs.Common.{History, IsLawfulApart, LinuxRequests, Setup, is_deferred, is_outstanding, is_running, least_of, least_of_goes_on, requests_of, world}
-use Rattle.uring_entry.proofs.BelowLemmas.{IsLeast, least_below_tells, is_some_least_below, some_below_some}
+use Rattle.uring_entry.proofs.BelowLemmas.{least_below_tells, is_some_least_below, some_below_some}
 use Rattle.uring_linux.specs.Happenings.{made_by}
 use Rattle.uring_linux.proofs.GoingOn.{goes_on_from}
 use Rattle.uring_rules.specs.Rules.{is_issuable, next_of}
 use Rattle.uring_core.proofs.LinuxHistories.{by_linux, HasHappened, history_happens}
-use Rattle.uring_machine.proofs.Deferring.{IsOrdered, all_ordered}
+use Rattle.uring_machine.proofs.Deferring.{all_ordered}
 
 -- What goes on.
 

@@ -1,6 +1,6 @@
 -- Answers that were recorded elsewhere, with files: what a machine fits after a step was followed, and what is called for as a request ends.
-use Rattle.std.proofs.Common.{◌≡◌, ◌↔◌, ℕ, arith, ℤ, neg_ℤ, true, false, List, ◌∷◌, Some, None, refl, sym, subst, ◌∙◌, inl, inr}
-use Rattle.uring_machine.proofs.Common.{Answer, CalledFor, CalledForApart, Core, EndsOn, Err, FileContents, Fits, FitsApart, History, IfErr, IsFinished, IsLawful, IsNoFinish, IsOutcome, IsRefused, IsShortOfMemory, IsWrong, Machine, MayLackMemory, Meets, Ok, OnOk, Refusal, Requests, Result, Setup, Step, World, after, ended_with, entry_of, files_of, is_lengthening, is_running, no_bytes, operation_running, result_of, resumed, world}
+use Rattle.std.proofs.Common.{◌≡◌, ◌↔◌, ℕ, arith, ℤ, neg_ℤ, true, false, List, ◌∷◌, Some, None, refl, sym, ◌∙◌, inl, inr}
+use Rattle.uring_machine.proofs.Common.{Answer, CalledFor, CalledForApart, Core, EndsOn, Err, FileContents, Fits, FitsApart, History, IfErr, IsFinished, IsNoFinish, IsOutcome, IsRefused, IsShortOfMemory, IsWrong, Machine, MayLackMemory, Meets, Ok, OnOk, Refusal, Requests, Result, Setup, Step, World, after, ended_with, entry_of, files_of, is_lengthening, is_running, no_bytes, operation_running, result_of, resumed, world}
 use Rattle.uring_entry.specs.Preparation.{operation_of}
 use Rattle.uring_entry.specs.declared.errno.TheConstants.{ENOMEM}
 use Rattle.uring_entry.specs.declared.operation.Op.{Op}
@@ -97,23 +97,15 @@ runs_so m h n op fits is =
     }
 
 -- one end alone is called for where the operation doesn't make its file longer
-one_end : (files : List FileContents) (op : Op) → is_lengthening files op ≡ false → (a b : Answer)
-    → EndsWith files op a → EndsWith files op b → a ≡ b
-one_end files op short a b e f = grind arith
-
 pub end_refused : (m : Machine) (h : History) (n : ℕ) (op : Op) (x a : Answer) (refusal : Refusal)
     → RunsWith m h n op → is_lengthening m.files op ≡ false
     → CalledFor m.core.setup (world m.core.setup h) (step.Finish n) x → refusal ≡ Wrong (Only x)
     → (a ≡ x → ⊥)
     → IsRefused (CalledFor m.core.setup (world m.core.setup h) (step.Finish n)) a refusal
 end_refused m h n op x a refusal runs short called is other =
-    rw is (wrong_beside _ x a called (λ b k. one_end m.files op short b x (runs.ends b k) (runs.ends x called)) other)
+    rw is (wrong_beside _ x a called (λ b k. grind (arith, runs.ends b k, runs.ends x called)) other)
 
 -- The write makes its file longer.
-
-growth_ends : (files : List FileContents) (op : Op) (res : ℤ) (a : Answer)
-    → result_of files op ≡ ended_with res → EndsWith files op a → Meets (EndOrNoMemory res) a
-growth_ends files op res a is e = grind arith
 
 ends_growth : (files : List FileContents) (op : Op) (res : ℤ) (a : Answer)
     → is_lengthening files op ≡ true → result_of files op ≡ ended_with res
@@ -125,8 +117,8 @@ pub growth_wrong : (m : Machine) (h : History) (n : ℕ) (op : Op) (res : ℤ) (
     → (a ≡ answer.Ended (neg_ℤ ENOMEM) no_bytes → ⊥) → (a ≡ answer.Ended res no_bytes → ⊥)
     → IsWrong (CalledFor m.core.setup (world m.core.setup h) (step.Finish n)) a (EndOrNoMemory res)
 growth_wrong m h n op res a runs long is no_failure no_success = record {
-  not_called = λ k. grind (arith, (growth_ends m.files op res a is (runs.ends a k)));
-  called = λ b k. growth_ends m.files op res b is (runs.ends b k);
+  not_called = λ k. grind (arith, (runs.ends a k));
+  called = λ b k. grind (arith, (runs.ends b k));
   only = λ b k. runs.called b (ends_growth m.files op res b long is k);
 }
 
