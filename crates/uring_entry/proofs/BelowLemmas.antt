@@ -1,6 +1,6 @@
 -- Searches below a bound: what an answer tells, and what gives it.
-use Rattle.std.proofs.Common.{◌≡◌, ℕ, zero, suc, ◌<◌, ◌≤◌, Bool, true, false, ◌==◌, [], ◌∷◌, cond, Option, Some, None, is_some, refl, sym, ◌∙◌, ap, arith, inl, inr}
-use Rattle.uring_entry.proofs.Common.{all_below, both_ways, cases_lt, least_below, list_any, some_below}
+use Rattle.std.proofs.Common.{◌≡◌, ℕ, zero, suc, ◌<◌, ◌≤◌, Bool, true, false, ◌==◌, [], ◌∷◌, cond, Option, Some, None, is_some, refl, sym, ◌∙◌, ap, arith}
+use Rattle.uring_entry.proofs.Common.{all_below, both_ways, cases_eq, cases_lt, least_below, list_any, some_below}
 use Rattle.std.proofs.lemmas.List.Folds.{list_any-append}
 
 pub least_below_none : (p : ℕ → Bool) (n : ℕ) → ((k : ℕ) → k < n → p k ≡ false)
@@ -24,10 +24,7 @@ pub least_below_between : (p : ℕ → Bool) (n m : ℕ) → n ≤ m → ((k : �
     → least_below p m ≡ least_below p n
 least_below_between p n zero le h = grind arith
 least_below_between p n (suc m) le h =
-    elim (cases_lt m n) [
-      | inl past ↦ let same : suc m ≡ n = omega arith in ap (least_below p) same
-      | inr high ↦ grind (arith, (least_below_between p n m high (λ k a b. h k a (omega arith))))
-    ]
+    grind (arith, (cases_eq n (suc m)), (λ (high : n ≤ m). least_below_between p n m high (λ k a b. h k a (omega arith))), (h m))
 
 -- what the least number is
 pub record IsLeast (p : ℕ → Bool) (n k : ℕ) : Type 0 where
@@ -70,11 +67,7 @@ least_below_out p n e = some_below_out p n (sym (is_some_least_below p n) ∙ ap
 
 pub least_below_tells : (p : ℕ → Bool) (n k : ℕ) → least_below p n ≡ Some k → IsLeast p n k
 least_below_tells p zero k e = cc
-least_below_tells p (suc n) k e = record {
-  below = grind (arith, (least_below_tells p n k));
-  holds = grind (arith, (least_below_tells p n k));
-  before = λ j lt. grind (arith, (least_below_tells p n k), (least_below_out p n), (cases_lt j n));
-}
+least_below_tells p (suc n) k e = grind (arith, (least_below_tells p n k), (least_below_out p n), (λ (j : ℕ). cases_lt j n))
 
 pub least_below_low : (p : ℕ → Bool) (n k : ℕ) → least_below p n ≡ Some k → k < n
 least_below_low p n k e = (least_below_tells p n k e).below

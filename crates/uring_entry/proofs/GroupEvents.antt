@@ -23,26 +23,22 @@ first_member_none p from = grind (arith, least_below_none, and_left)
 
 -- An entry is accepted.
 
-longer : (r : Requests) (entry : Sqe)
-    → length (with_accepted r entry).accepted ≡ length r.accepted + 1
-longer r entry = length-append r.accepted (entry ∷ [])
-
 -- after a group that was closed
 pub group_accepted : (r : Requests) (entry : Sqe) (from end : ℕ) → IsGroup r from end
     → ((k : ℕ) → suc k ≡ end → is_last r k ≡ true) → IsGroup (with_accepted r entry) from end
-group_accepted r entry from end g closed = grind (arith, longer, is_last_accepted)
+group_accepted r entry from end g closed = grind (arith, length-append, is_last_accepted)
 
 -- into the group that is open
 pub group_joined : (r : Requests) (entry : Sqe) (from : ℕ) → IsGroup r from (length r.accepted)
     → ((k : ℕ) → suc k ≡ length r.accepted → is_last r k ≡ false)
     → IsGroup (with_accepted r entry) from (length r.accepted + 1)
-group_joined r entry from g joins = grind (arith, longer, is_last_accepted)
+group_joined r entry from g joins = grind (arith, length-append, is_last_accepted)
 
 -- into a new group
 pub group_new : (r : Requests) (entry : Sqe)
     → ((k : ℕ) → suc k ≡ length r.accepted → is_last r k ≡ true)
     → IsGroup (with_accepted r entry) (length r.accepted) (length r.accepted + 1)
-group_new r entry closed = grind (arith, longer, is_last_accepted)
+group_new r entry closed = grind (arith, length-append, is_last_accepted)
 
 pub entry_same : (r : Requests) (entry : Sqe) (p : Sqe → Bool) (m : ℕ) → m < length r.accepted
     → p (entry_of (with_accepted r entry) m) ≡ p (entry_of r m)
@@ -61,17 +57,12 @@ pub first_entry_more : (r : Requests) (entry : Sqe) (p : Sqe → Bool) (from : �
     ≡ found_or (first_member (λ m. p (entry_of r m)) from (length r.accepted)) (p entry) (length r.accepted)
 first_entry_more r entry p from le = grind (arith, first_member_more, first_entry_accepted, entry_of_accepted_at)
 
-broke_accepted : (r : Requests) (entry : Sqe) (m : ℕ) → has_ended r (length r.accepted) ≡ false
-    → m < length r.accepted
-    → (is_soft (entry_of (with_accepted r entry) m) && has_failed (with_accepted r entry) m)
-    ≡ (is_soft (entry_of r m) && has_failed r m)
-broke_accepted r entry m none lt = grind (arith, (entry_same r entry is_soft m lt), (has_failed_accepted r entry m none))
-
 pub first_broken_accepted : (r : Requests) (entry : Sqe) (from end : ℕ)
     → has_ended r (length r.accepted) ≡ false
     → end ≤ length r.accepted
     → first_broken (with_accepted r entry) from end ≡ first_broken r from end
-first_broken_accepted r entry from end none le = grind (arith, first_member_same, broke_accepted)
+first_broken_accepted r entry from end none le =
+    first_member_same _ _ from end (λ m lt. grind (arith, (entry_same r entry is_soft m), (has_failed_accepted r entry m none)))
 
 pub first_broken_more : (r : Requests) (entry : Sqe) (from : ℕ)
     → has_ended r (length r.accepted) ≡ false

@@ -1,35 +1,23 @@
 -- What is doomed, drains and is ready, from what is known of its group: no more is needed of the members that have ended.
-use Rattle.std.proofs.Common.{◌≡◌, ℕ, zero, suc, ◌<◌, ◌≤◌, min, max, length, Bool, true, false, ◌&&◌, ◌||◌, leb, ltb, Option, Some, None, is_some, refl, ◌∙◌, arith, inl, inr}
-use Rattle.uring_entry.proofs.Common.{IsGroup, Requests, Sqe, cases_lt, entry_of, first_broken, first_drain, first_fault, first_member, has_ended, has_failed, if◌then◌else◌, is_after_failure, is_before, is_cancelled, is_doomed, is_drain, is_draining, is_faulty, is_in_faulty_group, is_in_group, is_joined, is_ready, is_soft, least_below, some_member}
+use Rattle.std.proofs.Common.{◌≡◌, ℕ, zero, suc, ◌-◌, ◌<◌, ◌≤◌, min, max, length, Bool, true, false, ◌&&◌, ◌||◌, leb, ltb, Option, Some, None, is_some, ◌∙◌, arith}
+use Rattle.uring_entry.proofs.Common.{IsGroup, Requests, Sqe, cases_eq, cases_lt, entry_of, first_broken, first_drain, first_fault, first_member, has_ended, has_failed, if◌then◌else◌, is_after_failure, is_before, is_cancelled, is_doomed, is_drain, is_draining, is_faulty, is_in_faulty_group, is_in_group, is_joined, is_ready, is_soft, least_below, some_member}
 use Rattle.uring_entry.specs.Why.{failed_member_of, is_failure_before}
 use Rattle.uring_entry.proofs.BelowLemmas.{least_below_between, least_below_same, least_below_tells, is_some_least_below, least_below_low}
 use Rattle.uring_entry.proofs.RequestLemmas.{is_joined_yes, is_joined_no, is_ready_yes, is_ready_no}
 
 -- Who is a member.
 
-joined_before : (r : Requests) (from end m n : ℕ) → IsGroup r from end → m < from → from ≤ n
-    → is_joined r m n ≡ false
-joined_before r zero end m n g low le = absurd (omega arith)
-joined_before r (suc k) end m n g low le =
-    is_joined_no r m n k (omega arith) (omega arith) (g.begins k refl)
-
 -- an earlier request is in a member's group if it isn't before the first member
 pub joined_member : (r : Requests) (from end m n : ℕ) → IsGroup r from end → from ≤ n → n < end
     → m ≤ n → is_joined r m n ≡ leb from m
-joined_member r from end m n g high lt le = grind (arith, (cases_lt m from), (joined_before r from end m n g), is_joined_yes)
+joined_member r from end m n g high lt le = grind (arith, (cases_lt m from), (is_joined_no r m n (from - 1)), (g.begins (from - 1)), is_joined_yes)
 
 -- a later one if it is before the end
-joined_after : (r : Requests) (from end n m : ℕ) → IsGroup r from end → from ≤ n → n < end
-    → m < length r.accepted → n < m → is_joined r n m ≡ ltb m end
-joined_after r from zero n m g high lt within after = absurd (omega arith)
-joined_after r from (suc k) n m g high lt within after =
-    grind (arith, (cases_lt m (suc k)), is_joined_yes, (is_joined_no r n m k), (g.ends k refl))
-
 pub in_group_member : (r : Requests) (from end n m : ℕ) → IsGroup r from end → from ≤ n → n < end
     → m < length r.accepted
     → is_in_group r m n ≡ (leb from m && ltb m end)
 in_group_member r from end n m g high lt within =
-    grind (arith, (min m n), (max m n), (joined_member r from end m n g high lt), (joined_after r from end n m g high lt within))
+    grind (arith, (min m n), (max m n), (joined_member r from end m n g high lt), (cases_lt m end), is_joined_yes, (is_joined_no r n m (end - 1)), (g.ends (end - 1)))
 
 -- Whether some member has a property.
 
@@ -64,11 +52,7 @@ kept_before o n = if is_before o n then o else None
 least_below_cut : (p : ℕ → Bool) (n end : ℕ) → n ≤ end
     → least_below p n ≡ kept_before (least_below p end) n
 least_below_cut p n zero le = grind arith
-least_below_cut p n (suc end) le =
-    elim (cases_lt end n) [
-      | inl past ↦ let same : n ≡ suc end = omega arith in grind (arith, least_below_low)
-      | inr high ↦ grind (arith, (least_below_cut p n end high), least_below_low)
-    ]
+least_below_cut p n (suc end) le = grind (arith, (cases_lt end n), (cases_eq n (suc end)), (least_below_cut p n end), least_below_low)
 
 -- the least earlier member that failed, if it is before n
 pub failed_member_is : (r : Requests) (from end n : ℕ) → IsGroup r from end → from ≤ n → n < end
@@ -97,7 +81,7 @@ pub ready_yes : (r : Requests) (from end n : ℕ) → IsGroup r from end → fro
     → ((m : ℕ) → m < from → has_ended r m ≡ false → is_draining r m ≡ false)
     → (is_draining r n ≡ true → (m : ℕ) → m < from → has_ended r m ≡ true) → is_ready r n ≡ true
 ready_yes r from end n g high lt members drains alone =
-    is_ready_yes r n (λ m low. grind (arith, (joined_before r from end m n g), (members m), (drains m), alone))
+    is_ready_yes r n (λ m low. grind (arith, (joined_member r from end m n g high lt), (members m), (drains m), alone))
 
 pub ready_not_member : (r : Requests) (from end n m : ℕ) → IsGroup r from end → n < end → from ≤ m
     → m < n → has_ended r m ≡ false
@@ -116,8 +100,7 @@ ready_not_after r n m low going drains = grind (arith, (is_ready_no r n m low))
 pub groups_apart : (r : Requests) (from end first last m : ℕ) → IsGroup r from end
     → IsGroup r first last → from ≤ m → m < end
     → m < first → first < end → ⊥
-groups_apart r from end zero last m g h high lt low inside = omega arith
-groups_apart r from end (suc k) last m g h high lt low inside = grind (arith, (g.joined k), (h.begins k refl))
+groups_apart r from end first last m g h high lt low inside = grind (arith, (g.joined (first - 1)), (h.begins (first - 1)))
 
 -- a least member that was found is a member
 pub first_member_inside : (p : ℕ → Bool) (from end k : ℕ) → first_member p from end ≡ Some k

@@ -1,5 +1,5 @@
 -- The 64 bytes of data and the eight words that hold them.
-use Rattle.std.proofs.Common.{◌≡◌, ℕ, zero, suc, ◌+◌, ◌*◌, ◌^◌, ◌<◌, ◌∙◌, refl, sym, ap, List, [], ◌∷◌, length, get_or, take, drop, set, take-add, arith}
+use Rattle.std.proofs.Common.{◌≡◌, ℕ, zero, suc, ◌+◌, ◌-◌, ◌*◌, ◌^◌, ◌<◌, ◌∙◌, refl, sym, ap, List, [], ◌∷◌, length, get_or, take, drop, set, take-add, arith}
 use Rattle.std.proofs.lemmas.List.{places, take_all, take_more}
 use Rattle.std.proofs.lemmas.Nat.{le_bytes_8}
 use Rattle.std.proofs.lemmas.Slice.{put_mid-paste, take-put_mid}
@@ -13,10 +13,6 @@ pub all_taken : (i : ℕ) (bytes words : List ℕ) → length words ≡ i → le
 all_taken i bytes words words_length bytes_length same =
     sym (take_all (8 * i) bytes (omega arith)) ∙ same ∙ ap bytes_of (take_all i words (omega arith))
 
-part_fits : (n k : ℕ) (xs : List ℕ) → ((i : ℕ) → get_or xs i 0 < 256) → (i : ℕ)
-    → get_or (take k (drop n xs)) i 0 < 256
-part_fits n k xs fits i = grind (arith, places, fits (n + i))
-
 -- one word more, which the next eight bytes make
 pub word_more : (i k word : ℕ) (bytes words eight : List ℕ) → i < length words
     → ((j : ℕ) → get_or bytes j 0 < 256)
@@ -24,7 +20,7 @@ pub word_more : (i k word : ℕ) (bytes words eight : List ℕ) → i < length w
     → bytes_of (take i words) ≡ take (8 * i) bytes
     → bytes_of (take (i + 1) (set words i word)) ≡ take (8 * (i + 1)) bytes
 word_more i k word bytes words eight within fits next k_is size is same =
-    let last : to_le_bytes w64 word ≡ eight = le_bytes_8 eight word size (λ j. rw next (part_fits (8 * i) k bytes fits j)) is in
+    let last : to_le_bytes w64 word ≡ eight = le_bytes_8 eight word size (λ j. rw next (grind (arith, places, fits (8 * i + j)))) is in
     let end : 8 * i + k ≡ 8 * (i + 1) = omega arith in
     cc (take_more_set words i word within, flat_map-append (to_le_bytes w64) (take i words) (word ∷ []), take-add (8 * i) k bytes)
 
@@ -45,5 +41,4 @@ last_eight words size = grind (arith, common_steps)
 pub words_set : (i word : ℕ) (words : List ℕ) → word < 2 ^ 64 → AreWords words
     → AreWords (set words i word)
 words_set i word [] lt h = tt
-words_set zero word (w ∷ words) lt h = (lt, h.1)
-words_set (suc i) word (w ∷ words) lt h = (h.0, words_set i word words lt h.1)
+words_set i word (w ∷ words) lt h = grind (arith, (words_set (i - 1) word words lt h.1))

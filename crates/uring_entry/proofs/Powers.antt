@@ -4,13 +4,9 @@ use Rattle.uring_entry.proofs.Common.{IsNextPowerOfTwo, IsPowerOfTwo, cases_lt}
 use Rattle.std.proofs.Math.Pow.{pow_mono}
 use Rattle.std.proofs.Math.Nat.{pow-suc}
 
--- of two powers, the one below twice the other is at most the other
-power_within : (p q : ℕ) → IsPowerOfTwo p → IsPowerOfTwo q → p < 2 * q → p ≤ q
-power_within p q (a, p_is) (b, q_is) below = grind (arith, (cases_lt b a), (pow-suc 2 b), pow_mono)
-
--- a size within a power of two is within it after rounding
+-- a size within a power of two is within it after rounding: of two powers, the one below twice the other is at most the other
 pub rounded_within : (n p q : ℕ) → IsNextPowerOfTwo n p → IsPowerOfTwo q → 1 ≤ n → n ≤ q → p ≤ q
-rounded_within n p q rounded power some within = grind (arith, (power_within p q rounded.0 power), rounded.2)
+rounded_within n p q ((a, p_is), above, below) (b, q_is) some within = grind (arith, (cases_lt b a), (pow-suc 2 b), pow_mono)
 
 -- a size is rounded in one way
 pub rounded_once : (n p q : ℕ) → IsNextPowerOfTwo n p → IsNextPowerOfTwo n q → 1 ≤ n → p ≡ q

@@ -7,7 +7,7 @@ pub use Rattle.uring_core.specs.CalledFor.{CalledFor, EndsOn, IsLawful, files_of
 pub use Rattle.uring_core.specs.Core.{Core, FitsApart, IsFinished, IsNoFinish, IsShortOfMemory, elements_for}
 pub use Rattle.uring_core.specs.Histories.{Event, History, IsLawfulApart, history_of, world}
 pub use Rattle.uring_core.specs.Recorded.{IsFirstWrongAnswer, IsFirstWrongApart, IsRefused, IsWrong, Meets, resumed}
-pub use Rattle.uring_core.specs.StepAnswers.{CalledForApart, FinishesApart, IsEnded, IsIssued, next_answer_of}
+pub use Rattle.uring_core.specs.StepAnswers.{CalledForApart, IsEnded, IsIssued, next_answer_of}
 pub use Rattle.uring_core.specs.World.{World, finishing, issuing, requests_of}
 pub use Rattle.uring_core.specs.declared.answer.Answer.{Answer}
 pub use Rattle.uring_core.specs.declared.step.Step.{Step}

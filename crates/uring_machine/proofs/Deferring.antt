@@ -29,18 +29,23 @@ IsAny g = Unit {0}
 in_order : (l : LinuxRequests) → IsSettled l → InOrder IsAny 0 l.drains.deferred l.drains.from
 in_order l s = order_kept (IsWaiting l.requests) IsAny 0 l.drains.deferred l.drains.from s.waiting (λ g there some within w. tt)
 
--- of the drains after a group: the ring drains as long as one is deferred, and none is new but that group
-record IsGrouped (r : Requests) (d later : Drains) : Type 0 where
-  pub from : later.from ≡ length r.accepted
-  pub ring : later.ring ≡ false → later.deferred ≡ []
-  pub passed : OnlyFaultyPass r (length r.accepted) later.deferred
-  pub fewer : (k : ℕ) → k < d.from → is_in_some later.deferred k ≡ true → is_in_some d.deferred k ≡ true
+-- of the requests
+pub record IsOrdered (l : LinuxRequests) : Type 0 where
+  pub amid : (k : ℕ) → l.drains.from ≤ k → k < length l.requests.accepted → is_last l.requests k ≡ false
+  pub ring : l.drains.ring ≡ false → l.drains.deferred ≡ []
+  pub passed : OnlyFaultyPass l.requests l.drains.from l.drains.deferred
+  pub known : (n : ℕ) → has_started l.requests n ≡ true → n < l.drains.from
+  pub started : (n k : ℕ) → has_started l.requests n ≡ true → is_deferred l k ≡ true → n < k
 
+-- a whole group was accepted after what was ordered
 group_ordered : (r : Requests) (d : Drains) → d.from < length r.accepted
     → ((k : ℕ) → d.from ≤ k → suc k < length r.accepted → is_last r k ≡ false)
     → InOrder IsAny 0 d.deferred d.from → (d.ring ≡ false → d.deferred ≡ [])
-    → OnlyFaultyPass r d.from d.deferred → IsGrouped r d (with_group r d)
-group_ordered r d some open_ order ring passed = go (not d.ring || is_faulty_from r d.from) refl where
+    → OnlyFaultyPass r d.from d.deferred
+    → ((n : ℕ) → has_started r n ≡ true → n < d.from)
+    → ((n k : ℕ) → has_started r n ≡ true → is_in_some d.deferred k ≡ true → n < k)
+    → IsOrdered (record { requests = r; drains = with_group r d })
+group_ordered r d some open_ order ring passed known started = go (not d.ring || is_faulty_from r d.from) refl where
   g : Deferred
   g = record { from = d.from; end = length r.accepted; drains = d.group }
 
@@ -59,27 +64,8 @@ group_ordered r d some open_ order ring passed = go (not d.ring || is_faulty_fro
       grind (arith, still_before, all_order, passed, is_old, still_fewer, both_ways, pushed_old, (pushed_new d.deferred g))
 
   go : (b : Bool) → (not d.ring || is_faulty_from r d.from) ≡ b
-      → IsGrouped r d (if b then with_deferred d (length r.accepted) d.deferred else with_ring (with_deferred d (length r.accepted) (after_going_on r (deferred_with d (length r.accepted)))) d.group)
-  go b e = grind (arith, ring, passed, not-true, group_faulty, not-false, or_parts, ring_off, gone_on, is_old, still_fewer)
-
--- of the requests
-pub record IsOrdered (l : LinuxRequests) : Type 0 where
-  pub amid : (k : ℕ) → l.drains.from ≤ k → k < length l.requests.accepted → is_last l.requests k ≡ false
-  pub ring : l.drains.ring ≡ false → l.drains.deferred ≡ []
-  pub passed : OnlyFaultyPass l.requests l.drains.from l.drains.deferred
-  pub known : (n : ℕ) → has_started l.requests n ≡ true → n < l.drains.from
-  pub started : (n k : ℕ) → has_started l.requests n ≡ true → is_deferred l k ≡ true → n < k
-
--- a whole group was accepted after what was ordered
-grouped_ordered : (r : Requests) (d later : Drains) → IsGrouped r d later → d.from < length r.accepted
-    → ((n : ℕ) → has_started r n ≡ true → n < d.from)
-    → ((n k : ℕ) → has_started r n ≡ true → is_in_some d.deferred k ≡ true → n < k)
-    → IsOrdered (record { requests = r; drains = later })
-grouped_ordered r d later g some known started = grind (arith, g)
-
-accepted_open : (l : LinuxRequests) (e : Sqe) → IsOrdered l → (k : ℕ) → l.drains.from ≤ k
-    → k < length l.requests.accepted → is_last (manual.with_accepted l.requests e) k ≡ false
-accepted_open l e o k le lt = last_accepted l.requests e k lt ∙ o.amid k le lt
+      → IsOrdered (record { requests = r; drains = if b then with_deferred d (length r.accepted) d.deferred else with_ring (with_deferred d (length r.accepted) (after_going_on r (deferred_with d (length r.accepted)))) d.group })
+  go b e = grind (arith, ring, passed, not-true, group_faulty, not-false, or_parts, ring_off, gone_on, is_old, still_fewer, known, started)
 
 accepted_ordered : (l : LinuxRequests) (e : Sqe) → IsSettled l → IsOrdered l → IsOrdered (with_accepted l e)
 accepted_ordered l e s o = go (is_linked e) refl where
@@ -103,7 +89,7 @@ accepted_ordered l e s o = go (is_linked e) refl where
 
   go : (b : Bool) → is_linked e ≡ b → IsOrdered (record { requests = r; drains = if b then d else with_group r d })
   go true linked = record {
-    amid = grind (arith, accepted_open, more, new_open);
+    amid = λ k le lt. grind (arith, (last_accepted l.requests e k), (o.amid k), more, new_open, (cases_lt k (length l.requests.accepted)), (cases_eq k (length l.requests.accepted)));
     ring = ring;
     passed = passed;
     known = o.known;
@@ -112,7 +98,7 @@ accepted_ordered l e s o = go (is_linked e) refl where
   go false free =
       let low = s.low in
       let some : d.from < length r.accepted = omega (arith, low, more) in
-      grouped_ordered r d (with_group r d) (group_ordered r d some (λ k le lt. accepted_open l e o k le (omega (arith, lt, more))) (in_order l s) ring passed) some o.known o.started
+      group_ordered r d some (λ k le lt. grind (arith, (last_accepted l.requests e k), (o.amid k), more)) (in_order l s) ring passed o.known o.started
 
 entries_ordered : (l : LinuxRequests) (entries : List Sqe) → IsSettled l → IsOrdered l
     → IsOrdered (with_entries l entries)
@@ -131,19 +117,10 @@ cut_ordered l s o = go (nat_lt l.drains.from (length l.requests.accepted)) refl 
   go : (b : Bool) → nat_lt l.drains.from (length l.requests.accepted) ≡ b → IsOrdered (record { requests = r; drains = if b then with_group r l.drains else l.drains })
   go true e =
       let some : l.drains.from < length r.accepted = ltb-true _ _ e in
-      grouped_ordered r l.drains (with_group r l.drains)
-      (group_ordered r l.drains some (λ k le lt. is_last_cut l.requests k (λ f. absurd (omega (arith, f, lt))) ∙ o.amid k le (omega arith)) (in_order l s) o.ring passed)
-      some o.known o.started
+      group_ordered r l.drains some (λ k le lt. is_last_cut l.requests k (λ f. absurd (omega (arith, f, lt))) ∙ o.amid k le (omega arith)) (in_order l s) o.ring passed o.known o.started
   go false e = grind (arith, o, passed)
 
 -- A request starts or ends.
-
--- what starts, and isn't doomed, comes before whatever is deferred
-start_before : (l : LinuxRequests) (n k : ℕ) → IsOrdered l
-    → length l.requests.accepted ≤ l.drains.from → is_issuable l n ≡ true
-    → is_doomed l.requests n ≡ false → is_deferred l k ≡ true → n < k
-start_before l n k o closed can spared there =
-    grind (arith, (cases_lt n k), (cases_eq n k), (o.passed n k))
 
 start_ordered : (l : LinuxRequests) (n : ℕ) → IsOrdered l → length l.requests.accepted ≤ l.drains.from
     → is_issuable l n ≡ true → is_doomed l.requests n ≡ false
@@ -155,7 +132,8 @@ start_ordered l n o closed can spared =
       ring = o.ring;
       passed = λ m k lt under there out. faulty_started l.requests n m ∙ o.passed m k lt under there out;
       known = grind (arith, added_other);
-      started = grind (arith, start_before, added_other);
+      -- what starts, and isn't doomed, comes before whatever is deferred
+      started = λ m k is there. grind (arith, (cases_lt n k), (cases_eq n k), (o.passed n k), (o.started m k), added_other);
     }
 
 end_ordered : (l : LinuxRequests) (n : ℕ) (res : ℤ) (bytes : List ℕ) → IsBetween l → IsOrdered l

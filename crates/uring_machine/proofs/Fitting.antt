@@ -9,22 +9,17 @@ use Rattle.uring_core.specs.declared.answer.Answer.TheVariants as answer
 use Rattle.uring_core.proofs.FileHistory.{files_kept, files_ended}
 use Rattle.uring_core.proofs.Running.{runs_with}
 
--- but for a finish, answers are called for as they are apart from files
-called_apart : (g : Setup) (w : World) (s : Step) (a : Answer) → IsNoFinish s
-    → CalledForApart g w s a → CalledFor g w s a
-called_apart g w (step.Finish n) a other called = absurd other
-called_apart g w _ a other called = called
-
--- the machine with another core of its shape
+-- the machine with another core of its shape: but for a finish, answers are called for as they are apart from files
 pub step_fits : (core later : Core) (files : List FileContents) (s : Step) (a : Answer) (h : History)
     → later.setup ≡ core.setup → IsNoFinish s
     → Fits (record { core = core; files = files }) h → FitsApart later ((s, a) ∷ h)
     → Fits (record { core = later; files = files }) ((s, a) ∷ h)
 step_fits core later files s a h same other fits next =
+    let called : CalledForApart later.setup (world later.setup h) s a = next.lawful.0 in
     record {
       core = next;
       files = rw (files_kept later.setup s a h next.lawful other, same) fits.files;
-      lawful = (called_apart later.setup (world later.setup h) s a other next.lawful.0, subst (λ k. IsLawful k h) (sym same) fits.lawful);
+      lawful = (grind arith, subst (λ k. IsLawful k h) (sym same) fits.lawful);
     }
 
 -- a running request ended
@@ -65,8 +60,7 @@ finish_idle core files n h none =
 -- a step that is no Finish and isn't answered Again refuses no memory
 pub unrefused_apart : (g : Setup) (w : World) (s : Step) (a : Answer) → IsNoFinish s
     → (a ≡ answer.Again → ⊥) → IsUnrefused g w s a
-unrefused_apart g w (step.Finish n) a other ok = absurd other
-unrefused_apart g w _ a other ok = ok
+unrefused_apart g w s a other ok = grind arith
 
 pub unrefused_finish : (g : Setup) (w : World) (p : Core) (s : Step) (k : ℕ) (a : Answer) (n : ℕ)
     → s ≡ step.Finish k → (max_len ≤ n → a ≡ finish_answer (files_of g w) w.requests k)
@@ -75,8 +69,7 @@ unrefused_finish g w p s k a n is right = rw is right
 
 pub elements_apart : (p : Core) (w : World) (s : Step) (n : ℕ) → IsNoFinish s
     → elements_for_step p w s ≤ n → elements_for p w s ≤ n
-elements_apart p w (step.Finish k) n other few = absurd other
-elements_apart p w _ n other few = few
+elements_apart p w s n other few = grind arith
 
 -- an event of a fitted history was called for
 pub called_for : (g : Setup) (core : Core) (files : List FileContents) (s : Step) (a : Answer) (h : History)

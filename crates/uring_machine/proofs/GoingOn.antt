@@ -1,20 +1,14 @@
 -- Where something is outstanding, the least of it runs, or something can be issued: by either's rules.
 use Rattle.std.proofs.Common.{◌≡◌, ℕ, ◌<◌, Bool, true, false, not, ◌&&◌, length, Some, is_some, refl, sym, ap, subst, arith, ◌⊎◌}
 use Rattle.uring_machine.proofs.Common.{History, IsLawfulApart, LinuxRequests, Setup, is_deferred, is_outstanding, is_running, least_of, least_of_goes_on, requests_of, world}
-use Rattle.uring_entry.proofs.BelowLemmas.{IsLeast, least_below_tells, is_some_least_below, some_below_some}
+use Rattle.uring_entry.proofs.BelowLemmas.{least_below_tells, is_some_least_below, some_below_some}
 use Rattle.uring_linux.specs.Happenings.{made_by}
 use Rattle.uring_linux.proofs.GoingOn.{goes_on_from}
 use Rattle.uring_rules.specs.Rules.{is_issuable, next_of}
 use Rattle.uring_core.proofs.LinuxHistories.{by_linux, HasHappened, history_happens}
-use Rattle.uring_machine.proofs.Deferring.{IsOrdered, all_ordered}
+use Rattle.uring_machine.proofs.Deferring.{all_ordered}
 
 -- What goes on.
-
--- a running request comes before whatever is deferred: so if the least outstanding one is deferred, none runs
-runs_first : (l : LinuxRequests) (n m : ℕ) → IsOrdered l
-    → IsLeast (is_outstanding l.requests) (length l.requests.accepted) n
-    → m < length l.requests.accepted → is_running l.requests m ≡ true → is_deferred l n ≡ false
-runs_first l n m o least within running = grind arith
 
 abbrev GoesOn : Bool → LinuxRequests → ℕ → Type 0
 GoesOn linux l n = (is_running l.requests n ≡ true) ⊎ (is_some (next_of linux l) ≡ true)
@@ -25,25 +19,22 @@ issuable_next linux l n lt can =
     rw is_some_least_below (some_below_some (is_issuable linux l) (length l.requests.accepted) n lt can)
 
 by_linux_goes : (l : LinuxRequests) (n : ℕ) → HasHappened l → least_of l.requests ≡ Some n → GoesOn true l n
-by_linux_goes l n so e = subst (λ k. GoesOn true k n) so.made (go (subst (λ (k : LinuxRequests). least_of k.requests ≡ Some n) (sym so.made) e)) where
-  go : least_of (made_by so.happened).requests ≡ Some n → GoesOn true (made_by so.happened) n
-  go is =
-      let k : LinuxRequests = made_by so.happened in
-      let on = goes_on_from so.happened n so.may is in
-      let m : ℕ = on.number in
-      let free = least_below_tells (λ j. is_outstanding k.requests j && not (is_deferred k j)) (length k.requests.accepted) m on.least in
-      let least = least_below_tells (is_outstanding k.requests) (length k.requests.accepted) n is in
-      grind (arith, on.goes, (issuable_next true k m), runs_first, all_ordered)
-
-by_manual_goes : (l : LinuxRequests) (n : ℕ) → least_of l.requests ≡ Some n → GoesOn false l n
-by_manual_goes l n e =
-    grind (arith, (least_of_goes_on l.requests n e), (issuable_next false l n), (least_below_tells (is_outstanding l.requests) (length l.requests.accepted) n e))
+by_linux_goes l n so e =
+    let k : LinuxRequests = made_by so.happened in
+    let is : least_of k.requests ≡ Some n = cc (so.made, e) in
+    let on = goes_on_from so.happened n so.may is in
+    let m : ℕ = on.number in
+    let free = least_below_tells (λ j. is_outstanding k.requests j && not (is_deferred k j)) (length k.requests.accepted) m on.least in
+    let least = least_below_tells (is_outstanding k.requests) (length k.requests.accepted) n is in
+    subst (λ l. GoesOn true l n) so.made (grind (arith, on.goes, (issuable_next true k m), all_ordered))
 
 pub least_goes_on : (g : Setup) (h : History) (n : ℕ) → IsLawfulApart g h
     → least_of (world g h).requests ≡ Some n → GoesOn g.linux (requests_of (world g h)) n
 least_goes_on g h n lawful least = go g.linux refl where
   go : (linux : Bool) → g.linux ≡ linux → GoesOn linux (requests_of (world g h)) n
-  go false is = by_manual_goes (requests_of (world g h)) n least
+  go false is =
+      let l = requests_of (world g h) in
+      grind (arith, (least_of_goes_on l.requests n least), (issuable_next false l n), (least_below_tells (is_outstanding l.requests) (length l.requests.accepted) n least))
   go true is =
       let same : g ≡ by_linux g = ap (λ linux. record g { linux = linux }) is in
       by_linux_goes (requests_of (world g h)) n

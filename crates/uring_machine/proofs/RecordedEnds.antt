@@ -1,6 +1,6 @@
 -- Answers that were recorded elsewhere, with files: what a machine fits after a step was followed, and what is called for as a request ends.
-use Rattle.std.proofs.Common.{◌≡◌, ◌↔◌, ℕ, arith, ℤ, neg_ℤ, true, false, List, ◌∷◌, Some, None, refl, sym, subst, ◌∙◌, inl, inr}
-use Rattle.uring_machine.proofs.Common.{Answer, CalledFor, CalledForApart, Core, EndsOn, Err, FileContents, Fits, FitsApart, History, IfErr, IsFinished, IsLawful, IsNoFinish, IsOutcome, IsRefused, IsShortOfMemory, IsWrong, Machine, MayLackMemory, Meets, Ok, OnOk, Refusal, Requests, Result, Setup, Step, World, after, ended_with, entry_of, files_of, is_lengthening, is_running, no_bytes, operation_running, result_of, resumed, world}
+use Rattle.std.proofs.Common.{◌≡◌, ◌↔◌, ℕ, arith, ℤ, neg_ℤ, true, false, List, ◌∷◌, Some, None, refl, sym, ◌∙◌, inl, inr}
+use Rattle.uring_machine.proofs.Common.{Answer, CalledFor, CalledForApart, Core, EndsOn, Err, FileContents, Fits, FitsApart, History, IfErr, IsFinished, IsNoFinish, IsOutcome, IsRefused, IsShortOfMemory, IsWrong, Machine, MayLackMemory, Meets, Ok, OnOk, Refusal, Requests, Result, Setup, Step, World, after, ended_with, entry_of, files_of, is_lengthening, is_running, no_bytes, operation_running, result_of, resumed, world}
 use Rattle.uring_entry.specs.Preparation.{operation_of}
 use Rattle.uring_entry.specs.declared.errno.TheConstants.{ENOMEM}
 use Rattle.uring_entry.specs.declared.operation.Op.{Op}
@@ -21,11 +21,7 @@ pub kept_fits : (core later : Core) (files left : List FileContents) (h : Histor
     → later.setup ≡ core.setup → left ≡ files → Fits (record { core = core; files = files }) h
     → FitsApart later h
     → Fits (record { core = later; files = left }) h
-kept_fits core later files left h same untouched fits next = record {
-  core = next;
-  files = untouched ∙ subst (λ k. files ≡ files_of k (world k h)) (sym same) fits.files;
-  lawful = subst (λ k. IsLawful k h) (sym same) fits.lawful;
-}
+kept_fits core later files left h same untouched fits next = grind (arith, fits, next)
 
 pub resumed_fits : (core later : Core) (files : List FileContents) (s : Step) (refusal : Refusal) (h : History)
     → later.setup ≡ core.setup → IsNoFinish s
@@ -56,8 +52,7 @@ refused_apart g w _ a refusal other refused = refused
 
 pub lacks_apart : (m : Machine) (w : World) (s : Step) → IsNoFinish s → IsShortOfMemory m.core w s
     → MayLackMemory m w s
-lacks_apart m w (step.Finish n) other short = absurd other
-lacks_apart m w _ other short = short
+lacks_apart m w s other short = grind arith
 
 -- A Finish of what doesn't run.
 
@@ -79,8 +74,7 @@ EndsWith files op _ = ⊥
 
 ends_on : (files : List FileContents) (r : Requests) (n : ℕ) (a : Answer)
     → EndsOn files r n true a ↔ EndsWith files (operation_of (entry_of r n)) a
-ends_on files r n (answer.Ended res bytes) = ((λ called. called), (λ called. called))
-ends_on files r n _ = ((λ called. called), (λ called. called))
+ends_on files r n a = (λ called. grind arith, λ called. grind arith)
 
 -- What runs in a machine that fits a history: what is called for, by the operation and the machine's files.
 pub record RunsWith (m : Machine) (h : History) (n : ℕ) (op : Op) : Type 0 where
@@ -103,26 +97,15 @@ runs_so m h n op fits is =
     }
 
 -- one end alone is called for where the operation doesn't make its file longer
-one_end : (files : List FileContents) (op : Op) → is_lengthening files op ≡ false → (a b : Answer)
-    → EndsWith files op a → EndsWith files op b → a ≡ b
-one_end files op short (answer.Ended res bytes) (answer.Ended res' bytes') e f = grind arith
-one_end files op short (answer.Ended res bytes) _ e f = absurd f
-one_end files op short _ b e f = absurd e
-
 pub end_refused : (m : Machine) (h : History) (n : ℕ) (op : Op) (x a : Answer) (refusal : Refusal)
     → RunsWith m h n op → is_lengthening m.files op ≡ false
     → CalledFor m.core.setup (world m.core.setup h) (step.Finish n) x → refusal ≡ Wrong (Only x)
     → (a ≡ x → ⊥)
     → IsRefused (CalledFor m.core.setup (world m.core.setup h) (step.Finish n)) a refusal
 end_refused m h n op x a refusal runs short called is other =
-    rw is (wrong_beside _ x a called (λ b k. one_end m.files op short b x (runs.ends b k) (runs.ends x called)) other)
+    rw is (wrong_beside _ x a called (λ b k. grind (arith, runs.ends b k, runs.ends x called)) other)
 
 -- The write makes its file longer.
-
-growth_ends : (files : List FileContents) (op : Op) (res : ℤ) (a : Answer)
-    → result_of files op ≡ ended_with res → EndsWith files op a → Meets (EndOrNoMemory res) a
-growth_ends files op res (answer.Ended r bytes) is e = grind arith
-growth_ends files op res _ is e = absurd e
 
 ends_growth : (files : List FileContents) (op : Op) (res : ℤ) (a : Answer)
     → is_lengthening files op ≡ true → result_of files op ≡ ended_with res
@@ -134,8 +117,8 @@ pub growth_wrong : (m : Machine) (h : History) (n : ℕ) (op : Op) (res : ℤ) (
     → (a ≡ answer.Ended (neg_ℤ ENOMEM) no_bytes → ⊥) → (a ≡ answer.Ended res no_bytes → ⊥)
     → IsWrong (CalledFor m.core.setup (world m.core.setup h) (step.Finish n)) a (EndOrNoMemory res)
 growth_wrong m h n op res a runs long is no_failure no_success = record {
-  not_called = λ k. grind (arith, (growth_ends m.files op res a is (runs.ends a k)));
-  called = λ b k. growth_ends m.files op res b is (runs.ends b k);
+  not_called = λ k. grind (arith, (runs.ends a k));
+  called = λ b k. grind (arith, (runs.ends b k));
   only = λ b k. runs.called b (ends_growth m.files op res b long is k);
 }
 

@@ -13,14 +13,9 @@ use Rattle.uring_core.proofs.Issuable.{issue_goes, issued_ends, issuable_outstan
 
 -- Ends, each of which leaves one outstanding request less.
 
-issued_less : (linux : Bool) (r : Requests) (n : ℕ) (res : ℤ) → is_outstanding r n ≡ true
-    → outstanding_in (with_issued_end linux r n res) + 1 ≡ outstanding_in r
-issued_less true r n res outstanding = ended_less r n res no_bytes outstanding
-issued_less false r n res outstanding = ended_less r n res no_bytes outstanding
-
 issue_less : (g : Setup) (w : World) (n : ℕ) (a : Answer) → is_outstanding w.requests n ≡ true
     → IsEnded a → outstanding_in (issuing g w n a).requests + 1 ≡ outstanding_in w.requests
-issue_less g w n (answer.Ended res bytes) outstanding ended = grind (arith, issued_less)
+issue_less g w n (answer.Ended res bytes) outstanding ended = grind (arith, (ended_less w.requests n res no_bytes outstanding))
 issue_less g w n _ outstanding ended = absurd ended
 
 finish_less : (g : Setup) (w : World) (n : ℕ) (a : Answer) → is_outstanding w.requests n ≡ true

@@ -1,5 +1,5 @@
 -- What the words ask for, as clap's matches say.
-use Rattle.std.proofs.Common.{◌≡◌, ◌∙◌, arith, Bool, List, Option, Some, None, refl, ap, ap₂, subst}
+use Rattle.std.proofs.Common.{◌≡◌, ◌∙◌, arith, Bool, List, Option, refl, ap, ap₂, subst}
 use Rattle.uring_options.proofs.Common.{HasMatchesOf, IsGiven, IsPlayedOver, IsSetupOver, IsTracedOver, Numbers, Row, Setup, Text, codes, option_map, subcommand_of, subcommand_rows_of, uring}
 use Rattle.clap.specs.Matches.{subcommand_name_of}
 use Rattle.clap.specs.declared.parser.matches.ArgMatches.{ArgMatches}
@@ -10,16 +10,14 @@ use Rattle.uring_options.proofs.CommandOptions.{uring_is_simple}
 
 map_twice : {A B C : Type 0} (f : A → B) (g : B → C) (o : Option A)
     → option_map g (option_map f o) ≡ option_map (λ x. g (f x)) o
-map_twice f g None = refl
-map_twice f g (Some x) = refl
+map_twice f g o = grind arith
 
 -- a command has a name and what is given after it
 both_given : (sub : Option (Text × List Row)) (name : Option Text) (rows : Option (List Row))
     → option_map (λ p. p.0) sub ≡ name → option_map (λ p. p.1) sub ≡ rows
     → (o : Option (Text × List Row)) → option_map (λ p. p.0) o ≡ name
     → option_map (λ p. p.1) o ≡ rows → o ≡ sub
-both_given (Some q) name rows n r (Some p) m s = grind arith
-both_given _ name rows n r _ m s = grind arith
+both_given sub name rows n r o m s = grind arith
 
 -- what clap's matches have of a command is what the words name
 pub named_by : (m : ArgMatches) (words : List Text) (o : Option (Text × List Row))
@@ -32,16 +30,13 @@ named_by m words o has name rows =
 
 -- ---- what is asked for over a set-up
 
-abbrev with_asked : Setup → (stops linux : Bool) → Setup
-with_asked s stops linux = record s { stops = stops; linux = linux }
-
 -- the set-up of numbers, whose calls stop and whose rules are Linux's if that is asked for
 pub traced_over : (rows : List Row) (n : Numbers) (s t : Setup) → IsSetupOver n s
     → (stops linux : Bool) → IsGiven rows (codes "stop") stops → IsGiven rows (codes "linux") linux
     → t ≡ record s { stops = stops; linux = linux }
     → IsTracedOver rows n t
 traced_over rows n s t over stops linux stop given is =
-    rw is (subst (IsSetupOver n) (ap₂ (with_asked s) over.goes_on over.manual) over, (stop, given))
+    rw is (subst (IsSetupOver n) (ap₂ (λ stops linux. record s { stops = stops; linux = linux }) over.goes_on over.manual) over, (stop, given))
 
 pub played_setup : (rows : List Row) (n : Numbers) (s t : Setup) → IsSetupOver n s → (linux : Bool)
     → IsGiven rows (codes "linux") linux → t ≡ record s { linux = linux } → IsPlayedOver rows n t

@@ -53,11 +53,6 @@ abbrev TakesAt : List Text → Shape → Type 0
 TakesAt words s =
     level_fault s [] nothing_held words false [] ≡ [] → TakesNamed (Some (rows_at s words))
 
-each_taken : (words : List Text) → Each (TakesAt words) (built uring).subs
-each_taken words =
-    let at = taken_for words in
-    (at Traces, (at Explains, (at Checks, (at Plays, (at Crashes, (at Lists, (at Fills, ((λ passes. nothing_taken), tt))))))))
-
 stop_taken : (stop : Option (Text × List Text)) → entered_fault (built uring) stop ≡ []
     → TakesNamed (entered (built uring) stop)
 stop_taken None passes = nothing_taken
@@ -67,7 +62,7 @@ stop_taken (Some p) passes =
     go : (o : Option Shape) → find (λ s. answers_to p.0 (label_of s)) (built uring).subs ≡ o → option_map_or (λ s. level_fault s [] nothing_held p.1 false []) o [] ≡ []
         → TakesNamed (option_map (λ s. rows_at s p.1) o)
     go None found e = nothing_taken
-    go (Some s) found e = each_among (TakesAt p.1) (built uring).subs s (each_taken p.1) (found_among (λ s. answers_to p.0 (label_of s)) (built uring).subs s found).0 e
+    go (Some s) found e = each_among (TakesAt p.1) (built uring).subs s (let at = taken_for p.1 in (at Traces, (at Explains, (at Checks, (at Plays, (at Crashes, (at Lists, (at Fills, ((λ passes. nothing_taken), tt))))))))) (found_among (λ s. answers_to p.0 (label_of s)) (built uring).subs s found).0 e
 
 -- of words without a fault the options of the command have texts that passed their parsers
 pub words_taken : (words : List Text) → fault_of uring words ≡ []

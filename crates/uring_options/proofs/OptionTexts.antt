@@ -26,8 +26,7 @@ parsers_of id (a ∷ rules) =
 among_parsers : (id : Text) (rules : List Rule) (a : Rule) → Among a rules → bytes_eq a.id id ≡ true
     → Among (parser_of_value a.parser) (parsers_of id rules)
 among_parsers id [] a among named = absurd among
-among_parsers id (b ∷ rules) a (inl here) named = grind arith
-among_parsers id (b ∷ rules) a (inr later) named = grind (arith, (among_parsers id rules a later named))
+among_parsers id (b ∷ rules) a among named = grind (arith, (among_parsers id rules a))
 
 -- the rules have one of this option's name, with its parser
 abbrev pub parsers_for : List Rule → CommandOption → List ValueParser
@@ -87,11 +86,4 @@ pub flag_given : (f : Found) (id : Text) (r : Bool) → (one_text f id ≡ None 
     → TakesOption (rows_of f) (flag id) → IsGiven (rows_of f) id r
 flag_given f id r none set unset (inl absent) = rw (none (one_text-rows f id ∙ absent)) (inl absent)
 flag_given f id r none set unset (inr (text, ignore_case, is, passed)) =
-    elim (or_cases (bytes_eq text (codes "true")) (bytes_eq text (codes "false")) passed) [
-      | inl same ↦
-          let given = rw ((bytes_eq-Decides text (codes "true")).0 same) at is in
-          rw (set (one_text-rows f id ∙ given)) given
-      | inr same ↦
-          let given = rw ((bytes_eq-Decides text (codes "false")).0 same) at is in
-          rw (unset (one_text-rows f id ∙ given)) (inr given)
-    ]
+    grind (arith, (or_cases (bytes_eq text (codes "true")) (bytes_eq text (codes "false")) passed), ((bytes_eq-Decides text (codes "true")).0), ((bytes_eq-Decides text (codes "false")).0), (one_text-rows f id))

@@ -1,6 +1,6 @@
 -- When numbers are refused, and what else a command line can end with.
 use Rattle.std.proofs.Common.{◌≡◌, ◌∙◌, ◌*◌, ◌≤◌, ◌^◌, ◌↔◌, ℕ, zero, suc, List, [], Option, Some, None, Result, Ok, Err, refl, inl, inr, arith}
-use Rattle.uring_options.proofs.Common.{AnswersNamed, AreInRange, AskFor, AskForTooSmall, Gives, HasKind, IfErr, IfOk, IsBadCq, IsErrAnd, IsErrOf, IsFaultOf, IsMemory, IsSetupOver, IsTooSmall, IsWithin, Numbers, Row, Setup, Text, Writes, cases_lt, codes, command_rows, subcommand_of, unwrap_or, uring}
+use Rattle.uring_options.proofs.Common.{AnswersNamed, AreInRange, AskFor, AskForTooSmall, HasKind, IfErr, IfOk, IsBadCq, IsErrAnd, IsErrOf, IsFaultOf, IsMemory, IsSetupOver, IsTooSmall, IsWithin, Numbers, Setup, Text, Writes, cases_lt, subcommand_of, unwrap_or, uring}
 use Rattle.std.specs.Int.{IsNextPowerOfTwo}
 use Rattle.std.proofs.Math.Nat.{pow-suc}
 use Rattle.clap.specs.Faults.{fault_of}
@@ -25,7 +25,9 @@ rounding (suc k) n some within = elim (cases_lt (2 ^ k) n) [
 pub too_small : (n : Numbers) → AreInRange n
     → ((p : ℕ) → IsNextPowerOfTwo (unwrap_or n.sq 4) p → IsBadCq p n.cq) → IsTooSmall n
 too_small n ranges bad =
-    let sq = asked n.sq ranges.sq in sizes (rounding 12 (unwrap_or n.sq 4) sq.0 sq.1)
+    let sq = asked n.sq ranges.sq in
+    let p = rounding 12 (unwrap_or n.sq 4) sq.0 sq.1 in
+    given p.0 p.1 n.cq refl ranges.cq (bad p.0 p.1)
   where
     asked : (sq : Option ℕ) → IsWithin 1 4096 sq → (1 ≤ unwrap_or sq 4) × (unwrap_or sq 4 ≤ 2 ^ 12)
     asked sq within = grind arith
@@ -34,21 +36,13 @@ too_small n ranges bad =
     given p rounded None is within none = absurd none
     given p rounded (Some cq) is within bad = grind (arith, (rounding 13 cq within.0 within.1))
 
-    sizes : ((p : ℕ) × IsNextPowerOfTwo (unwrap_or n.sq 4) p) → IsTooSmall n
-    sizes p = given p.0 p.1 n.cq refl ranges.cq (bad p.0 p.1)
-
 -- ---- one outcome excludes the others
-
-gives_once : (rows : List Row) (id : Text) (a b : Option ℕ) → Gives rows id a → Gives rows id b
-    → a ≡ b
-gives_once rows id a b x y = grind arith
 
 not_over : (words : List Text) (n : Numbers) (s : Setup) → Writes words n → IsSetupOver n s
     → AskForTooSmall words → ⊥
 not_over words n s writes set_up (m, small_writes, small) =
-    let rows : List Row = command_rows (subcommand_of uring words) in
-    let sq = gives_once rows (codes "sq") n.sq m.sq writes.numbers.sq small_writes.numbers.sq in
-    let given = gives_once rows (codes "cq") n.cq m.cq writes.numbers.cq small_writes.numbers.cq ∙ small.given in
+    let sq : n.sq ≡ m.sq = grind (arith, writes.numbers.sq, small_writes.numbers.sq) in
+    let given : n.cq ≡ Some small.cq = grind (arith, writes.numbers.cq, small_writes.numbers.cq, small.given) in
     let same_sq = rounded_once (unwrap_or m.sq 4) s.sq small.sq_size (rw sq at set_up.sq_rounded) small.sq_rounded (rw sq at set_up.sq_asked) in
     let same_cq = rounded_once small.cq s.cq small.cq_size (rw given at set_up.cq_rounded) small.cq_rounded (rw given at set_up.cq_asked) in
     omega (arith, set_up.limits.cq_holds_sq, small.smaller)
@@ -89,7 +83,5 @@ refusal_is_fault words r outcome = grind (arith, outcome.1)
 
 pub small_exactly : (words : List Text) (r : Result Options OptionsFault) → Outcome words r
     → IsErrOf r Small ↔ (AskForTooSmall words × ¬ IsErrAnd r IsMemory)
-small_exactly words (Ok o) outcome =
-    ((λ e. absurd cc), (λ h. absurd (not_both words o outcome.0 h.0)))
-small_exactly words (Err Small) outcome = ((λ _. (outcome.1, λ m. m)), (λ _. refl))
-small_exactly words (Err (Words e)) outcome = ((λ e. absurd cc), (λ h. absurd (h.1 (grind (arith, h.0.1.no_fault, outcome.1)))))
+small_exactly words (Ok o) outcome = grind (arith, not_both words o)
+small_exactly words (Err f) outcome = (λ e. grind arith, λ h. grind (arith, h.0.1.no_fault, outcome.1))

@@ -133,13 +133,10 @@ module _ (s : Shape) (plain_rules : list_all is_plain s.rules ≡ true) (once : 
   -- ---- a word
 
   plain_row : (waiting : Waiting) (word : Text) (h : Held) → (plain_word s.rules waiting word h).0.rows ≡ h.rows
-  plain_row (option id) word h = grind arith
-  plain_row _ word h = refl
+  plain_row waiting word h = grind arith
 
   after_row : (waiting : Waiting) (word : Text) (h : Held) (x : Outcome) → (after_flag s.rules waiting word h x).0.rows ≡ h.rows
-  after_row waiting word h done = refl
-  after_row waiting word h (waits id) = refl
-  after_row waiting word h _ = plain_row waiting word h
+  after_row waiting word h x = grind (arith, plain_row)
 
   flag_word_row : (waiting : Waiting) (word : Text) (o : Option (Text × Option Text)) (h : Held)
       → Keeps h.rows (flag_word_fault s.rules s.args_override_self o word h) (long_or_other s.rules waiting word o h).0.rows

@@ -24,8 +24,7 @@ first_append x ps ds h none = grind (arith, false≢true)
 both_calls : (b : Bool) (xs ys : List Position) → AreWholeFrom b xs → has_close_mark xs ≡ false
     → (calls_of (xs ++ ys) ≡ calls_of xs ++ calls_of ys) × (has_close_mark (xs ++ ys) ≡ has_close_mark ys) × (AreWholeFrom b (xs ++ ys) ↔ AreWhole ys)
 both_calls b [] ys h none = grind arith
-both_calls b (position.More x ∷ ps) ys h none = grind (arith, (both_calls true ps ys h none), first_append)
-both_calls b (_ ∷ ps) ys h none = grind (arith, both_calls false ps ys, false≢true)
+both_calls b (p ∷ ps) ys h none = grind (arith, both_calls true ps ys, both_calls false ps ys, first_append, false≢true)
 
 pub whole_both : (b : Bool) (xs ys : List Position) → AreWholeFrom b xs → has_close_mark xs ≡ false
     → AreWholeFrom b (xs ++ ys) ↔ AreWhole ys
@@ -58,22 +57,18 @@ holds_close xs whole none = grind (arith, both_calls false xs (position.Close �
 items_calls_of : (b : Bool) (ps : List Position) → AreWholeFrom b ps
     → items_of ps ≡ items_of_calls (calls_of ps)
 items_calls_of b [] h = refl
-items_calls_of b (position.More x ∷ ps) h = grind (arith, (items_calls_of true ps h))
-items_calls_of b (_ ∷ ps) h = grind (arith, items_calls_of false ps)
+items_calls_of b (p ∷ ps) h = grind (arith, items_calls_of true ps, items_calls_of false ps)
 
 -- whole calls take as many places as there are of them
 pub places : (b : Bool) (ps : List Position) → AreWholeFrom b ps → places_of (put_of ps) ≡ length ps
 places b [] h = refl
-places b (position.More x ∷ ps) h = grind (arith, (places true ps h))
-places b (_ ∷ ps) h = grind (arith, places false ps)
+places b (p ∷ ps) h = grind (arith, places true ps, places false ps)
 
 -- nothing is after the close mark
 nothing_after : (b : Bool) (xs ys : List Position) → AreWholeFrom b (xs ++ ys)
     → has_close_mark xs ≡ true → ys ≡ []
 nothing_after b [] ys h closed = absurd (false≢true closed)
-nothing_after b (position.More x ∷ ps) ys h closed = nothing_after true ps ys h closed
-nothing_after b (position.Last x ∷ ps) ys h closed = nothing_after false ps ys h closed
-nothing_after b (position.Close ∷ ps) ys h closed = nil_from_length ys (omega (arith, ap length h.1, length-append ps ys))
+nothing_after b (p ∷ ps) ys h closed = grind (arith, nothing_after true ps ys, nothing_after false ps ys, nil_from_length, length-append ps ys)
 
 -- after items that others of their call follow comes the rest of the call
 inside : (xs : List Item) (ps : List Position) → AreWholeFrom true (all_more xs ++ ps) → AreWholeFrom true ps

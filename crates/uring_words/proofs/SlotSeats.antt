@@ -1,5 +1,5 @@
 -- A step that keeps the agreement keeps the rule, and so do the cutting of the first seat and the joining of two: of any table whose slots the two sides hand to each other.
-use Rattle.std.proofs.Common.{◌≡◌, ◌≢◌, ℕ, zero, suc, true, List, [], ◌∷◌, ◌++◌, length, get_or, map, set, arith, ◌⊎◌, inl}
+use Rattle.std.proofs.Common.{◌≡◌, ◌≢◌, ℕ, ◌-◌, zero, suc, true, List, [], ◌∷◌, ◌++◌, length, get_or, map, set, arith, ◌⊎◌, inl}
 use Rattle.uring_words.proofs.Common.{Act, Allows, Joins, Me, SidesAgree, Splits, Valid, View, app_has, at_set, carried_after, homes_after, kernel_has, opening, parts_of_both}
 use mathlib.Core.Option.{Option, some}
 use lib.ListN.{get_elem?}
@@ -10,8 +10,7 @@ use Rattle.uring_words.proofs.SlotActs.{changes, changes-carried}
 at_longer : {A : Type 0} (l : List A) (a b : A) (j : ℕ) → get_elem? (l ++ a ∷ []) j ≡ some b
     → (get_elem? l j ≡ some b) ⊎ ((j ≡ length l) × (a ≡ b))
 at_longer [] a b j e = grind (arith, get_elem?)
-at_longer (x ∷ xs) a b zero e = inl e
-at_longer (x ∷ xs) a b (suc j) e = grind (arith, at_longer xs a b j e)
+at_longer (x ∷ xs) a b j e = grind (arith, get_elem?, at_longer xs a b (j - 1))
 
 -- A side hands slots over at word i, which becomes f of what it was: what it knows fits the words and the slots at home.
 hands : {S X : Type 0} (i : ℕ) (f : ℕ → ℕ) (held : List (ℕ × S)) (Fits : X → List ℕ → List (Option S) → Type 0) (Told : X → List (ℕ × S) → Type 0) (words : List ℕ) (homes : List (Option S))
