@@ -6,10 +6,6 @@ use Rattle.std.proofs.Math.Nat.{min-le_left}
 use Rattle.uring_entry.specs.declared.errno.TheConstants.{EBADF, ECANCELED, EFBIG, ENOMEM}
 use Rattle.uring_entry.specs.declared.operation.Op.TheVariants.{Nop, Read, Write, Fsync, Cancel}
 
--- an end with a number of bytes, which is no great one
-abbrev pub IsGrowth : Outcome → Type 0
-IsGrowth outcome = (n : ℕ) × (n < 2 ^ 63) × (outcome ≡ ended_with (pos n))
-
 -- a result that is called for on a file: a number, so much at most, or that the file would be too long
 abbrev pub IsGiven : ℕ → ℤ → Type 0
 IsGiven most res = ((n : ℕ) × (n ≤ most) × (res ≡ pos n)) ⊎ (res ≡ neg_ℤ EFBIG)
@@ -27,18 +23,6 @@ pub record Task : Type 0 where
   -- the results with which it changes it, and to what
   pub changes : ℤ → Bool
   pub change : FileContents → FileContents
-
--- What holds of every task.
-pub record IsTask (t : Task) : Type 0 where
-  pub given : (file : FileContents) → IsGiven t.most (t.ends file).res
-  pub grown : (file : FileContents) → t.lengthens file ≡ true → IsGrowth (t.ends file)
-  pub failed : (below : ℕ) → t.changes (negsuc below) ≡ false
-  -- what a file counts tells nothing
-  pub same_end : (file other : FileContents) → file.bytes ≡ other.bytes → t.ends file ≡ t.ends other
-  pub same_growth : (file other : FileContents) → file.bytes ≡ other.bytes
-      → t.lengthens file ≡ t.lengthens other
-  pub same_bytes : (file other : FileContents) → file.bytes ≡ other.bytes
-      → (t.change file).bytes ≡ (t.change other).bytes
 
 -- the greatest result of an operation
 abbrev pub most_of : Op → ℕ
@@ -84,22 +68,8 @@ read_task fd off len = record {
   change = λ file. file;
 }
 
-abbrev read_of : ℕ → ℕ → List ℕ → Outcome
-read_of off len bytes =
-    read_outcome off len (record { bytes = bytes; writes = 0; synced = 0 })
-
 read_does : (fd : ℤ) (off len : ℕ) → Does (Read fd off len) (read_task fd off len)
 read_does fd off len = grind arith
-
-read_is : (fd : ℤ) (off len : ℕ) → IsTask (read_task fd off len)
-read_is fd off len = record {
-  given = λ file. inl (min len (length file.bytes - off), min-le_left len (length file.bytes - off), refl);
-  grown = λ file e. absurd (true≢false (sym e));
-  failed = λ below. refl;
-  same_end = λ file other same. ap (read_of off len) same;
-  same_growth = λ file other same. refl;
-  same_bytes = λ file other same. same;
-}
 
 -- ---- a write
 
@@ -113,27 +83,8 @@ write_task fd off len bytes = record {
   change = written off (take len bytes);
 }
 
--- how a write ends by whether it is too long
-
-growth_at : (off len : ℕ) (file : FileContents) (long : Bool) → is_too_long off len ≡ long
-    → (not long && is_past_end off len file) ≡ true
-    → IsGrowth (ended_with (if long then neg_ℤ EFBIG else pos len))
-growth_at off len file true is e = absurd (true≢false (sym e))
-growth_at off len file false is e = (len, grind (arith, is), refl)
-
-abbrev longer_of : ℕ → ℕ → List ℕ → Bool
-longer_of off len bytes =
-    not (is_too_long off len) && is_past_end off len (record { bytes = bytes; writes = 0; synced = 0 })
-
-write_is : (fd : ℤ) (off len : ℕ) (bytes : List ℕ) → IsTask (write_task fd off len bytes)
-write_is fd off len bytes = record {
-  given = λ file. grind (arith, is_too_long off len);
-  grown = λ file e. growth_at off len file (is_too_long off len) refl e;
-  failed = λ below. refl;
-  same_end = λ file other same. refl;
-  same_growth = λ file other same. ap (longer_of off len) same;
-  same_bytes = λ file other same. ap (λ old. overwritten old off (take len bytes)) same;
-}
+write_does : (fd : ℤ) (off len : ℕ) (bytes : List ℕ) → Does (Write fd off len bytes) (write_task fd off len bytes)
+write_does fd off len bytes = grind arith
 
 -- ---- a sync
 
@@ -150,22 +101,12 @@ sync_task fd = record {
 sync_does : (fd : ℤ) → Does (Fsync fd) (sync_task fd)
 sync_does fd = grind arith
 
-sync_is : (fd : ℤ) → IsTask (sync_task fd)
-sync_is fd = record {
-  given = λ file. inl (0, omega arith, refl);
-  grown = λ file e. absurd (true≢false (sym e));
-  failed = λ below. refl;
-  same_end = λ file other same. refl;
-  same_growth = λ file other same. refl;
-  same_bytes = λ file other same. same;
-}
-
 -- ---- all of them
 
-pub cases : (op : Op) → IsIdle op ⊎ ((t : Task) × Does op t × IsTask t)
-cases (Read fd off len) = inr (read_task fd off len, read_does fd off len, read_is fd off len)
-cases (Write fd off len bytes) = grind (arith, (write_is fd off len bytes))
-cases (Fsync fd) = inr (sync_task fd, sync_does fd, sync_is fd)
+pub cases : (op : Op) → IsIdle op ⊎ ((t : Task) × Does op t)
+cases (Read fd off len) = inr (read_task fd off len, read_does fd off len)
+cases (Write fd off len bytes) = inr (write_task fd off len bytes, write_does fd off len bytes)
+cases (Fsync fd) = inr (sync_task fd, sync_does fd)
 cases Nop = grind arith
 cases (Cancel target all) = grind arith
 
