@@ -1,8 +1,7 @@
 -- What the rules of a check make of histories and answers.
-use Rattle.std.proofs.Common.{◌≡◌, ◌∷◌, ◌∙◌, ℕ, Bool, true, false, List, drop, sym, ap, arith}
+use Rattle.std.proofs.Common.{◌≡◌, ◌∷◌, ◌∙◌, ℕ, Bool, true, sym, arith}
 use Rattle.uring_check.proofs.Common.{Answer, CalledForApart, FinishesApart, History, IsCalled, IsLawfulBy, IsPlain, Rules, Setup, Step, World, begin_answer, is_apart, is_running, signed_decimal, text_of, ℤ}
 use Rattle.std.proofs.lemmas.Fmt.{signed_decimal_injective}
-use Rattle.uring_core.specs.declared.answer.Answer.TheVariants as answer
 use Rattle.uring_core.specs.declared.step.Step.TheVariants as step
 use Rattle.uring_text.specs.Spelling.{IsFile}
 use Rattle.uring_check.proofs.SameTexts.{answer_once, begin_once}

@@ -1,5 +1,5 @@
 -- Counts below a bound: what one change does to them, the bits of a block, and the list of all that are counted.
-use Rattle.std.proofs.Common.{◌≡◌, ◌≢◌, ℕ, zero, suc, ◌+◌, ◌-◌, ◌*◌, ◌/◌, ◌^◌, ◌<◌, ◌≤◌, ◌==◌, count_ones, Bool, true, false, [], ◌∷◌, ◌++◌, length, slice_get, Some, refl, arith, length-append}
+use Rattle.std.proofs.Common.{◌≡◌, ◌≢◌, ℕ, zero, suc, ◌+◌, ◌-◌, ◌*◌, ◌/◌, ◌^◌, ◌<◌, ◌≤◌, ◌==◌, count_ones, Bool, true, false, length, slice_get, Some, refl, arith, length-append}
 use Rattle.uring_dispatch.proofs.Common.{all_below, bit_at, bit_at-suc, bit_at_lowest, cases_eq, count_below, one_if}
 use Rattle.std.specs.Int.Count.{ones_step}
 use Rattle.std.proofs.lemmas.Nat.{ones_le_self}

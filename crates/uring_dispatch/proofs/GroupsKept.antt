@@ -1,7 +1,7 @@
 -- The queue of barriers, and what the groups keep when a request is accepted, and when a group is let go: each that drains has its barrier, and the first barrier holds.
 use Rattle.std.proofs.lemmas.List.Folds.{list_all-append}
 use Rattle.uring_entry.proofs.RequestLemmas.{list_any_push}
-use Rattle.std.proofs.Common.{◌≡◌, ◌≢◌, ℕ, ◌+◌, ◌<◌, ◌≤◌, ◌⊎◌, List, [], ◌∷◌, ◌++◌, Bool, true, Option, Some, None, refl, sym, ◌∙◌, ap, arith, inl, inr, get_or, length, ltb}
+use Rattle.std.proofs.Common.{◌≡◌, ◌≢◌, ℕ, ◌+◌, ◌<◌, ◌≤◌, ◌⊎◌, List, [], ◌∷◌, ◌++◌, Bool, true, Option, Some, None, refl, sym, ap, arith, inl, inr, get_or, length, ltb}
 use Rattle.uring_dispatch.proofs.Common.{AreGroups, Barrier, Group, Groups, HasBarrierBefore, IsBeyond, IsFirstDraining, IsLiveFront, IsSorted, MatchOption, cases_eq, covers, drain_of, eqb-true, group_at, if◌then◌else◌, last_group, list_all, list_any, ltb-true, with_barrier, with_member}
 
 -- every barrier after the first has no smaller number

@@ -1,15 +1,7 @@
 -- How an outstanding request stands, from what is held.
-use Rattle.uring_dispatch.proofs.Common.{is_drain, AreHeld, Group, Groups, HasBarrierBefore, HasBefore, HasGroup, IsGroup, IsKept, IsShownGroup, IsSound, Request, Requests, Window, addr_of, and_from, and_left, at, doomed_is, drain_of, draining_is, end_of, entry_of, first_member_inside, group_at, groups_apart, has_ended, has_member, is_before, is_candidate, is_doomed, is_draining, is_issuable, is_outstanding, is_ready, is_running, is_some_value, le-leb, lt-ltb, or-false, ready_not_after, ready_not_alone, ready_not_member, ready_yes, user_data_of}
-use Rattle.std.proofs.Common.{◌≡◌, ◌≢◌, ℕ, ◌<◌, ◌≤◌, length, Bool, true, false, not, ◌&&◌, ◌||◌, Option, Some, None, is_some, sym, ◌∙◌, ap, arith}
+use Rattle.uring_dispatch.proofs.Common.{is_drain, AreHeld, Group, Groups, HasBarrierBefore, HasBefore, HasGroup, IsGroup, IsKept, IsShownGroup, IsSound, Request, Requests, Window, addr_of, and_from, and_left, at, doomed_is, drain_of, draining_is, end_of, entry_of, first_member_inside, group_at, groups_apart, has_ended, is_before, is_candidate, is_doomed, is_draining, is_issuable, is_outstanding, is_ready, is_running, is_some_value, lt-ltb, or-false, ready_not_after, ready_not_alone, ready_not_member, ready_yes, user_data_of}
+use Rattle.std.proofs.Common.{◌≡◌, ◌≢◌, ℕ, ◌<◌, ◌≤◌, length, Bool, true, false, not, ◌&&◌, ◌||◌, Some, None, is_some, sym, ◌∙◌, ap, arith}
 use Rattle.std.proofs.Math.Numerals.{lt_of_le_of_ne}
-
--- a number without a request
-pub vacant : (w : Window) (n : ℕ) → is_some (at w n) ≡ false → at w n ≡ None
-vacant w n e = grind arith
-
-pub member : (o : Option Group) (p : Group) (n : ℕ) → o ≡ Some p → p.from ≤ n → n < p.end
-    → has_member o n ≡ true
-member o p n e from to = ap (λ x. has_member x n) e ∙ and_from _ _ (le-leb p.from n from) (lt-ltb n p.end to)
 
 -- a group is kept where its members up to the least are outstanding as they were
 pub kept_on : {w v : Window} {q : Group} → IsKept w q → end_of w ≤ end_of v

@@ -1,5 +1,5 @@
 -- What each event makes of what is known of a group.
-use Rattle.std.proofs.Common.{◌≡◌, ◌≢◌, ℕ, zero, suc, ◌+◌, ◌<◌, ◌≤◌, ℤ, List, [], ◌∷◌, length, length-append, Bool, true, false, not, ◌&&◌, ◌==◌, leb, None, ap, ◌∙◌, arith}
+use Rattle.std.proofs.Common.{◌≡◌, ◌≢◌, ℕ, zero, suc, ◌+◌, ◌<◌, ◌≤◌, ℤ, List, length, length-append, Bool, true, false, not, ◌&&◌, ◌==◌, leb, None, ap, ◌∙◌, arith}
 use Rattle.uring_entry.proofs.Common.{IsGroup, Requests, Sqe, and_left, cases_lt, earlier_of, entry_of, eq-eqb, first_broken, first_member, found_or, has_ended, has_failed, is_last, is_soft, least_below, or_right, with_accepted, with_cut, with_ended}
 use Rattle.uring_entry.specs.Success.{is_success}
 use Rattle.uring_entry.proofs.BelowLemmas.{least_below_none, least_below_same, least_below_low}

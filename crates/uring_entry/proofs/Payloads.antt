@@ -1,5 +1,5 @@
 -- The 64 bytes of data and the eight words that hold them.
-use Rattle.std.proofs.Common.{◌≡◌, ℕ, zero, suc, ◌+◌, ◌-◌, ◌*◌, ◌^◌, ◌<◌, ◌∙◌, refl, sym, ap, List, [], ◌∷◌, length, get_or, take, drop, set, take-add, arith}
+use Rattle.std.proofs.Common.{◌≡◌, ℕ, ◌+◌, ◌-◌, ◌*◌, ◌^◌, ◌<◌, ◌∙◌, refl, sym, ap, List, [], ◌∷◌, length, get_or, take, drop, set, take-add, arith}
 use Rattle.std.proofs.lemmas.List.{places, take_all, take_more}
 use Rattle.std.proofs.lemmas.Nat.{le_bytes_8}
 use Rattle.std.proofs.lemmas.Slice.{put_mid-paste, take-put_mid}

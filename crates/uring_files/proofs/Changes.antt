@@ -1,16 +1,10 @@
 -- What an operation changes tells what becomes of its file, of whatever operation there is.
 -- Stable: other crates may import what is pub.
-use Rattle.std.proofs.Common.{◌≡◌, arith, ◌≤◌, ℕ, ℤ, Bool, cond, List, length, Some, None, refl, sym, ◌∙◌, inl, inr}
+use Rattle.std.proofs.Common.{◌≡◌, arith, ◌≤◌, ℕ, ℤ, Bool, cond, List, length, Some, None, refl, inl, inr}
 use Rattle.uring_files.proofs.Common.{ChangesAreAsked, ChangesStay, ChangesTellBytes, Decides-int_eq, FileContents, IsOutcome, Nothing, Op, Outcome, after, bytes_after, cases_Bool, change_by, file_of, int_eq, is_on, with_changed}
 use Rattle.uring_files.specs.declared.change.Change.{Change}
 use Rattle.uring_files.proofs.OperationCases.{Task, Does, cases}
 use Rattle.uring_files.proofs.StandAlone.{changed_same, changed_other, unlike, others_stay}
-
--- the same file at a descriptor
-same_there : (files : List FileContents) (fd : ℤ) (was now : FileContents) → file_of files fd ≡ Some was
-    → file_of files fd ≡ Some now → now ≡ was
-same_there files fd was now here there =
-    let e : Some now ≡ Some was = sym there ∙ here in cc
 
 -- the file that is left, by whether it was changed
 left_of : (chosen : Bool) (files : List FileContents) (fd : ℤ) (change : FileContents → FileContents) (was now : FileContents)

@@ -1,8 +1,7 @@
 -- What an operation is on files, in one form: on none, or on one with a task. A new operation is a case of `cases` and `most_of`; what else holds of operations is told of that form, and names none.
 -- Stable: other crates may import all of it.
-use Rattle.std.proofs.Common.{◌≡◌, ℕ, ◌-◌, ◌^◌, ◌<◌, ◌≤◌, ℤ, pos, negsuc, neg_ℤ, Bool, true, false, not, ◌&&◌, cond, min, Some, None, List, length, take, if◌then◌else◌, refl, sym, ap, inl, inr, ◌⊎◌, arith}
-use Rattle.uring_files.proofs.Common.{FailureChangesNothing, FileContents, IsOutcome, Nothing, Op, Outcome, after, bytes_after, change_by, ended_with, file_asked, file_changed, file_of, int_eq, is_lengthening, is_past_end, is_too_long, length-set, on_file, option_map_or, overwritten, read_outcome, result_of, true≢false, with_changed, with_writes_synced, written}
-use Rattle.std.proofs.Math.Nat.{min-le_left}
+use Rattle.std.proofs.Common.{◌≡◌, ℕ, ◌-◌, ◌≤◌, ℤ, pos, neg_ℤ, Bool, false, not, ◌&&◌, cond, Some, None, List, length, take, if◌then◌else◌, inr, ◌⊎◌, arith}
+use Rattle.uring_files.proofs.Common.{FailureChangesNothing, FileContents, IsOutcome, Nothing, Op, Outcome, after, bytes_after, change_by, ended_with, file_asked, file_changed, file_of, int_eq, is_lengthening, is_past_end, is_too_long, length-set, on_file, option_map_or, read_outcome, result_of, with_changed, with_writes_synced, written}
 use Rattle.uring_entry.specs.declared.errno.TheConstants.{EBADF, ECANCELED, EFBIG, ENOMEM}
 use Rattle.uring_entry.specs.declared.operation.Op.TheVariants.{Nop, Read, Write, Fsync, Cancel}
 

@@ -1,5 +1,5 @@
 -- Laws of answers that were recorded elsewhere: whether one is called for is decided, and a wrong one makes a list unlawful.
-use Rattle.std.proofs.Common.{◌≡◌, ℕ, ◌+◌, Bool, true, false, List, [], ◌∷◌, ◌++◌, take, drop, neg_ℤ, Some, sym, ap, ◌∙◌, ◌⊎◌, arith}
+use Rattle.std.proofs.Common.{◌≡◌, ℕ, ◌+◌, Bool, true, List, [], ◌∷◌, ◌++◌, take, drop, neg_ℤ, Some, sym, ap, ◌∙◌, ◌⊎◌, arith}
 use Rattle.uring_laws.proofs.Common.{Answer, ENOMEM, EndsOn, Event, FileContents, History, IsOutcome, Op, OrAgain, Outcome, Requests, Setup, begin_answer, cases_Bool, ended_with, entry_of, get_or_from_slice_get, history_of, is_lengthening, operation_of, result_of, reverse-append, slice_get, slice_get_within, take-append-drop, take_more}
 use Rattle.uring_laws.specs.Recorded.{CalledIsDecided, CalledIsDecidedApart, WrongIsUnlawful, WrongIsUnlawfulApart}
 use Rattle.uring_core.specs.declared.step.Step.TheVariants as step

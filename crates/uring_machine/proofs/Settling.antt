@@ -1,8 +1,8 @@
 -- What the steps make that settle requests.
-use Rattle.std.proofs.Common.{◌≡◌, ℕ, ℤ, ◌+◌, ◌-◌, ◌^◌, ◌≤◌, Bool, true, false, List, [], ◌∷◌, ◌++◌, length, Option, Some, None, refl, sym, subst, ◌∙◌, ap, arith, length-append}
+use Rattle.std.proofs.Common.{◌≡◌, ℕ, ◌+◌, ◌-◌, ◌^◌, ◌≤◌, true, false, List, [], ◌∷◌, ◌++◌, length, Option, Some, None, refl, sym, subst, ◌∙◌, ap, arith, length-append}
 use Rattle.uring_machine.proofs.Common.{Answer, AreSettling, AreUnrefused, Core, Event, FileContents, Fits, FitsApart, HasSettled, History, IsEnded, IsIssued, IsSettled, IsSettledIf, IsUnrefused, LinuxRequests, Machine, Requests, Setup, World, and_from, and_parts, finishing, has_ended, history_of, history_of_append, history_of_cons, is_issue_or_finish, is_outstanding, is_running, is_running_started_same, issuing, least_of, next_answer_of, no_bytes, not-true, outstanding_in, requests_of, started_last, world}
 use Rattle.std.proofs.lemmas.List.Folds.{list_all-append}
-use Rattle.uring_rules.specs.Rules.{next_of, with_issued_end}
+use Rattle.uring_rules.specs.Rules.{next_of}
 use Rattle.uring_entry.proofs.BelowLemmas.{least_below_tells, least_below_out}
 use Rattle.uring_core.specs.Events.{started_by}
 use Rattle.uring_core.specs.declared.step.Step.TheVariants as step

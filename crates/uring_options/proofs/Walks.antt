@@ -1,6 +1,6 @@
 -- What clap's walk over words without a fault leaves: each row has values that its option's parser took.
 use Rattle.std.proofs.Common.{◌≡◌, ℕ, zero, suc, Bool, true, false, cond, List, [], ◌∷◌, ◌++◌, Option, Some, None, refl, ◌⊎◌, inl, inr, append-nil, fold, is_some, arith}
-use Rattle.uring_options.proofs.Common.{Held, Kinds, Names, Outcome, Row, Rule, Shape, Step, Text, Waiting, Walk, action_of, after_flag, after_step, arg_by_index, at_row, attached_value, bundle_met, default_fault, defaults_fault, done, find, flag_met, flag_word_fault, flags_fault, has_row, level_fault, list_all, long_or_other, nothing_held, option, option_fault, option_met, or_else, plain_word, positional_fault, react_fault, reacted, reading_by, rows_after, set_fault, settle_fault, settled, short_fault, short_met, slice_get, step_fault, stray_fault, takes_values, to_positional, turn_fault, use_fault, used, value, values_fault, waits, walk_fault, walked, with_default, with_values, without}
+use Rattle.uring_options.proofs.Common.{Held, Kinds, Names, Outcome, Row, Rule, Shape, Step, Text, Waiting, Walk, action_of, after_flag, after_step, arg_by_index, at_row, attached_value, bundle_met, default_fault, defaults_fault, find, flag_met, flag_word_fault, flags_fault, has_row, level_fault, list_all, long_or_other, nothing_held, option_fault, option_met, or_else, plain_word, positional_fault, react_fault, reacted, reading_by, rows_after, set_fault, settle_fault, settled, short_fault, short_met, slice_get, step_fault, stray_fault, takes_values, to_positional, turn_fault, use_fault, used, value, values_fault, walk_fault, walked, with_default, with_values, without}
 use Rattle.std.specs.Option.{option_map_or}
 use Rattle.std.specs.Str.{chars}
 use Rattle.clap.specs.Lexer.{short_of}

@@ -9,7 +9,7 @@ use Rattle.uring_entry.specs.Requests.{Requests, entry_of, is_outstanding, is_ru
 use Rattle.uring_entry.proofs.RequestLemmas.{is_doomed_own_fault}
 use Rattle.uring_dispatch.specs.declared.answers.Posts.{Posts}
 use Rattle.uring_linux.specs.LinuxRequests as linux
-use Rattle.uring_linux.specs.LinuxRequests.{LinuxRequests, is_in_turn, is_deferred, is_refused_drain, found_by}
+use Rattle.uring_linux.specs.LinuxRequests.{LinuxRequests, is_in_turn, is_deferred, is_refused_drain}
 use Rattle.uring_linux.proofs.Standings.{healthy}
 use Rattle.uring_rules.specs.declared.answers.Issued.TheVariants.{Run, Ended, NotReady, Running, Unknown}
 use Rattle.uring_rules.specs.Rules.{ends_doomed, may_start, doomed_result, cancel_result, is_issuable}

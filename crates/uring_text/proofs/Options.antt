@@ -1,6 +1,6 @@
 -- Steps that may give nothing.
-use Rattle.std.proofs.Common.{◌≡◌, ℕ, false, List, Option, Some, None, refl, sym, arith}
-use Rattle.uring_text.proofs.Common.{bytes_eq, bytes_eq-Decides, codes, option_map, same_Some, ◌>>=◌}
+use Rattle.std.proofs.Common.{◌≡◌, ℕ, false, List, Option, Some, arith}
+use Rattle.uring_text.proofs.Common.{bytes_eq, bytes_eq-Decides, codes, option_map, ◌>>=◌}
 
 -- the value of a step that gave something
 pub bind_some : {A B : Type 0} (o : Option A) (f : A → Option B) (y : B) → (o >>= f) ≡ Some y

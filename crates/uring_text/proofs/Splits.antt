@@ -1,5 +1,5 @@
 -- The lines of bytes as bytes come in.
-use Rattle.std.proofs.Common.{◌≡◌, ◌≢◌, ℕ, List, [], ◌∷◌, ◌++◌, refl, sym, append_assoc, arith}
+use Rattle.std.proofs.Common.{◌≡◌, ◌≢◌, ℕ, List, [], ◌∷◌, ◌++◌, sym, append_assoc, arith}
 use Rattle.uring_text.proofs.Common.{AllByRecursion, append-nil}
 use Rattle.uring_text.specs.Lines.{IsUnbroken, Splits, with_last, joined}
 

@@ -1,11 +1,11 @@
 -- What a commit adds to a log: its record is kept, and what was kept before is.
-use Rattle.std.proofs.Common.{◌≡◌, ◌==◌, ◌+◌, ℕ, Bool, true, false, cond, List, [], ◌∷◌, ◌++◌, length, refl, sym, subst, ap, ◌∙◌, arith}
+use Rattle.std.proofs.Common.{◌≡◌, ◌==◌, ◌+◌, ℕ, Bool, true, false, cond, List, [], ◌∷◌, ◌++◌, length, refl, sym, ap, ◌∙◌, arith}
 use Rattle.uring_uses.proofs.Common.{and_right, cond-true, not_from_false, or_from, or_parts, or_right}
 use Rattle.std.proofs.lemmas.List.Folds.{list_any-append}
 use Rattle.uring_volume.specs.Writes.{Write}
 use Rattle.uring_volume.specs.declared.event.SyncRange.TheVariants.{Whole}
 use Rattle.uring_volume.specs.declared.event.Event.TheVariants.{WriteIssued, WriteEnded, SyncIssued, SyncEnded, SyncFailed}
-use Rattle.uring_volume.specs.Events.{History, has_ended, is_reached, is_given_up, is_safe}
+use Rattle.uring_volume.specs.Events.{History, has_ended, is_reached, is_given_up}
 use Rattle.uring_volume.specs.Laws.{IsKept}
 use Rattle.uring_volume.specs.Volume.{Volume, IsSound, is_one_of, running_writes, running_syncs, with_event, with_write, with_sync}
 use Rattle.uring_uses.specs.Stores.{EndsBy}

@@ -1,6 +1,6 @@
 -- The same steps have the same answers, unless memory is refused.
-use Rattle.std.proofs.Common.{◌≡◌, ℕ, Bool, true, false, List, [], ◌∷◌, ◌++◌, length, ◌⊎◌, inl, inr, refl, sym, subst, ◌∙◌, ap, arith}
-use Rattle.uring_uses.proofs.Common.{Answer, Event, History, OrAgain, Requests, Setup, World, append-nil, begin_answer, history_of, list_any, or_left, world, zip}
+use Rattle.std.proofs.Common.{◌≡◌, ℕ, Bool, true, false, List, [], ◌∷◌, ◌++◌, length, ◌⊎◌, inl, inr, refl, sym, ◌∙◌, ap, arith}
+use Rattle.uring_uses.proofs.Common.{Answer, History, OrAgain, Requests, Setup, World, append-nil, begin_answer, history_of, or_left, world, zip}
 use Rattle.uring_files.specs.Contents.{FileContents}
 use Rattle.uring_core.specs.CalledFor.{CalledFor, EndsOn, IsLawful}
 use Rattle.uring_core.specs.declared.step.Step.{Step}

@@ -1,5 +1,5 @@
 -- What a choice leaves is an image, and each image is what some choice leaves.
-use Rattle.std.proofs.Common.{◌≡◌, ◌==◌, ◌/◌, ℕ, Bool, true, false, ◌&&◌, List, [], ◌∷◌, length, refl, sym, ap, ◌∙◌, inl, inr, arith}
+use Rattle.std.proofs.Common.{◌≡◌, ◌/◌, ℕ, Bool, true, false, List, [], ◌∷◌, length, refl, sym, ap, ◌∙◌, inl, inr, arith}
 use Rattle.uring_volume.proofs.Common.{ChosenIsImage, History, ImageIsChosen, IsChosen, IsImage, IsIn, IsInOrder, IsLawful, MayBeLeft, Write, WriteEnded, WriteIssued, byte_over, chosen, filter, has_ended, is_before, is_on, issued, length_over, ne_eqb, slice_index, writes}
 use Rattle.uring_volume.proofs.Units.{in_filter, of_filter, filter_in_order}
 use Rattle.uring_volume.proofs.Fitting.{in_left, in_right, in_either, append_in_order, FitsIn, chosen_fits, AreApart, apart_filter, numbers, fits_chosen}

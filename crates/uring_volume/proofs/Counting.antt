@@ -1,5 +1,5 @@
 -- How long a list is in which each thing comes once.
-use Rattle.std.proofs.Common.{◌≡◌, ◌≤◌, ℕ, suc, List, [], ◌∷◌, length, refl, ap, ◌∙◌, inl, inr, arith}
+use Rattle.std.proofs.Common.{◌≡◌, ◌≤◌, ℕ, suc, List, [], ◌∷◌, length, refl, ap, inl, inr, arith}
 use Rattle.uring_volume.proofs.Common.{IsEachOnce, IsIn, ListsAreAsLong}
 
 -- a list without one of its elements

@@ -1,5 +1,5 @@
 -- What may be left of some writes, wherever they lie: a choice gives it, and it is what some choice gives.
-use Rattle.std.proofs.Common.{◌≡◌, ◌==◌, ℕ, Bool, true, false, not, List, [], ◌∷◌, ◌++◌, ◌⊎◌, refl, sym, subst, ap, ◌∙◌, inl, inr, arith}
+use Rattle.std.proofs.Common.{◌≡◌, ◌==◌, ℕ, Bool, true, false, not, List, [], ◌∷◌, ◌++◌, ◌⊎◌, refl, sym, subst, ap, inl, inr, arith}
 use Rattle.uring_volume.proofs.Common.{History, IsIn, IsInOrder, Write, both_ways, cases_Bool, chosen, cond-false, cond-true, eq-eqb, eqb-true, false_from_ne_true, filter, is_before, is_safe, list_any, named, ne_eqb, not-true, not_from_false, up_to_safe, waits_for_one, without}
 use Rattle.uring_volume.proofs.Units.{in_filter, of_filter, filter_in_order}
 

@@ -1,5 +1,5 @@
 -- A choice as one list of numbers, for each image.
-use Rattle.std.proofs.Common.{◌≡◌, ◌==◌, ◌<◌, ◌/◌, ℕ, zero, suc, List, [], ◌∷◌, ◌++◌, length, refl, sym, ap, ◌∙◌, inl, inr, arith}
+use Rattle.std.proofs.Common.{◌≡◌, ◌<◌, ◌/◌, ℕ, zero, suc, List, [], ◌∷◌, ◌++◌, length, refl, sym, ap, ◌∙◌, inl, inr, arith}
 use Rattle.uring_volume.proofs.Common.{AreBelow, History, IsChosen, IsImage, IsIn, IsLawful, IsLeftBy, Write, byte_over, chosen, div-le_self, ext_get_or, filter, is_on, issued, length_over, ne_eqb, part, slice_index, writes}
 use Rattle.uring_volume.proofs.Fitting.{in_either}
 use Rattle.uring_volume.proofs.Chosen.{NameWrites, image_is_named}

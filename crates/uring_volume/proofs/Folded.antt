@@ -1,5 +1,5 @@
 -- What a volume keeps when a write is folded.
-use Rattle.std.proofs.Common.{◌≡◌, ◌==◌, ◌<◌, ◌≤◌, ℕ, zero, suc, Bool, true, false, not, ◌||◌, List, [], ◌∷◌, ◌++◌, length, get_or, reverse, refl, sym, subst, ap, ◌∙◌, inl, inr, arith}
+use Rattle.std.proofs.Common.{◌≡◌, ◌==◌, ◌<◌, ◌≤◌, ℕ, zero, suc, Bool, true, false, not, List, [], ◌∷◌, ◌++◌, length, get_or, reverse, refl, sym, subst, ap, ◌∙◌, inl, inr, arith}
 use Rattle.uring_volume.proofs.Common.{Err, Event, History, IsFoldable, IsFoldedFrom, IsHeld, IsIn, IsLawful, IsOneFolded, IsOver, IsSound, Ok, Result, SyncEnded, SyncFailed, SyncIssued, Volume, Write, WriteEnded, WriteIssued, append-nil, append_assoc, both_ways, but, can_fold, cond-false, cond_both, eqb-false, eqb-true, false_from_ne_true, filter, has_ended, is_of_write, is_one_of, issued, list_any, reverse-append, running_syncs, running_writes, without_write, writes}
 use Rattle.std.specs.declared.alloc.AllocError.{AllocError}
 use Rattle.std.proofs.lemmas.List.Elements.{filter-append}

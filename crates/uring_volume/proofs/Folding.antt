@@ -1,5 +1,5 @@
 -- A write that is folded into the first bytes changes no image: it lies under all others in each list that may be left.
-use Rattle.std.proofs.Common.{◌≡◌, ◌==◌, ◌-◌, ◌<◌, ℕ, max, Bool, true, false, ◌&&◌, List, [], ◌∷◌, ◌++◌, length, refl, sym, subst, ap, ◌∙◌, inl, inr, arith}
+use Rattle.std.proofs.Common.{◌≡◌, ◌==◌, ◌-◌, ◌<◌, ℕ, max, Bool, true, false, List, [], ◌∷◌, ◌++◌, length, refl, sym, subst, ap, ◌∙◌, inl, inr, arith}
 use Rattle.uring_volume.proofs.Common.{FoldChangesNone, History, IsFoldable, IsImage, IsIn, IsInOrder, IsLawful, IsOver, MayBeLeft, SyncEnded, SyncIssued, UnitIsLeft, Write, WriteEnded, WriteIssued, and_parts, both_ways, byte_over, cases_Bool, cond-false, end_of, eq-eqb, eqb-false, eqb-true, filter, has_ended, is_before, is_covered, is_on, is_safe, is_under, length_over, ne_eqb, not_from_false, or_cases, slice_index, without_write, writes}
 use Rattle.uring_volume.proofs.Units.{in_filter, of_filter, filter_in_order}
 use Rattle.uring_volume.proofs.ReadBack.{over, on_from, len_grows, end_within}

@@ -1,5 +1,5 @@
 -- The lengths that may be left: each is that of the fewest writes, or of the fewest with one more.
-use Rattle.std.proofs.Common.{◌≡◌, ◌==◌, ◌≤◌, ℕ, max, Bool, true, false, ◌&&◌, ◌||◌, List, [], ◌∷◌, ◌⊎◌, refl, subst, inl, inr, arith}
+use Rattle.std.proofs.Common.{◌≡◌, ◌==◌, ◌≤◌, ℕ, max, Bool, true, false, ◌||◌, List, [], ◌∷◌, ◌⊎◌, refl, subst, inl, inr, arith}
 use Rattle.uring_volume.proofs.Common.{History, IsEachOnce, IsIn, IsInOrder, IsLawful, Write, WriteEnded, WriteIssued, and_from, both_ways, end_of, eqb-true, fewest, fewest_with, filter, goes_with, has_ended, is_before, is_needed, is_safe, issued, length_over, lengths_by, lengths_of, nat_eq, or_cases, or_left, or_right, put_by}
 use Rattle.uring_volume.proofs.Units.{in_filter, of_filter, filter_in_order}
 use Rattle.uring_volume.proofs.ReadBack.{len_grows, end_within}

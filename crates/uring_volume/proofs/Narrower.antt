@@ -1,5 +1,5 @@
 -- Which history allows no image that another doesn't: the laws of syncs and of the events that change none.
-use Rattle.std.proofs.Common.{◌≡◌, ◌==◌, ℕ, Bool, true, not, ◌&&◌, ◌||◌, List, [], ◌∷◌, ◌++◌, refl, sym, ◌∙◌, arith}
+use Rattle.std.proofs.Common.{◌≡◌, ℕ, Bool, true, List, [], ◌∷◌, ◌++◌, refl, sym, arith}
 use Rattle.uring_volume.proofs.Common.{ChangesNone, FailedIsNeverSafe, History, IsImage, IsInOrder, MayBeLeft, SyncAddsNone, SyncEnded, SyncFailed, SyncIssued, Write, WriteEnded, WriteIssued, has_ended, is_before, is_covered, is_given_up, is_reached, is_safe, writes}
 use Rattle.uring_volume.specs.declared.event.SyncRange.{SyncRange}
 

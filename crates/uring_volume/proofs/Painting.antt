@@ -1,5 +1,5 @@
 -- Bytes of a file that a write doesn't touch.
-use Rattle.std.proofs.Common.{◌≡◌, ◌<◌, ◌≤◌, ◌+◌, ◌*◌, ◌/◌, ℕ, List, ◌++◌, length, take, drop, ◌⊎◌, ◌∙◌, arith}
+use Rattle.std.proofs.Common.{◌≡◌, ◌<◌, ◌≤◌, ◌+◌, ◌*◌, ◌/◌, ℕ, List, ◌++◌, length, take, drop, ◌⊎◌, arith}
 use Rattle.uring_volume.proofs.Common.{add-mul, append-nil, div-eq_of_lt-le, drop_all, mul_comm, one-mul, take_all}
 
 pub below_or_from : (k n : ℕ) → (k < n) ⊎ (n ≤ k)

@@ -1,5 +1,5 @@
 -- A history without one of its writes tells the same of all others.
-use Rattle.std.proofs.Common.{◌≡◌, ◌==◌, ℕ, [], ◌∷◌, ◌++◌, refl, sym, ap, ◌∙◌, inl, inr, rules, arith}
+use Rattle.std.proofs.Common.{◌≡◌, ℕ, [], ◌∷◌, ◌++◌, refl, sym, ap, ◌∙◌, inl, inr, rules, arith}
 use Rattle.uring_volume.proofs.Common.{Event, History, IsIn, IsLawful, Write, WriteEnded, WriteIssued, filter, has_ended, is_before, is_covered, is_given_up, is_reached, is_safe, ne_eqb, not-true, without_write, writes}
 use Rattle.uring_volume.proofs.Units.{in_filter, of_filter}
 use Rattle.uring_volume.proofs.Fitting.{lacks}

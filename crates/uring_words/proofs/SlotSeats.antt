@@ -1,5 +1,5 @@
 -- A step that keeps the agreement keeps the rule, and so do the cutting of the first seat and the joining of two: of any table whose slots the two sides hand to each other.
-use Rattle.std.proofs.Common.{◌≡◌, ◌≢◌, ℕ, ◌-◌, zero, suc, true, List, [], ◌∷◌, ◌++◌, length, get_or, map, set, arith, ◌⊎◌, inl}
+use Rattle.std.proofs.Common.{◌≡◌, ◌≢◌, ℕ, ◌-◌, true, List, [], ◌∷◌, ◌++◌, length, get_or, map, set, arith, ◌⊎◌}
 use Rattle.uring_words.proofs.Common.{Act, Allows, Joins, Me, SidesAgree, Splits, Valid, View, app_has, at_set, carried_after, homes_after, kernel_has, opening, parts_of_both}
 use mathlib.Core.Option.{Option, some}
 use lib.ListN.{get_elem?}
