@@ -1,8 +1,7 @@
 -- A list that is cut part by part.
 use Rattle.std.proofs.Common.{◌≡◌, ◌<◌, ◌≤◌, ◌+◌, ◌-◌, ◌++◌, ◌∷◌, ℕ, zero, suc, List, [], length, map, take, drop, min, get_or, refl, sym, ap, ◌∙◌, arith}
 use Rattle.std.proofs.Math.Seq.{drop-cons, drop-nil}
-use Rattle.std.proofs.lemmas.List.{drop_more, map_more, map_push}
-use Rattle.uring_crossing.proofs.Common.{AreShort, Sqe, append-nil, append_assoc, cut, drop_all, drop_min, laid_out, length-drop, length-map, length-take, map-append, take_min}
+use Rattle.uring_crossing.proofs.Common.{AreShort, Sqe, append-nil, append_assoc, cut, drop_all, drop_min, drop_more, laid_out, length-drop, length-map, length-take, map-append, map_more, map_push, take_min}
 use Rattle.uring_files.specs.Contents.{max_len}
 use Rattle.uring_outcomes.specs.Faults.{entry_count}
 

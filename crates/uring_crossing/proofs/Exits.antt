@@ -2,20 +2,11 @@
 use Rattle.std.proofs.Common.{◌≡◌, ◌↔◌, ◌<◌, ◌≤◌, ℕ, ℤ, List, [], length, SFits, pos, neg_ℤ, of_z, to_z, w32, Bool, true, false, Option, Some, None, refl, sym, subst, ap, ◌∙◌, arith}
 use Rattle.std.specs.Borrow.{Bor}
 use Rattle.std.specs.Ordering.{int_eq}
-use Rattle.std.specs.Prelude.{is_some, option_copied}
+use Rattle.uring_crossing.proofs.Common.{Answer, AreShort, BeginsOn, CrashMachine, EBADF, EFBIG, EINVAL, ENOENT, FitsRun, IsAskedFor, IsNoStart, IsSome, IsSomeAnd, Setup, SetupWords, Step, SteppedOn, SufficesFor, TellsStepOn, begun_on, both_ways, first_files, is_some, log_at, option_copied, words_of}
 use Rattle.std.proofs.lemmas.Bool.Decides.{Decides-int_eq}
-use Rattle.uring_crossing.proofs.Common.{AreShort, CrashMachine, FitsRun, IsNoStart, IsSome, IsSomeAnd, Setup, Step, both_ways}
-use Rattle.uring_entry.specs.declared.errno.TheConstants.{EBADF, EFBIG, EINVAL, ENOENT}
 use Rattle.uring_crossing.specs.declared.machines.crash_machine_memory.TheConstants.{ENOTRECOVERABLE}
-use Rattle.uring_core.specs.declared.answer.Answer.{Answer}
 use Rattle.uring_crossing.specs.declared.core_words.answer_words.AnswerWords.{AnswerWords}
-use Rattle.uring_crossing.specs.CoreWords.AnswerForm.{words_of}
-use Rattle.uring_crossing.specs.Machines.Crashing.{BeginsOn, SteppedOn, TellsStepOn}
-use Rattle.uring_crossing.specs.CoreWords.SetUps.{IsAskedFor, SufficesFor}
-use Rattle.uring_crossing.specs.declared.core_words.set_up_words.SetupWords.{SetupWords}
-use Rattle.uring_epochs.specs.Asked.{log_at}
 use Rattle.uring_epochs.specs.Logs.{Log}
-use Rattle.uring_epochs.specs.Epochs.{begun_on, first_files}
 
 -- results that differ are not one
 pub apart : {A : Type 0} (a b : ℤ) → int_eq a b ≡ false → a ≡ b → A

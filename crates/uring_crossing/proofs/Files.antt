@@ -1,9 +1,7 @@
 -- What is told of a volume that a place holds, and of a file of its machine.
 use Rattle.std.proofs.Common.{◌≡◌, ◌↔◌, ℤ, SFits, false, neg_ℤ, of_z, true, to_z, w32, refl, sym, subst, ◌∙◌}
-use Rattle.uring_crossing.proofs.Common.{CrashMachine, IsSome, IsSomeAnd, None, Option, Some, TellsNoPlace, both_ways, to_z-of_z}
-use Rattle.uring_entry.specs.declared.errno.TheConstants.{EBADF, ENOENT}
+use Rattle.uring_crossing.proofs.Common.{CrashMachine, EBADF, ENOENT, IsSome, IsSomeAnd, None, Option, Some, TellsNoPlace, both_ways, log_at, to_z-of_z}
 use Rattle.uring_crossing.specs.declared.machines.crash_machine_memory.TheConstants.{ENOTRECOVERABLE}
-use Rattle.uring_epochs.specs.Asked.{log_at}
 use Rattle.uring_epochs.specs.Logs.{Log}
 use Rattle.uring_volume.specs.Volume.{Volume}
 

@@ -1,17 +1,13 @@
 -- Which words tell that memory was refused.
 use Rattle.std.proofs.Common.{◌≡◌, ℕ, ◌≤◌, List, length, Option, Some, None, Result, Ok, Err, sym, ap, subst, arith}
-use Rattle.uring_crossing.proofs.Common.{Core, CrashMachine, Epoch, FitsApart, FitsRun, History, IfSome, IsErrOf, IsSomeAnd, Setup, Sqe, Step, SubmittedApart, TellsUnrefusedOn, elements_for, elements_for_call, submit_told, world}
+use Rattle.uring_crossing.proofs.Common.{Answer, Core, CrashMachine, Epoch, Fits, FitsApart, FitsRun, History, IfSome, IsAgain, IsErrOf, IsSomeAnd, IsUnrefused, IsUnrefusedOn, Machine, Setup, Sqe, Step, SubmittedApart, TellsUnrefusedOn, elements_for, elements_for_call, elements_for_step, kind_of, submit_told, words_of, world}
 use Rattle.uring_entry.specs.Submission.{Call}
 use Rattle.uring_core.specs.World.{World}
 use Rattle.uring_core.specs.StepAnswers.{end_answer_in}
-use Rattle.uring_core.specs.declared.answer.Answer.{Answer}
 use Rattle.uring_core.specs.declared.answer.Answer.TheVariants as answer
 use Rattle.uring_core.specs.declared.step.Step.TheVariants as step
 use Rattle.uring_core.specs.declared.cores.submit.NotSubmitted.{NotSubmitted}
 use Rattle.uring_core.specs.declared.cores.submit.NotSubmitted.TheVariants as not_made_as
-use Rattle.uring_machine.specs.Machine.{Machine, Fits, IsUnrefused, elements_for_step}
-use Rattle.uring_epochs.specs.Asked.{IsUnrefusedOn}
-use Rattle.uring_crossing.specs.CoreWords.AnswerForm.{kind_of, words_of, IsAgain}
 use Rattle.uring_crossing.specs.Cores.Stepping.{TellUnrefused}
 use Rattle.uring_crossing.specs.declared.core_words.answer_words.AnswerWords.{AnswerWords}
 

@@ -1,10 +1,8 @@
 -- Which words ask for a machine or a ring that serves, and which don't.
 use Rattle.std.proofs.Common.{◌≡◌, ◌<◌, ◌≤◌, ℕ, true, List, inl, inr, ◌∙◌, arith}
-use Rattle.uring_crossing.proofs.Common.{All, IsNoStart, Setup, both_ways}
+use Rattle.uring_crossing.proofs.Common.{All, IsAskedFor, IsNoStart, IsRefused, Setup, SetupWords, both_ways}
 use Rattle.uring_entry.proofs.Powers.{rounded_once}
 use Rattle.uring_crossing.specs.Outcomes.Outcomes.{TakesWhole, IsNoWalk}
-use Rattle.uring_crossing.specs.CoreWords.SetUps.{IsAskedFor, IsRefused}
-use Rattle.uring_crossing.specs.declared.core_words.set_up_words.SetupWords.{SetupWords}
 
 -- A machine that begins on so many files.
 

@@ -1,12 +1,10 @@
 -- The step that is told at each place of a submission call is the one that stands there.
 use Rattle.std.proofs.Common.{◌≡◌, ℕ, zero, suc, ◌+◌, ◌-◌, ◌*◌, ◌/◌, ◌%◌, ◌==◌, nat_lt, nat_le, Bool, false, cond, Option, Some, None, option_map, List, [], ◌∷◌, ◌++◌, length, map, slice_get, refl, sym, ap, ◌∙◌, arith}
 use Rattle.std.proofs.lemmas.Grind.{common_steps}
-use Rattle.uring_crossing.proofs.Common.{Event, Step}
-use Rattle.uring_core.specs.declared.answer.Answer.{Answer}
+use Rattle.uring_crossing.proofs.Common.{Answer, EntryWords, Event, Step}
 use Rattle.uring_core.specs.declared.answer.Answer.TheVariants as answer
 use Rattle.uring_core.specs.declared.step.Step.TheVariants as step
 use Rattle.uring_crossing.specs.Traces.Traced.{put_steps, filled, put_event, take_or_close, call_event, TellsEachStep}
-use Rattle.uring_crossing.specs.declared.cores.whole_call_memory.EntryWords.{EntryWords}
 
 -- the step of an entry, whose slot is this: it is filled, or staged; or another one, if there is no such entry
 abbrev fill : ℕ → Option EntryWords → Option Step

@@ -1,11 +1,10 @@
 -- The steps that are told of a submission call are those of the core's contract.
 use Rattle.std.proofs.Common.{◌≡◌, ℕ, ◌+◌, List, [], ◌∷◌, ◌++◌, length, map, reverse, refl, sym, ap, ◌∙◌}
 use Rattle.std.proofs.lemmas.Grind.{reverse_onto}
-use Rattle.uring_crossing.proofs.Common.{History, Setup, Step, append_assoc}
+use Rattle.uring_crossing.proofs.Common.{EntryWords, History, Setup, Step, append_assoc}
 use Rattle.uring_core.specs.WholeCalls.{after_head, after_fill, after_index, after_entries, after_published, after_begin, after_takes}
 use Rattle.uring_core.specs.declared.step.Step.TheVariants as step
 use Rattle.uring_crossing.specs.Traces.Traced.{put_steps, call_steps, steps_of, NamesTheSteps}
-use Rattle.uring_crossing.specs.declared.cores.whole_call_memory.EntryWords.{EntryWords}
 
 -- steps one after the other, onto those before, the newest first
 abbrev onto : List Step → List Step → List Step

@@ -1,7 +1,6 @@
 -- The operations that may take effect before an end are those that are added for each that runs.
 use Rattle.std.proofs.Common.{◌≡◌, ◌==◌, ℕ, Bool, true, false, List, [], ◌∷◌, ◌++◌, Option, Some, None, if◌then◌else◌, refl, sym, ap, subst, ◌∙◌, ◌⊎◌, inl, inr, arith, negsuc, map}
-use Rattle.uring_early.proofs.Common.{Adds, AreTakers, Contains, End, FileContents, FitsEnd, IsForFiles, IsOutcome, Mark, MayTake, Op, Outcome, Running, Taker, awaits, both_ways, end_in, ended_with, eq-eqb, eqb-true, is_lengthening, is_some, look, plain, result_of, same_Some}
-use Rattle.std.proofs.lemmas.List.Elements.{Contains-append_right, Contains-push_cases}
+use Rattle.uring_early.proofs.Common.{Adds, AreTakers, Contains, Contains-append_right, Contains-push_cases, End, FileContents, FitsEnd, IsForFiles, IsOutcome, Mark, MayTake, Op, Outcome, Running, Taker, awaits, both_ways, end_in, ended_with, eq-eqb, eqb-true, is_lengthening, is_some, look, plain, result_of, same_Some}
 use Rattle.uring_early.proofs.Plain.{outcome_back, outcome_plain}
 
 -- those of one kind were added, and then those of another

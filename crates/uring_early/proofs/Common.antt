@@ -1,7 +1,8 @@
 -- The names that several of these files cite, passed on from one place. Declares nothing.
 pub use Rattle.std.proofs.Math.Seq.{drop-cons}
-pub use Rattle.std.proofs.lemmas.Bool.{and_from, and_parts, both_ways, cases_lt, eq-eqb, eqb-true, false_from_ne_true, le-leb, le-ltb, not-false, not-true, or_parts, true≢false}
+pub use Rattle.std.proofs.lemmas.Bool.{and_from, and_parts, both_ways, cases_lt, eq-eqb, eqb-true, false_from_ne_true, false≢true, le-leb, le-ltb, not-false, not-true, or_parts, true≢false}
 pub use Rattle.std.proofs.lemmas.List.{drop_all, ext_get_or, length-append, length-map, length-replicate, map-append, map-set, reverse-append, reverse-reverse, take-append-drop, take_all, take_more}
+pub use Rattle.std.proofs.lemmas.List.Elements.{Contains-append_cases, Contains-append_left, Contains-append_right, Contains-push, Contains-push_cases}
 pub use Rattle.std.proofs.lemmas.Option.{get_or_from_slice_get, same_Some, slice_get-get_or, slice_get-map, slice_get_past}
 pub use Rattle.std.specs.Option.{option_map}
 pub use Rattle.std.specs.Prelude.{Contains, if◌then◌else◌, int_le, is_some, replicate, reverse, slice_get, slice_index_or, slice_set}
@@ -21,11 +22,13 @@ pub use Rattle.uring_early.specs.Effects.{EffectsWait, EndsAsTaken, EndsLast, Is
 pub use Rattle.uring_early.specs.Laws.{GiveAllowed, GivesAllowed, IsLawfulLate}
 pub use Rattle.uring_early.specs.Marks.{mark_by, marks_after, start_mark}
 pub use Rattle.uring_early.specs.Moves.{EndsBy, FitsEnd, Goes, IsWalk, MayTake, Meets, MeetsBytes, Move, Pass, Passes, Standing, Take, at_first, awaits, end_in, look, op_of, passed, plain, taken_by, taken_of, taking, took, with_taken, without}
-pub use Rattle.uring_early.specs.Search.{Adds, AreTakers, GoesOn, IsFated, IsPlaced, IsSearch, MayTakeAt, OneGoes, PassesAt, Replaces, Seat, awaits_at, left_at, passed_at, seat_of, seats_of, took_at}
+pub use Rattle.uring_early.specs.Search.{Adds, AreTakers, GoesOn, HasFate, IsFated, IsPlaced, IsSearch, MayTakeAt, OneGoes, PassesAt, Replaces, Seat, awaits_at, left_at, passed_at, seat_of, seats_of, took_at}
 pub use Rattle.uring_early.specs.declared.mark.End.{End}
 pub use Rattle.uring_early.specs.declared.mark.Mark.{Mark}
 pub use Rattle.uring_early.specs.declared.mark.Mark.TheVariants.{Ends, Idle, Starts}
 pub use Rattle.uring_early.specs.declared.running.Running.{Running}
+pub use Rattle.uring_early.specs.declared.search.Fate.{Fate}
+pub use Rattle.uring_early.specs.declared.state.State.{State}
 pub use Rattle.uring_early.specs.declared.takers.Taker.{Taker}
 pub use Rattle.uring_entry.proofs.RequestLemmas.{is_running_ended_other, list_any_push}
 pub use Rattle.uring_entry.specs.Layout.{Cqe, Sqe, len_of}

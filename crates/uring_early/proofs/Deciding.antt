@@ -1,7 +1,6 @@
 -- What a search comes to that knows a part of the bytes.
 use Rattle.std.proofs.Common.{◌≡◌, ℕ, List, [], map, sym, subst}
-use Rattle.uring_early.proofs.Common.{AreSameButBytes, Event, History, IsFated, IsFoundBare, IsLawfulApart, IssuesMeet, Setup, blank, bytes_told, found_by, history_of, known_marks}
-use Rattle.uring_early.specs.declared.search.Fate.{Fate}
+use Rattle.uring_early.proofs.Common.{AreSameButBytes, Event, Fate, History, IsFated, IsFoundBare, IsLawfulApart, IssuesMeet, Setup, blank, bytes_told, found_by, history_of, known_marks}
 use Rattle.uring_early.specs.declared.search.Fate.TheVariants as fate
 use Rattle.uring_early.proofs.Filling.{filled_lawful}
 use Rattle.uring_early.proofs.Loosening.{told_goes, told_lawful}

@@ -1,7 +1,6 @@
 -- That a search covers all moves: `passed_one` and `dropped_one` where the next mark is passed or not, and `taken_all` where an operation takes effect first.
 use Rattle.std.proofs.Common.{◌≡◌, ◌<◌, ◌≤◌, ◌+◌, ℕ, true, false, List, [], ◌∷◌, ◌++◌, length, map, drop, refl, sym, ap, subst, ◌∙◌, inl, inr, arith, append-nil}
-use Rattle.uring_early.proofs.Common.{AreTakers, Contains, Goes, GoesOn, Idle, IsPlaced, IsSearch, IsWalk, Mark, MayTake, Move, OneGoes, Outcome, Pass, Passes, PassesAt, Replaces, Running, Seat, Standing, Take, Taker, at_first, awaits, awaits_at, drop-cons, drop_all, left_at, length-replicate, look, op_of, passed, passed_at, slice_index_or, took, took_at}
-use Rattle.std.proofs.lemmas.List.Elements.{Contains-append_left, Contains-append_right, Contains-append_cases, Contains-push, Contains-push_cases}
+use Rattle.uring_early.proofs.Common.{AreTakers, Contains, Contains-append_cases, Contains-append_left, Contains-append_right, Contains-push, Contains-push_cases, Goes, GoesOn, Idle, IsPlaced, IsSearch, IsWalk, Mark, MayTake, Move, OneGoes, Outcome, Pass, Passes, PassesAt, Replaces, Running, Seat, Standing, Take, Taker, at_first, awaits, awaits_at, drop-cons, drop_all, left_at, length-replicate, look, op_of, passed, passed_at, slice_index_or, took, took_at}
 use Rattle.uring_early.proofs.Plain.{after_length}
 
 -- ---- lists

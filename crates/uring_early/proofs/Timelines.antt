@@ -1,13 +1,11 @@
 -- A search's moves are a timeline of the history, and a timeline whose effects wait is moves of the search.
 use Rattle.std.proofs.Common.{◌≡◌, ◌==◌, ℕ, ℤ, Bool, true, false, List, [], ◌∷◌, ◌++◌, Option, Some, None, if◌then◌else◌, refl, sym, ap, subst, ◌∙◌, append-nil, arith}
-use Rattle.std.proofs.lemmas.Bool.{false≢true}
-use Rattle.uring_early.proofs.Common.{Answer, EffectsWait, End, EndsAsTaken, EndsLast, Event, FileContents, FitsEnd, Goes, History, IsFated, IsFound, IsLawfulApart, IsLawfulEarly, IsLawfulLate, IsOutcome, IsTimely, IsWalk, Makes, Mark, MayTake, Move, Op, Outcome, Pass, Passes, Setup, Standing, Step, Take, Takes, TakesEffect, Timeline, at_first, awaits, effect_of, end_in, ends_in_effect, eq-eqb, files_at, found_by, history_of, history_of_cons, is_end_of, made_in, mark_by, marks_after, operation_at, operation_running, passed, requests_in, reverse, reverse-reverse, start_mark, took}
+use Rattle.uring_early.proofs.Common.{Answer, EffectsWait, End, EndsAsTaken, EndsLast, Event, Fate, FileContents, FitsEnd, Goes, History, IsFated, IsFound, IsLawfulApart, IsLawfulEarly, IsLawfulLate, IsOutcome, IsTimely, IsWalk, Makes, Mark, MayTake, Move, Op, Outcome, Pass, Passes, Setup, Standing, Step, Take, Takes, TakesEffect, Timeline, at_first, awaits, effect_of, end_in, ends_in_effect, eq-eqb, false≢true, files_at, found_by, history_of, history_of_cons, is_end_of, made_in, mark_by, marks_after, operation_at, operation_running, passed, requests_in, reverse, reverse-reverse, start_mark, took}
 use Rattle.uring_core.specs.declared.step.Step.TheVariants as step
 use Rattle.uring_core.specs.declared.answer.Answer.TheVariants as answer
 use Rattle.uring_core.proofs.Running.{running_asks}
 use Rattle.uring_early.proofs.Waiting.{early_effects_can_wait}
 use Rattle.uring_early.proofs.Plain.{outcome_plain, plain_new}
-use Rattle.uring_early.specs.declared.search.Fate.{Fate}
 use Rattle.uring_early.specs.declared.search.Fate.TheVariants as fate
 use Rattle.uring_early.proofs.Standings.{Stands, ends_so, passes_so, stands_makes, stands_takes, takes_effect}
 

@@ -1,6 +1,7 @@
 -- What a read of the volume shows is the file of the machine.
 use Rattle.std.proofs.Common.{◌≡◌, ◌&&◌, ℕ, zero, suc, ℤ, Bool, true, false, cond, List, [], ◌∷◌, ◌++◌, length, take, Option, Some, None, refl, sym, subst, ap, ◌∙◌, inl, inr}
-use Rattle.uring_epochs.proofs.Common.{Answer, Change, EndsOn, Epoch, FileContents, IsLawful, IsLawfulFrom, IsNoFinish, IsOutcome, IsShown, Log, Nothing, Op, Put, Requests, Setup, Step, Sync, SyncEnded, SyncFailed, Volume, WriteEnded, WritesOver, after, and_from, begun_of, both_ways, bytes_after, cases_Bool, change_begun, change_by, change_ended, cond-false, cond-true, empty_file, empty_files, ended, entry_of, file_asked, file_at, file_changed, file_of, files_after, files_from, files_of, finished_of, is_on, is_one_of, is_running, length_over, log_from, log_of, log_on, logged, negsuc, number_of, operation_of, operation_running, overwritten, pos, replicate, requests_of, running_syncs, running_writes, shown_length, slice_get, sync_with, with_event, with_sync, with_write, world, write_ended}
+use Rattle.uring_epochs.proofs.Common.{Answer, Change, EndsOn, Epoch, FileContents, IsLawful, IsLawfulFrom, IsNoFinish, IsOutcome, IsShown, Log, Op, Requests, Setup, Step, SyncEnded, SyncFailed, Volume, WriteEnded, WritesOver, after, and_from, begun_of, both_ways, bytes_after, cases_Bool, change_begun, change_by, change_ended, cond-false, cond-true, empty_file, empty_files, ended, entry_of, file_asked, file_at, file_changed, file_of, files_after, files_from, files_of, finished_of, is_on, is_one_of, is_running, length_over, log_from, log_of, log_on, logged, negsuc, number_of, operation_of, operation_running, overwritten, pos, replicate, requests_of, running_syncs, running_writes, shown_length, slice_get, sync_with, with_event, with_sync, with_write, world, write_ended}
+use Rattle.uring_files.specs.declared.change.Change.TheVariants.{Nothing, Put, Sync}
 use Rattle.std.specs.Option.{option_map_or}
 use Rattle.std.specs.Ordering.{int_eq}
 use Rattle.std.proofs.lemmas.Option.{get_or_from_slice_get}

@@ -1,7 +1,8 @@
 -- What the log of a file keeps: whatever of the file runs on the machine runs on the volume.
 use Rattle.std.proofs.Common.{◌≡◌, ◌<◌, ◌≤◌, ◌==◌, ◌⊎◌, ℕ, ℤ, suc, Bool, true, false, not, cond, List, [], ◌∷◌, ◌++◌, length, take, Option, Some, None, refl, sym, subst, ap, ◌∙◌, inl, inr, arith}
 use Rattle.std.specs.Ordering.{int_eq}
-use Rattle.uring_epochs.proofs.Common.{Answer, Change, IsLawfulApart, Log, Nothing, Op, Put, Requests, Setup, Step, Sync, SyncEnded, SyncFailed, WriteEnded, and_from, and_parts, append-nil, begun_of, both_ways, cases_Bool, change_begun, change_by, change_ended, cond-false, cond-true, entry_of, eq-eqb, eqb-true, false_from_ne_true, finished_of, has_ended, has_started, is_one_of, is_running, issued, log_from, log_of, log_on, logged, named, no_request, number_of, operation_of, operation_running, or_left, or_right, pos, requests_of, running_syncs, running_writes, shown_length, sync_with, with_call, with_ended, with_event, with_started, with_sync, with_write, world, write_ended}
+use Rattle.uring_epochs.proofs.Common.{Answer, Change, IsLawfulApart, Log, Op, Requests, Setup, Step, SyncEnded, SyncFailed, WriteEnded, and_from, and_parts, append-nil, begun_of, both_ways, cases_Bool, change_begun, change_by, change_ended, cond-false, cond-true, entry_of, eq-eqb, eqb-true, false_from_ne_true, finished_of, has_ended, has_started, is_one_of, is_running, issued, log_from, log_of, log_on, logged, named, no_request, number_of, operation_of, operation_running, or_left, or_right, pos, requests_of, running_syncs, running_writes, shown_length, sync_with, with_call, with_ended, with_event, with_started, with_sync, with_write, world, write_ended}
+use Rattle.uring_files.specs.declared.change.Change.TheVariants.{Nothing, Put, Sync}
 use Rattle.std.proofs.lemmas.List.Elements.{filter-append}
 use Rattle.std.proofs.lemmas.List.Folds.{list_any-append}
 use Rattle.uring_linux.specs.LinuxRequests.{LinuxRequests}

@@ -1,11 +1,9 @@
 -- Events that are added to those that may come next.
 use Rattle.std.proofs.Common.{◌≡◌, ℕ, zero, suc, ◌+◌, ◌-◌, ◌<◌, ◌≤◌, ℤ, pos, Bool, true, false, slice_get, None, List, [], ◌∷◌, ◌++◌, length, drop, Option, Some, refl, sym, subst, ◌∙◌, ◌⊎◌, inl, inr, arith}
-use Rattle.uring_fill.proofs.Common.{Adds, Answer, AreAllNext, AreNext, CalledForApart, Contains, Contains-append_left, Contains-push, Contains-push_cases, Core, Cqe, Event, FinishFits, HasEndsOf, History, IsErrorOf, IsIdle, IsLawfulApart, IsPart, QuietResult, Requests, Setup, Sqe, StandsAt, TellsNext, and_from, cases_Bool, cases_lt, completion_for, count_result, entry_of, entry_outstanding, is_asked, is_drain, is_hidden, is_issuable, is_outstanding, is_running, is_stale, neg_ℤ, no_bytes, posts, put_by_flush, requests_of, seen_in, with_count, with_error, with_none, world}
+use Rattle.uring_fill.proofs.Common.{Adds, Answer, AreAllNext, AreNext, CalledForApart, Contains, Contains-append_left, Contains-push, Contains-push_cases, Core, Cqe, Event, FinishFits, HasEndsOf, History, IsErrorOf, IsIdle, IsLawfulApart, IsPart, QuietResult, Requests, Setup, Sqe, StandsAt, Step, TellsNext, and_from, cases_Bool, cases_lt, completion_for, count_result, entry_of, entry_outstanding, is_asked, is_drain, is_hidden, is_issuable, is_outstanding, is_running, is_stale, neg_ℤ, no_bytes, posts, posts_completion, put_by_flush, requests_of, seen_in, with_count, with_error, with_none, world}
 use Rattle.std.proofs.lemmas.Option.{same_Some, none-some}
-use Rattle.uring_entry.specs.Success.{posts_completion}
 use Rattle.uring_entry.specs.declared.errno.TheConstants.{EINVAL, EOPNOTSUPP, ECANCELED}
 use Rattle.uring_entry.specs.Preparation.{is_faulty, is_cancel_all}
-use Rattle.uring_core.specs.declared.step.Step.{Step}
 use Rattle.uring_core.specs.declared.step.Step.TheVariants as step
 use Rattle.uring_core.specs.declared.answer.Answer.TheVariants as answer
 use Rattle.uring_entry.specs.Results.{may_end}

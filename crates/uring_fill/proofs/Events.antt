@@ -1,9 +1,7 @@
 -- Which events go on from a part, and what is so of those that do.
 use Rattle.std.proofs.Common.{◌≡◌, ℕ, ◌-◌, ◌≤◌, ℤ, pos, Bool, true, false, ◌||◌, cond, List, [], ◌∷◌, ◌++◌, length, Option, Some, None, if◌then◌else◌, refl, sym, ap, subst, ◌∙◌, arith, rules}
-use Rattle.uring_fill.proofs.Common.{Answer, Begins, CalledForApart, Completions, Core, Cqe, Event, FinishFits, FinishesApart, GivesAllowed, History, IsErrorOf, IsIdle, IsLawfulApart, IsPart, QuietResult, Requests, Setup, Sqe, StandsAt, TellsNext, World, cancel_result, completion_for, completions_in, doomed_result, drop, ends_doomed, entry_of, is_after_failure, is_drain, is_hidden, is_issuable, is_outstanding, is_running, is_some, is_stale, length-drop, may_start, neg_ℤ, no_bytes, or_parts, or_right, posts, put_by_flush, requests_of, seen_in, slice_get, targets_of, with_count, with_error, with_flushed, with_none, with_posted, world}
-use Rattle.std.proofs.lemmas.Bool.{false≢true}
+use Rattle.uring_fill.proofs.Common.{Answer, Begins, CalledForApart, Completions, Core, Cqe, Event, FinishFits, FinishesApart, GivesAllowed, History, IsErrorOf, IsIdle, IsLawfulApart, IsPart, QuietResult, Requests, Setup, Sqe, StandsAt, Step, TellsNext, World, cancel_result, completion_for, completions_in, doomed_result, drop, ends_doomed, entry_of, false≢true, is_after_failure, is_drain, is_hidden, is_issuable, is_outstanding, is_running, is_some, is_stale, is_success, length-drop, may_start, neg_ℤ, no_bytes, or_parts, or_right, posts, posts_completion, put_by_flush, requests_of, seen_in, slice_get, targets_of, with_count, with_error, with_flushed, with_none, with_posted, world}
 use Rattle.uring_entry.specs.Preparation.{is_faulty, is_cancel, is_cancel_all}
-use Rattle.uring_entry.specs.Success.{is_success, posts_completion}
 use Rattle.uring_entry.specs.declared.errno.TheConstants.{EINVAL, EOPNOTSUPP, ECANCELED}
 use Rattle.uring_entry.specs.Why.{is_failure_before}
 use Rattle.uring_entry.proofs.BelowLemmas.{is_some_least_below}
@@ -12,7 +10,6 @@ use Rattle.uring_linux.specs.LinuxRequests as kernel
 use Rattle.uring_entry.proofs.RequestLemmas.{one_success}
 use Rattle.uring_dispatch.proofs.Counting.{length_all_below, count_below_within}
 use Rattle.uring_core.specs.Events.{is_flush, is_store_cq_head}
-use Rattle.uring_core.specs.declared.step.Step.{Step}
 use Rattle.uring_core.specs.declared.step.Step.TheVariants as step
 use Rattle.uring_core.specs.declared.answer.Answer.TheVariants as answer
 use Rattle.uring_core.proofs.Changes.{Change, refuses, runs, dooms, cancels, change_of}

@@ -1,8 +1,7 @@
 -- What stays of a history as it goes on, and what goes on after one that stands for another.
 -- By `CompletionMove`, event by event, and over later events by induction.
 use Rattle.std.proofs.Common.{◌≡◌, ℕ, Bool, true, false, cond, List, [], ◌∷◌, ◌++◌, length, if◌then◌else◌, refl, sym, ap, subst, ◌∙◌, ◌⊎◌, inl, inr}
-use Rattle.uring_fill.proofs.Common.{Answer, AreAllNext, Begins, CalledForApart, Completions, Contains, Cqe, Event, GiveAllowed, GivesAllowed, GoesOn, History, IsIdle, IsLawfulApart, IsPart, IsWhole, Setup, World, completion_for, completions_in, entry_of, happens, history_of, history_of_cons, is_hidden, onto, outstanding_in, posts, seen_in, with_posted, world}
-use Rattle.uring_core.specs.declared.step.Step.{Step}
+use Rattle.uring_fill.proofs.Common.{Answer, AreAllNext, Begins, CalledForApart, Completions, Contains, Cqe, Event, GiveAllowed, GivesAllowed, GoesOn, History, IsIdle, IsLawfulApart, IsPart, IsWhole, Setup, Step, World, completion_for, completions_in, entry_of, happens, history_of, history_of_cons, is_hidden, onto, outstanding_in, posts, seen_in, with_posted, world}
 use Rattle.uring_core.proofs.CompletionMoves.{CompletionMove, stays, ends, completion_move}
 use Rattle.uring_fill.proofs.Begun.{begins_itself, begins_more, begins_on}
 

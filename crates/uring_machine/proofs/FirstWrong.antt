@@ -1,8 +1,6 @@
 -- The first wrong answer of a list, and what is told of a list where an answer was refused.
 use Rattle.std.proofs.Common.{◌≡◌, ℕ, ◌+◌, ◌<◌, ◌≤◌, List, ◌∷◌, length, take, get_or, Option, Some, arith}
-use Rattle.uring_machine.proofs.Common.{CalledFor, CalledForApart, Event, IfOk, IsFirstWrongAnswer, IsFirstWrongApart, IsLawful, IsLawfulApart, IsOk, IsRefused, MatchOption, Ok, OnOk, Refusal, Result, Setup, history_of, world}
-use Rattle.std.proofs.lemmas.List.{take_more}
-use Rattle.uring_core.proofs.Following.{history_of_snoc}
+use Rattle.uring_machine.proofs.Common.{CalledFor, CalledForApart, Event, IfOk, IsFirstWrongAnswer, IsFirstWrongApart, IsLawful, IsLawfulApart, IsOk, IsRefused, MatchOption, Ok, OnOk, Refusal, Result, Setup, history_of, history_of_snoc, take_more, world}
 use Rattle.std.specs.declared.alloc.AllocError.{AllocError}
 use Rattle.std.proofs.lemmas.Option.{slice_get_read}
 use Rattle.uring_core.specs.declared.wanted.Wanted.{Wanted}

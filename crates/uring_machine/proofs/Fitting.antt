@@ -1,9 +1,8 @@
 -- That a machine fits a history with one more event.
 use Rattle.std.proofs.Common.{◌≡◌, ℕ, arith, ◌≤◌, List, ◌∷◌, Some, None, sym, subst, ◌∙◌, ap}
-use Rattle.uring_machine.proofs.Common.{Answer, CalledFor, CalledForApart, Core, FileContents, Fits, FitsApart, History, IsFinished, IsLawful, IsNoFinish, IsOutcome, IsUnrefused, Requests, Setup, Step, World, after, elements_for, elements_for_step, entry_of, files_of, finish_answer, max_len, operation_running, result_of, world}
+use Rattle.uring_machine.proofs.Common.{Answer, CalledFor, CalledForApart, Core, FileContents, Fits, FitsApart, History, IsFinished, IsLawful, IsNoFinish, IsOutcome, IsUnrefused, Outcome, Requests, Setup, Step, World, after, elements_for, elements_for_step, entry_of, files_of, finish_answer, max_len, operation_running, result_of, world}
 use Rattle.uring_entry.specs.Preparation.{operation_of}
 use Rattle.uring_entry.specs.declared.operation.Op.{Op}
-use Rattle.uring_entry.specs.declared.operation.Outcome.{Outcome}
 use Rattle.uring_core.specs.declared.step.Step.TheVariants as step
 use Rattle.uring_core.specs.declared.answer.Answer.TheVariants as answer
 use Rattle.uring_core.proofs.FileHistory.{files_kept, files_ended}

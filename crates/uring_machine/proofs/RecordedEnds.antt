@@ -1,10 +1,9 @@
 -- Answers that were recorded elsewhere, with files: what a machine fits after a step was followed, and what is called for as a request ends.
 use Rattle.std.proofs.Common.{◌≡◌, ◌↔◌, ℕ, arith, ℤ, neg_ℤ, true, false, List, ◌∷◌, Some, None, refl, sym, inl, inr}
-use Rattle.uring_machine.proofs.Common.{Answer, CalledFor, CalledForApart, Core, EndsOn, Err, FileContents, Fits, FitsApart, History, IfErr, IsFinished, IsNoFinish, IsOutcome, IsRefused, IsShortOfMemory, IsWrong, Machine, MayLackMemory, Meets, Ok, OnOk, Refusal, Requests, Result, Setup, Step, World, after, ended_with, entry_of, files_of, is_lengthening, is_running, no_bytes, operation_running, result_of, resumed, world}
+use Rattle.uring_machine.proofs.Common.{Answer, CalledFor, CalledForApart, Core, EndsOn, Err, FileContents, Fits, FitsApart, History, IfErr, IsFinished, IsNoFinish, IsOutcome, IsRefused, IsShortOfMemory, IsWrong, Machine, MayLackMemory, Meets, Ok, OnOk, Outcome, Refusal, Requests, Result, Setup, Step, World, after, ended_with, entry_of, files_of, is_lengthening, is_running, no_bytes, operation_running, result_of, resumed, world}
 use Rattle.uring_entry.specs.Preparation.{operation_of}
 use Rattle.uring_entry.specs.declared.errno.TheConstants.{ENOMEM}
 use Rattle.uring_entry.specs.declared.operation.Op.{Op}
-use Rattle.uring_entry.specs.declared.operation.Outcome.{Outcome}
 use Rattle.uring_core.specs.declared.step.Step.TheVariants as step
 use Rattle.uring_core.specs.declared.answer.Answer.TheVariants as answer
 use Rattle.uring_core.specs.declared.wanted.Wanted.TheVariants.{Only, EndOrNoMemory}

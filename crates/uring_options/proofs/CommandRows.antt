@@ -1,7 +1,6 @@
 -- The rows of commands as the commands that they stand for.
 use Rattle.std.proofs.Common.{◌≡◌, ◌∙◌, List, [], ◌∷◌, refl, ap}
-use Rattle.uring_options.proofs.Common.{Run, app_for, app_of_row, with_command_rows, with_commands_of, with_subcommand}
-use Rattle.clap.specs.Simple.{App}
+use Rattle.uring_options.proofs.Common.{App, Run, app_for, app_of_row, with_command_rows, with_commands_of, with_subcommand}
 use Rattle.uring_options.specs.declared.commands.CommandRow.{CommandRow}
 
 -- each row is to clap the command at its place

@@ -1,7 +1,9 @@
 -- What the option of a name gives of words that clap finds no fault in.
 use Rattle.std.proofs.Common.{◌≡◌, ◌∙◌, ◌<◌, ◌≤◌, ◌^◌, ℕ, Bool, true, false, cond, List, [], ◌∷◌, Option, Some, None, Result, Ok, refl, ap, subst, inl, inr, arith}
-use Rattle.uring_options.proofs.Common.{CommandOption, Gives, IsGiven, IsWithin, ParsesUnsigned, Row, Rule, TakesOption, TakesOptions, Text, codes, find, flag, number, or_cases, parser_for, values_kinds}
+use Rattle.uring_options.proofs.Common.{CommandOption, Gives, IsGiven, IsWithin, Row, Rule, TakesOption, TakesOptions, Text, codes, find, flag, number, parser_for, values_kinds}
+use Rattle.std.specs.Str.Parse.{ParsesUnsigned}
 use Rattle.clap.specs.Walk.{rows_of}
+use Rattle.std.proofs.lemmas.Bool.{or_cases}
 use Rattle.std.specs.Str.{bytes_eq}
 use Rattle.std.proofs.lemmas.Slice.Eq.{bytes_eq-Decides}
 use Rattle.clap.specs.Facts.{parser_of_value}

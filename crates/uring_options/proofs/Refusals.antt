@@ -1,6 +1,7 @@
 -- When numbers are refused, and what else a command line can end with.
 use Rattle.std.proofs.Common.{◌≡◌, ◌*◌, ◌≤◌, ◌^◌, ◌↔◌, ℕ, zero, suc, List, [], Option, Some, None, Result, Ok, Err, refl, inl, inr, arith}
-use Rattle.uring_options.proofs.Common.{AnswersNamed, AreInRange, AskFor, AskForTooSmall, HasKind, IfErr, IfOk, IsBadCq, IsErrAnd, IsErrOf, IsFaultOf, IsMemory, IsSetupOver, IsTooSmall, IsWithin, Numbers, Setup, Text, Writes, cases_lt, subcommand_of, unwrap_or, uring}
+use Rattle.uring_options.proofs.Common.{AnswersNamed, AreInRange, AskFor, AskForTooSmall, HasKind, IfErr, IfOk, IsBadCq, IsErrAnd, IsErrOf, IsFaultOf, IsMemory, IsSetupOver, IsTooSmall, IsWithin, Numbers, Setup, Text, Writes, subcommand_of, unwrap_or, uring}
+use Rattle.std.proofs.lemmas.Bool.{cases_lt}
 use Rattle.std.specs.Int.{IsNextPowerOfTwo}
 use Rattle.std.proofs.Math.Nat.{pow-suc}
 use Rattle.clap.specs.Faults.{fault_of}

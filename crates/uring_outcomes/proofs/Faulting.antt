@@ -1,9 +1,9 @@
 -- What ends a walk before its end: an operation that wasn't granted its memory, and calls with more entries than requests have numbers.
 use Rattle.std.proofs.Common.{◌≡◌, ℕ, ◌+◌, ◌≤◌, ◌^◌, List, [], ◌∷◌, length, drop, get_or, Option, Some, Result, Err, sym, subst, ap, arith, ◌<◌}
-use Rattle.uring_outcomes.proofs.Common.{Global, IfErr, IsErrAnd, Moment, Move, Run, Sqe, StandsAt, Vec, after_moves, entries_of, length-append, moved, option_and_then, starting}
+use Rattle.uring_outcomes.proofs.Common.{Global, IfErr, IsErrAnd, IsReason, Moment, Move, Run, Sqe, StandsAt, Vec, after_moves, entries_of, entry_count, length-append, moved, option_and_then, starting}
 use Rattle.uring_dispatch.specs.declared.errors.ReserveError.{ReserveError}
 use Rattle.uring_dispatch.specs.declared.errors.ReserveError.TheVariants as refused
-use Rattle.uring_outcomes.specs.Faults.{entry_count, IsReason, fault_of}
+use Rattle.uring_outcomes.specs.Faults.{fault_of}
 use Rattle.uring_outcomes.specs.declared.fault.WalkFault.{WalkFault}
 use Rattle.uring_outcomes.specs.declared.fault.WalkFault.TheVariants as fault
 use Rattle.uring_outcomes.proofs.Moving.{next_left}

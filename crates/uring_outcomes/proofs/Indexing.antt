@@ -1,10 +1,7 @@
 -- Endings and the places that are noted for their marks: what is there is found, and what is added is noted.
 use Rattle.std.proofs.Common.{◌≡◌, ℕ, Bool, true, false, List, [], ◌∷◌, ◌++◌, length, get_or, Some, None, refl, sym, subst, ap, ◌∙◌, cond, arith, inl, inr}
-use Rattle.uring_outcomes.proofs.Common.{Contains, Contains-append_left, Contains-push, Ending, Global, HasPlace, IsSomeAnd, NotesPlace, Vec, cases_lt, eq-eqb, eqb-true, get_or_append_left, length_push, nat_eq, slice_get}
+use Rattle.uring_outcomes.proofs.Common.{Contains, Contains-append_left, Contains-push, Ending, Global, HasPlace, IsSomeAnd, NotesPlace, Vec, cases_lt, eq-eqb, eqb-true, get_or_append_left, get_or_from_slice_get, get_or_push, length_push, mark_of, nat_eq, slice_get, slice_get-get_or, slice_get_within}
 use Rattle.std.specs.HashMap.{HashMap, get}
-use Rattle.std.proofs.lemmas.Option.{get_or_from_slice_get, slice_get-get_or, slice_get_within}
-use Rattle.std.proofs.lemmas.List.{get_or_push}
-use Rattle.uring_outcomes.specs.Index.{mark_of}
 
 -- what stands in a list stands at a place of it
 pub place_of : (xs : List Ending) (e : Ending) → Contains xs e → (k : ℕ) × (slice_get xs k ≡ Some e)

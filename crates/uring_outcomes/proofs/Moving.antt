@@ -1,7 +1,8 @@
 -- What the dispatcher answers, and the moves that it makes: `issue_moves`, `accept_moves` and `finish_moves`.
 -- What the run stands at after them.
 use Rattle.std.proofs.Common.{◌≡◌, ℕ, suc, ◌+◌, ◌<◌, ◌≤◌, neg_ℤ, Bool, true, false, ◌&&◌, nat_le, if◌then◌else◌, List, [], ◌∷◌, length, drop, get_or, Option, Some, None, refl, sym, subst, ap, ◌∙◌, arith}
-use Rattle.uring_outcomes.proofs.Common.{ENOMEM, FileContents, Global, IsOutcome, IsReached, MadeAs, Moment, Move, Op, Outcome, Requests, Sqe, Vec, accepted, drop-cons, drop_all, ended_at_once, entries_of, entry_of, entry_outstanding, false_from_ne_true, finished, get_or-map, is_finishable, is_issuable, is_outstanding, is_running, issued, le-leb, least_below_some, leb-true, length-map, moved, operation_of, operation_running, result_of, started, starting, with_call}
+use Rattle.uring_entry.specs.declared.errno.TheConstants.{ENOMEM}
+use Rattle.uring_outcomes.proofs.Common.{FileContents, Global, IsOutcome, IsReached, MadeAs, Moment, Move, Op, Outcome, Requests, Sqe, Vec, accepted, drop-cons, drop_all, ended_at_once, entries_of, entry_of, entry_outstanding, false_from_ne_true, finished, get_or-map, is_finishable, is_issuable, is_outstanding, is_running, issued, le-leb, least_below_some, leb-true, length-map, moved, operation_of, operation_running, result_of, started, starting, with_call}
 use Rattle.uring_dispatch.specs.Issuable.{issuable_from}
 use Rattle.uring_dispatch.specs.IssueAndFinish as asked
 use Rattle.uring_dispatch.specs.declared.answers.Issued.{Issued}

@@ -1,7 +1,8 @@
 -- The law `prompt_moves_lead`: moves are followed by prompt ones, which start each request that no cancel names only where the others finish it.
 -- What runs stays ready and is never doomed, so that it may start as late. Which requests were started is read of a cancel alone, of those that it names.
 use Rattle.std.proofs.Common.{◌≡◌, ℕ, ◌+◌, ◌-◌, ◌<◌, ℤ, pos, Bool, true, false, not, ◌&&◌, ◌||◌, ◌==◌, nat_lt, List, [], ◌∷◌, ◌++◌, length, get_or, Option, Some, None, if◌then◌else◌, refl, sym, subst, ap, ap₂, ◌∙◌, ◌⊎◌, inl, inr, arith}
-use Rattle.uring_outcomes.proofs.Common.{All, All-head, All-tail, AreNamed, ArePrompt, EALREADY, IsOver, IsPrompt, Moment, Move, NamesAll, PromptMovesLead, Requests, Setup, Sqe, accepted, addr_of, after_moves, and_from, and_parts, both_ways, cancel_result, cases_Bool, cases_lt, chosen_by, cond-false, cond-true, count_result, doomed_result, ended_at_once, entry_of, eq-eqb, eqb-true, false_from_ne_true, finished, get_or-append-add, get_or-eq_default, get_or_append_left, has_ended, has_started, is_after_failure, is_cancel, is_cancel_all, is_candidate, is_doomed, is_finishable, is_issuable, is_joined, is_named, is_outstanding, is_ready, is_running, is_target, issued, least_below_tells, list_any_push, moved, neg_ℤ, no_bytes, operation_of, option_and_then, or_right, result_for, result_of, some_member, started, starting, target_of, targets_of, unwrap_or, user_data_of, with_call, with_ended, with_started, zero_entry}
+use Rattle.uring_outcomes.proofs.Common.{All, All-head, All-tail, AreNamed, ArePrompt, IsOver, IsPrompt, Moment, Move, NamesAll, PromptMovesLead, Requests, Setup, Sqe, accepted, addr_of, after_moves, and_from, and_parts, both_ways, cancel_result, cases_Bool, cases_lt, chosen_by, cond-false, cond-true, count_result, doomed_result, ended_at_once, entry_of, eq-eqb, eqb-true, false_from_ne_true, finished, get_or-append-add, get_or-eq_default, get_or_append_left, has_ended, has_started, is_after_failure, is_cancel, is_cancel_all, is_candidate, is_doomed, is_finishable, is_issuable, is_joined, is_named, is_outstanding, is_ready, is_running, is_target, issued, least_below_tells, list_any_push, moved, neg_ℤ, no_bytes, operation_of, option_and_then, or_right, result_for, result_of, some_member, started, starting, target_of, targets_of, unwrap_or, user_data_of, with_call, with_ended, with_started, zero_entry}
+use Rattle.uring_entry.specs.declared.errno.TheConstants.{EALREADY}
 use Rattle.std.specs.List.{list_any}
 use Rattle.uring_core.proofs.ListCounts.{any_new, any_kept}
 use Rattle.uring_laws.proofs.AlikeRequests.{all_below_same}

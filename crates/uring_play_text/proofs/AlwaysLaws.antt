@@ -1,10 +1,9 @@
 -- All bytes tell something.
 use Rattle.std.proofs.Common.{◌≡◌, ℕ, zero, suc, ◌+◌, ◌*◌, ◌<◌, ◌≤◌, ◌^◌, ltb, eqb, List, [], ◌∷◌, ◌++◌, length, take, drop, get_or, Option, Some, None, Ok, Err, refl, sym, ap, subst, ◌∙◌, append_assoc, arith, length-drop, reverse, ◌⊎◌, inl, inr}
 use mathlib.Core.List.{head-eq_of_cons-eq}
-use Rattle.uring_play_text.proofs.Common.{AllByRecursion, AreWords, Goes, IsBadLine, IsBadWord, IsItemLine, IsNoBadWord, IsNoItem, IsTold, Item, MatchOption, PlayFault, SpellsItem, Splits, Sqe, Tells, Told, append-nil, bytes_of, cases_Bool, codes, eqb-false, eqb-true, header, length-take, ltb-false, ltb-true, nil_from_length, one_call, padded, reverse-append, take-append-drop, true≢false, with_last}
+use Rattle.uring_play_text.proofs.Common.{AllByRecursion, AreWords, Goes, IsBadLine, IsBadWord, IsItemLine, IsNoBadWord, IsNoItem, IsTold, Item, MatchOption, PlayFault, SpellsItem, Splits, Sqe, Tells, Told, append-nil, bytes_of, cases_Bool, codes, eqb-false, eqb-true, header, length-take, ltb-false, ltb-true, nil_from_length, one_call, padded, places, reverse-append, take-append-drop, true≢false, with_last}
 use Rattle.std.specs.Str.{bytes_eq}
 use Rattle.std.specs.Int.{w64, to_le_bytes, from_le_bytes}
-use Rattle.std.proofs.lemmas.List.{places}
 use Rattle.std.proofs.lemmas.Nat.{le_bytes_8}
 use Rattle.std.proofs.lemmas.Slice.Eq.{bytes_eq-Decides}
 use Rattle.uring_entry.specs.declared.operation.opcode.TheConstants.{WRITE}

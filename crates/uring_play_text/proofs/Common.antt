@@ -1,9 +1,10 @@
 -- The names that several of these files cite, passed on from one place. Declares nothing.
+pub use Rattle.std.proofs.KnownBytes.{Appends-nil, Consumes-kept, Consumes-nil, Consumes-trans}
 pub use Rattle.std.proofs.lemmas.Bool.{cases_Bool, eqb-false, eqb-true, ltb-false, ltb-true, ne_eqb, true≢false}
-pub use Rattle.std.proofs.lemmas.List.{append-nil, length-take, nil_from_length, reverse-append, take-append-drop, take_more}
-pub use Rattle.std.specs.Io.KnownBytes.{Consumes, IsAtEnd, Keeps}
+pub use Rattle.std.proofs.lemmas.List.{append-nil, length-take, nil_from_length, places, reverse-append, take-append-drop, take_more}
+pub use Rattle.std.specs.Io.KnownBytes.{Appends, Consumes, IsAtEnd, Keeps}
 pub use Rattle.std.specs.List.{AllByRecursion, onto_first, slice_split}
-pub use Rattle.std.specs.Prelude.{IfSome, IsSome, MatchOption, codes, length, ◌<◌, ◌≤◌}
+pub use Rattle.std.specs.Prelude.{Err, IfSome, IsSome, MatchOption, Ok, Option, Result, codes, length, ◌<◌, ◌≤◌}
 pub use Rattle.uring_entry.specs.Layout.{AreWords, Cqe, Sqe, bytes_of, header, padded}
 pub use Rattle.uring_play_text.specs.Calls.{AreCalls, AreItemLines, IsCall, SpellsCalls, blocks_of, is_blank}
 pub use Rattle.uring_play_text.specs.Faults.{IsBadFirst, IsLongFirst, Reaches, last_block, open_block}

@@ -1,16 +1,12 @@
 -- The text of completions, line by line.
 use Rattle.std.proofs.Common.{◌≡◌, ℕ, ◌+◌, ◌<◌, List, [], ◌∷◌, ◌++◌, length, take, get_or, refl, sym, ◌∙◌, append_assoc}
-use Rattle.uring_play_text.proofs.Common.{Cqe, append-nil, ended, take_more}
+use Rattle.uring_play_text.proofs.Common.{Appends, Appends-nil, Cqe, Err, Ok, Option, PlayFault, Result, append-nil, ended, take_more}
 use Rattle.uring_text.specs.Completions.{completion_text}
 use Rattle.uring_play_text.specs.Outputs.{Writes, counts_text, lines_text}
 use Rattle.uring_play_text.specs.declared.play_fault.PlayFault.TheVariants as fault
 use Rattle.uring_text.specs.declared.trace_fault.TraceFault.{TraceFault}
 use Rattle.uring_text.specs.Writing.{WritesText}
-use Rattle.std.specs.Io.KnownBytes.{Appends}
-use Rattle.std.specs.Prelude.{Err, Ok, Option, Result}
 use Rattle.std.specs.Result.{IsErrAnd}
-use Rattle.std.proofs.KnownBytes.{Appends-nil}
-use Rattle.uring_play_text.specs.declared.play_fault.PlayFault.{PlayFault}
 
 lines_append : (cs : List Cqe) (c : Cqe)
     → lines_text (cs ++ c ∷ []) ≡ lines_text cs ++ ended (completion_text c)

@@ -1,9 +1,8 @@
 -- What a reading takes in, byte by byte.
 use Rattle.std.proofs.Common.{◌≡◌, ◌≢◌, ℕ, List, [], ◌∷◌, ◌++◌, Option, Some, None, Result, Ok, Err, refl, sym, ap, subst, reverse}
-use Rattle.uring_play_text.proofs.Common.{Consumes, Gathers, Has, HasLines, Holds, IfSome, IsAtEnd, IsEarly, IsGiven, IsReturned, Item, Keeps, MatchOption, PlayFault, ReadsAll, ReadsCalls, ReadsIn, Returns, TakesIn, append-nil, length, reverse-append, with_last, ◌<◌, ◌≤◌}
+use Rattle.uring_play_text.proofs.Common.{Consumes, Consumes-kept, Consumes-nil, Consumes-trans, Gathers, Has, HasLines, Holds, IfSome, IsAtEnd, IsEarly, IsGiven, IsReturned, Item, Keeps, MatchOption, PlayFault, ReadsAll, ReadsCalls, ReadsIn, Returns, TakesIn, append-nil, length, reverse-append, with_last, ◌<◌, ◌≤◌}
 use Rattle.std.specs.Borrow.{Bor}
 use Rattle.std.specs.Result.{IsErrAnd}
-use Rattle.std.proofs.KnownBytes.{Consumes-nil, Consumes-trans, Consumes-kept}
 use Rattle.std.specs.declared.vec.Vec.{Vec}
 use Rattle.std.specs.declared.alloc.Global.{Global}
 use Rattle.uring_entry.specs.Setup.{Setup}

@@ -1,7 +1,6 @@
 -- What each call of the completion ring leaves shows the lists after its event.
 use Rattle.std.proofs.Common.{◌≡◌, ℕ, ◌+◌, ◌-◌, ◌%◌, ◌^◌, ◌<◌, true, false, ltb, List, [], ◌∷◌, ◌++◌, length, set, get_or, min, Some, ap, ◌∙◌, arith, ne_eqb, le-ltb}
-use Rattle.uring_rings.proofs.Common.{Completions, Cq, Cqe, IsCq, Setup, ShowsCompletions, drop-append-le, drop_more, get_or-set_other, get_or_append_left, get_or_default, has_room, length-drop, length_push, next_to_reap, nil_from_length, put_by_flush, slice_get-get_or, take-append-le, take_more, with_posted, with_reaped}
-use Rattle.std.proofs.lemmas.Nat.{mod_below}
+use Rattle.uring_rings.proofs.Common.{Completions, Cq, Cqe, IsCq, Setup, ShowsCompletions, drop-append-le, drop_more, get_or-set_other, get_or_append_left, get_or_default, has_room, length-drop, length_push, mod_below, next_to_reap, nil_from_length, put_by_flush, slice_get-get_or, take-append-le, take_more, with_posted, with_reaped}
 use Rattle.std.proofs.lemmas.Grind.{get_or-set_at}
 use Rattle.uring_rings.proofs.Counts.{same_cell}
 

@@ -2,8 +2,8 @@
 -- By arithmetic on remainders alone: nothing here knows of a ring.
 -- Stable: rings as shared words are to cite these lemmas too.
 use Rattle.std.proofs.Common.{◌≡◌, ℕ, ◌+◌, ◌-◌, ◌%◌, ◌^◌, ◌<◌, ◌≤◌, sym, subst, arith}
-use Rattle.uring_rings.proofs.Common.{IsPowerOfTwo, cases_lt}
-use Rattle.std.proofs.lemmas.Nat.{and_mask, pow_below}
+use Rattle.std.specs.Int.{IsPowerOfTwo}
+use Rattle.uring_rings.proofs.Common.{and_mask, cases_lt, pow_below}
 use Rattle.std.proofs.Math.Pow.{mod-mod-pow}
 use Rattle.std.specs.Int.RustNames.{bit_and}
 

@@ -1,8 +1,7 @@
 -- What each call of the submission ring leaves shows the lists after its event.
 use Rattle.std.proofs.Common.{◌≡◌, ℕ, ◌+◌, ◌%◌, ◌^◌, ◌<◌, false, eqb, List, [], ◌∷◌, length, map, set, cond, Some, suc, arith, eq-eqb, ne_eqb}
-use Rattle.uring_rings.proofs.Common.{IsSq, Place, Setup, ShowsSubmission, Sq, Sqe, Submission, cases_eq, drop-append-le, get_or-set_other, get_or_append_left, get_or_from_slice_get, get_or_push, is_busy, length-append, length-drop, length-map, length-set, place_of, slice_get, slice_get-get_or, take-append-le, with_filled, with_published, with_staged}
+use Rattle.uring_rings.proofs.Common.{IsSq, Place, Setup, ShowsSubmission, Sq, Sqe, Submission, cases_eq, drop-append-le, get_or-set_other, get_or_append_left, get_or_from_slice_get, get_or_push, is_busy, length-append, length-drop, length-map, length-set, mod_below, place_of, slice_get, slice_get-get_or, take-append-le, with_filled, with_published, with_staged}
 use Rattle.std.proofs.lemmas.Grind.{get_or-set_at}
-use Rattle.std.proofs.lemmas.Nat.{mod_below}
 use Rattle.uring_rings.proofs.Elements.{slice_get_append_left, slice_get_append_right}
 use Rattle.uring_rings.proofs.Counts.{same_cell}
 use Rattle.uring_rings.proofs.SubmissionWords.{length_words, words_indexed, words_stored, not_named}

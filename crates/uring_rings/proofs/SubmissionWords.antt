@@ -1,6 +1,7 @@
 -- The words that were published or staged, by their positions, and the cells that hold them.
 use Rattle.std.proofs.Common.{◌≡◌, ◌≢◌, ℕ, ◌+◌, ◌-◌, ◌%◌, ◌^◌, ◌<◌, ◌≤◌, true, false, eqb, List, [], ◌∷◌, ◌++◌, length, drop, map, get_or, Some, None, refl, arith, eq-eqb, ne_eqb}
-use Rattle.uring_rings.proofs.Common.{IsSq, Place, Setup, ShowsSubmission, Sq, Sqe, Submission, append-nil, append_assoc, get_or-drop, get_or-map, get_or_append_left, get_or_from_slice_get, is_busy, length-append, length-drop, length-map, map-append, place_of, slice_get, slice_get-get_or, slice_get_within, staged, with_published, with_staged, word_of, words}
+use Rattle.uring_rings.proofs.Common.{IsSq, Place, Setup, ShowsSubmission, Sq, Sqe, Submission, append-nil, append_assoc, get_or-drop, get_or-map, get_or_append_left, get_or_from_slice_get, is_busy, length-append, length-drop, length-map, map-append, place_of, slice_get, slice_get-get_or, slice_get_within, staged, with_published, with_staged, words}
+use Rattle.uring_entry.specs.IndexWords.{word_of}
 use Rattle.std.proofs.lemmas.List.Folds.{list_any_at, list_any_none}
 
 -- there are as many words as staged positions

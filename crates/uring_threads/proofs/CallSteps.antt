@@ -1,7 +1,6 @@
 -- How the steps of a submission call are answered, and what they make: from the laws of the call of the positions that wait.
 use Rattle.std.proofs.Common.{◌≡◌, ℕ, ◌+◌, ◌-◌, ◌<◌, ◌≤◌, false, true, Bool, List, [], ◌∷◌, length, drop, get_or, Some, None, if◌then◌else◌, refl, subst, ap, ◌∙◌, arith, add-one}
-use Rattle.uring_threads.proofs.Common.{Answer, Appends, CalledForApart, Grows, IsFirst, Kept, Place, Setup, Stands, Submission, World, after_call, beginning, call_closes, call_opens, calls_after, calls_counted, calls_left, drop_more, drop_of_length-le, ends_after, ends_of, happens, in_call, is_spent, none_counted, now, place_answer, position_taken, sum_by_push, taken}
-use Rattle.std.proofs.lemmas.Option.{slice_get-get_or}
+use Rattle.uring_threads.proofs.Common.{Answer, Appends, CalledForApart, Grows, IsFirst, Kept, Place, Setup, Stands, Submission, World, after_call, beginning, call_closes, call_opens, calls_after, calls_counted, calls_left, drop_more, drop_of_length-le, ends_after, ends_of, happens, in_call, is_spent, none_counted, now, place_answer, position_taken, slice_get-get_or, sum_by_push, taken}
 use Rattle.uring_core.specs.declared.step.Step.TheVariants as step
 use Rattle.uring_core.specs.declared.answer.Answer.TheVariants as answer
 use Rattle.uring_threads.specs.declared.calls.CallMade.TheVariants as made

@@ -1,8 +1,7 @@
 -- What is sent and taken in, as a result is taken in: the operation is the last of its worker's, and all else stays; and how many results of each worker a turn takes in.
 use Rattle.std.proofs.Common.{◌≡◌, ℕ, ◌+◌, ◌<◌, arith, Bool, true, false, List, [], ◌∷◌, ◌++◌, length, refl, sym, ap, ◌∙◌, inl, inr, ◌*◌, ◌≤◌, get_or, add-zero}
-use Rattle.uring_threads.proofs.Common.{Answer, AreSameLanes, AreTakenIn, CanBeTaken, Collects, CollectsNext, CollectsSeen, Done, Grows, HasCarried, HaveCarried, IsLawfulApart, IsTakenIn, IsUnmoved, JobResult, Kept, NextStays, NoneComes, OnErr, OnlyReceives, Repeats, Result, TakesFewResults, TakesSeen, Wait, WorkLanes, cases_lt, done_by_worker, done_in, entry_of, finish_of, finishes_counted, history, is_running, is_running_ended_other, is_running_ended_same, length-set, length_push, map-append, most_results, now, operation_of, place_of, results_of, results_received, results_seen, results_taken_in, set}
+use Rattle.uring_threads.proofs.Common.{Answer, AreSameLanes, AreTakenIn, CanBeTaken, Collects, CollectsNext, CollectsSeen, Done, Grows, HasCarried, HaveCarried, IsFinished, IsLawfulApart, IsTakenIn, IsUnmoved, JobResult, Kept, NextStays, NoneComes, OnErr, OnlyReceives, Repeats, Result, TakesFewResults, TakesSeen, Wait, WorkLanes, cases_lt, done_by_worker, done_in, entry_of, finish_of, finishes_counted, history, is_running, is_running_ended_other, is_running_ended_same, length-set, length_push, map-append, most_results, now, operation_of, place_of, results_of, results_received, results_seen, results_taken_in, set}
 use mathlib.Core.List.{IsPrefix}
-use Rattle.uring_core.specs.Core.{IsFinished}
 use Rattle.uring_core.specs.declared.step.Step.TheVariants as step
 use Rattle.uring_core.specs.declared.answer.Answer.TheVariants as answer
 use Rattle.uring_threads.proofs.Sent.{one_more_at, none_more_at}

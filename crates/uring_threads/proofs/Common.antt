@@ -3,15 +3,15 @@ pub use Rattle.std.proofs.ByRecursion.{All-push, All-weaker, all_kept_by}
 pub use Rattle.std.proofs.Math.ListN.{drop_of_length-le, set}
 pub use Rattle.std.proofs.lemmas.Bool.{and_parts, cases_eq, cases_lt, eq-eqb, eqb-true, false≢true, lt-ltb, or_cases, or_left, or_right}
 pub use Rattle.std.proofs.lemmas.Grind.{common_steps, flat_map-append}
-pub use Rattle.std.proofs.lemmas.List.Sums.{count_by-le-length, length-filter, sum_by-append, sum_by-cons, sum_by_push}
 pub use Rattle.std.proofs.lemmas.List.{append_cancel_left, drop_more, get_or-map, get_or-set_other, get_or-set_same, get_or_default, length-append, length-map, length-set, length-take-le, length_push, map-append, nil_from_length, replicate_more, reverse-append, take_all, take_more}
+pub use Rattle.std.proofs.lemmas.List.Sums.{count_by-le-length, length-filter, sum_by-append, sum_by-cons, sum_by_push}
+pub use Rattle.std.proofs.lemmas.Option.{cond_some, get_or_from_slice_get, slice_get-get_or, slice_get_within}
 pub use Rattle.std.proofs.lemmas.Result.{IfOk-from_err, IfOk-weaker}
 pub use Rattle.std.specs.List.{AllByRecursion, filter, list_any}
-pub use Rattle.std.specs.Option.{option_and_then, option_map}
-pub use Rattle.std.specs.Prelude.{All, Bool, Err, IfOk, IsErr, IsOk, None, Ok, OnErr, Result, if◌then◌else◌, is_some, length, slice_get, slice_index_or, slice_set, vec_capacity, ◌≡◌, ◌⊎◌}
+pub use Rattle.std.specs.Prelude.{All, Bool, Err, IfOk, IsErr, IsOk, None, Ok, OnErr, Result, if◌then◌else◌, is_some, length, min, slice_get, slice_index_or, slice_set, vec_capacity, ◌≡◌, ◌⊎◌}
 pub use Rattle.uring_core.proofs.Following.{history_of_append, history_of_cons, history_of_snoc}
-pub use Rattle.uring_core.proofs.SoundRequests.{IsSoundRequests, outstanding_tells}
 pub use Rattle.uring_core.specs.CalledFor.{IsLawful, files_of}
+pub use Rattle.uring_core.specs.Core.{FitsApart, IsFinished, elements_for}
 pub use Rattle.uring_core.specs.Histories.{Event, History, IsLawfulApart, history_of, world}
 pub use Rattle.uring_core.specs.StepAnswers.{CalledForApart, FinishesApart, IsEnded, close_answer, is_spent, place_answer}
 pub use Rattle.uring_core.specs.World.{World, beginning, closing, happens, requests_of, with_end_of}
@@ -28,12 +28,10 @@ pub use Rattle.uring_entry.specs.declared.operation.Op.{Op}
 pub use Rattle.uring_files.specs.Done.{Done}
 pub use Rattle.uring_files.specs.Operations.{byte_of, state_of}
 pub use Rattle.uring_laws.proofs.Standing.{call_closes, call_opens, items_fresh, items_keep, items_published, position_taken, tail_publishes, words_of}
-pub use Rattle.uring_laws.specs.Direct.{with_told}
 pub use Rattle.uring_laws.specs.Finishes.{done_at, done_by, done_in}
 pub use Rattle.uring_laws.specs.Standing.{Stands, after_call, ends_after, in_call, with_item, with_items}
-pub use Rattle.uring_ports.specs.AppEnd.{AppEnd}
 pub use Rattle.uring_ports.specs.Items.{AreItems, all_published_as, published_as}
-pub use Rattle.uring_ports.specs.Ports.{LeavesCompletions, LeavesItems, Pulls, Put, Sizes, items_of_calls, nothing_put, sizes_of, with_close}
+pub use Rattle.uring_ports.specs.Ports.{LeavesCompletions, LeavesItems, Pulls, Put, Sizes, items_of_calls, nothing_put, sizes_of, with_call, with_close}
 pub use Rattle.uring_ports.specs.declared.item.Item.{Item}
 pub use Rattle.uring_rules.specs.Rules.{is_issuable, posts, with_issued_end}
 pub use Rattle.uring_threads.specs.Calls.{AreBegun, calls_left, calls_of, ends_after_item, ends_of}
@@ -54,9 +52,7 @@ pub use Rattle.uring_threads.specs.Taking.{HasBegun, HaveMade, IsFirst, TakesIn}
 pub use Rattle.uring_threads.specs.Tallies.{Appends, TakesFewResults, Tally, both, calls_counted, close_counted, closes_ring, finishes_counted, is_refused, issues_counted, issues_request, items_counted, most_results, none_counted, reaps_counted, results_taken_in, starts_request, takes_result, tally_of}
 pub use Rattle.uring_threads.specs.Turns.{AreTies, ClosesOnce, Counts, IsDelivered, Tied, awaits_memory, is_shut, waiting_in}
 pub use Rattle.uring_threads.specs.declared.intake.Intake.{Intake}
-pub use Rattle.uring_threads.specs.declared.turns.Turn.{Turn}
 pub use Rattle.uring_workers.specs.Opened.{AreLanesOf}
-pub use Rattle.uring_workers.specs.Pairings.{pairing_of}
 pub use Rattle.uring_workers.specs.Work.{job_of, jobs_of, place_of, place_of_file, result_of, results_of}
 pub use Rattle.uring_workers.specs.WorkLanes.{AreSameLanes, HaveCarriedNone, HoldJobs, HoldResults, IsLookedAt, IsSent, OnlyReceives, SomeIsFull, jobs_sent, numbers_of_lanes, results_held, results_received, results_seen}
 pub use Rattle.uring_workers.specs.Worker.{IsRight, Looks, Worker}

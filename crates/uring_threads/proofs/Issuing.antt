@@ -1,7 +1,7 @@
 -- How the Issue of the next request is answered, and the loop of issues: lanes are looked at, and then a request is issued.
 use Rattle.std.proofs.Common.{◌≡◌, ℕ, true, List, Option, Some, None, length, ℤ, refl, sym, ap, ◌∙◌, ◌+◌, ◌<◌, ◌≤◌, get_or, arith}
-use Rattle.uring_threads.proofs.Common.{Answer, AreSameLanes, CalledForApart, Grows, HaveCarried, IsLookedAt, IsUnmoved, Kept, Op, Repeats, WorkLanes, World, count_by-le-length, entry_of, is_issuable, is_running, is_running_started_same, issues_counted, issues_request, length-append, next_in, none_counted, now, operation_of, operation_running, outstanding_tells, requests_of}
-use Rattle.std.proofs.lemmas.Option.{cond_some}
+use Rattle.uring_threads.proofs.Common.{Answer, AreSameLanes, CalledForApart, Grows, HaveCarried, IsLookedAt, IsUnmoved, Kept, Op, Repeats, WorkLanes, World, cond_some, count_by-le-length, entry_of, is_issuable, is_running, is_running_started_same, issues_counted, issues_request, length-append, next_in, none_counted, now, operation_of, operation_running, requests_of}
+use Rattle.uring_core.proofs.SoundRequests.{outstanding_tells}
 use Rattle.uring_entry.proofs.BelowLemmas.{least_below_tells}
 use Rattle.uring_core.proofs.Issuable.{issue_goes, issued_ends, issuable_outstanding}
 use Rattle.uring_core.specs.declared.step.Step.TheVariants as step

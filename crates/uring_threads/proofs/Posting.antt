@@ -1,6 +1,6 @@
 -- What ends of requests and a delivery leave of the rings: ends leave them as they were, but for what is posted.
 use Rattle.std.proofs.Common.{◌≡◌, ℕ, ◌+◌, ◌-◌, ◌≤◌, List, length, refl, sym, subst, arith, min, append_assoc}
-use Rattle.uring_threads.proofs.Common.{Answer, Appends, Cqe, DeliversMost, sum_by-append, Grows, IsDelivered, IsUnmoved, KeepsAllBut, Kept, OnlyPosts, Setup, World, happens, now, on_completions, reaps_counted, with_flushed, with_head_stored, with_reaped_all, with_tail_loaded}
+use Rattle.uring_threads.proofs.Common.{Answer, Appends, Cqe, DeliversMost, Grows, IsDelivered, IsUnmoved, KeepsAllBut, Kept, OnlyPosts, Setup, World, happens, now, on_completions, reaps_counted, sum_by-append, with_flushed, with_head_stored, with_reaped_all, with_tail_loaded}
 use Rattle.uring_core.specs.declared.step.Step.TheVariants as step
 use Rattle.uring_threads.proofs.TraceSteps.{grown, unmoved_now}
 

@@ -1,6 +1,8 @@
 -- Lanes and workers by their numbers: whoever has the same numbers is the other end.
 use Rattle.std.proofs.Common.{◌≡◌, ℕ, suc, ◌<◌, ◌≤◌, List, [], ◌∷◌, length, map, get_or, refl, sym, subst, ap, ap₂, ◌∙◌, arith}
-use Rattle.uring_threads.proofs.Common.{AppEnd, AreLanesOf, AreSameLanes, AreTogether, HaveCarried, HaveCarriedNone, HaveFiles, HaveLooked, HoldJobs, HoldResults, IsKernel, IsSameKernel, Kept, Kernel, Setup, WorkLanes, Worker, calls_after, get_or-map, get_or_default, length-map, length-set, nothing_put, numbers_of_lanes, pairing_of, sizes_of, slice_set}
+use Rattle.uring_ports.specs.AppEnd.{AppEnd}
+use Rattle.uring_threads.proofs.Common.{AreLanesOf, AreSameLanes, AreTogether, HaveCarried, HaveCarriedNone, HaveFiles, HaveLooked, HoldJobs, HoldResults, IsKernel, IsSameKernel, Kept, Kernel, Setup, WorkLanes, Worker, calls_after, get_or-map, get_or_default, length-map, length-set, nothing_put, numbers_of_lanes, sizes_of, slice_set}
+use Rattle.uring_workers.specs.Pairings.{pairing_of}
 use Rattle.uring_threads.specs.Opening.{kernel_at_first}
 use Rattle.uring_threads.specs.declared.intake.Intake.TheVariants as intake
 use Rattle.uring_workers.proofs.Working.{same_ring}

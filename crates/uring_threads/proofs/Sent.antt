@@ -2,7 +2,9 @@
 -- And of what is left at a place: of the jobs sent to it, those after the operations that were carried out are of the requests that run.
 -- By `Moves` and induction over the history, and by counting how often a number stands among what was sent and carried out.
 use Rattle.std.proofs.Common.{◌≡◌, ℕ, ◌<◌, ◌==◌, ℤ, List, [], ◌∷◌, ◌++◌, length, Bool, true, false, cond, refl, ◌∙◌, ap, arith, ◌≢◌, ◌+◌, append-nil, count_by}
-use Rattle.uring_threads.proofs.Common.{All-push, All-weaker, AllByRecursion, Answer, CalledForApart, Done, History, IsLawfulApart, IsSoundRequests, Job, Op, Requests, Setup, Sqe, Step, World, and_parts, done_at, done_by, done_in, eq-eqb, eqb-true, filter, is_running, is_running_ended_other, is_running_ended_same, is_running_started_other, is_running_started_same, job_by, job_in, job_of, jobs_at, jobs_in, jobs_of, length-append, list_any, operation_of, outstanding_tells, requests_of, slice_index_or, sum_by-append, sum_by-cons, sum_by_push, with_issued_end, with_told, world, zero_entry}
+use Rattle.uring_threads.proofs.Common.{All-push, All-weaker, AllByRecursion, Answer, CalledForApart, Done, History, IsLawfulApart, Job, Op, Requests, Setup, Sqe, Step, World, and_parts, done_at, done_by, done_in, eq-eqb, eqb-true, filter, is_running, is_running_ended_other, is_running_ended_same, is_running_started_other, is_running_started_same, job_by, job_in, job_of, jobs_at, jobs_in, jobs_of, length-append, list_any, operation_of, requests_of, slice_index_or, sum_by-append, sum_by-cons, sum_by_push, with_issued_end, world, zero_entry}
+use Rattle.uring_core.proofs.SoundRequests.{IsSoundRequests, outstanding_tells}
+use Rattle.uring_laws.specs.Direct.{with_told}
 use Rattle.uring_core.proofs.Moves.{Move, stays, accepts, starts, ends_run, move_of}
 use Rattle.uring_core.proofs.Running.{entry_stays}
 use Rattle.uring_core.proofs.Sound.{sound_of}

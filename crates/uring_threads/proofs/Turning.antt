@@ -1,6 +1,7 @@
 -- The parts of a turn put together: what went through the dispatcher's hands stays tied to its trace, and what they appended adds up.
 use Rattle.std.proofs.Common.{add-zero, zero-add, ◌≡◌, ℕ, List, refl, ◌∙◌, arith, false, true, ap, append_assoc, count_by, ◌<◌}
-use Rattle.uring_threads.proofs.Common.{Appends, AreSameLanes, AreTies, ClosesOnce, Counts, Cqe, HasServed, HaveCarried, HoldJobs, IfOk, IfOk-from_err, IfOk-weaker, Intake, IsDelivered, IsErr, IsKernel, IsOk, IsUnmoved, KeepsAllBut, Kept, Kernel, None, OnErr, Put, Records, RecordsIntake, RecordsTurn, Repeats, Result, TakesFewResults, TakesIn, Tally, Tied, Turn, Turns, WorkLanes, delivery_row, false≢true, finishes_counted, issues_counted, issues_request, length, next_in, now, reaps_counted, starts_request, takes_result}
+use Rattle.uring_threads.proofs.Common.{Appends, AreSameLanes, AreTies, ClosesOnce, Counts, Cqe, HasServed, HaveCarried, HoldJobs, IfOk, IfOk-from_err, IfOk-weaker, Intake, IsDelivered, IsErr, IsKernel, IsOk, IsUnmoved, KeepsAllBut, Kept, Kernel, None, OnErr, Put, Records, RecordsIntake, RecordsTurn, Repeats, Result, TakesFewResults, TakesIn, Tally, Tied, Turns, WorkLanes, delivery_row, false≢true, finishes_counted, issues_counted, issues_request, length, next_in, now, reaps_counted, starts_request, takes_result}
+use Rattle.uring_threads.specs.declared.turns.Turn.{Turn}
 use Rattle.uring_core.specs.declared.step.Step.TheVariants as step
 use Rattle.uring_threads.proofs.Carrying.{quiet_stays, done_stays, some_full}
 use Rattle.uring_threads.proofs.Tying.{once_stays}

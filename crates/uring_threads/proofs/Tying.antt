@@ -1,7 +1,6 @@
 -- What ties the dispatcher's lists to its trace: what was pulled stays tied to the submission ring, and the trace has one Close once the close mark was pulled, and none before.
 use Rattle.std.proofs.Common.{◌≡◌, ℕ, ◌+◌, ◌<◌, ◌≤◌, true, false, List, [], ◌∷◌, ◌++◌, length, refl, sym, subst, ap, ◌∙◌, arith, append_assoc, append-nil, count_by, cond, zero-add, take_at, drop_at}
-use Rattle.uring_threads.proofs.Common.{All, Answer, Appends, ClosesOnce, Event, Grows, HasBegun, HaveMade, Intake, IsItem, IsUnmoved, Item, Kept, None, Published, Pulls, Put, Setup, Stands, Submission, TakesIn, Tally, Tied, World, all_published_as, awaits_memory, close_answer, closes_ring, closing, flat_map-append, if◌then◌else◌, is_shut, is_some, items_of_calls, items_published, length-map, map-append, now, published_as, sum_by-append, tail_publishes, with_close, with_items_published}
-use Rattle.uring_ports.specs.Ports.{with_call}
+use Rattle.uring_threads.proofs.Common.{All, Answer, Appends, ClosesOnce, Event, Grows, HasBegun, HaveMade, Intake, IsItem, IsUnmoved, Item, Kept, None, Published, Pulls, Put, Setup, Stands, Submission, TakesIn, Tally, Tied, World, all_published_as, awaits_memory, close_answer, closes_ring, closing, flat_map-append, if◌then◌else◌, is_shut, is_some, items_of_calls, items_published, length-map, map-append, now, published_as, sum_by-append, tail_publishes, with_call, with_close, with_items_published}
 use Rattle.uring_ports.specs.declared.pulled.Pulled.{Pulled}
 use Rattle.uring_threads.proofs.CallsMade.{none_left, published_left, calls_add_up, kept_after}
 use Rattle.uring_core.specs.declared.step.Step.TheVariants as step

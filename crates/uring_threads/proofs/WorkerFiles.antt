@@ -1,6 +1,7 @@
 -- The file of a descriptor, of a history that workers have settled, is that of its worker.
 use Rattle.std.proofs.Common.{◌≡◌, ℕ, ◌<◌, ℤ, List, length, get_or, subst, ap}
-use Rattle.uring_threads.proofs.Common.{AreSettled, HaveFiles, IsRight, Kept, Worker, byte_of, files_of, get_or_default, now, option_and_then, option_map, place_of_file, slice_get, state_of}
+use Rattle.uring_threads.proofs.Common.{AreSettled, HaveFiles, IsRight, Kept, Worker, byte_of, files_of, get_or_default, now, place_of_file, slice_get, state_of}
+use Rattle.std.specs.Option.{option_and_then, option_map}
 use Rattle.uring_files.specs.Contents.{FileContents}
 use Rattle.uring_files.specs.Laws.{AgreeAt}
 

@@ -1,6 +1,7 @@
 -- What an explainer keeps, byte by byte and line by line.
 use Rattle.std.proofs.Common.{◌≡◌, ◌≢◌, ℕ, ◌+◌, ◌-◌, ◌^◌, min, Bool, true, false, List, [], ◌∷◌, ◌++◌, length, Option, Result, refl, sym, ap, subst, ◌∙◌, append_assoc, arith, None, ◌||◌}
-use Rattle.uring_trace.proofs.Common.{AppendsLine, Asked, Bad, Explaining, Explains, ExplainsBeginning, ExplainsWholeBy, Fits, History, IfOk, IsBad, IsGrantedTo, IsStep, KeptLine, Machine, Made, Remark, Saying, Step, Telling, TellsShown, TellsStep, Why, after_text, append-nil, bad_note, codes, ended, event_in, events_in, history_of, is_bad, joined, kept_of, line_number, lines_in, noted_of, option_to_list, told_of, with_last, world}
+use Rattle.uring_trace.proofs.Common.{AppendsLine, Asked, Bad, Explaining, Explains, ExplainsBeginning, ExplainsWholeBy, Fits, History, IfOk, IsBad, IsGrantedTo, IsSaid, IsStep, KeptLine, Machine, Made, Remark, Said, Saying, Step, Telling, TellsShown, TellsStep, Why, after_text, append-nil, bad_note, codes, ended, event_in, events_in, history_of, is_bad, joined, kept_of, line_number, lines_in, noted_of, told_of, with_last, world}
+use Rattle.std.specs.Option.{option_to_list}
 use Rattle.std.specs.List.{list_any}
 use Rattle.uring_entry.specs.Setup.{Setup}
 use Rattle.uring_machine.specs.Settling.{AreUnrefused}
@@ -15,7 +16,6 @@ use Rattle.uring_trace.specs.Questions.{IsQuestion, IsNoQuestion}
 use Rattle.uring_trace.specs.declared.questions.Question.{Question}
 use Rattle.uring_text.proofs.Splits.{split_more, split_end, split_whole, last_some}
 use Rattle.uring_trace.proofs.Sessions.{one_more, unrefused_more}
-use Rattle.uring_trace.specs.Explanations.{Said, IsSaid}
 
 -- two facts of a value, whatever the value
 pub if_ok_both : {T E : Type 0} (r : Result T E) (P Q R : T → Type 0) → ((x : T) → P x → Q x → R x)

@@ -1,8 +1,7 @@
 -- What explain reads and writes.
 use Rattle.std.proofs.Common.{◌≡◌, ℕ, Bool, List, [], ◌++◌, Option, Result, Ok, Err, refl, sym, ◌∙◌, append_assoc, arith, inr}
-use Rattle.uring_trace.proofs.Common.{Appends, Consumes, ExplainsBeginning, ExplainsWholeBy, HasToldBy, IsAtEnd, IsExplained, Keeps, ReadsWhole, Telling, TookBoth, WritesBoth, WritesPair, WritesTexts, WroteBoth, append-nil}
+use Rattle.uring_trace.proofs.Common.{Appends, Consumes, ExplainsBeginning, ExplainsWholeBy, HasToldBy, IsAtEnd, IsExplained, Keeps, ReadsWhole, Telling, TookBoth, TraceFault, WritesBoth, WritesPair, WritesTexts, WroteBoth, append-nil}
 use Rattle.std.proofs.KnownBytes.{Consumes-nil, Appends-nil, Appends-trans, Consumes-trans}
-use Rattle.uring_text.specs.declared.trace_fault.TraceFault.{TraceFault}
 use Rattle.uring_text.specs.declared.trace_fault.TraceFault.TheVariants as fault
 use Rattle.uring_trace.specs.declared.explainer.Explainer.{Explainer}
 use Rattle.uring_text.specs.Writing.{WritesText}

@@ -1,10 +1,8 @@
 -- What is wrong with a line of at most 300 bytes.
 use Rattle.std.proofs.Common.{◌≡◌, ℕ, ◌≤◌, List, length, true, false, refl, sym}
-use Rattle.std.proofs.lemmas.Bool.{le-ltb}
+use Rattle.uring_trace.proofs.Common.{codes, eqb-true, le-ltb, line_flaw, line_reach, ◌==◌}
 use Rattle.uring_text.specs.Tokens.{tokens_of}
 use Rattle.uring_text.specs.Flaws.{flaw_text}
-use Rattle.uring_trace.proofs.Common.{codes, eqb-true, ◌==◌}
-use Rattle.uring_trace.specs.Flaws.{line_flaw, line_reach}
 use Rattle.uring_trace.specs.declared.flaws.Language.{Language}
 
 pub empty_flaw : (l : Language) (line : List ℕ) → true ≡ (length line == 0) → line_flaw l line ≡ codes "an empty line"

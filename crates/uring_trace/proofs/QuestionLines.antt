@@ -1,6 +1,6 @@
 -- What a line asks for.
 use Rattle.std.proofs.Common.{◌≡◌, ℕ, ◌^◌, List, ◌++◌, Option, arith}
-use Rattle.uring_trace.proofs.Common.{MatchOption, codes, ℤ}
+use Rattle.std.specs.Prelude.{MatchOption, codes, ℤ}
 use Rattle.uring_text.specs.Reading.{file_of, number_of}
 use Rattle.uring_trace.specs.Questions.{Asks}
 use Rattle.uring_trace.specs.declared.questions.Question.TheVariants as question

@@ -1,6 +1,7 @@
 -- What a session keeps, byte by byte and line by line.
 use Rattle.std.proofs.Common.{◌≡◌, ◌≢◌, ℕ, Bool, List, [], ◌∷◌, ◌++◌, Option, Some, None, refl, sym, ap, subst, ◌∙◌, append_assoc, arith}
-use Rattle.uring_trace.proofs.Common.{Answers, AppendsAnswer, Event, Exchange, Fits, History, Holds, IsBad, IsGranted, IsStep, IsUnrefused, KeptLine, Machine, Manner, Step, answer_text, append-nil, codes, ended, events_of, history_of, joined, kept_of, lines_of, option_to_list, step_text, with_event, world}
+use Rattle.uring_trace.proofs.Common.{Answers, AppendsAnswer, Event, Exchange, Fits, History, Holds, IsBad, IsGranted, IsStep, IsUnrefused, KeptLine, Machine, Manner, Step, answer_text, append-nil, codes, ended, events_of, history_of, joined, kept_of, lines_of, step_text, with_event, world}
+use Rattle.std.specs.Option.{option_to_list}
 use Rattle.uring_entry.specs.Setup.{Setup}
 use Rattle.uring_core.proofs.Following.{history_of_snoc}
 use Rattle.uring_machine.specs.Settling.{AreUnrefused}

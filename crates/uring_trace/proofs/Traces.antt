@@ -1,8 +1,7 @@
 -- The outcomes of a trace.
 use Rattle.std.proofs.Common.{◌≡◌, ℕ, List, [], ◌++◌, Option, Result, Ok, Err, refl, append_assoc, inr, arith}
-use Rattle.uring_trace.proofs.Common.{Appends, Consumes, Has, IsAtEnd, Keeps, Manner, TookIn, append-nil}
+use Rattle.uring_trace.proofs.Common.{Appends, Consumes, Has, IsAtEnd, Keeps, Manner, TookIn, TraceFault, append-nil}
 use Rattle.std.proofs.KnownBytes.{Consumes-nil, Appends-nil, Appends-trans, Consumes-trans, Consumes-kept}
-use Rattle.uring_text.specs.declared.trace_fault.TraceFault.{TraceFault}
 use Rattle.uring_text.specs.declared.trace_fault.TraceFault.TheVariants as fault
 use Rattle.uring_trace.specs.declared.session.Session.{Session}
 use Rattle.uring_text.specs.Writing.{WritesText}

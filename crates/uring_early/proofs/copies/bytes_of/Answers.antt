@@ -1,6 +1,5 @@
 use Rattle.std.proofs.Common.{◌≡◌, length, ap, sym, vec_len, ◌∙◌, arith, rules}
-use Rattle.std.proofs.lemmas.List.{take_all}
-use Rattle.uring_early.proofs.Common.{slice_get}
+use Rattle.uring_early.proofs.Common.{slice_get, take_all}
 use Rattle.uring_early.proofs.Plain.{read_more, read_none}
 use Rattle.uring_early.proofs.copies.bytes_of.Goals as goal
 use Rattle.uring_early.proofs.copies.bytes_of.Goals.{in-Some-byte+in_ok-push-in-Some-byte, in-None}

@@ -1,7 +1,6 @@
 use Rattle.std.proofs.Common.{◌≡◌, ◌+◌, take, [], ◌∷◌, ◌++◌, List, ℕ, ap, sym, ◌∙◌, arith}
 use Rattle.uring_early.specs.Bare as bare
-use Rattle.uring_early.specs.Bare.{bytes_reaped}
-use Rattle.uring_early.proofs.Common.{take_all}
+use Rattle.uring_early.proofs.Common.{bytes_reaped, take_all}
 use Rattle.uring_early.proofs.Knowing.{told_more}
 use Rattle.uring_early.proofs.Marking.{taken_next}
 use Rattle.uring_early.proofs.known.bytes_told.Goals as goal

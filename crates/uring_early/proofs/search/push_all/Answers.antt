@@ -1,6 +1,5 @@
 use Rattle.std.proofs.Common.{List, ◌-◌, length, take, subst}
-use Rattle.std.proofs.lemmas.List.Elements.{Contains-append_left}
-use Rattle.uring_early.proofs.Common.{Contains, Taker, take-append-drop}
+use Rattle.uring_early.proofs.Common.{Contains, Contains-append_left, Taker, take-append-drop}
 use Rattle.uring_early.proofs.search.push_all.Goals as goal
 
 pub push_others-requires-clause-may : goal.push_others-requires-clause-may

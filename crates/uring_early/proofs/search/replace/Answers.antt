@@ -1,6 +1,5 @@
 use Rattle.std.proofs.Common.{◌≡◌, true, rules, List, ap, map, sym, subst, ◌++◌, ◌∙◌}
-use Rattle.uring_early.proofs.Common.{Contains, IsPlaced, MayTakeAt, Taker, awaits_at, seat_of, seats_of, took_at}
-use Rattle.uring_early.specs.declared.state.State.{State}
+use Rattle.uring_early.proofs.Common.{Contains, IsPlaced, MayTakeAt, State, Taker, awaits_at, seat_of, seats_of, took_at}
 use Rattle.uring_early.proofs.Searching.{taken_all}
 use Rattle.uring_early.proofs.search.replace.Goals as goal
 

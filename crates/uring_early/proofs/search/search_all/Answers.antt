@@ -1,9 +1,6 @@
 use Rattle.std.proofs.Common.{ℕ, List, [], ◌∷◌, ◌++◌, ap, sym, subst, ◌∙◌}
-use Rattle.uring_early.specs.declared.state.State.{State}
-use Rattle.uring_early.specs.declared.search.Fate.{Fate}
+use Rattle.uring_early.proofs.Common.{Fate, HasFate, IsFated, IsSearch, Mark, Seat, State, seat_of, seats_of}
 use Rattle.uring_early.specs.declared.search.Fate.TheVariants.{Explained, Over, Open}
-use Rattle.uring_early.specs.Search.{HasFate, IsFated, IsSearch, Seat, seat_of, seats_of}
-use Rattle.uring_early.proofs.Common.{Mark}
 use Rattle.uring_early.proofs.Searching.{begins}
 use Rattle.uring_early.proofs.search.search_all.Goals as goal
 

@@ -1,6 +1,5 @@
 use Rattle.std.proofs.Common.{◌≡◌, ℕ, List, [], ◌∷◌, ◌++◌, length, subst, ap, ◌∙◌}
-use Rattle.uring_early.proofs.Common.{IsSearch, Mark, map-append, seat_of, seats_of}
-use Rattle.uring_early.specs.declared.state.State.{State}
+use Rattle.uring_early.proofs.Common.{IsSearch, Mark, State, map-append, seat_of, seats_of}
 use Rattle.uring_early.proofs.Searching.{before_end, found, goes_on, last_placed}
 use Rattle.uring_early.proofs.search.search_one.Goals as goal
 

@@ -1,6 +1,5 @@
 use Rattle.std.proofs.Common.{◌+◌, arith}
-use Rattle.std.proofs.lemmas.Bool.{false≢true}
-use Rattle.uring_epochs.specs.Logs.{issued_as}
+use Rattle.uring_epochs.proofs.Common.{false≢true, issued_as}
 use Rattle.uring_epochs.proofs.Noted.{one_noted}
 use Rattle.uring_epochs.proofs.note.note_issue.Goals as goal
 

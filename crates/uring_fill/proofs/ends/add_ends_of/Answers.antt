@@ -1,6 +1,5 @@
 use Rattle.std.proofs.Common.{sym, ◌∙◌}
-use Rattle.std.proofs.lemmas.Result.{IfOk-weaker}
-use Rattle.uring_core.specs.Histories.{world}
+use Rattle.uring_fill.proofs.Common.{IfOk-weaker, world}
 use Rattle.uring_fill.proofs.Adding.{entry_told, idle_ends, no_ends, running_ends}
 use Rattle.uring_fill.proofs.ends.add_ends_of.Goals as goal
 

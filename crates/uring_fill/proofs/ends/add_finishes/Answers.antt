@@ -1,6 +1,5 @@
 use Rattle.std.proofs.Common.{◌≡◌, ℕ, ℤ, true, List, Option, None, Some, sym, subst, ap, ◌∙◌, rules}
-use Rattle.uring_fill.proofs.Common.{Contains, Cqe, Event, FinishFits, Sqe, completion_for, to_z-of_z, w32}
-use Rattle.uring_entry.specs.Success.{posts_completion}
+use Rattle.uring_fill.proofs.Common.{Contains, Cqe, Event, FinishFits, Sqe, completion_for, posts_completion, to_z-of_z, w32}
 use Rattle.uring_core.specs.declared.step.Step.TheVariants as step
 use Rattle.uring_core.specs.declared.answer.Answer.TheVariants as answer
 use Rattle.uring_fill.proofs.Adding.{adds_then, finish_there}

@@ -1,6 +1,5 @@
 use Rattle.std.proofs.Common.{List, take, sym, subst, ◌∙◌, arith}
-use Rattle.std.proofs.lemmas.Bool.{false≢true}
-use Rattle.uring_fill.proofs.Common.{Event, FitsApart, history_of, take_all}
+use Rattle.uring_fill.proofs.Common.{Event, FitsApart, false≢true, history_of, take_all}
 use Rattle.uring_fill.proofs.Seeing.{taken_next, wrong_from}
 use Rattle.uring_fill.proofs.replay.replay.Goals as goal
 

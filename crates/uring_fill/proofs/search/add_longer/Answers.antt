@@ -1,6 +1,5 @@
 use Rattle.std.proofs.Common.{[], ◌∷◌, ◌++◌, map, ap, ◌∙◌}
-use Rattle.std.proofs.lemmas.Result.{IfOk-weaker}
-use Rattle.uring_fill.proofs.Common.{HasLonger, paths_of}
+use Rattle.uring_fill.proofs.Common.{HasLonger, IfOk-weaker, paths_of}
 use Rattle.uring_fill.proofs.search.add_longer.Goals as goal
 
 pub returns : goal.returns

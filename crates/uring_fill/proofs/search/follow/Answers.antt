@@ -1,6 +1,5 @@
 use Rattle.std.proofs.Common.{sym, subst, ◌∷◌, ◌++◌, []}
-use Rattle.std.proofs.lemmas.Result.{IfOk-weaker}
-use Rattle.uring_fill.proofs.Common.{IsFilling, IsSearch, history_of, paths_of}
+use Rattle.uring_fill.proofs.Common.{IfOk-weaker, IsFilling, IsSearch, history_of, paths_of}
 use Rattle.uring_fill.proofs.search.follow.Goals as goal
 
 pub visit-found-requires : goal.visit-found-requires

@@ -1,4 +1,4 @@
-use Rattle.uring_fill.proofs.Common.{paths_of}
+use Rattle.uring_fill.specs.Parts.{paths_of}
 use Rattle.uring_fill.proofs.Covering.{begins, fate_found, open_search}
 use Rattle.uring_fill.proofs.search.search_all.Goals as goal
 

@@ -1,6 +1,5 @@
 use Rattle.std.proofs.Common.{◌≡◌, ◌+◌, ◌≤◌, Bool, true, false, List, [], ◌∷◌, ◌++◌, length, take, if◌then◌else◌, sym, subst, ap, ◌∙◌, arith}
-use Rattle.std.proofs.lemmas.List.{length_push}
-use Rattle.uring_fill.proofs.Common.{Event, History, history_of, is_hidden, seen_in}
+use Rattle.uring_fill.proofs.Common.{Event, History, history_of, is_hidden, length_push, seen_in}
 use Rattle.uring_fill.proofs.Seeing.{at_most_one, taken_next}
 use Rattle.uring_fill.proofs.seen.seen_among.Goals as goal
 

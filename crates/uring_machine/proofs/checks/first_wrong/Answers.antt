@@ -1,6 +1,5 @@
 use Rattle.std.proofs.Common.{ap, arith, ◌∙◌}
-use Rattle.std.proofs.lemmas.List.{take_all}
-use Rattle.std.specs.Prelude.{Err}
+use Rattle.uring_machine.proofs.Common.{Err, take_all}
 use Rattle.uring_machine.proofs.FirstWrong.{history_next, stops, goes_on, no_more, first_wrong_at}
 use Rattle.uring_machine.proofs.checks.first_wrong.Goals as goal
 

@@ -1,7 +1,6 @@
 use Rattle.std.proofs.Common.{ℕ, ◌<◌, ◌≡◌, ◌+◌, ◌++◌, List, [], ◌∷◌, length, take, get_or, sym, subst, ◌∙◌, arith}
-use Rattle.std.proofs.lemmas.List.{take_all}
+use Rattle.uring_machine.proofs.Common.{Answer, AreUnrefused, Fits, History, IsUnrefused, Setup, Step, elements_for_step, follow_next, history_of, take_all, world, zip_next}
 use Rattle.std.specs.List.{zip}
-use Rattle.uring_machine.proofs.Common.{Answer, AreUnrefused, Fits, History, IsUnrefused, Setup, Step, elements_for_step, follow_next, history_of, world, zip_next}
 use Rattle.uring_machine.proofs.Settling.{unrefused_append}
 use Rattle.uring_machine.proofs.runs.run_in.Goals as goal
 

@@ -1,6 +1,5 @@
 use Rattle.std.proofs.Common.{◌≡◌, ◌||◌, Bool, true, false, refl, subst, arith}
-use Rattle.clap.specs.Words.{found_of, rows_of}
-use Rattle.uring_options.specs.CommandLine.{TellsVerdict}
+use Rattle.uring_options.proofs.Common.{TellsVerdict, found_of, rows_of}
 use Rattle.uring_options.proofs.command_line.checked.Goals as goal
 
 pub returns-then-is_early : goal.returns-then-is_early

@@ -1,5 +1,6 @@
 use Rattle.std.proofs.Common.{◌≡◌, true, subst}
-use Rattle.uring_options.proofs.Common.{App, FailsBy, fault_of, is_simple_and_free, texts}
+use Rattle.clap.specs.Words.{App, FailsBy, fault_of, is_simple_and_free}
+use Rattle.clap.specs.Walk.{texts}
 use Rattle.uring_options.proofs.CommandOptions.{uring_is_free}
 use Rattle.uring_options.proofs.command_line.matches_of.Goals as goal
 

@@ -1,6 +1,5 @@
 use Rattle.std.proofs.Common.{◌∙◌, [], ◌∷◌, ap}
-use Rattle.uring_options.proofs.Common.{Checks, Crashes, Explains, Fills, IfOk-weaker, Lists, Plays, Traces, with_commands_of}
-use Rattle.clap.specs.Simple.{App, app_of}
+use Rattle.uring_options.proofs.Common.{App, Checks, Crashes, Explains, Fills, IfOk-weaker, Lists, Plays, Traces, app_of, with_commands_of}
 use Rattle.uring_options.proofs.CommandRows.{Stand, rows_stand}
 use Rattle.uring_options.proofs.commands.uring_command.Goals as goal
 

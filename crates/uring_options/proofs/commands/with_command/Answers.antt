@@ -1,6 +1,5 @@
 use Rattle.std.proofs.Common.{◌∙◌, ap}
-use Rattle.std.proofs.lemmas.Result.{IfOk-weaker}
-use Rattle.clap.specs.Simple.{App, app_of, with_subcommand}
+use Rattle.uring_options.proofs.Common.{App, IfOk-weaker, app_of, with_subcommand}
 use Rattle.uring_options.proofs.commands.with_command.Goals as goal
 
 pub returns : goal.returns

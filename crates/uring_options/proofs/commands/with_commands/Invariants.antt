@@ -1,5 +1,6 @@
 use Rattle.std.proofs.Common.{◌≡◌, drop}
-use Rattle.uring_options.proofs.Common.{app_of, with_command_rows}
+use Rattle.clap.specs.Words.{app_of}
+use Rattle.uring_options.specs.OptionRows.{with_command_rows}
 use Rattle.uring_options.proofs.commands.with_commands.Given as goal
 
 -- the rows that are left make of the command what all of them were to make of it

@@ -1,7 +1,6 @@
 use Rattle.std.proofs.Common.{◌∙◌, ◌||◌, ap}
-use Rattle.std.proofs.lemmas.Result.{IfOk-weaker}
+use Rattle.uring_options.proofs.Common.{IfOk-weaker, app_of, with_rule}
 use Rattle.std.proofs.Math.Bool.{or-false}
-use Rattle.clap.specs.Simple.{app_of, with_rule}
 use Rattle.clap.specs.declared.builder.command.Command.TheViews.{out-Command}
 use Rattle.uring_options.proofs.commands.with_option.Goals as goal
 

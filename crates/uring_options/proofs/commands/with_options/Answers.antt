@@ -1,7 +1,6 @@
 use Rattle.std.proofs.Common.{◌∙◌, ◌<◌, ◌+◌, ℕ, drop, length, sym, ap, rules}
 use Rattle.std.proofs.lemmas.List.{at_drop_more, drop_all}
-use Rattle.clap.specs.Simple.{App, app_of}
-use Rattle.uring_options.specs.OptionRows.{with_rows_of}
+use Rattle.uring_options.proofs.Common.{App, app_of, with_rows_of}
 use Rattle.uring_options.proofs.commands.with_options.Goals as goal
 
 pub loop-row-preserved : goal.loop-row-preserved

@@ -1,5 +1,6 @@
 use Rattle.std.proofs.Common.{◌≡◌, drop}
-use Rattle.uring_options.proofs.Common.{app_of, with_rows_of}
+use Rattle.clap.specs.Words.{app_of}
+use Rattle.uring_options.specs.OptionRows.{with_rows_of}
 use Rattle.clap.specs.declared.builder.command.Command.TheViews.{out-Command}
 use Rattle.uring_options.proofs.commands.with_options.Given as goal
 

@@ -1,4 +1,5 @@
-use Rattle.uring_options.proofs.Common.{ExplainsUnsignedError, HasUnsignedDigitsIfOk, ParsesUnsigned, found_of}
+use Rattle.std.specs.Str.Parse.{ExplainsUnsignedError, HasUnsignedDigitsIfOk, ParsesUnsigned}
+use Rattle.clap.specs.Words.{found_of}
 use Rattle.uring_options.proofs.OptionTexts.{number_given}
 use Rattle.uring_options.proofs.values.given_number.Goals as goal
 

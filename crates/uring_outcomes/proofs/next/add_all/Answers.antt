@@ -1,7 +1,6 @@
 use Rattle.uring_outcomes.specs.declared.move_of_calls.Move.TheVariants as move
 use Rattle.std.proofs.Common.{◌≡◌, ℕ, ◌≤◌, List, length, Some, sym, subst, ap, ◌∙◌, arith}
-use Rattle.std.proofs.lemmas.Option.{none-some}
-use Rattle.uring_outcomes.proofs.Common.{Contains, Contains-push, Global, HasBelow, Moment, Move, Vec, entries_of, moved}
+use Rattle.uring_outcomes.proofs.Common.{Contains, Contains-push, Global, HasBelow, Moment, Move, Vec, entries_of, moved, none-some}
 use Rattle.uring_outcomes.proofs.Replaying.{more_below}
 use Rattle.uring_outcomes.proofs.Moving.{finish_can, finishable_tells, issuable_accepted, issue_can, none_accepted, none_left}
 use Rattle.uring_outcomes.proofs.next.add_all.Goals as goal

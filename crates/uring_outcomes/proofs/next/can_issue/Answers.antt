@@ -1,6 +1,5 @@
 use Rattle.std.proofs.Common.{◌∙◌}
-use Rattle.std.proofs.lemmas.Option.{same_Some, none-some}
-use Rattle.std.proofs.lemmas.Bool.{eq-eqb}
+use Rattle.uring_outcomes.proofs.Common.{eq-eqb, none-some, same_Some}
 use Rattle.uring_outcomes.proofs.Moving.{issuable_first}
 use Rattle.uring_outcomes.proofs.next.can_issue.Goals as goal
 

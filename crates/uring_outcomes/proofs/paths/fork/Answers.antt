@@ -1,5 +1,5 @@
 use Rattle.std.proofs.Common.{◌≡◌, ℕ, List, [], ◌∷◌, ◌++◌, map, Option, sym, subst, ap, ◌∙◌, append_assoc}
-use Rattle.uring_outcomes.proofs.Common.{HasLonger, HasNext, Moment, Move, map-append, option_to_list, longer_by, paths_of}
+use Rattle.uring_outcomes.proofs.Common.{HasLonger, HasNext, Moment, Move, longer_by, map-append, option_to_list, paths_of}
 use Rattle.uring_outcomes.proofs.paths.fork.Goals as goal
 
 -- the last of the moves is taken, and the path is pushed with the others

@@ -1,6 +1,5 @@
-use Rattle.std.proofs.KnownBytes.{Consumes-nil}
+use Rattle.uring_play_text.proofs.Common.{Consumes, Consumes-nil}
 use Rattle.std.proofs.Common.{◌≡◌, [], ℕ, take, subst, rules}
-use Rattle.std.specs.Io.KnownBytes.{Consumes}
 use Rattle.uring_play_text.proofs.Readings.{all_read, goes_on, not_taken, tried_again, read_failed}
 use Rattle.uring_play_text.proofs.reading.read_all.Goals as goal
 

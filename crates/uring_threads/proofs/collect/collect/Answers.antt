@@ -1,5 +1,5 @@
 use Rattle.std.proofs.Common.{rules, refl, arith, ◌+◌}
-use Rattle.uring_threads.proofs.Common.{results_seen}
+use Rattle.uring_workers.specs.WorkLanes.{results_seen}
 use Rattle.uring_threads.proofs.Collecting.{on_err, collects_then, collects_more, collects_no_more}
 use Rattle.uring_threads.proofs.SameLanes.{receives_then}
 use Rattle.uring_threads.proofs.collect.collect.Goals as goal

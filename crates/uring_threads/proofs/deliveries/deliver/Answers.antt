@@ -1,7 +1,5 @@
-use Rattle.std.proofs.lemmas.Bool.{false≢true}
+use Rattle.uring_threads.proofs.Common.{Setup, false≢true, min}
 use Rattle.std.proofs.Common.{◌+◌, length, sym, ap, ap₂, ◌∙◌, arith}
-use Rattle.std.specs.Prelude.{min}
-use Rattle.uring_threads.proofs.Common.{Setup}
 use Rattle.uring_threads.proofs.Posting.{row_keeps, row_delivers, row_counts, row_most}
 use Rattle.uring_threads.proofs.Recording.{delivery_recorded}
 use Rattle.uring_threads.proofs.deliveries.deliver.Goals as goal

@@ -1,5 +1,6 @@
 use Rattle.std.proofs.Common.{◌≡◌, ℕ, subst, sym, refl, ap, ◌∙◌, length, arith}
-use Rattle.uring_threads.proofs.Common.{DeliversMost, Err, IfOk-from_err, IsDelivered, Kernel, None, Ok, PullsMost, Put, Result, Setup, Sizes, SomeIsFull, TakesIn, Turn, awaits_memory, dropped, now, ◌⊎◌}
+use Rattle.uring_threads.proofs.Common.{DeliversMost, Err, IfOk-from_err, IsDelivered, Kernel, None, Ok, PullsMost, Put, Result, Setup, Sizes, SomeIsFull, TakesIn, awaits_memory, dropped, now, ◌⊎◌}
+use Rattle.uring_threads.specs.declared.turns.Turn.{Turn}
 use Rattle.std.specs.declared.alloc.AllocError.{AllocError}
 use Rattle.uring_ports.specs.Dropped.{with_word}
 use Rattle.uring_ports.specs.Seen.{HasLooked}

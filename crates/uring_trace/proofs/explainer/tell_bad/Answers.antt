@@ -1,6 +1,5 @@
 use Rattle.std.proofs.Common.{◌≡◌, ◌++◌, ◌∷◌, [], List, ℕ, refl, ap, ◌∙◌, append_assoc}
-use Rattle.uring_trace.proofs.Common.{codes, decimal, on_ok_weaker, string_bytes}
-use Rattle.uring_trace.specs.Flaws.{line_flaw}
+use Rattle.uring_trace.proofs.Common.{codes, decimal, line_flaw, on_ok_weaker, string_bytes}
 use Rattle.uring_trace.specs.declared.flaws.Language.TheVariants as language
 use Rattle.uring_trace.proofs.explainer.tell_bad.Goals as goal
 

@@ -1,6 +1,5 @@
 use Rattle.std.proofs.Common.{◌≡◌, ◌≤◌, ◌++◌, ℕ, List, true, ltb, length, sym, ap, ◌∙◌, rules}
-use Rattle.uring_trace.specs.Flaws.{line_flaw}
-use Rattle.uring_trace.proofs.Common.{lt-ltb, on_ok_weaker, string_bytes}
+use Rattle.uring_trace.proofs.Common.{line_flaw, lt-ltb, on_ok_weaker, string_bytes}
 use Rattle.uring_trace.proofs.LineFlaws.{empty_flaw, short_flaw}
 use Rattle.uring_trace.proofs.flaws.push_line_flaw_in.Goals as goal
 

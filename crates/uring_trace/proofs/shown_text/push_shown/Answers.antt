@@ -1,4 +1,4 @@
-use Rattle.uring_trace.proofs.Common.{on_ok_weaker}
+use Rattle.std.proofs.lemmas.Result.{on_ok_weaker}
 use Rattle.uring_trace.proofs.shown_text.push_shown.Goals as goal
 
 pub returns-in-Sizes-clause-bytes : goal.returns-in-Sizes-clause-bytes

@@ -1,7 +1,5 @@
 use Rattle.std.proofs.Common.{◌≡◌, ◌≤◌, ◌+◌, ◌-◌, min, rules, ℕ, List, length, drop, get_or, map, refl, sym, subst, ap, ◌∙◌, arith}
-use Rattle.std.proofs.lemmas.List.{length_push}
-use Rattle.uring_crossing.proofs.Common.{Global, Vec}
-use Rattle.uring_crossing.specs.CoreWords.Cuts.{cut}
+use Rattle.uring_crossing.proofs.Common.{Global, Vec, cut, length_push}
 use Rattle.uring_crossing.proofs.Exits.{fits_itself}
 use Rattle.uring_crossing.proofs.Cutting.{cut_step, end_within, next_suc, nothing_left}
 use Rattle.uring_crossing.proofs.core_words.cuts.cut.Goals as goal

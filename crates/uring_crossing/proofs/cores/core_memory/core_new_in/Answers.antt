@@ -1,8 +1,5 @@
 use Rattle.std.proofs.Common.{[], refl, sym, subst}
-use Rattle.std.proofs.lemmas.Bool.{false≢true}
-use Rattle.uring_crossing.proofs.Common.{Core, FitsApart, Setup}
-use Rattle.uring_crossing.specs.CoreWords.SetUps.{IsAskedFor, IsRefused, without_files}
-use Rattle.uring_crossing.specs.declared.core_words.set_up_words.SetupWords.{SetupWords}
+use Rattle.uring_crossing.proofs.Common.{Core, FitsApart, IsAskedFor, IsRefused, Setup, SetupWords, false≢true, without_files}
 use Rattle.uring_crossing.proofs.Exits.{apart, at_some, room_for_one}
 use Rattle.uring_crossing.proofs.cores.core_memory.core_new_in.Goals as goal
 

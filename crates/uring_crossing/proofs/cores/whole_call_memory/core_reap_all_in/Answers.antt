@@ -1,7 +1,5 @@
 use Rattle.std.proofs.Common.{◌≡◌, ◌≤◌, ℕ, List, length, take, refl, sym, subst, ap, ◌∙◌}
-use Rattle.std.proofs.lemmas.List.{length-replicate, take_at}
-use Rattle.uring_entry.specs.Layout.{Cqe}
-use Rattle.uring_crossing.proofs.Common.{Core, IsSomeAnd, Option, ReapedApart, core_in}
+use Rattle.uring_crossing.proofs.Common.{Core, Cqe, IsSomeAnd, Option, ReapedApart, core_in, length-replicate, take_at}
 use Rattle.uring_crossing.proofs.Exits.{apart, some_not_none}
 use Rattle.uring_crossing.proofs.cores.whole_call_memory.core_reap_all_in.Goals as goal
 

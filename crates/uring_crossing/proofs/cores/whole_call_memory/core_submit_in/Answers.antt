@@ -1,7 +1,5 @@
 use Rattle.std.proofs.Common.{◌≡◌, ℕ, List, [], ◌∷◌, length, map, get_or, refl, subst, ap, sym, ◌∙◌, arith}
-use Rattle.uring_crossing.proofs.Common.{IsSomeAnd, Sqe, SubmittedApart, core_in, length-map}
-use Rattle.uring_crossing.specs.declared.cores.whole_call_memory.EntryWords.{EntryWords}
-use Rattle.uring_crossing.specs.CoreWords.AnswerForm.{words_of}
+use Rattle.uring_crossing.proofs.Common.{EntryWords, IsSomeAnd, Sqe, SubmittedApart, core_in, length-map, words_of}
 use Rattle.uring_crossing.proofs.Exits.{apart, some_not_none}
 use Rattle.uring_crossing.proofs.Refusals.{submit_granted}
 use Rattle.uring_crossing.proofs.cores.whole_call_memory.core_submit_in.Goals as goal

@@ -1,5 +1,5 @@
 use Rattle.std.proofs.Common.{◌≤◌, ℕ, length, map, refl, sym, subst, ap, ◌∙◌, arith}
-use Rattle.uring_crossing.proofs.Common.{length-map, length-take, take_all}
+use Rattle.std.proofs.lemmas.List.{length-map, length-take, take_all}
 use Rattle.uring_crossing.proofs.Cutting.{made_more}
 use Rattle.uring_crossing.proofs.cores.whole_call_memory.entries_of.Goals as goal
 

@@ -1,6 +1,5 @@
 use Rattle.std.proofs.Common.{◌≡◌, pos, w32, sym, ◌∙◌, rules, neg_ℤ, refl, ℤ, of_z, ap}
-use Rattle.uring_entry.specs.declared.errno.TheConstants.{ENOMEM}
-use Rattle.uring_crossing.proofs.Common.{TellsCount, crash_machine_in, to_z-of_z}
+use Rattle.uring_crossing.proofs.Common.{ENOMEM, TellsCount, crash_machine_in, to_z-of_z}
 use Rattle.uring_crossing.proofs.Exits.{other_refusal}
 use Rattle.uring_crossing.proofs.Files.{file_there, file_told}
 use Rattle.uring_crossing.proofs.machines.crash_machine_memory.crash_machine_count_images_in.Goals as goal

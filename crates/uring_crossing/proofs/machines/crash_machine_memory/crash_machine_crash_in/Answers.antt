@@ -1,8 +1,5 @@
 use Rattle.std.proofs.Common.{ℕ, List, map, neg_ℤ, pos, refl, sym, subst, ap, ◌∙◌}
-use Rattle.std.specs.Prelude.{Some}
-use Rattle.std.proofs.lemmas.Bool.{false≢true}
-use Rattle.uring_entry.specs.declared.errno.TheConstants.{ENOMEM}
-use Rattle.uring_crossing.proofs.Common.{Global, GoesOn, Vec, cut}
+use Rattle.uring_crossing.proofs.Common.{ENOMEM, Global, GoesOn, Some, Vec, cut, false≢true}
 use Rattle.uring_crossing.proofs.Exits.{apart, both_some, known_lost, known_ready, not_empty, not_lost, some_not_none}
 use Rattle.uring_crossing.proofs.machines.crash_machine_memory.crash_machine_crash_in.Goals as goal
 

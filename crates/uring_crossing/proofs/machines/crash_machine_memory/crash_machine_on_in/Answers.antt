@@ -1,8 +1,5 @@
 use Rattle.std.proofs.Common.{rules, ◌≡◌, ℕ, map, neg_ℤ, pos, refl, sym, subst, ap, ◌∙◌, arith}
-use Rattle.std.proofs.lemmas.Bool.{false≢true}
-use Rattle.uring_entry.specs.declared.errno.TheConstants.{ENOMEM}
-use Rattle.uring_crossing.specs.Machines.Crashing.{BeginsOn}
-use Rattle.uring_crossing.proofs.Common.{AreShort, Global, Vec, cut}
+use Rattle.uring_crossing.proofs.Common.{AreShort, BeginsOn, ENOMEM, Global, Vec, cut, false≢true}
 use Rattle.uring_crossing.proofs.Exits.{apart, at_some, begins, fits_itself, starts}
 use Rattle.uring_crossing.proofs.Starts.{is_start}
 use Rattle.uring_crossing.proofs.Cutting.{parts_many, parts_short}

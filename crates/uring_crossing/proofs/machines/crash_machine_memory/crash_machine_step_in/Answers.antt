@@ -1,7 +1,5 @@
 use Rattle.std.proofs.Common.{refl, sym, ap, ◌∙◌}
-use Rattle.std.specs.Prelude.{Some}
-use Rattle.std.proofs.lemmas.Bool.{false≢true}
-use Rattle.uring_crossing.specs.Machines.Crashing.{IsLostFrom}
+use Rattle.uring_crossing.proofs.Common.{IsLostFrom, Some, false≢true}
 use Rattle.uring_crossing.proofs.Exits.{apart, both_some, is_some_as, known_lost, known_ready, not_none, some_not_none, step_goes, step_told}
 use Rattle.uring_crossing.proofs.Refusals.{crash_unrefused}
 use Rattle.uring_crossing.proofs.machines.crash_machine_memory.crash_machine_step_in.Goals as goal

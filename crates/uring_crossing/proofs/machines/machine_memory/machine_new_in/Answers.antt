@@ -1,8 +1,5 @@
 use Rattle.std.proofs.Common.{[], refl, sym, subst}
-use Rattle.std.proofs.lemmas.Bool.{false≢true}
-use Rattle.uring_crossing.proofs.Common.{Setup}
-use Rattle.uring_machine.specs.Machine.{Fits, Machine}
-use Rattle.uring_crossing.specs.CoreWords.SetUps.{IsAskedFor}
+use Rattle.uring_crossing.proofs.Common.{Fits, IsAskedFor, Machine, Setup, false≢true}
 use Rattle.uring_crossing.proofs.Exits.{apart, at_some, room_for_one}
 use Rattle.uring_crossing.proofs.machines.machine_memory.machine_new_in.Goals as goal
 

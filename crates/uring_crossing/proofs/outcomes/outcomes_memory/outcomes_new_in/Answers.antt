@@ -1,6 +1,5 @@
 use Rattle.std.proofs.Common.{◌≡◌, map, refl, sym, subst}
-use Rattle.std.proofs.lemmas.Bool.{false≢true}
-use Rattle.uring_crossing.proofs.Common.{cut}
+use Rattle.uring_crossing.proofs.Common.{cut, false≢true}
 use Rattle.uring_crossing.specs.Outcomes.Outcomes.{AreFound}
 use Rattle.uring_crossing.specs.declared.outcomes.outcome_list.OutcomeList.{OutcomeList}
 use Rattle.uring_crossing.proofs.Exits.{apart, at_some, fits_itself}

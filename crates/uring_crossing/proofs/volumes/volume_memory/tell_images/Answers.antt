@@ -1,6 +1,5 @@
 use Rattle.std.proofs.Common.{ℕ, List, length, map, refl, ap, subst, sym, arith, rules}
-use Rattle.uring_crossing.proofs.Common.{TellsImages, Global, Vec, length-map}
-use Rattle.std.proofs.lemmas.Bool.{false≢true}
+use Rattle.uring_crossing.proofs.Common.{Global, TellsImages, Vec, false≢true, length-map}
 use Rattle.uring_crossing.proofs.Exits.{apart}
 use Rattle.uring_volume.specs.Listing.{AreTheImages}
 use Rattle.uring_crossing.proofs.volumes.volume_memory.tell_images.Goals as goal

@@ -1,6 +1,5 @@
 use Rattle.std.proofs.Common.{◌≤◌, ℕ, [], List, length, map, get_or, subst, sym}
-use Rattle.std.proofs.lemmas.Bool.{false≢true}
-use Rattle.uring_epochs.proofs.Common.{AreImages, CrashMachine, max_len}
+use Rattle.uring_epochs.proofs.Common.{AreImages, CrashMachine, false≢true, max_len}
 use Rattle.uring_epochs.proofs.EpochCrashes.{images_short, crash_result_fits, crash_result_chosen}
 use Rattle.uring_epochs.proofs.crash_machine.CrashMachine.crash_in.Goals as goal
 

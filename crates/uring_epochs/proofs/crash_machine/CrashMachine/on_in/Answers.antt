@@ -1,6 +1,5 @@
 use Rattle.std.proofs.Common.{ℕ, false, List, length, map, sym, ap, ◌∙◌}
-use Rattle.std.proofs.lemmas.Bool.{false≢true}
-use Rattle.uring_epochs.proofs.Common.{CrashMachine, Log, Setup, first_files, logs_on}
+use Rattle.uring_epochs.proofs.Common.{CrashMachine, Log, Setup, false≢true, first_files, logs_on}
 use Rattle.uring_epochs.proofs.Noted.{first_many, logs_many}
 use Rattle.uring_epochs.proofs.EpochCrashes.{on_fits}
 use Rattle.uring_epochs.proofs.crash_machine.CrashMachine.on_in.Goals as goal

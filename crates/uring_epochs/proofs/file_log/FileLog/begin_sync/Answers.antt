@@ -1,6 +1,5 @@
 use Rattle.std.proofs.Common.{◌+◌, arith}
-use Rattle.std.proofs.lemmas.Bool.{false≢true}
-use Rattle.std.specs.Prelude.{vec_len}
+use Rattle.uring_epochs.proofs.Common.{false≢true, vec_len}
 use Rattle.uring_epochs.proofs.file_log.FileLog.begin_sync.Goals as goal
 
 pub returns-in_err-reserve-clause-granted : goal.returns-in_err-reserve-clause-granted

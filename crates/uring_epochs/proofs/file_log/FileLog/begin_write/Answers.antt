@@ -1,6 +1,5 @@
 use Rattle.std.proofs.Common.{◌+◌, length, arith}
-use Rattle.std.proofs.lemmas.Bool.{false≢true}
-use Rattle.std.specs.Prelude.{vec_len}
+use Rattle.uring_epochs.proofs.Common.{false≢true, vec_len}
 use Rattle.uring_epochs.proofs.file_log.FileLog.begin_write.Goals as goal
 
 pub returns-in_err-shown-clause-granted : goal.returns-in_err-shown-clause-granted

@@ -1,5 +1,6 @@
 use Rattle.std.proofs.Common.{◌≡◌, ◌∷◌, false, Some, sym, subst, ◌∙◌}
-use Rattle.uring_machine.proofs.Common.{Fits, History, IfErr-weaker, Refusal, is_lengthening, on_ok_weaker, operation_running, resumed, world}
+use Rattle.uring_machine.proofs.Common.{Fits, History, Refusal, is_lengthening, operation_running, resumed, world}
+use Rattle.std.proofs.lemmas.Result.{IfErr-weaker, on_ok_weaker}
 use Rattle.uring_core.specs.declared.step.Step.TheVariants as step
 use Rattle.uring_machine.proofs.Fitting.{called_for}
 use Rattle.uring_machine.proofs.RecordedEnds.{idle_refused, runs_so, end_refused}

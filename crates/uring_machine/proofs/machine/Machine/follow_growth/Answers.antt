@@ -1,10 +1,9 @@
 use Rattle.std.proofs.Common.{◌≡◌, ◌∷◌, refl, sym, ap, ◌∙◌, to_z, of_z, rules}
 use Rattle.std.specs.Int.{w32}
-use Rattle.uring_machine.proofs.Common.{after, both_ways}
+use Rattle.uring_machine.proofs.Common.{Outcome, after, both_ways}
 use Rattle.std.proofs.lemmas.Int.{to_z-of_z}
 use Rattle.uring_core.specs.declared.step.Step.TheVariants as step
 use Rattle.uring_machine.proofs.RecordedEnds.{followed_end, followed_failure, runs_so, growth_wrong, growth_called, growth_failed, growth_bytes, kept_fits, ended_alike}
-use Rattle.uring_entry.specs.declared.operation.Outcome.{Outcome}
 use Rattle.uring_machine.proofs.machine.Machine.follow_growth.Goals as goal
 use Rattle.uring_files.proofs.OperationCases.{failed}
 

@@ -1,4 +1,5 @@
-use Rattle.uring_machine.proofs.Common.{IfErr-weaker, no_finish, on_ok_weaker, world}
+use Rattle.std.proofs.lemmas.Result.{IfErr-weaker, on_ok_weaker}
+use Rattle.uring_machine.proofs.Common.{no_finish, world}
 use Rattle.uring_machine.proofs.RecordedEnds.{follows_some, resumed_fits, refused_apart, lacks_apart}
 use Rattle.uring_machine.proofs.Fitting.{step_fits}
 use Rattle.uring_machine.proofs.machine.Machine.follow_in.Goals as goal

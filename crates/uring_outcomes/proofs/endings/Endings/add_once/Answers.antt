@@ -1,6 +1,5 @@
 use Rattle.std.proofs.Common.{[], ◌∷◌, ◌++◌, List, length, refl, ap, ◌∙◌, inl, inr, arith}
-use Rattle.uring_outcomes.proofs.Common.{Ending, both_ways}
-use Rattle.uring_outcomes.specs.Index.{mark_of}
+use Rattle.uring_outcomes.proofs.Common.{Ending, both_ways, mark_of}
 use Rattle.uring_outcomes.proofs.Indexing.{indexed_more}
 use Rattle.uring_outcomes.proofs.endings.Endings.add_once.Goals as goal
 

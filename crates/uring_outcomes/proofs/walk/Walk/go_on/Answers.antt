@@ -1,9 +1,7 @@
 use Rattle.std.proofs.Common.{◌≡◌, ◌+◌, ℕ, true, List, [], ◌∷◌, ◌++◌, length, Option, refl, sym, subst, ap, ◌∙◌, append-nil, arith, rules}
-use Rattle.uring_outcomes.proofs.Common.{Goes, HasLonger, IsOver, IsWalk, MadeAs, Move, Setup, Sqe, Stands, StandsAt, both_ways, entries_of, longer_by, moved, not-false, option_and_then, paths_of, starting}
-use Rattle.std.proofs.lemmas.Bool.{false≢true}
+use Rattle.uring_outcomes.proofs.Common.{Goes, HasLonger, IsOver, IsReason, IsWalk, MadeAs, Move, Setup, Sqe, Stands, StandsAt, both_ways, entries_of, false≢true, longer_by, moved, not-false, option_and_then, paths_of, starting}
 use Rattle.uring_outcomes.specs.declared.fault.WalkFault.TheVariants as fault
 use Rattle.uring_outcomes.specs.declared.walk.Walk.{Walk}
-use Rattle.uring_outcomes.specs.Faults.{IsReason}
 use Rattle.uring_outcomes.proofs.Covering.{path_taken, none_noted}
 use Rattle.uring_outcomes.proofs.Faulting.{told}
 use Rattle.uring_outcomes.proofs.MovesLead.{one_move_more}

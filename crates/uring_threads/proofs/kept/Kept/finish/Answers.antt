@@ -1,6 +1,5 @@
 use Rattle.std.proofs.Common.{◌∙◌, ap, sym, subst}
-use Rattle.uring_threads.proofs.Common.{IsWithinLimits, Setup, history_of, history_of_snoc}
-use Rattle.uring_core.specs.Core.{FitsApart}
+use Rattle.uring_threads.proofs.Common.{FitsApart, IsWithinLimits, Setup, history_of, history_of_snoc}
 use Rattle.uring_core.specs.declared.step.Step.TheVariants as step
 use Rattle.uring_threads.proofs.kept.Kept.finish.Goals as goal
 

@@ -1,6 +1,5 @@
 use Rattle.std.proofs.Common.{◌∙◌, ap, sym, subst, arith}
-use Rattle.uring_threads.proofs.Common.{CalledForApart, IsWithinLimits, Setup, history_of, history_of_snoc, world}
-use Rattle.uring_core.specs.Core.{FitsApart, elements_for}
+use Rattle.uring_threads.proofs.Common.{CalledForApart, FitsApart, IsWithinLimits, Setup, elements_for, history_of, history_of_snoc, world}
 use Rattle.uring_threads.proofs.kept.Kept.step_reserved_in.Goals as goal
 
 pub invariant_of-self : goal.invariant_of-self

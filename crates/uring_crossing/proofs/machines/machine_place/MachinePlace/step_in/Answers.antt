@@ -1,6 +1,5 @@
 use Rattle.std.proofs.Common.{ℕ, ◌≤◌, subst, sym}
-use Rattle.uring_crossing.proofs.Common.{History, IsSomeAnd, world}
-use Rattle.uring_machine.specs.Machine.{Machine, Fits, IsUnrefused, elements_for_step}
+use Rattle.uring_crossing.proofs.Common.{Fits, History, IsSomeAnd, IsUnrefused, Machine, elements_for_step, world}
 use Rattle.uring_crossing.proofs.machines.machine_place.MachinePlace.step_in.Goals as goal
 
 pub returns-clause-granted : goal.returns-clause-granted
