@@ -1,6 +1,6 @@
 -- What is so of the requests of a ring whatever happened: to the members of deferred groups nothing has happened, and not all that is outstanding is deferred.
 use Rattle.std.proofs.Common.{◌≡◌, ◌≢◌, ℕ, suc, ◌<◌, ◌≤◌, ℤ, length, Bool, true, false, not, ◌||◌, List, [], ◌∷◌, refl, ◌∙◌, arith, inl, inr, length-append}
-use Rattle.uring_linux.proofs.Common.{Deferred, Drains, IsNew, LinuxRequests, Requests, Sqe, added_other, after_going_on, and_parts, both_ways, cases_lt, deferred_with, entry_of_accepted_at, false_from_ne_true, has_ended_other, if◌then◌else◌, is_alone, is_among, is_deferred, is_doomed, is_faulty_from, is_in_some, is_in_turn, is_issuable, is_last, is_last_cut_last, is_linked, is_outstanding, is_running, ltb-false, ltb-true, nat_lt, or_cases, or_parts, with_deferred, with_group, with_last_entry, with_ring}
+use Rattle.uring_linux.proofs.Common.{Deferred, Drains, IsNew, LinuxRequests, Requests, Sqe, added_other, after_going_on, and_parts, both_ways, cases_Bool, cases_lt, deferred_with, entry_of_accepted_at, false_from_ne_true, has_ended_other, if◌then◌else◌, is_alone, is_among, is_deferred, is_doomed, is_faulty_from, is_in_some, is_in_turn, is_issuable, is_last, is_last_cut_last, is_linked, is_outstanding, is_running, ltb-false, ltb-true, nat_lt, or_cases, or_parts, with_deferred, with_group, with_last_entry, with_ring}
 use Rattle.uring_linux.specs.LinuxRequests.{no_request, with_accepted, with_cut, with_started, with_ended}
 use Rattle.uring_entry.specs.Requests as manual
 use Rattle.uring_linux.specs.Happenings.{Happening, Call, Start, End, with_entries, after, made_by, MayHappen, MayHaveHappened}
@@ -96,12 +96,13 @@ accepted_last : (r : Requests) (e : Sqe) → is_linked e ≡ false → (k : ℕ)
 accepted_last r e free k is = grind (arith, (length-append r.accepted (e ∷ [])), (entry_of_accepted_at r e))
 
 pub accepted_settled : (l : LinuxRequests) (e : Sqe) → IsSettled l → IsSettled (with_accepted l e)
-accepted_settled l e s = go (is_linked e) refl
-  where
-    go : (b : Bool) → is_linked e ≡ b
-        → IsSettled (record { requests = manual.with_accepted l.requests e; drains = if b then with_last_entry (manual.with_accepted l.requests e) (length l.requests.accepted) l.drains else with_group (manual.with_accepted l.requests e) (with_last_entry (manual.with_accepted l.requests e) (length l.requests.accepted) l.drains) })
-    go true linked = amid_settled (manual.with_accepted l.requests e) (with_last_entry (manual.with_accepted l.requests e) (length l.requests.accepted) l.drains) (accepted_amid l e s)
-    go false free = group_settled (manual.with_accepted l.requests e) (with_last_entry (manual.with_accepted l.requests e) (length l.requests.accepted) l.drains) (accepted_amid l e s) (accepted_last l.requests e free)
+accepted_settled l e s =
+    let t = manual.with_accepted l.requests e in
+    let d = with_last_entry t (length l.requests.accepted) l.drains in
+    elim (cases_Bool (is_linked e)) [
+      | inl linked ↦ rw linked (amid_settled t d (accepted_amid l e s))
+      | inr free ↦ rw free (group_settled t d (accepted_amid l e s) (accepted_last l.requests e free))
+    ]
 
 -- A call closes.
 
