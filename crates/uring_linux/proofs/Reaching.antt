@@ -41,30 +41,16 @@ amid_settled r d a = grind (arith, amid_alone)
 group_settled : (r : Requests) (d : Drains) → IsAmid r d.from d.deferred
     → ((k : ℕ) → suc k ≡ length r.accepted → is_last r k ≡ true)
     → IsSettled (record { requests = r; drains = with_group r d })
-group_settled r d a last = go (not d.ring || is_faulty_from r d.from) refl
-  where
-    go : (b : Bool) → (not d.ring || is_faulty_from r d.from) ≡ b
-        → IsSettled (record { requests = r; drains = if b then with_deferred d (length r.accepted) d.deferred else with_ring (with_deferred d (length r.accepted) (after_going_on r (deferred_with d (length r.accepted)))) d.group })
-    go true e = record {
-      low = omega arith;
-      begins = last;
-      amid = λ k le lt. absurd (omega (arith, le, lt));
-      later = a.later;
-      waiting = let lt = a.low in order_higher (IsWaiting r) 0 d.deferred d.from (length r.accepted) (omega (arith, lt)) a.waiting;
-      gone = inr (amid_alone r d.from d.deferred a);
-    }
-    go false e =
-        let g : Deferred = record { from = d.from; end = length r.accepted; drains = d.group } in
-        let w : IsWaiting r g = grind (arith, (healthy_from r d.from (or_parts (not d.ring) (is_faulty_from r d.from) e).1)) in
-        let all = order_push (IsWaiting r) 0 d.deferred d.from g (omega arith) a.low w a.waiting in
-        record {
-          low = omega arith;
-          begins = last;
-          amid = λ k le lt. absurd (omega (arith, le, lt));
-          later = a.later;
-          waiting = order_still (IsWaiting r) (is_alone r (deferred_with d (length r.accepted))) 0 (deferred_with d (length r.accepted)) (length r.accepted) all;
-          gone = gone_on r 0 (deferred_with d (length r.accepted)) (length r.accepted) (omega arith) all;
-        }
+group_settled r d a last =
+    let n = length r.accepted in
+    elim (cases_Bool (not d.ring || is_faulty_from r d.from)) [
+      | inl e ↦ rw e (grind (arith, amid_alone, (order_higher (IsWaiting r) 0 d.deferred d.from n)))
+      | inr e ↦
+          let g : Deferred = record { from = d.from; end = n; drains = d.group } in
+          let w : IsWaiting r g = grind (arith, (healthy_from r d.from (or_parts (not d.ring) (is_faulty_from r d.from) e).1)) in
+          let all = order_push (IsWaiting r) 0 d.deferred d.from g (omega arith) a.low w a.waiting in
+          rw e (grind (arith, (order_still (IsWaiting r) (is_alone r (deferred_with d n)) 0 (deferred_with d n) n all), (gone_on r 0 (deferred_with d n) n (omega arith) all)))
+    ]
 
 -- An entry is accepted.
 
@@ -81,14 +67,10 @@ accepted_amid l e s =
     record {
       low = omega arith;
       begins = λ k is. last_accepted r e k (omega (arith, is)) ∙ s.begins k is;
-      idle = λ k le lt.
-          elim (cases_lt k (length r.accepted)) [
-            | inl before ↦ let idle = s.amid k le before in assumption
-            | inr new ↦ let idle = s.later k new in assumption
-          ];
+      idle = λ k le lt. grind (arith, (cases_lt k (length r.accepted)));
       later = λ k le. let new = s.later k (omega (arith, le)) in assumption;
       waiting = order_kept (IsWaiting r) (IsWaiting (manual.with_accepted r e)) 0 l.drains.deferred l.drains.from s.waiting
-          (λ g there some within w. waiting_accepted r e g (omega (arith, within, low)) w);
+          (λ g there some within w. grind (arith, (accepted_faults r e), last_accepted));
     }
 
 accepted_last : (r : Requests) (e : Sqe) → is_linked e ≡ false → (k : ℕ) → suc k ≡ length (manual.with_accepted r e).accepted
@@ -130,34 +112,25 @@ group_closed : (r : Requests) (d : Drains) → length r.accepted ≤ (with_group
 group_closed r d = grind arith
 
 pub cut_between : (l : LinuxRequests) → IsSettled l → IsBetween (with_cut l)
-cut_between l s = go (nat_lt l.drains.from (length l.requests.accepted)) refl
-  where
-    go : (b : Bool) → nat_lt l.drains.from (length l.requests.accepted) ≡ b
-        → IsBetween (record { requests = manual.with_cut l.requests; drains = if b then with_group (manual.with_cut l.requests) l.drains else l.drains })
-    go true e = record {
-      settled =
-          group_settled (manual.with_cut l.requests) l.drains
-          (record {
-            low = ltb-true _ _ e;
-            begins = λ k is. last_kept l.requests k (s.begins k is);
-            idle = λ k le lt. let idle = s.amid k le lt in assumption;
-            later = λ k le. new_cut l.requests k le (s.later k le);
-            waiting = waiting_all_cut l s;
+cut_between l s =
+    let r = l.requests in
+    let t = manual.with_cut r in
+    let begins : (k : ℕ) → suc k ≡ l.drains.from → is_last t k ≡ true = λ k is. last_kept r k (s.begins k is) in
+    let idle : (k : ℕ) → l.drains.from ≤ k → k < length r.accepted → IsIdle t k = λ k le lt. let idle = s.amid k le lt in assumption in
+    let later : (k : ℕ) → length r.accepted ≤ k → IsNew t k = λ k le. new_cut r k le (s.later k le) in
+    let waiting = waiting_all_cut l s in
+    elim (cases_Bool (nat_lt l.drains.from (length r.accepted))) [
+      | inl e ↦
+          let low = ltb-true _ _ e in
+          rw e (record {
+            settled = group_settled t l.drains (assumption) (is_last_cut_last r);
+            closed = group_closed t l.drains;
           })
-          (λ k is. is_last_cut_last l.requests k is);
-      closed = group_closed (manual.with_cut l.requests) l.drains;
-    }
-    go false e = record {
-      settled = record {
-        low = s.low;
-        begins = λ k is. last_kept l.requests k (s.begins k is);
-        amid = λ k le lt. let idle = s.amid k le lt in assumption;
-        later = λ k le. new_cut l.requests k le (s.later k le);
-        waiting = waiting_all_cut l s;
-        gone = gone_same l.requests (manual.with_cut l.requests) l.drains.deferred (alone_cut l.requests l.drains.deferred) s.gone;
-      };
-      closed = ltb-false _ _ e;
-    }
+      | inr e ↦
+          let low = s.low in
+          let gone : HasGoneOn t l.drains.deferred = gone_same r t l.drains.deferred (alone_cut r l.drains.deferred) s.gone in
+          rw e (record { settled = assumption; closed = ltb-false _ _ e })
+    ]
 
 pub entries_settled : (l : LinuxRequests) (entries : List Sqe) → IsSettled l → IsSettled (with_entries l entries)
 entries_settled l [] s = s
@@ -175,30 +148,22 @@ goes_not doomed held a b e = grind arith
 
 issuable_free : (l : LinuxRequests) (n : ℕ) → IsSettled l → is_issuable l n ≡ true → IsFree l n
 issuable_free l n s e =
-    let parts = and_parts (is_outstanding l.requests n) _ e in
-    let rest = and_parts (not (is_running l.requests n)) _ parts.1 in
-    let go = and_parts (is_in_turn l.requests n) _ rest.1 in
     record {
-      low = ltb-true _ _ (and_parts _ _ parts.0).0;
+      low = grind arith;
       out = false_from_ne_true _
           (λ held.
           let h = held_by l.requests 0 l.drains.deferred l.drains.from n s.waiting held in
-          goes_not (is_doomed l.requests n) (is_deferred l n) (not_doomed l.requests h.group n h.waiting h.low h.high) held go.1);
+          grind (arith, (not_doomed l.requests h.group n h.waiting h.low h.high)));
     }
 
 running_free : (l : LinuxRequests) (n : ℕ) → IsSettled l → is_running l.requests n ≡ true → IsFree l n
 running_free l n s e =
-    let started = (and_parts _ _ e).0 in
     record {
-      low =
-          elim (cases_lt n (length l.requests.accepted)) [
-            | inl low ↦ low
-            | inr past ↦ absurd (both_ways _ (s.later n past).started started)
-          ];
+      low = grind (arith, (cases_lt n (length l.requests.accepted)), (s.later n));
       out = false_from_ne_true _
           (λ held.
           let h = held_by l.requests 0 l.drains.deferred l.drains.from n s.waiting held in
-          both_ways _ (h.waiting.idle n h.low h.high).started started);
+          grind (arith, (h.waiting.idle n h.low h.high)));
     }
 
 -- who isn't deferred is no member of a group that is
@@ -220,26 +185,11 @@ ended_settled l n res bytes b f =
     let r = l.requests in
     let t = manual.with_ended r n res bytes in
     let all = order_kept (IsWaiting r) (IsWaiting t) 0 l.drains.deferred l.drains.from s.waiting
-    (λ g there some within w.
-    let idle : (k : ℕ) → g.from ≤ k → k < g.end → IsIdle t k =
-    λ k le lt.
-    let old = w.idle k le lt in
-    let ended = has_ended_other r n res bytes k (among_apart l.drains.deferred n k g there f.out le lt) ∙ old.ended in
-    assumption
+    (λ g there some within w. grind (arith, has_ended_other, (among_apart l.drains.deferred n)))
     in
-    assumption)
-    in
-    record {
-      settled = record {
-        low = s.low;
-        begins = s.begins;
-        amid = λ k le lt. let c = b.closed in absurd (omega (arith, le, lt, c));
-        later = grind (arith, has_ended_other);
-        waiting = order_still (IsWaiting t) (is_alone t l.drains.deferred) 0 l.drains.deferred l.drains.from all;
-        gone = gone_on t 0 l.drains.deferred l.drains.from s.low all;
-      };
-      closed = b.closed;
-    }
+    let waiting = order_still (IsWaiting t) (is_alone t l.drains.deferred) 0 l.drains.deferred l.drains.from all in
+    let gone = gone_on t 0 l.drains.deferred l.drains.from s.low all in
+    grind (arith, has_ended_other)
 
 -- Whatever happened.
 
