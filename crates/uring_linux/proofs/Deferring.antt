@@ -72,9 +72,6 @@ gone_on r low (g ∷ rest) high within h = elim (cases_Bool (is_alone r (g ∷ r
 
 -- No member is doomed.
 
-first_of_three : (a b c : Bool) → a ≡ false → (a && b && c) ≡ false
-first_of_three a b c e = grind arith
-
 outside_joined : (r : Requests) (g : Deferred) (m n : ℕ) → IsWaiting r g → m < g.from → g.from ≤ n
     → is_joined r m n ≡ false
 outside_joined r g m n w lt le = is_joined_no r m n (g.from - 1) (omega arith) (omega arith) (w.begins (g.from - 1) (omega arith))
@@ -82,12 +79,6 @@ outside_joined r g m n w lt le = is_joined_no r m n (g.from - 1) (omega arith) (
 pub after_joined : (r : Requests) (g : Deferred) (n m : ℕ) → IsWaiting r g → n < g.end → g.end ≤ m
     → is_joined r n m ≡ false
 after_joined r g n m w lt le = is_joined_no r n m (g.end - 1) (omega arith) (omega arith) (w.ends (g.end - 1) (omega arith))
-
-in_group_up : (r : Requests) (m n : ℕ) → m ≤ n → is_in_group r m n ≡ is_joined r m n
-in_group_up r m n le = grind arith
-
-in_group_down : (r : Requests) (m n : ℕ) → n ≤ m → is_in_group r m n ≡ is_joined r n m
-in_group_down r m n le = grind arith
 
 pub not_doomed : (r : Requests) (g : Deferred) (n : ℕ) → IsWaiting r g → g.from ≤ n → n < g.end
     → is_doomed r n ≡ false

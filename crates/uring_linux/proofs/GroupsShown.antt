@@ -46,12 +46,6 @@ pub record Regroups (u t : Window) (g : Group) : Type 0 where
 retold : (q : Request) (g : Group) (r : Requests) (n : ℕ) → Tells q r n → Tells (record q { group = g }) r n
 retold q g r n t = assumption
 
-regrouped_here : (u t : Window) (g : Group) (x : Request) → Regroups u t g → IsWithin u g.from
-    → at t g.from ≡ Some x → (q : Request) × (at u g.from ≡ Some q) × (x ≡ record q { group = g })
-regrouped_here u t g x w inside is =
-    let q = kept u g.from inside in
-    (q.0, q.1, let f : Some x ≡ Some (record q.0 { group = g }) = sym is ∙ w.here q.0 q.1 in cc)
-
 regrouped : (u t : Window) (g : Group) (r : Requests) → Regroups u t g → IsWithin u g.from → Keeps u r
     → IsGrouped g r g.from
     → ((k : ℕ) (x : Request) → k ≢ g.from → at u k ≡ Some x → IsGrouped x.group r k) → Shows t r
@@ -119,9 +113,8 @@ pushed_shows s u t q r e joins faulty h amid is tells ef ei w =
     let room = u.room in
     let v : Window = record { first = s.first; items = s.items ++ x ∷ []; room = room } in
     let told : TellsGroup g (with_accepted r e) = joined_told s r e joins faulty amid (h.later n (omega arith)).ended is in
-    let within = joined_within s r joins faulty amid h.count in
-    let low : s.first ≤ g.from = within.0 in
-    let high : g.from ≤ n = within.1 in
+    let low : s.first ≤ g.from = grind arith in
+    let high : g.from ≤ n = grind arith in
     let long = length-append s.items (x ∷ []) in
     let count = h.count in
     let all : Keeps v (with_accepted r e) = accepted_keeps s x room r e (keeps s r h) (retold q g (with_accepted r e) n tells) in
@@ -129,7 +122,7 @@ pushed_shows s u t q r e joins faulty h amid is tells ef ei w =
     regrouped v t g (with_accepted r e) turned (record { low = low; high = omega arith }) all (grouped_first g (with_accepted r e) told)
     (λ k y apart there.
     elim (cases_eq k (end_of s)) [
-      | inl last ↦ grind (arith, (at_push_here s x room), (grouped_last g (with_accepted r e) n told (joined_end joins n faulty)))
+      | inl last ↦ grind (arith, (at_push_here s x room), told, (joined_end joins n faulty))
       | inr other ↦
           let was : at s k ≡ Some y = sym (at_push_other s x room k other) ∙ there in
           let inside = (at_within s k y was).high in
@@ -165,7 +158,7 @@ pub started_shows : (s : Window) (q : Request) (r : Requests) (n : ℕ) → Show
     → Shows (record s { items = set s.items (n - s.first) (record q { is_running = true }) }) (with_started r n)
 started_shows s q r n h here going =
     shows _ (with_started r n) (started_keeps s q r n (keeps s r h) here going)
-    (written_grouped s q (record q { is_running = true }) r (with_started r n) n h here refl (λ g k within i. grouped_started g r n k i))
+    (written_grouped s q (record q { is_running = true }) r (with_started r n) n h here refl (λ g k within i. grind arith))
 
 pub cut_shows : (s : Window) (q : Request) (r : Requests) (n : ℕ) → Shows s r → at s n ≡ Some q
     → n + 1 ≡ end_of s

@@ -54,10 +54,6 @@ group_settled r d a last =
 
 -- An entry is accepted.
 
-waiting_accepted : (r : Requests) (e : Sqe) (g : Deferred) → g.end ≤ length r.accepted → IsWaiting r g
-    → IsWaiting (manual.with_accepted r e) g
-waiting_accepted r e g within w = grind (arith, (accepted_faults r e), last_accepted)
-
 accepted_amid : (l : LinuxRequests) (e : Sqe) → IsSettled l
     → IsAmid (manual.with_accepted l.requests e) l.drains.from l.drains.deferred
 accepted_amid l e s =
@@ -82,8 +78,8 @@ accepted_settled l e s =
     let t = manual.with_accepted l.requests e in
     let d = with_last_entry t (length l.requests.accepted) l.drains in
     elim (cases_Bool (is_linked e)) [
-      | inl linked ↦ rw linked (amid_settled t d (accepted_amid l e s))
-      | inr free ↦ rw free (group_settled t d (accepted_amid l e s) (accepted_last l.requests e free))
+      | inl linked ↦ rw linked (grind (arith, amid_alone, (accepted_amid l e s)))
+      | inr free ↦ rw free (group_settled t d (accepted_amid l e s) (λ k is. grind (arith, (length-append l.requests.accepted (e ∷ [])), (entry_of_accepted_at l.requests e))))
     ]
 
 -- A call closes.
@@ -118,17 +114,17 @@ cut_between l s =
     let begins : (k : ℕ) → suc k ≡ l.drains.from → is_last t k ≡ true = λ k is. last_kept r k (s.begins k is) in
     let idle : (k : ℕ) → l.drains.from ≤ k → k < length r.accepted → IsIdle t k = λ k le lt. let idle = s.amid k le lt in assumption in
     let later : (k : ℕ) → length r.accepted ≤ k → IsNew t k = λ k le. new_cut r k le (s.later k le) in
-    let waiting = waiting_all_cut l s in
+    let waiting = order_kept (IsWaiting r) (IsWaiting t) 0 l.drains.deferred l.drains.from s.waiting (λ g there some within w. grind (arith, last_kept)) in
     elim (cases_Bool (nat_lt l.drains.from (length r.accepted))) [
       | inl e ↦
           let low = ltb-true _ _ e in
           rw e (record {
             settled = group_settled t l.drains (assumption) (is_last_cut_last r);
-            closed = group_closed t l.drains;
+            closed = grind arith;
           })
       | inr e ↦
           let low = s.low in
-          let gone : HasGoneOn t l.drains.deferred = gone_same r t l.drains.deferred (alone_cut r l.drains.deferred) s.gone in
+          let gone : HasGoneOn t l.drains.deferred = rw (alone_cut r l.drains.deferred) s.gone in
           rw e (record { settled = assumption; closed = ltb-false _ _ e })
     ]
 
@@ -142,9 +138,6 @@ entries_settled l (e ∷ rest) s = entries_settled (with_accepted l e) rest (acc
 record IsFree (l : LinuxRequests) (n : ℕ) : Type 0 where
   pub low : n < length l.requests.accepted
   pub out : is_in_some l.drains.deferred n ≡ false
-
-goes_not : (doomed held : Bool) → doomed ≡ false → held ≡ true → (doomed || not held) ≡ true → ⊥
-goes_not doomed held a b e = grind arith
 
 issuable_free : (l : LinuxRequests) (n : ℕ) → IsSettled l → is_issuable l n ≡ true → IsFree l n
 issuable_free l n s e =
@@ -176,7 +169,8 @@ unfolding is_alone
 alone_started r n xs = refl
 
 started_settled : (l : LinuxRequests) (n : ℕ) → IsBetween l → IsFree l n → IsBetween (with_started l n)
-started_settled l n b f = grind (arith, added_other, order_kept, alone_started)
+unfolding is_alone
+started_settled l n b f = grind (arith, added_other, order_kept)
 
 ended_settled : (l : LinuxRequests) (n : ℕ) (res : ℤ) (bytes : List ℕ) → IsBetween l → IsFree l n
     → IsBetween (with_ended l n res bytes)
@@ -185,7 +179,7 @@ ended_settled l n res bytes b f =
     let r = l.requests in
     let t = manual.with_ended r n res bytes in
     let all = order_kept (IsWaiting r) (IsWaiting t) 0 l.drains.deferred l.drains.from s.waiting
-    (λ g there some within w. grind (arith, has_ended_other, (among_apart l.drains.deferred n)))
+    (λ g there some within w. grind (arith, has_ended_other))
     in
     let waiting = order_still (IsWaiting t) (is_alone t l.drains.deferred) 0 l.drains.deferred l.drains.from all in
     let gone = gone_on t 0 l.drains.deferred l.drains.from s.low all in

@@ -44,9 +44,6 @@ among_shown p P xs first told none =
 pub at_place : (s : Window) (k : ℕ) (q : Request) → slice_get s.items k ≡ Some q → at s (s.first + k) ≡ Some q
 at_place s k q e = grind (arith, at_high)
 
-twice : (a b : Bool) → ((a && not b) && not b) ≡ (a && not b)
-twice a b = grind arith
-
 pub unended_shown : (s : Window) (r : Requests) → Shows s r → unended_among s.items ≡ outstanding_in r
 unfolding unended_among
 unended_shown s r h =
