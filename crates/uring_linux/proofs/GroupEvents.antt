@@ -51,9 +51,6 @@ starts_accepted r e n from lt s = grind (arith, last_accepted)
 
 -- A request starts.
 
-pub grouped_started : (g : Group) (r : Requests) (n k : ℕ) → IsGrouped g r k → IsGrouped g (with_started r n) k
-grouped_started g r n k i = grind arith
-
 -- A call closes.
 
 pub grouped_cut : (g : Group) (r : Requests) (k : ℕ) → k < length r.accepted → IsGrouped g r k

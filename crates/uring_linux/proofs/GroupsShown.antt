@@ -3,7 +3,7 @@ use Rattle.std.proofs.Common.{◌≡◌, ◌≢◌, ℕ, suc, ◌+◌, ◌-◌, 
 use Rattle.uring_linux.proofs.Common.{Group, IsAmid, IsGrouped, IsMember, IsWithin, Request, Requests, Shows, Sqe, Starts, Tells, TellsGroup, Window, at, both_ways, cases_eq, cases_lt, end_of, entry_of, groups_apart, has_ended, has_fault, is_last, is_soft, is_success, with_accepted, with_cut, with_end, with_ended, with_member, with_started}
 use Rattle.uring_linux.proofs.WindowLemmas.{kept}
 use Rattle.uring_linux.proofs.WindowEvents.{Keeps, keeps, shows, at_within, at_push_here, at_push_other, at_set_here, at_set_other, accepted_keeps, started_keeps, ended_keeps, cut_keeps, cut_keeps_none}
-use Rattle.uring_linux.proofs.GroupEvents.{told_closed, told_joined, told_new, starts_accepted, grouped_started, grouped_cut, told_ended, starts_ended, told_elsewhere}
+use Rattle.uring_linux.proofs.GroupEvents.{told_closed, told_joined, told_new, starts_accepted, grouped_cut, told_ended, starts_ended, told_elsewhere}
 
 -- Where groups begin.
 
@@ -85,18 +85,8 @@ joined_told : (s : Window) (r : Requests) (e : Sqe) (joins : Option Group) (faul
 joined_told s r e None faulty amid none is = told_new r e faulty amid none is
 joined_told s r e (Some g) faulty amid none is = told_joined g r e faulty amid.told amid.end amid.amid none is
 
-joined_within : (s : Window) (r : Requests) (joins : Option Group) (faulty : Bool) → IsAmid s r joins
-    → end_of s ≡ length r.accepted
-    → (s.first ≤ (with_member joins (length r.accepted) faulty).from)
-    × ((with_member joins (length r.accepted) faulty).from ≤ length r.accepted)
-joined_within s r joins faulty amid count = grind arith
-
 grouped_first : (g : Group) (r : Requests) → TellsGroup g r → IsGrouped g r g.from
 grouped_first g r t = grind arith
-
-grouped_last : (g : Group) (r : Requests) (n : ℕ) → TellsGroup g r → g.end ≡ n + 1 → g.from ≢ n
-    → IsGrouped g r n
-grouped_last g r n t end apart = grind arith
 
 joined_end : (joins : Option Group) (n : ℕ) (faulty : Bool) → (with_member joins n faulty).end ≡ n + 1
 joined_end joins n faulty = grind arith

@@ -34,10 +34,6 @@ record IsAmid (r : Requests) (from : ℕ) (deferred : List Deferred) : Type 0 wh
 amid_alone : (r : Requests) (from : ℕ) (xs : List Deferred) → IsAmid r from xs → is_alone r xs ≡ false
 amid_alone r from xs a = grind (arith, not_alone, order_past)
 
-amid_settled : (r : Requests) (d : Drains) → IsAmid r d.from d.deferred
-    → IsSettled (record { requests = r; drains = d })
-amid_settled r d a = grind (arith, amid_alone)
-
 group_settled : (r : Requests) (d : Drains) → IsAmid r d.from d.deferred
     → ((k : ℕ) → suc k ≡ length r.accepted → is_last r k ≡ true)
     → IsSettled (record { requests = r; drains = with_group r d })
@@ -69,10 +65,6 @@ accepted_amid l e s =
           (λ g there some within w. grind (arith, (accepted_faults r e), last_accepted));
     }
 
-accepted_last : (r : Requests) (e : Sqe) → is_linked e ≡ false → (k : ℕ) → suc k ≡ length (manual.with_accepted r e).accepted
-    → is_last (manual.with_accepted r e) k ≡ true
-accepted_last r e free k is = grind (arith, (length-append r.accepted (e ∷ [])), (entry_of_accepted_at r e))
-
 pub accepted_settled : (l : LinuxRequests) (e : Sqe) → IsSettled l → IsSettled (with_accepted l e)
 accepted_settled l e s =
     let t = manual.with_accepted l.requests e in
@@ -84,28 +76,14 @@ accepted_settled l e s =
 
 -- A call closes.
 
-waiting_cut : (r : Requests) (g : Deferred) → IsWaiting r g → IsWaiting (manual.with_cut r) g
-waiting_cut r g w = grind (arith, last_kept)
-
-waiting_all_cut : (l : LinuxRequests) → IsSettled l → AreWaiting (manual.with_cut l.requests) 0 l.drains.deferred l.drains.from
-waiting_all_cut l s =
-    let r = l.requests in
-    order_kept (IsWaiting r) (IsWaiting (manual.with_cut r)) 0 l.drains.deferred l.drains.from s.waiting (λ g there some within w. waiting_cut r g w)
-
 alone_cut : (r : Requests) (xs : List Deferred) → is_alone (manual.with_cut r) xs ≡ is_alone r xs
 unfolding is_alone
 alone_cut r xs = refl
-
-gone_same : (r t : Requests) (xs : List Deferred) → is_alone t xs ≡ is_alone r xs → HasGoneOn r xs → HasGoneOn t xs
-gone_same r t xs e h = grind arith
 
 -- settled, and no group is amid
 pub record IsBetween (l : LinuxRequests) : Type 0 where
   pub settled : IsSettled l
   pub closed : length l.requests.accepted ≤ l.drains.from
-
-group_closed : (r : Requests) (d : Drains) → length r.accepted ≤ (with_group r d).from
-group_closed r d = grind arith
 
 pub cut_between : (l : LinuxRequests) → IsSettled l → IsBetween (with_cut l)
 cut_between l s =
@@ -158,15 +136,6 @@ running_free l n s e =
           let h = held_by l.requests 0 l.drains.deferred l.drains.from n s.waiting held in
           grind (arith, (h.waiting.idle n h.low h.high)));
     }
-
--- who isn't deferred is no member of a group that is
-among_apart : (xs : List Deferred) (n k : ℕ) (g : Deferred) → ((j : ℕ) → is_among j g ≡ true → is_in_some xs j ≡ true)
-    → is_in_some xs n ≡ false → g.from ≤ k → k < g.end → k ≢ n
-among_apart xs n k g there out low high e = grind arith
-
-alone_started : (r : Requests) (n : ℕ) (xs : List Deferred) → is_alone (manual.with_started r n) xs ≡ is_alone r xs
-unfolding is_alone
-alone_started r n xs = refl
 
 started_settled : (l : LinuxRequests) (n : ℕ) → IsBetween l → IsFree l n → IsBetween (with_started l n)
 unfolding is_alone
