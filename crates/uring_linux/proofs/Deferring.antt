@@ -1,6 +1,6 @@
 -- Groups that are deferred: nothing has happened to their members, and once some went on, not all that is outstanding is deferred.
 use Rattle.std.proofs.Common.{◌≡◌, ℕ, suc, ◌-◌, ◌<◌, ◌≤◌, length, Bool, true, false, not, ◌&&◌, ◌⊎◌, List, [], ◌∷◌, refl, ◌∙◌, ap, arith, inl, inr}
-use Rattle.uring_linux.proofs.Common.{Deferred, Requests, after_going_on, and_from, and_left, and_right, both_ways, cases_lt, entry_of, false_from_ne_true, from_drain, has_ended, has_failed, has_failed_unended, has_fault, has_started, if◌then◌else◌, is_after_failure, is_alone, is_among, is_doomed, is_in_faulty_group, is_in_group, is_in_some, is_joined, is_joined_no, is_last, is_soft, or_cases, or_from, or_right, some_below_none, some_below_some, still_deferred}
+use Rattle.uring_linux.proofs.Common.{Deferred, Requests, after_going_on, and_from, and_left, and_right, both_ways, cases_Bool, cases_lt, entry_of, false_from_ne_true, from_drain, has_ended, has_failed, has_failed_unended, has_fault, has_started, if◌then◌else◌, is_after_failure, is_alone, is_among, is_doomed, is_in_faulty_group, is_in_group, is_in_some, is_joined, is_joined_no, is_last, is_soft, or_cases, or_from, or_right, some_below_none, some_below_some, still_deferred}
 use Rattle.uring_linux.proofs.InOrder.{InOrder, order_spans, order_above, order_after}
 
 -- nothing has happened to n
@@ -59,22 +59,18 @@ HasGoneOn r xs = (xs ≡ []) ⊎ (is_alone r xs ≡ false)
 pub gone_on : (r : Requests) (low : ℕ) (xs : List Deferred) (high : ℕ) → high ≤ length r.accepted
     → AreWaiting r low xs high → HasGoneOn r (after_going_on r xs)
 gone_on r low [] high within h = inl refl
-gone_on r low (g ∷ rest) high within h = go (is_alone r (g ∷ rest)) refl
-  where
-    go : (b : Bool) → is_alone r (g ∷ rest) ≡ b → HasGoneOn r (still_deferred b (g ∷ rest))
-    go false e = inr e
-    go true e =
-        let some = h.2.some in
-        let spans = order_spans (IsWaiting r) g.end rest high h.3 in
-        let after : List Deferred = if g.drains then rest else from_drain rest in
-        inr
-        (not_alone r after g.from (omega (arith, some, spans, within)) (h.2.idle g.from (omega arith) some).ended
-        (false_from_ne_true (is_in_some after g.from) (λ e. let past : g.end ≤ g.from = order_above (IsWaiting r) g.end after high g.from (order_after (IsWaiting r) g.end g.drains rest high h.3) e in omega (arith, past, some))))
+gone_on r low (g ∷ rest) high within h = elim (cases_Bool (is_alone r (g ∷ rest))) [
+  | inl e ↦
+      let some = h.2.some in
+      let spans = order_spans (IsWaiting r) g.end rest high h.3 in
+      let after : List Deferred = if g.drains then rest else from_drain rest in
+      let past = order_above (IsWaiting r) g.end after high g.from (order_after (IsWaiting r) g.end g.drains rest high h.3) in
+      let out : is_in_some after g.from ≡ false = grind arith in
+      rw e (inr (not_alone r after g.from (omega arith) (h.2.idle g.from (omega arith) some).ended out))
+  | inr e ↦ rw e (inr e)
+]
 
 -- No member is doomed.
-
-first_of_three : (a b c : Bool) → a ≡ false → (a && b && c) ≡ false
-first_of_three a b c e = grind arith
 
 outside_joined : (r : Requests) (g : Deferred) (m n : ℕ) → IsWaiting r g → m < g.from → g.from ≤ n
     → is_joined r m n ≡ false
@@ -84,30 +80,12 @@ pub after_joined : (r : Requests) (g : Deferred) (n m : ℕ) → IsWaiting r g �
     → is_joined r n m ≡ false
 after_joined r g n m w lt le = is_joined_no r n m (g.end - 1) (omega arith) (omega arith) (w.ends (g.end - 1) (omega arith))
 
-in_group_up : (r : Requests) (m n : ℕ) → m ≤ n → is_in_group r m n ≡ is_joined r m n
-in_group_up r m n le = grind arith
-
-in_group_down : (r : Requests) (m n : ℕ) → n ≤ m → is_in_group r m n ≡ is_joined r n m
-in_group_down r m n le = grind arith
-
 pub not_doomed : (r : Requests) (g : Deferred) (n : ℕ) → IsWaiting r g → g.from ≤ n → n < g.end
     → is_doomed r n ≡ false
 unfolding is_in_faulty_group is_after_failure
 not_doomed r g n w low high =
     or_from _ _
     (some_below_none (λ m. is_in_group r m n && has_fault r m) (length r.accepted)
-    (λ m lt.
-    elim (cases_lt m g.from) [
-      | inl before ↦ and_left _ _ (in_group_up r m n (omega arith) ∙ outside_joined r g m n w before low)
-      | inr past ↦
-          elim (cases_lt m g.end) [
-            | inl inside ↦ and_right _ _ (w.healthy m past inside)
-            | inr after ↦ and_left _ _ (in_group_down r m n (omega arith) ∙ after_joined r g n m w high after)
-          ]
-    ]))
+    (λ m lt. grind (arith, (cases_lt m g.from), (cases_lt m g.end), (outside_joined r g m n w), (after_joined r g n m w high), (w.healthy m))))
     (some_below_none (λ m. is_joined r m n && is_soft (entry_of r m) && has_failed r m) n
-    (λ m lt.
-    elim (cases_lt m g.from) [
-      | inl before ↦ first_of_three _ _ _ (outside_joined r g m n w before low)
-      | inr past ↦ and_right _ _ (has_failed_unended r m (w.idle m past (omega arith)).ended)
-    ]))
+    (λ m lt. grind (arith, (cases_lt m g.from), (outside_joined r g m n w), (has_failed_unended r m), (w.idle m))))

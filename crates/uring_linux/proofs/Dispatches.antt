@@ -25,17 +25,15 @@ pub dispatch_accepted : (s t : Window) (d k : KeptDrains) (b c : Bool) (room lef
 dispatch_accepted s t d k b c room left between amid e q l first place h ec eq g is f =
     let r = l.requests in
     let n = length r.accepted in
+    let more = manual.with_accepted r e in
     let skip = ec ∙ skipped_accepted r e b h.held.skipped in
-    let tells = subst (λ x. Tells x (manual.with_accepted r e) n) (sym eq) (tells_new r e c place (h.held.window.later n (omega arith)) skip) in
+    let tells : Tells q more n = rw eq (tells_new r e c place (h.held.window.later n (omega arith)) skip) in
     let shows = g r e (roomed s.first s.items 0 s.room r h.held.window) tells in
-    let more : length r.accepted + 1 ≡ length (r.accepted ++ e ∷ []) = sym (length-append r.accepted (e ∷ [])) in
+    let at : (d.drains.from == end_of s) ≡ (l.drains.from == n) = rw (h.held.drains, h.held.window.count) refl in
+    let same = taken q d.drains l.drains first (d.drains.from == end_of s) more n tells h.held.drains is at in
     dispatch_shows t k c left amid (with_accepted l e) shows
-    (f (manual.with_accepted r e) shows
-    ∙ ap (λ (x : Request). accepted_drains (manual.with_accepted r e) (is_linked x.entry) (with_request d.drains first q)) eq
-    ∙ ap (accepted_drains (manual.with_accepted r e) (is_linked e))
-    (taken q d.drains l.drains first (d.drains.from == end_of s) (manual.with_accepted r e) n tells h.held.drains is
-    (ap (λ (x : Drains). x.from == end_of s) h.held.drains ∙ ap (λ x. l.drains.from == x) h.held.window.count)))
-    (skip ∙ ap (some_below (λ m. asks_to_skip (entry_of (manual.with_accepted r e) m))) more)
+    (f more shows ∙ ap (λ (x : Request). accepted_drains more (is_linked x.entry) (with_request d.drains first q)) eq ∙ ap (accepted_drains more (is_linked e)) same)
+    (skip ∙ ap (some_below (λ m. asks_to_skip (entry_of more m))) (sym (length-append r.accepted (e ∷ []))))
 
 pub dispatch_cut : (s t : Window) (d k : KeptDrains) (b : Bool) (room left : ℕ) (between amid : Bool) (l : LinuxRequests)
     → ShowsRequests (dispatch_of s d b room between) l

@@ -31,12 +31,7 @@ module _ (r q : Requests) (same : FaultsKept r q) where
   right_kept n lt right = false_from_ne_true _ (λ e. both_ways _ right (faulty_kept n lt e))
 
 pub accepted_faults : (r : Requests) (e : Sqe) → FaultsKept r (manual.with_accepted r e)
-accepted_faults r e = record {
-  count = let more = length-append r.accepted (e ∷ []) in omega (arith, more);
-  last = λ k lt. last_accepted r e k (omega (arith, lt));
-  fault = λ k lt. ap (λ b. b || is_refused_drain (manual.with_accepted r e) k) (entry_same r e is_faulty k lt)
-      ∙ ap (λ b. is_faulty (entry_of r k) || b) (refused_accepted r e k lt);
-}
+accepted_faults r e = grind (arith, (length-append r.accepted (e ∷ [])), last_accepted, (entry_same r e is_faulty), (refused_accepted r e))
 
 pub cut_faults : (r : Requests) → FaultsKept r (manual.with_cut r)
 cut_faults r = grind (arith, is_last_cut)

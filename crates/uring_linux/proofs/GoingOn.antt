@@ -17,13 +17,10 @@ some_apart r xs e = not-false _ e
 -- something that is outstanding isn't deferred
 some_free : (l : LinuxRequests) (n : ℕ) → HasGoneOn l.requests l.drains.deferred → n < length l.requests.accepted
     → is_outstanding l.requests n ≡ true → some_below (is_free l) (length l.requests.accepted) ≡ true
-some_free l n (inl none) lt e =
-    some_below_some (is_free l) (length l.requests.accepted) n lt (and_from _ _ e (ap (λ xs. not (is_in_some xs n)) none))
+some_free l n (inl none) lt e = some_below_some (is_free l) (length l.requests.accepted) n lt (grind arith)
 some_free l n (inr apart) lt e =
     let found = some_below_in _ (length l.requests.accepted) (some_apart l.requests l.drains.deferred apart) in
-    let parts = and_parts _ _ found.2 in
-    some_below_some (is_free l) (length l.requests.accepted) found.0 found.1
-    (and_from _ _ (and_from _ _ (lt-ltb found.0 (length l.requests.accepted) found.1) parts.0) parts.1)
+    some_below_some (is_free l) (length l.requests.accepted) found.0 found.1 (grind (arith, found.1, found.2))
 
 -- the least of them is in its turn
 free_turn : (l : LinuxRequests) (m : ℕ) → IsSettled l → IsLeast (is_free l) (length l.requests.accepted) m
@@ -35,22 +32,11 @@ free_turn l m s least =
     ap not
     (some_below_none (keeps_back r m) m
     (λ j lt.
-    elim (cases_Bool (has_ended r j)) [
-      | inl ended ↦ and_right _ _ (ap not ended)
-      | inr open_ ↦
-          elim (and_cases _ _ (least.before j lt)) [
-            | inl gone ↦
-                absurd (both_ways _ gone (and_from _ _ (lt-ltb j (length r.accepted) (omega (arith, lt, below))) (ap not open_)))
-            | inr kept ↦
-                let h = held_by r 0 l.drains.deferred l.drains.from j s.waiting (not-false _ kept) in
-                let low = h.low in
-                let past : h.group.from ≤ m = omega (arith, lt, low) in
-                let out = not-true (is_deferred l m) (and_parts (is_outstanding r m) (not (is_deferred l m)) least.holds).1 in
-                elim (cases_lt m h.group.end) [
-                  | inl inside ↦ absurd (both_ways (is_in_some l.drains.deferred m) out (h.members m past inside))
-                  | inr after ↦ and_left _ _ (after_joined r h.group j m h.waiting h.high after)
-                ]
-          ]
+    elim (cases_Bool (is_deferred l j)) [
+      | inl held ↦
+          let h = held_by r 0 l.drains.deferred l.drains.from j s.waiting held in
+          grind (arith, (cases_lt m h.group.end), (h.members m), (after_joined r h.group j m h.waiting h.high), least.holds)
+      | inr free ↦ grind (arith, (least.before j lt))
     ]))
 
 free_goes : (l : LinuxRequests) (m : ℕ) → IsSettled l → IsLeast (is_free l) (length l.requests.accepted) m

@@ -15,14 +15,8 @@ pub told_closed : (g : Group) (r : Requests) (e : Sqe) → TellsGroup g r
     → TellsGroup g (with_accepted r e)
 told_closed g r e t closed none =
     let within = t.group.accepted in
-    record {
-      group = group_accepted r e g.from g.end t.group closed;
-      low = t.low;
-      high = t.high;
-      ended = t.ended;
-      fault = t.fault ∙ sym (first_member_same (has_fault (with_accepted r e)) (has_fault r) g.from g.end (λ m lt. fault_accepted r e m (omega (arith, lt, within))));
-      broken = t.broken ∙ sym (first_broken_accepted r e g.from g.end none within);
-    }
+    let same = first_member_same (has_fault (with_accepted r e)) (has_fault r) g.from g.end (λ m lt. fault_accepted r e m (omega arith)) in
+    grind (arith, (group_accepted r e g.from g.end t.group closed), same, (first_broken_accepted r e g.from g.end none within))
 
 -- into the group that is open
 pub told_joined : (g : Group) (r : Requests) (e : Sqe) (faulty : Bool) → TellsGroup g r
@@ -57,9 +51,6 @@ starts_accepted r e n from lt s = grind (arith, last_accepted)
 
 -- A request starts.
 
-pub grouped_started : (g : Group) (r : Requests) (n k : ℕ) → IsGrouped g r k → IsGrouped g (with_started r n) k
-grouped_started g r n k i = grind arith
-
 -- A call closes.
 
 pub grouped_cut : (g : Group) (r : Requests) (k : ℕ) → k < length r.accepted → IsGrouped g r k
@@ -91,23 +82,7 @@ starts_ended r n res bytes k from s = assumption
 pub told_elsewhere : (x g : Group) (r : Requests) (n : ℕ) (res : ℤ) (bytes : List ℕ) → IsMember r n g
     → TellsGroup x r → x.from ≢ g.from → TellsGroup x (with_ended r n res bytes)
 told_elsewhere x g r n res bytes m t apart =
-    let low = m.low in
-    let high = m.high in
-    record {
-      group = group_ended r n res bytes x.from x.end t.group;
-      low = t.low;
-      high = t.high;
-      ended = λ k le lt. ended_stays r n res bytes k (t.ended k le lt);
-      fault = t.fault;
-      broken =
-          t.broken
-          ∙ sym
-          (first_broken_elsewhere r n res bytes x.from x.end
-          (λ k le lt e.
-          elim (cases_lt g.from x.from) [
-            | inl before ↦ groups_apart r g.from g.end x.from x.end g.from m.told.group t.group (omega arith) (omega (arith, low, high)) before (omega (arith, le, e, high))
-            | inr past ↦
-                groups_apart r x.from x.end g.from g.end x.from t.group m.told.group (omega arith) (omega (arith, le, lt)) (grind (arith, past, apart))
-                (omega (arith, lt, e, low))
-          ]));
-    }
+    let one = groups_apart r g.from g.end x.from x.end g.from m.told.group t.group in
+    let two = groups_apart r x.from x.end g.from g.end x.from t.group m.told.group in
+    let broken = first_broken_elsewhere r n res bytes x.from x.end (λ k le lt e. grind (arith, one, two)) in
+    grind (arith, (group_ended r n res bytes x.from x.end t.group), ended_stays, broken)

@@ -3,18 +3,14 @@ use Rattle.std.proofs.Common.{◌≡◌, ◌≢◌, ℕ, suc, ◌+◌, ◌-◌, 
 use Rattle.uring_linux.proofs.Common.{Group, IsAmid, IsGrouped, IsMember, IsWithin, Request, Requests, Shows, Sqe, Starts, Tells, TellsGroup, Window, at, both_ways, cases_eq, cases_lt, end_of, entry_of, groups_apart, has_ended, has_fault, is_last, is_soft, is_success, with_accepted, with_cut, with_end, with_ended, with_member, with_started}
 use Rattle.uring_linux.proofs.WindowLemmas.{kept}
 use Rattle.uring_linux.proofs.WindowEvents.{Keeps, keeps, shows, at_within, at_push_here, at_push_other, at_set_here, at_set_other, accepted_keeps, started_keeps, ended_keeps, cut_keeps, cut_keeps_none}
-use Rattle.uring_linux.proofs.GroupEvents.{told_closed, told_joined, told_new, starts_accepted, grouped_started, grouped_cut, told_ended, starts_ended, told_elsewhere}
+use Rattle.uring_linux.proofs.GroupEvents.{told_closed, told_joined, told_new, starts_accepted, grouped_cut, told_ended, starts_ended, told_elsewhere}
 
 -- Where groups begin.
 
 -- the group of a request that is kept is kept whole
 pub kept_from : (s : Window) (r : Requests) (n from : ℕ) → Shows s r → Starts r n from → s.first ≤ n
     → s.first ≤ from
-kept_from s r n from h t le =
-    elim (cases_lt from s.first) [
-      | inl low ↦ absurd (both_ways _ (t.joined (s.first - 1) (omega arith) (omega arith)) (h.begins (s.first - 1) (omega arith)))
-      | inr high ↦ high
-    ]
+kept_from s r n from h t le = grind (arith, (t.joined (s.first - 1)), (h.begins (s.first - 1)))
 
 -- two members of one group have the same first
 pub same_from : (r : Requests) (n from first : ℕ) → Starts r n from → Starts r from first → first ≡ from
@@ -26,9 +22,7 @@ pub first_kept : (s : Window) (r : Requests) (n : ℕ) (q : Request) → Shows s
 first_kept s r n q h here =
     let w = at_within s n q here in
     let t = (h.grouped n q here).starts in
-    let low = t.low in
-    let high = w.high in
-    kept s q.group.from (record { low = kept_from s r n q.group.from h t w.low; high = omega arith })
+    kept s q.group.from (grind (arith, (kept_from s r n q.group.from h t w.low)))
 
 pub member_is : (s : Window) (r : Requests) (n : ℕ) (q p : Request) → Shows s r → at s n ≡ Some q
     → at s q.group.from ≡ Some p → (p.group.from ≡ q.group.from) × IsMember r n p.group
@@ -37,25 +31,8 @@ member_is s r n q p h here first =
     let i = h.grouped q.group.from p first in
     let same = same_from r n q.group.from p.group.from t i.starts in
     let told = i.told same in
-    let some = told.group.some in
-    let low = t.low in
     let w = at_within s n q here in
-    let within = w.high in
-    let count = h.count in (
-      same,
-      record {
-        told = told;
-        low = omega arith;
-        high =
-            elim (cases_lt n p.group.end) [
-              | inl inside ↦ inside
-              | inr past ↦
-                  absurd
-                  (both_ways _ (t.joined (p.group.end - 1) (omega arith) (omega arith))
-                  (told.group.ends (p.group.end - 1) (omega arith) (omega arith)))
-            ];
-      },
-    )
+    (same, grind (arith, (t.joined (p.group.end - 1)), (told.group.ends (p.group.end - 1))))
 
 -- What is kept of a group is written anew.
 
@@ -69,33 +46,27 @@ pub record Regroups (u t : Window) (g : Group) : Type 0 where
 retold : (q : Request) (g : Group) (r : Requests) (n : ℕ) → Tells q r n → Tells (record q { group = g }) r n
 retold q g r n t = assumption
 
-regrouped_here : (u t : Window) (g : Group) (x : Request) → Regroups u t g → IsWithin u g.from
-    → at t g.from ≡ Some x → (q : Request) × (at u g.from ≡ Some q) × (x ≡ record q { group = g })
-regrouped_here u t g x w inside is =
-    let q = kept u g.from inside in
-    (q.0, q.1, let f : Some x ≡ Some (record q.0 { group = g }) = sym is ∙ w.here q.0 q.1 in cc)
-
 regrouped : (u t : Window) (g : Group) (r : Requests) → Regroups u t g → IsWithin u g.from → Keeps u r
     → IsGrouped g r g.from
     → ((k : ℕ) (x : Request) → k ≢ g.from → at u k ≡ Some x → IsGrouped x.group r k) → Shows t r
-regrouped u t g r w inside h here others = record {
-  count = w.end ∙ h.count;
-  told = λ k x is.
-      elim (cases_eq k g.from) [
-        | inl same ↦
-            let q = regrouped_here u t g x w inside (ap (at t) (sym same) ∙ is) in
-            subst (λ y. Tells y r k) (sym q.2) (retold q.0 g r k (h.told k q.0 (ap (at u) same ∙ q.1)))
+regrouped u t g r w inside h here others =
+    let q = kept u g.from inside in
+    let now = w.here q.0 q.1 in
+    let was = h.told g.from q.0 q.1 in
+    record {
+      count = w.end ∙ h.count;
+      told = λ k x is. elim (cases_eq k g.from) [
+        | inl same ↦ let one : x ≡ record q.0 { group = g } = grind (arith, now) in rw (one, same) (retold q.0 g r g.from was)
         | inr other ↦ h.told k x (sym (w.others k other) ∙ is)
       ];
-  gone = λ k lt. h.gone k (omega (arith, w.first, lt));
-  begins = λ k is. h.begins k (is ∙ w.first);
-  later = h.later;
-  grouped = λ k x is.
-      elim (cases_eq k g.from) [
-        | inl same ↦ grind (arith, (regrouped_here u t g x w inside (ap (at t) (sym same) ∙ is)))
+      gone = λ k lt. h.gone k (omega (arith, w.first, lt));
+      begins = λ k is. h.begins k (is ∙ w.first);
+      later = h.later;
+      grouped = λ k x is. elim (cases_eq k g.from) [
+        | inl same ↦ let one : x ≡ record q.0 { group = g } = grind (arith, now) in rw (one, same) here
         | inr other ↦ others k x other (sym (w.others k other) ∙ is)
       ];
-}
+    }
 
 -- A request is added.
 
@@ -105,19 +76,7 @@ closed_group : (s : Window) (r : Requests) (x : Group) (joins : Option Group) (f
     → is_last r k ≡ true
 closed_group s r x None faulty amid t apart k is = grind arith
 closed_group s r x (Some g) faulty amid t apart k is =
-    elim (cases_lt x.end (length r.accepted)) [
-      | inl low ↦ t.group.ends k is low
-      | inr high ↦
-          let within = t.group.accepted in
-          let some = t.group.some in
-          let going = amid.told.group.some in
-          let end = amid.end in
-          absurd
-          (elim (cases_lt g.from x.from) [
-            | inl before ↦ groups_apart r g.from g.end x.from x.end g.from amid.told.group t.group (omega arith) going before (omega arith)
-            | inr past ↦ groups_apart r x.from x.end g.from g.end x.from t.group amid.told.group (omega arith) some (grind (arith, past, apart)) (omega arith)
-          ])
-    ]
+    grind (arith, (t.group.ends k), (groups_apart r g.from g.end x.from x.end g.from), (groups_apart r x.from x.end g.from g.end x.from))
 
 -- what is kept of the group that the next request joins
 joined_told : (s : Window) (r : Requests) (e : Sqe) (joins : Option Group) (faulty : Bool) → IsAmid s r joins
@@ -126,18 +85,8 @@ joined_told : (s : Window) (r : Requests) (e : Sqe) (joins : Option Group) (faul
 joined_told s r e None faulty amid none is = told_new r e faulty amid none is
 joined_told s r e (Some g) faulty amid none is = told_joined g r e faulty amid.told amid.end amid.amid none is
 
-joined_within : (s : Window) (r : Requests) (joins : Option Group) (faulty : Bool) → IsAmid s r joins
-    → end_of s ≡ length r.accepted
-    → (s.first ≤ (with_member joins (length r.accepted) faulty).from)
-    × ((with_member joins (length r.accepted) faulty).from ≤ length r.accepted)
-joined_within s r joins faulty amid count = grind arith
-
 grouped_first : (g : Group) (r : Requests) → TellsGroup g r → IsGrouped g r g.from
 grouped_first g r t = grind arith
-
-grouped_last : (g : Group) (r : Requests) (n : ℕ) → TellsGroup g r → g.end ≡ n + 1 → g.from ≢ n
-    → IsGrouped g r n
-grouped_last g r n t end apart = grind arith
 
 joined_end : (joins : Option Group) (n : ℕ) (faulty : Bool) → (with_member joins n faulty).end ≡ n + 1
 joined_end joins n faulty = grind arith
@@ -154,22 +103,16 @@ pushed_shows s u t q r e joins faulty h amid is tells ef ei w =
     let room = u.room in
     let v : Window = record { first = s.first; items = s.items ++ x ∷ []; room = room } in
     let told : TellsGroup g (with_accepted r e) = joined_told s r e joins faulty amid (h.later n (omega arith)).ended is in
-    let within = joined_within s r joins faulty amid h.count in
-    let low : s.first ≤ g.from = within.0 in
-    let high : g.from ≤ n = within.1 in
+    let low : s.first ≤ g.from = grind arith in
+    let high : g.from ≤ n = grind arith in
     let long = length-append s.items (x ∷ []) in
     let count = h.count in
     let all : Keeps v (with_accepted r e) = accepted_keeps s x room r e (keeps s r h) (retold q g (with_accepted r e) n tells) in
-    let turned : Regroups v t g =
-    subst (λ xs. Regroups (record { first = s.first; items = xs; room = room }) t g) ei (subst (λ f. Regroups (record { first = f; items = u.items; room = room }) t g) ef w)
-    in
+    let turned : Regroups v t g = rw (← ei, ← ef) w in
     regrouped v t g (with_accepted r e) turned (record { low = low; high = omega arith }) all (grouped_first g (with_accepted r e) told)
     (λ k y apart there.
     elim (cases_eq k (end_of s)) [
-      | inl last ↦
-          let same : y ≡ x = let f : Some y ≡ Some x = sym there ∙ ap (at v) last ∙ at_push_here s x room in cc in
-          let place : k ≡ n = last ∙ count in
-          rw (same, place) (grouped_last g (with_accepted r e) n told (joined_end joins n faulty) (λ f. apart (place ∙ sym f)))
+      | inl last ↦ grind (arith, (at_push_here s x room), told, (joined_end joins n faulty))
       | inr other ↦
           let was : at s k ≡ Some y = sym (at_push_other s x room k other) ∙ there in
           let inside = (at_within s k y was).high in
@@ -205,7 +148,7 @@ pub started_shows : (s : Window) (q : Request) (r : Requests) (n : ℕ) → Show
     → Shows (record s { items = set s.items (n - s.first) (record q { is_running = true }) }) (with_started r n)
 started_shows s q r n h here going =
     shows _ (with_started r n) (started_keeps s q r n (keeps s r h) here going)
-    (written_grouped s q (record q { is_running = true }) r (with_started r n) n h here refl (λ g k within i. grouped_started g r n k i))
+    (written_grouped s q (record q { is_running = true }) r (with_started r n) n h here refl (λ g k within i. grind arith))
 
 pub cut_shows : (s : Window) (q : Request) (r : Requests) (n : ℕ) → Shows s r → at s n ≡ Some q
     → n + 1 ≡ end_of s
@@ -235,11 +178,8 @@ finished_shows s u t q r n res bytes failed breaks g h here going is break m sam
     let inside = at_within s n q here in
     let entry = (h.told n q here).entry in
     let all : Keeps v after = ended_keeps s q r n res bytes failed (keeps s r h) here going is in
-    let turned : Regroups v t (with_end g n breaks) = subst (λ (y : Window). Regroups y t (with_end g n breaks)) eu w in
-    let breaks_so : breaks ≡ (is_soft (entry_of r n) && not (is_success (entry_of r n) res)) =
-    break ∙ ap (λ b. is_soft q.entry && b) is ∙ ap (λ e. is_soft e && not (is_success e res)) entry
-    in
-    let told = told_ended g r n res bytes breaks m going breaks_so in
+    let turned : Regroups v t (with_end g n breaks) = rw eu at w in
+    let told = told_ended g r n res bytes breaks m going (rw (is, entry) at break) in
     let from_low = m.low in
     let high = inside.high in
     let count : end_of v ≡ end_of s = all.count ∙ sym h.count in

@@ -1,6 +1,6 @@
 -- Groups that a drain holds back, one after the other: where their members stand, and who goes on before whom.
 use Rattle.std.proofs.Common.{◌≡◌, ℕ, ◌<◌, ◌≤◌, Bool, true, false, not, ◌&&◌, ◌||◌, List, [], ◌∷◌, ◌++◌, refl, arith, ◌⊎◌, inl, inr}
-use Rattle.uring_linux.proofs.Common.{Deferred, and_from, and_parts, both_ways, from_drain, if◌then◌else◌, is_among, is_in_some, is_none, le-leb, le-ltb, leb-true, lt-ltb, ltb-true, or_cases, or_from, or_left, or_right, still_deferred}
+use Rattle.uring_linux.proofs.Common.{Deferred, and_from, and_parts, both_ways, cases_Bool, from_drain, if◌then◌else◌, is_among, is_in_some, is_none, le-leb, le-ltb, leb-true, lt-ltb, ltb-true, or_cases, or_from, or_left, or_right, still_deferred}
 
 -- groups of which this holds, from one number on and before another, one after the other
 abbrev pub InOrder : (Deferred → Type 0) → ℕ → List Deferred → ℕ → Type 0
@@ -15,14 +15,7 @@ among_tells n g e = let p = and_parts _ _ e in (leb-true g.from n p.0, ltb-true 
 pub in_pushed : (xs : List Deferred) (g : Deferred) (k : ℕ) → is_in_some (xs ++ g ∷ []) k ≡ true
     → (is_in_some xs k ≡ true) ⊎ ((g.from ≤ k) × (k < g.end))
 in_pushed [] g k e = grind arith
-in_pushed (x ∷ rest) g k e =
-    elim (or_cases (is_among k x) (is_in_some (rest ++ g ∷ []) k) e) [
-      | inl here ↦ inl (or_left (is_among k x) (is_in_some rest k) here)
-      | inr later ↦ elim (in_pushed rest g k later) [
-        | inl old ↦ inl (or_right (is_among k x) (is_in_some rest k) old)
-        | inr new ↦ inr new
-      ]
-    ]
+in_pushed (x ∷ rest) g k e = grind (arith, (in_pushed rest g k))
 
 pub pushed_new : (xs : List Deferred) (g : Deferred) (k : ℕ) → g.from ≤ k → k < g.end
     → is_in_some (xs ++ g ∷ []) k ≡ true
@@ -32,28 +25,18 @@ pushed_new (x ∷ rest) g k le lt = grind (arith, (pushed_new rest g k le lt))
 pub pushed_old : (xs : List Deferred) (g : Deferred) (k : ℕ) → is_in_some xs k ≡ true
     → is_in_some (xs ++ g ∷ []) k ≡ true
 pushed_old [] g k e = absurd (let f : false ≡ true = e in cc)
-pushed_old (x ∷ rest) g k e =
-    elim (or_cases (is_among k x) (is_in_some rest k) e) [
-      | inl here ↦ or_left (is_among k x) (is_in_some (rest ++ g ∷ []) k) here
-      | inr later ↦ or_right (is_among k x) (is_in_some (rest ++ g ∷ []) k) (pushed_old rest g k later)
-    ]
+pushed_old (x ∷ rest) g k e = grind (arith, (pushed_old rest g k))
 
 pub drain_fewer : (xs : List Deferred) (k : ℕ) → is_in_some (from_drain xs) k ≡ true
     → is_in_some xs k ≡ true
 drain_fewer [] k e = e
-drain_fewer (g ∷ rest) k e = go g.drains e (drain_fewer rest k) where
-  go : (b : Bool) → is_in_some (if b then g ∷ rest else from_drain rest) k ≡ true → (is_in_some (from_drain rest) k ≡ true → is_in_some rest k ≡ true) → is_in_some (g ∷ rest) k ≡ true
-  go true f later = f
-  go false f later = or_right (is_among k g) (is_in_some rest k) (later f)
+drain_fewer (g ∷ rest) k e = grind (arith, (cases_Bool g.drains), (drain_fewer rest k))
 
 pub still_fewer : (alone : Bool) (xs : List Deferred) (k : ℕ)
     → is_in_some (still_deferred alone xs) k ≡ true → is_in_some xs k ≡ true
 still_fewer alone [] k e = e
 still_fewer false (g ∷ rest) k e = e
-still_fewer true (g ∷ rest) k e = go g.drains e where
-  go : (d : Bool) → is_in_some (if d then rest else from_drain rest) k ≡ true → is_in_some (g ∷ rest) k ≡ true
-  go true f = or_right (is_among k g) (is_in_some rest k) f
-  go false f = or_right (is_among k g) (is_in_some rest k) (drain_fewer rest k f)
+still_fewer true (g ∷ rest) k e = grind (arith, (cases_Bool g.drains), (drain_fewer rest k))
 
 -- a ring that drained, and doesn't any more
 pub ring_off : (ring drains : Bool) (xs : List Deferred) → ring ≡ true
@@ -83,13 +66,7 @@ module _ (P : Deferred → Type 0) where
   -- a member isn't below the first group, nor after the last
   pub order_above : (low : ℕ) (xs : List Deferred) (high k : ℕ) → InOrder P low xs high → is_in_some xs k ≡ true → low ≤ k
   order_above low [] high k o e = absurd (let f : false ≡ true = e in cc)
-  order_above low (g ∷ rest) high k o e =
-      let under : low ≤ g.from = o.0 in
-      let some : g.from < g.end = o.1 in
-      elim (or_cases (is_among k g) (is_in_some rest k) e) [
-        | inl here ↦ (let from : g.from ≤ k = (among_tells k g here).0 in omega (arith, under, from))
-        | inr later ↦ (let past : g.end ≤ k = order_above g.end rest high k o.3 later in omega (arith, under, some, past))
-      ]
+  order_above low (g ∷ rest) high k o e = grind (arith, (among_tells k g), (order_above g.end rest high k o.3))
 
   pub order_past : (low : ℕ) (xs : List Deferred) (high n : ℕ) → InOrder P low xs high → high ≤ n → is_in_some xs n ≡ false
   order_past low [] high n o le = refl
@@ -99,10 +76,7 @@ module _ (P : Deferred → Type 0) where
 
   order_drain : (low : ℕ) (xs : List Deferred) (high : ℕ) → InOrder P low xs high → InOrder P low (from_drain xs) high
   order_drain low [] high o = o
-  order_drain low (g ∷ rest) high o = go g.drains (order_drain g.end rest high o.3) where
-    go : (b : Bool) → InOrder P g.end (from_drain rest) high → InOrder P low (if b then g ∷ rest else from_drain rest) high
-    go true later = o
-    go false later = order_lower low g.end (from_drain rest) high (let a : low ≤ g.from = o.0 in let b : g.from < g.end = o.1 in omega (arith, a, b)) later
+  order_drain low (g ∷ rest) high o = grind (arith, order_lower, (order_drain g.end rest high o.3))
 
   -- those after the first that go on
   pub order_after : (low : ℕ) (drains : Bool) (rest : List Deferred) (high : ℕ) → InOrder P low rest high
@@ -116,36 +90,16 @@ module _ (P : Deferred → Type 0) where
   pub drain_before : (low : ℕ) (xs : List Deferred) (high n k : ℕ) → InOrder P low xs high → is_in_some xs n ≡ true
       → is_in_some (from_drain xs) n ≡ false → is_in_some (from_drain xs) k ≡ true → n < k
   drain_before low [] high n k o here gone stays = absurd (let f : false ≡ true = here in cc)
-  drain_before low (g ∷ rest) high n k o here gone stays = go g.drains gone stays (drain_before g.end rest high n k o.3) where
-    go : (b : Bool) → is_in_some (if b then g ∷ rest else from_drain rest) n ≡ false → is_in_some (if b then g ∷ rest else from_drain rest) k ≡ true
-        → (is_in_some rest n ≡ true → is_in_some (from_drain rest) n ≡ false → is_in_some (from_drain rest) k ≡ true → n < k) → n < k
-    go true out still before = absurd (both_ways (is_in_some (g ∷ rest) n) out here)
-    go false out still before = elim (or_cases (is_among n g) (is_in_some rest n) here) [
-      | inl first ↦ grind (arith, (drain_fewer rest k still), (among_tells n g first), order_above)
-      | inr later ↦ before later out still
-    ]
+  drain_before low (g ∷ rest) high n k o here gone stays =
+      grind (arith, (cases_Bool g.drains), (drain_before g.end rest high n k o.3), (drain_fewer rest k), (among_tells n g), (order_above g.end rest high k o.3))
 
   pub still_before : (alone : Bool) (low : ℕ) (xs : List Deferred) (high n k : ℕ) → InOrder P low xs high
       → is_in_some xs n ≡ true → is_in_some (still_deferred alone xs) n ≡ false
       → is_in_some (still_deferred alone xs) k ≡ true → n < k
   still_before alone low [] high n k o here gone stays = absurd (let f : false ≡ true = here in cc)
   still_before false low (g ∷ rest) high n k o here gone stays = absurd (both_ways (is_in_some (g ∷ rest) n) gone here)
-  still_before true low (g ∷ rest) high n k o here gone stays = go g.drains gone stays where
-    first : is_in_some rest k ≡ true → is_among n g ≡ true → n < k
-    first after among =
-        let past : g.end ≤ k = order_above g.end rest high k o.3 after in
-        let end : n < g.end = (among_tells n g among).1 in
-        omega (arith, past, end)
-
-    go : (d : Bool) → is_in_some (if d then rest else from_drain rest) n ≡ false → is_in_some (if d then rest else from_drain rest) k ≡ true → n < k
-    go true out still = elim (or_cases (is_among n g) (is_in_some rest n) here) [
-      | inl among ↦ first still among
-      | inr later ↦ absurd (both_ways (is_in_some rest n) out later)
-    ]
-    go false out still = elim (or_cases (is_among n g) (is_in_some rest n) here) [
-      | inl among ↦ first (drain_fewer rest k still) among
-      | inr later ↦ drain_before g.end rest high n k o.3 later out still
-    ]
+  still_before true low (g ∷ rest) high n k o here gone stays =
+      grind (arith, (cases_Bool g.drains), (drain_before g.end rest high n k o.3), (drain_fewer rest k), (among_tells n g), (order_above g.end rest high k o.3))
 
 -- what keeps each group keeps all of them
 pub order_kept : (P Q : Deferred → Type 0) (low : ℕ) (xs : List Deferred) (high : ℕ) → InOrder P low xs high

@@ -34,20 +34,8 @@ left_shows s t r l over h =
     record {
       count = left_end s t l ∙ h.count;
       told = λ n q e. let w = at_within t n q e in h.told n q (sym (left_at s t n l w.low) ∙ e);
-      gone = λ n lt.
-          elim (cases_lt n s.first) [
-            | inl before ↦ h.gone n before
-            | inr past ↦
-                let q = kept s n (record { low = past; high = omega arith }) in
-                sym (h.told n q.0 q.1).ended ∙ over.ended n q.0 lt q.1
-          ];
-      begins = λ k is.
-          elim (cases_lt k s.first) [
-            | inl before ↦ h.begins k (omega arith)
-            | inr past ↦
-                let q = kept s k (record { low = past; high = omega arith }) in
-                sym (h.told k q.0 q.1).last ∙ over.last k q.0 is q.1
-          ];
+      gone = λ n lt. grind (arith, (cases_lt n s.first), (kept s n), (h.told n), (over.ended n), (h.gone n));
+      begins = λ k is. grind (arith, (cases_lt k s.first), (kept s k), (h.told k), (over.last k), (h.begins k));
       later = h.later;
       grouped = λ n q e. let w = at_within t n q e in h.grouped n q (sym (left_at s t n l w.low) ∙ e);
     }

@@ -57,16 +57,8 @@ pub first_is : (r : Requests) (from end n : ℕ) → IsGroup r from end → from
     → first_of r n ≡ if_before (Some from) n
 unfolding first_of
 first_is r from end n g high lt =
-    elim (cases_lt from n) [
-      | inl low ↦
-          least_below_some (λ m. is_joined r m n) n from low (joined_member r from end from n g high lt high ∙ le-leb from from (omega arith))
-          (λ j under. joined_member r from end j n g high lt (omega arith) ∙ lt-leb from j under)
-          ∙ ap (λ b. if b then Some from else None) (sym (lt-ltb from n low))
-      | inr same ↦
-          least_below_none (λ m. is_joined r m n) n
-          (λ j under. joined_member r from end j n g high lt (omega arith) ∙ lt-leb from j (omega arith))
-          ∙ ap (λ b. if b then Some from else None) (sym (le-ltb from n same))
-    ]
+    let joined : (j : ℕ) → j ≤ n → is_joined r j n ≡ leb from j = λ j le. joined_member r from end j n g high lt le in
+    grind (arith, joined, (cases_lt from n), (least_below_some (λ m. is_joined r m n) n from), (least_below_none (λ m. is_joined r m n) n))
 
 pub failed_is : (r : Requests) (from end n : ℕ) → IsGroup r from end → from ≤ n → n < end
     → failed_member_of r n ≡ if_before (first_broken r from end) n
@@ -74,10 +66,4 @@ failed_is r from end n g high lt = go (first_broken r from end) refl
   where
     go : (o : Option ℕ) → first_broken r from end ≡ o → failed_member_of r n ≡ if_before o n
     go None e = failed_member_none r from end n g high lt (ap (λ o. is_before o n) e)
-    go (Some m) e =
-        elim (cases_lt m n) [
-          | inl low ↦ failed_member_before r from end n m g high lt e low ∙ ap (λ b. if b then Some m else None) (sym (lt-ltb m n low))
-          | inr past ↦
-              failed_member_none r from end n g high lt (ap (λ o. is_before o n) e ∙ le-ltb m n past)
-              ∙ ap (λ b. if b then Some m else None) (sym (le-ltb m n past))
-        ]
+    go (Some m) e = grind (arith, (cases_lt m n), (failed_member_before r from end n m g high lt e), (failed_member_none r from end n g high lt))

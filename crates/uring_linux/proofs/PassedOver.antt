@@ -9,10 +9,8 @@ first_told : (s : Window) (r : Requests) (q : Request) → Shows s r → at s s.
     → (q.group.from ≡ s.first) × TellsGroup q.group r
 first_told s r q h here =
     let i = h.grouped s.first q here in
-    let low = i.starts.low in
     let high = kept_from s r s.first q.group.from h i.starts (omega arith) in
-    let same : q.group.from ≡ s.first = omega arith in
-    (same, i.told same)
+    grind (arith, high, i)
 
 pub least_ended : (s : Window) (r : Requests) (q : Request) (k : ℕ) → Shows s r → at s s.first ≡ Some q
     → k < q.group.least → has_ended r k ≡ true
@@ -29,12 +27,8 @@ pub after_passed : (r : Requests) (n k : ℕ) (g : Group) → IsMember r n g →
 unfolding is_in_turn
 after_passed r n k g m going after lt =
     let low = m.low in
-    and_right _ _
-    (ap not
-    (some_below_some (keeps_back r k) k n after
-    (and_from _ _
-    (joined_member r g.from g.end n k m.told.group (omega arith) lt (omega arith) ∙ le-leb g.from n low)
-    (ap not going))))
+    let joined = joined_member r g.from g.end n k m.told.group (omega arith) lt (omega arith) ∙ le-leb g.from n low in
+    grind (arith, (some_below_some (keeps_back r k) k n after), joined)
 
 -- who isn't in turn, or has ended, can't be issued
 pub passed_issuable : (l : LinuxRequests) (k : ℕ)

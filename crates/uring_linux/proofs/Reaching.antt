@@ -1,6 +1,6 @@
 -- What is so of the requests of a ring whatever happened: to the members of deferred groups nothing has happened, and not all that is outstanding is deferred.
 use Rattle.std.proofs.Common.{◌≡◌, ◌≢◌, ℕ, suc, ◌<◌, ◌≤◌, ℤ, length, Bool, true, false, not, ◌||◌, List, [], ◌∷◌, refl, ◌∙◌, arith, inl, inr, length-append}
-use Rattle.uring_linux.proofs.Common.{Deferred, Drains, IsNew, LinuxRequests, Requests, Sqe, added_other, after_going_on, and_parts, both_ways, cases_lt, deferred_with, entry_of_accepted_at, false_from_ne_true, has_ended_other, if◌then◌else◌, is_alone, is_among, is_deferred, is_doomed, is_faulty_from, is_in_some, is_in_turn, is_issuable, is_last, is_last_cut_last, is_linked, is_outstanding, is_running, ltb-false, ltb-true, nat_lt, or_cases, or_parts, with_deferred, with_group, with_last_entry, with_ring}
+use Rattle.uring_linux.proofs.Common.{Deferred, Drains, IsNew, LinuxRequests, Requests, Sqe, added_other, after_going_on, and_parts, both_ways, cases_Bool, cases_lt, deferred_with, entry_of_accepted_at, false_from_ne_true, has_ended_other, if◌then◌else◌, is_alone, is_among, is_deferred, is_doomed, is_faulty_from, is_in_some, is_in_turn, is_issuable, is_last, is_last_cut_last, is_linked, is_outstanding, is_running, ltb-false, ltb-true, nat_lt, or_cases, or_parts, with_deferred, with_group, with_last_entry, with_ring}
 use Rattle.uring_linux.specs.LinuxRequests.{no_request, with_accepted, with_cut, with_started, with_ended}
 use Rattle.uring_entry.specs.Requests as manual
 use Rattle.uring_linux.specs.Happenings.{Happening, Call, Start, End, with_entries, after, made_by, MayHappen, MayHaveHappened}
@@ -34,43 +34,21 @@ record IsAmid (r : Requests) (from : ℕ) (deferred : List Deferred) : Type 0 wh
 amid_alone : (r : Requests) (from : ℕ) (xs : List Deferred) → IsAmid r from xs → is_alone r xs ≡ false
 amid_alone r from xs a = grind (arith, not_alone, order_past)
 
-amid_settled : (r : Requests) (d : Drains) → IsAmid r d.from d.deferred
-    → IsSettled (record { requests = r; drains = d })
-amid_settled r d a = grind (arith, amid_alone)
-
 group_settled : (r : Requests) (d : Drains) → IsAmid r d.from d.deferred
     → ((k : ℕ) → suc k ≡ length r.accepted → is_last r k ≡ true)
     → IsSettled (record { requests = r; drains = with_group r d })
-group_settled r d a last = go (not d.ring || is_faulty_from r d.from) refl
-  where
-    go : (b : Bool) → (not d.ring || is_faulty_from r d.from) ≡ b
-        → IsSettled (record { requests = r; drains = if b then with_deferred d (length r.accepted) d.deferred else with_ring (with_deferred d (length r.accepted) (after_going_on r (deferred_with d (length r.accepted)))) d.group })
-    go true e = record {
-      low = omega arith;
-      begins = last;
-      amid = λ k le lt. absurd (omega (arith, le, lt));
-      later = a.later;
-      waiting = let lt = a.low in order_higher (IsWaiting r) 0 d.deferred d.from (length r.accepted) (omega (arith, lt)) a.waiting;
-      gone = inr (amid_alone r d.from d.deferred a);
-    }
-    go false e =
-        let g : Deferred = record { from = d.from; end = length r.accepted; drains = d.group } in
-        let w : IsWaiting r g = grind (arith, (healthy_from r d.from (or_parts (not d.ring) (is_faulty_from r d.from) e).1)) in
-        let all = order_push (IsWaiting r) 0 d.deferred d.from g (omega arith) a.low w a.waiting in
-        record {
-          low = omega arith;
-          begins = last;
-          amid = λ k le lt. absurd (omega (arith, le, lt));
-          later = a.later;
-          waiting = order_still (IsWaiting r) (is_alone r (deferred_with d (length r.accepted))) 0 (deferred_with d (length r.accepted)) (length r.accepted) all;
-          gone = gone_on r 0 (deferred_with d (length r.accepted)) (length r.accepted) (omega arith) all;
-        }
+group_settled r d a last =
+    let n = length r.accepted in
+    elim (cases_Bool (not d.ring || is_faulty_from r d.from)) [
+      | inl e ↦ rw e (grind (arith, amid_alone, (order_higher (IsWaiting r) 0 d.deferred d.from n)))
+      | inr e ↦
+          let g : Deferred = record { from = d.from; end = n; drains = d.group } in
+          let w : IsWaiting r g = grind (arith, (healthy_from r d.from (or_parts (not d.ring) (is_faulty_from r d.from) e).1)) in
+          let all = order_push (IsWaiting r) 0 d.deferred d.from g (omega arith) a.low w a.waiting in
+          rw e (grind (arith, (order_still (IsWaiting r) (is_alone r (deferred_with d n)) 0 (deferred_with d n) n all), (gone_on r 0 (deferred_with d n) n (omega arith) all)))
+    ]
 
 -- An entry is accepted.
-
-waiting_accepted : (r : Requests) (e : Sqe) (g : Deferred) → g.end ≤ length r.accepted → IsWaiting r g
-    → IsWaiting (manual.with_accepted r e) g
-waiting_accepted r e g within w = grind (arith, (accepted_faults r e), last_accepted)
 
 accepted_amid : (l : LinuxRequests) (e : Sqe) → IsSettled l
     → IsAmid (manual.with_accepted l.requests e) l.drains.from l.drains.deferred
@@ -81,82 +59,52 @@ accepted_amid l e s =
     record {
       low = omega arith;
       begins = λ k is. last_accepted r e k (omega (arith, is)) ∙ s.begins k is;
-      idle = λ k le lt.
-          elim (cases_lt k (length r.accepted)) [
-            | inl before ↦ let idle = s.amid k le before in assumption
-            | inr new ↦ let idle = s.later k new in assumption
-          ];
+      idle = λ k le lt. grind (arith, (cases_lt k (length r.accepted)));
       later = λ k le. let new = s.later k (omega (arith, le)) in assumption;
       waiting = order_kept (IsWaiting r) (IsWaiting (manual.with_accepted r e)) 0 l.drains.deferred l.drains.from s.waiting
-          (λ g there some within w. waiting_accepted r e g (omega (arith, within, low)) w);
+          (λ g there some within w. grind (arith, (accepted_faults r e), last_accepted));
     }
 
-accepted_last : (r : Requests) (e : Sqe) → is_linked e ≡ false → (k : ℕ) → suc k ≡ length (manual.with_accepted r e).accepted
-    → is_last (manual.with_accepted r e) k ≡ true
-accepted_last r e free k is = grind (arith, (length-append r.accepted (e ∷ [])), (entry_of_accepted_at r e))
-
 pub accepted_settled : (l : LinuxRequests) (e : Sqe) → IsSettled l → IsSettled (with_accepted l e)
-accepted_settled l e s = go (is_linked e) refl
-  where
-    go : (b : Bool) → is_linked e ≡ b
-        → IsSettled (record { requests = manual.with_accepted l.requests e; drains = if b then with_last_entry (manual.with_accepted l.requests e) (length l.requests.accepted) l.drains else with_group (manual.with_accepted l.requests e) (with_last_entry (manual.with_accepted l.requests e) (length l.requests.accepted) l.drains) })
-    go true linked = amid_settled (manual.with_accepted l.requests e) (with_last_entry (manual.with_accepted l.requests e) (length l.requests.accepted) l.drains) (accepted_amid l e s)
-    go false free = group_settled (manual.with_accepted l.requests e) (with_last_entry (manual.with_accepted l.requests e) (length l.requests.accepted) l.drains) (accepted_amid l e s) (accepted_last l.requests e free)
+accepted_settled l e s =
+    let t = manual.with_accepted l.requests e in
+    let d = with_last_entry t (length l.requests.accepted) l.drains in
+    elim (cases_Bool (is_linked e)) [
+      | inl linked ↦ rw linked (grind (arith, amid_alone, (accepted_amid l e s)))
+      | inr free ↦ rw free (group_settled t d (accepted_amid l e s) (λ k is. grind (arith, (length-append l.requests.accepted (e ∷ [])), (entry_of_accepted_at l.requests e))))
+    ]
 
 -- A call closes.
-
-waiting_cut : (r : Requests) (g : Deferred) → IsWaiting r g → IsWaiting (manual.with_cut r) g
-waiting_cut r g w = grind (arith, last_kept)
-
-waiting_all_cut : (l : LinuxRequests) → IsSettled l → AreWaiting (manual.with_cut l.requests) 0 l.drains.deferred l.drains.from
-waiting_all_cut l s =
-    let r = l.requests in
-    order_kept (IsWaiting r) (IsWaiting (manual.with_cut r)) 0 l.drains.deferred l.drains.from s.waiting (λ g there some within w. waiting_cut r g w)
 
 alone_cut : (r : Requests) (xs : List Deferred) → is_alone (manual.with_cut r) xs ≡ is_alone r xs
 unfolding is_alone
 alone_cut r xs = refl
-
-gone_same : (r t : Requests) (xs : List Deferred) → is_alone t xs ≡ is_alone r xs → HasGoneOn r xs → HasGoneOn t xs
-gone_same r t xs e h = grind arith
 
 -- settled, and no group is amid
 pub record IsBetween (l : LinuxRequests) : Type 0 where
   pub settled : IsSettled l
   pub closed : length l.requests.accepted ≤ l.drains.from
 
-group_closed : (r : Requests) (d : Drains) → length r.accepted ≤ (with_group r d).from
-group_closed r d = grind arith
-
 pub cut_between : (l : LinuxRequests) → IsSettled l → IsBetween (with_cut l)
-cut_between l s = go (nat_lt l.drains.from (length l.requests.accepted)) refl
-  where
-    go : (b : Bool) → nat_lt l.drains.from (length l.requests.accepted) ≡ b
-        → IsBetween (record { requests = manual.with_cut l.requests; drains = if b then with_group (manual.with_cut l.requests) l.drains else l.drains })
-    go true e = record {
-      settled =
-          group_settled (manual.with_cut l.requests) l.drains
-          (record {
-            low = ltb-true _ _ e;
-            begins = λ k is. last_kept l.requests k (s.begins k is);
-            idle = λ k le lt. let idle = s.amid k le lt in assumption;
-            later = λ k le. new_cut l.requests k le (s.later k le);
-            waiting = waiting_all_cut l s;
+cut_between l s =
+    let r = l.requests in
+    let t = manual.with_cut r in
+    let begins : (k : ℕ) → suc k ≡ l.drains.from → is_last t k ≡ true = λ k is. last_kept r k (s.begins k is) in
+    let idle : (k : ℕ) → l.drains.from ≤ k → k < length r.accepted → IsIdle t k = λ k le lt. let idle = s.amid k le lt in assumption in
+    let later : (k : ℕ) → length r.accepted ≤ k → IsNew t k = λ k le. new_cut r k le (s.later k le) in
+    let waiting = order_kept (IsWaiting r) (IsWaiting t) 0 l.drains.deferred l.drains.from s.waiting (λ g there some within w. grind (arith, last_kept)) in
+    elim (cases_Bool (nat_lt l.drains.from (length r.accepted))) [
+      | inl e ↦
+          let low = ltb-true _ _ e in
+          rw e (record {
+            settled = group_settled t l.drains (assumption) (is_last_cut_last r);
+            closed = grind arith;
           })
-          (λ k is. is_last_cut_last l.requests k is);
-      closed = group_closed (manual.with_cut l.requests) l.drains;
-    }
-    go false e = record {
-      settled = record {
-        low = s.low;
-        begins = λ k is. last_kept l.requests k (s.begins k is);
-        amid = λ k le lt. let idle = s.amid k le lt in assumption;
-        later = λ k le. new_cut l.requests k le (s.later k le);
-        waiting = waiting_all_cut l s;
-        gone = gone_same l.requests (manual.with_cut l.requests) l.drains.deferred (alone_cut l.requests l.drains.deferred) s.gone;
-      };
-      closed = ltb-false _ _ e;
-    }
+      | inr e ↦
+          let low = s.low in
+          let gone : HasGoneOn t l.drains.deferred = rw (alone_cut r l.drains.deferred) s.gone in
+          rw e (record { settled = assumption; closed = ltb-false _ _ e })
+    ]
 
 pub entries_settled : (l : LinuxRequests) (entries : List Sqe) → IsSettled l → IsSettled (with_entries l entries)
 entries_settled l [] s = s
@@ -169,48 +117,29 @@ record IsFree (l : LinuxRequests) (n : ℕ) : Type 0 where
   pub low : n < length l.requests.accepted
   pub out : is_in_some l.drains.deferred n ≡ false
 
-goes_not : (doomed held : Bool) → doomed ≡ false → held ≡ true → (doomed || not held) ≡ true → ⊥
-goes_not doomed held a b e = grind arith
-
 issuable_free : (l : LinuxRequests) (n : ℕ) → IsSettled l → is_issuable l n ≡ true → IsFree l n
 issuable_free l n s e =
-    let parts = and_parts (is_outstanding l.requests n) _ e in
-    let rest = and_parts (not (is_running l.requests n)) _ parts.1 in
-    let go = and_parts (is_in_turn l.requests n) _ rest.1 in
     record {
-      low = ltb-true _ _ (and_parts _ _ parts.0).0;
+      low = grind arith;
       out = false_from_ne_true _
           (λ held.
           let h = held_by l.requests 0 l.drains.deferred l.drains.from n s.waiting held in
-          goes_not (is_doomed l.requests n) (is_deferred l n) (not_doomed l.requests h.group n h.waiting h.low h.high) held go.1);
+          grind (arith, (not_doomed l.requests h.group n h.waiting h.low h.high)));
     }
 
 running_free : (l : LinuxRequests) (n : ℕ) → IsSettled l → is_running l.requests n ≡ true → IsFree l n
 running_free l n s e =
-    let started = (and_parts _ _ e).0 in
     record {
-      low =
-          elim (cases_lt n (length l.requests.accepted)) [
-            | inl low ↦ low
-            | inr past ↦ absurd (both_ways _ (s.later n past).started started)
-          ];
+      low = grind (arith, (cases_lt n (length l.requests.accepted)), (s.later n));
       out = false_from_ne_true _
           (λ held.
           let h = held_by l.requests 0 l.drains.deferred l.drains.from n s.waiting held in
-          both_ways _ (h.waiting.idle n h.low h.high).started started);
+          grind (arith, (h.waiting.idle n h.low h.high)));
     }
 
--- who isn't deferred is no member of a group that is
-among_apart : (xs : List Deferred) (n k : ℕ) (g : Deferred) → ((j : ℕ) → is_among j g ≡ true → is_in_some xs j ≡ true)
-    → is_in_some xs n ≡ false → g.from ≤ k → k < g.end → k ≢ n
-among_apart xs n k g there out low high e = grind arith
-
-alone_started : (r : Requests) (n : ℕ) (xs : List Deferred) → is_alone (manual.with_started r n) xs ≡ is_alone r xs
-unfolding is_alone
-alone_started r n xs = refl
-
 started_settled : (l : LinuxRequests) (n : ℕ) → IsBetween l → IsFree l n → IsBetween (with_started l n)
-started_settled l n b f = grind (arith, added_other, order_kept, alone_started)
+unfolding is_alone
+started_settled l n b f = grind (arith, added_other, order_kept)
 
 ended_settled : (l : LinuxRequests) (n : ℕ) (res : ℤ) (bytes : List ℕ) → IsBetween l → IsFree l n
     → IsBetween (with_ended l n res bytes)
@@ -219,26 +148,11 @@ ended_settled l n res bytes b f =
     let r = l.requests in
     let t = manual.with_ended r n res bytes in
     let all = order_kept (IsWaiting r) (IsWaiting t) 0 l.drains.deferred l.drains.from s.waiting
-    (λ g there some within w.
-    let idle : (k : ℕ) → g.from ≤ k → k < g.end → IsIdle t k =
-    λ k le lt.
-    let old = w.idle k le lt in
-    let ended = has_ended_other r n res bytes k (among_apart l.drains.deferred n k g there f.out le lt) ∙ old.ended in
-    assumption
+    (λ g there some within w. grind (arith, has_ended_other))
     in
-    assumption)
-    in
-    record {
-      settled = record {
-        low = s.low;
-        begins = s.begins;
-        amid = λ k le lt. let c = b.closed in absurd (omega (arith, le, lt, c));
-        later = grind (arith, has_ended_other);
-        waiting = order_still (IsWaiting t) (is_alone t l.drains.deferred) 0 l.drains.deferred l.drains.from all;
-        gone = gone_on t 0 l.drains.deferred l.drains.from s.low all;
-      };
-      closed = b.closed;
-    }
+    let waiting = order_still (IsWaiting t) (is_alone t l.drains.deferred) 0 l.drains.deferred l.drains.from all in
+    let gone = gone_on t 0 l.drains.deferred l.drains.from s.low all in
+    grind (arith, has_ended_other)
 
 -- Whatever happened.
 

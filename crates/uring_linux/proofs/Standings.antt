@@ -57,20 +57,17 @@ fine_let_in r n e =
     and_from _ _ (past (fault_of (entry_of r n)) parts.0) (ap not parts.1)
   where
     past : (fault : Option Fault) → is_some fault ≡ false → comes_past fault ≡ true
-    past None none = refl
-    past (Some fault) none = absurd (let g : true ≡ false = none in cc)
+    past fault none = grind arith
 
 -- who is not in a group with a fault has none
 pub healthy : (r : Requests) (n : ℕ) → n < length r.accepted → is_doomed r n ≡ false
     → is_faulty (entry_of r n) ≡ false
 unfolding is_in_faulty_group
 healthy r n lt e =
+    let some = some_below_some (λ m. is_in_group r m n && has_fault r m) (length r.accepted) n lt in
     let none = (or_parts _ _ e).0 in
     elim (cases_Bool (is_faulty (entry_of r n))) [
-      | inl faulty ↦
-          absurd
-          (both_ways _ none
-          (some_below_some (λ m. is_in_group r m n && has_fault r m) (length r.accepted) n lt (and_from _ _ (is_in_own_group r n) (or_left _ _ faulty))))
+      | inl faulty ↦ absurd (both_ways _ none (some (and_from _ _ (is_in_own_group r n) (or_left _ _ faulty))))
       | inr fine ↦ fine
     ]
 
@@ -105,10 +102,8 @@ pub dispatch_started : (s t : Window) (d : KeptDrains) (b : Bool) (room left : �
     → t ≡ record s { items = set s.items (n - s.first) (record q { is_running = true }) }
     → ShowsRequests (dispatch_of t d b left amid) (with_started l n)
 dispatch_started s t d b room left between amid l n q h here going et =
-    let out = and_parts _ _ going in
-    let open_ = not-true _ out.1 in
-    let shows = subst (λ (x : Window). Shows x (manual.with_started l.requests n)) (sym et) (started_shows s q l.requests n (shown s d b room between l h) here open_) in
-    dispatch_shows t d b left amid (with_started l n) shows h.held.drains h.held.skipped
+    let shows = started_shows s q l.requests n (shown s d b room between l h) here (grind arith) in
+    dispatch_shows t d b left amid (with_started l n) (rw et shows) h.held.drains h.held.skipped
 
 pub dispatch_ended : (s t : Window) (d k : KeptDrains) (b : Bool) (room left : ℕ) (between amid : Bool) (l : LinuxRequests) (n : ℕ) (q : Request) (res : ℤ) (bytes : List ℕ) (failed : Bool)
     → ShowsRequests (dispatch_of s d b room between) l → at s n ≡ Some q
@@ -118,10 +113,8 @@ pub dispatch_ended : (s t : Window) (d k : KeptDrains) (b : Bool) (room left : �
     → ((r : Requests) → Shows t r → k.drains ≡ record d.drains { deferred = after_going_on r d.drains.deferred })
     → ShowsRequests (dispatch_of t k b left amid) (with_ended l n res bytes)
 dispatch_ended s t d k b room left between amid l n q res bytes failed h here going ef g f =
-    let out = and_parts _ _ going in
-    let open_ = not-true _ out.1 in
     let r = manual.with_ended l.requests n res bytes in
-    let shows = g l.requests res bytes (shown s d b room between l h) open_ ef in
+    let shows = g l.requests res bytes (shown s d b room between l h) (not-true _ (and_parts _ _ going).1) ef in
     dispatch_shows t k b left amid (with_ended l n res bytes) shows
     (f r shows ∙ ap (λ (x : Drains). record x { deferred = after_going_on r x.deferred }) h.held.drains) h.held.skipped
 

@@ -49,15 +49,7 @@ started_counts s t d b room between n q here open_ idle et =
     let long = length-set s.items (n - s.first) (record q { is_running = true }) in
     let unended = count_written unended_counts s n q (record q { is_running = true }) here in
     let running = count_written running_counts s n q (record q { is_running = true }) here in
-    let was : one_if (runs (Some q)) ≡ 0 = ap (λ x. one_if (x && not q.has_ended)) idle in
-    let now : one_if (runs (Some (record q { is_running = true }))) ≡ 1 = ap (λ x. one_if (not x)) open_ in
-    record {
-      accepted = ap (λ (x : Window). end_of x) et ∙ ap (λ x. s.first + x) long;
-      outstanding = ap (λ (x : Window). unended_among x.items) et ∙ omega arith;
-      running = ap (λ (x : Window). running_among x.items) et ∙ omega arith;
-      room = omega arith;
-      between = refl;
-    }
+    rw et (grind arith)
 
 pub started_dispatch : (s t : Window) (d : KeptDrains) (o r room : ℕ) (between : Bool) (n : ℕ) (q : Request)
     → IsDispatch s d o r room between → at s n ≡ Some q → q.has_ended ≡ false → q.is_running ≡ false
@@ -78,18 +70,7 @@ lessens s t n q failed here open_ et =
     let long = length-set s.items (n - s.first) ended in
     let unended = count_written unended_counts s n q ended here in
     let running = count_written running_counts s n q ended here in
-    let was : one_if (runs (Some q)) ≡ one_if q.is_running = ap (λ x. one_if (q.is_running && not x)) open_ ∙ ap one_if (and-true q.is_running) in
-    let open_one : one_if (is_unended (Some q)) ≡ 1 = ap (λ x. one_if (not x)) open_ in
-    let items : t.items ≡ set s.items (n - s.first) ended = ap (λ (x : Window). x.items) et in
-    let a = ap unended_among items in
-    let b = ap running_among items in
-    record {
-      end = ap (λ (x : Window). end_of x) et ∙ ap (λ x. s.first + x) long;
-      first = ap (λ (x : Window). x.first) et;
-      room = ap (λ (x : Window). x.room) et;
-      outstanding = omega arith;
-      running = omega arith;
-    }
+    rw et (grind arith)
 
 pub ended_counts : (s t : Window) (d k : KeptDrains) (b : Bool) (room : ℕ) (between : Bool) (q : Request)
     → q.is_running ≡ false → Lessens s t q

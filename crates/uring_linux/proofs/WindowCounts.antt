@@ -16,9 +16,7 @@ among_set : (p : Option Request → Bool) (xs : List Request) (i : ℕ) (q : Req
     → among p (set xs i q) + one_if (p (slice_get xs i)) ≡ among p xs + one_if (p (Some q))
 among_set p xs i q lt =
     let changed = count_below_changed (λ k. p (slice_get xs k)) (λ k. p (slice_get (set xs i q) k)) (length xs) i lt (λ j ne. ap p (set_other xs q i j ne)) in
-    let here : one_if (p (slice_get (set xs i q) i)) ≡ one_if (p (Some q)) = ap (λ o. one_if (p o)) (is_set_here xs q i lt) in
-    let long : among p (set xs i q) ≡ count_below (λ k. p (slice_get (set xs i q) k)) (length xs) = ap (count_below (λ k. p (slice_get (set xs i q) k))) (length-set xs i q) in
-    omega arith
+    grind (arith, changed, (is_set_here xs q i lt), (length-set xs i q))
 
 pub unended_none : unended_among [] ≡ 0
 unfolding unended_among
@@ -46,18 +44,11 @@ among_shown p P xs first told none =
 pub at_place : (s : Window) (k : ℕ) (q : Request) → slice_get s.items k ≡ Some q → at s (s.first + k) ≡ Some q
 at_place s k q e = grind (arith, at_high)
 
-twice : (a b : Bool) → ((a && not b) && not b) ≡ (a && not b)
-twice a b = grind arith
-
 pub unended_shown : (s : Window) (r : Requests) → Shows s r → unended_among s.items ≡ outstanding_in r
 unfolding unended_among
 unended_shown s r h =
     among_shown is_unended (is_outstanding r) s.items s.first
-    (λ k q e.
-    let here = at_place s k q e in
-    let w = at_within s (s.first + k) q here in
-    ap not (h.told (s.first + k) q here).ended
-    ∙ sym (ap (λ b. b && not (has_ended r (s.first + k))) (lt-ltb (s.first + k) (length r.accepted) (omega (arith, w.high, h.count)))))
+    (λ k q e. grind (arith, (at_place s k q e), (at_within s (s.first + k) q), (h.told (s.first + k) q)))
     (λ n lt. and_right _ _ (ap not (h.gone n lt)))
     ∙ ap (count_below (is_outstanding r)) h.count
 
@@ -65,10 +56,7 @@ pub running_shown : (s : Window) (r : Requests) → Shows s r → running_among 
 unfolding running_among
 running_shown s r h =
     among_shown runs (is_running r) s.items s.first
-    (λ k q e.
-    let t = h.told (s.first + k) q (at_place s k q e) in
-    ap (λ b. b && not q.has_ended) t.running ∙ ap (λ b. is_running r (s.first + k) && not b) t.ended
-    ∙ twice (has_started r (s.first + k)) (has_ended r (s.first + k)))
+    (λ k q e. grind (arith, (h.told (s.first + k) q (at_place s k q e))))
     (λ n lt. and_right _ _ (ap not (h.gone n lt)))
     ∙ ap (count_below (is_running r)) h.count
 
@@ -114,10 +102,7 @@ module _ {p : Option Request → Bool} {f : List Request → ℕ} (c : Counts p 
   count_written s n q t e =
       let here = kept_at s n q e in
       let change = among_set p s.items (n - s.first) t (slice_get_within s.items (n - s.first) q here) in
-      let was : one_if (p (slice_get s.items (n - s.first))) ≡ one_if (p (Some q)) = ap (λ o. one_if (p o)) here in
-      let after = c.is (set s.items (n - s.first) t) in
-      let before = c.is s.items in
-      omega arith
+      grind (arith, change, here, (c.is (set s.items (n - s.first) t)), (c.is s.items))
 
   pub count_same : (s : Window) (n : ℕ) (q t : Request) → at s n ≡ Some q → p (Some t) ≡ p (Some q)
       → f (set s.items (n - s.first) t) ≡ f s.items
@@ -127,19 +112,13 @@ module _ {p : Option Request → Bool} {f : List Request → ℕ} (c : Counts p 
   pub count_some : (s : Window) (n : ℕ) (q : Request) → at s n ≡ Some q → one_if (p (Some q)) ≤ f s.items
   count_some s n q e =
       let here = kept_at s n q e in
-      let all = c.is s.items in
-      elim (cases_Bool (p (Some q))) [
-        | inl passes ↦
-            let one : one_if (p (Some q)) ≡ 1 = ap one_if passes in
-            let some = count_below_some (λ k. p (slice_get s.items k)) (length s.items) (n - s.first) (slice_get_within s.items (n - s.first) q here) (ap p here ∙ passes) in
-            omega arith
-        | inr fails ↦ let none : one_if (p (Some q)) ≡ 0 = ap one_if fails in omega arith
-      ]
+      let some = count_below_some (λ k. p (slice_get s.items k)) (length s.items) (n - s.first) (slice_get_within s.items (n - s.first) q here) in
+      grind (arith, some, here, (c.is s.items), (cases_Bool (p (Some q))))
 
 pub unended_one : (s : Window) (n : ℕ) (q : Request) → at s n ≡ Some q → is_unended (Some q) ≡ true
     → 0 < unended_among s.items
 unended_one s n q e open_ =
-    let some = count_some unended_counts s n q e in let one : one_if (is_unended (Some q)) ≡ 1 = ap one_if open_ in omega arith
+    grind (arith, (count_some unended_counts s n q e))
 
 -- Whatever room there is.
 

@@ -9,8 +9,7 @@ use Rattle.uring_linux.proofs.WindowLemmas.{at_low, at_high}
 -- Lists.
 
 pub push_here : (xs : List Request) (x : Request) → slice_get (xs ++ x ∷ []) (length xs) ≡ Some x
-push_here xs x =
-    slice_get-get_or (xs ++ x ∷ []) (length xs) x (omega (arith, length-append xs (x ∷ []))) ∙ ap Some (get_or-append_seam xs x [] x)
+push_here xs x = grind (arith, (length-append xs (x ∷ [])), (get_or-append_seam xs x [] x), slice_get-get_or)
 
 pub push_other : (xs : List Request) (x : Request) (k : ℕ) → k ≢ length xs
     → slice_get (xs ++ x ∷ []) k ≡ slice_get xs k
@@ -29,13 +28,7 @@ set_other xs x i k ne = grind (arith, (length-set xs i x), (get_or-set_other xs 
 -- What is kept.
 
 pub at_within : (s : Window) (n : ℕ) (q : Request) → at s n ≡ Some q → IsWithin s n
-at_within s n q e =
-    elim (cases_lt n s.first) [
-      | inl low ↦ absurd (let f : None ≡ Some q = sym (at_low s n low) ∙ e in cc)
-      | inr high ↦
-          let lt = slice_get_within s.items (n - s.first) q (sym (at_high s n high) ∙ e) in
-          record { low = high; high = omega arith }
-    ]
+at_within s n q e = grind (arith, (cases_lt n s.first), (at_low s n), (at_high s n), (slice_get_within s.items (n - s.first) q))
 
 pub at_push_here : (s : Window) (q : Request) (room : ℕ)
     → at (record { first = s.first; items = s.items ++ q ∷ []; room = room }) (end_of s) ≡ Some q
@@ -72,16 +65,11 @@ shows s r h grouped = assumption
 
 pub refused_accepted : (r : Requests) (e : Sqe) (k : ℕ) → k < length r.accepted
     → is_refused_drain (with_accepted r e) k ≡ is_refused_drain r k
-refused_accepted r e k lt =
-    ap (λ b. b && has_skipped (with_accepted r e) k) (entry_same r e asks_to_drain k lt)
-    ∙ ap (λ b. asks_to_drain (entry_of r k) && b)
-    (some_below_same (λ m. asks_to_skip (entry_of (with_accepted r e) m)) (λ m. asks_to_skip (entry_of r m)) (k + 1)
-    (λ m low. entry_same r e asks_to_skip m (omega arith)))
+refused_accepted r e k lt = grind (arith, (entry_same r e asks_to_drain k lt), (entry_same r e asks_to_skip), some_below_same)
 
 pub last_accepted : (r : Requests) (e : Sqe) (k : ℕ) → k < length r.accepted
     → is_last (with_accepted r e) k ≡ is_last r k
-last_accepted r e k lt =
-    ap (λ b. b || list_any (λ cut. cut == k + 1) r.cuts) (entry_same r e (λ x. not (is_linked x)) k lt)
+last_accepted r e k lt = grind (arith, (entry_same r e is_linked k lt))
 
 tells_accepted : (q : Request) (r : Requests) (e : Sqe) (k : ℕ) → Tells q r k → k < length r.accepted
     → IsNew r (length r.accepted) → Tells q (with_accepted r e) k
@@ -128,8 +116,7 @@ written_keeps s q r t n h w f here =
       count = omega (arith, long, count, f.count);
       told = λ k x is.
           elim (cases_eq k n) [
-            | inl same ↦
-                rw (same_Some x q (sym is ∙ ap (at _) same ∙ at_set_here s q n w), same) here
+            | inl same ↦ grind (arith, (at_set_here s q n w))
             | inr other ↦ f.others x k other (h.told k x (sym (at_set_other s q n k w.low other) ∙ is))
           ];
       gone = λ k lt. f.gone k (h.gone k lt);
@@ -241,30 +228,14 @@ pub skipped_accepted : (r : Requests) (e : Sqe) (b : Bool)
     → b ≡ some_below (λ m. asks_to_skip (entry_of r m)) (length r.accepted)
     → (b || asks_to_skip e) ≡ some_below (λ m. asks_to_skip (entry_of (with_accepted r e) m)) (length r.accepted + 1)
 skipped_accepted r e b is =
-    let more : suc (length r.accepted) ≡ length r.accepted + 1 = omega arith in
-    ap (λ c. c || asks_to_skip e) is
-    ∙ ap (λ c. c || asks_to_skip e)
-    (some_below_same (λ m. asks_to_skip (entry_of r m)) (λ m. asks_to_skip (entry_of (with_accepted r e) m)) (length r.accepted)
-    (λ m low. sym (entry_same r e asks_to_skip m low)))
-    ∙ ap (λ x. some_below (λ m. asks_to_skip (entry_of (with_accepted r e) m)) (length r.accepted) || asks_to_skip x) (sym (entry_of_accepted_at r e))
-    ∙ ap (some_below (λ m. asks_to_skip (entry_of (with_accepted r e) m))) more
+    let more : length r.accepted + 1 ≡ suc (length r.accepted) = omega arith in
+    rw (is, more, entry_of_accepted_at r e, some_below_same (λ m. asks_to_skip (entry_of (with_accepted r e) m)) (λ m. asks_to_skip (entry_of r m)) (length r.accepted) (λ m low. entry_same r e asks_to_skip m low)) refl
 
 pub tells_new : (r : Requests) (e : Sqe) (b : Bool) (n : ℕ) → IsNew r (length r.accepted)
     → b ≡ has_skipped (with_accepted r e) (length r.accepted)
     → Tells (new_request e b n) (with_accepted r e) (length r.accepted)
 tells_new r e b n new is =
-    let here = sym (entry_of_accepted_at r e) in
-    record {
-      entry = here;
-      faulty = ap is_faulty here;
-      refused = ap (λ x. asks_to_drain x && b) here ∙ ap (λ c. asks_to_drain (entry_of (with_accepted r e) (length r.accepted)) && c) is;
-      last =
-          ap (λ x. not (is_linked x)) here
-          ∙ sym (ap (λ c. not (is_linked (entry_of (with_accepted r e) (length r.accepted))) || c) new.cut ∙ or-false _);
-      running = sym (and_left _ _ new.started);
-      ended = sym new.ended;
-      failed = sym (has_failed_unended (with_accepted r e) (length r.accepted) new.ended);
-    }
+    grind (arith, (entry_of_accepted_at r e), (has_failed_unended (with_accepted r e) (length r.accepted) new.ended), or-false)
 
 pub none_shows : Shows (record { first = 0; items = []; room = 0 }) no_request
 none_shows = grind (arith, at_within)
