@@ -1,6 +1,6 @@
 -- Groups that are deferred: nothing has happened to their members, and once some went on, not all that is outstanding is deferred.
-use Rattle.std.proofs.Common.{◌≡◌, ℕ, suc, ◌-◌, ◌<◌, ◌≤◌, length, Bool, true, false, not, ◌&&◌, ◌⊎◌, List, [], ◌∷◌, refl, ◌∙◌, ap, arith, inl, inr}
-use Rattle.uring_linux.proofs.Common.{Deferred, Requests, after_going_on, and_from, and_left, and_right, both_ways, cases_Bool, cases_lt, entry_of, false_from_ne_true, from_drain, has_ended, has_failed, has_failed_unended, has_fault, has_started, if◌then◌else◌, is_after_failure, is_alone, is_among, is_doomed, is_in_faulty_group, is_in_group, is_in_some, is_joined, is_joined_no, is_last, is_soft, or_cases, or_from, or_right, some_below_none, some_below_some, still_deferred}
+use Rattle.std.proofs.Common.{◌≡◌, ℕ, suc, ◌-◌, ◌<◌, ◌≤◌, length, true, false, not, ◌&&◌, ◌⊎◌, List, [], ◌∷◌, refl, ap, arith, inl, inr}
+use Rattle.uring_linux.proofs.Common.{Deferred, Requests, after_going_on, and_from, both_ways, cases_Bool, cases_lt, entry_of, from_drain, has_ended, has_failed, has_failed_unended, has_fault, has_started, if◌then◌else◌, is_after_failure, is_alone, is_among, is_doomed, is_in_faulty_group, is_in_group, is_in_some, is_joined, is_joined_no, is_last, is_soft, or_cases, or_from, or_right, some_below_none, some_below_some}
 use Rattle.uring_linux.proofs.InOrder.{InOrder, order_spans, order_above, order_after}
 
 -- nothing has happened to n

@@ -1,5 +1,5 @@
 -- What the dispatcher shows after each event.
-use Rattle.std.proofs.Common.{◌≡◌, ℕ, ◌+◌, length, Bool, true, false, ◌||◌, ◌==◌, [], ◌∷◌, ◌++◌, refl, sym, ◌∙◌, ap, subst, arith, length-append}
+use Rattle.std.proofs.Common.{◌≡◌, ℕ, length, Bool, true, false, ◌||◌, ◌==◌, [], ◌∷◌, refl, sym, ◌∙◌, ap, arith, length-append}
 use Rattle.uring_linux.proofs.Common.{Drains, KeptDrains, LinuxRequests, Request, Requests, Shows, ShowsRequests, Sqe, Tells, Window, accepted_drains, asks_to_skip, cut_drains, dispatch_of, end_of, entry_of, is_linked, new_request, no_drains, some_below, with_last_entry, with_request}
 use Rattle.uring_linux.specs.LinuxRequests.{no_request, with_accepted, with_cut}
 use Rattle.uring_entry.specs.Requests as manual

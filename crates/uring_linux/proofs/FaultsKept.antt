@@ -1,6 +1,6 @@
 -- Groups with a fault: which they are stays, as more is accepted after them, starts and ends.
-use Rattle.std.proofs.Common.{◌≡◌, ℕ, suc, ◌<◌, ◌≤◌, ℤ, min, max, length, true, false, not, ◌&&◌, ◌||◌, List, [], ◌∷◌, refl, ◌∙◌, ap, arith, length-append}
-use Rattle.uring_linux.proofs.Common.{Requests, Sqe, and_from, and_parts, both_ways, entry_of, entry_same, false_from_ne_true, has_fault, is_faulty, is_faulty_from, is_in_faulty_group, is_in_group, is_joined, is_joined_yes, is_last, is_last_cut, is_refused_drain, le-leb, leb-true, nat_le, some_below_in, some_below_out, some_below_same, some_below_some}
+use Rattle.std.proofs.Common.{◌≡◌, ℕ, suc, ◌<◌, ◌≤◌, ℤ, min, max, length, true, false, not, ◌&&◌, List, [], ◌∷◌, refl, ◌∙◌, ap, arith, length-append}
+use Rattle.uring_linux.proofs.Common.{Requests, Sqe, and_from, and_parts, both_ways, entry_same, false_from_ne_true, has_fault, is_faulty, is_faulty_from, is_in_faulty_group, is_in_group, is_joined, is_joined_yes, is_last, is_last_cut, le-leb, leb-true, nat_le, some_below_in, some_below_out, some_below_same, some_below_some}
 use Rattle.uring_entry.specs.Requests as manual
 use Rattle.uring_linux.proofs.WindowEvents.{refused_accepted, last_accepted}
 

@@ -1,6 +1,6 @@
 -- With something outstanding, the least outstanding request that isn't deferred runs or can be issued.
-use Rattle.std.proofs.Common.{◌≡◌, ℕ, ◌<◌, ◌≤◌, length, Bool, true, false, not, ◌&&◌, ◌⊎◌, List, Some, is_some, ◌∙◌, ap, arith, inl, inr}
-use Rattle.uring_linux.proofs.Common.{Deferred, IsLeast, LinuxRequests, Requests, and_cases, and_from, and_left, and_parts, and_right, both_ways, cases_Bool, cases_lt, count_below_some, has_ended, is_alone, is_deferred, is_in_some, is_in_turn, is_issuable, is_outstanding, is_running, is_some_least_below, is_some_value, keeps_back, least_below_tells, least_free_of, least_of, lt-ltb, next_of, not-false, not-true, running_in, some_below, some_below_in, some_below_none, some_below_some}
+use Rattle.std.proofs.Common.{◌≡◌, ℕ, ◌<◌, length, Bool, true, false, not, ◌&&◌, ◌⊎◌, List, Some, is_some, ◌∙◌, ap, arith, inl, inr}
+use Rattle.uring_linux.proofs.Common.{Deferred, IsLeast, LinuxRequests, Requests, and_from, cases_Bool, cases_lt, count_below_some, has_ended, is_alone, is_deferred, is_in_some, is_in_turn, is_issuable, is_outstanding, is_running, is_some_least_below, is_some_value, keeps_back, least_below_tells, least_free_of, least_of, next_of, not-false, running_in, some_below, some_below_in, some_below_none, some_below_some}
 use Rattle.uring_linux.specs.Happenings.{Happening, made_by, MayHaveHappened}
 use Rattle.uring_linux.specs.Laws.{GoesOn}
 use Rattle.uring_linux.proofs.Deferring.{HasGoneOn, held_by, after_joined}

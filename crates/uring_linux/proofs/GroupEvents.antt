@@ -1,6 +1,6 @@
 -- What each event makes of what is kept of a group.
-use Rattle.std.proofs.Common.{◌≡◌, ◌≢◌, ℕ, suc, ◌+◌, ◌<◌, ◌≤◌, ℤ, List, length, Bool, true, false, not, ◌&&◌, ◌==◌, Some, None, sym, ◌∙◌, ap, subst, arith, inl, inr}
-use Rattle.uring_linux.proofs.Common.{Group, IsGroup, IsGrouped, IsMember, Requests, Sqe, Starts, TellsGroup, cases_lt, entry_of, entry_same, first_broken, first_broken_accepted, first_broken_elsewhere, first_broken_ended, first_broken_more, first_member_more, first_member_none, first_member_same, group_accepted, group_ended, group_joined, group_new, groups_apart, has_ended, has_ended_other, has_ended_same, has_fault, if◌then◌else◌, is_faulty, is_last, is_last_cut, is_soft, is_success, with_accepted, with_cut, with_end, with_ended, with_member, with_started}
+use Rattle.std.proofs.Common.{◌≡◌, ◌≢◌, ℕ, suc, ◌+◌, ◌<◌, ◌≤◌, ℤ, List, length, Bool, true, false, not, ◌&&◌, ◌==◌, Some, None, sym, ◌∙◌, ap, subst, arith}
+use Rattle.uring_linux.proofs.Common.{Group, IsGroup, IsGrouped, IsMember, Requests, Sqe, Starts, TellsGroup, entry_of, entry_same, first_broken, first_broken_accepted, first_broken_elsewhere, first_broken_ended, first_broken_more, first_member_more, first_member_none, first_member_same, group_accepted, group_ended, group_joined, group_new, groups_apart, has_ended, has_ended_other, has_ended_same, has_fault, if◌then◌else◌, is_faulty, is_last, is_last_cut, is_soft, is_success, with_accepted, with_cut, with_end, with_ended, with_member}
 use Rattle.uring_linux.proofs.WindowEvents.{refused_accepted, last_accepted, last_kept}
 
 -- An entry is accepted.
@@ -48,8 +48,6 @@ told_new r e faulty closed none is =
 pub starts_accepted : (r : Requests) (e : Sqe) (n from : ℕ) → n < length r.accepted → Starts r n from
     → Starts (with_accepted r e) n from
 starts_accepted r e n from lt s = grind (arith, last_accepted)
-
--- A request starts.
 
 -- A call closes.
 

@@ -1,6 +1,6 @@
 -- What is kept of groups shows them, whatever happens.
-use Rattle.std.proofs.Common.{◌≡◌, ◌≢◌, ℕ, suc, ◌+◌, ◌-◌, ◌<◌, ◌≤◌, ℤ, List, length, Bool, true, false, not, ◌&&◌, [], ◌∷◌, ◌++◌, set, Option, Some, None, refl, sym, ◌∙◌, ap, subst, arith, inl, inr, length-append}
-use Rattle.uring_linux.proofs.Common.{Group, IsAmid, IsGrouped, IsMember, IsWithin, Request, Requests, Shows, Sqe, Starts, Tells, TellsGroup, Window, at, both_ways, cases_eq, cases_lt, end_of, entry_of, groups_apart, has_ended, has_fault, is_last, is_soft, is_success, with_accepted, with_cut, with_end, with_ended, with_member, with_started}
+use Rattle.std.proofs.Common.{◌≡◌, ◌≢◌, ℕ, suc, ◌+◌, ◌-◌, ◌<◌, ◌≤◌, ℤ, List, length, Bool, true, false, not, ◌&&◌, [], ◌∷◌, ◌++◌, set, Option, Some, None, refl, sym, ◌∙◌, ap, arith, inl, inr, length-append}
+use Rattle.uring_linux.proofs.Common.{Group, IsAmid, IsGrouped, IsMember, IsWithin, Request, Requests, Shows, Sqe, Starts, Tells, TellsGroup, Window, at, cases_eq, end_of, groups_apart, has_ended, has_fault, is_last, is_soft, is_success, with_accepted, with_cut, with_end, with_ended, with_member, with_started}
 use Rattle.uring_linux.proofs.WindowLemmas.{kept}
 use Rattle.uring_linux.proofs.WindowEvents.{Keeps, keeps, shows, at_within, at_push_here, at_push_other, at_set_here, at_set_other, accepted_keeps, started_keeps, ended_keeps, cut_keeps, cut_keeps_none}
 use Rattle.uring_linux.proofs.GroupEvents.{told_closed, told_joined, told_new, starts_accepted, grouped_cut, told_ended, starts_ended, told_elsewhere}

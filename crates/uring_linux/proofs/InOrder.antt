@@ -1,6 +1,6 @@
 -- Groups that a drain holds back, one after the other: where their members stand, and who goes on before whom.
-use Rattle.std.proofs.Common.{◌≡◌, ℕ, ◌<◌, ◌≤◌, Bool, true, false, not, ◌&&◌, ◌||◌, List, [], ◌∷◌, ◌++◌, refl, arith, ◌⊎◌, inl, inr}
-use Rattle.uring_linux.proofs.Common.{Deferred, and_from, and_parts, both_ways, cases_Bool, from_drain, if◌then◌else◌, is_among, is_in_some, is_none, le-leb, le-ltb, leb-true, lt-ltb, ltb-true, or_cases, or_from, or_left, or_right, still_deferred}
+use Rattle.std.proofs.Common.{◌≡◌, ℕ, ◌<◌, ◌≤◌, Bool, true, false, not, ◌&&◌, ◌||◌, List, [], ◌∷◌, ◌++◌, refl, arith, ◌⊎◌}
+use Rattle.uring_linux.proofs.Common.{Deferred, and_from, and_parts, both_ways, cases_Bool, from_drain, if◌then◌else◌, is_among, is_in_some, is_none, le-leb, le-ltb, leb-true, lt-ltb, ltb-true, or_from, or_left, or_right, still_deferred}
 
 -- groups of which this holds, from one number on and before another, one after the other
 abbrev pub InOrder : (Deferred → Type 0) → ℕ → List Deferred → ℕ → Type 0

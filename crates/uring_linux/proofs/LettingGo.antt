@@ -1,5 +1,5 @@
 -- What stays so if requests at the front, which have ended in whole groups, are let go.
-use Rattle.std.proofs.Common.{◌≡◌, ℕ, zero, suc, ◌+◌, ◌-◌, ◌<◌, ◌≤◌, length, Bool, false, not, List, [], ◌∷◌, drop, slice_get, Option, Some, refl, sym, ◌∙◌, ap, arith, inl, inr, length-drop}
+use Rattle.std.proofs.Common.{◌≡◌, ℕ, zero, suc, ◌+◌, ◌-◌, ◌<◌, ◌≤◌, length, Bool, false, not, List, [], ◌∷◌, drop, slice_get, Option, Some, refl, sym, ◌∙◌, ap, arith, length-drop}
 use Rattle.uring_linux.proofs.Common.{IsOver, KeptDrains, LinuxRequests, Request, Requests, Shows, ShowsRequests, Window, and_right, at, cases_lt, count_below, count_below_apart, count_below_same, count_below_zero, dispatch_of, end_of, is_unended, running_among, runs, unended_among}
 use Rattle.uring_linux.proofs.WindowLemmas.{at_high, kept}
 use Rattle.uring_linux.proofs.WindowEvents.{at_within, roomed}

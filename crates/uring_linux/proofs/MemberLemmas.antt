@@ -1,6 +1,6 @@
 -- What the definitions say of a member, from its group.
 use Rattle.std.proofs.Common.{◌≡◌, ℕ, ◌-◌, ◌<◌, ◌≤◌, length, Bool, false, not, ◌&&◌, leb, Option, Some, None, is_some, refl, sym, ◌∙◌, ap, arith, inl, inr}
-use Rattle.uring_linux.proofs.Common.{IsGroup, Requests, and-true, and_left, and_right, cases_lt, faulty_member_of, first_broken, first_member, first_of, has_ended, has_fault, if_before, if◌then◌else◌, in_group_member, is_before, is_in_faulty_group, is_in_group, is_in_turn, is_joined, is_joined_yes, is_last, is_some_least_below, joined_member, keeps_back, le-leb, le-ltb, least_below, least_below_none, least_below_out, least_below_same, least_below_some, least_below_tells, lt-leb, lt-ltb}
+use Rattle.uring_linux.proofs.Common.{IsGroup, Requests, and-true, and_left, and_right, cases_lt, faulty_member_of, first_broken, first_member, first_of, has_ended, has_fault, if_before, in_group_member, is_before, is_in_faulty_group, is_in_group, is_in_turn, is_joined, is_joined_yes, is_last, is_some_least_below, joined_member, keeps_back, le-ltb, least_below, least_below_none, least_below_out, least_below_same, least_below_some, least_below_tells, lt-ltb}
 use Rattle.uring_entry.specs.Why.{failed_member_of}
 use Rattle.uring_entry.proofs.WhyLemmas.{failed_member_before, failed_member_none}
 

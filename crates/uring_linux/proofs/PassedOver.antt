@@ -1,6 +1,6 @@
 -- What a search may pass over: requests that have ended, and members of a group after one that hasn't.
-use Rattle.std.proofs.Common.{◌≡◌, ℕ, ◌+◌, ◌-◌, ◌<◌, ◌≤◌, Bool, true, false, not, ◌&&◌, Some, ◌∙◌, ap, arith}
-use Rattle.uring_linux.proofs.Common.{Group, IsMember, LinuxRequests, Request, Requests, Shows, TellsGroup, Window, and_from, and_right, at, count_below, count_below_apart, count_below_zero, end_of, has_ended, is_in_turn, is_issuable, is_outstanding, joined_member, keeps_back, le-leb, one_if, some_below_some}
+use Rattle.std.proofs.Common.{◌≡◌, ℕ, ◌+◌, ◌-◌, ◌<◌, ◌≤◌, Bool, true, false, ◌&&◌, Some, ◌∙◌, arith}
+use Rattle.uring_linux.proofs.Common.{Group, IsMember, LinuxRequests, Request, Requests, Shows, TellsGroup, Window, at, count_below, count_below_apart, count_below_zero, end_of, has_ended, is_in_turn, is_issuable, is_outstanding, joined_member, keeps_back, le-leb, one_if, some_below_some}
 use Rattle.uring_linux.proofs.GroupsShown.{kept_from}
 
 -- Before the least that is kept of the first group, all have ended.

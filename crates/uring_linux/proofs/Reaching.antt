@@ -1,6 +1,6 @@
 -- What is so of the requests of a ring whatever happened: to the members of deferred groups nothing has happened, and not all that is outstanding is deferred.
-use Rattle.std.proofs.Common.{◌≡◌, ◌≢◌, ℕ, suc, ◌<◌, ◌≤◌, ℤ, length, Bool, true, false, not, ◌||◌, List, [], ◌∷◌, refl, ◌∙◌, arith, inl, inr, length-append}
-use Rattle.uring_linux.proofs.Common.{Deferred, Drains, IsNew, LinuxRequests, Requests, Sqe, added_other, after_going_on, and_parts, both_ways, cases_Bool, cases_lt, deferred_with, entry_of_accepted_at, false_from_ne_true, has_ended_other, if◌then◌else◌, is_alone, is_among, is_deferred, is_doomed, is_faulty_from, is_in_some, is_in_turn, is_issuable, is_last, is_last_cut_last, is_linked, is_outstanding, is_running, ltb-false, ltb-true, nat_lt, or_cases, or_parts, with_deferred, with_group, with_last_entry, with_ring}
+use Rattle.std.proofs.Common.{◌≡◌, ℕ, suc, ◌<◌, ◌≤◌, ℤ, length, true, false, not, ◌||◌, List, [], ◌∷◌, refl, ◌∙◌, arith, inl, inr, length-append}
+use Rattle.uring_linux.proofs.Common.{Deferred, Drains, IsNew, LinuxRequests, Requests, Sqe, added_other, cases_Bool, cases_lt, deferred_with, entry_of_accepted_at, false_from_ne_true, has_ended_other, is_alone, is_faulty_from, is_in_some, is_issuable, is_last, is_last_cut_last, is_linked, is_running, ltb-false, ltb-true, nat_lt, or_cases, or_parts, with_group, with_last_entry}
 use Rattle.uring_linux.specs.LinuxRequests.{no_request, with_accepted, with_cut, with_started, with_ended}
 use Rattle.uring_entry.specs.Requests as manual
 use Rattle.uring_linux.specs.Happenings.{Happening, Call, Start, End, with_entries, after, made_by, MayHappen, MayHaveHappened}

@@ -1,5 +1,5 @@
 -- How a request stands, from what is kept of it, and what its issue is answered.
-use Rattle.std.proofs.Common.{◌≡◌, ℕ, ◌<◌, ℤ, length, Bool, true, false, not, ◌&&◌, Option, Some, None, is_some, refl, sym, ◌∙◌, ap, subst, arith, inl, inr, List, set, ◌-◌, ◌≤◌, ◌⊎◌}
+use Rattle.std.proofs.Common.{◌≡◌, ℕ, ◌<◌, ℤ, length, Bool, true, false, not, ◌&&◌, Option, Some, None, is_some, sym, ◌∙◌, ap, subst, arith, inl, inr, List, set, ◌-◌, ◌≤◌, ◌⊎◌}
 use Rattle.uring_linux.proofs.Common.{Drains, KeptDrains, LinuxDispatch, LinuxRequests, Request, Requests, Shows, ShowsRequests, Tells, Window, after_going_on, and_from, and_parts, and_right, at, both_ways, cancel_result, cases_Bool, comes_past, dispatch_of, doomed_result, end_of, ended_with, entry_of, fault_of, first_member, found_by, has_ended, has_fault, if◌then◌else◌, is_cancel_all, is_deferred, is_doomed, is_faulty, is_in_faulty_group, is_in_group, is_in_own_group, is_in_turn, is_issuable, is_let_in, is_outstanding, is_running, issued, issued_ready, least_below_same, least_of, lt-leb, neg_ℤ, not-true, one_if, or_left, or_parts, some_below_some}
 use Rattle.uring_linux.specs.LinuxRequests.{with_started, with_ended}
 use Rattle.uring_entry.specs.declared.fault.Fault.{Fault}

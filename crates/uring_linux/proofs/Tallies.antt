@@ -1,6 +1,6 @@
 -- What each event changes in the numbers, and that they stay right.
-use Rattle.std.proofs.Common.{◌≡◌, ℕ, ◌+◌, ◌-◌, ◌<◌, ◌≤◌, length, Bool, true, false, not, ◌&&◌, [], set, Some, None, refl, sym, ◌∙◌, ap, arith, length-set}
-use Rattle.uring_linux.proofs.Common.{HasAccepted, HasEnded, HasFinished, HasStarted, IsDispatch, IsOpen, KeptDrains, Lessens, Request, Sqe, Window, and-true, at, both_ways, dispatch_of, end_of, is_linked, is_unended, new_request, no_drains, not-true, one_if, running_among, runs, unended_among}
+use Rattle.std.proofs.Common.{◌≡◌, ℕ, ◌+◌, ◌-◌, ◌<◌, ◌≤◌, length, Bool, true, false, [], set, Some, None, sym, ◌∙◌, ap, arith, length-set}
+use Rattle.uring_linux.proofs.Common.{HasAccepted, HasEnded, HasFinished, HasStarted, IsDispatch, IsOpen, KeptDrains, Lessens, Request, Sqe, Window, at, both_ways, dispatch_of, end_of, is_linked, is_unended, new_request, no_drains, not-true, one_if, running_among, runs, unended_among}
 use Rattle.uring_linux.proofs.WindowCounts.{unended_none, running_none, at_roomed, count_written, unended_counts, running_counts}
 
 pub open_from : (s : Window) (n : ℕ) (q : Request) (b : Bool) → IsOpen (record s { room = 0 }) n b

@@ -1,6 +1,6 @@
 -- How many of the requests that are kept haven't ended, and how many run: what each event changes in that.
-use Rattle.std.proofs.Common.{◌≡◌, ℕ, ◌+◌, ◌-◌, ◌<◌, ◌≤◌, length, Bool, true, false, not, ◌&&◌, List, [], ◌∷◌, ◌++◌, set, slice_get, Option, Some, refl, sym, ◌∙◌, ap, arith, inl, inr, length-append, length-set}
-use Rattle.uring_linux.proofs.Common.{IsOpen, KeptDrains, LinuxRequests, Request, Requests, Shows, ShowsRequests, Window, and_right, asks_to_skip, at, cases_Bool, count_below, count_below_apart, count_below_changed, count_below_same, count_below_some, count_below_within, count_below_zero, dispatch_of, entry_of, has_ended, has_started, is_outstanding, is_running, is_unended, lt-ltb, one_if, outstanding_in, running_among, running_in, runs, slice_get_cases, slice_get_within, some_below, unended_among}
+use Rattle.std.proofs.Common.{◌≡◌, ℕ, ◌+◌, ◌-◌, ◌<◌, ◌≤◌, length, Bool, true, false, not, List, [], ◌∷◌, ◌++◌, set, slice_get, Option, Some, refl, sym, ◌∙◌, ap, arith, length-append, length-set}
+use Rattle.uring_linux.proofs.Common.{IsOpen, KeptDrains, LinuxRequests, Request, Requests, Shows, ShowsRequests, Window, and_right, asks_to_skip, at, cases_Bool, count_below, count_below_apart, count_below_changed, count_below_same, count_below_some, count_below_within, count_below_zero, dispatch_of, entry_of, has_ended, is_outstanding, is_running, is_unended, one_if, outstanding_in, running_among, running_in, runs, slice_get_cases, slice_get_within, some_below, unended_among}
 use Rattle.uring_linux.proofs.WindowLemmas.{at_high}
 use Rattle.uring_linux.proofs.WindowEvents.{push_here, push_other, is_set_here, set_other, at_within, roomed}
 

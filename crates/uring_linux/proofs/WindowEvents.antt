@@ -1,7 +1,6 @@
 -- What each event changes in what is kept.
-use Rattle.std.proofs.Common.{◌≡◌, ◌≢◌, ℕ, suc, ◌+◌, ◌-◌, ◌<◌, ◌≤◌, ℤ, length, Bool, true, false, not, ◌&&◌, ◌||◌, ◌==◌, List, [], ◌∷◌, ◌++◌, set, slice_get, Some, None, refl, sym, ◌∙◌, ap, arith, inl, inr, length-append, length-set, zero}
-use Rattle.std.specs.List.{list_any}
-use Rattle.uring_linux.proofs.Common.{IsGrouped, IsNew, IsWithin, Request, Requests, Shows, Sqe, Tells, Window, added_other, and_left, asks_to_drain, asks_to_skip, at, cases_eq, cases_lt, end_of, entry_of, entry_of_accepted_at, entry_of_accepted_other, entry_same, has_ended, has_ended_other, has_ended_same, has_failed_accepted, has_failed_other, has_failed_same, has_failed_unended, has_skipped, is_faulty, is_last, is_last_cut, is_last_cut_last, is_linked, is_refused_drain, is_running_ended_same, is_running_started_other, is_running_started_same, is_success, ne_eqb, new_request, no_request, or-false, same_Some, slice_get-get_or, slice_get_past, slice_get_within, some_below, some_below_same, with_accepted, with_cut, with_ended, with_started}
+use Rattle.std.proofs.Common.{◌≡◌, ◌≢◌, ℕ, suc, ◌+◌, ◌-◌, ◌<◌, ◌≤◌, ℤ, length, Bool, true, false, not, ◌||◌, ◌==◌, List, [], ◌∷◌, ◌++◌, set, slice_get, Some, refl, sym, ◌∙◌, ap, arith, inl, inr, length-append, length-set, zero}
+use Rattle.uring_linux.proofs.Common.{IsGrouped, IsNew, IsWithin, Request, Requests, Shows, Sqe, Tells, Window, added_other, asks_to_drain, asks_to_skip, at, cases_eq, cases_lt, end_of, entry_of, entry_of_accepted_at, entry_of_accepted_other, entry_same, has_ended, has_ended_other, has_ended_same, has_failed_accepted, has_failed_other, has_failed_same, has_failed_unended, has_skipped, is_last, is_last_cut, is_last_cut_last, is_linked, is_refused_drain, is_running_ended_same, is_running_started_other, is_running_started_same, is_success, ne_eqb, new_request, no_request, or-false, slice_get-get_or, slice_get_past, slice_get_within, some_below, some_below_same, with_accepted, with_cut, with_ended, with_started}
 use Rattle.std.proofs.lemmas.List.{get_or-set_same, get_or-set_other}
 use Rattle.std.proofs.Math.Seq.{get_or-append_seam}
 use Rattle.uring_linux.proofs.WindowLemmas.{at_low, at_high}

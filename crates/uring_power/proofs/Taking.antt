@@ -80,5 +80,3 @@ no_path unit g calls path todo found none walk = record {
   ];
   right = walk.right;
 }
-
--- None is left.

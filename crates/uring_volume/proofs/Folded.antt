@@ -182,8 +182,6 @@ issued_at [] i e w within at is = absurd (omega arith)
 issued_at (d ∷ es) zero e w within at is = grind (arith, issued_first)
 issued_at (d ∷ es) (suc i) e w within at is = grind (arith, issued_first, (issued_at es i e w (omega arith) at is))
 
--- A write over the first bytes.
-
 -- What a call that folds one write, or none, makes of a volume.
 
 filter_events_short : (p : Event → Bool) (es : List Event) → length (filter p es) ≤ length es
