@@ -15,13 +15,9 @@ back r m n joined = grind (arith, is_joined_yes, is_joined_inside)
 alone : (r : Requests) (n : ℕ) → is_joined r n n ≡ true
 alone r n = is_joined_yes r n n (λ k le lt. absurd (omega (arith, le, lt)))
 
-first_on : (r : Requests) (n : ℕ) (last : Bool) → is_last r n ≡ last → IsFirst r n (first_of r n)
-    → IsFirst r (suc n) (if last then suc n else first_of r n)
-first_on r n last ends i = grind (arith, alone, is_joined_no, on, back)
-
 pub first_is : (r : Requests) (n : ℕ) → IsFirst r n (first_of r n)
 first_is r zero = grind (arith, alone)
-first_is r (suc n) = grind (arith, first_on, (first_is r n))
+first_is r (suc n) = grind (arith, alone, is_joined_no, on, back, (first_is r n))
 
 -- the nearest one before the next request
 before_on : (r : Requests) (n : ℕ) (last found : Bool) → is_last r n ≡ last
