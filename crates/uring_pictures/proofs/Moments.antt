@@ -1,11 +1,13 @@
 -- What a moment keeps, byte by byte and line by line.
-use Rattle.std.proofs.Common.{◌≡◌, ◌≢◌, ℕ, ◌+◌, ◌-◌, ◌^◌, min, true, false, List, [], ◌∷◌, ◌++◌, Option, Some, None, refl, ◌∙◌, arith}
-use Rattle.uring_pictures.proofs.Common.{Accepted, Followed, Following, Keeps, MakesStep, ReadsLine, Setup, does_count, history_of}
+use Rattle.std.proofs.Common.{◌≡◌, ◌≢◌, ℕ, ◌+◌, ◌-◌, ◌^◌, min, true, false, List, [], ◌∷◌, ◌++◌, length, rules, Option, Some, None, refl, ◌∙◌, arith}
+use Rattle.uring_pictures.proofs.Common.{Accepted, Followed, Following, Keeps, MakesStep, ReadsLine, Setup, does_count, up_to, history_of}
 use Rattle.uring_core.specs.declared.step.Step.{Step}
 use Rattle.uring_text.specs.KeptLine.{KeptLine, kept_of}
 use Rattle.uring_text.proofs.Splits.{split_more, split_end, last_some}
 use Rattle.uring_trace.specs.Spelling.{IsStep, IsBad}
-use Rattle.uring_trace.specs.Exchanges.{events_of}
+use Rattle.uring_trace.specs.Exchanges.{Exchange, lines_of, events_of}
+use Rattle.uring_text.specs.Lines.{with_last}
+use Rattle.uring_trace.specs.Explanations.{line_number}
 use Rattle.uring_trace.proofs.Sessions.{one_more}
 
 -- What becomes of a line: a step, or none.
@@ -37,18 +39,11 @@ pub follows_line : (at : Option ℕ) (setup : Setup) (a a' : Accepted) (kept kep
     → Following at setup a' kept' number' (before ++ 10 ∷ [])
 follows_line at setup a a' kept kept' number number' before counts empty next reads f =
     let r = reads f.rest f.keeps_line in
-    record {
-      lines = f.rest ∷ f.lines;
-      rest = [];
-      splits = split_end before f.lines f.rest f.splits;
-      keeps_line = empty;
-      numbered = omega (arith, f.numbered, next);
-      exchanges = record { line = f.rest; event = r.event } ∷ f.exchanges;
-      taken = grind (arith, f.taken, f.numbered);
-      each = (r.read, f.each);
-      same = r.same ∙ f.same;
-      keeps = rw one_more at (r.keeps (history_of (events_of f.exchanges)) f.keeps);
-    }
+    let more : List Exchange = record { line = f.rest; event = r.event } ∷ f.exchanges in
+    let numbered : number' ≡ line_number (length (f.rest ∷ f.lines)) = omega (arith, f.numbered, next) in
+    let taken : lines_of more ≡ up_to at (f.rest ∷ f.lines) = grind (arith, f.taken, f.numbered) in
+    let keeps = rw one_more at (r.keeps (history_of (events_of f.exchanges)) f.keeps) in
+    search (rules, more, (split_end before f.lines f.rest f.splits), empty, numbered, taken, r.read, f.each, (r.same ∙ f.same), keeps)
 
 -- and of one that doesn't
 pub follows_passed : (at : Option ℕ) (setup : Setup) (a : Accepted) (kept kept' : KeptLine) (number number' : ℕ) (before : List ℕ)
@@ -71,16 +66,11 @@ pub followed_last : (at : Option ℕ) (setup : Setup) (a a' : Accepted) (kept : 
     → Following at setup a kept number bytes → Followed at setup a' bytes
 followed_last at setup a a' kept number bytes some counts reads f =
     let r = reads f.rest f.keeps_line in
-    record {
-      lines = f.lines;
-      rest = f.rest;
-      splits = f.splits;
-      exchanges = record { line = f.rest; event = r.event } ∷ f.exchanges;
-      taken = grind (arith, f.taken, f.numbered, (last_some f.lines f.rest (some f.rest f.keeps_line)));
-      each = (r.read, f.each);
-      same = r.same ∙ f.same;
-      keeps = rw one_more at (r.keeps (history_of (events_of f.exchanges)) f.keeps);
-    }
+    let more : List Exchange = record { line = f.rest; event = r.event } ∷ f.exchanges in
+    let whole = last_some f.lines f.rest (some f.rest f.keeps_line) in
+    let taken : lines_of more ≡ up_to at (with_last f.lines f.rest) = grind (arith, f.taken, f.numbered, whole) in
+    let keeps = rw one_more at (r.keeps (history_of (events_of f.exchanges)) f.keeps) in
+    search (rules, more, f.splits, taken, r.read, f.each, (r.same ∙ f.same), keeps)
 
 -- and in one that doesn't
 pub followed_passed : (at : Option ℕ) (setup : Setup) (a : Accepted) (kept : KeptLine) (number : ℕ) (bytes : List ℕ)
