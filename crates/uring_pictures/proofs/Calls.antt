@@ -1,16 +1,15 @@
 -- What a step makes of the entries and cuts that are kept.
-use Rattle.std.proofs.Common.{◌≡◌, ℕ, ◌+◌, ◌<◌, Bool, false, List, [], ◌∷◌, ◌++◌, length, take, Option, Some, None, refl, sym, ◌∙◌, arith}
+use Rattle.std.proofs.Common.{◌≡◌, ℕ, ◌+◌, ◌<◌, false, List, [], ◌∷◌, ◌++◌, length, take, Option, Some, None, refl, sym, ◌∙◌, arith}
 use Rattle.uring_pictures.proofs.Common.{Accepted, Event, HasAll, History, MakesStep, Requests, Setup, Sqe, entry_outstanding, has_ended, length-append, requests_at, take-append-le, take_all, take_more, with_call, world}
 use Rattle.std.specs.Option.{option_to_list}
 use Rattle.uring_entry.specs.Submission.{Call, entries_from}
-use Rattle.uring_linux.specs.LinuxRequests.{LinuxRequests}
-use Rattle.uring_core.specs.World.{World, requests_of, ending}
+use Rattle.uring_core.specs.World.{World, ending}
 use Rattle.uring_core.specs.StepAnswers.{end_answer_in}
 use Rattle.uring_core.specs.declared.step.Step.{Step}
 use Rattle.uring_core.specs.declared.step.Step.TheVariants as step
 use Rattle.uring_core.specs.declared.answer.Answer.{Answer}
 use Rattle.uring_core.specs.declared.answer.Answer.TheVariants as answer
-use Rattle.uring_core.proofs.Moves.{Move, move_of}
+use Rattle.uring_core.proofs.Moves.{move_of}
 use Rattle.uring_core.proofs.Sound.{sound_of}
 use Rattle.uring_core.proofs.SoundRequests.{IsSoundRequests}
 use Rattle.uring_machine.specs.Machine.{Fits}
@@ -28,11 +27,6 @@ AddsAll old new = (h : History) → Fits new.machine h → HasAll old.entries.it
 abbrev pub AddsCut : Accepted → Accepted → Type 0
 AddsCut old new = (h : History) → Fits new.machine h
     → new.cuts.items ≡ old.cuts.items ++ length (requests_at new h).accepted ∷ []
-
--- the same entries and cuts
-same_lists : (linux : Bool) (l : LinuxRequests) (s : Step) (a : Answer) (q : Requests) → Move linux l s a q
-    → ClosesNone s a → (l.requests.accepted ≡ q.accepted) × (l.requests.cuts ≡ q.cuts)
-same_lists linux l s a q h none = grind arith
 
 -- The end of a call accepts the entries that it took.
 
@@ -66,7 +60,8 @@ call_made old new s a accepted missed head ends is same fits adds marks = record
       let w : World = world new.machine.core.setup h in
       let before : old.entries.items ≡ w.requests.accepted = cc (k.entries, same) in
       let more = closed_by new.machine.core.setup w w.submission.call accepted missed head refl now.core.lawful.0 in
-      let all : HasAll old.entries.items (requests_at new (e ∷ h)) = rw (more.1, before) (has_all w.requests more.0 (sound_of new.machine.core.setup h now.core.lawful.1).requests) in
+      let sound = sound_of new.machine.core.setup h now.core.lawful.1 in
+      let all : HasAll old.entries.items (requests_at new (e ∷ h)) = rw (more.1, before) (has_all w.requests more.0 sound.requests) in
       let marked = marks (e ∷ h) now in
       rw (ends, is) (record { fits = now; entries = adds (e ∷ h) now all; cuts = grind (arith, marked, k.cuts, same, more.1) });
 }
@@ -81,9 +76,12 @@ step_made old new s a same fits kept marked none = record {
   same = same;
   keeps = λ h k.
       let now : Fits new.machine ((s, a) ∷ h) = fits h k.fits in
-      let g : Setup = new.machine.core.setup in
-      let lists = same_lists g.linux (requests_of (world g h)) s a (world g ((s, a) ∷ h)).requests (move_of g s a h now.core.lawful) none in
-      record { fits = now; entries = cc (k.entries, kept, lists.0, same); cuts = cc (k.cuts, marked, lists.1, same) };
+      let moved = move_of new.machine.core.setup s a h now.core.lawful in
+      record {
+        fits = now;
+        entries = grind (arith, moved, none, k.entries, kept, same);
+        cuts = grind (arith, moved, none, k.cuts, marked, same);
+      };
 }
 
 -- One entry more.
