@@ -28,8 +28,7 @@ abbrev pub AddsCut : Accepted → Accepted → Type 0
 AddsCut old new = (h : History) → Fits new.machine h
     → new.cuts.items ≡ old.cuts.items ++ length (requests_at new h).accepted ∷ []
 
--- The end of a call accepts the entries that it took.
-
+-- the end of a call accepts the entries that it took
 closed_by : (g : Setup) (w : World) (call : Option Call) (accepted missed head : ℕ) → w.submission.call ≡ call
     → answer.Taken accepted missed head ≡ end_answer_in g w call
     → (entries : List Sqe) × ((ending g w (answer.Taken accepted missed head)).requests ≡ with_call w.requests entries)
@@ -37,14 +36,10 @@ closed_by g w None accepted missed head opened is = absurd cc
 closed_by g w (Some call) accepted missed head opened is =
     (entries_from w.submission call.count, rw opened)
 
--- what wasn't accepted hasn't ended
--- the entries that are kept, seen from the requests after the call
+-- the entries that are kept, seen from the requests after the call: what wasn't accepted hasn't ended
 has_all : (r : Requests) (more : List Sqe) → IsSoundRequests r → HasAll r.accepted (with_call r more)
-has_all r more sound = record {
-  front = sym (take-append-le (length r.accepted) r.accepted more (omega arith) ∙ take_all (length r.accepted) r.accepted (omega arith));
-  fewer = omega (arith, length-append r.accepted more);
-  unended = λ n beyond. grind (arith, sound);
-}
+has_all r more sound =
+    grind (arith, sound, (take-append-le (length r.accepted) r.accepted more), (take_all (length r.accepted) r.accepted), (length-append r.accepted more))
 
 -- a step by which a call closes, whose entries are added
 pub call_made : (old new : Accepted) (s : Step) (a : Answer) (accepted missed head : ℕ) → s ≡ step.End
@@ -77,11 +72,7 @@ step_made old new s a same fits kept marked none = record {
   keeps = λ h k.
       let now : Fits new.machine ((s, a) ∷ h) = fits h k.fits in
       let moved = move_of new.machine.core.setup s a h now.core.lawful in
-      record {
-        fits = now;
-        entries = grind (arith, moved, none, k.entries, kept, same);
-        cuts = grind (arith, moved, none, k.cuts, marked, same);
-      };
+      grind (arith, now, moved, none, k.entries, k.cuts, kept, marked, same);
 }
 
 -- One entry more.
