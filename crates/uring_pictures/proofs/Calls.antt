@@ -1,5 +1,5 @@
 -- What a step makes of the entries and cuts that are kept.
-use Rattle.std.proofs.Common.{◌≡◌, ℕ, ◌+◌, ◌<◌, false, List, [], ◌∷◌, ◌++◌, length, take, Option, Some, None, refl, sym, ◌∙◌, arith}
+use Rattle.std.proofs.Common.{◌≡◌, ℕ, ◌+◌, ◌<◌, false, List, [], ◌∷◌, ◌++◌, length, take, Option, Some, None, refl, arith}
 use Rattle.uring_pictures.proofs.Common.{Accepted, Event, HasAll, History, MakesStep, Requests, Setup, Sqe, entry_outstanding, has_ended, length-append, requests_at, take-append-le, take_all, take_more, with_call, world}
 use Rattle.std.specs.Option.{option_to_list}
 use Rattle.uring_entry.specs.Submission.{Call, entries_from}
@@ -39,7 +39,7 @@ closed_by g w (Some call) accepted missed head opened is =
 -- the entries that are kept, seen from the requests after the call: what wasn't accepted hasn't ended
 has_all : (r : Requests) (more : List Sqe) → IsSoundRequests r → HasAll r.accepted (with_call r more)
 has_all r more sound =
-    grind (arith, sound, (take-append-le (length r.accepted) r.accepted more), (take_all (length r.accepted) r.accepted), (length-append r.accepted more))
+    grind (arith, sound, take_all, (take-append-le (length r.accepted) r.accepted more), (length-append r.accepted more))
 
 -- a step by which a call closes, whose entries are added
 pub call_made : (old new : Accepted) (s : Step) (a : Answer) (accepted missed head : ℕ) → s ≡ step.End
