@@ -1,6 +1,6 @@
 -- The parts of a graph, one by one.
-use Rattle.std.proofs.Common.{◌≡◌, ℕ, suc, ◌+◌, List, ◌++◌, Bool, not, ◌||◌, Option, Some, None, refl, ap, ◌∙◌, append_assoc, arith}
-use Rattle.uring_pictures.proofs.Common.{Requests, Sqe, arrows_below, arrows_text, call_of, codes, entry_outstanding, first_of, if◌then◌else◌, in_chain, is_last, is_some, line_text, member_before, node_text, placed_text, row_text}
+use Rattle.std.proofs.Common.{◌≡◌, ℕ, suc, ◌+◌, List, ◌++◌, Bool, not, ◌||◌, Option, Some, None, refl, append_assoc, arith}
+use Rattle.uring_pictures.proofs.Common.{Requests, Sqe, arrows_below, arrows_text, call_of, codes, entry_outstanding, first_of, if◌then◌else◌, in_chain, is_last, is_some, member_before, node_text, placed_text, row_text}
 use Rattle.std.specs.Prelude.{nat_lt}
 use Rattle.uring_linux.specs.LinuxRequests.{LinuxRequests}
 use Rattle.uring_rules.specs.Rules.{why_of}
@@ -51,7 +51,7 @@ pub row_placed : (linux : Bool) (l : LinuxRequests) (n : ℕ) (e : Sqe) (call fi
     → why ≡ why_of linux l n → Some e ≡ entry_outstanding l.requests n
     → after ≡ before ++ row_text linux l n
 row_placed linux l n e call first last why before after is calls same ends stands found =
-    is ∙ rw (calls, same, ends, stands) (ap (λ (o : Option Sqe). before ++ line_text linux l n o) found)
+    rw (← found, ← calls, ← same, ← ends, ← stands) is
 
 -- so many parts, counted otherwise
 pub up_to_same : (f : ℕ → List ℕ) (n m : ℕ) (front after : List ℕ) → after ≡ front ++ f n → n ≡ m
@@ -63,6 +63,4 @@ pub arrows_more : (linux : Bool) (l : LinuxRequests) (n : ℕ) (before : Option 
     → so ≡ front ++ arrows_below linux l n → after ≡ so ++ arrows_text n before why
     → before ≡ member_before l.requests n → why ≡ why_of linux l n
     → after ≡ front ++ arrows_below linux l (n + 1)
-arrows_more linux l n before why front so after a b same stands =
-    part_more (arrows_below linux l) (arrows_text n (member_before l.requests n) (why_of linux l n)) n front so after a
-    (rw (same, stands) at b) refl
+arrows_more linux l n before why front so after a b same stands = grind (arith, append_assoc)

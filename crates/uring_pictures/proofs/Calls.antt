@@ -1,19 +1,18 @@
 -- What a step makes of the entries and cuts that are kept.
-use Rattle.std.proofs.Common.{◌≡◌, ℕ, ◌+◌, ◌<◌, Bool, false, List, [], ◌∷◌, ◌++◌, length, take, Option, Some, None, sym, subst, ◌∙◌, arith}
-use Rattle.uring_pictures.proofs.Common.{Accepted, Event, HasAll, History, IsLawfulApart, Keeping, Keeps, MakesStep, Requests, Setup, Sqe, entry_outstanding, has_ended, length-append, requests_at, take-append-le, take_all, take_more, with_call, world}
+use Rattle.std.proofs.Common.{◌≡◌, ℕ, ◌+◌, ◌<◌, false, List, [], ◌∷◌, ◌++◌, length, take, Option, Some, None, refl, arith}
+use Rattle.uring_pictures.proofs.Common.{Accepted, Event, HasAll, History, MakesStep, Requests, Setup, Sqe, entry_outstanding, has_ended, length-append, requests_at, take-append-le, take_all, take_more, with_call, world}
 use Rattle.std.specs.Option.{option_to_list}
 use Rattle.uring_entry.specs.Submission.{Call, entries_from}
-use Rattle.uring_linux.specs.LinuxRequests.{LinuxRequests}
-use Rattle.uring_core.specs.World.{World, requests_of, ending}
+use Rattle.uring_core.specs.World.{World, ending}
 use Rattle.uring_core.specs.StepAnswers.{end_answer_in}
 use Rattle.uring_core.specs.declared.step.Step.{Step}
 use Rattle.uring_core.specs.declared.step.Step.TheVariants as step
 use Rattle.uring_core.specs.declared.answer.Answer.{Answer}
 use Rattle.uring_core.specs.declared.answer.Answer.TheVariants as answer
-use Rattle.uring_core.proofs.Moves.{Move, move_of}
+use Rattle.uring_core.proofs.Moves.{move_of}
 use Rattle.uring_core.proofs.Sound.{sound_of}
 use Rattle.uring_core.proofs.SoundRequests.{IsSoundRequests}
-use Rattle.uring_machine.specs.Machine.{Machine, Fits}
+use Rattle.uring_machine.specs.Machine.{Fits}
 
 -- no call closes by this step
 abbrev pub ClosesNone : Step → Answer → Type 0
@@ -29,23 +28,7 @@ abbrev pub AddsCut : Accepted → Accepted → Type 0
 AddsCut old new = (h : History) → Fits new.machine h
     → new.cuts.items ≡ old.cuts.items ++ length (requests_at new h).accepted ∷ []
 
--- the same entries and cuts
-same_lists : (linux : Bool) (l : LinuxRequests) (s : Step) (a : Answer) (q : Requests) → Move linux l s a q
-    → ClosesNone s a → (l.requests.accepted ≡ q.accepted) × (l.requests.cuts ≡ q.cuts)
-same_lists linux l s a q h none = grind arith
-
--- a step by which no call closes
-keeps_step : (m m' : Machine) (entries : List Sqe) (cuts : List ℕ) (s : Step) (a : Answer) (h : History)
-    → m'.core.setup ≡ m.core.setup → ((k : History) → Fits m k → Fits m' ((s, a) ∷ k))
-    → ClosesNone s a → Keeping m entries cuts h → Keeping m' entries cuts ((s, a) ∷ h)
-keeps_step m m' entries cuts s a h same fits none k =
-    let now : Fits m' ((s, a) ∷ h) = fits h k.fits in
-    let g : Setup = m'.core.setup in
-    let lists = same_lists g.linux (requests_of (world g h)) s a (world g ((s, a) ∷ h)).requests (move_of g s a h now.core.lawful) none in
-    record { fits = now; entries = cc (k.entries, lists.0, same); cuts = cc (k.cuts, lists.1, same) }
-
--- The end of a call accepts the entries that it took.
-
+-- the end of a call accepts the entries that it took
 closed_by : (g : Setup) (w : World) (call : Option Call) (accepted missed head : ℕ) → w.submission.call ≡ call
     → answer.Taken accepted missed head ≡ end_answer_in g w call
     → (entries : List Sqe) × ((ending g w (answer.Taken accepted missed head)).requests ≡ with_call w.requests entries)
@@ -53,51 +36,30 @@ closed_by g w None accepted missed head opened is = absurd cc
 closed_by g w (Some call) accepted missed head opened is =
     (entries_from w.submission call.count, rw opened)
 
-closed : (g : Setup) (h : History) (accepted missed head : ℕ)
-    → IsLawfulApart g ((step.End, answer.Taken accepted missed head) ∷ h)
-    → (entries : List Sqe) × ((world g ((step.End, answer.Taken accepted missed head) ∷ h)).requests ≡ with_call (world g h).requests entries)
-closed g h accepted missed head lawful = grind (arith, closed_by)
-
--- what wasn't accepted hasn't ended
--- the entries that are kept, seen from the requests after the call
+-- the entries that are kept, seen from the requests after the call: what wasn't accepted hasn't ended
 has_all : (r : Requests) (more : List Sqe) → IsSoundRequests r → HasAll r.accepted (with_call r more)
-has_all r more sound = record {
-  front = sym (take-append-le (length r.accepted) r.accepted more (omega arith) ∙ take_all (length r.accepted) r.accepted (omega arith));
-  fewer = omega (arith, length-append r.accepted more);
-  unended = λ n beyond. grind (arith, sound);
-}
+has_all r more sound =
+    grind (arith, sound, take_all, (take-append-le (length r.accepted) r.accepted more), (length-append r.accepted more))
 
 -- a step by which a call closes, whose entries are added
-keeps_call : (old new : Accepted) (accepted missed head : ℕ) (h : History)
-    → new.machine.core.setup ≡ old.machine.core.setup
-    → ((k : History) → Fits old.machine k → Fits new.machine ((step.End, answer.Taken accepted missed head) ∷ k))
-    → AddsAll old new → AddsCut old new → Keeps old h
-    → Keeps new ((step.End, answer.Taken accepted missed head) ∷ h)
-keeps_call old new accepted missed head h same fits adds marks k =
-    let e : Event = (step.End, answer.Taken accepted missed head) in
-    let g = new.machine.core.setup in
-    let now : Fits new.machine (e ∷ h) = fits h k.fits in
-    let more = closed g h accepted missed head now.core.lawful in
-    let before : old.entries.items ≡ (world g h).requests.accepted = cc (k.entries, same) in
-    let ends : old.cuts.items ≡ (world g h).requests.cuts = cc (k.cuts, same) in
-    let all : HasAll old.entries.items (world g (e ∷ h)).requests = subst (λ (q : Requests). HasAll old.entries.items q) (sym more.1) (subst (λ (xs : List Sqe). HasAll xs (with_call (world g h).requests more.0)) (sym before) (has_all (world g h).requests more.0 (sound_of g h now.core.lawful.1).requests)) in
-    let cuts_now : (world g (e ∷ h)).requests.cuts ≡ (world g h).requests.cuts ++ length (world g (e ∷ h)).requests.accepted ∷ [] = cc (more.1) in
-    record {
-      fits = now;
-      entries = adds (e ∷ h) now all;
-      cuts = cc (marks (e ∷ h) now, ends, cuts_now);
-    }
-
 pub call_made : (old new : Accepted) (s : Step) (a : Answer) (accepted missed head : ℕ) → s ≡ step.End
     → a ≡ answer.Taken accepted missed head → new.machine.core.setup ≡ old.machine.core.setup
     → ((k : History) → Fits old.machine k → Fits new.machine ((s, a) ∷ k))
     → AddsAll old new → AddsCut old new → MakesStep old new s
-call_made old new s a accepted missed head ends is same fits adds marks =
-    record {
-      answer = a;
-      same = same;
-      keeps = λ h k. rw (ends, is) (keeps_call old new accepted missed head h same (rw (ends, is) at fits) adds marks k);
-    }
+call_made old new s a accepted missed head ends is same fits adds marks = record {
+  answer = a;
+  same = same;
+  keeps = λ h k.
+      let e : Event = (step.End, answer.Taken accepted missed head) in
+      let now : Fits new.machine (e ∷ h) = rw (ends, is) at (fits h k.fits) in
+      let w : World = world new.machine.core.setup h in
+      let before : old.entries.items ≡ w.requests.accepted = cc (k.entries, same) in
+      let more = closed_by new.machine.core.setup w w.submission.call accepted missed head refl now.core.lawful.0 in
+      let sound = sound_of new.machine.core.setup h now.core.lawful.1 in
+      let all : HasAll old.entries.items (requests_at new (e ∷ h)) = rw (more.1, before) (has_all w.requests more.0 sound.requests) in
+      let marked = marks (e ∷ h) now in
+      rw (ends, is) (record { fits = now; entries = adds (e ∷ h) now all; cuts = grind (arith, marked, k.cuts, same, more.1) });
+}
 
 -- a step by which none closes
 pub step_made : (old new : Accepted) (s : Step) (a : Answer) → new.machine.core.setup ≡ old.machine.core.setup
@@ -108,8 +70,9 @@ step_made old new s a same fits kept marked none = record {
   answer = a;
   same = same;
   keeps = λ h k.
-      let n = keeps_step old.machine new.machine old.entries.items old.cuts.items s a h same fits none k in
-      record { fits = n.fits; entries = kept ∙ n.entries; cuts = marked ∙ n.cuts };
+      let now : Fits new.machine ((s, a) ∷ h) = fits h k.fits in
+      let moved = move_of new.machine.core.setup s a h now.core.lawful in
+      grind (arith, now, moved, none, k.entries, k.cuts, kept, marked, same);
 }
 
 -- One entry more.

@@ -1,9 +1,11 @@
 -- What is drawn of all that was read.
-use Rattle.std.proofs.Common.{◌≡◌, ℕ, Bool, List, [], ◌++◌, Option, Ok, sym, subst, ◌∙◌}
+use Rattle.std.proofs.Common.{◌≡◌, ℕ, Bool, List, [], ◌++◌, Option, Ok, subst, arith, rules}
 use Rattle.uring_pictures.proofs.Common.{Accepted, Appends, Explainer, HasFollowed, History, Keeps, ReadsAll, Setup, graph_of, history_of, is_linux_at, linux_at, world}
+use Rattle.uring_core.specs.CalledFor.{IsLawful}
 use Rattle.uring_core.specs.World.{requests_of}
 use Rattle.uring_text.specs.Writing.{WritesText}
 use Rattle.uring_trace.specs.Exchanges.{events_of}
+use Rattle.uring_trace.specs.Explanations.{ExplainsWhole}
 use Rattle.uring_pictures.specs.Drawings.{Reads, Draws}
 use Rattle.uring_pictures.specs.declared.moment.Moment.{Moment}
 use Rattle.uring_pictures.proofs.Streams.{Known}
@@ -13,27 +15,12 @@ pub draws : (at : Option ℕ) (setup : Setup) (bad : Bool) (m : Moment) (drawn :
     → (r : Reads setup bad a a' x x') × HasFollowed at setup m r.bytes → drawn ≡ m.accepted
     → ((h : History) → Keeps drawn h → Appends w w' (graph_of (is_linux_at drawn) (linux_at drawn h)))
     → Draws at setup bad a a' w w' x x'
-draws at setup bad m drawn a a' w w' x x' both same writes =
-    let r = both.0 in
-    let f = both.1 in
+draws at setup bad m drawn a a' w w' x x' (r, f) same writes =
     let h : History = history_of (events_of f.exchanges) in
-    record {
-      bytes = r.bytes;
-      told = r.told;
-      notes = r.notes;
-      explained = r.lines;
-      consumed = r.consumed;
-      at_end = r.at_end;
-      noted = r.noted;
-      lines = f.lines;
-      rest = f.rest;
-      splits = f.splits;
-      exchanges = f.exchanges;
-      first = f.taken;
-      each = f.each;
-      lawful = rw f.same at f.keeps.fits.lawful;
-      drawn = subst (λ (g : Setup). Appends w w' (graph_of g.linux (requests_of (world g h)))) f.same (subst (λ (d : Accepted). Appends w w' (graph_of (is_linux_at d) (linux_at d h))) same (writes h (subst (λ (d : Accepted). Keeps d h) (sym same) f.keeps)));
-    }
+    let lawful : IsLawful setup h = rw f.same at f.keeps.fits.lawful in
+    let set_up : drawn.machine.core.setup ≡ setup = rw same f.same in
+    let written = subst (λ (g : Setup). Appends w w' (graph_of g.linux (requests_of (world g h)))) set_up (writes h (rw same f.keeps)) in
+    search (rules, r, f, lawful, written)
 
 -- a text that was written
 pub written_graph : (drawn : Accepted) (text none : List ℕ) (w w' : Known) → none ≡ []
@@ -46,17 +33,6 @@ written_graph drawn text none w w' start tells x = λ h keeps.
 -- what was read, without a picture
 pub reads : (P : List ℕ → Type 0) (setup : Setup) (bad : Bool) (s : Explainer) (a a' x x' : Known)
     → (r : ReadsAll setup bad s a a' x x') × P r.bytes → (r : Reads setup bad a a' x x') × P r.bytes
-reads P setup bad s a a' x x' both =
-    let r = both.0 in
-    let whole = r.ended.0 in (
-      record {
-        bytes = r.bytes;
-        told = r.told;
-        notes = r.notes;
-        lines = (whole.0, whole.1, whole.2, whole.3, whole.4, whole.5, r.is_bad ∙ whole.6);
-        consumed = r.consumed;
-        at_end = r.at_end;
-        noted = r.noted;
-      },
-      both.1,
-    )
+reads P setup bad s a a' x x' (r, p) =
+    let lines : ExplainsWhole setup bad r.bytes r.told r.notes = rw r.is_bad r.ended.0 in
+    (grind (arith, lines, r.consumed, r.at_end, r.noted), p)
