@@ -59,56 +59,41 @@ pub record IsOver (calls : List (List Item)) (app : AppEnd) (kernel : Kernel) (w
   pub none_outstanding : outstanding_in (left_by r).requests ≡ 0
   pub none_waits : r.waiting ≡ []
 
-pub over_is_play : (calls : List (List Item)) (app : AppEnd) (kernel : Kernel) (workers : List Worker) (r : Report) (completions : List Cqe)
-    → IsOver calls app kernel workers r → completions ≡ app.received ++ r.undelivered
-    → IsPlay kernel.kept.setup calls r.trace completions
-over_is_play calls app kernel workers r completions over all =
-    let results = all_waiting kernel.lanes workers in
-    let shut : (left_by r).is_closed ≡ true = rw (over.setup, over.trace) (closed_later kernel.kept.setup kernel.kept.trace results ∙ over.idle.closed) in
-    let went = over.closed shut in
-    let calls_are : app.submitted.calls ≡ calls = ap (λ (p : Put). p.calls) over.submitted in
-    let published : published_items (left_by r).submission ≡ all_published_as (items_of_calls calls) =
-        sym (append-nil _) ∙ rw went.unsent at over.items ∙ ap (λ cs. all_published_as (items_of_calls cs)) calls_are
-    in
-    let reaped = sym over.reaped ∙ sym all in
-    let posted = sym over.posted ∙ rw over.none_waits (append-nil _) ∙ reaped in
-    rw (← over.setup) (record {
-      lawful = over.lawful;
-      published = published;
-      cut = went.calls ∙ ap (flat_map (calls_of r.setup)) calls_are;
-      none_outstanding = over.none_outstanding;
-      reaped = reaped;
-      none_waits = posted;
-    })
-
--- and that is written, or nothing is
+-- a play of ends that were done is written, or nothing is
 pub ends_play : (calls : List (List Item)) (app : AppEnd) (kernel : Kernel) (workers : List Worker) (r : Report) (is_over : Bool) (answer : Result (Unit {0}) PlayFault) (before after : Option (List ℕ))
     → (IsWhole is_over r → IsOver calls app kernel workers r) → r.workers ≡ length workers
     → WritesWhole is_over r app.received answer before after
     → EndsPlay kernel.kept.setup (length workers) calls answer before after
 ends_play calls app kernel workers r is_over answer before after over many (inl (whole, written)) =
+    let o : IsOver calls app kernel workers r = over whole in
+    let shut : (left_by r).is_closed ≡ true = rw (o.setup, o.trace) (closed_later kernel.kept.setup kernel.kept.trace (all_waiting kernel.lanes workers) ∙ o.idle.closed) in
+    let went = o.closed shut in
+    let calls_are : app.submitted.calls ≡ calls = ap (λ (p : Put). p.calls) o.submitted in
     inl (record {
       report = r;
-      setup = (over whole).setup;
+      setup = o.setup;
       many = many;
       completions = app.received ++ r.undelivered;
-      play = over_is_play calls app kernel workers r (app.received ++ r.undelivered) (over whole) refl;
+      play = rw (← o.setup) (record {
+        lawful = o.lawful;
+        published = sym (append-nil _) ∙ rw went.unsent at o.items ∙ ap (λ cs. all_published_as (items_of_calls cs)) calls_are;
+        cut = went.calls ∙ ap (flat_map (calls_of r.setup)) calls_are;
+        none_outstanding = o.none_outstanding;
+        reaped = sym o.reaped;
+        none_waits = sym o.posted ∙ rw o.none_waits (append-nil _) ∙ sym o.reaped;
+      });
       written = written;
     })
 ends_play calls app kernel workers r is_over answer before after over many (inr nothing) = inr nothing
 
 -- ---- how many requests were accepted
 
-told_one : (before : List ℕ) (o : Option ℕ) → sum (with_told before o) ≡ sum before + unwrap_or o 0
-told_one before None = omega arith
-told_one before (Some n) = sum_by_push (λ k. k) before n
-
 told_all : (events : List Event) (h : History)
     → sum (told accepted_by (history_of events ++ h))
     ≡ sum (told accepted_by h) + accepted_in events
 told_all [] h = omega arith
 told_all (e ∷ events) h =
-    rw (history_of_cons e events h) (omega (arith, told_all events (e ∷ h), told_one (told accepted_by h) (accepted_by e), sum_by-cons accepted_of e events))
+    rw (history_of_cons e events h) (grind (arith, told_all events (e ∷ h), sum_by_push (λ k. k) (told accepted_by h), sum_by-cons accepted_of e events))
 
 -- the calls of a lawful trace accepted as many requests as there are
 pub accepted_total : (g : Setup) (trace : List Event) → IsLawful g (history_of trace)

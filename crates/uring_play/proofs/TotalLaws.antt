@@ -22,13 +22,9 @@ pub closed_more : (trace : List Event) (i : ℕ) (e : Event) (count so : ℕ) �
     → so ≡ dropped_last (take (i + 1) trace)
 closed_more trace i e count so lt is told s = rw (dropped_more trace i e lt is, told) s
 
-not_taken : (a : Answer) → ((accepted dropped head : ℕ) → a ≡ answer.Taken accepted dropped head → ⊥)
-    → dropped_by a ≡ None
-not_taken a other = grind arith
-
 -- another event
 pub other_more : (trace : List Event) (i : ℕ) (e : Event) (old so : ℕ) → i < length trace
     → e ≡ get_or trace i e
     → ((accepted dropped head : ℕ) → e.1 ≡ answer.Taken accepted dropped head → ⊥) → so ≡ old
     → old ≡ dropped_last (take i trace) → so ≡ dropped_last (take (i + 1) trace)
-other_more trace i e old so lt is other s h = rw (dropped_more trace i e lt is, not_taken e.1 other) (s ∙ h)
+other_more trace i e old so lt is other s h = rw (dropped_more trace i e lt is) (grind (arith, other, s, h))
