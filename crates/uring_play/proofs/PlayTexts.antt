@@ -7,11 +7,11 @@ use Rattle.std.specs.declared.alloc.Global.{Global}
 use Rattle.uring_entry.specs.Layout.{Cqe}
 use Rattle.uring_entry.specs.Setup.{Setup}
 use Rattle.uring_core.specs.CalledFor.{IsLawful}
-use Rattle.uring_core.specs.Histories.{Event, history_of}
+use Rattle.uring_core.specs.Histories.{history_of}
 use Rattle.uring_ports.specs.declared.item.Item.{Item}
 use Rattle.uring_play_text.specs.Inputs.{IsReturned, ReadsAll, ReadsCalls, lists_of}
 use Rattle.uring_play_text.specs.Outputs.{lines_text, counts_text, IsInOrder, IsWritten, Writes}
-use Rattle.uring_play.specs.Plays.{AnswersPlay, IsPlay, IsTextOf, IsPlayText, WritesPlay, Plays, ReadsToEnd, made_by}
+use Rattle.uring_play.specs.Plays.{AnswersPlay, IsTextOf, IsPlayText, Plays, ReadsToEnd, made_by}
 use Rattle.uring_play.specs.Threads.{AreFresh, EndsPlay, GiveBack, IsWhole, WritesWhole}
 use Rattle.uring_play.specs.Totals.{dropped_last}
 use Rattle.uring_play.specs.declared.ends.Ends.{Ends}

@@ -1,47 +1,38 @@
 -- A play in which all went through: its trace published all items, and nothing is left.
-use Rattle.std.proofs.Common.{◌≡◌, ℕ, ◌+◌, Bool, true, List, [], ◌∷◌, ◌++◌, ◌<◌, length, map, flat_map, sum, Option, Some, None, Result, inl, inr, refl, sym, ap, ◌∙◌, arith, append-nil}
-use Rattle.std.specs.Prelude.{unwrap_or}
+use Rattle.std.proofs.Common.{◌≡◌, ℕ, ◌+◌, Bool, true, List, [], ◌∷◌, ◌++◌, ◌<◌, length, map, sum, Option, Result, inl, inr, refl, sym, ap, ◌∙◌, arith, append-nil}
 use Rattle.std.proofs.lemmas.List.{get_or-map, length-map}
 use Rattle.std.proofs.lemmas.List.Sums.{sum_by_push, sum_by-cons}
-use Rattle.uring_entry.specs.Layout.{Cqe}
 use Rattle.uring_entry.specs.Requests.{outstanding_in}
 use Rattle.uring_entry.specs.Setup.{Setup}
 use Rattle.uring_core.specs.CalledFor.{IsLawful}
 use Rattle.uring_core.specs.Events.{accepted_by}
-use Rattle.uring_laws.specs.Direct.{told, with_told}
+use Rattle.uring_laws.specs.Direct.{told}
 use Rattle.uring_core.specs.Histories.{Event, History, world, history_of}
 use Rattle.uring_entry.specs.Submission.{published_items}
 use Rattle.uring_laws.proofs.DirectRequests.{direct_requests}
-use Rattle.uring_core.proofs.Following.{history_of_cons, history_of_append}
+use Rattle.uring_core.proofs.Following.{history_of_cons}
 use Rattle.uring_laws.proofs.WholeLaws.{lawful_apart}
 use Rattle.uring_ports.specs.AppEnd.{AppEnd}
-use Rattle.uring_ports.specs.Items.{all_published_as}
-use Rattle.uring_ports.specs.Ports.{Put, items_of_calls}
+use Rattle.uring_ports.specs.Ports.{Put}
 use Rattle.uring_ports.specs.declared.item.Item.{Item}
-use Rattle.uring_threads.specs.Calls.{calls_of}
 use Rattle.uring_threads.specs.Kept.{now}
 use Rattle.uring_threads.specs.Kernel.{Kernel, IsIdle}
 use Rattle.uring_threads.specs.Report.{Report, AreTogether, left_by, FinishesAll, PublishesItems, ClosesOnlyAllTaken, DeliversReaped, ReapsPosted, all_waiting}
 use Rattle.uring_threads.specs.Settled.{finish_of}
 use Rattle.uring_workers.specs.Worker.{Worker}
 use Rattle.uring_workers.specs.declared.job.JobResult.{JobResult}
-use Rattle.uring_play.specs.Plays.{IsPlay}
 use Rattle.uring_play_text.specs.declared.play_fault.PlayFault.{PlayFault}
 use Rattle.uring_play.specs.Threads.{EndsPlay, IsWhole, StaysApp, StaysKernel, StayWorkers, WritesWhole}
 use Rattle.uring_play.specs.Totals.{accepted_in, accepted_of}
 
 -- ---- a ring that is closed stays so while results are taken in
 
-closed_after : (g : Setup) (results : List JobResult) (h : History)
-    → (world g (history_of (map finish_of results) ++ h)).is_closed ≡ (world g h).is_closed
-closed_after g [] h = refl
-closed_after g (r ∷ results) h = rw (history_of_cons (finish_of r) (map finish_of results) h) (closed_after g results (finish_of r ∷ h))
-
-closed_later : (g : Setup) (trace : List Event) (results : List JobResult)
-    → (world g (history_of (trace ++ map finish_of results))).is_closed
-    ≡ (world g (history_of trace)).is_closed
-closed_later g trace results =
-    cc (history_of_append trace (map finish_of results) [], append-nil (history_of (trace ++ map finish_of results)), append-nil (history_of trace), closed_after g results (history_of trace))
+closed_later : (g : Setup) (trace : List Event) (results : List JobResult) (h : History)
+    → (world g (history_of (trace ++ map finish_of results) ++ h)).is_closed
+    ≡ (world g (history_of trace ++ h)).is_closed
+closed_later g [] [] h = refl
+closed_later g [] (r ∷ results) h = rw (history_of_cons (finish_of r) (map finish_of results) h) (closed_later g [] results (finish_of r ∷ h))
+closed_later g (e ∷ trace) results h = rw (history_of_cons e (trace ++ map finish_of results) h, history_of_cons e trace h) (closed_later g trace results (e ∷ h))
 
 -- ---- all went through
 
@@ -66,7 +57,7 @@ pub ends_play : (calls : List (List Item)) (app : AppEnd) (kernel : Kernel) (wor
     → EndsPlay kernel.kept.setup (length workers) calls answer before after
 ends_play calls app kernel workers r is_over answer before after over many (inl (whole, written)) =
     let o : IsOver calls app kernel workers r = over whole in
-    let shut : (left_by r).is_closed ≡ true = rw (o.setup, o.trace) (closed_later kernel.kept.setup kernel.kept.trace (all_waiting kernel.lanes workers) ∙ o.idle.closed) in
+    let shut : (left_by r).is_closed ≡ true = rw (o.setup, o.trace) ((simp append-nil at (closed_later kernel.kept.setup kernel.kept.trace (all_waiting kernel.lanes workers) [])) ∙ o.idle.closed) in
     let went = o.closed shut in
     let calls_are : app.submitted.calls ≡ calls = ap (λ (p : Put). p.calls) o.submitted in
     inl (record {
@@ -76,8 +67,8 @@ ends_play calls app kernel workers r is_over answer before after over many (inl 
       completions = app.received ++ r.undelivered;
       play = rw (← o.setup) (record {
         lawful = o.lawful;
-        published = sym (append-nil _) ∙ rw went.unsent at o.items ∙ ap (λ cs. all_published_as (items_of_calls cs)) calls_are;
-        cut = went.calls ∙ ap (flat_map (calls_of r.setup)) calls_are;
+        published = cc (o.items, went.unsent, append-nil (published_items (left_by r).submission), calls_are);
+        cut = cc (went.calls, calls_are);
         none_outstanding = o.none_outstanding;
         reaped = sym o.reaped;
         none_waits = sym o.posted ∙ rw o.none_waits (append-nil _) ∙ sym o.reaped;
@@ -117,12 +108,11 @@ pub still_together : {app app_after : AppEnd} {kernel kernel_after : Kernel} {wo
     → StayWorkers workers workers_after → AreTogether app_after kernel_after workers_after
 still_together {workers = workers} {workers_after = workers_after} t applies stays so =
     let count : Worker → ℕ = λ w. length w.files in
-    let many : length workers_after ≡ length workers = as_many workers workers_after so in
     record {
       ports = stays.pairing ∙ t.ports ∙ sym applies.pairing;
       sizes = stays.sizes ∙ t.sizes ∙ sym applies.sizes;
       lanes = so.lanes ∙ t.lanes ∙ sym stays.lanes;
       files = λ k e low.
-          let before : k < length workers = omega (arith, low, many) in
+          let before : k < length workers = omega (arith, low, as_many workers workers_after so) in
           cc (get_or-map count workers_after k e (count e) low, so.files, get_or-map count workers k e (count e) before, t.files k e before, stays.setup);
     }

@@ -41,17 +41,17 @@ opened_next files lanes workers l w with_lanes same_lanes with_worker same_worke
     rw (with_lanes, same_lanes, with_worker, same_workers) (
     let many : length workers ≡ length lanes = o.pairs.many in
     let longer : length (workers ++ w ∷ []) ≡ length (lanes ++ l ∷ []) = omega (arith, many, length-append workers (w ∷ []), length-append lanes (l ∷ [])) in
-    let have : (k : ℕ) (e : Worker) → k < length (workers ++ w ∷ []) → length (get_or (workers ++ w ∷ []) k e).files ≡ files = each_next (λ k (v : Worker). length v.files ≡ files) workers w (λ k e low. o.pairs.have k e (omega (arith, low, many))) (ap length fresh.empty ∙ length-replicate files empty_file) in
     record {
       pairs = record {
         many = longer;
         pairing = λ k d e low.
             each_next (λ j (x : WorkLanes). (get_or (workers ++ w ∷ []) j e).pairing ≡ pairing_of x.jobs x.results) lanes l
-            (λ j x within. ap (λ (v : Worker). v.pairing) (get_or_append_left workers (w ∷ []) e j (omega (arith, within, many))) ∙ o.pairs.pairing j x e within)
-            (ap (λ (v : Worker). v.pairing) (subst (λ n. get_or (workers ++ w ∷ []) n e ≡ w) many (get_or-append_seam workers w [] e)) ∙ pairing)
-            k d low;
+            (λ j x within. rw (get_or_append_left workers (w ∷ []) e j (omega (arith, within, many))) (o.pairs.pairing j x e within))
+            (rw (← many, get_or-append_seam workers w [] e) pairing) k d low;
         short = each_next (λ k (x : WorkLanes). consumer_capacity x.results ≤ 64) lanes l o.pairs.short (omega (arith, results_hold));
-        have = λ k e low. have k e (omega (arith, low, longer));
+        have = λ k e low.
+            each_next (λ k (v : Worker). length v.files ≡ files) workers w (λ k e low. o.pairs.have k e (omega (arith, low, many)))
+            (ap length fresh.empty ∙ length-replicate files empty_file) k e (omega (arith, low, longer));
       };
       none_carried = each_next (λ k (x : WorkLanes). (sent x.jobs ≡ []) × (received x.results ≡ [])) lanes l o.none_carried (jobs, results);
       hold = each_next (λ k (x : WorkLanes). producer_capacity x.jobs ≡ 64) lanes l o.hold jobs_hold;

@@ -5,13 +5,12 @@ use Rattle.uring_entry.specs.declared.operation.Outcome.{Outcome}
 use Rattle.uring_files.specs.Contents.{FileContents, empty_files}
 use Rattle.uring_files.specs.Operations.{after, IsOutcome}
 use Rattle.uring_files.proofs.OperationCases.{many_after}
-use Rattle.uring_files.specs.Done.{Done, files_left, AreDone}
+use Rattle.uring_files.specs.Done.{Done}
 use Rattle.uring_files.proofs.DoneLemmas.{left_snoc, done_snoc}
-use Rattle.uring_ports.specs.Lanes.{numbers_of, numbers_of_pointer}
+use Rattle.uring_ports.specs.Lanes.{numbers_of}
 use Rattle.uring_workers.specs.declared.job.Job.{Job}
 use Rattle.uring_workers.specs.declared.job.JobResult.{JobResult}
 use Rattle.uring_workers.specs.Work.{job_of, result_of, jobs_of, results_of}
-use Rattle.rtrb.specs.Shared.{Names}
 use Rattle.rtrb.specs.declared.end.End.{End}
 use Rattle.uring_workers.specs.Worker.{Worker, done_of, IsWorking}
 
