@@ -20,11 +20,6 @@ use Rattle.uring_play.proofs.PlayedThrough.{accepted_total}
 use Rattle.uring_play_text.specs.declared.play_fault.PlayFault.{PlayFault}
 use Rattle.uring_play_text.specs.declared.play_fault.PlayFault.TheVariants as fault
 
--- nothing is written
-nothing_written : (held : Option (List ℕ)) → Appends held held []
-nothing_written None = tt
-nothing_written (Some held) = sym (append-nil held)
-
 -- the reader failed, or has a faulty line
 no_answer : (g : Setup) (workers : ℕ) (bytes : List ℕ) (f : PlayFault) (left : Option (List ℕ))
     → IsReturned g.sq bytes (Err f) → ReadsAll (Err f) left
@@ -43,7 +38,7 @@ stopped_reading g workers answer f before after held is r =
       consumed = r.consumed;
       whole = none.0;
       written = [];
-      appended = nothing_written held;
+      appended = elim held as (λ h. Appends h h []) [ None ↦ tt | Some bytes ↦ sym (append-nil bytes) ];
       answers = none.1;
     })
 

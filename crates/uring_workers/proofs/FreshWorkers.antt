@@ -38,10 +38,9 @@ pub opened_next : {later mid : List WorkLanes} {more those : List Worker} (files
     → w.pairing ≡ pairing_of l.jobs l.results → IsFreshWorker files (length lanes) w
     → AreOpened files later more
 opened_next files lanes workers l w with_lanes same_lanes with_worker same_workers o jobs results jobs_hold results_hold pairing fresh =
-    rw (with_lanes, same_lanes, with_worker, same_workers) (
     let many : length workers ≡ length lanes = o.pairs.many in
     let longer : length (workers ++ w ∷ []) ≡ length (lanes ++ l ∷ []) = omega (arith, many, length-append workers (w ∷ []), length-append lanes (l ∷ [])) in
-    record {
+    rw (with_lanes, same_lanes, with_worker, same_workers) (record {
       pairs = record {
         many = longer;
         pairing = λ k d e low.
@@ -56,8 +55,7 @@ opened_next files lanes workers l w with_lanes same_lanes with_worker same_worke
       none_carried = each_next (λ k (x : WorkLanes). (sent x.jobs ≡ []) × (received x.results ≡ [])) lanes l o.none_carried (jobs, results);
       hold = each_next (λ k (x : WorkLanes). producer_capacity x.jobs ≡ 64) lanes l o.hold jobs_hold;
       fresh = each_next (IsFreshWorker files) workers w o.fresh (subst (λ n. IsFreshWorker files n w) (sym many) fresh);
-    }
-    )
+    })
 
 pub room_for_one : (n m : ℕ) → n + 1 ≤ m → n < m
 room_for_one n m room = omega arith
