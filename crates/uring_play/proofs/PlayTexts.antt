@@ -76,8 +76,8 @@ was_played {g = g} {workers = workers} {calls = calls} {before = before} {after 
     go (Err fault.Write) (more, some, all) = record { bytes = r.bytes; consumed = r.consumed; whole = r.whole; written = p.written.2.0; appended = p.written.2.1; answers = (more, some, the_text (p.written.2.0 ++ more) all) }
     go (Err fault.Memory) is = record { bytes = r.bytes; consumed = r.consumed; whole = tt; written = p.written.2.0; appended = p.written.2.1; answers = is }
     go _ is = absurd is
-was_played {g = g} {workers = workers} {calls = calls} {before = before} {after = after} answer held_before held_after r fresh gave (inr (refused, same)) =
-    rw same (out_of_memory g workers answer calls before after held_before refused r)
+was_played answer held_before held_after r fresh gave (inr (refused, same)) =
+    rw same (out_of_memory _ _ answer _ _ _ held_before refused r)
 
 -- the completions of a play that is whole were sorted and written, and then these counts
 pub whole_told : (is_over : Bool) (report : Report) (received old sorted : List Cqe) (taken dropped : ℕ) (answer : Result (Unit {0}) PlayFault) (before after : Option (List ℕ))

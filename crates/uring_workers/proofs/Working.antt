@@ -38,12 +38,11 @@ goes_on jobs results files w j outcome right =
     let done : List Done = done_of jobs results in
     let d : Done = done_as j outcome in
     let more = done_of_snoc jobs results files w j outcome in
-    let first : List FileContents = empty_files (length files) in
     record {
       jobs_done = cc (w.jobs_done, more, map-append job_of done (d ∷ []));
       results_done = cc (w.results_done, more, map-append result_of done (d ∷ []));
-      right = rw (more, many_after files j.op outcome.res) (done_snoc first done d w.right (subst (λ fs. IsOutcome fs j.op outcome) w.left right));
-      left = rw (more, many_after files j.op outcome.res) (ap (λ fs. after fs j.op outcome.res) w.left ∙ sym (left_snoc first done d));
+      right = rw (more, many_after files j.op outcome.res) (done_snoc _ done d w.right (subst (λ fs. IsOutcome fs j.op outcome) w.left right));
+      left = rw (more, many_after files j.op outcome.res) (ap (λ fs. after fs j.op outcome.res) w.left ∙ sym (left_snoc _ done d));
     }
 
 -- ends of lanes with the same words, slots and names have the same numbers
