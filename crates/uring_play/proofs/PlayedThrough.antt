@@ -1,47 +1,38 @@
 -- A play in which all went through: its trace published all items, and nothing is left.
-use Rattle.std.proofs.Common.{◌≡◌, ℕ, ◌+◌, Bool, true, List, [], ◌∷◌, ◌++◌, ◌<◌, length, map, flat_map, sum, Option, Some, None, Result, inl, inr, refl, sym, ap, ◌∙◌, arith, append-nil}
-use Rattle.std.specs.Prelude.{unwrap_or}
+use Rattle.std.proofs.Common.{◌≡◌, ℕ, ◌+◌, Bool, true, List, [], ◌∷◌, ◌++◌, ◌<◌, length, map, sum, Option, Result, inl, inr, refl, sym, ap, ◌∙◌, arith, append-nil}
 use Rattle.std.proofs.lemmas.List.{get_or-map, length-map}
 use Rattle.std.proofs.lemmas.List.Sums.{sum_by_push, sum_by-cons}
-use Rattle.uring_entry.specs.Layout.{Cqe}
 use Rattle.uring_entry.specs.Requests.{outstanding_in}
 use Rattle.uring_entry.specs.Setup.{Setup}
 use Rattle.uring_core.specs.CalledFor.{IsLawful}
 use Rattle.uring_core.specs.Events.{accepted_by}
-use Rattle.uring_laws.specs.Direct.{told, with_told}
+use Rattle.uring_laws.specs.Direct.{told}
 use Rattle.uring_core.specs.Histories.{Event, History, world, history_of}
 use Rattle.uring_entry.specs.Submission.{published_items}
 use Rattle.uring_laws.proofs.DirectRequests.{direct_requests}
-use Rattle.uring_core.proofs.Following.{history_of_cons, history_of_append}
+use Rattle.uring_core.proofs.Following.{history_of_cons}
 use Rattle.uring_laws.proofs.WholeLaws.{lawful_apart}
 use Rattle.uring_ports.specs.AppEnd.{AppEnd}
-use Rattle.uring_ports.specs.Items.{all_published_as}
-use Rattle.uring_ports.specs.Ports.{Put, items_of_calls}
+use Rattle.uring_ports.specs.Ports.{Put}
 use Rattle.uring_ports.specs.declared.item.Item.{Item}
-use Rattle.uring_threads.specs.Calls.{calls_of}
 use Rattle.uring_threads.specs.Kept.{now}
 use Rattle.uring_threads.specs.Kernel.{Kernel, IsIdle}
 use Rattle.uring_threads.specs.Report.{Report, AreTogether, left_by, FinishesAll, PublishesItems, ClosesOnlyAllTaken, DeliversReaped, ReapsPosted, all_waiting}
 use Rattle.uring_threads.specs.Settled.{finish_of}
 use Rattle.uring_workers.specs.Worker.{Worker}
 use Rattle.uring_workers.specs.declared.job.JobResult.{JobResult}
-use Rattle.uring_play.specs.Plays.{IsPlay}
 use Rattle.uring_play_text.specs.declared.play_fault.PlayFault.{PlayFault}
 use Rattle.uring_play.specs.Threads.{EndsPlay, IsWhole, StaysApp, StaysKernel, StayWorkers, WritesWhole}
 use Rattle.uring_play.specs.Totals.{accepted_in, accepted_of}
 
 -- ---- a ring that is closed stays so while results are taken in
 
-closed_after : (g : Setup) (results : List JobResult) (h : History)
-    → (world g (history_of (map finish_of results) ++ h)).is_closed ≡ (world g h).is_closed
-closed_after g [] h = refl
-closed_after g (r ∷ results) h = rw (history_of_cons (finish_of r) (map finish_of results) h) (closed_after g results (finish_of r ∷ h))
-
-closed_later : (g : Setup) (trace : List Event) (results : List JobResult)
-    → (world g (history_of (trace ++ map finish_of results))).is_closed
-    ≡ (world g (history_of trace)).is_closed
-closed_later g trace results =
-    cc (history_of_append trace (map finish_of results) [], append-nil (history_of (trace ++ map finish_of results)), append-nil (history_of trace), closed_after g results (history_of trace))
+closed_later : (g : Setup) (trace : List Event) (results : List JobResult) (h : History)
+    → (world g (history_of (trace ++ map finish_of results) ++ h)).is_closed
+    ≡ (world g (history_of trace ++ h)).is_closed
+closed_later g [] [] h = refl
+closed_later g [] (r ∷ results) h = rw (history_of_cons (finish_of r) (map finish_of results) h) (closed_later g [] results (finish_of r ∷ h))
+closed_later g (e ∷ trace) results h = rw (history_of_cons e (trace ++ map finish_of results) h, history_of_cons e trace h) (closed_later g trace results (e ∷ h))
 
 -- ---- all went through
 
@@ -59,56 +50,41 @@ pub record IsOver (calls : List (List Item)) (app : AppEnd) (kernel : Kernel) (w
   pub none_outstanding : outstanding_in (left_by r).requests ≡ 0
   pub none_waits : r.waiting ≡ []
 
-pub over_is_play : (calls : List (List Item)) (app : AppEnd) (kernel : Kernel) (workers : List Worker) (r : Report) (completions : List Cqe)
-    → IsOver calls app kernel workers r → completions ≡ app.received ++ r.undelivered
-    → IsPlay kernel.kept.setup calls r.trace completions
-over_is_play calls app kernel workers r completions over all =
-    let results = all_waiting kernel.lanes workers in
-    let shut : (left_by r).is_closed ≡ true = rw (over.setup, over.trace) (closed_later kernel.kept.setup kernel.kept.trace results ∙ over.idle.closed) in
-    let went = over.closed shut in
-    let calls_are : app.submitted.calls ≡ calls = ap (λ (p : Put). p.calls) over.submitted in
-    let published : published_items (left_by r).submission ≡ all_published_as (items_of_calls calls) =
-        sym (append-nil _) ∙ rw went.unsent at over.items ∙ ap (λ cs. all_published_as (items_of_calls cs)) calls_are
-    in
-    let reaped = sym over.reaped ∙ sym all in
-    let posted = sym over.posted ∙ rw over.none_waits (append-nil _) ∙ reaped in
-    rw (← over.setup) (record {
-      lawful = over.lawful;
-      published = published;
-      cut = went.calls ∙ ap (flat_map (calls_of r.setup)) calls_are;
-      none_outstanding = over.none_outstanding;
-      reaped = reaped;
-      none_waits = posted;
-    })
-
--- and that is written, or nothing is
+-- a play of ends that were done is written, or nothing is
 pub ends_play : (calls : List (List Item)) (app : AppEnd) (kernel : Kernel) (workers : List Worker) (r : Report) (is_over : Bool) (answer : Result (Unit {0}) PlayFault) (before after : Option (List ℕ))
     → (IsWhole is_over r → IsOver calls app kernel workers r) → r.workers ≡ length workers
     → WritesWhole is_over r app.received answer before after
     → EndsPlay kernel.kept.setup (length workers) calls answer before after
 ends_play calls app kernel workers r is_over answer before after over many (inl (whole, written)) =
+    let o : IsOver calls app kernel workers r = over whole in
+    let shut : (left_by r).is_closed ≡ true = rw (o.setup, o.trace) ((simp append-nil at (closed_later kernel.kept.setup kernel.kept.trace (all_waiting kernel.lanes workers) [])) ∙ o.idle.closed) in
+    let went = o.closed shut in
+    let calls_are : app.submitted.calls ≡ calls = ap (λ (p : Put). p.calls) o.submitted in
     inl (record {
       report = r;
-      setup = (over whole).setup;
+      setup = o.setup;
       many = many;
       completions = app.received ++ r.undelivered;
-      play = over_is_play calls app kernel workers r (app.received ++ r.undelivered) (over whole) refl;
+      play = rw (← o.setup) (record {
+        lawful = o.lawful;
+        published = cc (o.items, went.unsent, append-nil (published_items (left_by r).submission), calls_are);
+        cut = cc (went.calls, calls_are);
+        none_outstanding = o.none_outstanding;
+        reaped = sym o.reaped;
+        none_waits = sym o.posted ∙ rw o.none_waits (append-nil _) ∙ sym o.reaped;
+      });
       written = written;
     })
 ends_play calls app kernel workers r is_over answer before after over many (inr nothing) = inr nothing
 
 -- ---- how many requests were accepted
 
-told_one : (before : List ℕ) (o : Option ℕ) → sum (with_told before o) ≡ sum before + unwrap_or o 0
-told_one before None = omega arith
-told_one before (Some n) = sum_by_push (λ k. k) before n
-
 told_all : (events : List Event) (h : History)
     → sum (told accepted_by (history_of events ++ h))
     ≡ sum (told accepted_by h) + accepted_in events
 told_all [] h = omega arith
 told_all (e ∷ events) h =
-    rw (history_of_cons e events h) (omega (arith, told_all events (e ∷ h), told_one (told accepted_by h) (accepted_by e), sum_by-cons accepted_of e events))
+    rw (history_of_cons e events h) (grind (arith, told_all events (e ∷ h), sum_by_push (λ k. k) (told accepted_by h), sum_by-cons accepted_of e events))
 
 -- the calls of a lawful trace accepted as many requests as there are
 pub accepted_total : (g : Setup) (trace : List Event) → IsLawful g (history_of trace)
@@ -132,12 +108,11 @@ pub still_together : {app app_after : AppEnd} {kernel kernel_after : Kernel} {wo
     → StayWorkers workers workers_after → AreTogether app_after kernel_after workers_after
 still_together {workers = workers} {workers_after = workers_after} t applies stays so =
     let count : Worker → ℕ = λ w. length w.files in
-    let many : length workers_after ≡ length workers = as_many workers workers_after so in
     record {
       ports = stays.pairing ∙ t.ports ∙ sym applies.pairing;
       sizes = stays.sizes ∙ t.sizes ∙ sym applies.sizes;
       lanes = so.lanes ∙ t.lanes ∙ sym stays.lanes;
       files = λ k e low.
-          let before : k < length workers = omega (arith, low, many) in
+          let before : k < length workers = omega (arith, low, as_many workers workers_after so) in
           cc (get_or-map count workers_after k e (count e) low, so.files, get_or-map count workers k e (count e) before, t.files k e before, stays.setup);
     }
