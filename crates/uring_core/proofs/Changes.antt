@@ -95,14 +95,14 @@ module _ (g : Setup) (w : World) where
   change_of step.Take a e =
       subst (Change g w step.Take) (sym e)
       (by_option _ w.submission.call (take_answer_in w) (search (rules, refuses)) (λ call opened.
-          by_test _ (eqb call.taken call.count) answer.NoMore
-          (place_answer (slice_get w.submission.published (taken w.submission + call.taken))) (search (rules, refuses)) (λ left.
-          by_option _ _ place_answer (search (rules, refuses)) (λ place at.
-              by_option _ place.entry entry_answer (drops call place opened left at) (λ entry. takes entry call place opened left at)))))
+      by_test _ (eqb call.taken call.count) answer.NoMore
+      (place_answer (slice_get w.submission.published (taken w.submission + call.taken))) (search (rules, refuses)) (λ left.
+      by_option _ _ place_answer (search (rules, refuses)) (λ place at.
+      by_option _ place.entry entry_answer (drops call place opened left at) (λ entry. takes entry call place opened left at)))))
   change_of step.End a e =
       subst (Change g w step.End) (sym e)
       (by_option _ w.submission.call (end_answer_in g w) (search (rules, refuses)) (λ call opened.
-          by_test _ _ answer.NotAll (answer.Taken _ _ _) (search (rules, refuses)) (λ all. closes _ _ _ call opened all refl)))
+      by_test _ _ answer.NotAll (answer.Taken _ _ _) (search (rules, refuses)) (λ all. closes _ _ _ call opened all refl)))
   change_of (step.Issue n) a e = subst (Change g w (step.Issue n)) (sym e) (issue_of n _ _ _ _ _ refl refl refl refl refl)
   change_of (step.Finish n) a e = finish_of n _ a refl e
   change_of step.Flush a e = subst (Change g w step.Flush) (sym e) (flushes _)

@@ -48,8 +48,7 @@ pub end_goes : (p : Core) (q : Sq) (d : Rules) (t : Taken)
     → FitsApart (record p { sq = q; dispatch = d; held = [] }) ((step.End, answer.Taken t.accepted t.dropped t.head) ∷ h)
 end_goes p q d t answered shown accepts h f =
     let e = answered p.setup (world p.setup h).submission f.shows.submission in
-    grind (arith, (end_shows p (world p.setup h) q d t (world p.setup h).submission.call f.shows refl accepts e),
-        (end_called p.setup (world p.setup h) t (world p.setup h).submission.call e))
+    grind (arith, (end_shows p (world p.setup h) q d t (world p.setup h).submission.call f.shows refl accepts e), (end_called p.setup (world p.setup h) t (world p.setup h).submission.call e))
 
 pub end_not_all_goes : (p : Core) (q : Sq)
     → ((g : Setup) (l : Submission) → ShowsSubmission g p.sq l → ended_as.NotAll ≡ ring.end_answer g l)

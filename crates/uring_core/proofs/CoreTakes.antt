@@ -21,9 +21,8 @@ taken_shows : (p : Core) (w : World) (q : Sq) (call : Call) (entry : Option Sqe)
     → ShowsWorld (record p { sq = q; held = held; has_skipped = has_skipped }) (taking_on w stops call)
 taken_shows p w q call entry held has_skipped stops s is e shown holds skipped =
     let at : (place : Place) × (slice_get w.submission.published (taken w.submission + call.taken) ≡ Some place) × (place.entry ≡ entry) =
-        grind (arith, (slice_get_cases w.submission.published (taken w.submission + call.taken))) in
-    grind (arith, (places_more w.submission.published (taken w.submission) call.taken at.0 at.1),
-        (taken_more w.submission call at.0 entry is at.1 at.2), filter_map-append)
+    grind (arith, (slice_get_cases w.submission.published (taken w.submission + call.taken))) in
+    grind (arith, (places_more w.submission.published (taken w.submission) call.taken at.0 at.1), (taken_more w.submission call at.0 entry is at.1 at.2), filter_map-append)
 
 -- the core answers as the ring does
 called : (p : Core) (w : World) (entry : Option Sqe) (c : Option Call) → ShowsWorld p w
@@ -61,8 +60,7 @@ pub take_entry_goes : (p : Core) (q stops : Sq) (entry : Sqe) (has_skipped : Boo
     → FitsApart (record p { sq = stops; held = p.held ++ entry ∷ []; has_skipped = has_skipped }) ((step.Take, answer.Entry entry) ∷ h)
 take_entry_goes p q stops entry has_skipped is answered shown stopped h f =
     let e = answered p.setup (world p.setup h).submission f.shows.submission in
-    grind (arith, (take_entry p (world p.setup h) stops entry has_skipped _ f.shows refl is e),
-        (called p (world p.setup h) (Some entry) _ f.shows refl e))
+    grind (arith, (take_entry p (world p.setup h) stops entry has_skipped _ f.shows refl is e), (called p (world p.setup h) (Some entry) _ f.shows refl e))
 
 -- the ring after a word was dropped, and then with its call stopped, if it stops there
 pub take_dropped_goes : (p : Core) (q stops : Sq)

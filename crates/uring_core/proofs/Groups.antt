@@ -31,8 +31,7 @@ module _ (r : Requests) (entries : List Sqe) (cut : (length r.accepted ≡ 0) �
   -- what is accepted now is of no group before
   group_apart : (m n : ℕ) → length r.accepted ≤ m → n < length r.accepted → is_in_group (with_call r entries) m n ≡ false
   group_apart m n le below =
-      grind (arith, (is_joined_no (with_call r entries) (min m n) (max m n) (length r.accepted - 1)),
-          (last_before (length r.accepted - 1)))
+      grind (arith, (is_joined_no (with_call r entries) (min m n) (max m n) (length r.accepted - 1)), (last_before (length r.accepted - 1)))
 
   pub member_kept : (p : Sqe → Bool) (n : ℕ) → n < length r.accepted
       → some_member (with_call r entries) p n ≡ some_member r p n

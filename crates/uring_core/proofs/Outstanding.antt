@@ -24,5 +24,4 @@ all_ended r none = count_below_zero (is_outstanding r) (length r.accepted) (λ n
 pub ended_less : (r : Requests) (n : ℕ) (res : ℤ) (bytes : List ℕ) → is_outstanding r n ≡ true
     → outstanding_in (with_ended r n res bytes) + 1 ≡ outstanding_in r
 ended_less r n res bytes outstanding =
-    grind (arith, (count_below_changed (is_outstanding r) (is_outstanding (with_ended r n res bytes)) (length r.accepted) n),
-        has_ended_same, has_ended_other, ltb-true, and_parts)
+    grind (arith, (count_below_changed (is_outstanding r) (is_outstanding (with_ended r n res bytes)) (length r.accepted) n), has_ended_same, has_ended_other, ltb-true, and_parts)

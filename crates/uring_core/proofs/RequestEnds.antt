@@ -19,9 +19,9 @@ pub end_sound : (r : Requests) (n : ℕ) (res : ℤ) (bytes : List ℕ) (cancell
     → IsSoundRequests (ended_as r n res bytes cancelled)
 end_sound r n res bytes cancelled outstanding s =
     let within : (m : ℕ) → has_ended (ended_as r n res bytes cancelled) m ≡ true → m < length r.accepted =
-        λ m e. grind (arith, list_any_push, eqb-true, outstanding_tells) in
+    λ m e. grind (arith, list_any_push, eqb-true, outstanding_tells) in
     let once : (m : ℕ) → count_by (λ e. e.number == m) (ended_as r n res bytes cancelled).ended ≤ 1 =
-        λ m. count_once_more (λ x. x.number == m) r.ended _ (s.ends_once m) (λ same. grind (arith, eqb-true, outstanding_tells)) in
+    λ m. count_once_more (λ x. x.number == m) r.ended _ (s.ends_once m) (λ same. grind (arith, eqb-true, outstanding_tells)) in
     assumption (s, within, once)
 
 -- a request ends as it is issued, by either's rules
@@ -58,18 +58,13 @@ module _ (r : Requests) (n : ℕ) (res : ℤ) (bytes : List ℕ) (cancelled : Li
       → is_doomed (ended_as r n res bytes cancelled) m ≡ true
   unfolding is_joined some_member
   end_doom m doomed =
-      grind (arith, (is_doomed_tells r m doomed), (is_doomed_faulty (ended_as r n res bytes cancelled) m),
-          (is_after_failure_tells r m), (is_after_failure_from (ended_as r n res bytes cancelled) m),
-          (is_doomed_after (ended_as r n res bytes cancelled) m), (is_doomed_cancelled (ended_as r n res bytes cancelled) m),
-          list_any_push, (choice.kept m))
+      grind (arith, (is_doomed_tells r m doomed), (is_doomed_faulty (ended_as r n res bytes cancelled) m), (is_after_failure_tells r m), (is_after_failure_from (ended_as r n res bytes cancelled) m), (is_doomed_after (ended_as r n res bytes cancelled) m), (is_doomed_cancelled (ended_as r n res bytes cancelled) m), list_any_push, (choice.kept m))
 
   -- who is doomed newly is a later member of n's group, or chosen
   end_doomed : (m : ℕ) → is_doomed (ended_as r n res bytes cancelled) m ≡ true → (is_doomed r m ≡ true) ⊎ (((n < m) × (is_joined r n m ≡ true)) ⊎ IsChosen r n m)
   unfolding is_joined some_member
   end_doomed m doomed =
-      grind (arith, (is_doomed_tells (ended_as r n res bytes cancelled) m doomed), (is_doomed_faulty r m),
-          (is_after_failure_tells (ended_as r n res bytes cancelled) m), (is_after_failure_from r m), (is_doomed_after r m),
-          (is_doomed_cancelled r m), list_any_push, eqb-true, (choice.added m))
+      grind (arith, (is_doomed_tells (ended_as r n res bytes cancelled) m doomed), (is_doomed_faulty r m), (is_after_failure_tells (ended_as r n res bytes cancelled) m), (is_after_failure_from r m), (is_doomed_after r m), (is_doomed_cancelled r m), list_any_push, eqb-true, (choice.added m))
 
   -- who is free stays free, unless chosen
   free_kept : (m : ℕ) → has_ended r n ≡ false → (IsChosen r n m → ⊥) → IsFree r m → IsFree (ended_as r n res bytes cancelled) m
@@ -85,8 +80,7 @@ module _ (r : Requests) (n : ℕ) (res : ℤ) (bytes : List ℕ) (cancelled : Li
       → IsSoundManual r → IsSoundManual (ended_as r n res bytes cancelled)
   end_manual outstanding how s = record {
     started_free = λ m e. grind (arith, outstanding_tells, (free_kept m), (s.started_free m e));
-    ended_how = λ m e. grind (arith, outstanding_tells, (any_new (λ x. x.number == m) r.ended (record { number = n; res = res; bytes = bytes }) e),
-        (s.ended_how m), list_any_push, ends_doomed_first, free_kept, eqb-true);
+    ended_how = λ m e. grind (arith, outstanding_tells, (any_new (λ x. x.number == m) r.ended (record { number = n; res = res; bytes = bytes }) e), (s.ended_how m), list_any_push, ends_doomed_first, free_kept, eqb-true);
   }
 
 -- nothing is chosen where a running request ends
@@ -133,8 +127,7 @@ module _ (r : Requests) (n : ℕ) where
   pub choice_of : (res : ℤ) → (res ≡ doomed_result r n) ⊎ (res ≡ cancel_result r n)
       → IsChoice r n (r.cancelled ++ chosen_by r n res)
   choice_of res how =
-      grind (arith, (λ (m : ℕ). any_kept (λ k. k == m) r.cancelled (chosen_by r n res)),
-          (λ (m : ℕ). any_both (λ k. k == m) r.cancelled (chosen_by r n res)), (chose r n res), (doomed_fails r n), is_chosen)
+      grind (arith, (λ (m : ℕ). any_kept (λ k. k == m) r.cancelled (chosen_by r n res)), (λ (m : ℕ). any_both (λ k. k == m) r.cancelled (chosen_by r n res)), (chose r n res), (doomed_fails r n), is_chosen)
 
 pub doom_manual : (r : Requests) (n : ℕ) → is_outstanding r n ≡ true → IsSoundManual r
     → IsSoundManual (with_issued_end r n (doomed_result r n))

@@ -66,12 +66,12 @@ pub start_sound : (r : Requests) (n : ℕ) → is_outstanding r n ≡ true → i
     → is_faulty (entry_of r n) ≡ false → IsSoundRequests r → IsSoundRequests (with_started r n)
 start_sound r n outstanding idle right s =
     let within : (m : ℕ) → has_started (with_started r n) m ≡ true → m < length r.accepted =
-        λ m e. grind (arith, list_any_push, eqb-true, outstanding_tells) in
+    λ m e. grind (arith, list_any_push, eqb-true, outstanding_tells) in
     let once : (m : ℕ) → count_by (λ k. k == m) (with_started r n).started ≤ 1 =
-        λ m. count_once_more (λ k. k == m) r.started n (s.starts_once m)
-        (λ same. grind (arith, eqb-true, outstanding_tells, idle_tells)) in
+    λ m. count_once_more (λ k. k == m) r.started n (s.starts_once m)
+    (λ same. grind (arith, eqb-true, outstanding_tells, idle_tells)) in
     let faultless : (m : ℕ) → has_started (with_started r n) m ≡ true → is_faulty (entry_of r m) ≡ false =
-        λ m e. grind (arith, list_any_push, eqb-true) in
+    λ m e. grind (arith, list_any_push, eqb-true) in
     assumption (s, within, once, faultless)
 
 pub start_manual : (r : Requests) (n : ℕ) → is_doomed r n ≡ false → is_ready r n ≡ true

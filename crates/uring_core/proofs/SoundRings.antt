@@ -21,8 +21,7 @@ end_sound size l c told s = grind (arith, and_parts, eqb-true, ltb-true, take-ap
 pub reap_sound : (size : ℕ) (l : Completions) (c : Cqe) → next_to_reap l ≡ Some c
     → IsSoundCompletions size l → IsSoundCompletions size (with_reaped l c)
 reap_sound size l c e s =
-    grind (arith, (slice_get_within l.posted (length l.reaped) c), (get_or_from_slice_get l.posted (length l.reaped) c c),
-        (take_more l.posted (length l.reaped) c), (length_push l.reaped c))
+    grind (arith, (slice_get_within l.posted (length l.reaped) c), (get_or_from_slice_get l.posted (length l.reaped) c c), (take_more l.posted (length l.reaped) c), (length_push l.reaped c))
 
 -- The submission ring.
 

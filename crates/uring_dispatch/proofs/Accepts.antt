@@ -26,8 +26,7 @@ joined_sound {w} {v} {g} {h} {request} s c end beyond p e top own begins fresh o
   linked = λ k x is.
       grind (arith, (before_write c is), (s.linked k x), (s.kept x.group), (cases_eq x.group request.group), (e.others x.group));
   members = λ key x k y found from to is.
-      grind (arith, (before_write c is), (s.members key x k y), (cases_eq key request.group), (e.others key),
-        (λ (q : Group). s.members request.group q k y), (s.kept key x));
+      grind (arith, (before_write c is), (s.members key x k y), (cases_eq key request.group), (e.others key), (λ (q : Group). s.members request.group q k y), (s.kept key x));
   kept = λ key x found. grind (arith, (cases_eq key request.group), (e.others key), (s.kept key x), c.others);
   beyond = rw end beyond;
   last = λ key x is found. grind (arith, (only key is));
@@ -109,9 +108,7 @@ module _ {w v : Window} {g h : Groups} {r : Requests} {entry : Sqe} {request : R
   elsewhere_shown {other} {x} is ne =
       let old = a.groups other x is in
       let none = (a.untouched (length r.accepted) (omega arith)).ended in
-      grind (arith, (group_accepted r entry x.from x.end old.group), a.last, (joined_end s c), (end_apart is ne), is_some_value,
-        (first_entry_accepted r entry is_faulty x.from x.end), (first_entry_accepted r entry is_drain x.from x.end),
-        (first_broken_accepted r entry x.from x.end none))
+      grind (arith, (group_accepted r entry x.from x.end old.group), a.last, (joined_end s c), (end_apart is ne), is_some_value, (first_entry_accepted r entry is_faulty x.from x.end), (first_entry_accepted r entry is_drain x.from x.end), (first_broken_accepted r entry x.from x.end none))
 
 pub accept_held : {w v : Window} {g h : Groups} {r : Requests} {entry : Sqe} {key : ℕ} → IsSound w g
     → AreHeld w g r → Accepts w v g h entry (new_request entry key)

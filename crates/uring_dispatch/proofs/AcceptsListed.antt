@@ -63,8 +63,7 @@ accept_listed w v g h entry request s t n sound l a is own members told heads do
               let was : group_at g request.group ≡ Some q = ap (group_at g) (sym here) ∙ link.found in
               let p : Group = with_member (Some q) (end_of w) (is_drain entry) (is_faulty entry) in
               let now : group_at h request.group ≡ Some p = a.exchange.here ∙ ap (λ o. Some (with_member o (end_of w) (is_drain entry) (is_faulty entry))) (sym a.joins ∙ was) in
-              grind (arith, (told k), (told_before w v g h s k (l.told k)), (stands_in w v g h k x p q), (a.changes.others k ne),
-                (fault_cases q.fault (is_faulty entry) (end_of w)), (members p now), (least_before sound e), (sound.kept request.group q was), link.to)
+              grind (arith, (told k), (told_before w v g h s k (l.told k)), (stands_in w v g h k x p q), (a.changes.others k ne), (fault_cases q.fault (is_faulty entry) (end_of w)), (members p now), (least_before sound e), (sound.kept request.group q was), link.to)
         ]
 
 -- A call ends.

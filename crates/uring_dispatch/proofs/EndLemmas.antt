@@ -55,8 +55,7 @@ module _ {w v : Window} {g h : Groups} {n : ℕ} {request : Request} {q : Group}
   pub end_sound : IsBeyond h.barriers (end_of w) → IsSound v h
   end_sound beyond = record {
     linked = λ k x there.
-        grind (arith, (before_end e.changes there), (s.linked k x), (cases_eq x.group request.group), (e.exchange.others x.group),
-          left_member, e.exchange.here, e.some);
+        grind (arith, (before_end e.changes there), (s.linked k x), (cases_eq x.group request.group), (e.exchange.others x.group), left_member, e.exchange.here, e.some);
     members = λ key x k y found from to there.
         grind (arith, (before_end e.changes there), (now key x found), (s.members key x k y), (s.members key q k y));
     kept = λ key x found.
@@ -70,8 +69,7 @@ module _ {w v : Window} {g h : Groups} {n : ℕ} {request : Request} {q : Group}
 outstanding_less : (r : Requests) (n : ℕ) (res : ℤ) (bytes : List ℕ) → is_outstanding r n ≡ true → n < length r.accepted
     → outstanding_in (with_ended r n res bytes) + 1 ≡ outstanding_in r
 outstanding_less r n res bytes was within =
-    grind (arith, has_ended_same,
-      (count_below_changed (is_outstanding r) (is_outstanding (with_ended r n res bytes)) _ n within (λ j ne. grind (arith, has_ended_other))))
+    grind (arith, has_ended_same, (count_below_changed (is_outstanding r) (is_outstanding (with_ended r n res bytes)) _ n within (λ j ne. grind (arith, has_ended_other))))
 
 module _ {w v : Window} {g h : Groups} {r : Requests} {n : ℕ} {request : Request} {q : Group} {least : ℕ} {broken : Option ℕ} (res : ℤ)
     (bytes : List ℕ) (s : IsSound w g) (e : Ends w v g h n request q least broken) (a : AreHeld w g r) where
@@ -84,8 +82,7 @@ module _ {w v : Window} {g h : Groups} {r : Requests} {n : ℕ} {request : Reque
         count = a.count ∙ sym e.end;
         outstanding = omega (arith, lost.outstanding, a.outstanding, outstanding_less r n res bytes (outstanding_some s a n e.there) within);
         running =
-            grind (arith, lost.runs, a.running, (running_some a n e.there), is_running_ended_same, is_running_ended_other,
-              (count_below_changed (is_running r) (is_running (with_ended r n res bytes))));
+            grind (arith, lost.runs, a.running, (running_some a n e.there), is_running_ended_same, is_running_ended_other, (count_below_changed (is_running r) (is_running (with_ended r n res bytes))));
         ended = λ m gone lt.
             grind (arith, (cases_eq m n), has_ended_same, (has_ended_other r n res bytes m), (a.ended m), (e.changes.others m));
         shown = λ k x there. grind (arith, (before_end e.changes there), (has_ended_other r n res bytes k), (a.shown k x));
@@ -95,8 +92,7 @@ module _ {w v : Window} {g h : Groups} {r : Requests} {n : ℕ} {request : Reque
                   let old = a.shown n request e.there in
                   let broken_is = breaks left.1 in
                   rw left.2
-                  (grind (arith, (a.groups request.group q e.group), (within_group s e.there e.group), (group_ended r n res bytes q.from q.end),
-                    (first_broken_ended r n res bytes q.from q.end)))
+                  (grind (arith, (a.groups request.group q e.group), (within_group s e.there e.group), (group_ended r n res bytes q.from q.end), (first_broken_ended r n res bytes q.from q.end)))
               | inr kept ↦ grind (arith, group_ended, first_broken_elsewhere, (s.members key x n request kept.1), e.there, kept.0, (a.groups key x kept.1))
             ];
         last = λ k end. grind (arith, (a.last k), e.closed);

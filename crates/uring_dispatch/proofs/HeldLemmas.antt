@@ -103,8 +103,7 @@ module _ {w : Window} {g : Groups} {r : Requests} {n : ℕ} {request : Request} 
       let drains = sym shown.drain ∙ other.2 in
       let inside = first_member_inside (λ m. is_drain (entry_of r m)) p.from p.end b.number drains in
       let going = least_open i.sound i.held b.key other.1 in
-      grind (arith, (groups_apart r p.from p.end q.from q.end b.number shown.group i.shown.group), (ready_not_after r n p.least),
-        (draining_is r p.from p.end p.least shown.group))
+      grind (arith, (groups_apart r p.from p.end q.from q.end b.number shown.group i.shown.group), (ready_not_after r n p.least), (draining_is r p.from p.end p.least shown.group))
 
   -- A group that drains waits for all that is earlier.
   pub not_alone : is_some q.drain ≡ true → HasBefore w q.from → is_ready r n ≡ false
@@ -126,5 +125,4 @@ module _ {w : Window} {g : Groups} {r : Requests} {n : ℕ} {request : Request} 
       → (is_some q.drain ≡ true → (m : ℕ) → m < q.from → at w m ≡ None) → is_ready r n ≡ true
   ready_held least free alone =
       let within = shown_within i.sound i.held i.there in
-      grind (arith, (ready_yes r q.from q.end n i.shown.group i.from i.to), i.held.ended, draining_held, i.kept,
-        (λ (m : ℕ) (low : m < q.from) (x : Request) (e : at w m ≡ Some x). plain_before i.sound i.held i.shown.group free e low))
+      grind (arith, (ready_yes r q.from q.end n i.shown.group i.from i.to), i.held.ended, draining_held, i.kept, (λ (m : ℕ) (low : m < q.from) (x : Request) (e : at w m ≡ Some x). plain_before i.sound i.held i.shown.group free e low))

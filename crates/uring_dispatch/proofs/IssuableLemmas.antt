@@ -29,8 +29,7 @@ module _ {w : Window} {g : Groups} {r : Requests} {n : ℕ} {q : Request} {p : G
   group_after key {b} here after =
       let kept = i.sound.kept key b here in
       let shown = i.held.groups key b here in
-      grind (arith, (groups_apart r b.from b.end p.from p.end), (i.sound.members key b b.least),
-        (i.sound.members q.group p b.least), is_some_value)
+      grind (arith, (groups_apart r b.from b.end p.from p.end), (i.sound.members key b b.least), (i.sound.members q.group p b.least), is_some_value)
 
 -- where the first group drains from is inside it
 first_inside : {w : Window} {g : Groups} {r : Requests} {b : Group} → AreHeld w g r
@@ -55,9 +54,7 @@ module _ {w : Window} {g : Groups} {r : Requests} (s : IsSound w g) (h : AreHeld
   limit_begins {b} f before n q p there found least =
       let inside = first_inside h f in
       let i = in_group s h there found in
-      grind (arith, (ready_held i least), is_some_value, (f.first q.group), first_member_inside, (cases_lt n b.from),
-        (groups_apart r p.from p.end b.from b.end n i.shown.group (h.groups f.key b f.here).group), i.shown.drain,
-        (group_same i f.key f.here), (not_alone i), (after_first i f))
+      grind (arith, (ready_held i least), is_some_value, (f.first q.group), first_member_inside, (cases_lt n b.from), (groups_apart r p.from p.end b.from b.end n i.shown.group (h.groups f.key b f.here).group), i.shown.drain, (group_same i f.key f.here), (not_alone i), (after_first i f))
 
   -- nothing before it is
   pub limit_ends : {b : Group} → IsFirstDraining g b → ((m : ℕ) → m < b.from → at w m ≡ None)
@@ -110,8 +107,7 @@ module _ {w : Window} {g : Groups} {r : Requests} {s : Waiting} (limit : ℕ) (s
   -- all are counted up to the last
   pub count_end : (m : ℕ) → end_of w ≤ m → count_below (can_go s limit) m ≡ length (issuables_of r)
   count_end m le =
-      grind (arith, (count_below_past (can_go s limit)), can_go_gone, at_past,
-        (count_below_same (can_go s limit) (is_issuable r)), can_go_is, length_all_below)
+      grind (arith, (count_below_past (can_go s limit)), can_go_gone, at_past, (count_below_same (can_go s limit) (is_issuable r)), can_go_is, length_all_below)
 
   -- the one before which so many are counted
   pub nth_is : {n k : ℕ} → can_go s limit n ≡ true → count_below (can_go s limit) n ≡ k

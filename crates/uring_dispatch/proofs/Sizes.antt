@@ -15,8 +15,8 @@ groups_counted (None ∷ rest) p n pass own =
 groups_counted (Some g ∷ rest) p n pass own =
     let others : ℕ → Bool = λ m. p m && not (m == g.least) in
     let few : length (filter is_some rest) ≤ count_below others n =
-        groups_counted rest others n (λ k q e. grind (arith, (pass (suc k) q e), (own 0 (suc k) g q refl e), (ne_eqb q.least g.least)))
-        (λ j k q x e f same. let one = own (suc j) (suc k) q x e f same in omega arith) in
+    groups_counted rest others n (λ k q e. grind (arith, (pass (suc k) q e), (own 0 (suc k) g q refl e), (ne_eqb q.least g.least)))
+    (λ j k q x e f same. let one = own (suc j) (suc k) q x e f same in omega arith) in
     grind (arith, (count_below_changed p others n g.least), (pass 0 g refl), (λ (m : ℕ). ne_eqb m g.least))
 
 pub groups_few : (w : Window) (g : Groups) → IsSound w g → count_by is_some g.records ≤ end_of w

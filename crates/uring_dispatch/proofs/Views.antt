@@ -27,8 +27,7 @@ pub least_held : (w : Window) (g : Groups) (r : Requests) (o : Option ℕ) → I
 least_held w g r None s h m = grind (arith, (least_below_none (is_outstanding r) (length r.accepted)), (outstanding_none h))
 least_held w g r (Some n) s h m =
     let q = is_some_value (at w n) m.here in
-    grind (arith, (least_below_some (is_outstanding r)), (outstanding_none h), (outstanding_some s h n q.1),
-      (shown_within s h q.1), m.before)
+    grind (arith, (least_below_some (is_outstanding r)), (outstanding_none h), (outstanding_some s h n q.1), (shown_within s h q.1), m.before)
 
 pub entry_none : (w : Window) (g : Groups) (r : Requests) (n : ℕ) → AreHeld w g r → at w n ≡ None
     → None ≡ entry_outstanding r n

@@ -54,8 +54,7 @@ pub stands_ended : {w v : Window} {g h : Groups} {n : ℕ} {request : Request} {
     → (breaks ≡ true → k < q.end → (k < n) ⊎ (is_before q.broken k ≡ true)) → k ≢ n
     → (least < q.end → k ≢ least) → StandsAsBefore w v g h k
 stands_ended {w} {v} {g} {h} {n} {request} {q} {least} {k} {broken} s e breaks broken_is after ne_n ne_least =
-    grind (arith, (e.changes.others k ne_n), (left_member s e), (λ (x : Request). e.exchange.others x.group), e.next.from_on,
-      (is_some_value (at w k)))
+    grind (arith, (e.changes.others k ne_n), (left_member s e), (λ (x : Request). e.exchange.others x.group), e.next.from_on, (is_some_value (at w k)))
 
 -- What is covered.
 

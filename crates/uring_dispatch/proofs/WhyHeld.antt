@@ -72,9 +72,7 @@ module _ {w : Window} {g : Groups} {r : Requests} {n : ℕ} {request : Request} 
       → ((key number : ℕ) → drain_of (group_at g key) ≡ Some number → from ≤ number)
       → (k : ℕ) → k < from → holds_back r n k ≡ false
   early_free plain from end group le free k low =
-      grind (arith, (gone_free i.sound i.held i.there), (joined_member r q.from q.end k n i.shown.group i.from i.to),
-        (draining_held i), i.from,
-        (λ (other : Request) (e : at w k ≡ Some other). plain_before i.sound i.held group free e low))
+      grind (arith, (gone_free i.sound i.held i.there), (joined_member r q.from q.end k n i.shown.group i.from i.to), (draining_held i), i.from, (λ (other : Request) (e : at w k ≡ Some other). plain_before i.sound i.held group free e low))
 
   -- an earlier group is the first that drains
   pub first_draining_is : {b : Group} → is_some q.drain ≡ false → IsFirstDraining g b → b.from < q.from
@@ -97,8 +95,7 @@ module _ {w : Window} {g : Groups} {r : Requests} {n : ℕ} {request : Request} 
       → IsFirstHolder r n q.least
   first_own plain free =
       let going = least_open i.sound i.held request.group i.found in
-      grind (arith, (early_free plain q.from q.end), (gone_free i.sound i.held i.there),
-        (joined_member r q.from q.end q.least n i.shown.group i.from i.to))
+      grind (arith, (early_free plain q.from q.end), (gone_free i.sound i.held i.there), (joined_member r q.from q.end q.least n i.shown.group i.from i.to))
 
 pub waits_for : (r : Requests) (n m : ℕ) (since : Since) → m < n → IsFirstHolder r n m
     → since ≡ since_of r n m → Waits m since ≡ waiting_for r n (holder_of r n)

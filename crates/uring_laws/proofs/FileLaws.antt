@@ -37,9 +37,10 @@ pub lawful_if_done : (g : Setup) (h : History) → IsLawfulApart g h
     → AreDone (first_files g) (done_in g h) → IsLawful g h
 lawful_if_done g [] apart done = tt
 lawful_if_done g ((step.Finish n, answer.Ended res bytes) ∷ before) apart done =
-    let parts = done_unsnoc (first_files g) (done_in g before) _ done in
-    (ends_on (files_of g (world g before)) (world g before).requests n (is_running (world g before).requests n) (answer.Ended res bytes) apart.0 (λ x y e. rw (files_by_operations g before apart.1) (rw (let f : res ≡ x = cc in f, let f : bytes ≡ y = cc in f) at parts.1)),
-    lawful_if_done g before apart.1 parts.0)
+    let parts = done_unsnoc (first_files g) (done_in g before) _ done in (
+      ends_on (files_of g (world g before)) (world g before).requests n (is_running (world g before).requests n) (answer.Ended res bytes) apart.0 (λ x y e. rw (files_by_operations g before apart.1) (rw (let f : res ≡ x = cc in f, let f : bytes ≡ y = cc in f) at parts.1)),
+      lawful_if_done g before apart.1 parts.0,
+    )
 lawful_if_done g ((step.Finish n, a) ∷ before) apart done =
     (ends_on (files_of g (world g before)) (world g before).requests n (is_running (world g before).requests n) a apart.0 (λ x y e. absurd cc), lawful_if_done g before apart.1 done)
 lawful_if_done g ((s, a) ∷ before) apart done = (apart.0, lawful_if_done g before apart.1 done)

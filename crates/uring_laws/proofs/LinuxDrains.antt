@@ -66,8 +66,8 @@ module _ (r : Requests) (d : Drains) (i : IsAmid r d) where
   group_drained = cond_both (not d.ring || is_faulty_from r d.from) _ _ (IsDrained r)
       (λ some. drained_by d.deferred d.ring (let lt = i.some in order_higher (IsTold r) 0 d.deferred d.from (length r.accepted) (omega (arith, lt)) i.holds.told) (some_waits some) (λ off m lt other. grind (arith, calm_new)))
       (λ none.
-          let p = or_parts (not d.ring) (is_faulty_from r d.from) none in
-          drained_by (after_going_on r all) _ (order_still (IsTold r) (is_alone r all) 0 all (length r.accepted) (told_all p.1)) (waits_on r all (length r.accepted) (omega arith) (told_all p.1) all_waits) (held_ring p.1 p.0))
+      let p = or_parts (not d.ring) (is_faulty_from r d.from) none in
+      drained_by (after_going_on r all) _ (order_still (IsTold r) (is_alone r all) 0 all (length r.accepted) (told_all p.1)) (waits_on r all (length r.accepted) (omega arith) (told_all p.1) all_waits) (held_ring p.1 p.0))
 
 -- An entry is accepted.
 

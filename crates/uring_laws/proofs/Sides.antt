@@ -53,8 +53,7 @@ both_sides g h s t a b on other one two lawful =
     let c = on_submission g w s a (change_of g w s a (lawful_apart g ((s, a) ∷ h) (one, lawful)).0) on in
     let d = on_rest g w t b (change_of g w t b (lawful_apart g ((t, b) ∷ h) (two, lawful)).0) other in
     let left : happens g v t b ≡ submitted (with_rest w u) v.submission = ap (λ (v : World). happens g v t b) c.alone ∙ (d.beside v.submission ∙ ap (λ (u : World). submitted u v.submission) d.alone) in
-    let right : happens g u s a ≡ submitted (with_rest w u) v.submission = ap (λ (u : World). happens g u s a) d.alone ∙ (c.beside u ∙ ap (λ (v : World). with_rest v u) c.alone) in
-    (
+    let right : happens g u s a ≡ submitted (with_rest w u) v.submission = ap (λ (u : World). happens g u s a) d.alone ∙ (c.beside u ∙ ap (λ (v : World). with_rest v u) c.alone) in (
       record { lawful = (subst (λ v. CalledFor g v s a) (sym d.alone) ((sub_called g w u s a on).0 one), (two, lawful)); alike = alike_same g _ _ (left ∙ sym right) },
       record { lawful = (subst (λ v. CalledFor g v t b) (sym c.alone) ((rest_called g w v.submission t b other).0 two), (one, lawful)); alike = alike_same g _ _ (right ∙ sym left) },
     )

@@ -88,8 +88,11 @@ pub whole_told : (is_over : Bool) (report : Report) (received old sorted : List 
     → Writes answer before after (lines_text sorted ++ counts_text taken dropped)
     → WritesWhole is_over report received answer before after
 whole_told is_over report received old sorted taken dropped answer before after whole lawful all last same permuted ordered writes =
-    inl (whole, (
-      lines_text sorted ++ counts_text taken dropped,
-      record { sorted = sorted; same = rw same at permuted; in_order = ordered; is = rw (all, last, accepted_total report.setup report.trace lawful) refl },
-      writes,
-    ))
+    inl (
+      whole,
+      (
+        lines_text sorted ++ counts_text taken dropped,
+        record { sorted = sorted; same = rw same at permuted; in_order = ordered; is = rw (all, last, accepted_total report.setup report.trace lawful) refl },
+        writes,
+      ),
+    )

@@ -37,8 +37,7 @@ tied_published g w put items t not_closed few =
       published = λ good.
           let before : List Published = all_published_as (items_of_calls put.calls) in
           let all = rw whole at good in
-          rw (whole, items_published l g.sq shown t.stands.fresh (omega (arith, few, length-map items published_as))
-          (rw (drop_at before shown (length before) refl) at (All-drop (IsItem g.sq) (length before) (before ++ shown) all)), t.published (all_first (IsItem g.sq) before shown all));
+          rw (whole, items_published l g.sq shown t.stands.fresh (omega (arith, few, length-map items published_as)) (rw (drop_at before shown (length before) refl) at (All-drop (IsItem g.sq) (length before) (before ++ shown) all)), t.published (all_first (IsItem g.sq) before shown all));
       calls = rw (published_left g l items t.stands.fresh t.stands few, stand.2, before_is, flat_map-append, append-nil);
       stands = rw (stand.1, zero-add) at (tail_publishes g _ _ stand.0);
       spent = tt;
