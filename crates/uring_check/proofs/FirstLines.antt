@@ -1,14 +1,8 @@
 -- What a checker makes of the first line, and of those after it.
 use Rattle.std.proofs.Common.{◌≡◌, ℕ, Bool, true, false, List, [], ◌∷◌, ◌++◌, Option, Some, None, refl, sym, ap, ◌∙◌, arith}
-use Rattle.uring_check.proofs.Common.{AreJudgedBy, Checker, Ends, FitsBy, Follower, Found, IsSaid, IsTold, Looks, LooksBy, LooksIf, Rules, Setup, append-nil, awaits_first, closing, lines_of, missed_text, rules_of, string_bytes, told_of_all}
+use Rattle.uring_check.proofs.Common.{Checker, Ends, FitsBy, Follower, Found, IsSaid, IsTold, Looks, LooksBy, LooksIf, Rules, Setup, append-nil, closing, lines_of, missed_text, rules_of, string_bytes, told_of_all}
 use Rattle.uring_check.specs.declared.setup_line.Said.TheVariants.{Nothing, Says, Misses}
 use Rattle.uring_check.specs.declared.verdict.Verdict.TheVariants as verdict
-
--- a line after the first one changes nothing of the rules
-ruled_more : (given : Rules) (lines : List (List ℕ)) (line : List ℕ) (rules : Option Rules)
-    → awaits_first lines ≡ false → AreJudgedBy given lines rules
-    → AreJudgedBy given (line ∷ lines) rules
-ruled_more given lines line rules late are = grind arith
 
 -- what a step over one line makes of a checker that looks by rules, and of one that is over
 abbrev pub Goes : List ℕ → Checker → Checker → Type 0
@@ -31,7 +25,7 @@ pub took_next : (d : Rules) (all : Bool) (lines : List (List ℕ)) (text : List 
     → Looks d all (text ∷ lines) new
 took_next d all lines text old new late goes rests k =
     let on = looks_on k.rules all lines text old new goes rests k.looked in
-    grind (arith, on, (ruled_more d lines text k.rules (sym k.awaits ∙ late) k.ruled))
+    grind (arith, on, (sym k.awaits ∙ late), (k.ruled))
 
 -- ---- the first line
 

@@ -13,11 +13,6 @@ pub record IsRight (g : Rules) (all : Bool) (xs : List Found) : Type 0 where
   pub recorded : AreRecorded g (lines_of xs) (history_after xs)
   pub goes_on : has_stopped all xs ≡ false
 
--- where there is no fault, there was none before, nor is this finding one
-no_fault : (v : Verdict) (f : Finding) → judged v f ≡ verdict.Lawful
-    → (v ≡ verdict.Lawful) × (judged verdict.Lawful f ≡ verdict.Lawful)
-no_fault v f e = grind arith
-
 -- one line more
 right_more : (g : Rules) (all : Bool) (before : List Found) (line : List ℕ) (f : Finding)
     → IsFinding g (history_after before) line f → judged verdict.Lawful f ≡ verdict.Lawful → IsRight g all before
@@ -34,7 +29,7 @@ pub all_right : (g : Rules) (all : Bool) (xs : List Found) → AreFound g all xs
     → verdict_of xs ≡ verdict.Lawful → IsRight g all xs
 all_right g all [] are v = record { lawful = grind arith; recorded = refl; goes_on = refl }
 all_right g all (x ∷ before) are v =
-    let none = no_fault (verdict_of before) x.finding v in
+    let none : (verdict_of before ≡ verdict.Lawful) × (judged verdict.Lawful x.finding ≡ verdict.Lawful) = grind (arith, v) in
     let r = all_right g all before are.1 none.0 in
     right_more g all before x.line x.finding (rw r.goes_on at are.0) none.1 r
 
@@ -45,9 +40,7 @@ same_event : (g : Rules) (past known : History) (line : List ℕ) (s t : Step) (
     → past ≡ known → Records g line (t, b) → Records g line (s, a) → IsCalled g past t b
     → IsCalled g known s a → ((t, b) ∷ past) ≡ ((s, a) ∷ known)
 same_event g past known line s t a b same rec is called right =
-    let once = record_once line t s (text_of b) (text_of a) rec.0 is.0 in
-    let answers : b ≡ a = called_once g known s b a (rw (same, once.0) at called) right once.1 (rw once.0 at rec.1) is.1 in
-    λ i. (once.0 i, answers i) ∷ same i
+    grind (arith, (record_once line t s (text_of b) (text_of a) rec.0 is.0), (called_once g known s b a))
 
 pub same_history : (g : Rules) (lines : List (List ℕ)) (h k : History) → IsLawfulBy g h
     → AreRecorded g lines h → IsLawfulBy g k → AreRecorded g lines k → h ≡ k
@@ -62,11 +55,6 @@ same_history g (line ∷ lines) h k p (inr x) q (inr y) =
     x.2 ∙ same_event g x.1 y.1 line y.0.0 x.0.0 y.0.1 x.0.1 past x.3 y.3 one.0 other.0 ∙ sym y.2
 
 -- ---- the text of no lawful history
-
--- the lines before are the text of a lawful history too
-lawful_before : (g : Rules) (line : List ℕ) (lines : List (List ℕ)) → IsLawfulText g (line ∷ lines)
-    → IsLawfulText g lines
-lawful_before g line lines is = grind (arith, lawful_first)
 
 -- the first line that isn't right is no line of a lawful history
 none_more : (g : Rules) (line : List ℕ) (lines : List (List ℕ)) (known h : History) (f : Finding)
@@ -94,7 +82,7 @@ unlawful_said g all (x ∷ before) are v is =
           let r = all_right g all before are.1 so in
           none_more g x.line (lines_of before) (history_after before) is.0 x.finding (rw r.goes_on at are.0) (λ e. v (ap (λ (w : Verdict). judged w x.finding) so ∙ e))
           (λ past lawful rec. same_history g (lines_of before) past (history_after before) lawful rec r.lawful r.recorded) is.1 is.2
-      | inr fault ↦ unlawful_said g all before are.1 fault (lawful_before g x.line (lines_of before) is)
+      | inr fault ↦ unlawful_said g all before are.1 fault (grind (arith, is, lawful_first))
     ]
 
 pub said : (g : Rules) (all : Bool) (xs : List Found) (v : Verdict) → AreFound g all xs

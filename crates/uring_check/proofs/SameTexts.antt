@@ -13,11 +13,8 @@ use Rattle.uring_core.specs.declared.step.Step.TheVariants as step
 
 -- ---- Begin
 
-call_again : (n : ℕ) → text_of (answer.Call n) ≡ text_of answer.Again → ⊥
-call_again n e = grind arith
-
 pub begin_once : (x a b : Answer) → OrAgain x a → OrAgain x b → text_of a ≡ text_of b → a ≡ b
-begin_once x a b e f same = grind (arith, call_again)
+begin_once x a b e f same = grind arith
 
 -- ---- Finish
 

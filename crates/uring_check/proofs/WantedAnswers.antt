@@ -1,6 +1,6 @@
 -- What a text says of the answers that are called for.
 use Rattle.std.proofs.Common.{◌≡◌, drop, ◌∷◌, ℕ, ℤ, neg_ℤ, Bool, true, false, List, [], Option, Some, None, refl, sym, ap, ◌∙◌, inl, inr, arith}
-use Rattle.uring_check.proofs.Common.{AllowedBy, Answer, AnyEnd, CallOrAgain, CalledBy, CalledIn, ENOMEM, EndOrNoMemory, Ends, FinishesApart, FitsBy, Follower, HasOneAnswer, History, IsEither, IsEnded, IsJudged, IsOneJudged, IsPlain, IsWanted, IsWrong, IsWrongText, Judges, MayGive, Only, Requests, Rules, Setup, Step, Wanted, World, entry_asked, entry_in, is_apart, is_running, no_bytes, rules_of, text_of, world, Meets}
+use Rattle.uring_check.proofs.Common.{AllowedBy, Answer, AnyEnd, CallOrAgain, CalledBy, CalledIn, ENOMEM, EndOrNoMemory, Ends, FitsBy, Follower, HasOneAnswer, History, IsEither, IsEnded, IsJudged, IsOneJudged, IsPlain, IsWanted, IsWrong, IsWrongText, Judges, MayGive, Only, Requests, Rules, Setup, Step, Wanted, World, entry_asked, entry_in, is_apart, no_bytes, rules_of, text_of, world, Meets}
 use Rattle.uring_core.specs.Core.{IsNoFinish}
 use Rattle.uring_core.specs.Recorded.{IsRefused, resumed}
 use Rattle.uring_core.specs.declared.wanted.Refusal.{Refusal}
@@ -62,19 +62,13 @@ sure_judged old new s text x (Some wanted) one rules fits judged = λ h f.
     let all = λ (a : Answer) (c : CalledBy g h s a). one_answer (is_apart g.ends) g.setup (world g.setup h) s a x one c called in
     rw judged.0 (wrong_text g h s text (Only x) all (λ a is. rw is called) (λ a is _ same _. judged.1 (ap text_of (sym is) ∙ same)), fits h f)
 
--- without files no one end is called for alone
-only_end : (running : Bool) (res : ℤ) (bytes : List ℕ)
-    → ((a : Answer) → FinishesApart running a → a ≡ answer.Ended res bytes)
-    → FinishesApart running (answer.Ended res bytes) → ⊥
-only_end running res bytes called is = grind (arith, (called (answer.Ended res [])), (called (answer.Ended res (0 ∷ []))))
-
--- an answer that alone is called for is told by its text, and whatever its result, it is allowed
+-- without files no one end is called for alone, so an answer that alone is called for is told by its text, and whatever its result, it is allowed
 only_one : (x : Answer) (e : Ends) (g : Setup) (h : History) (s : Step)
     → IsWrong (CalledIn (is_apart e) g (world g h) s) answer.Filled (Only x)
     → IsPlain x (is_apart e) s × MayGive x (entry_in e (world g h).requests s)
 only_one (answer.Ended res bytes) ends.Given g h _ w = (tt, tt)
 only_one (answer.Ended res bytes) _ g h (step.Finish n) w =
-    absurd (only_end (is_running (world g h).requests n) res bytes w.called (w.only (answer.Ended res bytes) refl))
+    absurd (grind (arith, (w.called (answer.Ended res [])), (w.called (answer.Ended res (0 ∷ []))), (w.only (answer.Ended res bytes) refl)))
 only_one _ _ g h _ w = (tt, tt)
 
 -- the one answer that is wanted was compared
