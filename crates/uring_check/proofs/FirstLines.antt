@@ -39,15 +39,10 @@ none_found : (found : List Found) → lines_of found ≡ [] → found ≡ []
 none_found [] is = refl
 none_found (x ∷ before) is = absurd cc
 
--- the checker's machine and its text were put in the place of others, before the first line
-abbrev pub with_follower : Checker → Follower → Checker
-with_follower c m = record c { machine = m; awaits = false }
-
+-- the checker's machine was put in the place of another, before the first line
 fresh : (given g : Rules) (all : Bool) (old : Checker) (m : Follower) → LooksBy given all [] old
-    → rules_of m ≡ g → FitsBy m [] → LooksBy g all [] (with_follower old m)
-fresh given g all old m l same fits =
-    let none = none_found l.found l.lines_are in
-    grind (arith, none)
+    → rules_of m ≡ g → FitsBy m [] → LooksBy g all [] (record old { machine = m; awaits = false })
+fresh given g all old m l same fits = grind (arith, (none_found l.found l.lines_are))
 
 -- a first line that says no set-up
 pub took_first : (d : Rules) (all : Bool) (lines : List (List ℕ)) (text : List ℕ) (old new : Checker)
@@ -66,7 +61,7 @@ with_setup s ends = record { setup = s; ends = ends }
 pub took_setup : (d : Rules) (all : Bool) (lines : List (List ℕ)) (text : List ℕ) (s : Setup) (old new : Checker) (m : Follower)
     → old.awaits ≡ true → IsSaid text (Says s)
     → rules_of m ≡ with_setup s (rules_of old.machine).ends → FitsBy m []
-    → Goes text (with_follower old m) new → Looks d all lines old
+    → Goes text (record old { machine = m; awaits = false }) new → Looks d all lines old
     → Looks d all (text ∷ lines) new
 took_setup d all lines text s old new m waits said rules fits goes = at_first d all lines text old new waits (λ l.
     let g : Rules = with_setup s d.ends in

@@ -11,13 +11,9 @@ use Rattle.uring_check.proofs.WantedAnswers.{one_answer}
 abbrev end_with : List ℕ → Answer
 end_with bytes = answer.Ended (pos 0) bytes
 
--- every end is called for, after this history
-abbrev AnyCalled : Bool → Setup → History → Step → Type 0
-AnyCalled apart g h s = (a : Answer) → IsEnded a → CalledIn apart g (world g h) s a
-
--- such a step is the Finish of a request without files
+-- a step of which every end is called for is the Finish of a request without files
 any_called : (apart : Bool) (g : Setup) (h : History) (s : Step)
-    → AnyCalled apart g h s → (apart ≡ true) × (n : ℕ) × (s ≡ step.Finish n)
+    → ((a : Answer) → IsEnded a → CalledIn apart g (world g h) s a) → (apart ≡ true) × (n : ℕ) × (s ≡ step.Finish n)
 any_called true g h (step.Finish n) any = (refl, n, refl)
 any_called false g h (step.Finish n) any = grind (arith, (any (end_with []) tt), (any (end_with (0 ∷ [])) tt))
 any_called apart g h (step.Begin count) any =

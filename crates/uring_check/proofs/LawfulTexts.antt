@@ -22,8 +22,7 @@ right_more g all before line finding.Passed is v r =
 right_more g all before line (finding.Right s a) is v r =
     let recorded = inr ((s, a), history_after before, refl, (is.0, is.1), r.recorded) in
     record { lawful = grind (arith, is.2, r.lawful); recorded = recorded; goes_on = r.goes_on }
-right_more g all before line finding.Skipped is v r = absurd is
-right_more g all before line _ is v r = absurd cc
+right_more g all before line _ is v r = absurd (grind (arith, is, v))
 
 pub all_right : (g : Rules) (all : Bool) (xs : List Found) → AreFound g all xs
     → verdict_of xs ≡ verdict.Lawful → IsRight g all xs

@@ -1,6 +1,6 @@
 -- What a checker makes of lines.
 use Rattle.std.proofs.Common.{◌≡◌, ℕ, ◌+◌, ◌-◌, ◌^◌, min, Bool, true, false, not, List, ◌∷◌, ◌++◌, length, Some, None, refl, sym, ap, subst, ◌∙◌, append_assoc, arith}
-use Rattle.uring_check.proofs.Common.{CalledBy, Checker, FitsBy, Follower, History, IsNoRecord, IsRecord, IsStanding, Judges, Knows, Looked, LooksAt, LooksBy, Rules, Setup, Step, Verdict, Wanted, append-nil, codes, completion_wanted, counted_with, entry_asked, first_fault, has_stopped, history_after, judged, line_text, noted_poster, posters, reasons_by, reasons_told, rules_of, string_bytes, wanted_text, why_bad, with_finding, world}
+use Rattle.uring_check.proofs.Common.{CalledBy, Checker, FitsBy, Follower, History, IsNoRecord, IsRecord, IsStanding, Judges, Knows, Looked, LooksAt, LooksBy, Rules, Setup, Step, Verdict, Wanted, append-nil, codes, completion_wanted, counted_with, first_fault, has_stopped, history_after, judged, line_text, noted_poster, posters, reasons_by, rules_of, string_bytes, wanted_text, why_bad, with_finding, world}
 use Rattle.std.specs.declared.alloc.Global.{Global}
 use Rattle.std.specs.declared.string.String.{String}
 use Rattle.std.specs.declared.vec.Vec.{Vec}
@@ -20,9 +20,6 @@ use Rattle.uring_check.proofs.WantedAnswers.{fits_called}
 pub looked_passed : (c : Checker) (line : List ℕ) (h : History) → IsNoRecord line
     → is_remark line ≡ true → c.is_over ≡ false → Knows c h → Looked c c line h
 looked_passed c line h none remark over fits = grind (arith, append-nil)
-
-regroup : (i a b c d e : List ℕ) → i ++ a ++ b ++ c ++ d ++ e ≡ i ++ (a ++ b ++ c ++ d ++ e)
-regroup i a b c d e = simp append_assoc refl
 
 -- a bad line was found, and told
 pub looked_bad : (old mid : Checker) (report : String Global) (line : List ℕ) (h : History)
@@ -89,9 +86,7 @@ looked_wrong old new m t p before after s text line wanted x notes same asked ju
       counted = ap (λ (c : Checker). c.steps) is;
       decided = ap (λ (c : Checker). c.verdict) is;
       stopped = ap (λ (c : Checker). c.is_over) is;
-      told =
-          (rw (known.asked, known.why, known.chosen, known.found, known.poster) at told)
-          ∙ regroup (string_bytes old.report) (line_text old.number) (ended (visible_line line)) (codes "wanted: ") (ended (wanted_text (entry_asked (rules_of old.machine) h s) wanted)) (reasons_told (rules_of old.machine).setup h s wanted);
+      told = grind (arith, append_assoc, told, known);
     }
 
 -- ---- all lines

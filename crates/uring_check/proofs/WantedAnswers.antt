@@ -24,11 +24,7 @@ one_answer false g w _ a b one p q = p ∙ sym q
 pub no_finish : (s : Step) → HasOneAnswer s → IsNoFinish s
 no_finish s one = grind arith
 
--- an answer to such a step is told by its text
-plain_one : (a : Answer) (apart : Bool) (s : Step) → HasOneAnswer s → IsPlain a apart s
-plain_one a apart s one = grind arith
-
--- nor is anything asked of its result
+-- nothing is asked of its result
 allowed_one : (a : Answer) (e : Ends) (r : Requests) (s : Step) → HasOneAnswer s
     → MayGive a (entry_in e r s)
 allowed_one (answer.Ended res bytes) ends.Allowed r (step.Finish n) one = absurd one
@@ -55,7 +51,8 @@ pub sure_judged : (old new : Follower) (s : Step) (text : List ℕ) (x : Answer)
     → HasOneAnswer s → rules_of new ≡ rules_of old
     → ((h : History) → FitsBy old h → FitsBy new ((s, x) ∷ h)) → IsOneJudged x text found
     → Judges old new s text found
-sure_judged old new s text x None one rules fits same = search (rules, plain_one, rules_of, allowed_one)
+sure_judged old new s text x None one rules fits same =
+    let plain : IsPlain x (is_apart (rules_of old).ends) s = grind (arith, one) in search (rules, plain, rules_of, allowed_one)
 sure_judged old new s text x (Some wanted) one rules fits judged = λ h f.
     let g : Rules = rules_of old in
     let called : CalledBy g h s x = rw rules at (fits_called new s x h (fits h f)) in
