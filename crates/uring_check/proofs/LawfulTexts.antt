@@ -1,10 +1,11 @@
 -- What findings say of the text of a lawful history.
 use Rattle.std.proofs.Common.{◌≡◌, ◌⊎◌, ℕ, Bool, false, List, [], ◌∷◌, refl, sym, ap, ◌∙◌, inl, inr, arith}
-use Rattle.uring_check.proofs.Common.{Answer, AreFound, AreRecorded, Finding, Found, History, IsCalled, IsFinding, IsLawfulBy, IsLawfulText, Records, Rules, Step, Verdict, has_stopped, history_after, judged, lines_of, text_of, true≢false, verdict_of}
+use Rattle.uring_check.proofs.Common.{AreFound, AreRecorded, Finding, Found, History, IsFinding, IsLawfulBy, IsLawfulText, Rules, Verdict, has_stopped, history_after, judged, lines_of, text_of, true≢false, verdict_of, world}
 use Rattle.uring_check.specs.Checks.{Says}
 use Rattle.uring_check.specs.Findings as finding
 use Rattle.uring_check.specs.declared.verdict.Verdict.TheVariants as verdict
-use Rattle.uring_check.proofs.RuleLaws.{called_once, lawful_first}
+use Rattle.uring_check.proofs.RuleLaws.{apart_once, lawful_first}
+use Rattle.uring_check.proofs.SameTexts.{answer_once}
 use Rattle.uring_check.proofs.Splitting.{record_once}
 
 -- the history is lawful, these lines are its text, and no check stopped at one of them
@@ -34,13 +35,6 @@ all_right g all (x ∷ before) are v =
 
 -- ---- one lawful history has the text
 
--- a line records one event at most that is lawful after a history
-same_event : (g : Rules) (past known : History) (line : List ℕ) (s t : Step) (a b : Answer)
-    → past ≡ known → Records g line (t, b) → Records g line (s, a) → IsCalled g past t b
-    → IsCalled g known s a → ((t, b) ∷ past) ≡ ((s, a) ∷ known)
-same_event g past known line s t a b same rec is called right =
-    grind (arith, (record_once line t s (text_of b) (text_of a) rec.0 is.0), (called_once g known s b a))
-
 pub same_history : (g : Rules) (lines : List (List ℕ)) (h k : History) → IsLawfulBy g h
     → AreRecorded g lines h → IsLawfulBy g k → AreRecorded g lines k → h ≡ k
 same_history g [] h k p x q y = x ∙ sym y
@@ -51,7 +45,8 @@ same_history g (line ∷ lines) h k p (inr x) q (inr y) =
     let one = lawful_first g x.0.0 x.0.1 x.1 (rw x.2 at p) in
     let other = lawful_first g y.0.0 y.0.1 y.1 (rw y.2 at q) in
     let past : x.1 ≡ y.1 = same_history g lines x.1 y.1 one.1 x.4 other.1 y.4 in
-    x.2 ∙ same_event g x.1 y.1 line y.0.0 x.0.0 y.0.1 x.0.1 past x.3 y.3 one.0 other.0 ∙ sym y.2
+    let once = record_once line x.0.0 y.0.0 (text_of x.0.1) (text_of y.0.1) x.3.0 y.3.0 in
+    grind (arith, (x.2), (y.2), past, (one.0), (other.0), (x.3), (y.3), once, (apart_once g.setup (world g.setup y.1) y.0.0 x.0.1 y.0.1), (answer_once g.setup (world g.setup y.1) y.0.0 x.0.1 y.0.1))
 
 -- ---- the text of no lawful history
 

@@ -1,6 +1,6 @@
 -- What a checker makes of lines.
 use Rattle.std.proofs.Common.{◌≡◌, ℕ, ◌+◌, ◌-◌, ◌^◌, min, Bool, true, false, not, List, ◌∷◌, ◌++◌, length, Some, None, refl, sym, ap, subst, ◌∙◌, append_assoc, arith}
-use Rattle.uring_check.proofs.Common.{CalledBy, Checker, FitsBy, Follower, History, IsNoRecord, IsRecord, IsStanding, Judges, Knows, Looked, LooksAt, LooksBy, Rules, Setup, Step, Verdict, Wanted, append-nil, codes, completion_wanted, counted_with, first_fault, has_stopped, history_after, judged, line_text, noted_poster, posters, reasons_by, rules_of, string_bytes, wanted_text, why_bad, with_finding, world}
+use Rattle.uring_check.proofs.Common.{CalledBy, Checker, FitsBy, Follower, History, IsNoRecord, IsRecord, IsStanding, Judges, Knows, Looked, LooksAt, LooksBy, Rules, Step, Verdict, Wanted, append-nil, codes, completion_wanted, counted_with, first_fault, has_stopped, history_after, judged, line_text, noted_poster, posters, reasons_by, rules_of, string_bytes, wanted_text, why_bad, with_finding, world}
 use Rattle.std.specs.declared.alloc.Global.{Global}
 use Rattle.std.specs.declared.string.String.{String}
 use Rattle.std.specs.declared.vec.Vec.{Vec}
@@ -12,7 +12,7 @@ use Rattle.uring_text.specs.Visible.{visible_line}
 use Rattle.uring_check.specs.declared.answer_text.AnswerText.{AnswerText}
 use Rattle.uring_check.specs.declared.standing.Standing.{Standing}
 use Rattle.uring_check.specs.declared.verdict.Verdict.TheVariants as verdict
-use Rattle.uring_check.proofs.Posting.{fits_lawful, knows_resumed, knows_step}
+use Rattle.uring_check.proofs.Posting.{knows_resumed, knows_step}
 use Rattle.uring_check.proofs.WantedAnswers.{fits_called}
 
 -- ---- one line
@@ -45,12 +45,11 @@ pub looked_right : (old : Checker) (m : Follower) (t : AnswerText) (p : Vec ℕ 
     → LooksAt old (record old { machine = m; steps = steps; told = t; posters = p }) line
 looked_right old m t p steps before after s text line notes counted same over judges is = λ h f.
     let j = judges h f.0 in
-    let eq : (rules_of old.machine).setup ≡ (rules_of m).setup = ap (λ (r : Rules). r.setup) (sym same) in
     record {
       finding = finding.Right s j.0;
       is_so = (subst (λ (x : List ℕ). IsRecord line s x) (sym j.1) is, j.2, (subst (λ (g : Rules). CalledBy g h s j.0) same (fits_called m s j.0 h j.4), j.3));
       same = same;
-      fits = (j.4, knows_step (rules_of m).setup s j.0 h old.posters.items p.items before after (fits_lawful m ((s, j.0) ∷ h) j.4) (f.1 ∙ ap (λ (g : Setup). posters g h) eq) (notes.before_is h f ∙ ap (λ (g : Setup). length (world g h).completions.posted) eq) (notes.after_is ((s, j.0) ∷ h) j.4) notes.more);
+      fits = (j.4, knows_step (rules_of m).setup s j.0 h old.posters.items p.items before after (grind (arith, (j.4))) (rw same f.1) (rw same (notes.before_is h f)) (notes.after_is ((s, j.0) ∷ h) j.4) notes.more);
       is_all = refl;
       awaits = refl;
       numbered = refl;
@@ -71,10 +70,8 @@ pub looked_wrong : (old new : Checker) (m : Follower) (t : AnswerText) (p : Vec 
     → IsRecord line s text → LooksAt old new line
 looked_wrong old new m t p before after s text line wanted x notes same asked judges is told rec = λ h f.
     let j = judges h f.0 in
-    let eq : (rules_of old.machine).setup ≡ (rules_of m).setup = ap (λ (r : Rules). r.setup) (sym same) in
     let later : History = with_finding (finding.Wrong s wanted) h in
-    let known = asked h f in
-    let noted : p.items ≡ posters (rules_of m).setup later = knows_resumed (rules_of m).setup s wanted h old.posters.items p.items before after (fits_lawful m later j.1) (f.1 ∙ ap (λ (g : Setup). posters g h) eq) (notes.before_is h f ∙ ap (λ (g : Setup). length (world g h).completions.posted) eq) (notes.after_is later j.1) notes.more in
+    let noted : p.items ≡ posters (rules_of m).setup later = knows_resumed (rules_of m).setup s wanted h old.posters.items p.items before after (grind (arith, (j.1))) (rw same f.1) (rw same (notes.before_is h f)) (notes.after_is later j.1) notes.more in
     record {
       finding = finding.Wrong s wanted;
       is_so = (text, rec, j.0);
@@ -86,7 +83,7 @@ looked_wrong old new m t p before after s text line wanted x notes same asked ju
       counted = ap (λ (c : Checker). c.steps) is;
       decided = ap (λ (c : Checker). c.verdict) is;
       stopped = ap (λ (c : Checker). c.is_over) is;
-      told = grind (arith, append_assoc, told, known);
+      told = grind (arith, append_assoc, told, (asked h f));
     }
 
 -- ---- all lines

@@ -23,8 +23,7 @@ growth_text n small e = signed_decimal_injective (pos n) (neg_ℤ ENOMEM) small 
 end_once : (files : List FileContents) (r : Requests) (n : ℕ) (running : Bool) (a b : Answer)
     → EndsOn files r n running a → EndsOn files r n running b → text_of a ≡ text_of b → a ≡ b
 end_once files r n true (answer.Ended res bytes) (answer.Ended res' bytes') e f same = grind (arith, growth_text)
-end_once files r n true (answer.Ended res bytes) _ e f same = absurd f
-end_once files r n true _ b e f same = absurd e
+end_once files r n true _ _ e f same = absurd (grind (arith, e, f))
 end_once files r n false a b e f same = e ∙ sym f
 
 -- ---- any step
