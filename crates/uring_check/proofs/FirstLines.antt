@@ -49,8 +49,7 @@ pub took_first : (d : Rules) (all : Bool) (lines : List (List ℕ)) (text : List
     → old.awaits ≡ true → IsSaid text Nothing → Goes text (record old { awaits = false }) new
     → Looks d all lines old → Looks d all (text ∷ lines) new
 took_first d all lines text old new waits said goes = at_first d all lines text old new waits (λ l.
-    let fits : FitsBy old.machine [] = rw (none_found l.found l.lines_are) at l.fits.0 in
-    let on = goes d all [] (fresh d d all old old.machine l l.same fits) in
+    let on = goes d all [] (fresh d d all old old.machine l l.same (rw (none_found l.found l.lines_are) at l.fits.0)) in
     record { rules = Some d; ruled = (Nothing, said, refl); looked = on.0; awaits = on.1 })
 
 -- rules of this set-up

@@ -1,6 +1,6 @@
 -- What a checker makes of lines.
 use Rattle.std.proofs.Common.{◌≡◌, ℕ, ◌+◌, ◌-◌, ◌^◌, min, Bool, true, false, not, List, ◌∷◌, ◌++◌, length, Some, None, refl, sym, ap, subst, ◌∙◌, append_assoc, arith}
-use Rattle.uring_check.proofs.Common.{CalledBy, Checker, FitsBy, Follower, History, IsNoRecord, IsRecord, IsStanding, Judges, Knows, Looked, LooksAt, LooksBy, Rules, Step, Verdict, Wanted, append-nil, codes, completion_wanted, counted_with, first_fault, has_stopped, history_after, judged, line_text, noted_poster, posters, reasons_by, rules_of, string_bytes, wanted_text, why_bad, with_finding, world}
+use Rattle.uring_check.proofs.Common.{Checker, FitsBy, Follower, History, IsNoRecord, IsRecord, IsStanding, Judges, Knows, Looked, LooksAt, LooksBy, Rules, Step, Verdict, Wanted, append-nil, codes, completion_wanted, counted_with, first_fault, has_stopped, history_after, judged, line_text, noted_poster, posters, reasons_by, rules_of, string_bytes, wanted_text, why_bad, with_finding, world}
 use Rattle.std.specs.declared.alloc.Global.{Global}
 use Rattle.std.specs.declared.string.String.{String}
 use Rattle.std.specs.declared.vec.Vec.{Vec}
@@ -13,7 +13,6 @@ use Rattle.uring_check.specs.declared.answer_text.AnswerText.{AnswerText}
 use Rattle.uring_check.specs.declared.standing.Standing.{Standing}
 use Rattle.uring_check.specs.declared.verdict.Verdict.TheVariants as verdict
 use Rattle.uring_check.proofs.Posting.{knows_resumed, knows_step}
-use Rattle.uring_check.proofs.WantedAnswers.{fits_called}
 
 -- ---- one line
 
@@ -47,7 +46,7 @@ looked_right old m t p steps before after s text line notes counted same over ju
     let j = judges h f.0 in
     record {
       finding = finding.Right s j.0;
-      is_so = (subst (λ (x : List ℕ). IsRecord line s x) (sym j.1) is, j.2, (subst (λ (g : Rules). CalledBy g h s j.0) same (fits_called m s j.0 h j.4), j.3));
+      is_so = (subst (λ (x : List ℕ). IsRecord line s x) (sym j.1) is, j.2, (grind (arith, same, (j.4)), j.3));
       same = same;
       fits = (j.4, knows_step (rules_of m).setup s j.0 h old.posters.items p.items before after (grind (arith, (j.4))) (rw same f.1) (rw same (notes.before_is h f)) (notes.after_is ((s, j.0) ∷ h) j.4) notes.more);
       is_all = refl;

@@ -1,6 +1,6 @@
 -- Whose completions were posted.
 use Rattle.std.proofs.Common.{◌≡◌, ℕ, Bool, List, [], ◌∷◌, ◌++◌, length, append-nil, arith}
-use Rattle.uring_check.proofs.Common.{Answer, FitsBy, Follower, History, IsLawfulApart, Only, Setup, Step, Wanted, World, entry_of, if◌then◌else◌, length-append, noted_poster, number_in, poster_of, posters, resumed, rules_of, world}
+use Rattle.uring_check.proofs.Common.{Answer, History, IsLawfulApart, Only, Setup, Step, Wanted, World, entry_of, if◌then◌else◌, length-append, noted_poster, number_in, poster_of, posters, resumed, world}
 use Rattle.uring_entry.specs.Completions.{Completions, completion_for, with_posted}
 use Rattle.uring_entry.specs.Layout.{Cqe}
 use Rattle.uring_rules.specs.Rules.{posts}
@@ -44,7 +44,3 @@ pub knows_resumed : (g : Setup) (s : Step) (wanted : Wanted) (h : History) (know
     → later ≡ posters g (resumed s (refusal.Wrong wanted) h)
 knows_resumed g s (Only x) h known later before after lawful is was now more = knows_step g s x h known later before after lawful is was now more
 knows_resumed g s _ h known later before after lawful is was now more = grind (arith, append-nil)
-
--- a history that a follower fits is lawful apart from what operations gave
-pub fits_lawful : (m : Follower) (h : History) → FitsBy m h → IsLawfulApart (rules_of m).setup h
-fits_lawful m h f = grind arith

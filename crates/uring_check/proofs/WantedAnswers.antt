@@ -41,11 +41,6 @@ wrong_text g h s text wanted called only other = record {
   only = λ a meets allowed. (only a meets, allowed);
 }
 
--- what a follower fits is called for
-pub fits_called : (m : Follower) (s : Step) (a : Answer) (h : History) → FitsBy m ((s, a) ∷ h)
-    → CalledBy (rules_of m) h s a
-fits_called m s a h f = grind arith
-
 -- a step was made with the one answer that was called for
 pub sure_judged : (old new : Follower) (s : Step) (text : List ℕ) (x : Answer) (found : Option Wanted)
     → HasOneAnswer s → rules_of new ≡ rules_of old
@@ -55,7 +50,7 @@ sure_judged old new s text x None one rules fits same =
     let plain : IsPlain x (is_apart (rules_of old).ends) s = grind (arith, one) in search (rules, plain, rules_of, allowed_one)
 sure_judged old new s text x (Some wanted) one rules fits judged = λ h f.
     let g : Rules = rules_of old in
-    let called : CalledBy g h s x = rw rules at (fits_called new s x h (fits h f)) in
+    let called : CalledBy g h s x = grind (arith, rules, (fits h f)) in
     let all = λ (a : Answer) (c : CalledBy g h s a). one_answer (is_apart g.ends) g.setup (world g.setup h) s a x one c called in
     rw judged.0 (wrong_text g h s text (Only x) all (λ a is. rw is called) (λ a is _ same _. judged.1 (ap text_of (sym is) ∙ same)), fits h f)
 
