@@ -1,6 +1,6 @@
 -- What a checker makes of the first line, and of those after it.
 use Rattle.std.proofs.Common.{◌≡◌, ℕ, Bool, true, false, List, [], ◌∷◌, ◌++◌, Option, Some, None, refl, sym, ap, ◌∙◌, arith}
-use Rattle.uring_check.proofs.Common.{Checker, Ends, FitsBy, Follower, Found, IsSaid, IsTold, Looks, LooksBy, LooksIf, Rules, Setup, append-nil, closing, lines_of, missed_text, rules_of, string_bytes, told_of_all}
+use Rattle.uring_check.proofs.Common.{Checker, Ends, FitsBy, Follower, Found, IsSaid, IsTold, Looks, LooksBy, LooksIf, Rules, Setup, append-nil, closing, lines_of, missed_text, rules_of, string_bytes}
 use Rattle.uring_check.specs.declared.setup_line.Said.TheVariants.{Nothing, Says, Misses}
 use Rattle.uring_check.specs.declared.verdict.Verdict.TheVariants as verdict
 
@@ -64,8 +64,7 @@ pub took_setup : (d : Rules) (all : Bool) (lines : List (List ℕ)) (text : List
     → Looks d all (text ∷ lines) new
 took_setup d all lines text s old new m waits said rules fits goes = at_first d all lines text old new waits (λ l.
     let g : Rules = with_setup s d.ends in
-    let same : rules_of m ≡ g = rules ∙ ap (λ (r : Rules). with_setup s r.ends) l.same in
-    let on = goes g all [] (fresh d g all old m l same fits) in
+    let on = goes g all [] (fresh d g all old m l (grind (arith, rules, (l.same))) fits) in
     record { rules = Some g; ruled = (Says s, said, refl); looked = on.0; awaits = on.1 })
 
 -- a first line that is to say one and says none
@@ -75,11 +74,10 @@ pub took_missed : (d : Rules) (all : Bool) (lines : List (List ℕ)) (text : Lis
     → string_bytes new.report ≡ string_bytes mid.report ++ missed_text → Looks d all lines old
     → Looks d all (text ∷ lines) new
 took_missed d all lines text old mid new waits said begun is told = at_first d all lines text old new waits (λ l.
-    let empty : string_bytes mid.report ≡ [] = ap (λ (c : Checker). string_bytes c.report) begun ∙ l.told ∙ ap (told_of_all d) (none_found l.found l.lines_are) in
     record {
       rules = None;
       ruled = (Misses, said, refl);
-      looked = (ap (λ (c : Checker). c.is_over) is, ap (λ (c : Checker). c.verdict) is, told ∙ ap (λ (t : List ℕ). t ++ missed_text) empty);
+      looked = (ap (λ (c : Checker). c.is_over) is, ap (λ (c : Checker). c.verdict) is, grind (arith, told, begun, (l.told), (none_found l.found l.lines_are)));
       awaits = ap (λ (c : Checker). c.awaits) is ∙ ap (λ (c : Checker). c.awaits) begun;
     })
 

@@ -1,6 +1,6 @@
 -- How a line is split at its first `=`.
 use Rattle.std.proofs.Common.{◌≡◌, ◌≢◌, ℕ, ◌+◌, ◌<◌, ◌≤◌, List, [], ◌∷◌, ◌++◌, length, take, drop, get_or, refl, sym, ap, subst, ◌∙◌, append_assoc, inl, inr, arith, length-append}
-use mathlib.Core.List.{head-eq_of_cons-eq, tail-eq_of_cons-eq}
+use mathlib.Core.List.{tail-eq_of_cons-eq}
 use Rattle.std.specs.List.{AllByRecursion}
 use Rattle.uring_check.proofs.Common.{IsNoRecord, IsRecord, IsSplit, IsUnsplit, Step, append_cancel_right, cases_lt, drop_more, take-append-drop, take_all}
 use Rattle.uring_trace.specs.Spelling.{IsStep, IsBad}
@@ -25,10 +25,9 @@ none_more (x ∷ xs) h = (h.0, none_more xs h.1)
 first_once : (xs ys us vs : List ℕ) → HasNone xs → HasNone us → xs ++ 61 ∷ ys ≡ us ++ 61 ∷ vs
     → (xs ≡ us) × (ys ≡ vs)
 first_once [] ys [] vs h k e = (refl, tail-eq_of_cons-eq e)
-first_once [] ys (u ∷ us) vs h k e = absurd (k.0 (sym (head-eq_of_cons-eq e)))
-first_once (x ∷ xs) ys [] vs h k e = absurd (h.0 (head-eq_of_cons-eq e))
 first_once (x ∷ xs) ys (u ∷ us) vs h k e =
     grind (arith, (first_once xs ys us vs h.1 k.1 (tail-eq_of_cons-eq e)), tail-eq_of_cons-eq)
+first_once _ ys _ vs h k e = absurd (grind (arith, h, k, e))
 
 -- a split line, at its `=`
 at_sign : (line before text : List ℕ) → IsSplit line before text
