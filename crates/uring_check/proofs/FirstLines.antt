@@ -1,14 +1,8 @@
 -- What a checker makes of the first line, and of those after it.
 use Rattle.std.proofs.Common.{◌≡◌, ℕ, Bool, true, false, List, [], ◌∷◌, ◌++◌, Option, Some, None, refl, sym, ap, ◌∙◌, arith}
-use Rattle.uring_check.proofs.Common.{AreJudgedBy, Checker, Ends, FitsBy, Follower, Found, IsSaid, IsTold, Looks, LooksBy, LooksIf, Rules, Setup, append-nil, awaits_first, closing, lines_of, missed_text, rules_of, string_bytes, told_of_all}
+use Rattle.uring_check.proofs.Common.{Checker, Ends, FitsBy, Follower, Found, IsSaid, IsTold, Looks, LooksBy, LooksIf, Rules, Setup, append-nil, closing, lines_of, missed_text, rules_of, string_bytes}
 use Rattle.uring_check.specs.declared.setup_line.Said.TheVariants.{Nothing, Says, Misses}
 use Rattle.uring_check.specs.declared.verdict.Verdict.TheVariants as verdict
-
--- a line after the first one changes nothing of the rules
-ruled_more : (given : Rules) (lines : List (List ℕ)) (line : List ℕ) (rules : Option Rules)
-    → awaits_first lines ≡ false → AreJudgedBy given lines rules
-    → AreJudgedBy given (line ∷ lines) rules
-ruled_more given lines line rules late are = grind arith
 
 -- what a step over one line makes of a checker that looks by rules, and of one that is over
 abbrev pub Goes : List ℕ → Checker → Checker → Type 0
@@ -31,7 +25,7 @@ pub took_next : (d : Rules) (all : Bool) (lines : List (List ℕ)) (text : List 
     → Looks d all (text ∷ lines) new
 took_next d all lines text old new late goes rests k =
     let on = looks_on k.rules all lines text old new goes rests k.looked in
-    grind (arith, on, (ruled_more d lines text k.rules (sym k.awaits ∙ late) k.ruled))
+    grind (arith, on, (sym k.awaits ∙ late), (k.ruled))
 
 -- ---- the first line
 
@@ -45,23 +39,17 @@ none_found : (found : List Found) → lines_of found ≡ [] → found ≡ []
 none_found [] is = refl
 none_found (x ∷ before) is = absurd cc
 
--- the checker's machine and its text were put in the place of others, before the first line
-abbrev pub with_follower : Checker → Follower → Checker
-with_follower c m = record c { machine = m; awaits = false }
-
+-- the checker's machine was put in the place of another, before the first line
 fresh : (given g : Rules) (all : Bool) (old : Checker) (m : Follower) → LooksBy given all [] old
-    → rules_of m ≡ g → FitsBy m [] → LooksBy g all [] (with_follower old m)
-fresh given g all old m l same fits =
-    let none = none_found l.found l.lines_are in
-    grind (arith, none)
+    → rules_of m ≡ g → FitsBy m [] → LooksBy g all [] (record old { machine = m; awaits = false })
+fresh given g all old m l same fits = grind (arith, (none_found l.found l.lines_are))
 
 -- a first line that says no set-up
 pub took_first : (d : Rules) (all : Bool) (lines : List (List ℕ)) (text : List ℕ) (old new : Checker)
     → old.awaits ≡ true → IsSaid text Nothing → Goes text (record old { awaits = false }) new
     → Looks d all lines old → Looks d all (text ∷ lines) new
 took_first d all lines text old new waits said goes = at_first d all lines text old new waits (λ l.
-    let fits : FitsBy old.machine [] = rw (none_found l.found l.lines_are) at l.fits.0 in
-    let on = goes d all [] (fresh d d all old old.machine l l.same fits) in
+    let on = goes d all [] (fresh d d all old old.machine l l.same (rw (none_found l.found l.lines_are) at l.fits.0)) in
     record { rules = Some d; ruled = (Nothing, said, refl); looked = on.0; awaits = on.1 })
 
 -- rules of this set-up
@@ -72,12 +60,11 @@ with_setup s ends = record { setup = s; ends = ends }
 pub took_setup : (d : Rules) (all : Bool) (lines : List (List ℕ)) (text : List ℕ) (s : Setup) (old new : Checker) (m : Follower)
     → old.awaits ≡ true → IsSaid text (Says s)
     → rules_of m ≡ with_setup s (rules_of old.machine).ends → FitsBy m []
-    → Goes text (with_follower old m) new → Looks d all lines old
+    → Goes text (record old { machine = m; awaits = false }) new → Looks d all lines old
     → Looks d all (text ∷ lines) new
 took_setup d all lines text s old new m waits said rules fits goes = at_first d all lines text old new waits (λ l.
     let g : Rules = with_setup s d.ends in
-    let same : rules_of m ≡ g = rules ∙ ap (λ (r : Rules). with_setup s r.ends) l.same in
-    let on = goes g all [] (fresh d g all old m l same fits) in
+    let on = goes g all [] (fresh d g all old m l (grind (arith, rules, (l.same))) fits) in
     record { rules = Some g; ruled = (Says s, said, refl); looked = on.0; awaits = on.1 })
 
 -- a first line that is to say one and says none
@@ -87,11 +74,10 @@ pub took_missed : (d : Rules) (all : Bool) (lines : List (List ℕ)) (text : Lis
     → string_bytes new.report ≡ string_bytes mid.report ++ missed_text → Looks d all lines old
     → Looks d all (text ∷ lines) new
 took_missed d all lines text old mid new waits said begun is told = at_first d all lines text old new waits (λ l.
-    let empty : string_bytes mid.report ≡ [] = ap (λ (c : Checker). string_bytes c.report) begun ∙ l.told ∙ ap (told_of_all d) (none_found l.found l.lines_are) in
     record {
       rules = None;
       ruled = (Misses, said, refl);
-      looked = (ap (λ (c : Checker). c.is_over) is, ap (λ (c : Checker). c.verdict) is, told ∙ ap (λ (t : List ℕ). t ++ missed_text) empty);
+      looked = (ap (λ (c : Checker). c.is_over) is, ap (λ (c : Checker). c.verdict) is, grind (arith, told, begun, (l.told), (none_found l.found l.lines_are)));
       awaits = ap (λ (c : Checker). c.awaits) is ∙ ap (λ (c : Checker). c.awaits) begun;
     })
 

@@ -1,6 +1,6 @@
 -- What a machine that fits a history never wants, so that the judge of an end refuses for want of memory alone.
 use Rattle.std.proofs.Common.{◌≡◌, ◌≤◌, ℕ, ℤ, ◌∷◌, pos, Bool, true, false, List, [], refl, arith, sym, ◌∙◌}
-use Rattle.uring_check.proofs.Common.{AllowedBy, Answer, AnyEnd, CalledIn, EndOrNoMemory, Ends, FinishesApart, Follower, History, IsEnded, IsWanted, IsWrong, MayGive, Meets, Setup, Step, entry_in, is_apart, is_running, no_bytes, rules_of, true≢false, world}
+use Rattle.uring_check.proofs.Common.{AllowedBy, Answer, AnyEnd, CalledIn, EndOrNoMemory, Ends, Follower, History, IsEnded, IsWanted, IsWrong, MayGive, Setup, Step, entry_in, is_apart, no_bytes, rules_of, true≢false, world}
 use Rattle.uring_core.specs.declared.answer.Answer.TheVariants as answer
 use Rattle.uring_core.specs.declared.step.Step.TheVariants as step
 use Rattle.uring_check.specs.declared.ends.Ends.TheVariants as ends
@@ -11,13 +11,9 @@ use Rattle.uring_check.proofs.WantedAnswers.{one_answer}
 abbrev end_with : List ℕ → Answer
 end_with bytes = answer.Ended (pos 0) bytes
 
--- every end is called for, after this history
-abbrev AnyCalled : Bool → Setup → History → Step → Type 0
-AnyCalled apart g h s = (a : Answer) → IsEnded a → CalledIn apart g (world g h) s a
-
--- such a step is the Finish of a request without files
+-- a step of which every end is called for is the Finish of a request without files
 any_called : (apart : Bool) (g : Setup) (h : History) (s : Step)
-    → AnyCalled apart g h s → (apart ≡ true) × (n : ℕ) × (s ≡ step.Finish n)
+    → ((a : Answer) → IsEnded a → CalledIn apart g (world g h) s a) → (apart ≡ true) × (n : ℕ) × (s ≡ step.Finish n)
 any_called true g h (step.Finish n) any = (refl, n, refl)
 any_called false g h (step.Finish n) any = grind (arith, (any (end_with []) tt), (any (end_with (0 ∷ [])) tt))
 any_called apart g h (step.Begin count) any =
@@ -37,19 +33,13 @@ pub any_apart : (m : Follower) (s : Step) (h : History) → IsWanted h m s AnyEn
 any_apart m s h is off =
     true≢false (sym (any_called (is_apart (rules_of m).ends) (rules_of m).setup h s is.0.only).0 ∙ off)
 
--- without files no two ends alone are wanted
-no_either : (running : Bool) (res : ℤ)
-    → ((a : Answer) → FinishesApart running a → Meets (EndOrNoMemory res) a)
-    → ((a : Answer) → Meets (EndOrNoMemory res) a → FinishesApart running a) → ⊥
-no_either running res called only = grind (arith, (called (end_with (0 ∷ []))), (only (answer.Ended res no_bytes)))
-
--- so results need not be allowed where they are
+-- without files no two ends alone are wanted, so results need not be allowed where they are
 pub either_allowed : (m : Follower) (s : Step) (h : History) (res : ℤ) (x : Answer)
     → IsWanted h m s (EndOrNoMemory res) → AllowedBy (rules_of m) h s x
 either_allowed m s h res x is = go x (rules_of m).ends s is.0
   where
     go : (y : Answer) (e : Ends) (t : Step) → IsWrong (CalledIn (is_apart e) (rules_of m).setup (world (rules_of m).setup h) t) answer.Filled (EndOrNoMemory res) → MayGive y (entry_in e (world (rules_of m).setup h).requests t)
-    go (answer.Ended z bytes) ends.Allowed (step.Finish n) w = absurd (no_either (is_running (world (rules_of m).setup h).requests n) res w.called w.only)
+    go (answer.Ended z bytes) ends.Allowed (step.Finish n) w = absurd (grind (arith, (w.called (end_with (0 ∷ []))), (w.only (answer.Ended res no_bytes))))
     go _ _ _ w = tt
 
 -- so many elements suffice

@@ -1,10 +1,11 @@
 -- What findings say of the text of a lawful history.
 use Rattle.std.proofs.Common.{◌≡◌, ◌⊎◌, ℕ, Bool, false, List, [], ◌∷◌, refl, sym, ap, ◌∙◌, inl, inr, arith}
-use Rattle.uring_check.proofs.Common.{Answer, AreFound, AreRecorded, Finding, Found, History, IsCalled, IsFinding, IsLawfulBy, IsLawfulText, Records, Rules, Step, Verdict, has_stopped, history_after, judged, lines_of, text_of, true≢false, verdict_of}
+use Rattle.uring_check.proofs.Common.{AreFound, AreRecorded, Finding, Found, History, IsFinding, IsLawfulBy, IsLawfulText, Rules, Verdict, has_stopped, history_after, judged, lines_of, text_of, true≢false, verdict_of, world}
 use Rattle.uring_check.specs.Checks.{Says}
 use Rattle.uring_check.specs.Findings as finding
 use Rattle.uring_check.specs.declared.verdict.Verdict.TheVariants as verdict
-use Rattle.uring_check.proofs.RuleLaws.{called_once, lawful_first}
+use Rattle.uring_check.proofs.RuleLaws.{apart_once, lawful_first}
+use Rattle.uring_check.proofs.SameTexts.{answer_once}
 use Rattle.uring_check.proofs.Splitting.{record_once}
 
 -- the history is lawful, these lines are its text, and no check stopped at one of them
@@ -12,11 +13,6 @@ pub record IsRight (g : Rules) (all : Bool) (xs : List Found) : Type 0 where
   pub lawful : IsLawfulBy g (history_after xs)
   pub recorded : AreRecorded g (lines_of xs) (history_after xs)
   pub goes_on : has_stopped all xs ≡ false
-
--- where there is no fault, there was none before, nor is this finding one
-no_fault : (v : Verdict) (f : Finding) → judged v f ≡ verdict.Lawful
-    → (v ≡ verdict.Lawful) × (judged verdict.Lawful f ≡ verdict.Lawful)
-no_fault v f e = grind arith
 
 -- one line more
 right_more : (g : Rules) (all : Bool) (before : List Found) (line : List ℕ) (f : Finding)
@@ -27,27 +23,17 @@ right_more g all before line finding.Passed is v r =
 right_more g all before line (finding.Right s a) is v r =
     let recorded = inr ((s, a), history_after before, refl, (is.0, is.1), r.recorded) in
     record { lawful = grind (arith, is.2, r.lawful); recorded = recorded; goes_on = r.goes_on }
-right_more g all before line finding.Skipped is v r = absurd is
-right_more g all before line _ is v r = absurd cc
+right_more g all before line _ is v r = absurd (grind (arith, is, v))
 
 pub all_right : (g : Rules) (all : Bool) (xs : List Found) → AreFound g all xs
     → verdict_of xs ≡ verdict.Lawful → IsRight g all xs
 all_right g all [] are v = record { lawful = grind arith; recorded = refl; goes_on = refl }
 all_right g all (x ∷ before) are v =
-    let none = no_fault (verdict_of before) x.finding v in
+    let none : (verdict_of before ≡ verdict.Lawful) × (judged verdict.Lawful x.finding ≡ verdict.Lawful) = grind (arith, v) in
     let r = all_right g all before are.1 none.0 in
     right_more g all before x.line x.finding (rw r.goes_on at are.0) none.1 r
 
 -- ---- one lawful history has the text
-
--- a line records one event at most that is lawful after a history
-same_event : (g : Rules) (past known : History) (line : List ℕ) (s t : Step) (a b : Answer)
-    → past ≡ known → Records g line (t, b) → Records g line (s, a) → IsCalled g past t b
-    → IsCalled g known s a → ((t, b) ∷ past) ≡ ((s, a) ∷ known)
-same_event g past known line s t a b same rec is called right =
-    let once = record_once line t s (text_of b) (text_of a) rec.0 is.0 in
-    let answers : b ≡ a = called_once g known s b a (rw (same, once.0) at called) right once.1 (rw once.0 at rec.1) is.1 in
-    λ i. (once.0 i, answers i) ∷ same i
 
 pub same_history : (g : Rules) (lines : List (List ℕ)) (h k : History) → IsLawfulBy g h
     → AreRecorded g lines h → IsLawfulBy g k → AreRecorded g lines k → h ≡ k
@@ -59,14 +45,10 @@ same_history g (line ∷ lines) h k p (inr x) q (inr y) =
     let one = lawful_first g x.0.0 x.0.1 x.1 (rw x.2 at p) in
     let other = lawful_first g y.0.0 y.0.1 y.1 (rw y.2 at q) in
     let past : x.1 ≡ y.1 = same_history g lines x.1 y.1 one.1 x.4 other.1 y.4 in
-    x.2 ∙ same_event g x.1 y.1 line y.0.0 x.0.0 y.0.1 x.0.1 past x.3 y.3 one.0 other.0 ∙ sym y.2
+    let once = record_once line x.0.0 y.0.0 (text_of x.0.1) (text_of y.0.1) x.3.0 y.3.0 in
+    grind (arith, (x.2), (y.2), past, (one.0), (other.0), (x.3), (y.3), once, (apart_once g.setup (world g.setup y.1) y.0.0 x.0.1 y.0.1), (answer_once g.setup (world g.setup y.1) y.0.0 x.0.1 y.0.1))
 
 -- ---- the text of no lawful history
-
--- the lines before are the text of a lawful history too
-lawful_before : (g : Rules) (line : List ℕ) (lines : List (List ℕ)) → IsLawfulText g (line ∷ lines)
-    → IsLawfulText g lines
-lawful_before g line lines is = grind (arith, lawful_first)
 
 -- the first line that isn't right is no line of a lawful history
 none_more : (g : Rules) (line : List ℕ) (lines : List (List ℕ)) (known h : History) (f : Finding)
@@ -94,7 +76,7 @@ unlawful_said g all (x ∷ before) are v is =
           let r = all_right g all before are.1 so in
           none_more g x.line (lines_of before) (history_after before) is.0 x.finding (rw r.goes_on at are.0) (λ e. v (ap (λ (w : Verdict). judged w x.finding) so ∙ e))
           (λ past lawful rec. same_history g (lines_of before) past (history_after before) lawful rec r.lawful r.recorded) is.1 is.2
-      | inr fault ↦ unlawful_said g all before are.1 fault (lawful_before g x.line (lines_of before) is)
+      | inr fault ↦ unlawful_said g all before are.1 fault (grind (arith, is, lawful_first))
     ]
 
 pub said : (g : Rules) (all : Bool) (xs : List Found) (v : Verdict) → AreFound g all xs

@@ -1,6 +1,6 @@
 -- Whose completions were posted.
-use Rattle.std.proofs.Common.{◌≡◌, ℕ, Bool, List, [], ◌∷◌, ◌++◌, length, Some, append-nil, arith}
-use Rattle.uring_check.proofs.Common.{Answer, Ending, FitsBy, Follower, History, IsLawfulApart, Only, Setup, Step, Wanted, World, entry_of, if◌then◌else◌, length-append, noted_poster, number_in, poster_of, posters, resumed, rules_of, world}
+use Rattle.std.proofs.Common.{◌≡◌, ℕ, Bool, List, [], ◌∷◌, ◌++◌, length, append-nil, arith}
+use Rattle.uring_check.proofs.Common.{Answer, History, IsLawfulApart, Only, Setup, Step, Wanted, World, entry_of, if◌then◌else◌, length-append, noted_poster, number_in, poster_of, posters, resumed, world}
 use Rattle.uring_entry.specs.Completions.{Completions, completion_for, with_posted}
 use Rattle.uring_entry.specs.Layout.{Cqe}
 use Rattle.uring_rules.specs.Rules.{posts}
@@ -9,11 +9,6 @@ use Rattle.uring_core.specs.declared.wanted.Refusal.TheVariants as refusal
 use Rattle.uring_core.proofs.CompletionMoves.{CompletionMove, stays, ends, completion_move}
 
 -- ---- what one step posts
-
--- the request of an end is that of its step
-number_told : (s : Step) (a : Answer) (e : Ending) → end_told_by (s, a) ≡ Some e
-    → number_in s ≡ e.number ∷ []
-number_told s a e is = grind arith
 
 end_noted : (s : Step) (size n : ℕ) (l : Completions) (c : Cqe) (posts : Bool)
     → number_in s ≡ n ∷ []
@@ -26,7 +21,7 @@ noted_by : (g : Setup) (w : World) (s : Step) (a : Answer) (v : World) → Compl
     ≡ poster_of g.linux w.requests (end_told_by (s, a))
 noted_by g w s a v (stays _ _ l r is_closed off none left) = rw none (grind arith)
 noted_by g w s a v (ends _ _ n res bytes r off is same one) =
-    rw is (end_noted s g.cq n w.completions (completion_for (entry_of w.requests n) res bytes) (posts g.linux w.requests n res) (number_told s a (record { number = n; res = res; bytes = bytes }) is))
+    rw is (end_noted s g.cq n w.completions (completion_for (entry_of w.requests n) res bytes) (posts g.linux w.requests n res) (grind (arith, is)))
 noted_by g w s a v _ = grind arith
 
 -- ---- what is known after a step
@@ -49,7 +44,3 @@ pub knows_resumed : (g : Setup) (s : Step) (wanted : Wanted) (h : History) (know
     → later ≡ posters g (resumed s (refusal.Wrong wanted) h)
 knows_resumed g s (Only x) h known later before after lawful is was now more = knows_step g s x h known later before after lawful is was now more
 knows_resumed g s _ h known later before after lawful is was now more = grind (arith, append-nil)
-
--- a history that a follower fits is lawful apart from what operations gave
-pub fits_lawful : (m : Follower) (h : History) → FitsBy m h → IsLawfulApart (rules_of m).setup h
-fits_lawful m h f = grind arith

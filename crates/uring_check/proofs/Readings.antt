@@ -1,5 +1,5 @@
 -- What a reading takes in, byte by byte, and what is returned and written of it.
-use Rattle.std.proofs.Common.{◌≡◌, ◌≢◌, ℕ, Bool, List, [], ◌∷◌, ◌++◌, Option, Result, Ok, Err, sym, ap, subst, arith}
+use Rattle.std.proofs.Common.{◌≡◌, ◌≢◌, ℕ, Bool, List, [], ◌∷◌, ◌++◌, Option, Result, Ok, Err, sym, ap, arith}
 use Rattle.std.specs.Io.KnownBytes.{Consumes, Appends, IsAtEnd, Keeps}
 use Rattle.std.proofs.KnownBytes.{Consumes-nil, Consumes-trans, Consumes-kept, Appends-nil}
 use Rattle.uring_check.proofs.Common.{Checker, Has, Holds, IsTold, Looks, ReadsIn, Rules, Verdict, append-nil}
@@ -104,19 +104,15 @@ read_alone e = absurd cc
 abbrev Answer : Type 0
 Answer = Result Verdict TraceFault
 
-stopped_at : (g : Rules) (all : Bool) (e : TraceFault) (a r d : Known) (bytes : List ℕ)
-    → e ≢ fault.Write → Consumes a r bytes → IsChecked g all (Err e) a r d d
-stopped_at g all e a r d bytes other read = grind (arith, (Appends-nil d))
-
 -- not all was read
 pub part_checked : (g : Rules) (all : Bool) (answer : Answer) (e : TraceFault) (a r d : Known) (s : Reading)
     → answer ≡ Err e → ReadsIn g all (Err e) a r s → IsChecked g all answer a r d d
-part_checked g all answer e a r d s is so = subst (λ (x : Answer). IsChecked g all x a r d d) (sym is) (stopped_at g all e a r d so.0 so.2 so.1)
+part_checked g all answer e a r d s is so = grind (arith, (Appends-nil d))
 
 -- all was read, and memory was refused
 pub unsaid_checked : (g : Rules) (all : Bool) (answer : Answer) (a r d : Known) (s : Reading)
     → answer ≡ Err fault.Memory → ReadsIn g all (Ok tt) a r s → IsChecked g all answer a r d d
-unsaid_checked g all answer a r d s is so = rw is (stopped_at g all fault.Memory a r d so.0 (λ other. absurd cc) so.1)
+unsaid_checked g all answer a r d s is so = grind (arith, (Appends-nil d))
 
 -- the report was written in part
 pub cut_checked : (g : Rules) (all : Bool) (answer : Answer) (e : TraceFault) (a r d d' : Known) (s : Reading) (v : Verdict) (text : List ℕ)

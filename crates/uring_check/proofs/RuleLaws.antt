@@ -1,10 +1,10 @@
 -- What the rules of a check make of histories and answers.
 use Rattle.std.proofs.Common.{◌≡◌, ◌∷◌, ◌∙◌, ℕ, Bool, true, sym, arith}
-use Rattle.uring_check.proofs.Common.{Answer, CalledForApart, FinishesApart, History, IsCalled, IsLawfulBy, IsPlain, Rules, Setup, Step, World, begin_answer, is_apart, is_running, signed_decimal, text_of, ℤ}
+use Rattle.uring_check.proofs.Common.{Answer, CalledForApart, FinishesApart, History, IsCalled, IsLawfulBy, IsPlain, Rules, Setup, Step, World, begin_answer, is_running, signed_decimal, text_of, ℤ}
 use Rattle.std.proofs.lemmas.Fmt.{signed_decimal_injective}
 use Rattle.uring_core.specs.declared.step.Step.TheVariants as step
 use Rattle.uring_text.specs.Spelling.{IsFile}
-use Rattle.uring_check.proofs.SameTexts.{answer_once, begin_once}
+use Rattle.uring_check.proofs.SameTexts.{begin_once}
 
 -- ---- histories
 
@@ -24,14 +24,9 @@ finish_once n running a b e f same p q = grind (arith, result_once)
 
 -- ---- any step
 
-apart_once : (g : Setup) (w : World) (s : Step) (a b : Answer) → CalledForApart g w s a
+pub apart_once : (g : Setup) (w : World) (s : Step) (a b : Answer) → CalledForApart g w s a
     → CalledForApart g w s b → text_of a ≡ text_of b → IsPlain a true s → IsPlain b true s → a ≡ b
 apart_once g w (step.Begin count) a b p q same x y = begin_once (begin_answer w count) a b p q same
 apart_once g w (step.Finish n) a b p q same x y =
     finish_once n (is_running w.requests n) a b p q same x y
 apart_once g w _ a b p q same x y = p ∙ sym q
-
-pub called_once : (g : Rules) (h : History) (s : Step) (a b : Answer) → IsCalled g h s a
-    → IsCalled g h s b → text_of a ≡ text_of b → IsPlain a (is_apart g.ends) s → IsPlain b (is_apart g.ends) s
-    → a ≡ b
-called_once g h s a b p q same x y = grind (arith, apart_once, answer_once)

@@ -1,23 +1,16 @@
 -- No two answers that are called for to one step have the same text.
 use Rattle.std.proofs.Common.{◌≡◌, ℕ, pos, neg_ℤ, ◌^◌, ◌<◌, Bool, true, false, List, drop, sym, ap, ◌∙◌, arith}
 use Rattle.std.proofs.lemmas.Fmt.{signed_decimal_injective}
-use Rattle.uring_check.proofs.Common.{Answer, ENOMEM, OrAgain, Requests, Setup, Step, World, begin_answer, entry_of, is_running, no_bytes, text_of}
-use Rattle.uring_entry.specs.Preparation.{operation_of}
-use Rattle.uring_entry.specs.declared.operation.Op.{Op}
-use Rattle.uring_entry.specs.declared.operation.Outcome.{Outcome}
+use Rattle.uring_check.proofs.Common.{Answer, ENOMEM, OrAgain, Requests, Setup, Step, World, begin_answer, is_running, no_bytes, text_of}
 use Rattle.uring_files.specs.Contents.{FileContents}
-use Rattle.uring_files.specs.Operations.{IsOutcome}
 use Rattle.uring_core.specs.CalledFor.{CalledFor, EndsOn, files_of}
 use Rattle.uring_core.specs.declared.answer.Answer.TheVariants as answer
 use Rattle.uring_core.specs.declared.step.Step.TheVariants as step
 
 -- ---- Begin
 
-call_again : (n : ℕ) → text_of (answer.Call n) ≡ text_of answer.Again → ⊥
-call_again n e = grind arith
-
 pub begin_once : (x a b : Answer) → OrAgain x a → OrAgain x b → text_of a ≡ text_of b → a ≡ b
-begin_once x a b e f same = grind (arith, call_again)
+begin_once x a b e f same = grind arith
 
 -- ---- Finish
 
@@ -27,19 +20,10 @@ growth_text : (n : ℕ) → n < 2 ^ 63
     → pos n ≡ neg_ℤ ENOMEM
 growth_text n small e = signed_decimal_injective (pos n) (neg_ℤ ENOMEM) small (omega arith) (ap (λ (l : List ℕ). drop 6 l) e)
 
-abbrev ended_as : Outcome → Answer
-ended_as outcome = answer.Ended outcome.res outcome.bytes
-
-outcome_once : (files : List FileContents) (op : Op) (x y : Outcome) → IsOutcome files op x
-    → IsOutcome files op y → text_of (ended_as x) ≡ text_of (ended_as y) → x ≡ y
-outcome_once files op x y h h2 same = grind (arith, growth_text)
-
 end_once : (files : List FileContents) (r : Requests) (n : ℕ) (running : Bool) (a b : Answer)
     → EndsOn files r n running a → EndsOn files r n running b → text_of a ≡ text_of b → a ≡ b
-end_once files r n true (answer.Ended res bytes) (answer.Ended res' bytes') e f same =
-    ap ended_as (outcome_once files (operation_of (entry_of r n)) (record { res = res; bytes = bytes }) (record { res = res'; bytes = bytes' }) e f same)
-end_once files r n true (answer.Ended res bytes) _ e f same = absurd f
-end_once files r n true _ b e f same = absurd e
+end_once files r n true (answer.Ended res bytes) (answer.Ended res' bytes') e f same = grind (arith, growth_text)
+end_once files r n true _ _ e f same = absurd (grind (arith, e, f))
 end_once files r n false a b e f same = e ∙ sym f
 
 -- ---- any step

@@ -1,6 +1,6 @@
 -- How a line is split at its first `=`.
 use Rattle.std.proofs.Common.{◌≡◌, ◌≢◌, ℕ, ◌+◌, ◌<◌, ◌≤◌, List, [], ◌∷◌, ◌++◌, length, take, drop, get_or, refl, sym, ap, subst, ◌∙◌, append_assoc, inl, inr, arith, length-append}
-use mathlib.Core.List.{head-eq_of_cons-eq, tail-eq_of_cons-eq}
+use mathlib.Core.List.{tail-eq_of_cons-eq}
 use Rattle.std.specs.List.{AllByRecursion}
 use Rattle.uring_check.proofs.Common.{IsNoRecord, IsRecord, IsSplit, IsUnsplit, Step, append_cancel_right, cases_lt, drop_more, take-append-drop, take_all}
 use Rattle.uring_trace.specs.Spelling.{IsStep, IsBad}
@@ -25,19 +25,14 @@ none_more (x ∷ xs) h = (h.0, none_more xs h.1)
 first_once : (xs ys us vs : List ℕ) → HasNone xs → HasNone us → xs ++ 61 ∷ ys ≡ us ++ 61 ∷ vs
     → (xs ≡ us) × (ys ≡ vs)
 first_once [] ys [] vs h k e = (refl, tail-eq_of_cons-eq e)
-first_once [] ys (u ∷ us) vs h k e = absurd (k.0 (sym (head-eq_of_cons-eq e)))
-first_once (x ∷ xs) ys [] vs h k e = absurd (h.0 (head-eq_of_cons-eq e))
 first_once (x ∷ xs) ys (u ∷ us) vs h k e =
     grind (arith, (first_once xs ys us vs h.1 k.1 (tail-eq_of_cons-eq e)), tail-eq_of_cons-eq)
-
-sign_text : (before text : List ℕ)
-    → before ++ 32 ∷ 61 ∷ 32 ∷ text ≡ (before ++ 32 ∷ []) ++ 61 ∷ 32 ∷ text
-sign_text before text = simp append_assoc refl
+first_once _ ys _ vs h k e = absurd (grind (arith, h, k, e))
 
 -- a split line, at its `=`
 at_sign : (line before text : List ℕ) → IsSplit line before text
     → line ≡ (before ++ 32 ∷ []) ++ 61 ∷ 32 ∷ text
-at_sign line before text h = h.whole ∙ sign_text before text
+at_sign line before text h = h.whole ∙ simp append_assoc refl
 
 -- what a cut gave: the bytes before the first `=`, and the rest
 pub record IsCut (line front back : List ℕ) (n : ℕ) : Type 0 where
@@ -62,7 +57,7 @@ cut_split line front back before text n c h = elim (cases_lt n (length line)) [
 -- what is left of a cut, each without its space, is the split
 pub split_made : (line front back before text : List ℕ) (n : ℕ) → IsCut line front back n
     → front ≡ before ++ 32 ∷ [] → back ≡ 61 ∷ 32 ∷ text → IsSplit line before text
-split_made line front back before text n c x y = grind (arith, take-append-drop, sign_text, none_before)
+split_made line front back before text n c x y = grind (arith, take-append-drop, none_before, (append_assoc before (32 ∷ []) (61 ∷ 32 ∷ text)))
 
 -- no space before the `=`
 pub no_front : (line front back : List ℕ) (n : ℕ) → IsCut line front back n
@@ -83,11 +78,6 @@ split_once line before text other rest h k =
     let same = first_once (before ++ 32 ∷ []) (32 ∷ text) (other ++ 32 ∷ []) (32 ∷ rest) (none_more before h.first) (none_more other k.first) (sym (at_sign line before text h) ∙ at_sign line other rest k) in
     (append_cancel_right before other (32 ∷ []) same.0, tail-eq_of_cons-eq same.1)
 
--- the split of a record
-pub split_of : (line : List ℕ) (s : Step) (text : List ℕ) → (r : IsRecord line s text)
-    → IsSplit line r.before text
-split_of line s text r = record { whole = r.whole; first = r.first }
-
 -- ---- what lines record
 
 pub recorded : (line before text : List ℕ) (s : Step) → length line ≤ 300 → IsSplit line before text
@@ -95,11 +85,11 @@ pub recorded : (line before text : List ℕ) (s : Step) → length line ≤ 300 
 recorded line before text s short h is = grind arith
 
 pub unsplit_none : (line : List ℕ) → IsUnsplit line → IsNoRecord line
-unsplit_none line none = λ s text r. none r.before text (split_of line s text r)
+unsplit_none line none = λ s text r. none r.before text (assumption r)
 
 pub bad_none : (line before text : List ℕ) → IsSplit line before text → IsBad before
     → IsNoRecord line
-bad_none line before text h bad = λ s other r. bad s (subst (λ (l : List ℕ). IsStep l s) (split_once line r.before other before text (split_of line s other r) h).0 r.step)
+bad_none line before text h bad = λ s other r. bad s (subst (λ (l : List ℕ). IsStep l s) (split_once line r.before other before text (assumption r) h).0 r.step)
 
 -- what stands before the sign is no longer than the line
 pub short_before : (line before text : List ℕ) → length line ≤ 300 → IsSplit line before text
@@ -113,5 +103,5 @@ long_none line long = λ s text r. let short : length line ≤ 300 = r.short in 
 pub record_once : (line : List ℕ) (s t : Step) (text rest : List ℕ) → IsRecord line s text
     → IsRecord line t rest → (s ≡ t) × (text ≡ rest)
 record_once line s t text rest h k =
-    let same = split_once line h.before text k.before rest (split_of line s text h) (split_of line t rest k) in
+    let same = split_once line h.before text k.before rest (assumption h) (assumption k) in
     (step_once k.before s t (subst (λ (l : List ℕ). IsStep l s) same.0 h.step) k.step, same.1)

@@ -1,6 +1,6 @@
 -- What a text says of the answers that are called for.
 use Rattle.std.proofs.Common.{◌≡◌, drop, ◌∷◌, ℕ, ℤ, neg_ℤ, Bool, true, false, List, [], Option, Some, None, refl, sym, ap, ◌∙◌, inl, inr, arith}
-use Rattle.uring_check.proofs.Common.{AllowedBy, Answer, AnyEnd, CallOrAgain, CalledBy, CalledIn, ENOMEM, EndOrNoMemory, Ends, FinishesApart, FitsBy, Follower, HasOneAnswer, History, IsEither, IsEnded, IsJudged, IsOneJudged, IsPlain, IsWanted, IsWrong, IsWrongText, Judges, MayGive, Only, Requests, Rules, Setup, Step, Wanted, World, entry_asked, entry_in, is_apart, is_running, no_bytes, rules_of, text_of, world, Meets}
+use Rattle.uring_check.proofs.Common.{AllowedBy, Answer, AnyEnd, CallOrAgain, CalledBy, CalledIn, ENOMEM, EndOrNoMemory, Ends, FitsBy, Follower, HasOneAnswer, History, IsEither, IsEnded, IsJudged, IsOneJudged, IsPlain, IsWanted, IsWrong, IsWrongText, Judges, MayGive, Only, Requests, Rules, Setup, Step, Wanted, World, entry_asked, entry_in, is_apart, no_bytes, rules_of, text_of, world, Meets}
 use Rattle.uring_core.specs.Core.{IsNoFinish}
 use Rattle.uring_core.specs.Recorded.{IsRefused, resumed}
 use Rattle.uring_core.specs.declared.wanted.Refusal.{Refusal}
@@ -24,11 +24,7 @@ one_answer false g w _ a b one p q = p ∙ sym q
 pub no_finish : (s : Step) → HasOneAnswer s → IsNoFinish s
 no_finish s one = grind arith
 
--- an answer to such a step is told by its text
-plain_one : (a : Answer) (apart : Bool) (s : Step) → HasOneAnswer s → IsPlain a apart s
-plain_one a apart s one = grind arith
-
--- nor is anything asked of its result
+-- nothing is asked of its result
 allowed_one : (a : Answer) (e : Ends) (r : Requests) (s : Step) → HasOneAnswer s
     → MayGive a (entry_in e r s)
 allowed_one (answer.Ended res bytes) ends.Allowed r (step.Finish n) one = absurd one
@@ -45,36 +41,26 @@ wrong_text g h s text wanted called only other = record {
   only = λ a meets allowed. (only a meets, allowed);
 }
 
--- what a follower fits is called for
-pub fits_called : (m : Follower) (s : Step) (a : Answer) (h : History) → FitsBy m ((s, a) ∷ h)
-    → CalledBy (rules_of m) h s a
-fits_called m s a h f = grind arith
-
 -- a step was made with the one answer that was called for
 pub sure_judged : (old new : Follower) (s : Step) (text : List ℕ) (x : Answer) (found : Option Wanted)
     → HasOneAnswer s → rules_of new ≡ rules_of old
     → ((h : History) → FitsBy old h → FitsBy new ((s, x) ∷ h)) → IsOneJudged x text found
     → Judges old new s text found
-sure_judged old new s text x None one rules fits same = search (rules, plain_one, rules_of, allowed_one)
+sure_judged old new s text x None one rules fits same =
+    let plain : IsPlain x (is_apart (rules_of old).ends) s = grind (arith, one) in search (rules, plain, rules_of, allowed_one)
 sure_judged old new s text x (Some wanted) one rules fits judged = λ h f.
     let g : Rules = rules_of old in
-    let called : CalledBy g h s x = rw rules at (fits_called new s x h (fits h f)) in
+    let called : CalledBy g h s x = grind (arith, rules, (fits h f)) in
     let all = λ (a : Answer) (c : CalledBy g h s a). one_answer (is_apart g.ends) g.setup (world g.setup h) s a x one c called in
     rw judged.0 (wrong_text g h s text (Only x) all (λ a is. rw is called) (λ a is _ same _. judged.1 (ap text_of (sym is) ∙ same)), fits h f)
 
--- without files no one end is called for alone
-only_end : (running : Bool) (res : ℤ) (bytes : List ℕ)
-    → ((a : Answer) → FinishesApart running a → a ≡ answer.Ended res bytes)
-    → FinishesApart running (answer.Ended res bytes) → ⊥
-only_end running res bytes called is = grind (arith, (called (answer.Ended res [])), (called (answer.Ended res (0 ∷ []))))
-
--- an answer that alone is called for is told by its text, and whatever its result, it is allowed
+-- without files no one end is called for alone, so an answer that alone is called for is told by its text, and whatever its result, it is allowed
 only_one : (x : Answer) (e : Ends) (g : Setup) (h : History) (s : Step)
     → IsWrong (CalledIn (is_apart e) g (world g h) s) answer.Filled (Only x)
     → IsPlain x (is_apart e) s × MayGive x (entry_in e (world g h).requests s)
 only_one (answer.Ended res bytes) ends.Given g h _ w = (tt, tt)
 only_one (answer.Ended res bytes) _ g h (step.Finish n) w =
-    absurd (only_end (is_running (world g h).requests n) res bytes w.called (w.only (answer.Ended res bytes) refl))
+    absurd (grind (arith, (w.called (answer.Ended res [])), (w.called (answer.Ended res (0 ∷ []))), (w.only (answer.Ended res bytes) refl)))
 only_one _ _ g h _ w = (tt, tt)
 
 -- the one answer that is wanted was compared
