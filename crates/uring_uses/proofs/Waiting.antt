@@ -12,9 +12,6 @@ run_ready : (outstanding running doomed ready cancel : Bool) (as_doomed as_cance
     → ready ≡ true
 run_ready outstanding running doomed ready cancel x y is = grind arith
 
-ended_or : (ended waits : Bool) → (not ended && waits) ≡ false → waits ≡ true → ended ≡ true
-ended_or ended waits back waiting = grind arith
-
 -- by either's rules each earlier member of the group of a request that runs has ended
 run_first : (linux : Bool) (g : Setup) (w : World) (n m : ℕ)
     → answer.Run ≡ issue_answer (record g { linux = linux }) w n → m < n
@@ -32,9 +29,4 @@ pub run_waits_for_none : (g : Setup) (w : World) (n m : ℕ) → g.linux ≡ fal
     → answer.Run ≡ issue_answer g w n → m < n
     → waits_for w.requests n m ≡ true
     → has_ended w.requests m ≡ true
-run_waits_for_none g w n m manual is lt waits =
-    let r : Requests = w.requests in
-    let told : answer.Run ≡ issue_answer (by_manual g) w n = subst (λ k. answer.Run ≡ issue_answer k w n) (is_by_manual g manual) is in
-    ended_or (has_ended r m) (waits_for r n m)
-    (is_ready_inside r n m (run_ready (is_outstanding r n) (is_running r n) (is_doomed r n) (is_ready r n) (is_cancel (entry_of r n)) (doomed_result r n) (cancel_result r n) told) lt)
-    waits
+run_waits_for_none g w n m manual is lt waits = grind (arith, manual, run_ready, is_ready_inside)
