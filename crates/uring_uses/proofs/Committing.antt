@@ -1,10 +1,10 @@
 -- What a commit adds to a log: its record is kept, and what was kept before is.
 use Rattle.std.proofs.Common.{◌≡◌, ◌==◌, ◌+◌, ℕ, Bool, true, false, cond, List, [], ◌∷◌, ◌++◌, length, refl, sym, ap, ◌∙◌, arith}
-use Rattle.uring_uses.proofs.Common.{and_right, cond-true, not_from_false, or_from, or_parts, or_right}
+use Rattle.uring_uses.proofs.Common.{and_right, not_from_false, or_from, or_right}
 use Rattle.std.proofs.lemmas.List.Folds.{list_any-append}
 use Rattle.uring_volume.specs.Writes.{Write}
 use Rattle.uring_volume.specs.declared.event.SyncRange.TheVariants.{Whole}
-use Rattle.uring_volume.specs.declared.event.Event.TheVariants.{WriteIssued, WriteEnded, SyncIssued, SyncEnded, SyncFailed}
+use Rattle.uring_volume.specs.declared.event.Event.TheVariants.{WriteIssued, WriteEnded, SyncIssued, SyncEnded}
 use Rattle.uring_volume.specs.Events.{History, has_ended, is_reached, is_given_up}
 use Rattle.uring_volume.specs.Laws.{IsKept}
 use Rattle.uring_volume.specs.Volume.{Volume, IsSound, is_one_of, running_writes, running_syncs, with_event, with_write, with_sync}
@@ -24,10 +24,6 @@ not_given_up (e ∷ earlier) w none = grind (arith, or_from, not_reached, (not_g
 -- the history of a log with a record more
 abbrev pub with_record : History → Write → ℕ → History
 with_record h w s = SyncEnded s ∷ SyncIssued s Whole ∷ WriteEnded w.number ∷ WriteIssued w ∷ h
-
-pub record_is_kept : (h : History) (w : Write) (s : ℕ) → has_ended h w.number ≡ false
-    → EndsBy w.off h → IsKept (with_record h w s) w
-record_is_kept h w s none after = grind (arith, not_from_false, not_given_up)
 
 just_begun : (n : ℕ) (ns : List ℕ) → is_one_of n (ns ++ n ∷ []) ≡ true
 just_begun n ns = grind (arith, list_any-append, or_right)
@@ -55,7 +51,7 @@ pub commit_keeps : (old new : Volume) (end : ℕ) (bytes : List ℕ) (n : ℕ) �
     → EndsBy end old.history → IsCommitted old new end bytes n
     → IsKept new.history (record { number = n; off = end; bytes = bytes })
 commit_keeps old new end bytes n sound after made =
-    rw made.history (record_is_kept old.history (record { number = n; off = end; bytes = bytes }) made.s (grind (arith, made.number)) after)
+    rw made.history (grind (arith, not_from_false, not_given_up, made.number, sound, after))
 
 pub commit_leaves : (old new : Volume) (end : ℕ) (bytes : List ℕ) (n : ℕ)
     → EndsBy end old.history → IsCommitted old new end bytes n

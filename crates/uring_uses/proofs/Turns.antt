@@ -1,6 +1,6 @@
 -- What one turn of a simulation makes.
 use Rattle.std.proofs.Common.{◌≡◌, ℕ, ◌+◌, ◌≤◌, ℤ, Bool, true, false, List, [], ◌∷◌, ◌++◌, length, Option, Some, None, is_some, refl, sym, subst, ◌∙◌, ap, arith, ◌⊎◌, inl, inr, append_assoc}
-use Rattle.uring_uses.proofs.Common.{Answer, HasRun, History, IsEnded, IsIdle, IsLawfulApart, LinuxRequests, NoneRuns, Requests, Setup, World, and_from, both_ways, cases_eq, has_ended, is_outstanding, is_running, is_running_ended_other, is_running_ended_same, is_running_started_other, is_running_started_same, issue_answer, least_of, next_answer_of, no_bytes, operation_running, outstanding_in, requests_of, with_ended, with_issued_end, with_started, world}
+use Rattle.uring_uses.proofs.Common.{Answer, HasRun, History, IsEnded, IsIdle, IsLawfulApart, NoneRuns, Requests, and_from, cases_eq, is_outstanding, is_running, is_running_ended_other, is_running_ended_same, is_running_started_other, is_running_started_same, least_of, next_answer_of, no_bytes, operation_running, outstanding_in, requests_of, with_issued_end, with_started, world}
 use Rattle.std.proofs.lemmas.List.Folds.{list_all-append}
 use Rattle.uring_entry.proofs.BelowLemmas.{least_below_out}
 use Rattle.uring_rules.specs.Rules as by_rules
@@ -28,34 +28,11 @@ some_next None None r a goes quiet some e is other =
 
 -- The issue of the next request.
 
--- what is issued next and doesn't run, ends
-pub issue_ends : (g : Setup) (w : World) (n : ℕ) (a : Answer)
-    → by_rules.is_issuable g.linux (requests_of w) n ≡ true
-    → a ≡ issue_answer g w n → (a ≡ answer.Run → ⊥)
-    → IsEnded a
-issue_ends g w n a issuable is other = grind (arith, issue_goes)
-
--- Nothing runs afterwards.
-
 -- an end as a request is issued, by either's rules
-quiet_after_issue : (linux : Bool) (r : Requests) (n : ℕ) (res : ℤ)
-    → ((k : ℕ) → is_running r k ≡ false) → (k : ℕ)
-    → is_running (with_issued_end linux r n res) k ≡ false
-quiet_after_issue linux r n res quiet k = grind (arith, is_running_ended_same, is_running_ended_other)
-
 less_after_issue : (linux : Bool) (r : Requests) (n : ℕ) (res : ℤ) → is_outstanding r n ≡ true
     → outstanding_in (with_issued_end linux r n res) + 1 ≡ outstanding_in r
 less_after_issue true r n res outstanding = ended_less r n res no_bytes outstanding
 less_after_issue false r n res outstanding = ended_less r n res no_bytes outstanding
-
-quiet_after_run : (r : Requests) (n : ℕ) (res : ℤ) (bytes : List ℕ)
-    → ((k : ℕ) → is_running r k ≡ false) → (k : ℕ)
-    → is_running (with_ended (with_started r n) n res bytes) k ≡ false
-quiet_after_run r n res bytes quiet k =
-    elim (cases_eq k n) [
-      | inl same ↦ subst (λ j. is_running (with_ended (with_started r n) n res bytes) j ≡ false) (sym same) (is_running_ended_same (with_started r n) n res bytes)
-      | inr other ↦ is_running_ended_other (with_started r n) n res bytes k other ∙ is_running_started_other r n k other ∙ quiet k
-    ]
 
 -- A turn.
 
@@ -73,7 +50,7 @@ turn_ended p h n (answer.Ended res bytes) quiet outstanding ended fits =
       events = (step.Issue n, answer.Ended res bytes) ∷ [];
       issues_and_finishes = refl;
       fits = fits;
-      quiet = quiet_after_issue p.setup.linux (world p.setup h).requests n res quiet;
+      quiet = λ k. grind (arith, is_running_ended_same, is_running_ended_other, (quiet k));
       fewer = less_after_issue p.setup.linux (world p.setup h).requests n res outstanding;
     }
 turn_ended p h n _ quiet outstanding ended fits = absurd ended
@@ -89,7 +66,10 @@ turn_run p h n res bytes quiet outstanding fits =
       events = (step.Finish n, answer.Ended res bytes) ∷ (step.Issue n, answer.Run) ∷ [];
       issues_and_finishes = refl;
       fits = fits;
-      quiet = quiet_after_run (world p.setup h).requests n res bytes quiet;
+      quiet = λ k. elim (cases_eq k n) [
+        | inl same ↦ rw same (is_running_ended_same (with_started (world p.setup h).requests n) n res bytes)
+        | inr other ↦ is_running_ended_other (with_started (world p.setup h).requests n) n res bytes k other ∙ is_running_started_other (world p.setup h).requests n k other ∙ quiet k
+      ];
       fewer = ended_less (with_started (world p.setup h).requests n) n res bytes outstanding;
     }
 
@@ -114,7 +94,7 @@ turn_issue old asked new h n a b same kept named other quiet asked_fits fits =
     let issuable : by_rules.is_issuable new.setup.linux (requests_of (world new.setup h)) n ≡ true =
         rw one (next_tells old.setup.linux (requests_of (world old.setup h)) n (sym named ∙ rw same at asked_fits.lawful.0)) in
     turn_ended new h n b (rw one quiet) (issuable_outstanding new.setup.linux (requests_of (world new.setup h)) n issuable)
-    (issue_ends new.setup (world new.setup h) n b issuable fits.lawful.0 other) fits
+    (grind (arith, fits.lawful.0, (issue_goes new.setup (world new.setup h) n issuable), other)) fits
 
 -- the next request runs
 pub record IsStarted (p : Core) (h : History) (n : ℕ) : Type 0 where

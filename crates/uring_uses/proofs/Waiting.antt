@@ -1,7 +1,6 @@
 -- A request that runs waits for nobody.
 use Rattle.std.proofs.Common.{◌≡◌, ℕ, ◌<◌, ℤ, Bool, true, false, not, ◌&&◌, if◌then◌else◌, subst, arith}
-use Rattle.uring_uses.proofs.Common.{Requests, Setup, World, and_parts, by_manual, cancel_result, doomed_result, entry_of, has_ended, is_cancel, is_doomed, is_joined, is_outstanding, is_ready, is_ready_inside, is_running, issue_answer, no_bytes, waits_for}
-use Rattle.uring_core.proofs.ByRules.{is_by_manual}
+use Rattle.uring_uses.proofs.Common.{Setup, World, and_parts, has_ended, is_joined, is_ready_inside, issue_answer, no_bytes, waits_for}
 use Rattle.uring_core.proofs.SoundRequests.{ready_first}
 use Rattle.uring_laws.proofs.LinuxSound.{turn_first}
 use Rattle.uring_core.specs.declared.answer.Answer.TheVariants as answer
