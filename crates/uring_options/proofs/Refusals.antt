@@ -56,7 +56,6 @@ not_both words (CheckPage _) (n, writes, over) small = not_over words n _ writes
 not_both words (CheckJson _) (n, writes, over) small = not_over words n _ writes over.1.0.0 small
 not_both words _ (n, writes, over) small = not_over words n _ writes over.1.0 small
 
--- words without a fault fail by memory alone
 -- what a refusal shows
 abbrev pub IsRefusal : List Text → OptionsFault → Type 0
 IsRefusal words Small = AskForTooSmall words
