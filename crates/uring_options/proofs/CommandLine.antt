@@ -3,21 +3,14 @@ use Rattle.std.proofs.Common.{◌≡◌, ◌∙◌, arith, Bool, List, Option, r
 use Rattle.uring_options.proofs.Common.{HasMatchesOf, IsGiven, IsPlayedOver, IsSetupOver, IsTracedOver, Numbers, Row, Setup, Text, codes, option_map, subcommand_of, subcommand_rows_of, uring}
 use Rattle.clap.specs.Matches.{subcommand_name_of}
 use Rattle.clap.specs.declared.parser.matches.ArgMatches.{ArgMatches}
-use Rattle.clap.specs.declared.parser.matches.ArgMatches.TheViews.{out-ArgMatches}
 use Rattle.uring_options.proofs.CommandOptions.{uring_is_simple}
 
 -- ---- the command
 
-map_twice : {A B C : Type 0} (f : A → B) (g : B → C) (o : Option A)
-    → option_map g (option_map f o) ≡ option_map (λ x. g (f x)) o
-map_twice f g o = grind arith
-
 -- a command has a name and what is given after it
-both_given : (sub : Option (Text × List Row)) (name : Option Text) (rows : Option (List Row))
-    → option_map (λ p. p.0) sub ≡ name → option_map (λ p. p.1) sub ≡ rows
-    → (o : Option (Text × List Row)) → option_map (λ p. p.0) o ≡ name
-    → option_map (λ p. p.1) o ≡ rows → o ≡ sub
-both_given sub name rows n r o m s = grind arith
+both_given : (o sub : Option (Text × List Row)) → option_map (λ p. p.0) o ≡ option_map (λ p. p.0) sub
+    → option_map (λ p. p.1) o ≡ option_map (λ p. p.1) sub → o ≡ sub
+both_given o sub name rows = grind arith
 
 -- what clap's matches have of a command is what the words name
 pub named_by : (m : ArgMatches) (words : List Text) (o : Option (Text × List Row))
@@ -25,8 +18,7 @@ pub named_by : (m : ArgMatches) (words : List Text) (o : Option (Text × List Ro
     → option_map (λ p. p.1) o ≡ option_map (λ p. p.1) (subcommand_rows_of m)
     → o ≡ subcommand_of uring words
 named_by m words o has name rows =
-    let same = both_given (subcommand_rows_of m) (subcommand_name_of m) (option_map (λ p. p.1) (subcommand_rows_of m)) (map_twice _ (λ p. p.0) (out-ArgMatches m).subcommand) refl o name rows in
-    same ∙ (has uring_is_simple).1
+    both_given o (subcommand_rows_of m) (name ∙ grind arith) rows ∙ (has uring_is_simple).1
 
 -- ---- what is asked for over a set-up
 

@@ -1,6 +1,6 @@
 -- What the commands' options give, of words that clap finds no fault in.
-use Rattle.std.proofs.Common.{◌≡◌, true, false, List, [], Option, Some, None, refl, inl}
-use Rattle.uring_options.proofs.Common.{Checks, CommandOption, Crashes, Explains, Fills, Lists, Plays, Run, Shape, TakesFor, TakesNamed, Text, Traces, answers_to, app_for, argument_words, built, built_leaf, entered, entered_fault, find, inherited, is_simple, label_of, level_fault, list_all, marked_built, names_of, nothing_held, option_map, own_options, rows_after, rows_at, setup_options, stop_after, subcommand_of, uring, with_leaf_noted}
+use Rattle.std.proofs.Common.{◌≡◌, true, false, List, [], Option, Some, None, refl, arith}
+use Rattle.uring_options.proofs.Common.{Checks, CommandOption, Crashes, Explains, Fills, Lists, Plays, Run, Shape, TakesFor, TakesNamed, Text, Traces, answers_to, app_for, argument_words, built, built_leaf, entered, entered_fault, find, inherited, is_simple, label_of, level_fault, marked_built, names_of, nothing_held, option_map, own_options, rows_after, rows_at, setup_options, stop_after, subcommand_of, uring, with_leaf_noted}
 use Rattle.clap.specs.Faults.{fault_of, is_simple_and_free}
 use Rattle.std.specs.Option.{option_map_or}
 use Rattle.clap.proofs.OnLiterals.{clap_on_literals}
@@ -24,7 +24,7 @@ shape_for run = built_leaf (inherited (with_leaf_noted (marked_built uring.top))
 
 -- its rules take values or none, or ask for help, and each of these options is one rule's
 record Fits (s : Shape) (run : Run) : Type 0 where
-  plain : list_all is_plain s.rules ≡ true
+  plain : Each (λ a. is_plain a ≡ true) s.rules
   once : s.args_override_self ≡ false
   setup : Each (λ (o : CommandOption). parsers_for s.rules o ≡ only_parser o) setup_options
   own : Each (λ (o : CommandOption). parsers_for s.rules o ≡ only_parser o) (own_options run)
@@ -37,8 +37,7 @@ fits _ = assumption
 
 -- without a command no option has a text
 pub nothing_taken : TakesFor Traces []
-nothing_taken =
-    ((inl refl, (inl refl, (inl refl, (inl refl, tt)))), (inl refl, (inl refl, (inl refl, (inl refl, tt)))))
+nothing_taken = grind arith
 
 taken_for : (words : List Text) (run : Run)
     → level_fault (shape_for run) [] nothing_held words false [] ≡ []

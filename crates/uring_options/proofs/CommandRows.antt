@@ -12,8 +12,7 @@ Stand _ _ = ⊥
 pub rows_stand : (rows : List CommandRow) (runs : List Run) → Stand rows runs → (app : App)
     → with_command_rows app rows ≡ with_commands_of app runs
 rows_stand [] [] stand app = refl
-rows_stand [] (run ∷ runs) stand app = absurd stand
-rows_stand (row ∷ rows) [] stand app = absurd stand
 rows_stand (row ∷ rows) (run ∷ runs) stand app =
     rows_stand rows runs stand.1 (with_subcommand app (app_of_row row).top)
     ∙ ap (λ (a : App). with_commands_of (with_subcommand app a.top) runs) stand.0
+rows_stand _ _ stand app = absurd stand

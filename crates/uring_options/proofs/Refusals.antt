@@ -26,13 +26,10 @@ rounding (suc k) n some within = elim (cases_lt (2 ^ k) n) [
 pub too_small : (n : Numbers) → AreInRange n
     → ((p : ℕ) → IsNextPowerOfTwo (unwrap_or n.sq 4) p → IsBadCq p n.cq) → IsTooSmall n
 too_small n ranges bad =
-    let sq = asked n.sq ranges.sq in
+    let sq : (1 ≤ unwrap_or n.sq 4) × (unwrap_or n.sq 4 ≤ 2 ^ 12) = grind (arith, (n.sq), ranges.sq) in
     let p = rounding 12 (unwrap_or n.sq 4) sq.0 sq.1 in
     given p.0 p.1 n.cq refl ranges.cq (bad p.0 p.1)
   where
-    asked : (sq : Option ℕ) → IsWithin 1 4096 sq → (1 ≤ unwrap_or sq 4) × (unwrap_or sq 4 ≤ 2 ^ 12)
-    asked sq within = grind arith
-
     given : (p : ℕ) → IsNextPowerOfTwo (unwrap_or n.sq 4) p → (cq : Option ℕ) → n.cq ≡ cq → IsWithin 1 8192 cq → IsBadCq p cq → IsTooSmall n
     given p rounded None is within none = absurd none
     given p rounded (Some cq) is within bad = grind (arith, (rounding 13 cq within.0 within.1))
@@ -56,7 +53,6 @@ not_both words (CheckPage _) (n, writes, over) small = not_over words n _ writes
 not_both words (CheckJson _) (n, writes, over) small = not_over words n _ writes over.1.0.0 small
 not_both words _ (n, writes, over) small = not_over words n _ writes over.1.0 small
 
--- words without a fault fail by memory alone
 -- what a refusal shows
 abbrev pub IsRefusal : List Text → OptionsFault → Type 0
 IsRefusal words Small = AskForTooSmall words

@@ -1,7 +1,6 @@
 -- What clap's walk over words without a fault leaves: each row has values that its option's parser took.
 use Rattle.std.proofs.Common.{◌≡◌, ℕ, zero, suc, Bool, true, false, cond, List, [], ◌∷◌, ◌++◌, Option, Some, None, refl, ◌⊎◌, inl, inr, append-nil, fold, is_some, arith}
-use Rattle.uring_options.proofs.Common.{Held, Kinds, Names, Outcome, Row, Rule, Shape, Step, Text, Waiting, Walk, action_of, after_flag, after_step, arg_by_index, at_row, attached_value, bundle_met, default_fault, defaults_fault, find, flag_met, flag_word_fault, flags_fault, has_row, level_fault, list_all, long_or_other, nothing_held, option_fault, option_met, or_else, plain_word, positional_fault, react_fault, reacted, reading_by, rows_after, set_fault, settle_fault, settled, short_fault, short_met, slice_get, step_fault, stray_fault, takes_values, to_positional, turn_fault, use_fault, used, value, values_fault, walk_fault, walked, with_default, with_values, without}
-use Rattle.std.specs.Option.{option_map_or}
+use Rattle.uring_options.proofs.Common.{Held, Kinds, Names, Outcome, Row, Rule, Shape, Step, Text, Waiting, Walk, action_of, after_flag, after_step, arg_by_index, at_row, attached_value, bundle_met, defaults_fault, find, flag_met, flag_word_fault, flags_fault, has_row, level_fault, long_or_other, nothing_held, option_fault, option_met, or_else, react_fault, reacted, reading_by, rows_after, settle_fault, settled, short_fault, short_met, slice_get, step_fault, takes_values, use_fault, used, values_fault, walk_fault, walked, with_default, with_values, without}
 use Rattle.std.specs.Str.{chars}
 use Rattle.clap.specs.Lexer.{short_of}
 use Rattle.clap.specs.declared.builder.action.ArgAction.{ArgAction}
@@ -40,11 +39,6 @@ pub found_among : {X : Type 0} (p : X → Bool) (xs : List X) (y : X) → find p
 found_among p [] y found = absurd cc
 found_among p (x ∷ xs) y found = grind (arith, (found_among p xs y))
 
-passes_among : {X : Type 0} (p : X → Bool) (xs : List X) (y : X) → list_all p xs ≡ true
-    → Among y xs → p y ≡ true
-passes_among p [] y all among = absurd among
-passes_among p (x ∷ xs) y all among = grind (arith, (passes_among p xs y))
-
 -- ---- rules and rows
 
 -- the option takes values or none, or asks for help
@@ -73,7 +67,7 @@ at_no_row id change new (r ∷ rows) none = grind (arith, (at_no_row id change n
 
 -- ---- the walk of a command, whose options take values or none, each once, or ask for help
 
-module _ (s : Shape) (plain_rules : list_all is_plain s.rules ≡ true) (once : s.args_override_self ≡ false) where
+module _ (s : Shape) (plain_rules : Each (λ a. is_plain a ≡ true) s.rules) (once : s.args_override_self ≡ false) where
   abbrev Rows : List Row → Type 0
   Rows = Each (IsRowOf s.rules)
 
@@ -91,12 +85,8 @@ module _ (s : Shape) (plain_rules : list_all is_plain s.rules ≡ true) (once : 
       → Rows (with_values a.id (reading_by a) from values rows)
   new_row a from values rows among none fits each = grind (arith, at_no_row, each_more)
 
-  set_row : (a : Rule) (values : List Text) (rows : List Row) → Among a s.rules
-      → Keeps rows (set_fault s.args_override_self a values rows) (with_values a.id (reading_by a) source.CommandLine values (without a.id rows))
-  set_row a values rows among each passes = grind (arith, at_no_row, append-nil, with_values, new_row)
-
   use_row : (a : Rule) (values : List Text) (rows : List Row) → Among a s.rules → Keeps rows (use_fault s.args_override_self a values rows) (used a values rows)
-  use_row a values rows among each passes = grind (arith, set_row, (passes_among is_plain s.rules a plain_rules among))
+  use_row a values rows among each passes = grind (arith, at_no_row, append-nil, with_values, new_row, (each_among (λ b. is_plain b ≡ true) s.rules a plain_rules among))
 
   -- what was pending is used
   settled_row : (h : Held) → Keeps h.rows (settle_fault s.rules s.args_override_self h) (settled s.rules h).rows
@@ -132,45 +122,30 @@ module _ (s : Shape) (plain_rules : list_all is_plain s.rules ≡ true) (once : 
 
   -- ---- a word
 
-  plain_row : (waiting : Waiting) (word : Text) (h : Held) → (plain_word s.rules waiting word h).0.rows ≡ h.rows
-  plain_row waiting word h = grind arith
-
   after_row : (waiting : Waiting) (word : Text) (h : Held) (x : Outcome) → (after_flag s.rules waiting word h x).0.rows ≡ h.rows
-  after_row waiting word h x = grind (arith, plain_row)
+  after_row waiting word h x = grind arith
 
   flag_word_row : (waiting : Waiting) (word : Text) (o : Option (Text × Option Text)) (h : Held)
       → Keeps h.rows (flag_word_fault s.rules s.args_override_self o word h) (long_or_other s.rules waiting word o h).0.rows
-  flag_word_row waiting word o h each passes = grind (arith, found_among, option_row, flag_row, (short_of word), plain_row, after_row, bundle_row)
+  flag_word_row waiting word o h each passes = grind (arith, found_among, option_row, flag_row, (short_of word), after_row, bundle_row)
 
   step_taken_row : (word : Text) (w : Walk) (h : Held) (step : Step) → Keeps h.rows (step_fault s w.position h step) (after_step s.rules word w h step).held.rows
-  step_taken_row word w h value = go (arg_by_index s.rules w.position)
-    where
-      go : (o : Option Rule) → Keeps h.rows (option_map_or (λ a. positional_fault s.rules s.args_override_self a h) o (stray_fault s)) (to_positional s.rules o word w h).held.rows
-      go None each passes = each
-      -- a word that goes to a positional ends what was pending
-      go (Some a) each passes = grind (arith, settled_row)
-  step_taken_row word w h _ = λ each passes. each
-
-  turn_row : (names : Names) (w : Walk) (word : Text) → Keeps w.held.rows (turn_fault s names w word) (walked s.rules names w word).held.rows
-  unfolding walked
-  turn_row names w word each passes = grind (arith, in_turn, flag_word_row, step_taken_row)
+  step_taken_row word w h step each passes = grind (arith, (arg_by_index s.rules w.position), settled_row)
 
   walk_row : (names : Names) (w : Walk) (words : List Text) → Keeps w.held.rows (walk_fault s names w words) (fold (walked s.rules names) w words).held.rows
-  unfolding walk_fault
-  walk_row names w [] = λ each passes. each
-  walk_row names w (word ∷ rest) = in_turn _ _ w.held.rows (walked s.rules names w word).held.rows _ (turn_row names w word) (walk_row names (walked s.rules names w word) rest)
+  unfolding walk_fault walked
+  walk_row names w [] each passes = each
+  walk_row names w (word ∷ rest) each passes =
+      grind (arith, in_turn, flag_word_row, step_taken_row, (walk_row names (walked s.rules names w word) rest))
 
   -- ---- after the walk
 
   -- defaults that the parser takes add a row of their rule
-  default_row : (a : Rule) (rows : List Row) → Among a s.rules → Keeps rows (default_fault rows a) (with_default rows a)
-  default_row a rows among each passes = grind (arith, new_row, neither_fails)
-
   defaults_rows : (others : List Rule) (rows : List Row) → ((a : Rule) → Among a others → Among a s.rules) → Keeps rows (defaults_fault rows others) (fold with_default rows others)
   unfolding defaults_fault
-  defaults_rows [] rows among = λ each passes. each
-  defaults_rows (a ∷ others) rows among =
-      in_turn _ _ rows (with_default rows a) _ (default_row a rows (among a (inl refl))) (defaults_rows others (with_default rows a) (λ b there. among b (inr there)))
+  defaults_rows [] rows among each passes = each
+  defaults_rows (a ∷ others) rows among each passes =
+      grind (arith, new_row, neither_fails, (among a (inl refl)), (defaults_rows others (with_default rows a) (λ b there. among b (inr there))))
 
   -- words without a fault leave rows of the rules
   pub rows_of_rules : (words : List Text) → level_fault s [] nothing_held words false [] ≡ [] → Each (IsRowOf s.rules) (rows_after s.rules [] words)

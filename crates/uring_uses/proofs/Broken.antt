@@ -1,6 +1,6 @@
 -- A failure in a chain, by either's rules.
 use Rattle.std.proofs.Common.{◌≡◌, ℕ, ◌+◌, ◌<◌, ◌≤◌, ℤ, negsuc, Bool, true, false, not, List, ◌∷◌, if◌then◌else◌, refl, sym, subst, ◌∙◌, ap, arith}
-use Rattle.uring_uses.proofs.Common.{Answer, History, IsLawfulApart, IsNextInChain, Requests, Setup, World, and_from, and_left, and_parts, and_right, ends_doomed, entry_of, has_ended, has_ended_other, has_ended_same, has_failed_same, is_after_failure, is_doomed_after, is_in_turn, is_joined_inside, is_joined_yes, is_last, is_running, is_running_ended_other, issue_answer, keeps_back, never_success, no_bytes, not-true, or_right, requests_of, with_ended, world}
+use Rattle.uring_uses.proofs.Common.{Answer, History, IsLawfulApart, IsNextInChain, Requests, Setup, World, and_from, and_left, and_parts, and_right, ends_doomed, has_ended_other, has_ended_same, has_failed_same, is_after_failure, is_doomed_after, is_in_turn, is_joined_inside, is_joined_yes, is_running, is_running_ended_other, issue_answer, keeps_back, never_success, no_bytes, not-true, or_right, requests_of, with_ended, world}
 use Rattle.uring_rules.specs.Rules.{doomed_result}
 use Rattle.uring_entry.proofs.BelowLemmas.{some_below_none}
 use Rattle.uring_entry.proofs.EventLemmas.{is_joined_ended, is_after_failure_from}
@@ -14,24 +14,20 @@ module _ (r : Requests) (n below : ℕ) (bytes : List ℕ) (next : IsNextInChain
   -- who failed with a negative result has the next after its failure, if a soft link joins them
   next_after : is_after_failure (with_ended r n (negsuc below) bytes) (n + 1) ≡ true
   next_after =
-      let unended : has_ended r n ≡ false = not-true _ (and_parts _ _ next.runs).1 in
-      let last : (k : ℕ) → n ≤ k → k < n + 1 → is_last r k ≡ false = λ k from to. subst (λ j. is_last r j ≡ false) (let same : n ≡ k = omega (arith, from, to) in same) next.joined in
       is_after_failure_from (with_ended r n (negsuc below) bytes) (n + 1) n
       (record {
         before = omega arith;
-        joined = is_joined_ended r n (negsuc below) bytes n (n + 1) ∙ is_joined_yes r n (n + 1) last;
+        joined = grind (arith, is_joined_ended, is_joined_yes, next.joined);
         soft = next.soft;
-        failed = has_failed_same r n (negsuc below) bytes unended ∙ ap not (never_success (entry_of r n) below);
+        failed = grind (arith, has_failed_same, not-true, and_parts, next.runs, never_success);
       })
 
   -- and it is in its turn, as whoever runs is
-  keeps_none : IsFirst r n → (k : ℕ) → k < n + 1 → keeps_back (with_ended r n (negsuc below) bytes) (n + 1) k ≡ false
-  keeps_none first k lt =
-      grind (arith, and_right, has_ended_same, is_joined_yes, is_joined_inside, any_kept, and_left, is_joined_ended)
-
   next_turn : IsFirst r n → is_in_turn (with_ended r n (negsuc below) bytes) (n + 1) ≡ true
   unfolding is_in_turn
-  next_turn first = ap not (some_below_none (keeps_back (with_ended r n (negsuc below) bytes) (n + 1)) (n + 1) (keeps_none first))
+  next_turn first =
+      ap not (some_below_none (keeps_back (with_ended r n (negsuc below) bytes) (n + 1)) (n + 1)
+      (λ k lt. grind (arith, and_right, has_ended_same, is_joined_yes, is_joined_inside, any_kept, and_left, is_joined_ended)))
 
   -- so it ends as doomed
   pub next_ends : (linux : Bool) → (linux ≡ true → IsFirst r n)

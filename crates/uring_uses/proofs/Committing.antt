@@ -1,10 +1,10 @@
 -- What a commit adds to a log: its record is kept, and what was kept before is.
 use Rattle.std.proofs.Common.{◌≡◌, ◌==◌, ◌+◌, ℕ, Bool, true, false, cond, List, [], ◌∷◌, ◌++◌, length, refl, sym, ap, ◌∙◌, arith}
-use Rattle.uring_uses.proofs.Common.{and_right, cond-true, not_from_false, or_from, or_parts, or_right}
+use Rattle.uring_uses.proofs.Common.{and_right, not_from_false, or_from, or_right}
 use Rattle.std.proofs.lemmas.List.Folds.{list_any-append}
 use Rattle.uring_volume.specs.Writes.{Write}
 use Rattle.uring_volume.specs.declared.event.SyncRange.TheVariants.{Whole}
-use Rattle.uring_volume.specs.declared.event.Event.TheVariants.{WriteIssued, WriteEnded, SyncIssued, SyncEnded, SyncFailed}
+use Rattle.uring_volume.specs.declared.event.Event.TheVariants.{WriteIssued, WriteEnded, SyncIssued, SyncEnded}
 use Rattle.uring_volume.specs.Events.{History, has_ended, is_reached, is_given_up}
 use Rattle.uring_volume.specs.Laws.{IsKept}
 use Rattle.uring_volume.specs.Volume.{Volume, IsSound, is_one_of, running_writes, running_syncs, with_event, with_write, with_sync}
@@ -15,23 +15,15 @@ use Rattle.uring_uses.specs.Stores.{EndsBy}
 not_reached : (h : History) (s : ℕ) (w : Write) → has_ended h w.number ≡ false
     → is_reached h s w ≡ false
 not_reached [] s w none = refl
-not_reached (WriteEnded m ∷ earlier) s w none = not_reached earlier s w (or_parts (m == w.number) (has_ended earlier w.number) none).1
-not_reached (SyncIssued t range ∷ earlier) s w none = grind (arith, and_right, (not_reached earlier s w none))
-not_reached (e ∷ earlier) s w none = not_reached earlier s w none
+not_reached (e ∷ earlier) s w none = grind (arith, and_right, (not_reached earlier s w))
 
 not_given_up : (h : History) (w : Write) → has_ended h w.number ≡ false → is_given_up h w ≡ false
 not_given_up [] w none = refl
-not_given_up (WriteEnded m ∷ earlier) w none = not_given_up earlier w (or_parts (m == w.number) (has_ended earlier w.number) none).1
-not_given_up (SyncFailed s ∷ earlier) w none = grind (arith, or_from, not_reached, (not_given_up earlier w none))
-not_given_up (e ∷ earlier) w none = not_given_up earlier w none
+not_given_up (e ∷ earlier) w none = grind (arith, or_from, not_reached, (not_given_up earlier w))
 
 -- the history of a log with a record more
 abbrev pub with_record : History → Write → ℕ → History
 with_record h w s = SyncEnded s ∷ SyncIssued s Whole ∷ WriteEnded w.number ∷ WriteIssued w ∷ h
-
-pub record_is_kept : (h : History) (w : Write) (s : ℕ) → has_ended h w.number ≡ false
-    → EndsBy w.off h → IsKept (with_record h w s) w
-record_is_kept h w s none after = grind (arith, not_from_false, not_given_up)
 
 just_begun : (n : ℕ) (ns : List ℕ) → is_one_of n (ns ++ n ∷ []) ≡ true
 just_begun n ns = grind (arith, list_any-append, or_right)
@@ -51,25 +43,15 @@ pub committed : (v v1 v2 v3 v4 : Volume) (end : ℕ) (bytes : List ℕ) (n s : �
     → v4 ≡ cond synced (with_event (SyncEnded s) v3) v3
     → IsCommitted v v4 end bytes n
 committed v v1 v2 v3 v4 end bytes n s ran synced e1 number r e2 e3 sync t e4 =
-    let own : running_writes v1.history ≡ running_writes v.history ++ n ∷ [] = ap (λ x. running_writes x.history) e1 ∙ ap (λ m. running_writes v.history ++ m ∷ []) (sym number) in
-    let is : ran ≡ true = r ∙ ap (is_one_of n) own ∙ just_begun n (running_writes v.history) in
-    let h2 : v2.history ≡ WriteEnded n ∷ v1.history = ap (λ x. x.history) (e2 ∙ cond-true ran (with_event (WriteEnded n) v1) v1 is) in
-    let h1 : v1.history ≡ WriteIssued (record { number = n; off = end; bytes = bytes }) ∷ v.history = ap (λ x. x.history) e1 ∙ ap (λ m. WriteIssued (record { number = m; off = end; bytes = bytes }) ∷ v.history) (sym number) in
-    let h3 : v3.history ≡ SyncIssued s Whole ∷ v2.history = ap (λ x. x.history) e3 ∙ ap (λ m. SyncIssued m Whole ∷ v2.history) (sym sync) in
-    let own3 : running_syncs v3.history ≡ running_syncs v2.history ++ s ∷ [] = ap running_syncs h3 in
-    let is3 : synced ≡ true = t ∙ ap (is_one_of s) own3 ∙ just_begun s (running_syncs v2.history) in
-    let h4 : v4.history ≡ SyncEnded s ∷ v3.history = ap (λ x. x.history) (e4 ∙ cond-true synced (with_event (SyncEnded s) v3) v3 is3) in
-    record {
-      s = s;
-      number = number;
-      history = h4 ∙ ap (λ h. SyncEnded s ∷ h) (h3 ∙ ap (λ h. SyncIssued s Whole ∷ h) (h2 ∙ ap (λ h. WriteEnded n ∷ h) h1));
-    }
+    let is : ran ≡ true = grind (arith, just_begun) in
+    let is3 : synced ≡ true = grind (arith, just_begun) in
+    record { s = s; number = number; history = rw (e4, is3, e3, sync, e2, is, e1, number) refl }
 
 pub commit_keeps : (old new : Volume) (end : ℕ) (bytes : List ℕ) (n : ℕ) → IsSound old
     → EndsBy end old.history → IsCommitted old new end bytes n
     → IsKept new.history (record { number = n; off = end; bytes = bytes })
 commit_keeps old new end bytes n sound after made =
-    rw made.history (record_is_kept old.history (record { number = n; off = end; bytes = bytes }) made.s (grind (arith, made.number)) after)
+    rw made.history (grind (arith, not_from_false, not_given_up, made.number, sound, after))
 
 pub commit_leaves : (old new : Volume) (end : ℕ) (bytes : List ℕ) (n : ℕ)
     → EndsBy end old.history → IsCommitted old new end bytes n

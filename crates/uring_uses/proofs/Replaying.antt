@@ -7,6 +7,7 @@ use Rattle.uring_core.specs.declared.step.Step.{Step}
 use Rattle.uring_core.specs.declared.step.Step.TheVariants as step
 use Rattle.uring_core.specs.declared.answer.Answer.TheVariants as answer
 use Rattle.uring_core.proofs.Following.{history_of_cons}
+use Rattle.uring_laws.proofs.WholeLaws.{lawful_before}
 use Rattle.uring_uses.specs.Replays.{is_out_of_memory, AreReplays}
 
 -- one answer, or memory was refused for one of the two
@@ -14,18 +15,14 @@ abbrev pub AreSame : Answer → Answer → Type 0
 AreSame x y = (x ≡ y) ⊎ ((is_out_of_memory x ≡ true) ⊎ (is_out_of_memory y ≡ true))
 
 opened_same : (called x y : Answer) → OrAgain called x → OrAgain called y → AreSame x y
-opened_same (answer.Call count) x y (inl p) (inl q) = inl (p ∙ sym q)
-opened_same (answer.Call count) x y (inl p) (inr q) = inr (inr (ap is_out_of_memory q.0))
-opened_same (answer.Call count) x y (inr p) q = inr (inl (ap is_out_of_memory p.0))
+opened_same (answer.Call count) x y p q = grind arith
 opened_same _ x y p q = inl (p ∙ sym q)
 
 finished_same : (files : List FileContents) (r : Requests) (n : ℕ) (running : Bool) (x y : Answer)
     → EndsOn files r n running x
     → EndsOn files r n running y → AreSame x y
 finished_same files r n false x y p q = inl (p ∙ sym q)
-finished_same files r n true (answer.Ended res bytes) (answer.Ended other more) (inl p) (inl q) = grind arith
-finished_same files r n true (answer.Ended res bytes) (answer.Ended other more) (inl p) (inr q) = grind arith
-finished_same files r n true (answer.Ended res bytes) (answer.Ended other more) (inr p) q = grind arith
+finished_same files r n true (answer.Ended res bytes) (answer.Ended other more) p q = grind arith
 finished_same files r n true (answer.Ended res bytes) _ p q = absurd q
 finished_same files r n true _ y p q = absurd p
 
@@ -34,10 +31,6 @@ called_same : (g : Setup) (w : World) (s : Step) (x y : Answer) → CalledFor g 
 called_same g w (step.Begin count) x y p q = opened_same (begin_answer w count) x y p q
 called_same g w (step.Finish n) x y p q = grind (arith, finished_same)
 called_same g w _ x y p q = inl (p ∙ sym q)
-
-lawful_before : (g : Setup) (h later : History) → IsLawful g (later ++ h) → IsLawful g h
-lawful_before g h [] lawful = lawful
-lawful_before g h ((s, a) ∷ later) lawful = lawful_before g h later lawful.1
 
 -- the same steps after the same history
 replayed : (g : Setup) (h : History) (steps : List Step) (xs ys : List Answer)
@@ -49,8 +42,8 @@ replayed g h [] [] [] m n p q = inl refl
 replayed g h (s ∷ steps) (x ∷ xs) (y ∷ ys) m n p q =
     let one : IsLawful g (history_of (zip steps xs) ++ (s, x) ∷ h) = rw history_of_cons at p in
     let two : IsLawful g (history_of (zip steps ys) ++ (s, y) ∷ h) = rw history_of_cons at q in
-    let first = (lawful_before g ((s, x) ∷ h) (history_of (zip steps xs)) one).0 in
-    let second = (lawful_before g ((s, y) ∷ h) (history_of (zip steps ys)) two).0 in
+    let first = (lawful_before g (history_of (zip steps xs)) ((s, x) ∷ h) one).0 in
+    let second = (lawful_before g (history_of (zip steps ys)) ((s, y) ∷ h) two).0 in
     elim (called_same g (world g h) s x y first second) [
       | inl same ↦ grind (arith, (replayed g ((s, x) ∷ h) steps xs ys (omega (arith, m)) (omega (arith, n)) one (rw (← same) at two)))
       | inr refused ↦ grind (arith, or_left)

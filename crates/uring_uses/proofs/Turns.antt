@@ -1,6 +1,6 @@
 -- What one turn of a simulation makes.
 use Rattle.std.proofs.Common.{◌≡◌, ℕ, ◌+◌, ◌≤◌, ℤ, Bool, true, false, List, [], ◌∷◌, ◌++◌, length, Option, Some, None, is_some, refl, sym, subst, ◌∙◌, ap, arith, ◌⊎◌, inl, inr, append_assoc}
-use Rattle.uring_uses.proofs.Common.{Answer, HasRun, History, IsEnded, IsIdle, IsLawfulApart, LinuxRequests, NoneRuns, Requests, Setup, World, and_from, both_ways, cases_eq, has_ended, is_outstanding, is_running, is_running_ended_other, is_running_ended_same, is_running_started_other, is_running_started_same, issue_answer, least_of, next_answer_of, no_bytes, operation_running, outstanding_in, requests_of, with_ended, with_issued_end, with_started, world}
+use Rattle.uring_uses.proofs.Common.{Answer, HasRun, History, IsEnded, IsIdle, IsLawfulApart, NoneRuns, Requests, and_from, cases_eq, is_outstanding, is_running, is_running_ended_other, is_running_ended_same, is_running_started_other, is_running_started_same, least_of, next_answer_of, no_bytes, operation_running, outstanding_in, requests_of, with_issued_end, with_started, world}
 use Rattle.std.proofs.lemmas.List.Folds.{list_all-append}
 use Rattle.uring_entry.proofs.BelowLemmas.{least_below_out}
 use Rattle.uring_rules.specs.Rules as by_rules
@@ -11,74 +11,28 @@ use Rattle.uring_core.specs.declared.step.Step.TheVariants as step
 use Rattle.uring_core.specs.declared.answer.Answer.TheVariants as answer
 use Rattle.uring_core.proofs.Outstanding.{ended_less, none_outstanding, count_below_zero}
 use Rattle.uring_core.proofs.Issuable.{next_tells}
-use Rattle.uring_core.proofs.Issuable.{issue_goes}
+use Rattle.uring_core.proofs.Issuable.{issue_goes, issuable_outstanding}
 
 -- The next request.
 
 -- with something outstanding and nothing running there is a next
-pub some_next : (linux : Bool) (l : LinuxRequests) (a : Answer)
-    → ((n : ℕ) → least_of l.requests ≡ Some n → (is_running l.requests n ≡ true) ⊎ (is_some (by_rules.next_of linux l) ≡ true))
-    → ((n : ℕ) → is_running l.requests n ≡ false)
-    → 1 ≤ outstanding_in l.requests
-    → a ≡ next_answer_of (by_rules.next_of linux l) → ((k : ℕ) → a ≡ answer.Next k → ⊥) → ⊥
-some_next linux l a goes quiet some is other = by_least (least_of l.requests) refl where
-  by_next : (next : Option ℕ) → is_some next ≡ true → a ≡ next_answer_of next → ⊥
-  by_next (Some m) there e = other m e
-  by_next None there e = let f : false ≡ true = there in cc
-
-  by_least : (least : Option ℕ) → least_of l.requests ≡ least → ⊥
-  by_least (Some n) least =
-      elim (goes n least) [
-        | inl running ↦ both_ways _ (quiet n) running
-        | inr next ↦ by_next (by_rules.next_of linux l) next is
-      ]
-  by_least None none =
-      grind (arith, (least_below_out (is_outstanding l.requests) (length l.requests.accepted) none), count_below_zero)
+some_next : (next least : Option ℕ) (r : Requests) (a : Answer)
+    → ((n : ℕ) → least ≡ Some n → (is_running r n ≡ true) ⊎ (is_some next ≡ true))
+    → ((n : ℕ) → is_running r n ≡ false)
+    → 1 ≤ outstanding_in r → least_of r ≡ least
+    → a ≡ next_answer_of next → ((k : ℕ) → a ≡ answer.Next k → ⊥) → ⊥
+some_next (Some m) least r a goes quiet some e is other = other m is
+some_next None (Some n) r a goes quiet some e is other = grind (arith, (goes n refl), (quiet n))
+some_next None None r a goes quiet some e is other =
+    grind (arith, (least_below_out (is_outstanding r) (length r.accepted) e), count_below_zero)
 
 -- The issue of the next request.
 
-pub record IsWaiting (r : Requests) (n : ℕ) : Type 0 where
-  pub outstanding : is_outstanding r n ≡ true
-  pub unended : has_ended r n ≡ false
-  pub unstarted : is_running r n ≡ false
-
-pub issuable_waits : (linux : Bool) (l : LinuxRequests) (n : ℕ)
-    → by_rules.is_issuable linux l n ≡ true → IsWaiting l.requests n
-issuable_waits linux l n issuable = grind arith
-
--- what is issued next and doesn't run, ends
-pub issue_ends : (g : Setup) (w : World) (n : ℕ) (a : Answer)
-    → by_rules.is_issuable g.linux (requests_of w) n ≡ true
-    → a ≡ issue_answer g w n → (a ≡ answer.Run → ⊥)
-    → IsEnded a
-issue_ends g w n a issuable is other = grind (arith, issue_goes)
-
--- Nothing runs afterwards.
-
-quiet_after_end : (r : Requests) (n : ℕ) (res : ℤ) (bytes : List ℕ)
-    → ((k : ℕ) → is_running r k ≡ false) → (k : ℕ)
-    → is_running (with_ended r n res bytes) k ≡ false
-quiet_after_end r n res bytes quiet k = grind (arith, is_running_ended_same, is_running_ended_other)
-
 -- an end as a request is issued, by either's rules
-quiet_after_issue : (linux : Bool) (r : Requests) (n : ℕ) (res : ℤ)
-    → ((k : ℕ) → is_running r k ≡ false) → (k : ℕ)
-    → is_running (with_issued_end linux r n res) k ≡ false
-quiet_after_issue linux r n res quiet k = grind (arith, quiet_after_end)
-
 less_after_issue : (linux : Bool) (r : Requests) (n : ℕ) (res : ℤ) → is_outstanding r n ≡ true
     → outstanding_in (with_issued_end linux r n res) + 1 ≡ outstanding_in r
 less_after_issue true r n res outstanding = ended_less r n res no_bytes outstanding
 less_after_issue false r n res outstanding = ended_less r n res no_bytes outstanding
-
-quiet_after_run : (r : Requests) (n : ℕ) (res : ℤ) (bytes : List ℕ)
-    → ((k : ℕ) → is_running r k ≡ false) → (k : ℕ)
-    → is_running (with_ended (with_started r n) n res bytes) k ≡ false
-quiet_after_run r n res bytes quiet k =
-    elim (cases_eq k n) [
-      | inl same ↦ subst (λ j. is_running (with_ended (with_started r n) n res bytes) j ≡ false) (sym same) (is_running_ended_same (with_started r n) n res bytes)
-      | inr other ↦ is_running_ended_other (with_started r n) n res bytes k other ∙ is_running_started_other r n k other ∙ quiet k
-    ]
 
 -- A turn.
 
@@ -96,7 +50,7 @@ turn_ended p h n (answer.Ended res bytes) quiet outstanding ended fits =
       events = (step.Issue n, answer.Ended res bytes) ∷ [];
       issues_and_finishes = refl;
       fits = fits;
-      quiet = quiet_after_issue p.setup.linux (world p.setup h).requests n res quiet;
+      quiet = λ k. grind (arith, is_running_ended_same, is_running_ended_other, (quiet k));
       fewer = less_after_issue p.setup.linux (world p.setup h).requests n res outstanding;
     }
 turn_ended p h n _ quiet outstanding ended fits = absurd ended
@@ -112,7 +66,10 @@ turn_run p h n res bytes quiet outstanding fits =
       events = (step.Finish n, answer.Ended res bytes) ∷ (step.Issue n, answer.Run) ∷ [];
       issues_and_finishes = refl;
       fits = fits;
-      quiet = quiet_after_run (world p.setup h).requests n res bytes quiet;
+      quiet = λ k. elim (cases_eq k n) [
+        | inl same ↦ rw same (is_running_ended_same (with_started (world p.setup h).requests n) n res bytes)
+        | inr other ↦ is_running_ended_other (with_started (world p.setup h).requests n) n res bytes k other ∙ is_running_started_other (world p.setup h).requests n k other ∙ quiet k
+      ];
       fewer = ended_less (with_started (world p.setup h).requests n) n res bytes outstanding;
     }
 
@@ -124,18 +81,8 @@ pub turn_goes_on : (old asked : Core) (h : History) (a : Answer) → asked.setup
     → ⊥
 turn_goes_on old asked h a same quiet some fits other =
     let lawful : IsLawfulApart old.setup h = subst (λ g. IsLawfulApart g h) same fits.lawful.1 in
-    some_next old.setup.linux (requests_of (world old.setup h)) a (λ n least. least_goes_on old.setup h n lawful least) quiet some (grind arith) other
-
--- it can be issued after this history
-abbrev IsNext : Setup → History → ℕ → Type 0
-IsNext g h n = by_rules.is_issuable g.linux (requests_of (world g h)) n ≡ true
-
--- the next request, named by the answer
-named_waits : (old asked : Core) (h : History) (n : ℕ) (a : Answer) → asked.setup ≡ old.setup
-    → a ≡ answer.Next n
-    → FitsApart asked ((step.Next, a) ∷ h) → IsNext old.setup h n
-named_waits old asked h n a same named fits =
-    next_tells old.setup.linux (requests_of (world old.setup h)) n (sym named ∙ grind arith)
+    some_next (by_rules.next_of old.setup.linux (requests_of (world old.setup h))) (least_of (world old.setup h).requests)
+    (world old.setup h).requests a (λ n least. least_goes_on old.setup h n lawful least) quiet some refl (grind arith) other
 
 -- the next request ends as it is issued
 pub turn_issue : (old asked new : Core) (h : History) (n : ℕ) (a b : Answer)
@@ -143,13 +90,15 @@ pub turn_issue : (old asked new : Core) (h : History) (n : ℕ) (a b : Answer)
     → a ≡ answer.Next n → (b ≡ answer.Run → ⊥) → NoneRuns (world old.setup h)
     → FitsApart asked ((step.Next, a) ∷ h) → FitsApart new ((step.Issue n, b) ∷ h) → HasRun new h 1
 turn_issue old asked new h n a b same kept named other quiet asked_fits fits =
-    let issuable : IsNext new.setup h n = subst (λ g. IsNext g h n) (sym (kept ∙ same)) (named_waits old asked h n a same named asked_fits) in
-    turn_ended new h n b (subst (λ g. NoneRuns (world g h)) (sym (kept ∙ same)) quiet) (issuable_waits new.setup.linux (requests_of (world new.setup h)) n issuable).outstanding
-    (issue_ends new.setup (world new.setup h) n b issuable fits.lawful.0 other) fits
+    let one : new.setup ≡ old.setup = kept ∙ same in
+    let issuable : by_rules.is_issuable new.setup.linux (requests_of (world new.setup h)) n ≡ true =
+        rw one (next_tells old.setup.linux (requests_of (world old.setup h)) n (sym named ∙ rw same at asked_fits.lawful.0)) in
+    turn_ended new h n b (rw one quiet) (issuable_outstanding new.setup.linux (requests_of (world new.setup h)) n issuable)
+    (grind (arith, fits.lawful.0, (issue_goes new.setup (world new.setup h) n issuable), other)) fits
 
 -- the next request runs
 pub record IsStarted (p : Core) (h : History) (n : ℕ) : Type 0 where
-  pub waits : IsWaiting (world p.setup h).requests n
+  pub outstanding : is_outstanding (world p.setup h).requests n ≡ true
   pub quiet : NoneRuns (world p.setup h)
   pub runs : is_running (world p.setup ((step.Issue n, answer.Run) ∷ h)).requests n ≡ true
   pub fits : FitsApart p ((step.Issue n, answer.Run) ∷ h)

@@ -1,7 +1,6 @@
 -- A request that runs waits for nobody.
 use Rattle.std.proofs.Common.{◌≡◌, ℕ, ◌<◌, ℤ, Bool, true, false, not, ◌&&◌, if◌then◌else◌, subst, arith}
-use Rattle.uring_uses.proofs.Common.{Requests, Setup, World, and_parts, by_manual, cancel_result, doomed_result, entry_of, has_ended, is_cancel, is_doomed, is_joined, is_outstanding, is_ready, is_ready_inside, is_running, issue_answer, no_bytes, waits_for}
-use Rattle.uring_core.proofs.ByRules.{is_by_manual}
+use Rattle.uring_uses.proofs.Common.{Setup, World, and_parts, has_ended, is_joined, is_ready_inside, issue_answer, no_bytes, waits_for}
 use Rattle.uring_core.proofs.SoundRequests.{ready_first}
 use Rattle.uring_laws.proofs.LinuxSound.{turn_first}
 use Rattle.uring_core.specs.declared.answer.Answer.TheVariants as answer
@@ -12,29 +11,15 @@ run_ready : (outstanding running doomed ready cancel : Bool) (as_doomed as_cance
     → ready ≡ true
 run_ready outstanding running doomed ready cancel x y is = grind arith
 
-ended_or : (ended waits : Bool) → (not ended && waits) ≡ false → waits ≡ true → ended ≡ true
-ended_or ended waits back waiting = grind arith
-
 -- by either's rules each earlier member of the group of a request that runs has ended
-run_first : (linux : Bool) (g : Setup) (w : World) (n m : ℕ)
-    → answer.Run ≡ issue_answer (record g { linux = linux }) w n → m < n
-    → is_joined w.requests m n ≡ true
-    → has_ended w.requests m ≡ true
-run_first linux g w n m is lt joined = grind (arith, run_ready, and_parts, turn_first, ready_first)
-
 pub run_after_ended : (g : Setup) (w : World) (n m : ℕ) → answer.Run ≡ issue_answer g w n → m < n
     → is_joined w.requests m n ≡ true
     → has_ended w.requests m ≡ true
-run_after_ended g w n m is lt joined = run_first g.linux g w n m is lt joined
+run_after_ended g w n m is lt joined = grind (arith, (g.linux), run_ready, and_parts, turn_first, ready_first)
 
 -- by the manual pages' rules what a request that runs waits for has ended
 pub run_waits_for_none : (g : Setup) (w : World) (n m : ℕ) → g.linux ≡ false
     → answer.Run ≡ issue_answer g w n → m < n
     → waits_for w.requests n m ≡ true
     → has_ended w.requests m ≡ true
-run_waits_for_none g w n m manual is lt waits =
-    let r : Requests = w.requests in
-    let told : answer.Run ≡ issue_answer (by_manual g) w n = subst (λ k. answer.Run ≡ issue_answer k w n) (is_by_manual g manual) is in
-    ended_or (has_ended r m) (waits_for r n m)
-    (is_ready_inside r n m (run_ready (is_outstanding r n) (is_running r n) (is_doomed r n) (is_ready r n) (is_cancel (entry_of r n)) (doomed_result r n) (cancel_result r n) told) lt)
-    waits
+run_waits_for_none g w n m manual is lt waits = grind (arith, manual, run_ready, is_ready_inside)
