@@ -1,5 +1,5 @@
 -- What the words ask for, as clap's matches say.
-use Rattle.std.proofs.Common.{◌≡◌, ◌∙◌, arith, Bool, List, Option, refl, ap, ap₂, subst}
+use Rattle.std.proofs.Common.{◌≡◌, ◌∙◌, arith, Bool, List, Option, ap, ap₂, subst}
 use Rattle.uring_options.proofs.Common.{HasMatchesOf, IsGiven, IsPlayedOver, IsSetupOver, IsTracedOver, Numbers, Row, Setup, Text, codes, option_map, subcommand_of, subcommand_rows_of, uring}
 use Rattle.clap.specs.Matches.{subcommand_name_of}
 use Rattle.clap.specs.declared.parser.matches.ArgMatches.{ArgMatches}

@@ -1,13 +1,12 @@
 -- What clap's walk over words without a fault leaves: each row has values that its option's parser took.
 use Rattle.std.proofs.Common.{◌≡◌, ℕ, zero, suc, Bool, true, false, cond, List, [], ◌∷◌, ◌++◌, Option, Some, None, refl, ◌⊎◌, inl, inr, append-nil, fold, is_some, arith}
-use Rattle.uring_options.proofs.Common.{Held, Kinds, Names, Outcome, Row, Rule, Shape, Step, Text, Waiting, Walk, action_of, after_flag, after_step, arg_by_index, at_row, attached_value, bundle_met, defaults_fault, find, flag_met, flag_word_fault, flags_fault, has_row, level_fault, long_or_other, nothing_held, option_fault, option_met, or_else, react_fault, reacted, reading_by, rows_after, settle_fault, settled, short_fault, short_met, slice_get, step_fault, takes_values, use_fault, used, values_fault, walk_fault, walked, with_default, with_values, without}
+use Rattle.uring_options.proofs.Common.{Held, Kinds, Names, Outcome, Row, Rule, Shape, Step, Text, Waiting, Walk, action_of, after_flag, after_step, arg_by_index, at_row, attached_value, bundle_met, defaults_fault, find, flag_met, flag_word_fault, flags_fault, has_row, level_fault, long_or_other, nothing_held, option_fault, option_met, or_else, react_fault, reacted, reading_by, rows_after, settle_fault, settled, short_fault, short_met, slice_get, step_fault, takes_values, use_fault, used, values_fault, walk_fault, walked, with_default, with_values}
 use Rattle.std.specs.Str.{chars}
 use Rattle.clap.specs.Lexer.{short_of}
 use Rattle.clap.specs.declared.builder.action.ArgAction.{ArgAction}
 use Rattle.clap.specs.declared.builder.action.ArgAction.TheVariants as action
 use Rattle.clap.specs.declared.error.kind.ErrorKind.TheVariants as kind
 use Rattle.clap.specs.declared.parser.matches.ValueSource.{ValueSource}
-use Rattle.clap.specs.declared.parser.matches.ValueSource.TheVariants as source
 
 -- ---- faults in a row
 

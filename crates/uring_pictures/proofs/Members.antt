@@ -1,5 +1,5 @@
 -- The members of chains that a graph names.
-use Rattle.std.proofs.Common.{◌≡◌, ℕ, zero, suc, true, false, arith}
+use Rattle.std.proofs.Common.{◌≡◌, ℕ, zero, suc, false, arith}
 use Rattle.uring_pictures.proofs.Common.{Requests, both_ways, first_of, is_joined, is_last, is_some, member_before}
 use Rattle.uring_entry.proofs.RequestLemmas.{is_joined_yes, is_joined_no, is_joined_inside}
 use Rattle.uring_pictures.specs.Members.{IsFirst, IsBefore}

@@ -1,5 +1,5 @@
 -- A failure in a chain, by either's rules.
-use Rattle.std.proofs.Common.{◌≡◌, ℕ, ◌+◌, ◌<◌, ◌≤◌, ℤ, negsuc, Bool, true, false, not, List, ◌∷◌, if◌then◌else◌, refl, sym, subst, ◌∙◌, ap, arith}
+use Rattle.std.proofs.Common.{◌≡◌, ℕ, ◌+◌, ℤ, negsuc, Bool, true, false, not, List, ◌∷◌, if◌then◌else◌, refl, sym, subst, ◌∙◌, ap, arith}
 use Rattle.uring_uses.proofs.Common.{Answer, History, IsLawfulApart, IsNextInChain, Requests, Setup, World, and_from, and_left, and_parts, and_right, ends_doomed, has_ended_other, has_ended_same, has_failed_same, is_after_failure, is_doomed_after, is_in_turn, is_joined_inside, is_joined_yes, is_running, is_running_ended_other, issue_answer, keeps_back, never_success, no_bytes, not-true, or_right, requests_of, with_ended, world}
 use Rattle.uring_rules.specs.Rules.{doomed_result}
 use Rattle.uring_entry.proofs.BelowLemmas.{some_below_none}

@@ -1,5 +1,5 @@
 -- The same steps have the same answers, unless memory is refused.
-use Rattle.std.proofs.Common.{◌≡◌, ℕ, Bool, true, false, List, [], ◌∷◌, ◌++◌, length, ◌⊎◌, inl, inr, refl, sym, ◌∙◌, ap, arith}
+use Rattle.std.proofs.Common.{◌≡◌, ℕ, Bool, true, false, List, [], ◌∷◌, ◌++◌, length, ◌⊎◌, inl, inr, refl, sym, ◌∙◌, arith}
 use Rattle.uring_uses.proofs.Common.{Answer, History, OrAgain, Requests, Setup, World, append-nil, begin_answer, history_of, or_left, world, zip}
 use Rattle.uring_files.specs.Contents.{FileContents}
 use Rattle.uring_core.specs.CalledFor.{CalledFor, EndsOn, IsLawful}

@@ -92,7 +92,7 @@ pub turn_issue : (old asked new : Core) (h : History) (n : ℕ) (a b : Answer)
 turn_issue old asked new h n a b same kept named other quiet asked_fits fits =
     let one : new.setup ≡ old.setup = kept ∙ same in
     let issuable : by_rules.is_issuable new.setup.linux (requests_of (world new.setup h)) n ≡ true =
-        rw one (next_tells old.setup.linux (requests_of (world old.setup h)) n (sym named ∙ rw same at asked_fits.lawful.0)) in
+    rw one (next_tells old.setup.linux (requests_of (world old.setup h)) n (sym named ∙ rw same at asked_fits.lawful.0)) in
     turn_ended new h n b (rw one quiet) (issuable_outstanding new.setup.linux (requests_of (world new.setup h)) n issuable)
     (grind (arith, fits.lawful.0, (issue_goes new.setup (world new.setup h) n issuable), other)) fits
 

@@ -1,5 +1,5 @@
 -- A request that runs waits for nobody.
-use Rattle.std.proofs.Common.{◌≡◌, ℕ, ◌<◌, ℤ, Bool, true, false, not, ◌&&◌, if◌then◌else◌, subst, arith}
+use Rattle.std.proofs.Common.{◌≡◌, ℕ, ◌<◌, ℤ, Bool, true, false, not, if◌then◌else◌, arith}
 use Rattle.uring_uses.proofs.Common.{Setup, World, and_parts, has_ended, is_joined, is_ready_inside, issue_answer, no_bytes, waits_for}
 use Rattle.uring_core.proofs.SoundRequests.{ready_first}
 use Rattle.uring_laws.proofs.LinuxSound.{turn_first}
