@@ -1,5 +1,5 @@
 use Rattle.std.proofs.Common.{◌≡◌, ◌++◌, List, ℕ, refl, ap, ap₂, ◌∙◌, append_assoc}
-use Rattle.uring_check.proofs.Common.{codes, end_text, on_ok_weaker, string_bytes}
+use Rattle.uring_check.proofs.Common.{codes, decimal, end_text, on_ok_weaker, string_bytes}
 use Rattle.uring_check.proofs.setup_text.push_setup.Goals as goal
 
 -- what is appended in five parts, four of a name and a number

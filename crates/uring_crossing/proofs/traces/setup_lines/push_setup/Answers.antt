@@ -1,5 +1,6 @@
 use Rattle.std.proofs.Common.{◌≡◌, ◌++◌, List, ℕ, refl, ap, ◌∙◌, append_assoc}
 use Rattle.uring_crossing.proofs.Common.{codes, named_if, on_ok_weaker, string_bytes}
+use Rattle.std.specs.Fmt.{decimal}
 use Rattle.uring_crossing.proofs.traces.setup_lines.push_setup.Goals as goal
 
 -- what is appended in six parts, four of a name and a number
