@@ -26,6 +26,8 @@ use uring_text::{Calls, TextMemory, TraceFault, write_all};
 /// - `Read`: a read failed, or 2^64 - 1 reads were made. Nothing is written.
 /// - `Write`: a write failed or took no byte, or 2^64 - 1 writes were made. The report is cut short.
 /// - `Memory`: memory was refused. Nothing is written.
+///
+/// Use: `let checked = check(rt.alloc(), &mut input, &mut output, setup, is_all, ends);`
 pub fn check<R: Read, W: Write>(
     alloc: Global,
     reader: &mut R,

@@ -61,6 +61,8 @@ impl Core {
     ghost use Rattle.uring_core.specs.Core.{FitsApart, IsNoFinish, IsFinished, IsShortOfMemory, HasNoLessMemory, elements_for};
 
     /// A core of this set-up on which nothing has happened. `AllocError`: memory was refused.
+    ///
+    /// Use: `let mut core = Core::new(alloc, setup)?;`
     pub fn new(alloc: Global, setup: &Setup) -> Result<Core, AllocError>
         ensures setup { IfOk result (λ core. core.setup ≡ setup.now) }
         ensures fits { IfOk result (λ core. FitsApart core []) }
@@ -93,6 +95,8 @@ impl Core {
     }
 
     /// Makes one step, and returns its answer. Condition: it is no `Finish`, which is a call of its own. Only `Begin` asks for memory, and only if its call may need more than is there; if that is refused the answer is `Again`, and nothing is consumed.
+    ///
+    /// Use: `let Answer::Next(number) = core.step(Step::Next) else { return; };`
     pub fn step(&mut self, step: Step) -> Answer
         requires { IsNoFinish step }
         ensures setup { self.new.setup ≡ self.old.setup }
@@ -128,6 +132,8 @@ impl Core {
     }
 
     /// Ends the running request of this number with an outcome from outside, any one, and posts its completion, unless it succeeded and is to be skipped; `NotRunning` if it isn't running, and then nothing changes.
+    ///
+    /// Use: `core.finish(number, disk.carry_out(&op));`, with what a storage of your own gives.
     #[inline(always)]
     pub fn finish(&mut self, number: u64, outcome: Outcome) -> Answer
         ensures setup { self.new.setup ≡ self.old.setup }

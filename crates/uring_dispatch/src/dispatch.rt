@@ -103,6 +103,8 @@ impl Dispatch {
     /// Accepts an entry: its number is that of the requests accepted before it. It becomes one of the open submission call's.
     ///
     /// Condition: its memory was asked for by `reserve`.
+    ///
+    /// Use: `dispatch.accept(*entry);` for each entry of a call, then `dispatch.end_call();`
     pub fn accept(&mut self, entry: Sqe)
         requires { 0 < self.old.room }
         ensures shows { (r : Requests) → ShowsRequests self.old r
@@ -129,6 +131,8 @@ impl Dispatch {
     /// Issues request `n`, any number. It ends at once if it is doomed, with -22 (EINVAL) if it has a fault itself and else with -125 (ECANCELED), or if it is a cancel that may start, with 0, -2 (ENOENT) or -114 (EALREADY), or the number of its targets if it is one of all; otherwise it starts if it may.
     ///
     /// Refused with `Unknown` if it isn't outstanding, with `Running` if it runs already, and with `NotReady` if it isn't doomed and waits for earlier requests. A refusal changes nothing. The order of these is our own rule.
+    ///
+    /// Use: `match self.dispatch.issue(number)`, with a case for each answer.
     pub fn issue(&mut self, n: u64) -> Issued
         requires { IsTrue self.old.is_between_calls }
         ensures answer { (r : Requests) → ShowsRequests self.old r → result ≡ issued r n }
@@ -140,6 +144,8 @@ impl Dispatch {
     }
 
     /// Ends request `n` with this outcome. Refused with `NotRunning` if it isn't running, and then nothing changes. Our own rule.
+    ///
+    /// Use: `self.dispatch.finish(number, outcome);`
     pub fn finish(&mut self, n: u64, outcome: Outcome) -> Finished
         requires { IsTrue self.old.is_between_calls }
         ensures answer { (r : Requests) → ShowsRequests self.old r → result ≡ finished r n }

@@ -48,6 +48,8 @@ impl Setup {
     /// A submission call goes on after an entry with a fault, and requests are kept by the manual pages' rules: `stopping` and `linux` ask for the others.
     ///
     /// `BadSq`, `BadCq` and `BadFiles` come in that order, each if its limit is broken; `BadCq` also if the completion ring is smaller after rounding than the submission ring. Sizes are rounded as in io_uring_setup(2), IORING_SETUP_CQSIZE; the limits are our own rule, and so is that a completion ring of the submission ring's size is taken.
+    ///
+    /// Use: `let setup = Setup::new(4, None, 1, 0).ok()?;`, for 4 entries, 8 completions, one file and index words from 0 on.
     pub fn new(sq: u32, cq: Option<u32>, files: u32, start: u32) -> Result<Setup, BadSetup>
         ensures ok { IfOk result (λ s. IsSetupFor sq cq files start s) }
         ensures bad_sq { IsErrOf result BadSetup.BadSq ↔ IsBadSq sq }

@@ -48,6 +48,8 @@ impl Machine {
     ghost use Rattle.uring_machine.specs.Machine.{Fits};
 
     /// A machine of this set-up on which nothing has happened, its files empty. `AllocError`: memory was refused.
+    ///
+    /// Use: `let mut machine = Machine::new(alloc, setup)?;`
     pub fn new(alloc: Global, setup: &Setup) -> Result<Machine, AllocError>
         ensures setup { IfOk result (λ machine. machine.core.setup ≡ setup.now) }
         ensures fits { IfOk result (λ machine. Fits machine []) }
@@ -76,6 +78,8 @@ impl Machine {
     /// Makes one step, and returns its answer.
     ///
     /// Only `Begin` and the `Finish` of a write that lengthens its file ask for memory, `Begin` only if its call may need more than is there. If it is refused, `Begin` is answered `Again`, and nothing is consumed; the write ends with -12 (ENOMEM).
+    ///
+    /// Use: `match machine.step(Step::Issue { number }) { Answer::Run => true, _ => false, }`
     pub fn step(&mut self, step: Step) -> Answer
         ensures setup { self.new.core.setup ≡ self.old.core.setup }
         ensures fits { (h : History) → Fits self.old h → Fits self.new ((step, result) ∷ h) }

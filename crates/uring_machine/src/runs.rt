@@ -12,6 +12,8 @@ use uring_core::{Answer, Step};
 use uring_memory::Memory;
 
 /// Makes these steps in order, and gives their answers. Room for all answers is asked for first: at `AllocError` no step was made. A list of no step needs none.
+///
+/// Use: `let answers = run(alloc, &mut machine, steps);`
 pub fn run(alloc: Global, machine: &mut Machine, steps: &[Step]) -> Result<Vec<Answer>, AllocError>
     ensures setup { machine.new.core.setup ≡ machine.old.core.setup }
     ensures answers { IfOk result (λ answers. length answers.items ≡ length steps.now) }

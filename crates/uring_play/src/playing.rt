@@ -24,6 +24,8 @@ use uring_threads::{Item, KernelPort, Setup};
 /// - `Read`, `Line`, `Long`: as `read_calls` says. No thread was started, and nothing is written.
 /// - `Memory`: memory was refused, or a thread can't be started. Nothing is written.
 /// - `Write`: a write failed, as `write_out` says. The beginning of the text is written.
+///
+/// Use: `let played = play(threads, alloc, &mut input, &mut output, &setup, workers);`
 pub fn play<R: Threads + Wait + Copy + Send + 'static, I: Read, O: Write>(
     rt: R,
     alloc: Global,

@@ -59,6 +59,8 @@ impl<P: AppPort> AppEnd<P> {
     /// Submits the items as one call, all of them, or none.
     ///
     /// It refuses with `Closed`, `Empty`, `TooLong`, `NotBad`, in this order, each exactly if what `SubmitRefusal` says of it stands; and else with `Full`, only if all items submitted and these are more than the ring's size. io_uring_enter(2), for a call; that a call has an item and fits the ring is our own rule.
+    ///
+    /// Use: `match self.app.submit(call) { Ok(()) => return true, Err(SubmitRefusal::Full) => {} Err(_) => return false, }`, once more after each `Full`.
     pub fn submit(&mut self, items: &[Item]) -> Result<(), SubmitRefusal>
         // Ok: each item is submitted. The room that is left was seen.
         ensures ok { OnOk result
@@ -91,6 +93,8 @@ impl<P: AppPort> AppEnd<P> {
     }
 
     /// The oldest completion that was delivered and not reaped. `None` says only that this end looked and saw none.
+    ///
+    /// Use: `let Some(completion) = self.app.reap() else { break 'reaping; };`
     pub fn reap(&mut self) -> Option<Cqe>
         ensures reaped { MatchOption result
             (self.new ≡ sees_completions self.old self.new.saw_completions)

@@ -51,6 +51,8 @@ impl<P: KernelPort> Kernel<P> {
     /// One turn: begins the call that waits once more, if one does, and pulls one call or the close mark; takes in at most 64 results of each worker; issues what can be issued while each worker's lane shows room; and delivers what is posted while the port shows room. Without such work it records nothing. A turn that returns Ok stores the dropped word last, if such a word lies between the ends.
     ///
     /// `AllocError`: the system is out of memory, for the trace or for a call, which then waits. All events made until then are recorded, nothing that was pulled or received is lost, and a later turn goes on.
+    ///
+    /// Use: `let Ok(turn) = kernel.turn() else { return false; };`
     pub fn turn(&mut self) -> Result<Turn, AllocError>
         ensures turned { HasTurned self.old self.new result }
 

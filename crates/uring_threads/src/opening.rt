@@ -105,6 +105,8 @@ pub fn ends_in<M: LaneMemory, K: KernelPort, G: Gate>(
 /// The ends of this set-up over lanes: the application's, the dispatcher's, and those of the workers, one after each gate, in the gates' order. A worker is known by its place, from 0.
 ///
 /// `Stops` comes exactly if calls of the set-up stop, and is tested first; else `BadWorkers` exactly if there aren't 1 to 8 gates; else `NoMemory` if memory was refused.
+///
+/// Use: `let gates = vec![in alloc; Open; workers as usize]?;`, then `lanes(alloc, setup, gates)`, for workers that nothing holds up.
 pub fn lanes<G: Gate>(
     alloc: Global,
     setup: &Setup,

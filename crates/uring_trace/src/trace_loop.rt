@@ -23,6 +23,8 @@ pub(crate) const CHUNK: usize = 512;
 /// - `Read`: a read failed, or 2^64 - 1 reads were made. Every complete line read so far has been answered.
 /// - `Write`: a write failed or took no byte, or 2^64 - 1 writes were made. The answers are cut short.
 /// - `Memory`: memory was refused. The lines before some line have been answered, and no later one.
+///
+/// Use: `let traced = trace(rt.alloc(), &mut input, &mut output, setup, is_echo);`
 pub fn trace<R: Read, W: Write>(
     alloc: Global,
     reader: &mut R,

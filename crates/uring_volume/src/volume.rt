@@ -110,6 +110,8 @@ impl Volume {
     ghost use Rattle.uring_volume.specs.Folds.{IsFoldable, IsFoldedFrom};
 
     /// A file with units of so many bytes and these first bytes, of which each is safe.
+    ///
+    /// Use: `volume: Volume::new(alloc, unit, first),`
     pub fn new(alloc: Global, unit: u64, first: Vec<u8>) -> Volume
         requires { 0 < unit }
         ensures { result ≡ record { unit = unit; first = first.items; history = []; next = 1 } }
@@ -125,6 +127,8 @@ impl Volume {
     }
 
     /// Begins a write of these bytes at an offset, and gives it the next number. Memory is asked for here, for its end too; a refusal changes nothing.
+    ///
+    /// Use: `let write = log.begin_write(end, bytes)?;`, and once it has ended `log.end_write(write);`
     pub fn begin_write(&mut self, off: u64, bytes: Vec<u8>) -> Result<u64, BeginError>
         requires { off + length bytes.items < 2 ^ 63 }
         ensures number { IfOk result (λ n. n ≡ self.old.next) }
@@ -169,6 +173,8 @@ impl Volume {
     }
 
     /// Begins a sync of a range, and gives it the next number. Memory is asked for here, for its end too; a refusal changes nothing.
+    ///
+    /// Use: `let sync = log.begin_sync(SyncRange::Whole)?;`, and once it has ended `log.end_sync(sync);`
     pub fn begin_sync(&mut self, range: SyncRange) -> Result<u64, BeginError>
         ensures number { IfOk result (λ n. n ≡ self.old.next) }
         ensures issued { OnOk result (self.new ≡ with_sync range self.old) }

@@ -98,6 +98,8 @@ impl<G: Gate> Worker<G> {
     }
 
     /// Takes one job, if it sees one and sees room for its result: passes the gate with the job's number, carries the job out and sends the result. Only a write that lengthens its file takes memory.
+    ///
+    /// Use: `match worker.turn() { Worked::Done(_) => {} Worked::Idle | Worked::Held => thread::yield_now(), }`
     pub fn turn(&mut self) -> Worked
         ensures turns { Turns self.old self.new result }
         // Of the same lanes it stays, with as many files.

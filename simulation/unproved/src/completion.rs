@@ -1,3 +1,5 @@
+//! Completions, and their ring with its overflow list.
+
 use crate::setup::Setup;
 use std::collections::VecDeque;
 

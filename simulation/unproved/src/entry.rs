@@ -1,3 +1,5 @@
+//! Entries, what one asks for, and what is wrong with it.
+
 use crate::files::FileOp;
 
 pub mod flags {

@@ -1,3 +1,5 @@
+//! The error numbers of Linux that requests end with.
+
 pub const ENOENT: i32 = 2;
 pub const EBADF: i32 = 9;
 pub const EINVAL: i32 = 22;

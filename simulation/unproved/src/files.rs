@@ -1,3 +1,5 @@
+//! Files in memory, and the operations on them.
+
 use crate::errno;
 
 const MAX_LEN: u64 = 65_536;

@@ -1,3 +1,5 @@
+//! The kinds of steps that `measure` times, and the steps of a round of requests.
+
 use crate::entry::{opcode, Sqe};
 use crate::machine::Step;
 

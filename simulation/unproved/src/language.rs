@@ -1,3 +1,5 @@
+//! Steps as lines of text, and their answers.
+
 use crate::completion::Cqe;
 use crate::entry::{flags, opcode, Sqe, CANCEL_ALL};
 use crate::machine::{Answer, Step};

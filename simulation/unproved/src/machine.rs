@@ -1,3 +1,5 @@
+//! The machine: both rings, the requests and the files, moved a step at a time.
+
 use crate::completion::{CompletionRing, Cqe};
 use crate::entry::{Op, Sqe};
 use crate::files::{Files, Outcome};

@@ -1,3 +1,5 @@
+//! The requests that are outstanding: which may start, what an end does to others, and whom a cancel finds.
+
 use crate::entry::{flags, Op, Sqe};
 use crate::errno;
 use std::collections::VecDeque;

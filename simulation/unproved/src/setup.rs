@@ -1,3 +1,5 @@
+//! Set-ups, and their limits.
+
 /// The sizes of a pair of rings, the number of its files, the word at which both rings begin, and whether a call stops after an entry with a fault.
 #[derive(Clone, Copy)]
 pub struct Setup {

@@ -1,3 +1,5 @@
+//! The submission ring: slots, index words, and the open call.
+
 use crate::entry::{opcode, Sqe};
 use crate::setup::Setup;
 

@@ -1,3 +1,5 @@
+//! The run of a trace over a reader and a writer.
+
 use crate::language::read_step;
 use crate::machine::Machine;
 use crate::setup::Setup;
