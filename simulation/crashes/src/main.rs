@@ -228,7 +228,7 @@ fn main() -> ExitCode {
         .collect();
     let (first, count) = (
         words.first().copied().unwrap_or(1),
-        words.get(1).copied().unwrap_or(2000),
+        words.get(1).copied().unwrap_or(1000),
     );
     let mut images = 0;
     for seed in first..first + count {
