@@ -1,16 +1,21 @@
 //! `uring`: the rings of io_uring, step by step, over lines of text.
 #![tactic(auto)]
 
+// the runs
 mod crashing;
-mod fault;
 mod filled;
-mod lines;
 mod listing;
 mod moments;
 mod paged;
 mod powered;
+
+// streams and lines
+mod lines;
 mod streams;
 mod strict;
+
+// what goes wrong
+mod fault;
 mod telling;
 
 use crate::crashing::{asked_of, kind_of, run_crash};

@@ -1,17 +1,22 @@
 //! Pictures of a trace: the outstanding requests as a graph, a timeline of all requests, and a run as data and as a page.
 #![tactic(auto)]
 
+// the run of a trace that is drawn
 mod accepted;
 mod drawing;
+mod moment;
+mod timelines;
+mod watching;
+
+// what is drawn
 mod form_text;
 mod graph_text;
-pub mod laws;
-mod moment;
 mod node_text;
 mod pages;
 mod rows;
-mod timelines;
-mod watching;
+
+// laws of the definitions alone
+pub mod laws;
 
 pub use drawing::{graph, graph_in};
 pub use pages::{Form, page, page_in, recorded_page, recorded_page_in};

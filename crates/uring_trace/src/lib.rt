@@ -1,19 +1,26 @@
 //! The language of a trace: steps as lines of text, each with its answer, and the run of such lines from a reader to a writer.
 #![tactic(auto)]
 
+// what a line asks for, and what is wrong with it
+mod flaws;
+mod questions;
+mod step_lines;
+
+// what is answered
 mod answer_text;
 mod chosen;
-mod explain_loop;
-mod explainer;
-mod flaws;
-pub mod laws;
-mod questions;
 mod reason_text;
 mod requests_text;
-mod session;
 mod shown_text;
-mod step_lines;
+
+// the runs over streams
+mod explain_loop;
+mod explainer;
+mod session;
 mod trace_loop;
+
+// laws of the definitions alone
+pub mod laws;
 
 pub use answer_text::{push_answer, push_answer_in};
 pub use chosen::chosen_text;

@@ -1,17 +1,24 @@
 //! What a power failure leaves of a file: which images may be found, by the writes and syncs that were made, and which writes are safe. It knows nothing of rings and requests.
 #![tactic(auto)]
 
-mod crash;
+// what happened to a file
 mod event;
-mod fold;
 mod growth;
-pub mod laws;
-mod listing;
-mod order;
-mod show;
 mod standing;
 mod volume;
+
+// what reads show, and what a crash leaves
+mod crash;
+mod fold;
+mod order;
+mod show;
+
+// each image once
+mod listing;
 mod ways;
+
+// laws of the definitions alone
+pub mod laws;
 
 pub use event::{Event, Piece, SyncRange};
 pub use standing::{is_before, is_covered, is_reached, is_safe};
