@@ -39,9 +39,9 @@ none_found : (found : List Found) → lines_of found ≡ [] → found ≡ []
 none_found [] is = refl
 none_found (x ∷ before) is = absurd cc
 
--- the checker's machine was put in the place of another, before the first line
+-- the checker's follower was put in the place of another, before the first line
 fresh : (given g : Rules) (all : Bool) (old : Checker) (m : Follower) → LooksBy given all [] old
-    → rules_of m ≡ g → FitsBy m [] → LooksBy g all [] (record old { machine = m; awaits = false })
+    → rules_of m ≡ g → FitsBy m [] → LooksBy g all [] (record old { follower = m; awaits = false })
 fresh given g all old m l same fits = grind (arith, (none_found l.found l.lines_are))
 
 -- a first line that says no set-up
@@ -49,7 +49,7 @@ pub took_first : (d : Rules) (all : Bool) (lines : List (List ℕ)) (text : List
     → old.awaits ≡ true → IsSaid text Nothing → Goes text (record old { awaits = false }) new
     → Looks d all lines old → Looks d all (text ∷ lines) new
 took_first d all lines text old new waits said goes = at_first d all lines text old new waits (λ l.
-    let on = goes d all [] (fresh d d all old old.machine l l.same (rw (none_found l.found l.lines_are) at l.fits.0)) in
+    let on = goes d all [] (fresh d d all old old.follower l l.same (rw (none_found l.found l.lines_are) at l.fits.0)) in
     record { rules = Some d; ruled = (Nothing, said, refl); looked = on.0; awaits = on.1 })
 
 -- rules of this set-up
@@ -59,8 +59,8 @@ with_setup s ends = record { setup = s; ends = ends }
 -- a first line that says one
 pub took_setup : (d : Rules) (all : Bool) (lines : List (List ℕ)) (text : List ℕ) (s : Setup) (old new : Checker) (m : Follower)
     → old.awaits ≡ true → IsSaid text (Says s)
-    → rules_of m ≡ with_setup s (rules_of old.machine).ends → FitsBy m []
-    → Goes text (record old { machine = m; awaits = false }) new → Looks d all lines old
+    → rules_of m ≡ with_setup s (rules_of old.follower).ends → FitsBy m []
+    → Goes text (record old { follower = m; awaits = false }) new → Looks d all lines old
     → Looks d all (text ∷ lines) new
 took_setup d all lines text s old new m waits said rules fits goes = at_first d all lines text old new waits (λ l.
     let g : Rules = with_setup s d.ends in

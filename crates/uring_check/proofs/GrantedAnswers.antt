@@ -1,4 +1,4 @@
--- What a machine that fits a history never wants, so that the judge of an end refuses for want of memory alone.
+-- What a follower that fits a history never wants, so that the judge of an end refuses for want of memory alone.
 use Rattle.std.proofs.Common.{◌≡◌, ◌≤◌, ℕ, ℤ, ◌∷◌, pos, Bool, true, false, List, [], refl, arith, sym, ◌∙◌}
 use Rattle.uring_check.proofs.Common.{AllowedBy, Answer, AnyEnd, CalledIn, EndOrNoMemory, Ends, Follower, History, IsEnded, IsWanted, IsWrong, MayGive, Setup, Step, entry_in, is_apart, no_bytes, rules_of, true≢false, world}
 use Rattle.uring_core.specs.declared.answer.Answer.TheVariants as answer

@@ -27,21 +27,21 @@ pub looked_bad : (old mid : Checker) (report : String Global) (line : List ℕ) 
     → string_bytes report ≡ string_bytes mid.report ++ line_text mid.number ++ ended (codes "bad line") ++ why_bad line
     → Looked old (record mid { is_over = true; report = report }) line h
 looked_bad old mid report line h is none remark fits =
-    grind (arith, append_assoc, (rules_of old.machine))
+    grind (arith, append_assoc, (rules_of old.follower))
 
 -- what is known of the completions that were posted, before a step and after it
 pub record Notes (old : Checker) (m : Follower) (p : Vec ℕ Global) (s : Step) (before after : ℕ) : Type 0 where
   pub before_is : (h : History) → Knows old h
-      → before ≡ length (world (rules_of old.machine).setup h).completions.posted
+      → before ≡ length (world (rules_of old.follower).setup h).completions.posted
   pub after_is : (h : History) → FitsBy m h
       → after ≡ length (world (rules_of m).setup h).completions.posted
   pub more : p.items ≡ old.posters.items ++ noted_poster s before after
 
 -- a line was right
 pub looked_right : (old : Checker) (m : Follower) (t : AnswerText) (p : Vec ℕ Global) (steps before after : ℕ) (s : Step) (text line : List ℕ)
-    → Notes old m p s before after → steps ≡ min (old.steps + 1) (2 ^ 64 - 1) → rules_of m ≡ rules_of old.machine
-    → old.is_over ≡ false → Judges old.machine m s text None → IsRecord line s text
-    → LooksAt old (record old { machine = m; steps = steps; told = t; posters = p }) line
+    → Notes old m p s before after → steps ≡ min (old.steps + 1) (2 ^ 64 - 1) → rules_of m ≡ rules_of old.follower
+    → old.is_over ≡ false → Judges old.follower m s text None → IsRecord line s text
+    → LooksAt old (record old { follower = m; steps = steps; told = t; posters = p }) line
 looked_right old m t p steps before after s text line notes counted same over judges is = λ h f.
     let j = judges h f.0 in
     record {
@@ -60,10 +60,10 @@ looked_right old m t p steps before after s text line notes counted same over ju
 
 -- a wrong line was found, and told
 pub looked_wrong : (old new : Checker) (m : Follower) (t : AnswerText) (p : Vec ℕ Global) (before after : ℕ) (s : Step) (text line : List ℕ) (wanted : Wanted) (x : Standing)
-    → Notes old m p s before after → rules_of m ≡ rules_of old.machine
-    → ((h : History) → Knows old h → IsStanding (rules_of old.machine) h s x)
-    → Judges old.machine m s text (Some wanted)
-    → new ≡ record old { machine = m; told = t; posters = p; verdict = first_fault old.verdict verdict.Wrong; is_over = not old.is_all; report = new.report }
+    → Notes old m p s before after → rules_of m ≡ rules_of old.follower
+    → ((h : History) → Knows old h → IsStanding (rules_of old.follower) h s x)
+    → Judges old.follower m s text (Some wanted)
+    → new ≡ record old { follower = m; told = t; posters = p; verdict = first_fault old.verdict verdict.Wrong; is_over = not old.is_all; report = new.report }
     → string_bytes new.report
     ≡ string_bytes old.report ++ line_text old.number ++ ended (visible_line line) ++ codes "wanted: " ++ ended (wanted_text x.asked wanted) ++ reasons_by x (completion_wanted wanted)
     → IsRecord line s text → LooksAt old new line
@@ -74,7 +74,7 @@ looked_wrong old new m t p before after s text line wanted x notes same asked ju
     record {
       finding = finding.Wrong s wanted;
       is_so = (text, rec, j.0);
-      same = ap (λ (c : Checker). rules_of c.machine) is ∙ same;
+      same = ap (λ (c : Checker). rules_of c.follower) is ∙ same;
       fits = subst (λ (c : Checker). Knows c later) (sym is) (j.1, noted);
       is_all = ap (λ (c : Checker). c.is_all) is;
       awaits = ap (λ (c : Checker). c.awaits) is;

@@ -63,7 +63,7 @@ FitsBy (Whole m) h = Fits m h
 FitsBy (Apart c) h = FitsApart c h
 FitsBy (Allowed c) h = FitsApart c h
 
--- What is found after a history of a step with the text of an answer, and what the machine then fits: `None` if the text is that of an answer that is called for.
+-- What is found after a history of a step with the text of an answer, and what the follower then fits: `None` if the text is that of an answer that is called for.
 abbrev pub IsJudged : Rules → History → Follower → Step → List ℕ → Option Wanted → Type 0
 IsJudged g h m s text None =
     (a : Answer) × (text_of a ≡ text) × IsPlain a (is_apart g.ends) s × AllowedBy g h s a
@@ -76,12 +76,12 @@ abbrev pub IsOneJudged : Answer → List ℕ → Option Wanted → Type 0
 IsOneJudged x text None = text_of x ≡ text
 IsOneJudged x text (Some wanted) = (wanted ≡ Only x) × (text_of x ≡ text → ⊥)
 
--- a machine judges, whatever the history that it fits
+-- a follower judges, whatever the history that it fits
 abbrev pub Judges : Follower → Follower → Step → List ℕ → Option Wanted → Type 0
 Judges old new s text found =
     (h : History) → FitsBy old h → IsJudged (rules_of old) h new s text found
 
--- a refusal told that these answers are wanted, and the machine goes on from there
+-- a refusal told that these answers are wanted, and the follower goes on from there
 abbrev pub IsWanted : History → Follower → Step → Wanted → Type 0
 IsWanted h m s wanted = IsWrong (CalledBy (rules_of m) h s) answer.Filled wanted
     × FitsBy m (resumed s (refusal.Wrong wanted) h)
@@ -117,9 +117,9 @@ number_in _ = []
 abbrev pub noted_poster : Step → ℕ → ℕ → List ℕ
 noted_poster s before after = if nat_le after before then [] else number_in s
 
--- the checker's machine fits a history, and it knows whose completions were posted
+-- the checker's follower fits a history, and it knows whose completions were posted
 abbrev pub Knows : Checker → History → Type 0
-Knows c h = FitsBy c.machine h × (c.posters.items ≡ posters (rules_of c.machine).setup h)
+Knows c h = FitsBy c.follower h × (c.posters.items ≡ posters (rules_of c.follower).setup h)
 
 -- The checker has looked at these lines by these rules, the newest first.
 pub record LooksBy (g : Rules) (all : Bool) (lines : List (List ℕ)) (c : Checker) : Type 0 where
@@ -127,7 +127,7 @@ pub record LooksBy (g : Rules) (all : Bool) (lines : List (List ℕ)) (c : Check
   pub are : AreFound g all found
   pub lines_are : lines_of found ≡ lines
   pub is_all : c.is_all ≡ all
-  pub same : rules_of c.machine ≡ g
+  pub same : rules_of c.follower ≡ g
   pub fits : Knows c (history_after found)
   pub numbered : c.number ≡ line_number (length found)
   pub counted : c.steps ≡ steps_of found
@@ -174,8 +174,8 @@ pub record IsTold (given : Rules) (all : Bool) (lines : List (List ℕ)) (v : Ve
 -- What a checker makes of a line that it looks at: the line has a finding, of which it keeps what it needs.
 pub record Looked (old new : Checker) (line : List ℕ) (h : History) : Type 0 where
   pub finding : Finding
-  pub is_so : IsFinding (rules_of old.machine) h line finding
-  pub same : rules_of new.machine ≡ rules_of old.machine
+  pub is_so : IsFinding (rules_of old.follower) h line finding
+  pub same : rules_of new.follower ≡ rules_of old.follower
   pub fits : Knows new (with_finding finding h)
   pub is_all : new.is_all ≡ old.is_all
   pub awaits : new.awaits ≡ old.awaits
@@ -184,7 +184,7 @@ pub record Looked (old new : Checker) (line : List ℕ) (h : History) : Type 0 w
   pub decided : new.verdict ≡ judged old.verdict finding
   pub stopped : new.is_over ≡ stops old.is_all finding
   pub told : string_bytes new.report
-      ≡ string_bytes old.report ++ told_of (rules_of old.machine) h old.number line finding
+      ≡ string_bytes old.report ++ told_of (rules_of old.follower) h old.number line finding
 
 -- a line was looked at, whatever the history
 abbrev pub LooksAt : Checker → Checker → List ℕ → Type 0

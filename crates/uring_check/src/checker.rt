@@ -35,7 +35,7 @@ pub(crate) struct Checker {
     awaits: bool,
     // Whether the lines after a wrong one are looked at too.
     is_all: bool,
-    machine: Follower,
+    follower: Follower,
     // The requests whose completions were posted, in order.
     posters: Vec<u64>,
     // The number of the next line, from 1 on; 2^64 - 1 stands for every greater one.
@@ -51,7 +51,7 @@ pub(crate) struct Checker {
 }
 
 impl Checker {
-    /// A new machine, before the first line. Here and below: if the memory grants whatever is asked for, there is no error.
+    /// A new follower, before the first line. Here and below: if the memory grants whatever is asked for, there is no error.
     pub(crate) fn new<M: TextMemory>(
         memory: &M,
         alloc: Global,
@@ -67,7 +67,7 @@ impl Checker {
             alloc,
             awaits: true,
             is_all,
-            machine: Follower::new(memory, alloc, setup, ends)?,
+            follower: Follower::new(memory, alloc, setup, ends)?,
             posters: Vec::new(alloc),
             number: 1,
             steps: 0,
@@ -111,17 +111,17 @@ impl Checker {
         }
     }
 
-    /// Has a new machine of this set-up in the place of the one at hand.
+    /// Has a new follower of this set-up in the place of the one at hand.
     fn begin_at<M: TextMemory>(&mut self, memory: &M, setup: &Setup) -> Result<(), AllocError>
         ensures begun { OnOk result
-            ((self.new ≡ record self.old { machine = self.new.machine })
-            × (rules_of self.new.machine
-            ≡ record { setup = setup.now; ends = (rules_of self.old.machine).ends })
-            × FitsBy self.new.machine []) }
+            ((self.new ≡ record self.old { follower = self.new.follower })
+            × (rules_of self.new.follower
+            ≡ record { setup = setup.now; ends = (rules_of self.old.follower).ends })
+            × FitsBy self.new.follower []) }
         ensures granted { ((n : ℕ) → M.grants memory.now n) → IsOk result }
     {
-        let begun = Follower::new(memory, self.alloc, setup, self.machine.ends())?;
-        mem::replace(&mut self.machine, begun).let_go();
+        let begun = Follower::new(memory, self.alloc, setup, self.follower.ends())?;
+        mem::replace(&mut self.follower, begun).let_go();
         Ok(())
     }
 
@@ -135,7 +135,8 @@ impl Checker {
             (self.old.is_over ≡ true
             → (self.new.is_over ≡ true) × (self.new.verdict ≡ self.old.verdict) × (self.new.report ≡ self.old.report) × (self.new.awaits ≡ self.old.awaits)) }
         ensures granted { ((n : ℕ) → M.grants memory.now n)
-            → (self.old.is_over ≡ false → (h : History) × FitsBy self.old.machine h) → IsOk result }
+            → (self.old.is_over ≡ false → (h : History) × FitsBy self.old.follower h)
+            → IsOk result }
     {
         if !self.is_over {
             self.look(memory, line)?;
@@ -157,7 +158,7 @@ impl Checker {
 
     /// Lets it go.
     pub(crate) fn let_go(self) {
-        self.machine.let_go();
+        self.follower.let_go();
     }
 
     /// Looks at a line.
@@ -167,7 +168,7 @@ impl Checker {
         ensures looks { OnOk result
             ((text : List ℕ) → line.now ≡ kept_of text → LooksAt self.old self.new text) }
         ensures granted { ((n : ℕ) → M.grants memory.now n) → (h : History)
-            → FitsBy self.old.machine h → IsOk result }
+            → FitsBy self.old.follower h → IsOk result }
     {
         let Some(bytes) = line.whole() else {
             return self.find_none(memory, line);
@@ -209,12 +210,12 @@ impl Checker {
         ensures looks { OnOk result
             (IsRecord line.now step.now text.now → LooksAt self.old self.new line.now) }
         ensures granted { ((n : ℕ) → M.grants memory.now n) → (h : History)
-            → FitsBy self.old.machine h → IsOk result }
+            → FitsBy self.old.follower h → IsOk result }
     {
         let numbers = self.posters.as_slice();
-        let standing = Standing::before(memory, self.alloc, &self.machine, numbers, step)?;
-        let judged = judge(memory, &mut self.told, &mut self.machine, step, text)?;
-        let after = self.machine.posted();
+        let standing = Standing::before(memory, self.alloc, &self.follower, numbers, step)?;
+        let judged = judge(memory, &mut self.told, &mut self.follower, step, text)?;
+        let after = self.follower.posted();
         note_poster(memory, &mut self.posters, step, standing.posted(), after)?;
         match judged {
             None => {

@@ -17,32 +17,32 @@ use uring_entry::{Sqe, errno, may_end};
 use uring_machine::{Answer, Refusal, Step, Wanted};
 use uring_text::{TextMemory, spelled_signed};
 
-/// Makes a step with an answer of this text, if one is called for: `None`. Else it tells which answers are; if that is one alone, the machine goes on as though it had been given, and else as though the step hadn't been made. `AllocError`: memory was refused, to the step or to a text. Here and below: on a machine that fits a history there is no error if the memory grants whatever is asked for.
+/// Makes a step with an answer of this text, if one is called for: `None`. Else it tells which answers are; if that is one alone, the follower goes on as though it had been given, and else as though the step hadn't been made. `AllocError`: memory was refused, to the step or to a text. Here and below: on a follower that fits a history there is no error if the memory grants whatever is asked for.
 pub(crate) fn judge<M: TextMemory>(
     memory: &M,
     told: &mut AnswerText,
-    machine: &mut Follower,
+    follower: &mut Follower,
     step: &Step,
     text: &[u8],
 ) -> Result<Option<Wanted>, AllocError>
-    ensures rules { rules_of machine.new ≡ rules_of machine.old }
-    ensures judges { IfOk result (Judges machine.old machine.new step.now text.now) }
-    ensures granted { ((n : ℕ) → M.grants memory.now n) → (h : History) → FitsBy machine.old h
+    ensures rules { rules_of follower.new ≡ rules_of follower.old }
+    ensures judges { IfOk result (Judges follower.old follower.new step.now text.now) }
+    ensures granted { ((n : ℕ) → M.grants memory.now n) → (h : History) → FitsBy follower.old h
         → IsOk result }
 {
     match step {
         // It follows an answer that neither is ever given, and so is told those that are.
         Step::Begin { .. } | Step::Finish { .. } => {
-            match machine.follow(memory, step, &Answer::Filled) {
+            match follower.follow(memory, step, &Answer::Filled) {
                 Err(Refusal::Wrong(wanted)) => {
-                    judge_wanted(memory, told, machine, step, wanted, text)
+                    judge_wanted(memory, told, follower, step, wanted, text)
                 }
                 Err(Refusal::NoMemory) => Err(AllocError),
                 Ok(()) => Err(AllocError),
             }
         }
         _ => {
-            let answer = machine.step(memory, step);
+            let answer = follower.step(memory, step);
             judge_one(memory, told, answer, text)
         }
     }
@@ -53,24 +53,24 @@ pub(crate) fn judge<M: TextMemory>(
 fn judge_wanted<M: TextMemory>(
     memory: &M,
     told: &mut AnswerText,
-    machine: &mut Follower,
+    follower: &mut Follower,
     step: &Step,
     wanted: Wanted,
     text: &[u8],
 ) -> Result<Option<Wanted>, AllocError>
-    ensures rules { rules_of machine.new ≡ rules_of machine.old }
+    ensures rules { rules_of follower.new ≡ rules_of follower.old }
     ensures judges { IfOk result
-        (λ found. (h : History) → IsWanted h machine.old step.now wanted
-        → IsJudged (rules_of machine.old) h machine.new step.now text.now found) }
+        (λ found. (h : History) → IsWanted h follower.old step.now wanted
+        → IsJudged (rules_of follower.old) h follower.new step.now text.now found) }
     ensures granted { ((n : ℕ) → M.grants memory.now n) → (h : History)
-        → IsWanted h machine.old step.now wanted → IsOk result }
+        → IsWanted h follower.old step.now wanted → IsOk result }
 {
     match wanted {
         Wanted::Only(answer) => judge_one(memory, told, answer, text),
         Wanted::CallOrAgain(length) => judge_either(
             memory,
             told,
-            machine,
+            follower,
             step,
             wanted,
             &Answer::Call(length),
@@ -80,14 +80,14 @@ fn judge_wanted<M: TextMemory>(
         Wanted::EndOrNoMemory(res) => judge_either(
             memory,
             told,
-            machine,
+            follower,
             step,
             wanted,
             &ended(res),
             &ended(-errno::ENOMEM),
             text,
         ),
-        Wanted::AnyEnd => judge_end(memory, machine, step, text),
+        Wanted::AnyEnd => judge_end(memory, follower, step, text),
     }
 }
 
@@ -112,7 +112,7 @@ fn judge_one<M: TextMemory>(
 fn judge_either<M: TextMemory>(
     memory: &M,
     told: &mut AnswerText,
-    machine: &mut Follower,
+    follower: &mut Follower,
     step: &Step,
     wanted: Wanted,
     one: &Answer,
@@ -120,25 +120,25 @@ fn judge_either<M: TextMemory>(
     text: &[u8],
 ) -> Result<Option<Wanted>, AllocError>
     requires either { IsEither wanted one.now other.now }
-    requires plain { IsPlain one.now (is_apart (rules_of machine.old).ends) step.now }
-    requires other_plain { IsPlain other.now (is_apart (rules_of machine.old).ends) step.now }
-    requires allowed { (h : History) → IsWanted h machine.old step.now wanted
-        → AllowedBy (rules_of machine.old) h step.now one.now }
-    requires other_allowed { (h : History) → IsWanted h machine.old step.now wanted
-        → AllowedBy (rules_of machine.old) h step.now other.now }
-    ensures rules { rules_of machine.new ≡ rules_of machine.old }
+    requires plain { IsPlain one.now (is_apart (rules_of follower.old).ends) step.now }
+    requires other_plain { IsPlain other.now (is_apart (rules_of follower.old).ends) step.now }
+    requires allowed { (h : History) → IsWanted h follower.old step.now wanted
+        → AllowedBy (rules_of follower.old) h step.now one.now }
+    requires other_allowed { (h : History) → IsWanted h follower.old step.now wanted
+        → AllowedBy (rules_of follower.old) h step.now other.now }
+    ensures rules { rules_of follower.new ≡ rules_of follower.old }
     ensures judges { IfOk result
-        (λ found. (h : History) → IsWanted h machine.old step.now wanted
-        → IsJudged (rules_of machine.old) h machine.new step.now text.now found) }
+        (λ found. (h : History) → IsWanted h follower.old step.now wanted
+        → IsJudged (rules_of follower.old) h follower.new step.now text.now found) }
     ensures granted { ((n : ℕ) → M.grants memory.now n) → (h : History)
-        → IsWanted h machine.old step.now wanted → IsOk result }
+        → IsWanted h follower.old step.now wanted → IsOk result }
 {
     if told.is(memory, one, text)? {
-        make(memory, machine, step, one)?;
+        make(memory, follower, step, one)?;
         return Ok(None);
     }
     if told.is(memory, other, text)? {
-        make(memory, machine, step, other)?;
+        make(memory, follower, step, other)?;
         return Ok(None);
     }
     Ok(Some(wanted))
@@ -147,32 +147,32 @@ fn judge_either<M: TextMemory>(
 /// Judges a Finish of a running request, which may end with any result, or with any that its operation may give. A follower with files knows each end, and never comes here.
 fn judge_end<M: TextMemory>(
     memory: &M,
-    machine: &mut Follower,
+    follower: &mut Follower,
     step: &Step,
     text: &[u8],
 ) -> Result<Option<Wanted>, AllocError>
-    ensures rules { rules_of machine.new ≡ rules_of machine.old }
+    ensures rules { rules_of follower.new ≡ rules_of follower.old }
     ensures judges { IfOk result
-        (λ found. (h : History) → IsWanted h machine.old step.now Wanted.AnyEnd
-        → IsJudged (rules_of machine.old) h machine.new step.now text.now found) }
+        (λ found. (h : History) → IsWanted h follower.old step.now Wanted.AnyEnd
+        → IsJudged (rules_of follower.old) h follower.new step.now text.now found) }
     ensures granted { ((n : ℕ) → M.grants memory.now n) → (h : History)
-        → IsWanted h machine.old step.now Wanted.AnyEnd → IsOk result }
+        → IsWanted h follower.old step.now Wanted.AnyEnd → IsOk result }
 {
     let Step::Finish { number } = step else {
         return Err(AllocError);
     };
-    if !machine.is_apart() {
+    if !follower.is_apart() {
         return Err(AllocError);
     }
     let Some(res) = end_of(text) else {
         return Ok(Some(Wanted::AnyEnd));
     };
-    if !may_give(&machine.entry_asked(step), res) {
+    if !may_give(&follower.entry_asked(step), res) {
         return Ok(Some(Wanted::AnyEnd));
     }
     make(
         memory,
-        machine,
+        follower,
         &Step::Finish { number: *number },
         &ended(res),
     )?;
@@ -201,17 +201,17 @@ fn may_give(asked: &Option<Sqe>, res: i32) -> bool
 /// Makes a step with an answer that is called for.
 fn make<M: TextMemory>(
     memory: &M,
-    machine: &mut Follower,
+    follower: &mut Follower,
     step: &Step,
     answer: &Answer,
 ) -> Result<(), AllocError>
-    ensures rules { rules_of machine.new ≡ rules_of machine.old }
+    ensures rules { rules_of follower.new ≡ rules_of follower.old }
     ensures made { OnOk result
-        ((h : History) → FitsBy machine.old h → FitsBy machine.new ((step.now, answer.now) ∷ h)) }
-    ensures granted { ((n : ℕ) → M.grants memory.now n) → (h : History) → FitsBy machine.old h
-        → CalledBy (rules_of machine.old) h step.now answer.now → IsOk result }
+        ((h : History) → FitsBy follower.old h → FitsBy follower.new ((step.now, answer.now) ∷ h)) }
+    ensures granted { ((n : ℕ) → M.grants memory.now n) → (h : History) → FitsBy follower.old h
+        → CalledBy (rules_of follower.old) h step.now answer.now → IsOk result }
 {
-    match machine.follow(memory, step, answer) {
+    match follower.follow(memory, step, answer) {
         Ok(()) => Ok(()),
         Err(_) => Err(AllocError),
     }

@@ -40,24 +40,24 @@ impl Standing {
     pub(crate) fn before<M: TextMemory>(
         memory: &M,
         alloc: Global,
-        machine: &Follower,
+        follower: &Follower,
         numbers: &[u64],
         step: &Step,
     ) -> Result<Standing, AllocError>
         ensures standing { IfOk result
-            (λ standing. (h : History) → FitsBy machine.now h
-            → numbers.now ≡ posters (rules_of machine.now).setup h
-            → IsStanding (rules_of machine.now) h step.now standing) }
+            (λ standing. (h : History) → FitsBy follower.now h
+            → numbers.now ≡ posters (rules_of follower.now).setup h
+            → IsStanding (rules_of follower.now) h step.now standing) }
         ensures granted { ((n : ℕ) → M.grants memory.now n) → IsOk result }
     {
-        let core = machine.core();
+        let core = follower.core();
         let counts = core.counts();
         Ok(Standing {
             why: why(core, step),
             found: found(core, step),
             poster: poster_at(numbers, counts.reaped),
             posted: counts.posted,
-            asked: machine.entry_asked(step),
+            asked: follower.entry_asked(step),
             chosen: chosen_text(memory, alloc, core, step)?,
         })
     }

@@ -20,7 +20,7 @@ returns-in_ok-begin_at-in-Says-clause-looks g c =
     let begun = c.in_ok-begin_at-in-Says.ensures.begun in
     let new = c.take_next-in-Says.new.self in
     on_ok_weaker c.take_next-in-Says.result
-    (λ looks d all lines text e k. took_setup d all lines text c.in-Says.setup c.args.self.now new c.begin_at.new.self.machine (search rules) (rw c.in-Says.is at (c.in_ok-said.ensures.said text e)) begun.1 begun.2
+    (λ looks d all lines text e k. took_setup d all lines text c.in-Says.setup c.args.self.now new c.begin_at.new.self.follower (search rules) (rw c.in-Says.is at (c.in_ok-said.ensures.said text e)) begun.1 begun.2
     (subst (λ mid. Goes text mid new) begun.0 (λ g a ls. looks g a ls text e)) k)
     c.take_next-in-Says.ensures.looks
 
