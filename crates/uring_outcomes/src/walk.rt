@@ -108,7 +108,7 @@ pub fn outcomes_within_in<M: MapMemory>(
     add_names(memory, calls, &mut names)?;
     let mut walk = Walk::new(memory, alloc, setup.files())?;
     let names = names.as_slice();
-    let is_all = take_turns(memory, alloc, setup, calls, names, most, &mut walk)?;
+    let is_all = take_paths(memory, alloc, setup, calls, names, most, &mut walk)?;
     Ok(Found {
         endings: walk.into_endings(),
         is_all,
@@ -225,7 +225,7 @@ impl Walk {
 }
 
 /// Takes at most so many paths, each the one that it is on or one of those that are still to be taken, and tells whether none is left.
-fn take_turns<M: MapMemory>(
+fn take_paths<M: MapMemory>(
     memory: &M,
     alloc: Global,
     setup: &Setup,
@@ -239,7 +239,7 @@ fn take_turns<M: MapMemory>(
     ensures over { IfOk result (λ is_all. is_all ≡ true → waiting walk.new ≡ []) }
     ensures fault { IfErr result (IsReason (M.grants memory.now) (entries_of calls.now)) }
 {
-    'turns: for _ in 0..most {
+    'paths: for _ in 0..most {
         if !walk.resume(memory, alloc, setup, calls)? {
             return Ok(true);
         }

@@ -46,7 +46,7 @@ pub fn crashes_within(
     ensures fault { IfErr result (IsReason unit setup.now (entries_of calls.now) images) }
 {
     let mut walk = Walk::new(alloc)?;
-    let is_all = walk.take_turns(alloc, setup, unit, calls, most, images)?;
+    let is_all = walk.take_paths(alloc, setup, unit, calls, most, images)?;
     let Walk { todo, found } = walk;
     drop(todo);
     Ok(FoundCrashes {
@@ -77,7 +77,7 @@ impl Walk {
     }
 
     /// Takes at most so many paths, and tells whether none is left.
-    fn take_turns(
+    fn take_paths(
         &mut self,
         alloc: Global,
         setup: &Setup,
@@ -93,7 +93,7 @@ impl Walk {
         ensures over { IfOk result (λ is_all. is_all ≡ true → self.new.todo.items ≡ []) }
         ensures fault { IfErr result (IsReason unit setup.now (entries_of calls.now) images) }
     {
-        'turns: for _ in 0..most {
+        'paths: for _ in 0..most {
             let Some(path) = self.todo.pop() else {
                 return Ok(true);
             };

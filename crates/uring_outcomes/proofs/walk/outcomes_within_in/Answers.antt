@@ -3,8 +3,8 @@ use Rattle.uring_outcomes.proofs.Common.{AreAllEndings, AreEndings, AreNamed, Ar
 use Rattle.uring_outcomes.proofs.Walking.{over}
 use Rattle.uring_outcomes.proofs.walk.outcomes_within_in.Goals as goal
 
-pub take_turns-requires : goal.take_turns-requires
-take_turns-requires g c =
+pub take_paths-requires : goal.take_paths-requires
+take_paths-requires g c =
     let few : c.args.setup.now.files ≤ 64 = c.files.ensures.limits.files_limit in
     let same : c.files.result ≡ c.args.setup.now.files = c.files.ensures.value in
     c.in_ok-walk.ensures.goes c.args.setup.now (entries_of c.args.calls.now) c.as_slice-names.result.now (sym same) (omega arith)
