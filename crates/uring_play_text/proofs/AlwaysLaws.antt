@@ -1,10 +1,10 @@
 -- All bytes tell something.
 use Rattle.std.proofs.Common.{◌≡◌, ℕ, zero, suc, ◌+◌, ◌*◌, ◌<◌, ◌^◌, eqb, List, [], ◌∷◌, ◌++◌, length, take, drop, get_or, Option, Some, None, Ok, Err, refl, sym, ap, ◌∙◌, append_assoc, arith, length-drop, reverse, ◌⊎◌, inl, inr}
 use mathlib.Core.List.{head-eq_of_cons-eq}
-use Rattle.uring_play_text.proofs.Common.{AreWords, IsAt, IsBadLine, IsBadWord, IsItemLine, IsNoBadWord, IsNoItem, IsTold, Item, MatchOption, PlayFault, SpellsItem, Splits, Sqe, Tells, Told, append-nil, bytes_of, cases_Bool, codes, eqb-false, eqb-true, header, length-take, nil_from_length, one_call, padded, places, reverse-append, take-append-drop, true≢false, with_last}
+use Rattle.uring_play_text.proofs.Common.{AreWords, IsAt, IsBadLine, IsBadWord, IsItemLine, IsNoBadWord, IsNoItem, IsTold, Item, MatchOption, PlayFault, SpellsItem, Sqe, Tells, Told, append-nil, bytes_of, cases_Bool, cases_lt, codes, eqb-false, eqb-true, header, length-take, nil_from_length, one_call, padded, places, reverse-append, take-append-drop, true≢false}
+use Rattle.uring_text.specs.Lines.{Splits, with_last}
 use Rattle.std.specs.Str.{bytes_eq}
 use Rattle.std.specs.Int.{w64, from_le_bytes}
-use Rattle.std.proofs.lemmas.Bool.{cases_lt}
 use Rattle.std.proofs.lemmas.List.Elements.{All-from_recursion}
 use Rattle.std.proofs.lemmas.Nat.{le_bytes_8}
 use Rattle.std.proofs.lemmas.Slice.Eq.{bytes_eq-Decides}

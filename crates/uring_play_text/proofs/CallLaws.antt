@@ -1,7 +1,7 @@
 -- Blocks and calls, line by line.
 use Rattle.std.proofs.Common.{◌≡◌, ℕ, suc, ◌<◌, Bool, List, [], ◌∷◌, ◌++◌, length, refl, ap, arith}
-use Rattle.uring_play_text.proofs.Common.{AreCalls, AreItemLines, IsCall, IsItemLine, Item, last_block, one_call, slice_split}
-use Rattle.std.proofs.lemmas.List.Splits.{length-slice_split}
+use Rattle.uring_play_text.proofs.Common.{AreCalls, AreItemLines, IsCall, IsItemLine, Item, last_block, length-slice_split, one_call}
+use Rattle.std.specs.List.{slice_split}
 
 -- parts, of which the last goes on as the first of others
 abbrev pub glue : {X : Type 0} → List (List X) → List (List X) → List (List X)

@@ -1,7 +1,6 @@
 -- Lines tell one thing at most.
 use Rattle.std.proofs.Common.{◌≡◌, ℕ, ◌<◌, ◌≤◌, false, List, [], ◌∷◌, ◌++◌, length, Ok, Err, refl, sym, ap, ◌∙◌, arith, ◌⊎◌, inl, inr}
-use Rattle.uring_play_text.proofs.Common.{AreCalls, AreItemLines, IsBadLine, IsItemLine, IsTold, Item, Reaches, SpellsCalls, Tells, Told, blocks_of, is_blank, last_block, ne_eqb, open_block, PlayFault}
-use Rattle.std.proofs.lemmas.List.Splits.{slice_split-cons_no}
+use Rattle.uring_play_text.proofs.Common.{AreCalls, AreItemLines, IsBadLine, IsItemLine, IsTold, Item, PlayFault, Reaches, SpellsCalls, Tells, Told, blocks_of, is_blank, last_block, ne_eqb, open_block, slice_split-cons_no}
 use Rattle.uring_text.proofs.LineLaws.{split_once}
 use Rattle.uring_play_text.specs.declared.play_fault.PlayFault.TheVariants as fault
 use Rattle.uring_play_text.proofs.CallLaws.{glue, some_part, split_append}

@@ -1,6 +1,7 @@
 -- The text of completions, line by line.
 use Rattle.std.proofs.Common.{◌≡◌, ℕ, ◌+◌, ◌<◌, List, [], ◌∷◌, ◌++◌, length, take, get_or, refl, sym, append_assoc}
-use Rattle.uring_play_text.proofs.Common.{Appends-nil, Cqe, Err, Ok, Option, PlayFault, Result, append-nil, ended, take_more}
+use Rattle.uring_play_text.proofs.Common.{Appends-nil, Cqe, Err, Ok, Option, PlayFault, Result, append-nil, take_more}
+use Rattle.uring_text.specs.Lines.{ended}
 use Rattle.uring_text.specs.Completions.{completion_text}
 use Rattle.uring_play_text.specs.Outputs.{Writes, lines_text}
 use Rattle.uring_play_text.specs.declared.play_fault.PlayFault.TheVariants as fault

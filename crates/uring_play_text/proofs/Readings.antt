@@ -1,6 +1,7 @@
 -- What a reading takes in, byte by byte.
 use Rattle.std.proofs.Common.{◌≡◌, ◌≢◌, ℕ, List, [], ◌∷◌, ◌++◌, Option, Some, None, Result, Ok, Err, refl, subst, reverse}
-use Rattle.uring_play_text.proofs.Common.{Consumes-nil, Gathers, HasLines, Holds, IfSome, IsAtEnd, IsEarly, IsGiven, IsReturned, Item, MatchOption, PlayFault, ReadsAll, ReadsCalls, ReadsIn, Returns, length, reverse-append, ◌<◌, ◌≤◌}
+use Rattle.uring_play_text.proofs.Common.{Consumes-nil, Gathers, HasLines, Holds, IfSome, IsEarly, IsGiven, IsReturned, Item, MatchOption, PlayFault, ReadsAll, ReadsCalls, ReadsIn, Returns, length, reverse-append, ◌<◌, ◌≤◌}
+use Rattle.std.specs.Io.KnownBytes.{IsAtEnd}
 use Rattle.std.specs.Borrow.{Bor}
 use Rattle.std.specs.Result.{IsErrAnd}
 use Rattle.std.specs.declared.vec.Vec.{Vec}

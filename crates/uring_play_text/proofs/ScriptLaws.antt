@@ -1,11 +1,10 @@
 -- What a script gathers, line by line.
 use Rattle.std.proofs.Common.{◌≡◌, ℕ, ◌+◌, ◌<◌, ◌≤◌, List, [], ◌∷◌, ◌++◌, length, Option, Some, None, refl, ap, append_assoc, arith, length-append, inl, inr}
-use Rattle.uring_play_text.proofs.Common.{Adds, Gathers, Goes, IsAt, IsItemLine, IsLongFirst, IsSome, Item, PlayFault, Reaches, SpellsCalls, is_blank, last_block, lists_of, one_call, append-nil}
+use Rattle.uring_play_text.proofs.Common.{Adds, Gathers, Goes, IsAt, IsItemLine, IsLongFirst, IsSome, Item, PlayFault, Reaches, SpellsCalls, append-nil, is_blank, last_block, lists_of, one_call, slice_split-cons_no}
 use Rattle.uring_play_text.specs.declared.play_fault.PlayFault.TheVariants as fault
 use Rattle.uring_play_text.specs.declared.script.Script.{Script}
 use Rattle.uring_play_text.proofs.ItemLaws.{item_not_blank}
 use Rattle.uring_play_text.proofs.CallLaws.{glued, split_append, calls_more, items_more, as_many, last_of}
-use Rattle.std.proofs.lemmas.List.Splits.{slice_split-cons_no}
 
 -- no line yet
 pub at_start : (size : ℕ) → Goes size [] 0 [] []
