@@ -1,5 +1,5 @@
 -- A play in which all went through: its trace published all items, and nothing is left.
-use Rattle.std.proofs.Common.{◌≡◌, ℕ, ◌+◌, Bool, true, List, [], ◌∷◌, ◌++◌, ◌<◌, length, map, sum, Option, Result, inl, inr, refl, sym, ap, ◌∙◌, arith, append-nil}
+use Rattle.std.proofs.Common.{◌≡◌, ℕ, ◌+◌, true, List, [], ◌∷◌, ◌++◌, ◌<◌, length, map, sum, refl, sym, ap, ◌∙◌, arith, append-nil}
 use Rattle.std.proofs.lemmas.List.{get_or-map, length-map}
 use Rattle.std.proofs.lemmas.List.Sums.{sum_by_push, sum_by-cons}
 use Rattle.uring_entry.specs.Requests.{outstanding_in}
@@ -21,8 +21,8 @@ use Rattle.uring_threads.specs.Report.{Report, AreTogether, left_by, FinishesAll
 use Rattle.uring_threads.specs.Settled.{finish_of}
 use Rattle.uring_workers.specs.Worker.{Worker}
 use Rattle.uring_workers.specs.declared.job.JobResult.{JobResult}
-use Rattle.uring_play_text.specs.declared.play_fault.PlayFault.{PlayFault}
-use Rattle.uring_play.specs.Threads.{EndsPlay, IsWhole, StaysApp, StaysKernel, StayWorkers, WritesWhole}
+use Rattle.uring_play.specs.Plays.{IsPlay}
+use Rattle.uring_play.specs.Threads.{StaysApp, StaysKernel, StayWorkers}
 use Rattle.uring_play.specs.Totals.{accepted_in, accepted_of}
 
 -- ---- a ring that is closed stays so while results are taken in
@@ -36,46 +36,26 @@ closed_later g (e ∷ trace) results h = rw (history_of_cons e (trace ++ map fin
 
 -- ---- all went through
 
--- what settling gave of ends that were done
-pub record IsOver (calls : List (List Item)) (app : AppEnd) (kernel : Kernel) (workers : List Worker) (r : Report) : Type 0 where
-  pub setup : r.setup ≡ kernel.kept.setup
-  pub lawful : IsLawful r.setup (history_of r.trace)
-  pub trace : FinishesAll kernel.kept.trace kernel.lanes workers r
-  pub items : PublishesItems app.submitted r
-  pub closed : ClosesOnlyAllTaken app.submitted r
-  pub reaped : DeliversReaped app.received r
-  pub posted : ReapsPosted r
-  pub idle : IsIdle (now kernel.kept)
-  pub submitted : app.submitted ≡ record { calls = calls; closed = true }
-  pub none_outstanding : outstanding_in (left_by r).requests ≡ 0
-  pub none_waits : r.waiting ≡ []
-
--- a play of ends that were done is written, or nothing is
-pub ends_play : (calls : List (List Item)) (app : AppEnd) (kernel : Kernel) (workers : List Worker) (r : Report) (is_over : Bool) (answer : Result (Unit {0}) PlayFault) (before after : Option (List ℕ))
-    → (IsWhole is_over r → IsOver calls app kernel workers r) → r.workers ≡ length workers
-    → WritesWhole is_over r app.received answer before after
-    → EndsPlay kernel.kept.setup (length workers) calls answer before after
-ends_play calls app kernel workers r is_over answer before after over many (inl (whole, written)) =
-    let o : IsOver calls app kernel workers r = over whole in
-    let shut : (left_by r).is_closed ≡ true = rw (o.setup, o.trace) ((simp append-nil at (closed_later kernel.kept.setup kernel.kept.trace (all_waiting kernel.lanes workers) [])) ∙ o.idle.closed) in
-    let went = o.closed shut in
-    let calls_are : app.submitted.calls ≡ calls = ap (λ (p : Put). p.calls) o.submitted in
-    inl (record {
-      report = r;
-      setup = o.setup;
-      many = many;
-      completions = app.received ++ r.undelivered;
-      play = rw (← o.setup) (record {
-        lawful = o.lawful;
-        published = cc (o.items, went.unsent, append-nil (published_items (left_by r).submission), calls_are);
-        cut = cc (went.calls, calls_are);
-        none_outstanding = o.none_outstanding;
-        reaped = sym o.reaped;
-        none_waits = sym o.posted ∙ rw o.none_waits (append-nil _) ∙ sym o.reaped;
-      });
-      written = written;
+-- what settling gave of ends that were done is a play of these calls
+pub is_play : (calls : List (List Item)) (app : AppEnd) (kernel : Kernel) (workers : List Worker) {r : Report}
+    → r.setup ≡ kernel.kept.setup → IsLawful r.setup (history_of r.trace)
+    → FinishesAll kernel.kept.trace kernel.lanes workers r → PublishesItems app.submitted r
+    → ClosesOnlyAllTaken app.submitted r → DeliversReaped app.received r → ReapsPosted r
+    → IsIdle (now kernel.kept) → app.submitted ≡ record { calls = calls; closed = true }
+    → outstanding_in (left_by r).requests ≡ 0 → r.waiting ≡ []
+    → IsPlay kernel.kept.setup calls r.trace (app.received ++ r.undelivered)
+is_play calls app kernel workers {r} setup lawful trace items closed reaped posted idle submitted none_outstanding none_waits =
+    let shut : (left_by r).is_closed ≡ true = rw (setup, trace) ((simp append-nil at (closed_later kernel.kept.setup kernel.kept.trace (all_waiting kernel.lanes workers) [])) ∙ idle.closed) in
+    let went = closed shut in
+    let calls_are : app.submitted.calls ≡ calls = ap (λ (p : Put). p.calls) submitted in
+    rw (← setup) (record {
+      lawful = lawful;
+      published = cc (items, went.unsent, append-nil (published_items (left_by r).submission), calls_are);
+      cut = cc (went.calls, calls_are);
+      none_outstanding = none_outstanding;
+      reaped = sym reaped;
+      none_waits = sym posted ∙ rw none_waits (append-nil _) ∙ sym reaped;
     })
-ends_play calls app kernel workers r is_over answer before after over many (inr nothing) = inr nothing
 
 -- ---- how many requests were accepted
 

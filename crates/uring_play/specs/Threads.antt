@@ -79,12 +79,6 @@ pub record AreFresh {K A : Type 0} {g : _} {h : _} (s : Setup) (workers : ℕ) (
   pub many : length ends.workers.items ≡ workers
   pub submitted : ends.application.app.submitted ≡ nothing_put
 
--- All ends after their threads are of the same set-up, with as many workers, and the application has left its own so.
-pub record GiveBack {K A : Type 0} {g : _} {h : _} (before : Ends K A g h) (calls : List (List Item)) (after : Ends K A g h) : Type 0 where
-  pub setup : after.kernel.kept.setup ≡ before.kernel.kept.setup
-  pub many : length after.workers.items ≡ length before.workers.items
-  pub submits : Submits calls after.application
-
 -- The threads did all that was to be done, and settling has left nothing outstanding and nothing that waits.
 pub record IsWhole (is_over : Bool) (report : Report) : Type 0 where
   pub over : is_over ≡ true

@@ -1,34 +1,46 @@
-//! The threads of a play: each end in a thread of its own, from the start of all of them until all have ended.
-ghost use Rattle.std.specs.Prelude.{◌≡◌, ◌≤◌, [], length, IfOk, OnOk, Ok, vec_capacity};
+//! The threads of a play: each end in a thread of its own, from the start of all of them until all have ended and are settled.
+ghost use Rattle.std.specs.Prelude.{◌≡◌, ◌≤◌, ℕ, List, [], length, Option, IfOk, OnOk, Ok, vec_capacity};
 ghost use Rattle.std.specs.declared.thread.PromisedHandle.{PromisedHandle};
+ghost use Rattle.uring_entry.specs.Setup.{Setup};
 ghost use Rattle.uring_ports.specs.Ports.{nothing_put};
-ghost use Rattle.uring_play_text.specs.Inputs.{lists_of};
-ghost use Rattle.uring_play.specs.Threads.{GiveBack, StayWorkers, workers_of};
+ghost use Rattle.uring_play_text.specs.Inputs.{ReadsCalls};
+ghost use Rattle.uring_play.specs.Threads.{AreFresh, StayWorkers, workers_of};
+ghost use Rattle.uring_play.specs.Plays.{Plays};
 
 use crate::ends::Ends;
 use crate::promises::{WorkerThread, start_application, start_dispatcher, start_worker};
+use crate::settling::settle_all;
 use std::alloc::{AllocError, Global};
+use std::io::Write;
 use std::sync::atomic::{AtomicBool, Ordering};
 use std::sync::{Arc, Wait};
 use std::thread::{Promise, PromisedHandle, Threads};
+use uring_play_text::PlayFault;
 use uring_threads::{Item, KernelPort, Open, Worker};
 
-/// Runs the application with these calls, the dispatcher and each worker in a thread of its own, until all have ended. Condition: nothing was submitted. `AllocError`: out of memory, or a thread can't be started; those that were started have ended.
-pub(crate) fn run<R: Threads + Wait + Copy + Send + 'static, K: KernelPort + Send + 'static>(
+/// Plays these calls by these ends, and writes what comes of it, as `play` does: runs the application, the dispatcher and each worker in a thread of its own until all have ended, and settles the ends. Condition: nothing was submitted.
+pub(crate) fn run<
+    R: Threads + Wait + Copy + Send + 'static,
+    K: KernelPort + Send + 'static,
+    O: Write,
+>(
     rt: R,
     alloc: Global,
+    writer: &mut O,
     ends: Ends<K>,
     calls: Vec<Vec<Item>>,
-) -> Result<Ends<K>, AllocError>
+) -> Result<(), PlayFault>
 where
     K::App: Send + 'static,
     requires { ends.application.app.submitted ≡ nothing_put }
-    ensures { IfOk result (GiveBack ends (lists_of calls.items)) }
+    ensures { (g : Setup) (workers : ℕ) (before after : Option (List ℕ)) → AreFresh g workers ends
+        → ReadsCalls g (Ok calls) before after
+        → Plays g workers result before after (O.contents writer.old) (O.contents writer.new) }
 {
     let Ok(rooms) = make_rooms(alloc, ends.workers.len()) else {
         drop(ends);
         drop(calls);
-        return Err(AllocError);
+        return Err(PlayFault::Memory);
     };
     let Rooms {
         stop,
@@ -51,12 +63,15 @@ where
     stop.store(true, Ordering::SeqCst);
     let workers = join_workers(rt, started, back);
     match all_back(application, kernel, served, workers) {
-        Ok((application, kernel, workers)) => Ok(Ends {
-            application,
-            kernel,
-            workers,
-        }),
-        Err(error) => Err(error),
+        Ok((application, kernel, workers)) => {
+            let ended = Ends {
+                application,
+                kernel,
+                workers,
+            };
+            settle_all(alloc, writer, ended)
+        }
+        Err(_) => Err(PlayFault::Memory),
     }
 }
 

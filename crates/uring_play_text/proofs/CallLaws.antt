@@ -1,35 +1,28 @@
 -- Blocks and calls, line by line.
-use Rattle.std.proofs.Common.{◌≡◌, ℕ, suc, ◌<◌, Bool, true, false, List, [], ◌∷◌, ◌++◌, length, refl, ap, arith}
-use Rattle.uring_play_text.proofs.Common.{AreCalls, AreItemLines, IsCall, IsItemLine, Item, last_block, one_call, slice_split}
-use Rattle.std.proofs.lemmas.List.Splits.{slice_split-cons_yes, slice_split-cons_no, length-slice_split}
+use Rattle.std.proofs.Common.{◌≡◌, ℕ, suc, ◌<◌, Bool, List, [], ◌∷◌, ◌++◌, length, refl, ap, arith}
+use Rattle.uring_play_text.proofs.Common.{AreCalls, AreItemLines, IsCall, IsItemLine, Item, last_block, length-slice_split, one_call}
+use Rattle.std.specs.List.{slice_split}
 
--- an element put after the last part
-abbrev pub onto_last : {X : Type 0} → X → List (List X) → List (List X)
-onto_last x [] = []
-onto_last x (part ∷ []) = (part ++ x ∷ []) ∷ []
-onto_last x (part ∷ next ∷ parts) = part ∷ onto_last x (next ∷ parts)
+-- parts, of which the last goes on as the first of others
+abbrev pub glue : {X : Type 0} → List (List X) → List (List X) → List (List X)
+glue (a ∷ []) (b ∷ bs) = (a ++ b) ∷ bs
+glue (a ∷ c ∷ parts) bs = a ∷ glue (c ∷ parts) bs
+glue _ bs = bs
 
-pub last_is : {X : Type 0} (x : X) (ended : List (List X)) (last : List X)
-    → onto_last x (ended ++ last ∷ []) ≡ ended ++ (last ++ x ∷ []) ∷ []
-last_is x [] last = refl
-last_is x (part ∷ []) last = refl
-last_is x (part ∷ next ∷ ended) last = ap (λ l. part ∷ l) (last_is x (next ∷ ended) last)
+pub glued : {X : Type 0} (ended : List (List X)) (last b : List X) (bs : List (List X))
+    → glue (ended ++ last ∷ []) (b ∷ bs) ≡ ended ++ (last ++ b) ∷ bs
+glued [] last b bs = refl
+glued (part ∷ []) last b bs = refl
+glued (part ∷ next ∷ ended) last b bs = ap (λ l. part ∷ l) (glued (next ∷ ended) last b bs)
 
 module _ {X : Type 0} (p : X → Bool) where
   pub some_part : (xs : List X) → 0 < length (slice_split p xs)
   some_part xs = omega (arith, length-slice_split p xs)
 
-  -- one element more, which cuts
-  pub split_yes : (xs : List X) (x : X) → p x ≡ true
-      → slice_split p (xs ++ x ∷ []) ≡ slice_split p xs ++ [] ∷ []
-  split_yes [] x e = slice_split-cons_yes p x [] e
-  split_yes (y ∷ xs) x e = grind (arith, (split_yes xs x e), (some_part xs))
-
-  -- one that doesn't
-  pub split_no : (xs : List X) (x : X) → p x ≡ false
-      → slice_split p (xs ++ x ∷ []) ≡ onto_last x (slice_split p xs)
-  split_no [] x e = slice_split-cons_no p x [] e
-  split_no (y ∷ xs) x e = grind (arith, (split_no xs x e), (some_part xs))
+  pub split_append : (xs ys : List X)
+      → slice_split p (xs ++ ys) ≡ glue (slice_split p xs) (slice_split p ys)
+  split_append [] ys = grind (arith, (some_part ys))
+  split_append (x ∷ xs) ys = grind (arith, (split_append xs ys), (some_part xs), (some_part ys))
 
 -- ---- calls
 

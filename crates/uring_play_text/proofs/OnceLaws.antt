@@ -1,10 +1,9 @@
 -- Lines tell one thing at most.
-use Rattle.std.proofs.Common.{◌≡◌, ℕ, ◌<◌, ◌≤◌, Bool, false, List, [], ◌∷◌, ◌++◌, length, Ok, Err, refl, ap, subst, ◌∙◌, arith, ◌⊎◌, inl, inr}
-use Rattle.uring_play_text.proofs.Common.{AreCalls, AreItemLines, IsBadLine, IsCall, IsItemLine, IsTold, Item, Reaches, SpellsCalls, Tells, Told, blocks_of, is_blank, last_block, ne_eqb, onto_first, open_block, slice_split}
-use Rattle.std.proofs.lemmas.List.Splits.{slice_split-cons_no}
+use Rattle.std.proofs.Common.{◌≡◌, ℕ, ◌<◌, ◌≤◌, false, List, [], ◌∷◌, ◌++◌, length, Ok, Err, refl, sym, ap, ◌∙◌, arith, ◌⊎◌, inl, inr}
+use Rattle.uring_play_text.proofs.Common.{AreCalls, AreItemLines, IsBadLine, IsItemLine, IsTold, Item, PlayFault, Reaches, SpellsCalls, Tells, Told, blocks_of, is_blank, last_block, ne_eqb, open_block, slice_split-cons_no}
 use Rattle.uring_text.proofs.LineLaws.{split_once}
 use Rattle.uring_play_text.specs.declared.play_fault.PlayFault.TheVariants as fault
-use Rattle.uring_play_text.proofs.CallLaws.{some_part}
+use Rattle.uring_play_text.proofs.CallLaws.{glue, some_part, split_append}
 use Rattle.uring_play_text.proofs.ItemLaws.{line_once, item_not_blank}
 
 abbrev Line : Type 0
@@ -31,19 +30,6 @@ calls_once size _ _ _ h k = grind arith
 
 -- ---- a line among others that spell calls
 
--- parts, of which the last goes on as another
-abbrev glue : {X : Type 0} → List (List X) → List X → List (List X) → List (List X)
-glue [] b bs = b ∷ bs
-glue (a ∷ []) b bs = (a ++ b) ∷ bs
-glue (a ∷ c ∷ parts) b bs = a ∷ glue (c ∷ parts) b bs
-
--- an element that doesn't cut, among others
-split_among : {X : Type 0} (p : X → Bool) (xs : List X) (y : X) (ys : List X) (b : List X) (bs : List (List X))
-    → p y ≡ false → slice_split p ys ≡ b ∷ bs
-    → slice_split p (xs ++ y ∷ ys) ≡ glue (slice_split p xs) (y ∷ b) bs
-split_among p [] y ys b bs keeps e = slice_split-cons_no p y ys keeps ∙ ap (onto_first y) e
-split_among p (x ∷ xs) y ys b bs keeps e = grind (arith, (split_among p xs y ys b bs keeps e), (some_part p xs))
-
 some_list : {X : Type 0} (l : List X) → 0 < length l → (x : X) × (xs : List X) × (l ≡ x ∷ xs)
 some_list [] lt = absurd (omega arith)
 some_list (x ∷ xs) lt = (x, xs, refl)
@@ -52,23 +38,18 @@ some_list (x ∷ xs) lt = (x, xs, refl)
 among : (size : ℕ) (a : Block) (line : Line) (b : Block) (items : List Item)
     → AreItemLines size (a ++ line ∷ b) items
     → (i : Item) × IsItemLine size line i × (length a < length items)
-among size [] line b [] h = absurd h
 among size [] line b (i ∷ items) h = (i, h.0, omega arith)
-among size (l ∷ a) line b [] h = absurd h
 among size (l ∷ a) line b (i ∷ items) h = grind (arith, (among size a line b items h.1))
+among size _ line b _ h = absurd (grind arith)
 
 abbrev Has : ℕ → Block → Line → Type 0
 Has size block line = (i : Item) × IsItemLine size line i × (length block < size)
 
-of_call : (size : ℕ) (a : Block) (line : Line) (b : Block) (items : List Item)
-    → IsCall size (a ++ line ∷ b) items → Has size a line
-of_call size a line b items h = grind (arith, among)
-
 inside : (size : ℕ) (blocks : List Block) (line : Line) (b : Block) (bs : List Block) (calls : List (List Item))
-    → 0 < length blocks → AreCalls size (glue blocks (line ∷ b) bs) calls
+    → 0 < length blocks → AreCalls size (glue blocks ((line ∷ b) ∷ bs)) calls
     → Has size (last_block blocks) line
-inside size ([] ∷ []) line b bs (c ∷ calls) lt h = of_call size [] line b c h.0
-inside size ((l ∷ a) ∷ []) line b bs (c ∷ calls) lt h = of_call size (l ∷ a) line b c h.0
+inside size ([] ∷ []) line b bs (c ∷ calls) lt h = grind (arith, (among size [] line b c h.0.lines_are))
+inside size ((l ∷ a) ∷ []) line b bs (c ∷ calls) lt h = grind (arith, (among size (l ∷ a) line b c h.0.lines_are))
 inside size ([] ∷ c ∷ blocks) line b bs calls lt h = inside size (c ∷ blocks) line b bs calls (omega arith) h
 inside size ((l ∷ a) ∷ c ∷ blocks) line b bs (d ∷ calls) lt h =
     inside size (c ∷ blocks) line b bs calls (omega arith) h.1
@@ -80,20 +61,20 @@ good : (size : ℕ) (before : Block) (line : Line) (after : Block) (calls : List
     → Has size (open_block before) line
 good size before line after calls keeps h =
     let parts = some_list (blocks_of after) (some_part is_blank after) in
-    inside size (blocks_of before) line parts.0 parts.1 calls (some_part is_blank before) (rw (split_among is_blank before line after parts.0 parts.1 keeps parts.2) at h)
+    inside size (blocks_of before) line parts.0 parts.1 calls (some_part is_blank before) (rw (split_append is_blank before (line ∷ after), slice_split-cons_no is_blank line after keeps, parts.2) at h)
 
--- the line is faulty after these lines
-abbrev IsFaulty : ℕ → Block → Line → Type 0
-IsFaulty size before line = IsBadLine size line
-    ⊎ ((i : Item) × IsItemLine size line i × (size ≤ length (open_block before)))
+-- the line is the k-th, and faulty after these
+abbrev IsFaulty : ℕ → Block → Line → ℕ → PlayFault → Type 0
+IsFaulty size before line k f = (IsBadLine size line × (f ≡ fault.Line k))
+    ⊎ ((i : Item) × IsItemLine size line i × (size ≤ length (open_block before)) × (f ≡ fault.Long k))
 
 not_blank : (line : Line) → (line ≡ [] → ⊥) → is_blank line ≡ false
 not_blank [] some = absurd (some refl)
 not_blank (b ∷ line) some = ne_eqb (length (b ∷ line)) 0 (λ e. omega arith)
 
-no_fault : (size : ℕ) (before : Block) (line : Line) (after : Block) (calls : List (List Item))
-    → SpellsCalls size (before ++ line ∷ after) calls → IsFaulty size before line → ⊥
-no_fault size before line after calls h faulty = grind (arith, good, not_blank, item_not_blank)
+no_fault : (size : ℕ) (before : Block) (line : Line) (after : Block) (calls : List (List Item)) (k : ℕ) (f : PlayFault)
+    → SpellsCalls size (before ++ line ∷ after) calls → IsFaulty size before line k f → ⊥
+no_fault size before line after calls k f h faulty = grind (arith, good, not_blank, item_not_blank)
 
 -- ---- the first faulty line stands at one place
 
@@ -104,30 +85,37 @@ places [] l a (y ∷ c) m d e = grind arith
 places (x ∷ b) l a [] m d e = inr (inr (b, cc))
 places (x ∷ b) l a (y ∷ c) m d e = grind (arith, (places b l a c m d cc))
 
-same_place : (size : ℕ) (lines : Block) (j k : ℕ) (r : Reaches size lines j) (s : Reaches size lines k)
-    → IsFaulty size r.before r.line → IsFaulty size s.before s.line
-    → (j ≡ k) × (r.before ≡ s.before) × (r.line ≡ s.line)
-same_place size lines j k r s f g = grind (arith, places, no_fault)
+abbrev Faults : ℕ → Block → PlayFault → Type 0
+Faults size lines f = (k : ℕ) × (r : Reaches size lines k) × IsFaulty size r.before r.line k f
 
-not_calls : (size : ℕ) (lines : Block) (calls : List (List Item)) (k : ℕ) (r : Reaches size lines k)
-    → IsFaulty size r.before r.line → SpellsCalls size lines calls → ⊥
-not_calls size lines calls k r f h = no_fault size r.before r.line r.after calls (subst (λ (b : Block). SpellsCalls size b calls) r.all h) f
+faults : (size : ℕ) (lines : Block) (f : PlayFault) → Tells size lines (Err f) → Faults size lines f
+faults size lines (fault.Line k) h = (k, h.0, inl (h.1, refl))
+faults size lines (fault.Long k) h = (k, h.0, inr (h.1, h.2, h.3, refl))
+faults size lines _ h = absurd h
+
+same_fault : (size : ℕ) (before : Block) (line : Line) (k : ℕ) (f g : PlayFault)
+    → IsFaulty size before line k f → IsFaulty size before line k g → f ≡ g
+same_fault size before line k f g h i = grind arith
+
+one_fault : (size : ℕ) (lines : Block) (f g : PlayFault) → Faults size lines f → Faults size lines g
+    → f ≡ g
+one_fault size lines f g (j, r, h) (k, s, i) =
+    elim (places r.before r.line r.after s.before s.line s.after (sym r.all ∙ s.all)) [
+      | inl same ↦ let here : j ≡ k = omega (arith, r.number, s.number, ap length same.0) in same_fault size s.before s.line k f g (rw (here, same.0, same.1) at h) i
+      | inr (inl x) ↦ absurd (no_fault size r.before r.line x.0 s.calls j f (rw x.1 at s.faultless) h)
+      | inr (inr x) ↦ absurd (no_fault size s.before s.line x.0 r.calls k g (rw x.1 at r.faultless) i)
+    ]
+
+not_calls : (size : ℕ) (lines : Block) (calls : List (List Item)) (f : PlayFault)
+    → Faults size lines f → SpellsCalls size lines calls → ⊥
+not_calls size lines calls f h spells = no_fault size h.1.before h.1.line h.1.after calls h.0 f (rw h.1.all at spells) h.2
 
 lines_once : (size : ℕ) (lines : Block) (a b : Told) → Tells size lines a → Tells size lines b
     → a ≡ b
 lines_once size lines (Ok a) (Ok b) h k = cc (calls_once size (blocks_of lines) a b h k)
-lines_once size lines (Ok a) (Err (fault.Line j)) h k = grind (arith, (not_calls size lines a j k.0 (inl k.1) h))
-lines_once size lines (Ok a) (Err (fault.Long j)) h k = grind (arith, (not_calls size lines a j k.0 (inr (k.1, k.2, k.3)) h))
-lines_once size lines (Err (fault.Line i)) (Ok b) h k = grind (arith, (not_calls size lines b i h.0 (inl h.1) k))
-lines_once size lines (Err (fault.Long i)) (Ok b) h k = grind (arith, (not_calls size lines b i h.0 (inr (h.1, h.2, h.3)) k))
-lines_once size lines (Err (fault.Line i)) (Err (fault.Line j)) h k = cc ((same_place size lines i j h.0 k.0 (inl h.1) (inl k.1)).0)
-lines_once size lines (Err (fault.Long i)) (Err (fault.Long j)) h k =
-    cc ((same_place size lines i j h.0 k.0 (inr (h.1, h.2, h.3)) (inr (k.1, k.2, k.3))).0)
-lines_once size lines (Err (fault.Line i)) (Err (fault.Long j)) h k =
-    grind (arith, (same_place size lines i j h.0 k.0 (inl h.1) (inr (k.1, k.2, k.3))))
-lines_once size lines (Err (fault.Long i)) (Err (fault.Line j)) h k =
-    grind (arith, (same_place size lines j i k.0 h.0 (inl k.1) (inr (h.1, h.2, h.3))))
-lines_once size lines _ _ h k = absurd (grind arith)
+lines_once size lines (Ok a) (Err g) h k = absurd (not_calls size lines a g (faults size lines g k) h)
+lines_once size lines (Err f) (Ok b) h k = absurd (not_calls size lines b f (faults size lines f h) k)
+lines_once size lines (Err f) (Err g) h k = cc (one_fault size lines f g (faults size lines f h) (faults size lines g k))
 
 -- bytes tell one thing at most
 pub told_once : (size : ℕ) (bytes : List ℕ) (a b : Told) → IsTold size bytes a → IsTold size bytes b

@@ -1,11 +1,10 @@
 -- The text of completions, line by line.
-use Rattle.std.proofs.Common.{◌≡◌, ℕ, ◌+◌, ◌<◌, List, [], ◌∷◌, ◌++◌, length, take, get_or, refl, sym, ◌∙◌, append_assoc}
-use Rattle.uring_play_text.proofs.Common.{Appends, Appends-nil, Cqe, Err, Ok, Option, PlayFault, Result, append-nil, ended, take_more}
+use Rattle.std.proofs.Common.{◌≡◌, ℕ, ◌+◌, ◌<◌, List, [], ◌∷◌, ◌++◌, length, take, get_or, refl, sym, append_assoc}
+use Rattle.uring_play_text.proofs.Common.{Appends-nil, Cqe, Err, Ok, Option, PlayFault, Result, append-nil, take_more}
+use Rattle.uring_text.specs.Lines.{ended}
 use Rattle.uring_text.specs.Completions.{completion_text}
-use Rattle.uring_play_text.specs.Outputs.{Writes, counts_text, lines_text}
+use Rattle.uring_play_text.specs.Outputs.{Writes, lines_text}
 use Rattle.uring_play_text.specs.declared.play_fault.PlayFault.TheVariants as fault
-use Rattle.uring_text.specs.declared.trace_fault.TraceFault.{TraceFault}
-use Rattle.uring_text.specs.Writing.{WritesText}
 use Rattle.std.specs.Result.{IsErrAnd}
 
 lines_append : (cs : List Cqe) (c : Cqe)
@@ -20,21 +19,6 @@ pub line_more : (cs : List Cqe) (i : ℕ) (c : Cqe) (before so mid after : List 
 line_more cs i c before so mid after lt is a b d =
     let line : after ≡ so ++ ended (completion_text c) = cc (append_assoc so (completion_text c) (10 ∷ [])) in
     cc (append_assoc before (lines_text (take i cs)) (ended (completion_text c)), take_more cs i c lt, lines_append (take i cs) c)
-
--- the text of all, in an empty text, is written
-pub wrote : {none lines all bytes : List ℕ} (cs : List Cqe) (taken dropped : ℕ) (before after : Option (List ℕ))
-    → none ≡ [] → lines ≡ none ++ lines_text cs → all ≡ lines ++ counts_text taken dropped → bytes ≡ all
-    → (written : List ℕ) × Appends before after written × (written ≡ bytes)
-    → Writes (Ok tt) before after (lines_text cs ++ counts_text taken dropped)
-wrote cs taken dropped before after a b d e w = (w.0, w.1, w.2 ∙ rw (e, d, b, a))
-
--- a part of it is
-pub wrote_part : {none lines all bytes : List ℕ} (cs : List Cqe) (taken dropped : ℕ) (before after : Option (List ℕ)) (f : TraceFault)
-    → none ≡ [] → lines ≡ none ++ lines_text cs → all ≡ lines ++ counts_text taken dropped → bytes ≡ all
-    → (written : List ℕ) × Appends before after written × WritesText (Err f) bytes written
-    → Writes (Err fault.Write) before after (lines_text cs ++ counts_text taken dropped)
-wrote_part cs taken dropped before after f a b d e w =
-    (w.0, w.1, (w.2.1, w.2.2, rw (e, d, b, a) at w.2.3))
 
 -- nothing is written
 pub unwritten : (answer : Result (Unit {0}) PlayFault) (before : Option (List ℕ)) (text : List ℕ)

@@ -1,6 +1,7 @@
 -- What a reading takes in, byte by byte.
-use Rattle.std.proofs.Common.{◌≡◌, ◌≢◌, ℕ, List, [], ◌∷◌, ◌++◌, Option, Some, None, Result, Ok, Err, refl, sym, ap, subst, reverse}
-use Rattle.uring_play_text.proofs.Common.{Consumes, Consumes-kept, Consumes-nil, Consumes-trans, Gathers, Has, HasLines, Holds, IfSome, IsAtEnd, IsEarly, IsGiven, IsReturned, Item, Keeps, MatchOption, PlayFault, ReadsAll, ReadsCalls, ReadsIn, Returns, TakesIn, append-nil, length, reverse-append, with_last, ◌<◌, ◌≤◌}
+use Rattle.std.proofs.Common.{◌≡◌, ◌≢◌, ℕ, List, [], ◌∷◌, ◌++◌, Option, Some, None, Result, Ok, Err, refl, subst, reverse}
+use Rattle.uring_play_text.proofs.Common.{Consumes-nil, Gathers, HasLines, Holds, IfSome, IsEarly, IsGiven, IsReturned, Item, MatchOption, PlayFault, ReadsAll, ReadsCalls, ReadsIn, Returns, length, reverse-append, ◌<◌, ◌≤◌}
+use Rattle.std.specs.Io.KnownBytes.{IsAtEnd}
 use Rattle.std.specs.Borrow.{Bor}
 use Rattle.std.specs.Result.{IsErrAnd}
 use Rattle.std.specs.declared.vec.Vec.{Vec}
@@ -70,8 +71,7 @@ pub ended_last : (size : ℕ) (kept : KeptLine) (old new : Script) (given : Opti
     → ((size : ℕ) (lines : List (List ℕ)) → Gathers size lines new → Returns size lines answer)
     → Holds size kept old bytes → IsReturned size bytes answer
 ended_last size kept old new given answer bytes is some takes ends h =
-    let all : reverse (with_last h.ended h.line) ≡ reverse (h.line ∷ h.ended) = ap (λ (l : List (List ℕ)). reverse l) (last_some h.ended h.line (some h.line h.keeps)) in
-    returned size bytes (reverse (h.line ∷ h.ended)) answer (record { ended = h.ended; rest = h.line; splits = h.splits; all = sym all })
+    returned size bytes (reverse (h.line ∷ h.ended)) answer (record { ended = h.ended; rest = h.line; splits = h.splits; all = rw (last_some h.ended h.line (some h.line h.keeps)) refl })
     (ends size (reverse (h.line ∷ h.ended)) (rw (reverse-append (h.line ∷ []) h.ended) (takes size (reverse h.ended) h.line (is h.line h.keeps) h.gathers)))
 
 -- no last line has begun
@@ -80,77 +80,32 @@ pub ended_none : (size : ℕ) (kept : KeptLine) (script : Script) (answer : Answ
     → ((size : ℕ) (lines : List (List ℕ)) → Gathers size lines script → Returns size lines answer)
     → Holds size kept script bytes → IsReturned size bytes answer
 ended_none size kept script answer bytes none ends h =
-    let all : reverse (with_last h.ended h.line) ≡ reverse h.ended = ap (λ (l : List ℕ). reverse (with_last h.ended l)) (none h.line h.keeps) in
-    returned size bytes (reverse h.ended) answer (record { ended = h.ended; rest = h.line; splits = h.splits; all = sym all }) (ends size (reverse h.ended) h.gathers)
-
--- ---- the reader
-
-abbrev Known : Type 0
-Known = Option (List ℕ)
-
--- What was read and taken in so far: the reader had a left and has r.
-abbrev pub So : ℕ → Known → Known → Reading → Type 0
-So size a r s = (bytes : List ℕ) × Consumes a r bytes × Has size s bytes
-
--- a read that was interrupted
-pub tried_again : (size : ℕ) (a r r' : Known) (s : Reading) → Keeps r r' → So size a r s
-    → So size a r' s
-tried_again size a r r' s h so = (so.0, Consumes-kept a r r' so.0 so.1 h, so.2)
-
--- bytes that were taken in
-pub goes_on : (size : ℕ) (a r r' : Known) (s s' : Reading) (more : List ℕ) → Consumes r r' more
-    → ((size : ℕ) (before : List ℕ) → Has size s before → Has size s' (before ++ more))
-    → So size a r s → So size a r' s'
-goes_on size a r r' s s' more read took so =
-    (so.0 ++ more, Consumes-trans a r r' so.0 more so.1 read, took size so.0 so.2)
-
--- bytes that were not
-pub not_taken : (size : ℕ) (answer : Result (Unit {0}) PlayFault) (f : PlayFault) (a r r' : Known) (s s' : Reading) (more : List ℕ)
-    → answer ≡ Err f → IsEarly f → Consumes r r' more → So size a r s → ReadsIn size answer a r' s'
-not_taken size answer f a r r' s s' more is early read so = (so.0 ++ more, Consumes-trans a r r' so.0 more so.1 read, subst (λ (x : Result (Unit {0}) PlayFault). TakesIn size x r' s' (so.0 ++ more)) (sym is) early)
-
--- the end of the input
-pub all_read : (size : ℕ) (a r r' : Known) (s : Reading) → Consumes r r' [] → IsAtEnd r'
-    → So size a r s → (bytes : List ℕ) × Consumes a r' bytes × (Has size s bytes × IsAtEnd r')
-all_read size a r r' s read end so = (so.0 ++ [], Consumes-trans a r r' so.0 [] so.1 read, (subst (Has size s) (sym (append-nil so.0)) so.2, end))
-
--- no further read
-pub read_failed : (size : ℕ) (a r : Known) (s : Reading) → So size a r s
-    → (bytes : List ℕ) × Consumes a r bytes × Unit {0}
-read_failed size a r s so = (so.0, so.1, tt)
+    returned size bytes (reverse h.ended) answer (record { ended = h.ended; rest = h.line; splits = h.splits; all = rw (none h.line h.keeps) refl }) (ends size (reverse h.ended) h.gathers)
 
 -- ---- all calls
 
-ends_at : (answer : Answer) (size : ℕ) (bytes : List ℕ) (left : Known)
+pub ends_at : (answer : Answer) (size : ℕ) (bytes : List ℕ) (left : Option (List ℕ))
     → IsReturned size bytes answer → IsAtEnd left → ReadsAll answer left
 ends_at (Err fault.Read) size bytes left h end = tt
 ends_at (Err fault.Memory) size bytes left h end = tt
 ends_at (Err fault.Write) size bytes left h end = absurd h
 ends_at _ size bytes left h end = end
 
-pub whole_read : (setup : Setup) (answer : Answer) (a r : Known) (s : Reading)
-    → ((size : ℕ) (bytes : List ℕ) → Has size s bytes → IsReturned size bytes answer)
-    → (bytes : List ℕ) × Consumes a r bytes × (Has setup.sq s bytes × IsAtEnd r)
-    → ReadsCalls setup answer a r
-whole_read setup answer a r s ends so =
-    let told = ends setup.sq so.0 so.2.0 in
-    record { bytes = so.0; consumed = so.1; returned = told; whole = ends_at answer setup.sq so.0 r told so.2.1 }
-
 -- a fault that comes early says nothing of lines, nor of what is left
-early_said : (size : ℕ) (bytes : List ℕ) (f : PlayFault) (left : Known) → IsEarly f
+early_said : (size : ℕ) (bytes : List ℕ) (f : PlayFault) (left : Option (List ℕ)) → IsEarly f
     → IsReturned size bytes (Err f) × ReadsAll (Err f) left
 early_said size bytes fault.Read left h = (tt, tt)
 early_said size bytes fault.Memory left h = (tt, tt)
 early_said size bytes _ left h = absurd h
 
-pub stopped : (setup : Setup) (answer : Answer) (f : PlayFault) (a r : Known) (s : Reading)
+pub stopped : (setup : Setup) (answer : Answer) (f : PlayFault) (a r : Option (List ℕ)) (s : Reading)
     → answer ≡ Err f → ReadsIn setup.sq (Err f) a r s → ReadsCalls setup answer a r
 stopped setup answer f a r s is so =
     let said = early_said setup.sq so.0 f r so.2 in
     rw is (record { bytes = so.0; consumed = so.1; returned = said.0; whole = said.1 })
 
 -- nothing was read
-pub unread : (setup : Setup) (answer : Answer) (a : Known) → IsErrAnd answer (λ f. f ≡ fault.Memory)
+pub unread : (setup : Setup) (answer : Answer) (a : Option (List ℕ)) → IsErrAnd answer (λ f. f ≡ fault.Memory)
     → ReadsCalls setup answer a a
 unread setup (Ok calls) a h = absurd h
 unread setup (Err f) a h = rw h (record { bytes = []; consumed = Consumes-nil a; returned = tt; whole = tt })

@@ -11,4 +11,4 @@ returns-in-Err g c =
 
 pub returns-in-Ok : goal.returns-in-Ok
 returns-in-Ok g c =
-    c.play_by.ensures c.args.setup.now c.args.workers _ _ c.in-Ok.ensures c.in_ok-calls.ensures
+    c.run.ensures c.args.setup.now c.args.workers _ _ c.in-Ok.ensures c.in_ok-calls.ensures

@@ -1,5 +1,6 @@
 use Rattle.std.proofs.Common.{ℕ, List, [], ◌-◌, ◌^◌}
-use Rattle.uring_play_text.proofs.Common.{Consumes, Has}
+use Rattle.std.specs.Io.KnownBytes.{Consumes}
+use Rattle.uring_play_text.specs.Readings.{Has}
 use Rattle.uring_play_text.proofs.reading.read_all.Given as goal
 
 -- what was read so far is what was taken in
