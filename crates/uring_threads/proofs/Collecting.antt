@@ -1,6 +1,6 @@
 -- What is sent and taken in, as a result is taken in: the operation is the last of its worker's, and all else stays; and how many results of each worker a turn takes in.
-use Rattle.std.proofs.Common.{◌≡◌, ℕ, ◌+◌, ◌<◌, arith, Bool, true, false, List, [], ◌∷◌, ◌++◌, length, refl, sym, ap, ◌∙◌, inl, inr, ◌*◌, ◌≤◌, get_or, add-zero}
-use Rattle.uring_threads.proofs.Common.{Answer, AreSameLanes, AreTakenIn, CanBeTaken, Collects, CollectsNext, CollectsSeen, Done, Grows, HasCarried, HaveCarried, IsFinished, IsLawfulApart, IsTakenIn, IsUnmoved, JobResult, Kept, NextStays, NoneComes, OnErr, OnlyReceives, Repeats, Result, TakesFewResults, TakesSeen, Wait, WorkLanes, cases_lt, done_by_worker, done_in, entry_of, finish_of, finishes_counted, history, is_running, is_running_ended_other, is_running_ended_same, length-set, length_push, map-append, most_results, now, operation_of, place_of, results_of, results_received, results_seen, results_taken_in, set}
+use Rattle.std.proofs.Common.{◌≡◌, ℕ, ◌+◌, ◌<◌, arith, true, List, [], ◌∷◌, ◌++◌, length, refl, sym, ap, ◌∙◌, inl, inr, ◌*◌, ◌≤◌, get_or, add-zero}
+use Rattle.uring_threads.proofs.Common.{Answer, AreSameLanes, AreTakenIn, CanBeTaken, Collects, CollectsSeen, Done, Grows, HasCarried, HaveCarried, IsFinished, IsLawfulApart, IsTakenIn, IsUnmoved, JobResult, Kept, NextStays, NoneComes, OnErr, OnlyReceives, Repeats, Result, TakesFewResults, TakesSeen, Wait, WorkLanes, cases_lt, done_by_worker, done_in, entry_of, finish_of, finishes_counted, history, is_running, is_running_ended_other, is_running_ended_same, length-set, length_push, map-append, most_results, now, operation_of, place_of, results_of, results_received, results_seen, results_taken_in, set}
 use mathlib.Core.List.{IsPrefix}
 use Rattle.uring_core.specs.declared.step.Step.TheVariants as step
 use Rattle.uring_core.specs.declared.answer.Answer.TheVariants as answer
@@ -68,18 +68,10 @@ collects_then {a} {b} {c} {workers} {place} {n} {m} p q = record {
   none_comes = λ k number can. p.none_comes k number (q.none_comes k number can);
 }
 
--- a turn's results, and a round more of them
-pub collects_more : {a b c : Kept} {workers place n : ℕ} (seen : List JobResult) (more : Bool)
-    → more ≡ true → Collects a b workers place n → CollectsNext b c workers place seen more
-    → Collects a c workers place (n + 1)
-collects_more seen more e p q = collects_then p (rw e at q)
-
-pub collects_no_more : {a b c : Kept} {workers place n : ℕ} (seen : List JobResult) (more : Bool)
-    → more ≡ false → n < 64 → Collects a b workers place n
-    → CollectsNext b c workers place seen more → CollectsSeen a c workers place n seen
-collects_no_more seen more e few p q =
-    let next = rw e at q in
-    record { collected = rw add-zero at (collects_then p next.0); most = omega arith; rest = λ less. next.1 }
+-- and room was asked for
+pub collects_still : {a b c : Kept} {workers place n : ℕ} → Collects a b workers place n
+    → IsUnmoved b c → Collects a c workers place n
+collects_still {workers = workers} {place} p u = rw add-zero at (collects_then p (collects_none workers place u))
 
 -- what holds anyway holds of an error
 pub on_err : {X E P : Type 0} (result : Result X E) → P → OnErr result P

@@ -7,6 +7,7 @@ pub use Rattle.std.proofs.lemmas.List.{append_cancel_left, drop_more, get_or-map
 pub use Rattle.std.proofs.lemmas.List.Sums.{count_by-le-length, length-filter, sum_by-append, sum_by-cons, sum_by_push}
 pub use Rattle.std.proofs.lemmas.Option.{cond_some, get_or_from_slice_get, slice_get-get_or, slice_get_within}
 pub use Rattle.std.proofs.lemmas.Result.{IfOk-from_err, IfOk-weaker}
+pub use Rattle.std.specs.declared.alloc.AllocError.{AllocError}
 pub use Rattle.std.specs.List.{AllByRecursion, filter, list_any}
 pub use Rattle.std.specs.Prelude.{All, Bool, Err, IfOk, IsErr, IsOk, None, Ok, OnErr, Result, if◌then◌else◌, is_some, length, min, slice_get, slice_index_or, slice_set, vec_capacity, ◌≡◌, ◌⊎◌}
 pub use Rattle.uring_core.proofs.Following.{history_of_append, history_of_cons, history_of_snoc}
@@ -30,13 +31,15 @@ pub use Rattle.uring_files.specs.Operations.{byte_of, state_of}
 pub use Rattle.uring_laws.proofs.Standing.{call_closes, call_opens, items_fresh, items_keep, items_published, position_taken, tail_publishes, words_of}
 pub use Rattle.uring_laws.specs.Finishes.{done_at, done_by, done_in}
 pub use Rattle.uring_laws.specs.Standing.{Stands, after_call, ends_after, in_call, with_item, with_items}
+pub use Rattle.uring_ports.specs.Dropped.{with_word}
 pub use Rattle.uring_ports.specs.Items.{AreItems, all_published_as, published_as}
 pub use Rattle.uring_ports.specs.Ports.{LeavesCompletions, LeavesItems, Pulls, Put, Sizes, items_of_calls, nothing_put, sizes_of, with_call, with_close}
+pub use Rattle.uring_ports.specs.Seen.{HasLooked}
 pub use Rattle.uring_ports.specs.declared.item.Item.{Item}
 pub use Rattle.uring_rules.specs.Rules.{is_issuable, posts, with_issued_end}
 pub use Rattle.uring_threads.specs.Calls.{AreBegun, calls_left, calls_of, ends_after_item, ends_of}
 unfoldable pub use Rattle.uring_threads.specs.Calls.{after_calls, calls_after, calls_row, refused_row}
-pub use Rattle.uring_threads.specs.Collected.{CanBeTaken, Collects, CollectsNext, CollectsSeen, NextStays, NoneComes, TakesAll, TakesSeen, Wait}
+pub use Rattle.uring_threads.specs.Collected.{CanBeTaken, Collects, CollectsSeen, NextStays, NoneComes, TakesAll, TakesSeen, Wait}
 pub use Rattle.uring_threads.specs.Dealt.{DealtByFile, FilesByWorker, IsDealtByFile, WorkersJoin, done_by_worker, job_by, job_in, jobs_at, jobs_in, jobs_to}
 pub use Rattle.uring_threads.specs.Delivered.{KeepsAllBut, OnlyPosts, on_completions, with_reaped_all}
 pub use Rattle.uring_threads.specs.Dispatched.{AreTakenIn, HasCarried, HaveCarried}
@@ -52,6 +55,7 @@ pub use Rattle.uring_threads.specs.Taking.{HasBegun, HaveMade, IsFirst, TakesIn}
 pub use Rattle.uring_threads.specs.Tallies.{Appends, TakesFewResults, Tally, both, calls_counted, close_counted, closes_ring, finishes_counted, is_refused, issues_counted, issues_request, items_counted, most_results, none_counted, reaps_counted, results_taken_in, starts_request, takes_result, tally_of}
 pub use Rattle.uring_threads.specs.Turns.{AreTies, ClosesOnce, Counts, IsDelivered, Tied, awaits_memory, is_shut, waiting_in}
 pub use Rattle.uring_threads.specs.declared.intake.Intake.{Intake}
+pub use Rattle.uring_threads.specs.declared.turns.Turn.{Turn}
 pub use Rattle.uring_workers.specs.Opened.{AreLanesOf}
 pub use Rattle.uring_workers.specs.Work.{job_of, jobs_of, place_of, place_of_file, result_of, results_of}
 pub use Rattle.uring_workers.specs.WorkLanes.{AreSameLanes, HaveCarriedNone, HoldJobs, HoldResults, IsLookedAt, IsSent, OnlyReceives, SomeIsFull, jobs_sent, numbers_of_lanes, results_held, results_received, results_seen}

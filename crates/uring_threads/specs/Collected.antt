@@ -1,5 +1,5 @@
 -- Glue. Taking in the results that came back from a worker. All of it is our own rule.
-use Rattle.std.specs.Prelude.{◌≡◌, ◌≢◌, ℕ, ◌<◌, ◌≤◌, Bool, true, false, List, [], ◌∷◌, ◌++◌, map, length, get_or, ◌+◌}
+use Rattle.std.specs.Prelude.{◌≡◌, ◌≢◌, ℕ, ◌<◌, ◌≤◌, true, List, [], ◌∷◌, ◌++◌, map, length, get_or, ◌+◌}
 use Rattle.uring_entry.specs.Preparation.{operation_of}
 use Rattle.uring_entry.specs.Requests.{entry_of, is_running}
 use Rattle.uring_files.specs.Done.{Done}
@@ -52,12 +52,6 @@ pub record Collects (old new : Kept) (workers place count : ℕ) : Type 0 where
   pub own : results_taken_in workers place new ≡ results_taken_in workers place old + count
   pub others : OthersStay old new workers place
   pub none_comes : NoneComes old new workers
-
--- one more result was taken in, or none, if none is seen or the next can't be taken in
-abbrev pub CollectsNext : Kept → Kept → ℕ → ℕ → List JobResult → Bool → Type 0
-CollectsNext old new workers place seen true = Collects old new workers place 1
-CollectsNext old new workers place seen false =
-    Collects old new workers place 0 × NextStays new workers place seen
 
 -- results were taken in: at most 64, and fewer only if none is seen or the next can't be taken in
 pub record CollectsSeen (old new : Kept) (workers place count : ℕ) (seen : List JobResult) : Type 0 where

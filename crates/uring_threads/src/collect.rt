@@ -2,7 +2,7 @@
 ghost use Rattle.std.specs.Prelude.{◌≡◌, ℕ, ◌+◌, ◌<◌, ◌≤◌, ◌↔◌, [], ◌++◌, length, IsTrue, IsOk, IfOk, OnOk, OnErr};
 ghost use Rattle.uring_core.specs.declared.step.Step.TheVariants as step;
 ghost use Rattle.uring_workers.specs.WorkLanes.{AreSameLanes, OnlyReceives, results_received, results_seen};
-ghost use Rattle.uring_threads.specs.Collected.{CanBeTaken, Collects, CollectsNext, CollectsSeen, TakesAll, TakesSeen, Wait};
+ghost use Rattle.uring_threads.specs.Collected.{CanBeTaken, Collects, CollectsSeen, TakesAll, TakesSeen, Wait};
 ghost use Rattle.uring_threads.specs.Dispatched.{HaveCarried, AreTakenIn};
 ghost use Rattle.uring_threads.specs.EventRows.{Repeats};
 ghost use Rattle.uring_threads.specs.Tallies.{TakesFewResults, finishes_counted, most_results};
@@ -41,7 +41,7 @@ pub fn collect_all<M: Memory>(
     Ok(count)
 }
 
-/// Takes in the results of a worker that are seen, at most 64 of them, and returns how many. `AllocError`: room for the next event was refused; what was taken in until then is recorded, and nothing more was taken.
+/// Takes in the results of a worker that are seen, at most 64 of them, with room for each asked for first, and returns how many. Each ends its request, which is recorded. A result of a request that doesn't run, or of one that is another worker's, stays in the lane. `AllocError`: room for the next event was refused; what was taken in until then is recorded, and nothing more was taken.
 pub fn collect<M: Memory>(
     memory: &M,
     kept: &mut Kept,
@@ -60,41 +60,18 @@ pub fn collect<M: Memory>(
     ensures granted { ((n : ℕ) → M.grants memory.now n) → IsOk result }
 {
     for count in 0..LANE_LENGTH {
-        if !collect_one(memory, kept, lanes, place, workers)? {
+        if lanes.results.is_empty() {
             return Ok(count as u64);
         }
+        kept.reserve(memory, 1)?;
+        let next = lanes.results.peek_known().number;
+        if !is_at(kept, next, place, workers) {
+            return Ok(count as u64);
+        }
+        let result = lanes.results.pop_known();
+        kept.finish(result.number, result.outcome);
     }
     Ok(LANE_LENGTH as u64)
-}
-
-/// Takes in the next result of a worker, if one is seen, with room for it asked for first: it ends its request, which is recorded. A result of a request that doesn't run, or of one that is another worker's, stays in the lane.
-pub fn collect_one<M: Memory>(
-    memory: &M,
-    kept: &mut Kept,
-    lanes: &mut WorkLanes,
-    place: u32,
-    workers: u32,
-) -> Result<bool, AllocError>
-    requires workers { 0 < workers }
-    requires taken { AreTakenIn kept.old workers place (results_received lanes.old) }
-    ensures taken { AreTakenIn kept.new workers place (results_received lanes.new) }
-    ensures ok { IfOk result
-        (λ more. CollectsNext kept.old kept.new workers place (results_seen lanes.new) more) }
-    ensures err { OnErr result (Collects kept.old kept.new workers place 0) }
-    ensures lanes { OnlyReceives lanes.old lanes.new }
-    ensures granted { ((n : ℕ) → M.grants memory.now n) → IsOk result }
-{
-    if lanes.results.is_empty() {
-        return Ok(false);
-    }
-    kept.reserve(memory, 1)?;
-    let next = lanes.results.peek_known().number;
-    if !is_at(kept, next, place, workers) {
-        return Ok(false);
-    }
-    let result = lanes.results.pop_known();
-    kept.finish(result.number, result.outcome);
-    Ok(true)
 }
 
 /// Whether the request of this number runs and is this worker's.

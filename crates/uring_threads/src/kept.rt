@@ -12,7 +12,7 @@ ghost use Rattle.uring_core.specs.declared.answer.Answer.TheVariants as answer;
 ghost use Rattle.uring_core.specs.declared.step.Step.TheVariants as step;
 
 use crate::events::Events;
-use crate::take_result::take_result;
+use crate::take_result::take_result_in;
 use std::alloc::{AllocError, Global};
 use std::marker::Model;
 use uring_core::{Answer, Core, Counts, Cqe, Op, Outcome, Setup, Step};
@@ -94,6 +94,7 @@ impl Kept {
         ensures called { CalledForApart self.old.setup (now self.old) step result }
         ensures granted { ((n : ℕ) → M.grants memory.now n) → result ≡ answer.Again → ⊥ }
     {
+        // What a call takes by value counts as moved, also if it can be copied: so the trace gets copies.
         let made = step;
         let answer = self.core.step_in(memory, step);
         let told = answer;
@@ -107,7 +108,9 @@ impl Kept {
         ensures grows { Grows self.old self.new (step.Finish number, result) }
         ensures outcome { IsFinished (now self.old) number outcome result }
     {
-        let Ok(answer) = take_result(&mut self.core, &mut self.trace, number, outcome) else {
+        let memory = self.allocator();
+        let core = &mut self.core;
+        let Ok(answer) = take_result_in(&memory, core, &mut self.trace, number, outcome) else {
             unreachable!()
         };
         answer

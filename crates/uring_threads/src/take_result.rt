@@ -75,6 +75,7 @@ pub fn take_result_in<M: Memory>(
 {
     trace.reserve(memory, 1)?;
     let answer = core.finish(number, outcome);
+    // What a call takes by value counts as moved: so the trace gets a copy.
     let told = answer;
     trace.push_reserved(Step::Finish { number }, told);
     Ok(answer)

@@ -9,6 +9,6 @@ invariant_of-self c =
     let made = c.in-Ok.ensures in
     let events = ap history_of made.recorded ∙ history_of_snoc before (step.Finish c.args.number, c.in-Ok.answer) in (
       subst IsWithinLimits (sym made.setup) c.self.invariant.0,
-      subst (FitsApart c.take_result.new.core) (sym events) (made.fits (history_of before) c.self.invariant.1),
+      subst (FitsApart c.take_result_in.new.core) (sym events) (made.fits (history_of before) c.self.invariant.1),
       ap (λ (g : Setup). g.stops) made.setup ∙ c.self.invariant.2,
     )
