@@ -9,8 +9,8 @@ use Rattle.uring_rings.specs.declared.answers.Taken.{Taken}
 use Rattle.uring_rules.specs.RulesDispatch.{Rules, ShowsRequests, HasStarted, HasEnded, HasFinished, HasCalled}
 use Rattle.uring_rules.specs.RulesCalls.{called_by}
 use Rattle.uring_rules.specs.RulesIssues.{issued, posts_of, posted_by, ended_by, ended_at_issue}
-use Rattle.uring_rules.specs.declared.answers.Issued.{Issued}
-use Rattle.uring_rules.specs.declared.answers.Issued.TheVariants as issue
+use Rattle.uring_dispatch.specs.declared.answers.IssuedPosting.{IssuedPosting}
+use Rattle.uring_dispatch.specs.declared.answers.IssuedPosting.TheVariants as issue
 use Rattle.uring_dispatch.specs.declared.answers.Posts.{Posts}
 use Rattle.uring_core.specs.declared.step.Step.TheVariants as step
 use Rattle.uring_core.specs.declared.answer.Answer.TheVariants as answer
@@ -93,7 +93,7 @@ pub run_goes : (p : Core) (d : Rules) (n : ℕ) (op : Op)
 run_goes p d n op answered shows counts h f = grind arith
 
 -- an Issue that is refused changes nothing
-pub issue_refused_goes : (p : Core) (d : Rules) (n : ℕ) (r : Issued)
+pub issue_refused_goes : (p : Core) (d : Rules) (n : ℕ) (r : IssuedPosting)
     → ((l : LinuxRequests) → ShowsRequests p.dispatch l → r ≡ issued p.dispatch.linux l n)
     → d ≡ p.dispatch → ((w : World) → happens p.setup w (step.Issue n) (issue_told r) ≡ w)
     → (h : History) → FitsApart p h

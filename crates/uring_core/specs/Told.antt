@@ -3,8 +3,8 @@ use Rattle.std.specs.Prelude.{ℕ, ℤ, List}
 use Rattle.uring_entry.specs.Completions.{Completions, with_posted}
 use Rattle.uring_dispatch.specs.declared.answers.Posts.{Posts}
 use Rattle.uring_dispatch.specs.declared.answers.Posts.TheVariants.{Completion, Nothing}
-use Rattle.uring_rules.specs.declared.answers.Issued.{Issued}
-use Rattle.uring_rules.specs.declared.answers.Issued.TheVariants as issue
+use Rattle.uring_dispatch.specs.declared.answers.IssuedPosting.{IssuedPosting}
+use Rattle.uring_dispatch.specs.declared.answers.IssuedPosting.TheVariants as issue
 use Rattle.uring_entry.specs.Requests.{no_bytes}
 use Rattle.uring_rings.specs.declared.answers.FillAnswer.{FillAnswer}
 use Rattle.uring_rings.specs.declared.answers.FillAnswer.TheVariants as fill
@@ -44,7 +44,7 @@ end_told end.NotAll = answer.NotAll
 end_told end.NoCall = answer.NoCall
 
 -- an issue's answer
-abbrev pub issue_told : Issued → Answer
+abbrev pub issue_told : IssuedPosting → Answer
 issue_told (issue.Run op) = answer.Run
 issue_told (issue.Ended res posted) = answer.Ended res no_bytes
 issue_told issue.NotReady = answer.NotReady

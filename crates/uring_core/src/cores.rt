@@ -25,7 +25,7 @@ use uring_dispatch::{Posts, ReserveError};
 use uring_entry::{Cqe, Outcome, Setup, Sqe};
 use uring_memory::Memory;
 use uring_rings::{Cq, EndAnswer, Sq, TakeAnswer};
-use uring_rules::{Issued, Rules};
+use uring_rules::{IssuedPosting, Rules};
 
 /// A pair of rings and its requests, moved one step at a time, without files: how a running request ends comes from outside.
 #[derive(Drop)]
@@ -273,15 +273,15 @@ impl Core {
         ensures memory { HasNoLessMemory self.old self.new }
     {
         match self.dispatch.issue(number) {
-            Issued::Run(_) => Answer::Run,
-            Issued::Ended(res, posts) => {
+            IssuedPosting::Run(_) => Answer::Run,
+            IssuedPosting::Ended(res, posts) => {
                 let bytes = [0; 64];
                 post_end(&mut self.cq, posts, res, bytes);
                 Answer::ended(res, bytes)
             }
-            Issued::NotReady => Answer::NotReady,
-            Issued::Running => Answer::Running,
-            Issued::Unknown => Answer::Unknown,
+            IssuedPosting::NotReady => Answer::NotReady,
+            IssuedPosting::Running => Answer::Running,
+            IssuedPosting::Unknown => Answer::Unknown,
         }
     }
 

@@ -3,7 +3,7 @@ use Rattle.std.proofs.Common.{◌≡◌, ◌≢◌, ◌⊎◌, ℕ, ◌+◌, ◌
 use Rattle.uring_dispatch.proofs.Common.{Accepts, AreHeld, Changes, Exchanges, Group, Groups, IfErr, IfOk, IsBeyond, IsGroup, IsKept, IsShownGroup, IsSound, Op, Request, Requests, Result, Sqe, Window, added_other, groups_apart, cases_eq, end_of, entry_of, entry_of_accepted_at, entry_of_accepted_other, false≢true, fault_of, group_at, has_ended, has_started, if◌then◌else◌, is_drain, is_faulty, is_last, is_linked, is_some_value, last_group, list_any, ne_eqb, new_request, op_of, operation_of, or-false, outstanding_in, running_in, with_accepted, with_cut, with_member}
 use Rattle.uring_entry.proofs.GroupEvents.{group_cut, is_last_cut_last, group_accepted, group_joined, group_new, first_entry_accepted, first_entry_more, first_broken_accepted, first_broken_more, first_member_none}
 use Rattle.uring_dispatch.proofs.GroupsKept.{only_key}
-use Rattle.uring_dispatch.proofs.HeldLemmas.{linked, kept_on}
+use Rattle.uring_dispatch.proofs.HeldLemmas.{kept_on}
 use Rattle.std.specs.Result.{result_ok}
 use Rattle.uring_entry.specs.declared.fault.Fault.{Fault}
 use Rattle.uring_dispatch.proofs.Changes.{before_write, shown_written}

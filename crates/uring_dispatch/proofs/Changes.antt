@@ -3,7 +3,7 @@ use Rattle.std.proofs.Common.{List, ◌++◌, ◌≡◌, ◌≢◌, ℕ, ◌+◌
 use Rattle.uring_dispatch.proofs.Common.{list_any, running_in, AreHeld, Changes, Groups, IsAsBefore, IsShown, IsSound, Request, Requests, Window, added_other, added_same, at, chosen, end_of, entry_of, has_ended, has_started, is_cancelled, is_faulty, is_running, is_running_started_other, is_running_started_same, ne_eqb, started, with_cancelled, with_started}
 use Rattle.uring_dispatch.proofs.WindowFront.{at_past}
 use Rattle.uring_dispatch.proofs.Counting.{count_below_changed}
-use Rattle.uring_dispatch.proofs.HeldLemmas.{shown_within, running_some, linked, kept_on}
+use Rattle.uring_dispatch.proofs.HeldLemmas.{shown_within, running_some, kept_on}
 
 -- the request of n is gone
 module _ {w v : Window} {n : ℕ} (c : Changes w v n None) where

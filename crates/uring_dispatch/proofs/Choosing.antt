@@ -1,6 +1,6 @@
 -- What cancels make of the lists: the end of a request as it is issued, with those that it dooms, and the search for all targets of a cancel.
-use Rattle.std.proofs.Common.{◌≡◌, ℕ, ◌+◌, ◌<◌, ◌≤◌, pos, negsuc, [], ◌∷◌, ◌++◌, length, length-append, Bool, true, false, Option, Some, ap, arith}
-use Rattle.uring_dispatch.proofs.Common.{AreHeld, Groups, KeepsPlaces, Requests, Shows, Window, addr_of, all_below, all_below_none, all_below_past, append-nil, append_assoc, at, cancel_result, chosen, chosen_by, entry_of, if◌then◌else◌, int_le, is_after_failure, is_cancel, is_cancel_all, is_doomed, is_joined, is_running, is_success, is_target, no_bytes, result_for, runs, some_member, target_of, targets_of, with_cancelled, with_ended, with_issued_end}
+use Rattle.std.proofs.Common.{◌≡◌, ℕ, ◌+◌, ◌<◌, ◌≤◌, ℤ, pos, negsuc, [], ◌∷◌, ◌++◌, length, length-append, Bool, true, false, Option, Some, ap, arith}
+use Rattle.uring_dispatch.proofs.Common.{AreHeld, Group, Groups, IsGroupOf, KeepsPlaces, Requests, Shows, Window, addr_of, all_below, all_below_none, all_below_past, append-nil, append_assoc, at, cancel_result, chosen, chosen_by, entry_of, if◌then◌else◌, int_le, is_after_failure, is_cancel, is_cancel_all, is_doomed, is_joined, is_running, is_some_value, is_success, is_target, no_bytes, result_for, runs, some_member, target_of, targets_of, with_cancelled, with_ended, with_issued_end}
 use Rattle.std.proofs.lemmas.List.Folds.{list_any-append}
 use Rattle.uring_dispatch.specs.declared.outstanding.Outstanding.{Outstanding}
 use Rattle.uring_dispatch.specs.Choosing.{HasChosen}
@@ -26,9 +26,9 @@ pub one_chosen : (r : Requests) (n m : ℕ) → is_cancel (entry_of r n) ≡ tru
 one_chosen r n m is one chose = grind arith
 
 -- a cancel succeeds with a number
-pub cancel_succeeds : (r : Requests) (n : ℕ) → is_cancel (entry_of r n) ≡ true
-    → is_success (entry_of r n) (cancel_result r n) ≡ int_le (pos 0) (cancel_result r n)
-cancel_succeeds r n is = grind (arith, is_success)
+pub cancel_succeeds : (r : Requests) (n : ℕ) (res : ℤ) → is_cancel (entry_of r n) ≡ true
+    → res ≡ cancel_result r n → int_le (pos 0) res ≡ is_success (entry_of r n) res
+cancel_succeeds r n res is told = grind (arith, is_success)
 
 -- A cancel chooses one.
 
@@ -37,6 +37,10 @@ chosen_nobody d = grind arith
 
 pub chosen_both : (a b c : Outstanding) → HasChosen a b → HasChosen b c → HasChosen a c
 chosen_both a b c x y = grind arith
+
+pub group_chosen : (d e : Outstanding) (n : ℕ) (p : Group) → HasChosen d e → IsGroupOf d.grouped n p
+    → IsGroupOf e.grouped n p
+group_chosen d e n p c is = λ q there. grind (arith, (is_some_value (at d.grouped.window n)), (c.same.joined n), (c.same.there n), c.groups)
 
 -- Targets.
 

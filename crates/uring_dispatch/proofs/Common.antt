@@ -15,7 +15,7 @@ pub use Rattle.uring_dispatch.specs.Accepts.{Accepts, new_request}
 pub use Rattle.uring_dispatch.specs.ByUserData.{AreFound, GoesOn, HasPlaces, KeepsFrom, KeepsPlaces, Spans}
 pub use Rattle.uring_dispatch.specs.Dispatch.{Dispatch, EndCounts, IssueCounts, ShowsRequests, dispatch_of}
 unfoldable pub use Rattle.uring_dispatch.specs.Dispatch.{StandsFor}
-pub use Rattle.uring_dispatch.specs.Grouped.{HasSameRecords, Shows}
+pub use Rattle.uring_dispatch.specs.Grouped.{HasSameRecords, IsGroupOf, Shows}
 pub use Rattle.uring_dispatch.specs.Groups.{AreGroups, Exchanges, Groups, HasBarrierBefore, IsBeyond, IsFirstDraining, IsLiveFront, IsSorted, covers, drain_of, group_at, last_group, with_barrier, with_member}
 pub use Rattle.uring_dispatch.specs.Held.{AreHeld, HasGroup, HasLost, IsKept, IsNext, IsShown, IsShownGroup, IsSound, has_member, op_of}
 pub use Rattle.uring_dispatch.specs.Limits.{IsLeastBelow, IsLimit, can_go, lesser_of}

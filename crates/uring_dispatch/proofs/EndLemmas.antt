@@ -4,7 +4,7 @@ use Rattle.uring_dispatch.proofs.Common.{AreHeld, Changes, Exchanges, Group, Gro
 use Rattle.uring_entry.proofs.GroupEvents.{group_ended, first_broken_ended, first_broken_elsewhere}
 use Rattle.uring_dispatch.proofs.Changes.{before_end}
 use Rattle.uring_dispatch.proofs.Counting.{count_below_changed}
-use Rattle.uring_dispatch.proofs.HeldLemmas.{linked, within_group, shown_within, outstanding_some, running_some}
+use Rattle.uring_dispatch.proofs.HeldLemmas.{within_group, shown_within, outstanding_some, running_some}
 
 -- what is left of a group
 abbrev pub left_with : Group → ℕ → Option ℕ → Group

@@ -1,42 +1,52 @@
 //! What a cancel makes of the outstanding requests. io_uring_enter(2), IORING_OP_ASYNC_CANCEL, and io_uring_prep_cancel(3), IORING_ASYNC_CANCEL_ALL.
 
-ghost use Rattle.std.specs.Prelude.{◌≡◌, [], ◌∷◌, length, true, false, None, is_some};
-ghost use Rattle.uring_entry.specs.Requests.{Requests, entry_of, with_cancelled, with_issued_end, chosen_by, targets_of};
+ghost use Rattle.std.specs.Prelude.{◌≡◌, ℕ, [], ◌∷◌, length, Bool, true, false, Some, None, is_some};
+ghost use Rattle.uring_entry.specs.Requests.{Requests, entry_of, with_cancelled, chosen_by, targets_of};
 ghost use Rattle.uring_entry.specs.Requests as spec;
 ghost use Rattle.uring_entry.specs.Preparation.{is_cancel, is_cancel_all};
 ghost use Rattle.uring_entry.specs.Layout.{addr_of};
-ghost use Rattle.uring_dispatch.specs.Window.{at, runs};
-ghost use Rattle.uring_dispatch.specs.Held.{HasLost};
-ghost use Rattle.uring_dispatch.specs.Grouped.{Shows};
+ghost use Rattle.uring_dispatch.specs.declared.answers.Issued.TheVariants.{Ended};
+ghost use Rattle.uring_dispatch.specs.IssueAndFinish.{with_posts, without_posts, after_issue};
+ghost use Rattle.uring_dispatch.specs.Dispatch.{dispatch_of, IssueCounts};
+ghost use Rattle.uring_dispatch.specs.Window.{key_at, at, runs};
+ghost use Rattle.uring_dispatch.specs.Grouped.{Shows, IsGroupOf};
 ghost use Rattle.uring_dispatch.specs.Outstanding.{Stays};
 ghost use Rattle.uring_dispatch.specs.Choosing.{HasChosen};
 
+use crate::answers::IssuedPosting;
+use crate::group::Group;
 use crate::outstanding::Outstanding;
 use uring_entry::errno;
 
 impl Outstanding {
-    /// Carries out the cancel `n` of these user data, which is one of all or not, and gives its result.
+    /// Carries out the cancel `n` of these user data, which is one of all or not, and ends it. It has this key and is of this group, and whomever it chooses, both stay.
     #[inline(never)]
-    pub(crate) fn cancel(&mut self, n: u64, user_data: u64, all: bool) -> i32
-        requires there { is_some (at self.old.grouped.window n) ≡ true }
+    pub(crate) fn cancel(
+        &mut self,
+        n: u64,
+        key: usize,
+        group: &Group,
+        user_data: u64,
+        all: bool,
+    ) -> IssuedPosting
+        requires found { key_at self.old.grouped.window.first self.old.grouped.window.keys n ≡ Some key }
+        requires group { IsGroupOf self.old.grouped n group.now }
         requires waits { runs (at self.old.grouped.window n) ≡ false }
         requires last { self.old.grouped.groups.last ≡ None }
         ensures stays { Stays self.old self.new }
         ensures answer { (r : Requests) → Shows self.old.grouped r → user_data ≡ addr_of (entry_of r n)
-            → all ≡ is_cancel_all (entry_of r n) → result ≡ spec.cancel_result r n }
+            → is_cancel (entry_of r n) ≡ true → all ≡ is_cancel_all (entry_of r n)
+            → result ≡ with_posts r n (Ended (spec.cancel_result r n)) }
         ensures shows { (r : Requests) → Shows self.old.grouped r → user_data ≡ addr_of (entry_of r n)
             → is_cancel (entry_of r n) ≡ true → all ≡ is_cancel_all (entry_of r n)
-            → Shows self.new.grouped (with_issued_end r n result) }
-        ensures counts { HasLost self.old.grouped.window self.new.grouped.window 0 }
+            → Shows self.new.grouped (after_issue r n (without_posts result)) }
+        ensures counts { (room : ℕ) (between : Bool)
+            → IssueCounts (without_posts result) (dispatch_of self.old.grouped.window self.old.grouped.groups room between)
+            (dispatch_of self.new.grouped.window self.new.grouped.groups room between) }
     {
         let res = self.make_choices(n, user_data, all);
-        let Some(key) = self.grouped.window.key(n) else {
-            unreachable!()
-        };
-        let grouped = &self.grouped;
-        let group = grouped.group_of(n, grouped.window.by_key(key));
-        self.end_by_key(n, key, &group, res >= 0);
-        res
+        let posts = self.end_by_key(n, key, group, res >= 0);
+        IssuedPosting::Ended(res, posts)
     }
 
     /// Notes whom the cancel `n` of these user data chooses, and gives its result: of a cancel of one request ENOENT if there is none to choose, EALREADY if the one chosen is running, else 0.

@@ -5,9 +5,9 @@ ghost use Rattle.uring_entry.specs.Requests.{Requests, no_request, with_accepted
 ghost use Rattle.uring_entry.specs.Why.{why_of};
 ghost use Rattle.uring_dispatch.specs.Cancels.{found_by};
 ghost use Rattle.uring_dispatch.specs.Issuable.{issuables_of, issuable_from};
-ghost use Rattle.uring_dispatch.specs.IssueAndFinish.{issued, after_issue, finished, after_finish, posted_by, after_end};
+ghost use Rattle.uring_dispatch.specs.IssueAndFinish.{issued, after_issue, issued_posting, without_posts, finished, after_finish, posted_by, after_end};
 
-use crate::answers::{Finished, Found, Issued, Posts};
+use crate::answers::{Finished, Found, Issued, IssuedPosting, Posts};
 use crate::errors::ReserveError;
 use crate::outstanding::Outstanding;
 use std::alloc::Global;
@@ -139,6 +139,17 @@ impl Dispatch {
         ensures shows { (r : Requests) → ShowsRequests self.old r
             → ShowsRequests self.new (after_issue r n result) }
         ensures counts { IssueCounts result self.old self.new }
+    {
+        self.issue_posting(n).without_posts()
+    }
+
+    /// As `issue`, and tells what the end of a request that ended posts. It is `issue` for a caller that posts the completion. Our own rule.
+    pub fn issue_posting(&mut self, n: u64) -> IssuedPosting
+        requires { IsTrue self.old.is_between_calls }
+        ensures answer { (r : Requests) → ShowsRequests self.old r → result ≡ issued_posting r n }
+        ensures shows { (r : Requests) → ShowsRequests self.old r
+            → ShowsRequests self.new (after_issue r n (without_posts result)) }
+        ensures counts { IssueCounts (without_posts result) self.old self.new }
     {
         self.outstanding.issue(n)
     }

@@ -1,11 +1,11 @@
 //! What happens to the outstanding requests: they are issued, end and are finished.
 
-ghost use Rattle.std.specs.Prelude.{◌≡◌, ◌≢◌, ◌⊎◌, ℕ, ℤ, ◌+◌, ◌<◌, ◌≤◌, List, true, false, Some, None, is_some, Bool, not, ◌&&◌};
+ghost use Rattle.std.specs.Prelude.{◌≡◌, ◌≢◌, ◌⊎◌, ℕ, ℤ, ◌+◌, ◌<◌, ◌≤◌, List, true, Some, None, is_some, Bool, not, ◌&&◌};
 ghost use Rattle.uring_entry.specs.Requests.{Requests, entry_of, with_ended};
 ghost use Rattle.uring_entry.specs.Requests as spec;
 ghost use Rattle.uring_entry.specs.Groups.{earlier_of, is_before};
 ghost use Rattle.uring_entry.specs.Success as success;
-ghost use Rattle.uring_dispatch.specs.IssueAndFinish.{issued, issued_waiting, after_issue, posted_by, after_end};
+ghost use Rattle.uring_dispatch.specs.IssueAndFinish.{issued_posting, without_posts, after_issue, posts_of, posted_by, after_end};
 ghost use Rattle.uring_dispatch.specs.Dispatch.{dispatch_of, IssueCounts, EndCounts};
 ghost use Rattle.uring_dispatch.specs.Window.{key_at, at, end_of, runs, one_if, Changes};
 ghost use Rattle.uring_dispatch.specs.Held.{IsNext, HasLost};
@@ -13,7 +13,7 @@ ghost use Rattle.uring_dispatch.specs.Grouped.{Shows, IsGroupOf};
 ghost use Rattle.uring_dispatch.specs.Outstanding.{Stays};
 ghost use Rattle.uring_dispatch.specs.Waiting.{HaveLetGo, StandsAsBefore};
 
-use crate::answers::{Issued, Posts};
+use crate::answers::{IssuedPosting, Posts};
 use crate::group::{Group, earlier_of};
 use crate::grouped::Grouped;
 use crate::outstanding::Outstanding;
@@ -22,61 +22,43 @@ use crate::window::Window;
 use uring_entry::{Op, errno, succeeded};
 
 impl Outstanding {
-    /// Issues request `n`: it ends if it is doomed or a cancel that may be carried out, starts if it may, and is left as it is otherwise. It is looked up once.
-    pub(crate) fn issue(&mut self, n: u64) -> Issued
+    /// Issues request `n`: it ends if it is doomed or a cancel that may be carried out, starts if it may, and is left as it is otherwise. It is looked up once, and so is its group.
+    pub(crate) fn issue(&mut self, n: u64) -> IssuedPosting
         requires { self.old.grouped.groups.last ≡ None }
         ensures stays { Stays self.old self.new }
-        ensures answer { (r : Requests) → Shows self.old.grouped r → result ≡ issued r n }
+        ensures answer { (r : Requests) → Shows self.old.grouped r → result ≡ issued_posting r n }
         ensures shows { (r : Requests) → Shows self.old.grouped r
-            → Shows self.new.grouped (after_issue r n result) }
+            → Shows self.new.grouped (after_issue r n (without_posts result)) }
         ensures counts { (room : ℕ) (between : Bool)
-            → IssueCounts result (dispatch_of self.old.grouped.window self.old.grouped.groups room between)
+            → IssueCounts (without_posts result) (dispatch_of self.old.grouped.window self.old.grouped.groups room between)
             (dispatch_of self.new.grouped.window self.new.grouped.groups room between) }
     {
-        let Some(key) = self.grouped.window.key(n) else {
-            return Issued::Unknown;
+        let grouped = &self.grouped;
+        let Some(key) = grouped.window.key(n) else {
+            return IssuedPosting::Unknown;
         };
-        let request = self.grouped.window.by_key(key);
+        let request = grouped.window.by_key(key);
         if request.is_running {
-            return Issued::Running;
+            return IssuedPosting::Running;
         }
-        let request = *request;
-        self.issue_waiting(n, key, request)
-    }
-
-    /// Issues request `n`, which has this key and was not started. Its group is looked up once.
-    fn issue_waiting(&mut self, n: u64, key: usize, request: Request) -> Issued
-        requires last { self.old.grouped.groups.last ≡ None }
-        requires found { key_at self.old.grouped.window.first self.old.grouped.window.keys n ≡ Some key }
-        requires there { at self.old.grouped.window n ≡ Some request }
-        requires waits { request.is_running ≡ false }
-        ensures stays { Stays self.old self.new }
-        ensures answer { (r : Requests) → Shows self.old.grouped r → result ≡ issued_waiting r n }
-        ensures shows { (r : Requests) → Shows self.old.grouped r
-            → Shows self.new.grouped (after_issue r n result) }
-        ensures counts { (room : ℕ) (between : Bool)
-            → IssueCounts result (dispatch_of self.old.grouped.window self.old.grouped.groups room between)
-            (dispatch_of self.new.grouped.window self.new.grouped.groups room between) }
-    {
-        let group = self.grouped.group_of(n, &request);
+        let group = grouped.group_of(n, request);
         let Some(op) = request.op else {
-            self.end_by_key(n, key, &group, false);
-            return Issued::Ended(-errno::EINVAL);
+            let posts = self.end_by_key(n, key, &group, false);
+            return IssuedPosting::Ended(-errno::EINVAL, posts);
         };
-        if self.grouped.is_doomed_in(n, &request, &group) {
-            self.end_by_key(n, key, &group, false);
-            return Issued::Ended(-errno::ECANCELED);
+        if grouped.is_doomed_in(n, request, &group) {
+            let posts = self.end_by_key(n, key, &group, false);
+            return IssuedPosting::Ended(-errno::ECANCELED, posts);
         }
-        if !self.grouped.is_ready(n, &group) {
-            return Issued::NotReady;
+        if !grouped.is_ready(n, &group) {
+            return IssuedPosting::NotReady;
         }
-        if let Op::Cancel { all, .. } = op {
-            let user_data = request.entry.addr();
-            return Issued::Ended(self.cancel(n, user_data, all));
+        if let Op::Cancel { target, all } = op {
+            return self.cancel(n, key, &group, target, all);
         }
         self.grouped.window.start(n, key);
         self.waiting.forget(n);
-        Issued::Run(op)
+        IssuedPosting::Run(op)
     }
 
     /// Ends request `n` with this result if it is running, and leaves it as it is otherwise. It is looked up once, and its success tested once.
@@ -99,20 +81,27 @@ impl Outstanding {
             return None;
         }
         let is_success = succeeded(&request.entry, res);
-        let posts = Posts::of(&request.entry, is_success);
         let group = grouped.group_of(n, request);
-        self.end_by_key(n, key, &group, is_success);
-        Some(posts)
+        Some(self.end_by_key(n, key, &group, is_success))
     }
 
-    /// Ends request `n`, which has this key and is of this group, lets go what was kept of it, and tells anew who waits.
+    /// Ends request `n`, which has this key and is of this group, lets go what was kept of it, and tells anew who waits. Returns what its end posts.
     #[inline(always)]
-    pub(crate) fn end_by_key(&mut self, n: u64, key: usize, group: &Group, is_success: bool)
+    pub(crate) fn end_by_key(
+        &mut self,
+        n: u64,
+        key: usize,
+        group: &Group,
+        is_success: bool,
+    ) -> Posts
         requires found { key_at self.old.grouped.window.first self.old.grouped.window.keys n ≡ Some key }
         requires group { IsGroupOf self.old.grouped n group.now }
         requires last { self.old.grouped.groups.last ≡ None }
         ensures stays { Stays self.old self.new }
         ensures far { HaveLetGo self.new.waiting self.new.grouped.window.first }
+        ensures posts { (r : Requests) (res : ℤ) → Shows self.old.grouped r
+            → is_success ≡ success.is_success (entry_of r n) res
+            → result ≡ posts_of (entry_of r n) res }
         ensures shows { (r : Requests) (res : ℤ) (bytes : List ℕ) → Shows self.old.grouped r
             → is_success ≡ success.is_success (entry_of r n) res
             → Shows self.new.grouped (with_ended r n res bytes) }
@@ -127,12 +116,14 @@ impl Outstanding {
         let first = self.grouped.window.first();
         self.waiting.drop_before(first);
         self.by_user_data.drop_before(first);
+        others.posts
     }
 }
 
-/// Which others stand differently once a request has ended.
+/// What the end of a request posts, and which others stand differently once it has ended.
 #[derive(Clone, Copy)]
 struct Others {
+    posts: Posts,
     // The member that may be the least of its group now, or else the request itself.
     head: u64,
     // The members from the request on and before this number may be doomed now.
@@ -148,6 +139,9 @@ impl Grouped {
         ensures there { is_some (at self.old.window n) ≡ true }
         ensures last { self.new.groups.last ≡ None }
         ensures room { self.new.groups.room ≡ self.old.groups.room }
+        ensures posts { (r : Requests) (res : ℤ) → Shows self.old r
+            → is_success ≡ success.is_success (entry_of r n) res
+            → result.posts ≡ posts_of (entry_of r n) res }
         ensures shows { (r : Requests) (res : ℤ) (bytes : List ℕ) → Shows self.old r
             → is_success ≡ success.is_success (entry_of r n) res
             → Shows self.new (with_ended r n res bytes) }
@@ -160,10 +154,12 @@ impl Grouped {
             → StandsAsBefore self.old.window self.new.window self.old.groups self.new.groups k }
     {
         let request = self.window.end_one(n, key);
+        let posts = Posts::of(&request.entry, is_success);
         let least = least_left(&self.window, group, n);
         if least == group.end {
             self.groups.remove(request.group);
             return Others {
+                posts,
                 head: n,
                 doomed_end: n,
             };
@@ -178,6 +174,7 @@ impl Grouped {
         };
         self.groups.update(request.group, left);
         Others {
+            posts,
             head: least,
             doomed_end,
         }

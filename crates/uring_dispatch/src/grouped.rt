@@ -14,7 +14,7 @@ use uring_memory::Memory;
 pub(crate) struct Grouped {
     pub(crate) window: Window,
     pub(crate) groups: Groups,
-    ghost sound: { IsSound window groups },
+    ghost fits: { IsSound window groups },
 }
 
 impl Grouped {

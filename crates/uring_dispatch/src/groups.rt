@@ -101,7 +101,12 @@ impl Groups {
         ensures last { self.new.last ≡ (if is_linked entry.now then Some result else None) }
         ensures room { self.new.room + 1 ≡ self.old.room }
     {
-        let key = put(&mut self.groups, self.last, n, entry.is_drain(), is_faulty);
+        let member = Member {
+            number: n,
+            drains: entry.is_drain(),
+            is_faulty,
+        };
+        let key = member.join(&mut self.groups, self.last);
         note_barrier(&mut self.barriers, &self.groups[key], n, key);
         self.last = joinable(entry, key);
         self.room -= 1;
@@ -162,45 +167,51 @@ impl Groups {
     }
 }
 
-/// Puts member `n` into the last group, or into a new one. Returns the group's key.
-fn put(
-    groups: &mut Slab<Group>,
-    last: Option<usize>,
-    n: u64,
+/// A request that becomes a member of a group.
+#[derive(Clone, Copy)]
+struct Member {
+    number: u64,
+    // Whether it asks to drain.
     drains: bool,
     is_faulty: bool,
-) -> usize
-    requires room { HasRoomFor groups.old 1 }
-    requires there { (key : ℕ) → last ≡ Some key → ContainsKey groups.old key }
-    requires fits { n + 1 < 2 ^ 64 }
-    ensures was { get groups.old result ≡ last_group groups.old.slots last }
-    ensures key { (k : ℕ) → last ≡ Some k → result ≡ k }
-    ensures here { get groups.new result
-        ≡ Some (with_member (last_group groups.old.slots last) n drains is_faulty) }
-    ensures others { (other : ℕ) → other ≢ result → get groups.new other ≡ get groups.old other }
-    ensures len { slab_len groups.new ≤ slab_len groups.old + 1 }
-    ensures capacity { groups.new.capacity ≡ groups.old.capacity }
-{
-    match last {
-        Some(key) => {
-            let group = groups[key];
-            let joined = Group {
+}
+
+impl Member {
+    /// Joins the last group, or begins a new one. Returns the group's key.
+    fn join(self, groups: &mut Slab<Group>, last: Option<usize>) -> usize
+        requires room { HasRoomFor groups.old 1 }
+        requires there { (key : ℕ) → last ≡ Some key → ContainsKey groups.old key }
+        requires fits { self.number + 1 < 2 ^ 64 }
+        ensures was { get groups.old result ≡ last_group groups.old.slots last }
+        ensures key { (k : ℕ) → last ≡ Some k → result ≡ k }
+        ensures here { get groups.new result
+            ≡ Some (with_member (last_group groups.old.slots last) self.number self.drains self.is_faulty) }
+        ensures others { (other : ℕ) → other ≢ result → get groups.new other ≡ get groups.old other }
+        ensures len { slab_len groups.new ≤ slab_len groups.old + 1 }
+        ensures capacity { groups.new.capacity ≡ groups.old.capacity }
+    {
+        let n = self.number;
+        match last {
+            Some(key) => {
+                let group = groups[key];
+                let joined = Group {
+                    end: n + 1,
+                    fault: found_or(group.fault, self.is_faulty, n),
+                    drain: found_or(group.drain, self.drains, n),
+                    ..group
+                };
+                write(groups, key, joined);
+                key
+            }
+            None => groups.insert_reserved(Group {
+                from: n,
                 end: n + 1,
-                fault: found_or(group.fault, is_faulty, n),
-                drain: found_or(group.drain, drains, n),
-                ..group
-            };
-            write(groups, key, joined);
-            key
+                least: n,
+                fault: found_or(None, self.is_faulty, n),
+                drain: found_or(None, self.drains, n),
+                broken: None,
+            }),
         }
-        None => groups.insert_reserved(Group {
-            from: n,
-            end: n + 1,
-            least: n,
-            fault: found_or(None, is_faulty, n),
-            drain: found_or(None, drains, n),
-            broken: None,
-        }),
     }
 }
 

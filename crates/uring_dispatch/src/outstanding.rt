@@ -20,7 +20,7 @@ pub(crate) struct Outstanding {
     pub(crate) grouped: Grouped,
     pub(crate) waiting: Waiting,
     pub(crate) by_user_data: ByUserData,
-    ghost listed: { IsListed grouped.window grouped.groups waiting },
+    ghost told: { IsListed grouped.window grouped.groups waiting },
     ghost found: { AreFound grouped.window by_user_data },
 }
 

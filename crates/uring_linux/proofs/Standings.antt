@@ -7,8 +7,8 @@ use Rattle.uring_entry.specs.Success as success
 use Rattle.uring_entry.specs.Requests as manual
 use Rattle.uring_entry.specs.declared.errno.TheConstants.{ENOENT, EALREADY}
 use Rattle.uring_dispatch.specs.declared.answers.Posts.{Posts}
-use Rattle.uring_linux.specs.declared.answers.Issued.{Issued}
-use Rattle.uring_linux.specs.declared.answers.Issued.TheVariants.{Ended, NotReady, Running, Unknown}
+use Rattle.uring_dispatch.specs.declared.answers.IssuedPosting.{IssuedPosting}
+use Rattle.uring_dispatch.specs.declared.answers.IssuedPosting.TheVariants.{Ended, NotReady, Running, Unknown}
 use Rattle.uring_linux.proofs.WindowLemmas.{not_none}
 use Rattle.uring_linux.proofs.WindowCounts.{dispatch_shows}
 use Rattle.uring_linux.proofs.WindowEvents.{at_within, roomed}
@@ -73,7 +73,7 @@ healthy r n lt e =
 
 -- Answers.
 
-abbrev ask : (o run turn doomed deferred : Bool) (x y : Issued) → Issued
+abbrev ask : (o run turn doomed deferred : Bool) (x y : IssuedPosting) → IssuedPosting
 ask o run turn doomed deferred x y =
     if not o then Unknown else if run then Running else if not turn then NotReady else if doomed then x else if deferred then NotReady else y
 

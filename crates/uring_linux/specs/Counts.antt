@@ -1,8 +1,8 @@
 -- Glue. What each call changes in the numbers that the dispatcher tells.
 use Rattle.std.specs.Prelude.{◌≡◌, ◌+◌, ◌≤◌, Option, Some, None}
 use Rattle.uring_dispatch.specs.declared.answers.Posts.{Posts}
-use Rattle.uring_linux.specs.declared.answers.Issued.{Issued}
-use Rattle.uring_linux.specs.declared.answers.Issued.TheVariants.{Run, Ended}
+use Rattle.uring_dispatch.specs.declared.answers.IssuedPosting.{IssuedPosting}
+use Rattle.uring_dispatch.specs.declared.answers.IssuedPosting.TheVariants.{Run, Ended}
 use Rattle.uring_linux.specs.LinuxDispatch.{LinuxDispatch}
 
 -- the same numbers of requests, and no less room
@@ -44,7 +44,7 @@ pub record HasFinished (old new : LinuxDispatch) : Type 0 where
   pub between : new.is_between_calls ≡ old.is_between_calls
 
 -- what an issue with this answer changes in the numbers; a refusal changes nothing
-abbrev pub IssueCounts : Issued → LinuxDispatch → LinuxDispatch → Type 0
+abbrev pub IssueCounts : IssuedPosting → LinuxDispatch → LinuxDispatch → Type 0
 IssueCounts (Run op) old new = HasStarted old new
 IssueCounts (Ended res posted) old new = HasEnded old new
 IssueCounts _ old new = new ≡ old

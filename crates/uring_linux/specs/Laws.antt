@@ -1,15 +1,15 @@
 -- What follows from the definitions alone.
 use Rattle.std.specs.Prelude.{◌≡◌, ℕ, Bool, true, false, not, ◌⊎◌, List, Some, is_some}
 use Rattle.uring_entry.specs.Requests.{is_running, least_of, running_in}
-use Rattle.uring_linux.specs.declared.answers.Issued.{Issued}
-use Rattle.uring_linux.specs.declared.answers.Issued.TheVariants.{Run, Ended, NotReady, Running, Unknown}
+use Rattle.uring_dispatch.specs.declared.answers.IssuedPosting.{IssuedPosting}
+use Rattle.uring_dispatch.specs.declared.answers.IssuedPosting.TheVariants.{Run, Ended, NotReady, Running, Unknown}
 use Rattle.uring_linux.specs.Happenings.{Happening, made_by, MayHaveHappened}
 use Rattle.uring_linux.specs.LinuxRequests.{LinuxRequests, is_issuable, next_of}
 use Rattle.uring_linux.specs.Issues.{issued}
 use Rattle.uring_linux.specs.LinuxWhy.{least_free_of}
 
 -- whether an issue was refused, and so changed nothing
-abbrev pub is_refusal : Issued → Bool
+abbrev pub is_refusal : IssuedPosting → Bool
 is_refusal (Run op) = false
 is_refusal (Ended res posted) = false
 is_refusal NotReady = true

@@ -12,42 +12,41 @@ ghost use Rattle.uring_linux.specs.LinuxDispatch.{ShowsRequests};
 ghost use Rattle.uring_linux.specs.Groups.{IsMember};
 ghost use Rattle.uring_linux.specs.Window.{Tells, Shows, IsOpen};
 
-use crate::answers::Issued;
 use crate::dispatch::LinuxDispatch;
 use crate::group::Group;
 use crate::request::Request;
 use crate::window::Window;
-use uring_dispatch::Posts;
+use uring_dispatch::{IssuedPosting, Posts};
 use uring_entry::errno::{EALREADY, ECANCELED, EINVAL, ENOENT, EOPNOTSUPP};
 use uring_entry::{Sqe, opcode, prepare};
 
 impl LinuxDispatch {
     /// What the issue of request `n` is answered.
-    pub(crate) fn answer(&self, n: u64) -> Issued
+    pub(crate) fn answer(&self, n: u64) -> IssuedPosting
         ensures issued { (l : LinuxRequests) → ShowsRequests self.now l → result ≡ issued l n }
         ensures open { is_refusal result ≡ false → IsOpen self.now.held.window n false }
     {
         let Some(request) = self.window.get(n) else {
-            return Issued::Unknown;
+            return IssuedPosting::Unknown;
         };
         if request.has_ended {
-            return Issued::Unknown;
+            return IssuedPosting::Unknown;
         }
         if request.is_running {
-            return Issued::Running;
+            return IssuedPosting::Running;
         }
         if self.window.is_right_after(n) {
-            return Issued::NotReady;
+            return IssuedPosting::NotReady;
         }
         let group = self.window.group_of(request);
         if !self.window.is_in_turn(n, group) {
-            return Issued::NotReady;
+            return IssuedPosting::NotReady;
         }
         if group.is_doomed(n) {
             return self.window.ended(n, request, group, doomed_result(request));
         }
         if self.drains.is_deferred(n) {
-            return Issued::NotReady;
+            return IssuedPosting::NotReady;
         }
         self.window.ready(n, request, group)
     }
@@ -82,16 +81,16 @@ impl Window {
     }
 
     /// The kept request `n` ends as it is issued.
-    fn ended(&self, n: u64, request: &Request, group: Group, res: i32) -> Issued
+    fn ended(&self, n: u64, request: &Request, group: Group, res: i32) -> IssuedPosting
         ensures { (r : Requests) → Shows self.now r → Tells request.now r n
             → IsMember r n group → self.now.first ≤ group.from → result ≡ ended_with r n res }
     {
         let posts = self.posts(n, request, group, res);
-        Issued::Ended(res, posts)
+        IssuedPosting::Ended(res, posts)
     }
 
     /// The kept request `n` may start.
-    fn ready(&self, n: u64, request: &Request, group: Group) -> Issued
+    fn ready(&self, n: u64, request: &Request, group: Group) -> IssuedPosting
         ensures { (r : Requests) → Shows self.now r → Tells request.now r n
             → IsMember r n group → self.now.first ≤ group.from → is_faulty (entry_of r n) ≡ false
             → result ≡ issued_ready r n }
@@ -101,8 +100,8 @@ impl Window {
             return self.ended(n, request, group, res);
         }
         match prepare(&request.entry) {
-            Ok(op) => Issued::Run(op),
-            Err(_) => Issued::NotReady,
+            Ok(op) => IssuedPosting::Run(op),
+            Err(_) => IssuedPosting::NotReady,
         }
     }
 

@@ -11,7 +11,6 @@ ghost use Rattle.uring_linux.specs.Window.{at, is_unended, IsOpen};
 ghost use Rattle.uring_linux.specs.Window as spec;
 ghost use Rattle.uring_linux.specs.LinuxRequests as spec_of;
 
-use crate::answers::Issued;
 use crate::drains::Drains;
 use crate::entries::{asks_to_drain, asks_to_skip};
 use crate::group::with_member;
@@ -19,7 +18,7 @@ use crate::request::{Request, Test};
 use crate::window::Window;
 use std::alloc::Global;
 use std::marker::Model;
-use uring_dispatch::{Posts, ReserveError};
+use uring_dispatch::{IssuedPosting, Posts, ReserveError};
 use uring_entry::{Op, Sqe, prepare, succeeded};
 use uring_memory::Memory;
 
@@ -169,7 +168,7 @@ impl LinuxDispatch {
     /// Issues request `n`, any number. It ends in its turn if it is doomed, with -22 (EINVAL) or -95 (EOPNOTSUPP) if it has a fault itself and else with -125 (ECANCELED), or if it is a cancel that may start, with -114 (EALREADY) or -2 (ENOENT), or with 0 if it is one of all; otherwise it starts if it may.
     ///
     /// Refused with `Unknown` if it isn't outstanding, with `Running` if it runs already, and with `NotReady` if an earlier member of its group hasn't ended, or its group is deferred. A refusal changes nothing. The order of these is our own rule.
-    pub fn issue(&mut self, n: u64) -> Issued
+    pub fn issue(&mut self, n: u64) -> IssuedPosting
         requires { IsTrue self.old.is_between_calls }
         ensures answer { (l : LinuxRequests) → ShowsRequests self.old l → result ≡ issued l n }
         ensures shows { (l : LinuxRequests) → ShowsRequests self.old l
@@ -180,8 +179,8 @@ impl LinuxDispatch {
     {
         let issued = self.answer(n);
         match issued {
-            Issued::Run(_) => self.start(n),
-            Issued::Ended(res, _) => self.end(n, res),
+            IssuedPosting::Run(_) => self.start(n),
+            IssuedPosting::Ended(res, _) => self.end(n, res),
             _ => {}
         }
         issued

@@ -7,8 +7,8 @@ ghost use Rattle.uring_linux.specs.LinuxDispatch.{ShowsRequests};
 ghost use Rattle.uring_linux.specs.LinuxRequests as spec;
 ghost use Rattle.uring_linux.specs.LinuxRequests.{LinuxRequests};
 
-use crate::answers::Issued;
 use crate::dispatch::LinuxDispatch;
+use uring_dispatch::IssuedPosting;
 
 impl LinuxDispatch {
     /// The least request from `n` on, any number, that `issue` doesn't refuse, if there is one: so all of them, in order, from 0 on, each time from the number after the last. It looks at two members of each group at most. Our own rule.
@@ -78,8 +78,8 @@ impl LinuxDispatch {
             return false;
         }
         match self.answer(n) {
-            Issued::Run(_) | Issued::Ended(_, _) => true,
-            Issued::NotReady | Issued::Running | Issued::Unknown => false,
+            IssuedPosting::Run(_) | IssuedPosting::Ended(_, _) => true,
+            IssuedPosting::NotReady | IssuedPosting::Running | IssuedPosting::Unknown => false,
         }
     }
 }

@@ -19,13 +19,11 @@ mod why;
 
 // what happens to them
 mod answer;
-mod answers;
 mod dispatch;
 
 // laws of the definitions alone
 pub mod laws;
 
-pub use answers::Issued;
 pub use dispatch::LinuxDispatch;
 pub use entries::{asks_to_drain, asks_to_skip};
-pub use uring_dispatch::{Found, Posts, ReserveError};
+pub use uring_dispatch::{Found, IssuedPosting, Posts, ReserveError};

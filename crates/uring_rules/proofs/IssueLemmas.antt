@@ -1,11 +1,12 @@
--- What an end makes of the drains, and of the requests that are shown.
-use Rattle.std.proofs.Common.{◌≡◌, ℕ, ℤ, true, false, not, ◌&&◌, ◌==◌, List, Option, Some, None, length, sym, ◌∙◌, ap, subst}
+-- What an issue and an end make of the drains, and of the requests that are shown.
+use Rattle.std.proofs.Common.{◌≡◌, ℕ, ℤ, true, false, not, ◌&&◌, ◌==◌, List, Option, Some, None, length, sym, ◌∙◌, ap, subst, rules}
 use Rattle.uring_entry.specs.Requests as manual
 use Rattle.uring_entry.specs.Requests.{Requests, has_ended, no_bytes}
 use Rattle.uring_entry.proofs.BelowLemmas.{some_below_same}
 use Rattle.uring_entry.proofs.RequestLemmas.{list_any_push}
 use Rattle.uring_dispatch.specs.Dispatch as manual_dispatch
 use Rattle.uring_dispatch.specs.Dispatch.{Dispatch}
+use Rattle.uring_dispatch.specs.declared.answers.IssuedPosting.{IssuedPosting}
 use Rattle.uring_dispatch.specs.declared.answers.Posts.{Posts}
 use Rattle.uring_dispatch.specs.IssueAndFinish as manual_answers
 use Rattle.uring_linux.specs.declared.deferred.Deferred.{Deferred}
@@ -15,7 +16,7 @@ use Rattle.uring_linux.specs.LinuxDispatch as linux_dispatch
 use Rattle.uring_linux.specs.LinuxDispatch.{LinuxDispatch}
 use Rattle.uring_linux.specs.LinuxRequests as linux
 use Rattle.uring_linux.specs.LinuxRequests.{LinuxRequests, is_alone}
-use Rattle.uring_rules.specs.RulesIssues.{after_end, ended_by}
+use Rattle.uring_rules.specs.RulesIssues.{issued, after_issue, after_end, ended_by}
 
 -- Which bytes an end gives makes no difference to the drains.
 
@@ -37,7 +38,25 @@ end_by_linux l n res bytes =
     ap (λ alone. record { requests = manual.with_ended l.requests n res bytes; drains = record l.drains { deferred = still_deferred alone l.drains.deferred } })
     (alone_alike l.requests n res bytes no_bytes l.drains.deferred)
 
--- what either dispatcher shows after an end
+-- what either dispatcher answers to an issue
+pub answered_manual : (l : LinuxRequests) (n : ℕ) → manual_answers.issued_posting l.requests n ≡ issued false l n
+answered_manual l n = search rules
+
+pub answered_linux : (l : LinuxRequests) (n : ℕ) → linux_answers.issued l n ≡ issued true l n
+answered_linux l n = search rules
+
+-- what it shows after one
+pub issue_manual : (d : Dispatch) (l : LinuxRequests) (n : ℕ) (a : IssuedPosting)
+    → manual_dispatch.ShowsRequests d (manual_answers.after_issue l.requests n (manual_answers.without_posts a))
+    → manual_dispatch.ShowsRequests d (after_issue false l n a).requests
+issue_manual d l n a h = search rules
+
+pub issue_linux : (d : LinuxDispatch) (l : LinuxRequests) (n : ℕ) (a : IssuedPosting)
+    → linux_dispatch.ShowsRequests d (linux_answers.after_issue l n a)
+    → linux_dispatch.ShowsRequests d (after_issue true l n a)
+issue_linux d l n a h = search rules
+
+-- what it shows after an end
 pub end_manual : (d : Dispatch) (l : LinuxRequests) (n : ℕ) (res : ℤ) (bytes : List ℕ) (posted : Option Posts)
     → manual_dispatch.ShowsRequests d (manual_answers.after_end l.requests n res bytes posted)
     → manual_dispatch.ShowsRequests d (after_end false l n res bytes posted).requests

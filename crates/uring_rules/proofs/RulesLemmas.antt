@@ -11,7 +11,7 @@ use Rattle.uring_dispatch.specs.declared.answers.Posts.{Posts}
 use Rattle.uring_linux.specs.LinuxRequests as linux
 use Rattle.uring_linux.specs.LinuxRequests.{LinuxRequests, is_in_turn, is_deferred, is_refused_drain}
 use Rattle.uring_linux.proofs.Standings.{healthy}
-use Rattle.uring_rules.specs.declared.answers.Issued.TheVariants.{Run, Ended, NotReady, Running, Unknown}
+use Rattle.uring_dispatch.specs.declared.answers.IssuedPosting.TheVariants.{Run, Ended, NotReady, Running, Unknown}
 use Rattle.uring_rules.specs.Rules.{ends_doomed, may_start, doomed_result, cancel_result, is_issuable}
 use Rattle.uring_rules.specs.RulesIssues.{issued, posts_of}
 use Rattle.uring_rules.specs.RulesLaws.{is_refusal, IsPlain, IsDoomedResult, CancelEnds}

@@ -7,8 +7,8 @@ use Rattle.uring_linux.specs.LinuxDispatch as linux
 use Rattle.uring_linux.specs.LinuxRequests.{LinuxRequests}
 use Rattle.uring_rules.specs.declared.kind.Kind.{Kind}
 use Rattle.uring_rules.specs.declared.kind.Kind.TheVariants.{Manual, Linux}
-use Rattle.uring_rules.specs.declared.answers.Issued.{Issued}
-use Rattle.uring_rules.specs.declared.answers.Issued.TheVariants.{Run, Ended}
+use Rattle.uring_dispatch.specs.declared.answers.IssuedPosting.{IssuedPosting}
+use Rattle.uring_dispatch.specs.declared.answers.IssuedPosting.TheVariants.{Run, Ended}
 
 -- The dispatcher: numbers, and what it keeps.
 pub record Rules : Type 0 where
@@ -112,7 +112,7 @@ pub record HasFinished (old new : Rules) : Type 0 where
   pub between : new.is_between_calls ≡ old.is_between_calls
 
 -- what an issue with this answer changes in the numbers; a refusal changes nothing
-abbrev pub IssueCounts : Issued → Rules → Rules → Type 0
+abbrev pub IssueCounts : IssuedPosting → Rules → Rules → Type 0
 IssueCounts (Run op) old new = HasStarted old new
 IssueCounts (Ended res posted) old new = HasEnded old new
 IssueCounts _ old new = new ≡ old

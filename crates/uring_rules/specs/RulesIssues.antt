@@ -7,8 +7,8 @@ use Rattle.uring_entry.specs.Requests.{Requests, entry_of, is_outstanding, is_ru
 use Rattle.uring_dispatch.specs.declared.answers.Posts.{Posts}
 use Rattle.uring_dispatch.specs.declared.answers.Posts.TheVariants.{Completion, Nothing}
 use Rattle.uring_linux.specs.LinuxRequests.{LinuxRequests, with_started}
-use Rattle.uring_rules.specs.declared.answers.Issued.{Issued}
-use Rattle.uring_rules.specs.declared.answers.Issued.TheVariants.{Run, Ended, NotReady, Running, Unknown}
+use Rattle.uring_dispatch.specs.declared.answers.IssuedPosting.{IssuedPosting}
+use Rattle.uring_dispatch.specs.declared.answers.IssuedPosting.TheVariants.{Run, Ended, NotReady, Running, Unknown}
 use Rattle.uring_rules.specs.Rules.{ends_doomed, doomed_result, may_start, cancel_result, posts, with_issued_end, drains_ended}
 
 -- what the end of n with this result posts
@@ -17,11 +17,11 @@ posts_of is_linux r n res =
     if posts is_linux r n res then Completion (user_data_of (entry_of r n)) else Nothing
 
 -- n ends as it is issued, with this result
-abbrev pub ended_with : (is_linux : Bool) → Requests → ℕ → ℤ → Issued
+abbrev pub ended_with : (is_linux : Bool) → Requests → ℕ → ℤ → IssuedPosting
 ended_with is_linux r n res = Ended res (posts_of is_linux r n res)
 
 -- what the issue of a request is answered that was not started
-abbrev pub issued_waiting : (is_linux : Bool) → LinuxRequests → ℕ → Issued
+abbrev pub issued_waiting : (is_linux : Bool) → LinuxRequests → ℕ → IssuedPosting
 issued_waiting is_linux l n =
     if ends_doomed is_linux l.requests n
     then ended_with is_linux l.requests n (doomed_result is_linux l.requests n) else
@@ -31,7 +31,7 @@ issued_waiting is_linux l n =
     Run (operation_of (entry_of l.requests n))
 
 -- what the issue of n is answered. The order of the tests is our own rule
-abbrev pub issued : (is_linux : Bool) → LinuxRequests → ℕ → Issued
+abbrev pub issued : (is_linux : Bool) → LinuxRequests → ℕ → IssuedPosting
 issued is_linux l n =
     if not (is_outstanding l.requests n) then Unknown else
     if is_running l.requests n then Running else
@@ -45,7 +45,7 @@ ended_at_issue is_linux l n res = record {
 }
 
 -- the requests after n was issued with this answer
-abbrev pub after_issue : (is_linux : Bool) → LinuxRequests → ℕ → Issued → LinuxRequests
+abbrev pub after_issue : (is_linux : Bool) → LinuxRequests → ℕ → IssuedPosting → LinuxRequests
 after_issue is_linux l n (Run op) = with_started l n
 after_issue is_linux l n (Ended res posted) = ended_at_issue is_linux l n res
 after_issue is_linux l n _ = l

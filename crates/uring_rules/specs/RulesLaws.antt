@@ -6,14 +6,14 @@ use Rattle.uring_entry.specs.Layout.{Sqe}
 use Rattle.uring_entry.specs.Preparation.{is_faulty, is_cancel, is_cancel_all}
 use Rattle.uring_entry.specs.Requests.{Requests, entry_of}
 use Rattle.uring_linux.specs.LinuxRequests.{LinuxRequests}
-use Rattle.uring_rules.specs.declared.answers.Issued.{Issued}
-use Rattle.uring_rules.specs.declared.answers.Issued.TheVariants.{Run, Ended, NotReady, Running, Unknown}
+use Rattle.uring_dispatch.specs.declared.answers.IssuedPosting.{IssuedPosting}
+use Rattle.uring_dispatch.specs.declared.answers.IssuedPosting.TheVariants.{Run, Ended, NotReady, Running, Unknown}
 use Rattle.uring_rules.specs.Rules.{is_issuable, doomed_result, cancel_result}
 use Rattle.uring_rules.specs.RulesCalls.{all_accepted_by, cut_by, called_by}
 use Rattle.uring_rules.specs.RulesIssues.{issued}
 
 -- whether an issue was refused, and so changed nothing
-abbrev pub is_refusal : Issued → Bool
+abbrev pub is_refusal : IssuedPosting → Bool
 is_refusal (Run op) = false
 is_refusal (Ended res posted) = false
 is_refusal NotReady = true

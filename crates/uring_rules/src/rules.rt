@@ -8,13 +8,11 @@ ghost use Rattle.uring_rules.specs.Posting.{would_post};
 ghost use Rattle.uring_rules.specs.RulesCalls.{accepted_by, cut_by, called_by};
 ghost use Rattle.uring_rules.specs.RulesIssues.{issued, after_issue, posted_by, after_end};
 
-use crate::answers::Issued;
-use crate::issues::{issue_linux, issue_manual};
 use crate::kind::Kind;
 use crate::posting::would_post_manual;
 use std::alloc::Global;
 use std::marker::Model;
-use uring_dispatch::{Dispatch, Found, Posts, ReserveError};
+use uring_dispatch::{Dispatch, Found, IssuedPosting, Posts, ReserveError};
 use uring_entry::{Op, Sqe, Why};
 use uring_linux::LinuxDispatch;
 use uring_memory::Memory;
@@ -154,7 +152,7 @@ impl Rules {
     /// Issues request `n`, any number. It ends at once if it is doomed and, by Linux's rules, in its turn, or if it is a cancel that may start; otherwise it starts if it may. The answer tells with which result, and what its end posts.
     ///
     /// Refused with `Unknown` if it isn't outstanding, with `Running` if it runs already, and else with `NotReady` if it waits. A refusal changes nothing. The order of these is our own rule.
-    pub fn issue(&mut self, n: u64) -> Issued
+    pub fn issue(&mut self, n: u64) -> IssuedPosting
         requires { IsTrue self.old.is_between_calls }
         ensures rules { self.new.linux ≡ self.old.linux }
         ensures answer { (l : LinuxRequests) → ShowsRequests self.old l
@@ -164,8 +162,8 @@ impl Rules {
         ensures counts { IssueCounts result self.old self.new }
     {
         match &mut self.kind {
-            Kind::Manual(dispatch) => issue_manual(dispatch, n),
-            Kind::Linux(dispatch) => issue_linux(dispatch, n),
+            Kind::Manual(dispatch) => dispatch.issue_posting(n),
+            Kind::Linux(dispatch) => dispatch.issue(n),
         }
     }
 

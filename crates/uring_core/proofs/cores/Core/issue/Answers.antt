@@ -1,5 +1,5 @@
 use Rattle.std.proofs.Common.{refl, rules}
-use Rattle.uring_rules.specs.declared.answers.Issued.TheVariants as issue
+use Rattle.uring_dispatch.specs.declared.answers.IssuedPosting.TheVariants as issue
 use Rattle.uring_core.proofs.Common.{to_z-of_z, w32}
 use Rattle.uring_core.proofs.CoreSteps.{core_after}
 use Rattle.uring_core.proofs.CoreEnds.{run_goes, issue_ended_goes, issue_refused_goes}

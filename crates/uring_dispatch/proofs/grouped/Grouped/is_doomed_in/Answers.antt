@@ -6,18 +6,18 @@ use Rattle.uring_dispatch.proofs.grouped.Grouped.is_doomed_in.Goals as goal
 pub returns-then-request : goal.returns-then-request
 returns-then-request c = λ r h.
     sym
-    (doomed_held (in_group c.args.self.now.sound h c.requires.there (c.requires.group _ c.requires.there))
+    (doomed_held (in_group c.args.self.now.fits h c.requires.there (c.requires.group _ c.requires.there))
     ∙ or_right _ _ c.if-request.true)
 
 pub returns-then-is_some : goal.returns-then-is_some
 returns-then-is_some c = λ r h.
     sym
-    (doomed_held (in_group c.args.self.now.sound h c.requires.there (c.requires.group _ c.requires.there))
+    (doomed_held (in_group c.args.self.now.fits h c.requires.there (c.requires.group _ c.requires.there))
     ∙ or_left _ _ (or_left _ _ (sym c.is_some.ensures ∙ c.if-is_some.true)))
 
 pub returns : goal.returns
 returns c = λ r h.
     c.is_before.ensures
     ∙ sym
-    (doomed_held (in_group c.args.self.now.sound h c.requires.there (c.requires.group _ c.requires.there))
+    (doomed_held (in_group c.args.self.now.fits h c.requires.there (c.requires.group _ c.requires.there))
     ∙ doomed_rest _ _ _ (sym c.is_some.ensures ∙ c.if-is_some.false) c.if-request.false)

@@ -4,7 +4,7 @@ use Rattle.uring_dispatch.proofs.outstanding.Outstanding.close.Goals as goal
 
 pub invariant_of-self : goal.invariant_of-self
 invariant_of-self c =
-    ((rw c.close.ensures (cut_sound _ _ c.args.self.now.grouped.sound), tt), (rw c.close.ensures (cut_listed _ _ _ c.args.self.now.listed), (c.args.self.now.found, tt)))
+    ((rw c.close.ensures (cut_sound _ _ c.args.self.now.grouped.fits), tt), (rw c.close.ensures (cut_listed _ _ _ c.args.self.now.told), (c.args.self.now.found, tt)))
 
 pub returns-clause-shows : goal.returns-clause-shows
 returns-clause-shows c = λ r h.

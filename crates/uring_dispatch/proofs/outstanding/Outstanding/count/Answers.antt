@@ -5,7 +5,7 @@ use Rattle.uring_dispatch.proofs.IssuableLemmas.{count_start, count_end}
 use Rattle.uring_dispatch.proofs.outstanding.Outstanding.count.Goals as goal
 
 pub loop-place-init : goal.loop-place-init
-loop-place-init c = sym (count_start c.limit-limit.result c.first-place.result c.args.self.now.listed c.first-place.ensures.before)
+loop-place-init c = sym (count_start c.limit-limit.result c.first-place.result c.args.self.now.told c.first-place.ensures.before)
 
 pub overflow_add-total : goal.overflow_add-total
 overflow_add-total c =
@@ -18,4 +18,4 @@ overflow_add-total c =
 pub returns : goal.returns
 returns c = λ r h.
     c.loop-place.invariant
-    ∙ count_end c.limit-limit.result c.args.self.now.grouped.sound h c.args.self.now.listed (c.limit-limit.ensures r h) (64 * c.loop-place.place) (omega (arith, c.end.ensures.value))
+    ∙ count_end c.limit-limit.result c.args.self.now.grouped.fits h c.args.self.now.told (c.limit-limit.ensures r h) (64 * c.loop-place.place) (omega (arith, c.end.ensures.value))

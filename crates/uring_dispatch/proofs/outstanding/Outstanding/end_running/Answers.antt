@@ -1,6 +1,5 @@
 use Rattle.std.proofs.Common.{◌≡◌, sym, ◌∙◌, ap, arith, refl, rules, Some}
-use Rattle.uring_dispatch.proofs.Common.{Sqe, at, is_success, one_if, runs, to_z-of_z, w32}
-use Rattle.uring_dispatch.specs.IssueAndFinish.{posts_of}
+use Rattle.uring_dispatch.proofs.Common.{at, one_if, runs, to_z-of_z, w32}
 use Rattle.uring_dispatch.proofs.WindowLemmas.{at_keyed}
 use Rattle.uring_dispatch.proofs.HeldLemmas.{running_none, running_some}
 use Rattle.uring_dispatch.proofs.Issues.{posted_none, posted_some}
@@ -20,18 +19,17 @@ group_of-group-requires c = at_keyed _ c.args.n _ (sym c.in-Some.ensures.value) 
 
 pub returns-clause-answer : goal.returns-clause-answer
 returns-clause-answer c = λ r h.
+    let same = to_z-of_z w32 c.args.res (search rules) in
     let there = at_keyed _ c.args.n _ (sym c.in-Some.ensures.value) ∙ c.by_key-request.ensures in
-    let entry = (h.shown c.args.n _ there).entry in
-    let success = rw (to_z-of_z w32 c.args.res (search rules)) at c.succeeded-is_success.ensures in
-    ap Some (c.of-posts.ensures c.args.res success ∙ ap (λ (e : Sqe). posts_of e c.args.res) entry)
+    let success = rw (same, (h.shown c.args.n _ there).entry) at c.succeeded-is_success.ensures in
+    ap Some (c.end_by_key.ensures.posts r c.args.res h success)
     ∙ posted_some r c.args.n c.args.res (running_some h _ there ∙ c.if-not-request.false)
 
 pub returns-clause-shows : goal.returns-clause-shows
 returns-clause-shows c = λ r bytes h.
+    let same = to_z-of_z w32 c.args.res (search rules) in
     let there = at_keyed _ c.args.n _ (sym c.in-Some.ensures.value) ∙ c.by_key-request.ensures in
-    let success = rw (to_z-of_z w32 c.args.res (search rules)) at c.succeeded-is_success.ensures in
-    c.end_by_key.ensures.shows r c.args.res bytes h
-    (success ∙ ap (λ (e : Sqe). is_success e c.args.res) (h.shown c.args.n _ there).entry)
+    c.end_by_key.ensures.shows r c.args.res bytes h (rw (same, (h.shown c.args.n _ there).entry) at c.succeeded-is_success.ensures)
 
 pub returns-clause-counts : goal.returns-clause-counts
 returns-clause-counts c = λ room between.

@@ -9,7 +9,7 @@ pub invariant_of-self : goal.invariant_of-self
 invariant_of-self g c =
     let alike = alike_records _ _ c.reserve_in.ensures.same in
     record {
-      listed = listed_alike _ _ _ _ _ alike c.args.self.now.listed;
+      told = listed_alike _ _ _ _ _ alike c.args.self.now.told;
       found = found_on _ _ _ c.args.self.now.found (goes_alike _ _ _ _ alike) (omega (arith, alike.end, c.args.self.now.found.places));
     }
 
@@ -18,7 +18,7 @@ invariant_of-self-5 g c =
     let alike = alike_records _ _ c.reserve_in.ensures.same in
     let was = found_on _ _ _ c.args.self.now.found (goes_alike _ _ _ _ alike) (omega (arith, alike.end, c.args.self.now.found.places)) in
     record {
-      listed = same_listed _ _ _ _ (listed_alike _ _ _ _ _ alike c.args.self.now.listed) c.reserve_in-2.ensures.same_heads c.reserve_in-2.ensures.same_doomed;
+      told = same_listed _ _ _ _ (listed_alike _ _ _ _ _ alike c.args.self.now.told) c.reserve_in-2.ensures.same_heads c.reserve_in-2.ensures.same_doomed;
       found = found_renewed _ _ _ c.first-first.result was c.reserve_in-3.ensures.same c.first-first.ensures.within c.first-first.ensures.before
           (c.reserve_in-3.ensures.kept (end_of c.reserve_in.new.self.window) (omega (arith, c.end.ensures.value)) was.places);
     }
@@ -27,6 +27,6 @@ pub invariant_of-self-in-Err-reserve_in-2 : goal.invariant_of-self-in-Err-reserv
 invariant_of-self-in-Err-reserve_in-2 g c =
     let alike = alike_records _ _ c.reserve_in.ensures.same in
     record {
-      listed = same_listed _ _ _ _ (listed_alike _ _ _ _ _ alike c.args.self.now.listed) c.reserve_in-2.ensures.same_heads c.reserve_in-2.ensures.same_doomed;
+      told = same_listed _ _ _ _ (listed_alike _ _ _ _ _ alike c.args.self.now.told) c.reserve_in-2.ensures.same_heads c.reserve_in-2.ensures.same_doomed;
       found = found_on _ _ _ c.args.self.now.found (goes_alike _ _ _ _ alike) (omega (arith, alike.end, c.args.self.now.found.places));
     }
