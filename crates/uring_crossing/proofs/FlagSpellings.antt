@@ -1,20 +1,15 @@
 -- The letters of flags, as they are read.
-use Rattle.std.proofs.Common.{◌≡◌, ℕ, zero, suc, ◌<◌, Bool, true, false, eqb, ◌&&◌, ◌==◌, if◌then◌else◌, List, [], ◌∷◌, ◌++◌, length, length-append, refl, ap, ◌∙◌, inl, inr, append-nil, append_assoc, arith}
+use Rattle.std.proofs.Common.{◌≡◌, ℕ, zero, suc, ◌<◌, Bool, true, false, eqb, ◌&&◌, ◌==◌, if◌then◌else◌, List, [], ◌∷◌, ◌++◌, length, length-append, refl, ap, ◌∙◌, inl, inr, append-nil, arith}
 use Rattle.uring_crossing.proofs.Common.{and_parts, bit_and, cases_Bool, codes, eqb-false, eqb-true, named_if, sum_by}
 use Rattle.std.specs.List.{AllByRecursion, filter}
 use Rattle.uring_text.specs.Tokens.{flag_value, NoneAgain, AreFlags}
 use Rattle.uring_crossing.specs.Traces.FlagLetters.{has_flag, letters_of, flags_text}
 
--- what is appended in five parts
-pub five_parts : (old a b c d new u v w x y : List ℕ) → a ≡ old ++ u → b ≡ a ++ v → c ≡ b ++ w → d ≡ c ++ x
-    → new ≡ d ++ y → new ≡ old ++ (u ++ (v ++ (w ++ (x ++ y))))
-five_parts old a b c d new u v w x y e f g h i = grind (arith, append_assoc)
-
 abbrev letter_part : (flags letter : ℕ) → List ℕ
 letter_part flags letter = named_if (has_flag flags letter) (letter ∷ [])
 
 pub parts_of : (flags : ℕ)
-    → letter_part flags 68 ++ (letter_part flags 76 ++ (letter_part flags 72 ++ (letter_part flags 65 ++ letter_part flags 83))) ≡ letters_of flags
+    → letter_part flags 68 ++ letter_part flags 76 ++ letter_part flags 72 ++ letter_part flags 65 ++ letter_part flags 83 ≡ letters_of flags
 parts_of flags = grind arith
 
 -- letters, or `-` where there are none

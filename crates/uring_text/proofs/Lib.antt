@@ -21,4 +21,5 @@ pub mod Splits
 pub mod Cutting
 -- What is written:
 pub mod Writing
+pub mod TermLaws
 pub mod VisibleLaws

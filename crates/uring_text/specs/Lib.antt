@@ -14,3 +14,4 @@ pub mod Flaws
 pub mod Reading
 pub mod KeptLine
 pub mod Streams
+pub mod Terms

@@ -3,7 +3,9 @@
 ghost use Rattle.std.specs.Prelude.{◌≡◌, ◌++◌, ℕ, OnOk, IsOk, string_bytes};
 ghost use Rattle.uring_text.specs.Completions.{completion_text, trimmed};
 
-use crate::growth::{TextMemory, push_hex, push_named, push_signed, push_text};
+use crate::growth::{TextMemory, push_hex, push_text};
+use crate::terms::Term::{Named, Signed, Text};
+use crate::terms::push_terms;
 use std::alloc::{AllocError, Global};
 use uring_entry::Cqe;
 
@@ -25,10 +27,13 @@ pub fn push_completion_in<M: TextMemory>(
         (string_bytes text.new ≡ string_bytes text.old ++ completion_text completion.now) }
     ensures granted { ((n : ℕ) → M.grants memory.now n) → IsOk result }
 {
-    push_named(memory, text, "cqe ", completion.user_data())?;
-    push_text(memory, text, " ")?;
-    push_signed(memory, text, completion.res())?;
-    push_text(memory, text, " ")?;
+    let terms = [
+        Named("cqe ", completion.user_data()),
+        Text(" "),
+        Signed(completion.res()),
+        Text(" "),
+    ];
+    push_terms(memory, text, &terms)?;
     let payload = completion.payload();
     let bytes = without_zeros(&payload);
     if bytes.is_empty() {

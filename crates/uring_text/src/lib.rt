@@ -24,6 +24,7 @@ mod reach;
 // what is written
 mod completion_text;
 mod growth;
+mod terms;
 mod visible;
 
 // laws of the definitions alone
@@ -39,6 +40,7 @@ pub use number_tokens::{spelled_long, spelled_number, spelled_signed};
 pub use place::{Kind, Place, is_of_kind};
 pub use reach::{Reach, entry_reach, kinds_reach};
 pub use streams::{Calls, read_once, write_all};
+pub use terms::{Term, push_terms};
 pub use tokens::{is_name, split_tokens, split_tokens_in};
 pub use trace_fault::TraceFault;
 pub use visible::{push_visible, push_visible_in, push_visible_line, push_visible_line_in};

@@ -111,7 +111,7 @@ abbrev pub Far : Telling → Known → Known → Known → Known → Known → K
 Far telling a r d w x e s = FarBy a r d w x e (HasToldBy telling s)
 
 -- bytes that were read, with what was written for them
-far_by : (a r r' d w w' x e e' : Known) (P Q : List ℕ → List ℕ → List ℕ → Type 0) (more : List ℕ) → Consumes r r' more
+pub far_by : (a r r' d w w' x e e' : Known) (P Q : List ℕ → List ℕ → List ℕ → Type 0) (more : List ℕ) → Consumes r r' more
     → ((before told noted : List ℕ) → P before told noted → WroteBoth w w' e e' told noted (Q (before ++ more)))
     → FarBy a r d w x e P → FarBy a r' d w' x e' Q
 far_by a r r' d w w' x e e' P Q more read tells so =
@@ -128,22 +128,10 @@ none_read telling answer a d x is =
     let none : ExplainsBeginning telling [] [] [] = ([], [], [], record { each = tt; lawful = tt; unrefused = λ yes. tt; told = refl; noted = refl }, record { whole = refl; each = tt; unbroken = tt }, refl) in
     rw is (explained telling (Err fault.Memory) a a d d x x tt ([], [], [], Consumes-nil a, Appends-nil d, Appends-nil x, none))
 
-pub far_start : (telling : Telling) (a d x : Known) (s : Explainer) → HasToldBy telling s [] [] []
-    → Far telling a a d d x x s
-far_start telling a d x s h = ([], [], [], Consumes-nil a, Appends-nil d, Appends-nil x, h)
-
 -- a read that was interrupted
 pub far_again : (telling : Telling) (a r r' d w x e : Known) (s : Explainer) → Keeps r r'
     → Far telling a r d w x e s → Far telling a r' d w x e s
 far_again telling a r r' d w x e s h so = grind arith
-
--- bytes that were read, with what is told and noted of them
-pub far_on : (telling : Telling) (a r r' d w w' x e e' : Known) (s s' : Explainer) (more : List ℕ)
-    → Consumes r r' more
-    → ((before told noted : List ℕ) → HasToldBy telling s before told noted → WroteBoth w w' e e' told noted (HasToldBy telling s' (before ++ more)))
-    → Far telling a r d w x e s → Far telling a r' d w' x e' s'
-far_on telling a r r' d w w' x e e' s s' more read tells so =
-    far_by a r r' d w w' x e e' (HasToldBy telling s) (HasToldBy telling s') more read tells so
 
 -- bytes that were read, and a fault
 pub far_cut : (telling : Telling) (answer : Answer) (f : TraceFault) (a r r' d w w' x e e' : Known) (s : Explainer) (more : List ℕ)

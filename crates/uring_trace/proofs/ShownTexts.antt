@@ -1,22 +1,13 @@
 -- The text of what is shown.
-use Rattle.std.proofs.Common.{◌≡◌, Bool, ℕ, zero, suc, ◌+◌, List, [], ◌∷◌, ◌++◌, Option, take, refl, ◌∙◌, append_assoc, arith}
-use Rattle.uring_trace.proofs.Common.{Cqe, Some, Sqe, Why, append-nil, entry_outstanding, list_text, listed_text, row_text, rows_below, slice_get}
+use Rattle.std.proofs.Common.{◌≡◌, Bool, ℕ, zero, suc, ◌+◌, List, [], ◌∷◌, ◌++◌, Option, Result, take, refl, ap, ◌∙◌, append_assoc, arith}
+use Rattle.uring_trace.proofs.Common.{Cqe, OnOk, Some, Sqe, Why, append-nil, entry_outstanding, list_text, listed_text, on_ok_weaker, row_text, rows_below, slice_get}
 use Rattle.uring_linux.specs.LinuxRequests.{LinuxRequests}
 use Rattle.uring_rules.specs.Rules.{why_of}
 
--- what was appended, as one text: a word and a number, one part more, and a word and a number more
-
-pub named_first : (old new word number : List ℕ) → new ≡ old ++ word ++ number
-    → new ≡ old ++ (word ++ number)
-named_first old new word number e = e ∙ append_assoc old word number
-
-pub part_more : (old one new parts part : List ℕ) → one ≡ old ++ parts → new ≡ one ++ part
-    → new ≡ old ++ (parts ++ part)
-part_more old one new parts part e f = grind (arith, append_assoc)
-
-pub named_more : (old one new parts word number : List ℕ) → one ≡ old ++ parts
-    → new ≡ one ++ word ++ number → new ≡ old ++ (parts ++ word ++ number)
-named_more old one new parts word number e f = grind (arith, part_more)
+-- one part more
+pub part_after : {E : Type 0} (r : Result (Unit {0}) E) (old one new u v : List ℕ) → one ≡ old ++ u
+    → OnOk r (new ≡ one ++ v) → OnOk r (new ≡ old ++ (u ++ v))
+part_after r old one new u v first = on_ok_weaker r (λ last. last ∙ ap (λ (t : List ℕ). t ++ v) first ∙ append_assoc old u v)
 
 -- one completion more
 pub list_more : (cs : List Cqe) (i : ℕ)

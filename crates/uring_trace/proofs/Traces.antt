@@ -82,7 +82,7 @@ last_written manner answer w w' s before told none new nothing finish wrote h = 
 -- ---- a whole trace
 
 -- bytes that were read, with what was written for them
-so_by : (a r r' d w w' : Known) (P Q : List ℕ → List ℕ → Type 0) (more : List ℕ) → Consumes r r' more
+pub so_by : (a r r' d w w' : Known) (P Q : List ℕ → List ℕ → Type 0) (more : List ℕ) → Consumes r r' more
     → ((before told : List ℕ) → P before told → Wrote w w' told (Q (before ++ more)))
     → SoBy a r d w P → SoBy a r' d w' Q
 so_by a r r' d w w' P Q more read answer so =
@@ -100,23 +100,10 @@ none_read manner answer a d e =
     let none : IsBeginning manner [] [] = ([], [], [], record { each = tt; lawful = tt; unrefused = λ sure. tt; all = refl }, record { whole = refl; each = tt; unbroken = tt }, refl) in
     rw e (traced manner (Err fault.Memory) a a d d tt ([], [], Consumes-nil a, Appends-nil d, none))
 
--- nothing read yet
-pub at_start : (manner : Manner) (a d : Known) (s : Session) → Has manner s [] []
-    → So manner a a d d s
-at_start manner a d s h = ([], [], Consumes-nil a, Appends-nil d, h)
-
 -- a read that was interrupted
 pub tried_again : (manner : Manner) (a r r' d w : Known) (s : Session) → Keeps r r'
     → So manner a r d w s → So manner a r' d w s
 tried_again manner a r r' d w s h so = (so.0, so.1, Consumes-kept a r r' so.0 so.2 h, so.3, so.4)
-
--- bytes that were read, with their answers
-pub goes_on : (manner : Manner) (a r r' d w w' : Known) (s s' : Session) (more : List ℕ)
-    → Consumes r r' more
-    → ((before told : List ℕ) → Has manner s before told → Wrote w w' told (Has manner s' (before ++ more)))
-    → So manner a r d w s → So manner a r' d w' s'
-goes_on manner a r r' d w w' s s' more read answer so =
-    so_by a r r' d w w' (Has manner s) (Has manner s') more read answer so
 
 -- bytes that were read, with answers that a fault cut short
 pub not_answered : (manner : Manner) (answer : Answer) (e : TraceFault) (a r r' d w w' : Known) (s : Session) (more : List ℕ)

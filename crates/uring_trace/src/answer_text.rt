@@ -5,7 +5,8 @@ ghost use Rattle.uring_trace.specs.Text.{text_of, word_of};
 
 use std::alloc::{AllocError, Global};
 use uring_machine::Answer;
-use uring_text::{TextMemory, push_completion_in, push_named, push_signed, push_text};
+use uring_text::Term::{Named, Signed, Text};
+use uring_text::{TextMemory, push_completion_in, push_terms, push_text};
 
 /// Appends the text of an answer, without the end of its line.
 pub fn push_answer(alloc: Global, text: &mut String, answer: &Answer) -> Result<(), AllocError>
@@ -24,26 +25,26 @@ pub fn push_answer_in<M: TextMemory>(
     ensures granted { ((n : ℕ) → M.grants memory.now n) → IsOk result }
 {
     match answer {
-        Answer::Tail(word) => push_named(memory, text, "tail ", u64::from(*word)),
-        Answer::Head(word) => push_named(memory, text, "head ", u64::from(*word)),
-        Answer::Call(count) => push_named(memory, text, "call ", u64::from(*count)),
-        Answer::Entry(entry) => push_named(memory, text, "entry ", entry.user_data()),
+        Answer::Tail(word) => push_terms(memory, text, &[Named("tail ", u64::from(*word))]),
+        Answer::Head(word) => push_terms(memory, text, &[Named("head ", u64::from(*word))]),
+        Answer::Call(count) => push_terms(memory, text, &[Named("call ", u64::from(*count))]),
+        Answer::Entry(entry) => push_terms(memory, text, &[Named("entry ", entry.user_data())]),
         Answer::Taken {
             accepted,
             dropped,
             head,
         } => {
-            push_named(memory, text, "taken ", u64::from(*accepted))?;
-            push_named(memory, text, " dropped ", u64::from(*dropped))?;
-            push_named(memory, text, " head ", u64::from(*head))
+            let terms = [
+                Named("taken ", u64::from(*accepted)),
+                Named(" dropped ", u64::from(*dropped)),
+                Named(" head ", u64::from(*head)),
+            ];
+            push_terms(memory, text, &terms)
         }
-        Answer::Ended { res, .. } => {
-            push_text(memory, text, "ended ")?;
-            push_signed(memory, text, *res)
-        }
-        Answer::Moved(count) => push_named(memory, text, "moved ", u64::from(*count)),
+        Answer::Ended { res, .. } => { push_terms(memory, text, &[Text("ended "), Signed(*res)]) }
+        Answer::Moved(count) => push_terms(memory, text, &[Named("moved ", u64::from(*count))]),
         Answer::Reaped(completion) => push_completion_in(memory, text, completion),
-        Answer::Next(number) => push_named(memory, text, "next ", *number),
+        Answer::Next(number) => push_terms(memory, text, &[Named("next ", *number)]),
         _ => push_text(memory, text, word_of(answer)),
     }
 }

@@ -19,7 +19,8 @@ use crate::step_lines::read_line;
 use std::alloc::{AllocError, Global};
 use uring_machine::{Machine, Setup, Step};
 use uring_memory::Memory;
-use uring_text::{KeptLine, TextMemory, TraceFault, push_named, push_text};
+use uring_text::Term::{Named, Text};
+use uring_text::{KeptLine, TextMemory, TraceFault, push_terms, push_text};
 
 /// Explains lines as their bytes come: a machine, what is kept of the unfinished line, and the number of that line.
 #[derive(Drop)]
@@ -292,8 +293,11 @@ fn tell_bad<M: TextMemory>(
     ensures granted { ((n : ℕ) → M.grants memory.now n) → IsOk result }
 {
     push_text(memory, text, "bad line\n")?;
-    push_named(memory, notes, "uring: line ", number)?;
-    push_text(memory, notes, ": bad line: ")?;
+    push_terms(
+        memory,
+        notes,
+        &[Named("uring: line ", number), Text(": bad line: ")],
+    )?;
     push_line_flaw_in(memory, alloc, notes, line, Language::Questions)?;
     push_text(memory, notes, "\n")
 }

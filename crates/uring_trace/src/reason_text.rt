@@ -5,11 +5,12 @@ ghost use Rattle.uring_entry.specs.Texts.{fault_text};
 ghost use Rattle.uring_core.specs.Histories.{History, world};
 ghost use Rattle.uring_core.specs.World.{requests_of};
 ghost use Rattle.uring_machine.specs.Machine.{Fits};
-ghost use Rattle.uring_trace.specs.Reasons.{asked, sought, kept_reason, reason_text, why_text, found_text, doom_text, since_text, numbered};
+ghost use Rattle.uring_trace.specs.Reasons.{asked, sought, kept_reason, reason_text, why_text, found_text, doom_text, since_text};
 
 use std::alloc::AllocError;
 use uring_machine::{Answer, Doom, Fault, Found, Machine, Since, Step, Why};
-use uring_text::{TextMemory, push_named, push_number, push_text};
+use uring_text::Term::{Named, Number, Text};
+use uring_text::{TextMemory, push_named, push_terms, push_text};
 
 /// The reason of an answer.
 #[derive(Clone, Copy)]
@@ -99,24 +100,9 @@ pub fn push_found_in<M: TextMemory>(
 {
     match found {
         Found::Nobody => push_text(memory, text, "found none"),
-        Found::Running(m) => push_numbered(memory, text, m, " is running"),
+        Found::Running(m) => push_terms(memory, text, &[Number(m), Text(" is running")]),
         Found::Chosen(m) => push_named(memory, text, "chose ", m),
     }
-}
-
-/// Appends a number and what is said of it.
-fn push_numbered<M: TextMemory>(
-    memory: &M,
-    text: &mut String,
-    number: u64,
-    said: &str,
-) -> Result<(), AllocError>
-    ensures bytes { OnOk result
-        (string_bytes text.new ≡ string_bytes text.old ++ numbered number said.now) }
-    ensures granted { ((n : ℕ) → M.grants memory.now n) → IsOk result }
-{
-    push_number(memory, text, number)?;
-    push_text(memory, text, said)
 }
 
 /// Appends why a request stands as it does, as after an answer of `explain`.
@@ -138,8 +124,7 @@ pub fn push_why_in<M: TextMemory>(memory: &M, text: &mut String, why: Why) -> Re
         Why::Runs => push_text(memory, text, "runs"),
         Why::IsDoomed(doom) => push_doomed(memory, text, doom),
         Why::Waits { least, since } => {
-            push_named(memory, text, "waits for ", least)?;
-            push_text(memory, text, ": ")?;
+            push_terms(memory, text, &[Named("waits for ", least), Text(": ")])?;
             push_since_in(memory, text, least, since)
         }
         Why::MayStart => push_text(memory, text, "waits for nobody"),
@@ -155,8 +140,14 @@ fn push_doomed<M: TextMemory>(memory: &M, text: &mut String, doom: Doom) -> Resu
     push_text(memory, text, "doomed: ")?;
     match doom {
         Doom::OwnFault(fault) => push_text(memory, text, fault_text(fault)),
-        Doom::FaultOf(m) => push_numbered(memory, text, m, " of its group has a fault"),
-        Doom::FailureOf(m) => push_numbered(memory, text, m, " failed before it"),
+        Doom::FaultOf(m) => {
+            push_terms(
+                memory,
+                text,
+                &[Number(m), Text(" of its group has a fault")],
+            )
+        }
+        Doom::FailureOf(m) => push_terms(memory, text, &[Number(m), Text(" failed before it")]),
         Doom::Cancel => push_text(memory, text, "a cancel chose it"),
         Doom::RefusedDrain => push_text(memory, text, "a drain, which this ring refuses"),
     }
@@ -199,7 +190,7 @@ pub fn push_since_in<M: TextMemory>(
 {
     match since {
         Since::SameGroup => push_text(memory, text, "a member of its group"),
-        Since::ItDrains => push_numbered(memory, text, least, "'s group drains"),
+        Since::ItDrains => push_terms(memory, text, &[Number(least), Text("'s group drains")]),
         Since::OwnDrains => push_text(memory, text, "its own group drains"),
         Since::Deferred => push_text(memory, text, "its group is deferred"),
     }

@@ -9,7 +9,8 @@ ghost use Rattle.uring_trace.specs.Shown.{requests_text, row_text};
 use crate::reason_text::push_why_in;
 use std::alloc::AllocError;
 use uring_machine::{Core, Sqe, Why};
-use uring_text::{TextMemory, push_named, push_operation, push_text};
+use uring_text::Term::{Named, Operation, Text};
+use uring_text::{TextMemory, push_named, push_terms};
 
 /// Appends how many requests are outstanding, and of each its number, its user data, its operation, and how it stands, by this memory. If it grants whatever is asked for, there is no error.
 pub(crate) fn push_requests<M: TextMemory>(
@@ -46,10 +47,13 @@ fn push_row<M: TextMemory>(
     let Some(entry) = entry else {
         return Ok(());
     };
-    push_named(memory, text, ", ", number)?;
-    push_named(memory, text, " ", entry.user_data())?;
-    push_text(memory, text, " ")?;
-    push_operation(memory, text, &entry)?;
-    push_text(memory, text, ": ")?;
+    let terms = [
+        Named(", ", number),
+        Named(" ", entry.user_data()),
+        Text(" "),
+        Operation(&entry),
+        Text(": "),
+    ];
+    push_terms(memory, text, &terms)?;
     push_why_in(memory, text, why)
 }

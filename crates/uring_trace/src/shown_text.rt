@@ -10,7 +10,8 @@ use crate::reason_text::push_why_in;
 use crate::requests_text::push_requests;
 use std::alloc::AllocError;
 use uring_machine::{Counts, Cqe, FileState, Machine, Setup};
-use uring_text::{TextMemory, push_completion_in, push_named, push_text};
+use uring_text::Term::Named;
+use uring_text::{TextMemory, push_completion_in, push_named, push_terms, push_text};
 
 /// Appends what is answered to a question, without the end of its line, by this memory. If it grants whatever is asked for, there is no error.
 pub(crate) fn push_shown<M: TextMemory>(
@@ -44,11 +45,14 @@ fn push_counts<M: TextMemory>(
         (string_bytes text.new ≡ string_bytes text.old ++ counts_text counts) }
     ensures granted { ((n : ℕ) → M.grants memory.now n) → IsOk result }
 {
-    push_named(memory, text, "accepted ", counts.accepted)?;
-    push_named(memory, text, " outstanding ", counts.outstanding)?;
-    push_named(memory, text, " running ", counts.running)?;
-    push_named(memory, text, " posted ", counts.posted)?;
-    push_named(memory, text, " reaped ", counts.reaped)
+    let terms = [
+        Named("accepted ", counts.accepted),
+        Named(" outstanding ", counts.outstanding),
+        Named(" running ", counts.running),
+        Named(" posted ", counts.posted),
+        Named(" reaped ", counts.reaped),
+    ];
+    push_terms(memory, text, &terms)
 }
 
 /// Appends the sizes of a set-up.
@@ -56,10 +60,13 @@ fn push_sizes<M: TextMemory>(memory: &M, text: &mut String, setup: Setup) -> Res
     ensures bytes { OnOk result (string_bytes text.new ≡ string_bytes text.old ++ sizes_text setup) }
     ensures granted { ((n : ℕ) → M.grants memory.now n) → IsOk result }
 {
-    push_named(memory, text, "sq ", u64::from(setup.sq()))?;
-    push_named(memory, text, " cq ", u64::from(setup.cq()))?;
-    push_named(memory, text, " files ", u64::from(setup.files()))?;
-    push_named(memory, text, " start ", u64::from(setup.start()))
+    let terms = [
+        Named("sq ", u64::from(setup.sq())),
+        Named(" cq ", u64::from(setup.cq())),
+        Named(" files ", u64::from(setup.files())),
+        Named(" start ", u64::from(setup.start())),
+    ];
+    push_terms(memory, text, &terms)
 }
 
 /// Appends the completions that wait in the overflow list.
@@ -112,7 +119,10 @@ fn push_file<M: TextMemory>(
     let Some(state) = state else {
         return push_text(memory, text, "no file");
     };
-    push_named(memory, text, "len ", u64::from(state.len))?;
-    push_named(memory, text, " writes ", state.writes)?;
-    push_named(memory, text, " synced ", state.synced)
+    let terms = [
+        Named("len ", u64::from(state.len)),
+        Named(" writes ", state.writes),
+        Named(" synced ", state.synced),
+    ];
+    push_terms(memory, text, &terms)
 }

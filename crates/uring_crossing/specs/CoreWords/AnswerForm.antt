@@ -1,5 +1,5 @@
 -- The words that tell an answer. Our own rule: kinds count the answers in the order of `Answer`, from 0, and a word that an answer hasn't is 0.
-use Rattle.std.specs.Prelude.{◌≡◌, ℕ, ℤ, pos, List, replicate, Option, Some, None, ◌==◌, nat_lt, if◌then◌else◌}
+use Rattle.std.specs.Prelude.{◌≡◌, ℕ, ℤ, pos, List, [], ◌∷◌, replicate, Option, ◌==◌, find}
 use Rattle.uring_core.specs.declared.answer.Answer.{Answer}
 use Rattle.uring_core.specs.declared.answer.Answer.TheVariants as answer
 use Rattle.uring_crossing.specs.declared.core_words.answer_words.AnswerWords.{AnswerWords}
@@ -95,48 +95,11 @@ words_of a =
       bytes = bytes_of a;
     }
 
--- The answer that words tell, by its kind.
+-- the answers that words may tell, one of each kind
+abbrev pub answers_of : AnswerWords → List Answer
+answers_of w =
+    answer.Filled ∷ answer.NoSlot ∷ answer.Busy ∷ answer.Staged ∷ answer.Full ∷ answer.Tail w.word ∷ answer.Head w.word ∷ answer.Call w.word ∷ answer.Closed ∷ answer.InCall ∷ answer.Spent ∷ answer.Again ∷ answer.Entry w.entry ∷ answer.Dropped ∷ answer.NoMore ∷ answer.NoCall ∷ answer.Taken w.word w.dropped w.head ∷ answer.NotAll ∷ answer.Run ∷ answer.Ended w.res w.bytes ∷ answer.NotReady ∷ answer.Running ∷ answer.Unknown ∷ answer.NotRunning ∷ answer.Moved w.number ∷ answer.Reaped (record { user_data = w.number; res = w.res; payload = w.bytes }) ∷ answer.Nothing ∷ answer.Shut ∷ answer.Next w.number ∷ []
 
-abbrev pub early_answer_of : AnswerWords → Option Answer
-early_answer_of w =
-    if w.kind == 0 then Some answer.Filled else
-    if w.kind == 1 then Some answer.NoSlot else
-    if w.kind == 2 then Some answer.Busy else
-    if w.kind == 3 then Some answer.Staged else
-    if w.kind == 4 then Some answer.Full else
-    if w.kind == 5 then Some (answer.Tail w.word) else
-    if w.kind == 6 then Some (answer.Head w.word) else
-    if w.kind == 7 then Some (answer.Call w.word) else
-    if w.kind == 8 then Some answer.Closed else
-    if w.kind == 9 then Some answer.InCall else None
-
-abbrev pub middle_answer_of : AnswerWords → Option Answer
-middle_answer_of w =
-    if w.kind == 10 then Some answer.Spent else
-    if w.kind == 11 then Some answer.Again else
-    if w.kind == 12 then Some (answer.Entry w.entry) else
-    if w.kind == 13 then Some answer.Dropped else
-    if w.kind == 14 then Some answer.NoMore else
-    if w.kind == 15 then Some answer.NoCall else
-    if w.kind == 16 then Some (answer.Taken w.word w.dropped w.head) else
-    if w.kind == 17 then Some answer.NotAll else
-    if w.kind == 18 then Some answer.Run else
-    if w.kind == 19 then Some (answer.Ended w.res w.bytes) else None
-
-abbrev pub late_answer_of : AnswerWords → Option Answer
-late_answer_of w =
-    if w.kind == 20 then Some answer.NotReady else
-    if w.kind == 21 then Some answer.Running else
-    if w.kind == 22 then Some answer.Unknown else
-    if w.kind == 23 then Some answer.NotRunning else
-    if w.kind == 24 then Some (answer.Moved w.number) else
-    if w.kind == 25 then Some (answer.Reaped (record { user_data = w.number; res = w.res; payload = w.bytes })) else
-    if w.kind == 26 then Some answer.Nothing else
-    if w.kind == 27 then Some answer.Shut else
-    if w.kind == 28 then Some (answer.Next w.number) else None
-
--- none if there is no such kind
+-- the answer that words tell, by its kind: none if there is no such kind
 abbrev pub answer_of : AnswerWords → Option Answer
-answer_of w =
-    if nat_lt w.kind 10 then early_answer_of w else
-    if nat_lt w.kind 20 then middle_answer_of w else late_answer_of w
+answer_of w = find (λ a. kind_of a == w.kind) (answers_of w)

@@ -40,76 +40,44 @@ impl AnswerWords {
         ensures { result ≡ spec.answer_of self.now }
     {
         match self.kind {
-            0..=9 => self.early_answer(),
-            10..=19 => self.middle_answer(),
-            _ => self.late_answer(),
-        }
-    }
-
-    /// The answer of a kind from 0 up to 9.
-    fn early_answer(&self) -> Option<Answer>
-        ensures { result ≡ spec.early_answer_of self.now }
-    {
-        let told = match self.kind {
-            0 => Answer::Filled,
-            1 => Answer::NoSlot,
-            2 => Answer::Busy,
-            3 => Answer::Staged,
-            4 => Answer::Full,
-            5 => Answer::Tail(self.word),
-            6 => Answer::Head(self.word),
-            7 => Answer::Call(self.word),
-            8 => Answer::Closed,
-            9 => Answer::InCall,
-            _ => return None,
-        };
-        Some(told)
-    }
-
-    /// The answer of a kind from 10 up to 19.
-    fn middle_answer(&self) -> Option<Answer>
-        ensures { result ≡ spec.middle_answer_of self.now }
-    {
-        let told = match self.kind {
-            10 => Answer::Spent,
-            11 => Answer::Again,
-            12 => Answer::Entry(Sqe::from_words(self.entry)),
-            13 => Answer::Dropped,
-            14 => Answer::NoMore,
-            15 => Answer::NoCall,
-            16 => Answer::Taken {
+            0 => Some(Answer::Filled),
+            1 => Some(Answer::NoSlot),
+            2 => Some(Answer::Busy),
+            3 => Some(Answer::Staged),
+            4 => Some(Answer::Full),
+            5 => Some(Answer::Tail(self.word)),
+            6 => Some(Answer::Head(self.word)),
+            7 => Some(Answer::Call(self.word)),
+            8 => Some(Answer::Closed),
+            9 => Some(Answer::InCall),
+            10 => Some(Answer::Spent),
+            11 => Some(Answer::Again),
+            12 => Some(Answer::Entry(Sqe::from_words(self.entry))),
+            13 => Some(Answer::Dropped),
+            14 => Some(Answer::NoMore),
+            15 => Some(Answer::NoCall),
+            16 => Some(Answer::Taken {
                 accepted: self.word,
                 dropped: self.dropped,
                 head: self.head,
-            },
-            17 => Answer::NotAll,
-            18 => Answer::Run,
-            19 => Answer::Ended {
+            }),
+            17 => Some(Answer::NotAll),
+            18 => Some(Answer::Run),
+            19 => Some(Answer::Ended {
                 res: self.res,
                 bytes: self.bytes,
-            },
-            _ => return None,
-        };
-        Some(told)
-    }
-
-    /// The answer of a kind from 20 up to 28.
-    fn late_answer(&self) -> Option<Answer>
-        ensures { result ≡ spec.late_answer_of self.now }
-    {
-        let told = match self.kind {
-            20 => Answer::NotReady,
-            21 => Answer::Running,
-            22 => Answer::Unknown,
-            23 => Answer::NotRunning,
-            24 => Answer::Moved(self.number),
-            25 => Answer::Reaped(Cqe::new(self.number, self.res, self.bytes)),
-            26 => Answer::Nothing,
-            27 => Answer::Shut,
-            28 => Answer::Next(self.number),
-            _ => return None,
-        };
-        Some(told)
+            }),
+            20 => Some(Answer::NotReady),
+            21 => Some(Answer::Running),
+            22 => Some(Answer::Unknown),
+            23 => Some(Answer::NotRunning),
+            24 => Some(Answer::Moved(self.number)),
+            25 => Some(Answer::Reaped(Cqe::new(self.number, self.res, self.bytes))),
+            26 => Some(Answer::Nothing),
+            27 => Some(Answer::Shut),
+            28 => Some(Answer::Next(self.number)),
+            _ => None,
+        }
     }
 }
 

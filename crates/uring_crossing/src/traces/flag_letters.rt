@@ -8,7 +8,8 @@ ghost use Rattle.uring_crossing.specs.Volumes.VolumeForms.{IsGiven};
 use crate::volumes::volume_memory::give;
 use std::alloc::{AllocError, Global};
 use uring_entry::errno;
-use uring_text::{TextMemory, push_text};
+use uring_text::Term::Text;
+use uring_text::{TextMemory, push_terms, push_text};
 
 /// What `wulgach_trace_flags` does, by this memory. If it grants whatever is asked for, -12 isn't returned.
 pub fn trace_flags_in<M: TextMemory>(
@@ -48,11 +49,14 @@ fn push_letters<M: TextMemory>(memory: &M, text: &mut String, flags: u8) -> Resu
     ensures bytes { OnOk result (string_bytes text.new ≡ string_bytes text.old ++ letters_of flags) }
     ensures granted { ((n : ℕ) → M.grants memory.now n) → IsOk result }
 {
-    push_text(memory, text, letter_if(flags, 2, "D"))?;
-    push_text(memory, text, letter_if(flags, 4, "L"))?;
-    push_text(memory, text, letter_if(flags, 8, "H"))?;
-    push_text(memory, text, letter_if(flags, 16, "A"))?;
-    push_text(memory, text, letter_if(flags, 64, "S"))
+    let terms = [
+        Text(letter_if(flags, 2, "D")),
+        Text(letter_if(flags, 4, "L")),
+        Text(letter_if(flags, 8, "H")),
+        Text(letter_if(flags, 16, "A")),
+        Text(letter_if(flags, 64, "S")),
+    ];
+    push_terms(memory, text, &terms)
 }
 
 /// A letter, if this bit is among the flags.

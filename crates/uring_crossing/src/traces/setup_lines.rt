@@ -9,7 +9,8 @@ use crate::volumes::volume_memory::give;
 use std::alloc::{AllocError, Global};
 use uring_entry::errno;
 use uring_machine::Setup;
-use uring_text::{TextMemory, push_named, push_text};
+use uring_text::Term::{Named, Text};
+use uring_text::{TextMemory, push_terms};
 
 /// What `wulgach_trace_setup` does, by this memory. If it grants whatever is asked for, -12 isn't returned.
 pub fn trace_setup_in<M: TextMemory>(
@@ -41,12 +42,15 @@ fn push_setup<M: TextMemory>(memory: &M, text: &mut String, setup: &Setup) -> Re
     ensures bytes { OnOk result (string_bytes text.new ≡ string_bytes text.old ++ setup_line setup.now) }
     ensures granted { ((n : ℕ) → M.grants memory.now n) → IsOk result }
 {
-    push_named(memory, text, "setup --sq ", u64::from(setup.sq()))?;
-    push_named(memory, text, " --cq ", u64::from(setup.cq()))?;
-    push_named(memory, text, " --files ", u64::from(setup.files()))?;
-    push_named(memory, text, " --start ", u64::from(setup.start()))?;
-    push_text(memory, text, name_if(setup.stops(), " --stop"))?;
-    push_text(memory, text, name_if(setup.is_linux(), " --linux"))
+    let terms = [
+        Named("setup --sq ", u64::from(setup.sq())),
+        Named(" --cq ", u64::from(setup.cq())),
+        Named(" --files ", u64::from(setup.files())),
+        Named(" --start ", u64::from(setup.start())),
+        Text(name_if(setup.stops(), " --stop")),
+        Text(name_if(setup.is_linux(), " --linux")),
+    ];
+    push_terms(memory, text, &terms)
 }
 
 /// A name, if it is asked for.

@@ -10,7 +10,8 @@ use std::alloc::{AllocError, Global};
 use uring_core::StepWords;
 use uring_entry::{Sqe, errno};
 use uring_machine::{Answer, Step};
-use uring_text::{Kind, Name, TextMemory, push_named, push_operation, push_signed, push_text};
+use uring_text::Term::{Named, Operation, Signed, Text};
+use uring_text::{Kind, Name, TextMemory, push_named, push_terms, push_text};
 use uring_trace::{push_answer_in, spells_in, step_name};
 
 /// What `wulgach_trace_line` does, by this memory. If it grants whatever is asked for, -12 isn't returned.
@@ -98,19 +99,14 @@ fn push_fill<M: TextMemory>(
 ) -> Result<(), AllocError>
     ensures granted { ((n : ℕ) → M.grants memory.now n) → IsOk result }
 {
-    if let Err(error) = push_named(memory, text, "fill ", u64::from(slot)) {
-        return Err(error);
-    }
-    if let Err(error) = push_text(memory, text, " ") {
-        return Err(error);
-    }
-    if let Err(error) = push_operation(memory, text, entry) {
-        return Err(error);
-    }
-    if let Err(error) = push_named(memory, text, " ", entry.user_data()) {
-        return Err(error);
-    }
-    if let Err(error) = push_text(memory, text, " ") {
+    let terms = [
+        Named("fill ", u64::from(slot)),
+        Text(" "),
+        Operation(entry),
+        Named(" ", entry.user_data()),
+        Text(" "),
+    ];
+    if let Err(error) = push_terms(memory, text, &terms) {
         return Err(error);
     }
     if let Err(error) = push_flags(memory, text, entry.flags()) {
@@ -129,10 +125,7 @@ fn push_fields<M: TextMemory>(memory: &M, text: &mut String, entry: &Sqe) -> Res
     let kinds = name.kinds();
     for i in 0..kinds.len() {
         let pushed = match kinds[i] {
-            Kind::File => match push_text(memory, text, " ") {
-                Ok(()) => push_signed(memory, text, entry.fd()),
-                Err(error) => Err(error),
-            },
+            Kind::File => push_terms(memory, text, &[Text(" "), Signed(entry.fd())]),
             Kind::Offset => push_named(memory, text, " ", entry.off()),
             Kind::Length => push_named(memory, text, " ", u64::from(entry.len())),
             Kind::Target => push_named(memory, text, " ", entry.addr()),

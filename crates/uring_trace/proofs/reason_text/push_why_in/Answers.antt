@@ -1,4 +1,4 @@
-use Rattle.std.proofs.Common.{append_assoc}
+use Rattle.uring_trace.proofs.ShownTexts.{part_after}
 use Rattle.uring_trace.proofs.reason_text.push_why_in.Goals as goal
 
 pub returns-in-NeverAccepted-clause-bytes : goal.returns-in-NeverAccepted-clause-bytes
@@ -13,10 +13,9 @@ returns-in-Runs-clause-bytes g c = rw c.in-Runs.is c.push_text-in-Runs.ensures.b
 pub returns-in-IsDoomed-clause-bytes : goal.returns-in-IsDoomed-clause-bytes
 returns-in-IsDoomed-clause-bytes g c = rw c.in-IsDoomed.is c.push_doomed.ensures.bytes
 
-pub returns-in_ok-push_text-in-Waits-clause-bytes : goal.returns-in_ok-push_text-in-Waits-clause-bytes
-returns-in_ok-push_text-in-Waits-clause-bytes g c =
-    let parts = rw (c.in_ok-push_text-in-Waits.ensures.bytes, c.in_ok-push_named-in-Waits.ensures.bytes) at c.push_since_in.ensures.bytes in
-    rw c.in-Waits.is (simp append_assoc (simp append_assoc at parts))
+pub returns-in_ok-push_terms-in-Waits-clause-bytes : goal.returns-in_ok-push_terms-in-Waits-clause-bytes
+returns-in_ok-push_terms-in-Waits-clause-bytes g c =
+    rw c.in-Waits.is (part_after c.push_since_in.result _ _ _ _ _ c.in_ok-push_terms-in-Waits.ensures.bytes c.push_since_in.ensures.bytes)
 
 pub returns-in-MayStart-clause-bytes : goal.returns-in-MayStart-clause-bytes
 returns-in-MayStart-clause-bytes g c = rw c.in-MayStart.is c.push_text-in-MayStart.ensures.bytes
