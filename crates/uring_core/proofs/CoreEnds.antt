@@ -50,13 +50,6 @@ end_goes p q d t answered shown accepts h f =
     let e = answered p.setup (world p.setup h).submission f.shows.submission in
     grind (arith, (end_shows p (world p.setup h) q d t (world p.setup h).submission.call f.shows refl accepts e), (end_called p.setup (world p.setup h) t (world p.setup h).submission.call e))
 
-pub end_not_all_goes : (p : Core) (q : Sq)
-    → ((g : Setup) (l : Submission) → ShowsSubmission g p.sq l → ended_as.NotAll ≡ ring.end_answer g l)
-    → q ≡ p.sq
-    → (h : History) → FitsApart p h
-    → FitsApart (record p { sq = q }) ((step.End, answer.NotAll) ∷ h)
-end_not_all_goes p q answered same h f = grind arith
-
 -- The end of a request.
 
 -- what the end of n posts is what is told of it
