@@ -5,7 +5,6 @@ use Rattle.uring_rings.specs.declared.answers.Taken.{Taken}
 use Rattle.uring_rings.specs.declared.answers.EndAnswer.{EndAnswer}
 use Rattle.uring_rings.specs.declared.answers.EndAnswer.TheVariants as ended_as
 use Rattle.uring_core.specs.declared.step.Step.TheVariants as step
-use Rattle.uring_core.specs.declared.answer.Answer.TheVariants as answer
 use Rattle.uring_core.proofs.CoreSteps.{core_after}
 use Rattle.uring_core.proofs.CoreTakes.{held_accepted}
 use Rattle.uring_core.proofs.CoreEnds.{accepts_held, end_goes}

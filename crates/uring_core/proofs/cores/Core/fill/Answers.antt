@@ -2,7 +2,6 @@ use Rattle.std.proofs.Common.{◌≡◌, ℕ, refl, arith}
 use Rattle.uring_core.proofs.Common.{Core, Sq, Sqe, common_steps, fill_told}
 use Rattle.uring_rings.specs.SqAnswers as ring
 use Rattle.uring_rings.specs.declared.answers.FillAnswer.{FillAnswer}
-use Rattle.uring_rings.specs.declared.answers.FillAnswer.TheVariants as fill
 use Rattle.uring_core.specs.declared.step.Step.TheVariants as step
 use Rattle.uring_core.proofs.CoreSteps.{SubmissionStep, core_after}
 use Rattle.uring_core.proofs.cores.Core.fill.Goals as goal
