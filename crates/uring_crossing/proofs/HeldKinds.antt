@@ -1,11 +1,10 @@
 -- What a slot may hold: of each kind, how it is read off, and that its box, its parts and its slot own the same.
 use mathlib.Core.List.{List, []}
-use mathlib.Core.Logic.{inl, inr}
 use mir.Syntax.{impl, tnil, dnil}
 use mir.Val.{Val}
 use denote.RattleType.{RattleType}
 use denote.Param.Laws.{Laws}
-use Rattle.std.proofs.Common.{◌≡◌, Option, Some, false, refl}
+use Rattle.std.proofs.Common.{◌≡◌, Option, Some, None, false, refl, arith}
 use Rattle.uring_crossing.proofs.Common.{B, Bx, D, Held, IsSome, a_core, a_crash_machine, a_machine, a_volume, both_ways, core_of, core_row, crash_machine_of, crash_machine_row, dict, ghosts, machine_of, machine_row, outcomes_of, outcomes_row, some_outcomes, volume_of, volume_row}
 use Rattle.std.proofs.alloc.Calls.{Al}
 use Rattle.std.proofs.alloc.Global.TheLaws as heap
@@ -30,8 +29,7 @@ pub record Kind : Type 2 where
   pub laws : Laws row
   pub made : row.Denot → Held
   pub read : Option Held → Option row.Denot
-  pub there : (o : Option Held) → IsSome (read o) → (x : row.Denot) × (o ≡ Some (made x))
-  pub reads : (x : row.Denot) → read (Some (made x)) ≡ Some x
+  pub held : (o : Option Held) (x : row.Denot) → read o ≡ Some x → o ≡ Some (made x)
   pub in_parts : (v : D (boxed row laws)) (vs : List Val)
       → (B (boxed row laws)).own_val v vs
       ≡ (Parts.the_row row Heap.the_row ghosts).own_val (record { ptr = v.ptr; alloc = v.alloc; value = v.value }) vs
@@ -39,41 +37,31 @@ pub record Kind : Type 2 where
       → (B (boxed row laws)).own_val v vs
       ≡ (Slot.the_row).own_val (record { at = v.ptr; alloc = v.alloc; held = Some (made v.value) }) vs
 
-pub core_there : (o : Option Held) → IsSome (core_of o) → (x : core_row.Denot) × (o ≡ Some (a_core x))
-core_there (Some (inl c)) some = (c, refl)
-core_there _ some = absurd (both_ways false refl some)
+-- what is there can be named
+pub named : {X : Type 0} (o : Option X) → IsSome o → (x : X) × (o ≡ Some x)
+named (Some x) some = (x, refl)
+named None some = absurd (both_ways false refl some)
 
-pub machine_there : (o : Option Held) → IsSome (machine_of o)
-    → (x : machine_row.Denot) × (o ≡ Some (a_machine x))
-machine_there (Some (inr (inl m))) some = (m, refl)
-machine_there _ some = absurd (both_ways false refl some)
-
-pub volume_there : (o : Option Held) → IsSome (volume_of o)
-    → (x : volume_row.Denot) × (o ≡ Some (a_volume x))
-volume_there (Some (inr (inr (inl v)))) some = (v, refl)
-volume_there _ some = absurd (both_ways false refl some)
-
-pub crash_machine_there : (o : Option Held) → IsSome (crash_machine_of o)
-    → (x : crash_machine_row.Denot) × (o ≡ Some (a_crash_machine x))
-crash_machine_there (Some (inr (inr (inr (inl m))))) some = (m, refl)
-crash_machine_there _ some = absurd (both_ways false refl some)
-
-pub outcomes_there : (o : Option Held) → IsSome (outcomes_of o)
-    → (x : outcomes_row.Denot) × (o ≡ Some (some_outcomes x))
-outcomes_there (Some (inr (inr (inr (inr f))))) some = (f, refl)
-outcomes_there _ some = absurd (both_ways false refl some)
+-- what is read off a slot as one of a kind is what it holds
+pub is_held : (o : Option Held)
+    → ((x : core_row.Denot) → core_of o ≡ Some x → o ≡ Some (a_core x))
+    × ((x : machine_row.Denot) → machine_of o ≡ Some x → o ≡ Some (a_machine x))
+    × ((x : volume_row.Denot) → volume_of o ≡ Some x → o ≡ Some (a_volume x))
+    × ((x : crash_machine_row.Denot) → crash_machine_of o ≡ Some x → o ≡ Some (a_crash_machine x))
+    × ((x : outcomes_row.Denot) → outcomes_of o ≡ Some x → o ≡ Some (some_outcomes x))
+is_held o = (λ x e. grind arith, λ x e. grind arith, λ x e. grind arith, λ x e. grind arith, λ x e. grind arith)
 
 abbrev pub cores : Kind
-cores = record { row = core_row; laws = core.the_row_laws; made = a_core; read = core_of; there = core_there; reads = λ x. refl; in_parts = λ v vs. refl; in_slot = λ v vs. refl }
+cores = record { row = core_row; laws = core.the_row_laws; made = a_core; read = core_of; held = λ o. (is_held o).0; in_parts = λ v vs. refl; in_slot = λ v vs. refl }
 
 abbrev pub machines : Kind
-machines = record { row = machine_row; laws = machine.the_row_laws; made = a_machine; read = machine_of; there = machine_there; reads = λ x. refl; in_parts = λ v vs. refl; in_slot = λ v vs. refl }
+machines = record { row = machine_row; laws = machine.the_row_laws; made = a_machine; read = machine_of; held = λ o. (is_held o).1; in_parts = λ v vs. refl; in_slot = λ v vs. refl }
 
 abbrev pub volumes : Kind
-volumes = record { row = volume_row; laws = volume.the_row_laws; made = a_volume; read = volume_of; there = volume_there; reads = λ x. refl; in_parts = λ v vs. refl; in_slot = λ v vs. refl }
+volumes = record { row = volume_row; laws = volume.the_row_laws; made = a_volume; read = volume_of; held = λ o. (is_held o).2; in_parts = λ v vs. refl; in_slot = λ v vs. refl }
 
 abbrev pub crash_machines : Kind
-crash_machines = record { row = crash_machine_row; laws = crash_machine.the_row_laws; made = a_crash_machine; read = crash_machine_of; there = crash_machine_there; reads = λ x. refl; in_parts = λ v vs. refl; in_slot = λ v vs. refl }
+crash_machines = record { row = crash_machine_row; laws = crash_machine.the_row_laws; made = a_crash_machine; read = crash_machine_of; held = λ o. (is_held o).3; in_parts = λ v vs. refl; in_slot = λ v vs. refl }
 
 abbrev pub outcomes : Kind
-outcomes = record { row = outcomes_row; laws = outcome_list.the_row_laws; made = some_outcomes; read = outcomes_of; there = outcomes_there; reads = λ x. refl; in_parts = λ v vs. refl; in_slot = λ v vs. refl }
+outcomes = record { row = outcomes_row; laws = outcome_list.the_row_laws; made = some_outcomes; read = outcomes_of; held = λ o. (is_held o).4; in_parts = λ v vs. refl; in_slot = λ v vs. refl }

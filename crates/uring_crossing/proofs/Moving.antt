@@ -1,7 +1,7 @@
 -- A slot is made of parts, and parts of a slot: a pointer moves with its allocator, and what the two own goes with them.
-use Rattle.uring_crossing.proofs.Walks.{ !, Callee, Clauses, Closed, Contract, Ended, Fml, Fn, Goes-dropped, Item, Last, List, Logic, MachineTables, Model, RattleType, Running, SProp, Stays, Sym, Tables, Triple, Ty, Ura, Val, WpFn, WpFn-mono, [], agg, aggregate, alloc_all, and_then, ap, assign, by, closing, copy, done, drop, emp, ends_at, ent, enter, entered, fact, field, fjoin, fld, free_all, fsep, fsplit, ftrue, get, get_in, heard, join, layout, left, local, look_at, move, no_more, nothing, of_opd, pass_all, place, plain, qed, raw, refl, return, returns, rewrite, rv_opd, says, sem, sep, seq, sets, split, stay_dropped, stop, sub, subst, suffices, sym, tables, tables_of, tcons, tnil, triple_of, ty_ptr, ty_struct, value_local, walk_Meets, walk_of, whole, yes, ‵, ◌$◌, ◌++◌, ◌∙◌, ◌∵◌, ◌∷◌, ◌≡◌, ◌⊛◌}
+use Rattle.uring_crossing.proofs.Walks.{ !, Callee, Clauses, Closed, Contract, Ended, Fml, Fn, Goes-dropped, Item, Last, List, Logic, MachineTables, Model, RattleType, Running, SProp, Stays, Sym, Tables, Triple, Ty, Ura, Val, WpFn, WpFn-mono, [], agg, aggregate, alloc_all, and_then, assign, by, closing, copy, done, drop, emp, ends_at, ent, enter, entered, fact, field, fjoin, fld, free_all, fsep, fsplit, ftrue, get, get_in, heard, join, layout, left, local, look_at, move, no_more, nothing, of_opd, pass_all, place, plain, qed, raw, refl, return, returns, rewrite, rv_opd, says, sem, sep, seq, sets, split, stay_dropped, stop, sub, subst, suffices, sym, tables, tables_of, tcons, tnil, triple_of, ty_ptr, ty_struct, value_local, walk_Meets, walk_of, whole, yes, ‵, ◌$◌, ◌++◌, ◌∵◌, ◌∷◌, ◌≡◌, ◌⊛◌}
 use Rattle.uring_crossing.proofs.Common.{B, Bx, D, Held, IsSome, Option, Some, box_in, box_out, box_typed, ghosts, word}
-use Rattle.uring_crossing.proofs.HeldKinds.{Kind, boxed}
+use Rattle.uring_crossing.proofs.HeldKinds.{Kind, boxed, named}
 use Rattle.std.specs.contracts.alloc.Global as Heap
 use Rattle.uring_crossing.specs.contracts.boxes.parts.Parts as Parts
 use Rattle.uring_crossing.specs.contracts.boxes.slot.Slot as Slot
@@ -92,7 +92,7 @@ module _ (k : Kind) where
     unfolding tables_of
     into_meets closed = meets 𝓛 Slot.the_row parts (λ x. tt) (λ x f. refl) (λ s. fact 𝓤 (IsSome (k.read s.held))) (λ s p. Some p.value ≡ k.read s.held) (tables_of 𝓤 𝓛.H 𝓜 𝓣) name (moving Slot.the_type.name name_of_parts) closed (λ s vs Post ends.
         qed 𝓛 (‵ ((Slot.the_row).own_val s vs) ∷ raw (fact 𝓤 (IsSome (k.read s.held))) ∷ []) ∵ move ! (1 ∷ []) $ heard ! (IsSome (k.read s.held)) (λ full.
-        let there = k.there s.held full in
+        let there = named (k.read s.held) full in
         let v : D E = record { ptr = s.at; alloc = s.alloc; value = there.0 } in
-        rewrite ! 0 (λ (o : Option Held). ‵ ((Slot.the_row).own_val (record { at = s.at; alloc = s.alloc; held = o }) vs)) there.1 refl $ rewrite ! 0 (λ (F : Fml). ‵ F) (sym (k.in_slot v vs)) refl $
-        by ! (moved 𝓛 (tables_of 𝓤 𝓛.H 𝓜 𝓣) Slot.the_type.name name_of_parts v vs Post (λ w. subst (λ (F : Fml). ent 𝓤 (sem 𝓛 F) (Post w)) (sym (k.in_parts v (w ∷ []))) (ends w (record { ptr = v.ptr; alloc = v.alloc; value = v.value }) (sym (ap k.read there.1 ∙ k.reads there.0)))))))
+        rewrite ! 0 (λ (o : Option Held). ‵ ((Slot.the_row).own_val (record { at = s.at; alloc = s.alloc; held = o }) vs)) (k.held s.held there.0 there.1) refl $ rewrite ! 0 (λ (F : Fml). ‵ F) (sym (k.in_slot v vs)) refl $
+        by ! (moved 𝓛 (tables_of 𝓤 𝓛.H 𝓜 𝓣) Slot.the_type.name name_of_parts v vs Post (λ w. subst (λ (F : Fml). ent 𝓤 (sem 𝓛 F) (Post w)) (sym (k.in_parts v (w ∷ []))) (ends w (record { ptr = v.ptr; alloc = v.alloc; value = v.value }) (sym there.1))))))
