@@ -1,6 +1,6 @@
 -- What a core shows as a submission call closes, as a request ends, and as it is made.
 use Rattle.std.proofs.Common.{◌≡◌, ℕ, ◌+◌, ◌≤◌, ℤ, true, false, List, [], ◌∷◌, length, Option, Some, None, refl, sym, arith}
-use Rattle.uring_core.proofs.Common.{Answer, Call, Completions, Core, Cq, FitsApart, History, IsFinished, LinuxRequests, Op, Setup, ShowsCompletions, ShowsSubmission, ShowsWorld, Sq, Sqe, Submission, World, cond_some, dropped, end_answer_in, ending_of, is_running, issue_answer, issue_told, length-append, no_bytes, no_completion, no_submission, requests_of, sum_by_push, with_closed, with_end_of, with_told, world, happens}
+use Rattle.uring_core.proofs.Common.{Answer, Call, Completions, Core, Cq, FitsApart, History, IsFinished, LinuxRequests, Op, Setup, ShowsCompletions, ShowsSubmission, ShowsWorld, Sq, Sqe, Submission, World, cond_some, end_answer_in, ending_of, is_running, issue_answer, issue_told, length-append, no_bytes, no_completion, no_submission, requests_of, sum_by_push, with_closed, with_end_of, with_told, world, happens}
 use Rattle.uring_linux.specs.LinuxRequests.{no_request, with_started}
 use Rattle.uring_entry.specs.declared.operation.Outcome.{Outcome}
 use Rattle.uring_rings.specs.SqAnswers as ring
@@ -49,13 +49,6 @@ pub end_goes : (p : Core) (q : Sq) (d : Rules) (t : Taken)
 end_goes p q d t answered shown accepts h f =
     let e = answered p.setup (world p.setup h).submission f.shows.submission in
     grind (arith, (end_shows p (world p.setup h) q d t (world p.setup h).submission.call f.shows refl accepts e), (end_called p.setup (world p.setup h) t (world p.setup h).submission.call e))
-
-pub end_not_all_goes : (p : Core) (q : Sq)
-    → ((g : Setup) (l : Submission) → ShowsSubmission g p.sq l → ended_as.NotAll ≡ ring.end_answer g l)
-    → q ≡ p.sq
-    → (h : History) → FitsApart p h
-    → FitsApart (record p { sq = q }) ((step.End, answer.NotAll) ∷ h)
-end_not_all_goes p q answered same h f = grind arith
 
 -- The end of a request.
 

@@ -15,13 +15,6 @@ pub on_submission : (p : Core) (w : World) (q : Sq) (l : Submission) → ShowsWo
     → ShowsWorld (record p { sq = q }) (record w { submission = l })
 on_submission p w q l s shows call held took = grind arith
 
--- A change of the completion ring alone, which posts nothing.
-pub on_completions : (p : Core) (w : World) (q : Cq) (l : Completions) → ShowsWorld p w
-    → ShowsCompletions p.setup q l → q.room ≡ p.cq.room → KeepsMemory p.cq q
-    → l.posted ≡ w.completions.posted
-    → ShowsWorld (record p { cq = q }) (record w { completions = l })
-on_completions p w q l s shows room memory posted = grind arith
-
 -- A step on the submission ring alone, from what the ring answers and what it shows then.
 abbrev pub SubmissionStep : Core → Sq → Event → (Setup → Submission → Type 0)
     → (Setup → Submission → Submission) → Type 0

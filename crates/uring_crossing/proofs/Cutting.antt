@@ -1,16 +1,10 @@
 -- A list that is cut part by part.
-use Rattle.std.proofs.Common.{◌≡◌, ◌<◌, ◌≤◌, ◌+◌, ◌-◌, ◌++◌, ◌∷◌, ℕ, zero, suc, List, [], length, map, take, drop, min, get_or, refl, sym, ap, ◌∙◌, arith}
-use Rattle.std.proofs.Math.Seq.{drop-cons, drop-nil}
+use Rattle.std.proofs.Common.{◌≡◌, ◌<◌, ◌≤◌, ◌+◌, ◌-◌, ◌++◌, ◌∷◌, ℕ, zero, suc, List, [], length, map, take, drop, min, get_or, refl, ap, arith}
+use Rattle.std.proofs.Math.Seq.{drop-cons}
+use Rattle.std.proofs.lemmas.List.{drop-drop}
 use Rattle.uring_crossing.proofs.Common.{AreShort, Sqe, append-nil, append_assoc, cut, drop_all, drop_min, drop_more, laid_out, length-drop, length-map, length-take, map-append, map_more, map_push, take_min}
 use Rattle.uring_files.specs.Contents.{max_len}
 use Rattle.uring_outcomes.specs.Faults.{entry_count}
-
-drop_plus : {X : Type 0} (n m : ℕ) (xs : List X) → drop (n + m) xs ≡ drop m (drop n xs)
-drop_plus zero m xs = ap (λ (k : ℕ). drop k xs) (let same : 0 + m ≡ m = omega arith in same)
-drop_plus (suc n) m [] = drop-nil (suc n + m) ∙ sym (drop-nil m)
-drop_plus (suc n) m (x ∷ xs) =
-    ap (λ (k : ℕ). drop k (x ∷ xs)) (let same : suc n + m ≡ suc (n + m) = omega arith in same)
-    ∙ drop_plus n m xs
 
 -- the part that begins here, and what is left after it
 pub cut_next : {X : Type 0} (lens : List ℕ) (values : List X) (i j from to len : ℕ) → i < length lens
@@ -18,7 +12,7 @@ pub cut_next : {X : Type 0} (lens : List ℕ) (values : List X) (i j from to len
     → cut (drop i lens) (drop from values)
     ≡ take (to - from) (drop from values) ∷ cut (drop j lens) (drop to values)
 cut_next lens values i j from to len within next is ends =
-    grind (arith, (length-drop from values), (drop-cons lens i 0 within), min, take_min, drop_min, drop_plus)
+    grind (arith, (length-drop from values), (drop-cons lens i 0 within), min, take_min, drop_min, (drop-drop (min len (length values - from)) from values))
 
 pub next_suc : (i : ℕ) → i + 1 ≡ suc i
 next_suc i = omega arith
@@ -33,10 +27,7 @@ pub cut_step : {X Y : Type 0} (f : Y → List X) (done new : List Y) (part : Y) 
     → map f done ++ cut (drop i lens) (drop from values) ≡ all
     → map f new ++ cut (drop j lens) (drop to values) ≡ all
 cut_step f done new part lens values i j from to len all within next is ends gives pushed so =
-    let rest = cut (drop j lens) (drop to values) in
-    ap (λ ps. map f ps ++ rest) pushed ∙ ap (λ ys. ys ++ rest) (map-append f done (part ∷ []))
-    ∙ append_assoc (map f done) (f part ∷ []) rest ∙ ap (λ p. map f done ++ p ∷ rest) gives
-    ∙ sym (ap (λ cs. map f done ++ cs) (cut_next lens values i j from to len within next is ends)) ∙ so
+    grind (arith, map-append, append_assoc, (cut_next lens values i j from to len within next is ends))
 
 -- after the last length there is nothing left to cut, and nothing to make of a list at its end
 pub nothing_left : {X Y : Type 0} (f : List X → List Y) (xs : List X) (i : ℕ) (done all : List Y) → length xs ≤ i
@@ -83,7 +74,4 @@ made_twice g f xs i x d z done new within is gives pushed so =
 pub laid_more : {X : Type 0} (f : X → List ℕ) (xs : List X) (i : ℕ) (x : X) (done kept new all : List ℕ) → i < length xs
     → x ≡ get_or xs i x → kept ≡ done → new ≡ kept ++ f x → done ++ laid_out (map f (drop i xs)) ≡ all
     → new ++ laid_out (map f (drop (i + 1) xs)) ≡ all
-laid_more f xs i x done kept new all within is same pushed so =
-    let rest = laid_out (map f (drop (i + 1) xs)) in
-    ap (λ ys. ys ++ rest) (pushed ∙ ap (λ ys. ys ++ f x) same) ∙ append_assoc done (f x) rest
-    ∙ sym (ap (λ ys. done ++ laid_out (map f ys)) (drop_more xs i x within ∙ ap (λ y. y ∷ drop (i + 1) xs) (sym is))) ∙ so
+laid_more f xs i x done kept new all within is same pushed so = grind (arith, append_assoc, (drop_more xs i x within))

@@ -1,6 +1,6 @@
 -- The letters of flags, as they are read.
 use Rattle.std.proofs.Common.{◌≡◌, ℕ, zero, suc, ◌<◌, Bool, true, false, eqb, ◌&&◌, ◌==◌, if◌then◌else◌, List, [], ◌∷◌, ◌++◌, length, length-append, refl, ap, ◌∙◌, inl, inr, append-nil, arith}
-use Rattle.uring_crossing.proofs.Common.{and_parts, bit_and, cases_Bool, codes, eqb-false, eqb-true, named_if, sum_by}
+use Rattle.uring_crossing.proofs.Common.{and_parts, bit_and, cases_Bool, codes, eqb-true, named_if, sum_by}
 use Rattle.std.specs.List.{AllByRecursion, filter}
 use Rattle.uring_text.specs.Tokens.{flag_value, NoneAgain, AreFlags}
 use Rattle.uring_crossing.specs.Traces.FlagLetters.{has_flag, letters_of, flags_text}
@@ -42,12 +42,7 @@ all_below p (suc n) = p n && all_below p n
 passes_below : (p : ℕ → Bool) (n k : ℕ) → all_below p n ≡ true → k < n → p k ≡ true
 unfolding all_below
 passes_below p zero k all lt = absurd (omega arith)
-passes_below p (suc n) k all lt =
-    let parts = and_parts (p n) (all_below p n) all in
-    elim (cases_Bool (eqb k n)) [
-      | inl same ↦ ap p (eqb-true k n same) ∙ parts.0
-      | inr other ↦ passes_below p n k parts.1 (omega (arith, eqb-false k n other))
-    ]
+passes_below p (suc n) k all lt = grind (arith, (passes_below p n k), (and_parts (p n) (all_below p n) all))
 
 abbrev is_sum : ℕ → Bool
 is_sum flags = eqb (bit_and flags 94) (sum_by flag_value (letters_of flags))

@@ -1,12 +1,9 @@
 -- In the order in which they are best read.
 mod Common
 -- Boxes whose parts C keeps:
-pub mod CoreBox
-pub mod MachineBox
-pub mod VolumeBox
-pub mod CrashMachineBox
-pub mod OutcomesBox
-pub mod Holding
+mod Walks
+pub mod HeldKinds
+pub mod Moving
 -- Words that ask for a machine, and words that tell of a refusal:
 pub mod Starts
 pub mod Refusals

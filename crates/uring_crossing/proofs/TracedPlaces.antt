@@ -1,10 +1,10 @@
 -- The step that is told at each place of a submission call is the one that stands there.
-use Rattle.std.proofs.Common.{◌≡◌, ℕ, zero, suc, ◌+◌, ◌-◌, ◌*◌, ◌/◌, ◌%◌, ◌==◌, nat_lt, nat_le, Bool, false, cond, Option, Some, None, option_map, List, [], ◌∷◌, ◌++◌, length, map, slice_get, refl, sym, ap, ◌∙◌, arith}
+use Rattle.std.proofs.Common.{◌≡◌, ℕ, zero, suc, ◌+◌, ◌-◌, ◌*◌, ◌/◌, ◌%◌, ◌==◌, nat_lt, Bool, cond, Option, Some, None, option_map, List, [], ◌∷◌, ◌++◌, length, map, slice_get, refl, arith}
 use Rattle.std.proofs.lemmas.Grind.{common_steps}
-use Rattle.uring_crossing.proofs.Common.{Answer, EntryWords, Event, Step}
+use Rattle.uring_crossing.proofs.Common.{Answer, EntryWords, Step}
 use Rattle.uring_core.specs.declared.answer.Answer.TheVariants as answer
 use Rattle.uring_core.specs.declared.step.Step.TheVariants as step
-use Rattle.uring_crossing.specs.Traces.Traced.{put_steps, filled, put_event, take_or_close, call_event, TellsEachStep}
+use Rattle.uring_crossing.specs.Traces.Traced.{put_steps, filled, take_or_close, call_event, TellsEachStep}
 
 -- the step of an entry, whose slot is this: it is filled, or staged; or another one, if there is no such entry
 abbrev fill : ℕ → Option EntryWords → Option Step
@@ -49,27 +49,7 @@ put_at : (is_fill : Bool) (slot : ℕ) (entry : Option EntryWords)
     → option_map (λ e. e.0) (cond is_fill (filled slot entry) (Some (step.Index slot, answer.Staged))) ≡ cond is_fill (fill slot entry) (Some (step.Index slot))
 put_at is_fill slot entry = grind arith
 
-both : (w : Bool) (x y : Option Event) (x' y' : Option Step) → option_map (λ e. e.0) x ≡ x' → option_map (λ e. e.0) y ≡ y'
-    → option_map (λ e. e.0) (cond w x y) ≡ cond w x' y'
-both w x y x' y' first second = grind arith
-
--- a submission, as far as its tests are known
-abbrev sent : (is_long is_first is_put : Bool) → List EntryWords → (head accepted dropped after put later : ℕ) → Option Step
-sent is_long is_first is_put entries head accepted dropped after put later =
-    option_map (λ e. e.0) (cond is_long None (cond is_first (Some (step.LoadHead, answer.Head head))
-    (cond is_put (put_event entries put) (call_event entries head (answer.Taken accepted dropped after) later))))
-
 pub tells_each_step : TellsEachStep
 tells_each_step entries head accepted dropped after zero few = grind (arith, common_steps)
 tells_each_step entries head accepted dropped after (suc p) few =
-    let n : ℕ = 2 * length entries in
-    ap (λ b. sent b (suc p == 0) (nat_le (suc p) n) entries head accepted dropped after (suc p - 1) (suc p - (n + 1))) (let e : nat_lt 4096 (length entries) ≡ false = grind (arith, common_steps, few) in e)
-    ∙ ap (λ b. sent false b (nat_le (suc p) n) entries head accepted dropped after (suc p - 1) (suc p - (n + 1))) (let e : (suc p == 0) ≡ false = grind (arith, common_steps) in e)
-    ∙ ap (λ b. sent false false b entries head accepted dropped after (suc p - 1) (suc p - (n + 1))) (let e : nat_le (suc p) n ≡ nat_lt p n = grind (arith, common_steps) in e)
-    ∙ ap (λ k. sent false false (nat_lt p n) entries head accepted dropped after k (suc p - (n + 1))) (let e : suc p - 1 ≡ p = omega arith in e)
-    ∙ ap (λ k. sent false false (nat_lt p n) entries head accepted dropped after p k) (let e : suc p - (n + 1) ≡ p - n = omega arith in e)
-    ∙ both (nat_lt p n) (put_event entries p) (call_event entries head (answer.Taken accepted dropped after) (p - n))
-    (cond (p % 2 == 0) (fill (p / 2) (slice_get entries (p / 2))) (Some (step.Index (p / 2)))) (slice_get (others entries) (p - n))
-    (put_at (p % 2 == 0) (p / 2) (slice_get entries (p / 2))) (calls_at entries head accepted dropped after (p - n))
-    ∙ ap (λ s. pick (nat_lt p n) (p % 2 == 0) s (slice_get entries (p / 2)) (slice_get (others entries) (p - n))) (let e : p / 2 ≡ 0 + p / 2 = omega arith in e)
-    ∙ sym (puts_at 0 entries (others entries) p)
+    grind (arith, common_steps, few, put_at, (calls_at entries head accepted dropped after (p - 2 * length entries)), (puts_at 0 entries (others entries) p))

@@ -4,6 +4,7 @@ ghost use Rattle.uring_laws.specs.Standing.{FreeSlotIsFilled, WordIsStaged, Tail
 ghost use Rattle.uring_laws.specs.Stopping.{OpenCallEndsThere, CallsTakeAll};
 
 /// Between calls, if no position waits and the application has loaded the head since, each slot is filled and each word staged, up to the ring's size, and a store of the tail publishes them: exactly these items, if nothing was staged before.
+#[tactic(auto, using(crate::proofs::Standing::slot_filled, crate::proofs::Standing::word_staged, crate::proofs::Standing::tail_publishes, crate::proofs::Standing::items_published))]
 pub fn empty_ring_is_filled()
     ensures fill { (g : Setup) → FreeSlotIsFilled g }
     ensures stage { (g : Setup) → WordIsStaged g }
@@ -17,6 +18,7 @@ pub fn empty_ring_takes_a_whole_call()
 {}
 
 /// The call of the positions that wait opens if the ring isn't closed, memory is there and the numbers aren't spent. In a ring that goes on it takes each of them, by Linux's rules up to the first whose word names no slot, and closes; and once the application has loaded the head the ring stands as before, with those positions taken.
+#[tactic(auto, using(crate::proofs::Standing::call_opens, crate::proofs::Standing::position_taken, crate::proofs::Standing::call_closes))]
 pub fn waiting_call_is_taken()
     ensures opens { (g : Setup) → CallOpens g }
     ensures takes { (g : Setup) → PositionIsTaken g }

@@ -3,12 +3,14 @@ ghost use Rattle.uring_entry.specs.Setup.{Setup};
 ghost use Rattle.uring_laws.specs.Finishes.{LawfulByOperations, FilesByOperations, FileByItsEnds, FileByItsOperations, PlacesJoin, FilesByPlace};
 
 /// A history is lawful exactly if it is lawful apart from what operations gave, and each operation that it carried out ended as the files before it call for. Its files are those that these operations left.
+#[tactic(auto, using(crate::proofs::FileLaws::lawful_by_operations, crate::proofs::FileLaws::files_by_operations))]
 pub fn lawful_by_operations()
     ensures lawful { (g : Setup) → LawfulByOperations g }
     ensures files { (g : Setup) → FilesByOperations g }
 {}
 
 /// The file of a descriptor is made by the ends on it alone, in their order.
+#[tactic(auto, using(crate::proofs::FilesApart::after_by_own, crate::proofs::FilesApart::left_by_own))]
 pub fn file_is_made_by_its_own_ends()
     ensures ends { FileByItsEnds }
     ensures operations { FileByItsOperations }

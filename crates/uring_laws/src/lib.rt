@@ -31,17 +31,20 @@ pub fn lists_are_the_historys_own()
 {}
 
 /// What the application published is told by the events: its items, the lengths of the calls that closed, and how many positions these dropped, modulo 2^32.
+#[tactic(auto, using(crate::proofs::PublishedItems::own_published))]
 pub fn published_is_told()
     ensures { (g : Setup) (h : History) → IsLawfulApart g h → OwnPublished g h }
 {}
 
 /// The entries that calls took are those of a beginning of the published positions, in order, each once.
+#[tactic(auto, using(crate::proofs::TakenPlaces::once_in_order))]
 pub fn taken_once_in_order()
     ensures { (g : Setup) (h : History) → IsWithinLimits g → IsLawfulApart g h
         → TakenOnceInOrder g h }
 {}
 
 /// Each request is started at most once and ends at most once, and with none outstanding each accepted one ended exactly once.
+#[tactic(auto, using(crate::proofs::RequestLaws::ends_once))]
 pub fn each_ends_once()
     ensures { (g : Setup) (h : History) → IsWithinLimits g → IsLawfulApart g h → EachEndsOnce g h }
 {}
@@ -72,11 +75,13 @@ pub fn flush_puts_all()
 {}
 
 /// After the ring is closed, no submission call opens or closes.
+#[tactic(auto, using(crate::proofs::RingLaws::nothing_after))]
 pub fn nothing_after_close()
     ensures { (g : Setup) → IsWithinLimits g → NothingAfterClose g }
 {}
 
 /// The count of the outstanding requests is 0 exactly if none is outstanding.
+#[tactic(auto, using(uring_core::proofs::Outstanding::none_outstanding, uring_core::proofs::Outstanding::all_ended))]
 pub fn none_is_outstanding()
     ensures { NoneIsOutstanding }
 {}
@@ -89,12 +94,14 @@ pub fn least_can_go_on()
 {}
 
 /// What is lawful is lawful apart from what operations gave, so that every law holds of it. In a lawful history no finish ends with -125 (`ECANCELED`), so that by the manual pages' rules each such end is that of a request that was doomed just before.
+#[tactic(auto, using(crate::proofs::WholeLaws::lawful_apart, crate::proofs::WholeLaws::finish_never_cancels))]
 pub fn operations_never_cancel()
     ensures apart { (g : Setup) → LawfulStandsApart g }
     ensures never { (g : Setup) → NoFinishCancels g }
 {}
 
 /// What runs in a lawful history can be carried out on files: it is no cancel, and its transfer is at most 64 bytes.
+#[tactic(auto, using(uring_core::proofs::Running::no_cancel, uring_core::proofs::Running::running_asks, std::proofs::lemmas::Bool::and_parts))]
 pub fn what_runs_is_for_files()
     ensures { (g : Setup) → IsWithinLimits g → WhatRunsIsForFiles g }
 {}

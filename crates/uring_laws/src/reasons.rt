@@ -2,16 +2,19 @@
 ghost use Rattle.uring_laws.specs.Reasons.{EndIsSaid, IssuableIsSaid, MayStartIsSaid, WaitsIsSaid, DoomIsSaid, TwoSteps, AnswerAgrees, FoundIsSaid};
 
 /// A request is told never to have been accepted exactly if none of its number was, to have ended exactly if it was accepted and has ended, and to run exactly if it is outstanding and was started.
+#[tactic(auto, using(crate::proofs::ReasonLaws::unaccepted_said, crate::proofs::ReasonLaws::ended_said, crate::proofs::ReasonLaws::runs_said))]
 pub fn end_is_said()
     ensures { EndIsSaid }
 {}
 
 /// A request can be issued exactly if it is told to be doomed, or that it may start.
+#[tactic(auto, using(crate::proofs::ReasonLaws::issuable_said))]
 pub fn issuable_is_said()
     ensures { IssuableIsSaid }
 {}
 
 /// A request is told that it may start exactly if it is outstanding, wasn't started, isn't doomed, and waits for nobody.
+#[tactic(auto, using(crate::proofs::ReasonLaws::may_start_said, crate::proofs::ReasonLaws::said_may_start))]
 pub fn may_start_is_said()
     ensures { MayStartIsSaid }
 {}
@@ -22,6 +25,7 @@ pub fn waits_is_said()
 {}
 
 /// What is told to doom a request does so, and nothing that is told before it does.
+#[tactic(auto, using(crate::proofs::ReasonLaws::doom_said))]
 pub fn doom_is_said()
     ensures { DoomIsSaid }
 {}
@@ -32,6 +36,7 @@ pub fn two_steps_lead_on()
 {}
 
 /// By either's rules the answer called for by an `Issue` is exactly the one that goes with what is told of its request just before: `Unknown` of one that was never accepted or has ended, `Running` of one that runs, the doomed end of a doomed one, `NotReady` of one that waits, and of one that may start the cancel's end if it is a cancel, else a start.
+#[tactic(auto, using(crate::proofs::ReasonLaws::answer_agrees))]
 pub fn answer_agrees()
     ensures { AnswerAgrees }
 {}

@@ -3,6 +3,7 @@ ghost use Rattle.uring_entry.specs.Setup.{Setup};
 ghost use Rattle.uring_laws.specs.Recorded.{CalledIsDecided, CalledIsDecidedApart, WrongIsUnlawful, WrongIsUnlawfulApart};
 
 /// Whether an answer is called for is decided, in any world, also in one that no history makes.
+#[tactic(auto, using(crate::proofs::RecordedLaws::decided_called, crate::proofs::RecordedLaws::decided_apart))]
 pub fn called_for_is_decided()
     ensures called { CalledIsDecided }
     ensures apart { CalledIsDecidedApart }

@@ -67,6 +67,7 @@ fn letter_if(flags: u8, bit: u8, letter: &'static str) -> &'static str
 }
 
 /// The letters of flags are read as those of them that have one.
+#[tactic(auto, using(crate::proofs::FlagSpellings::spelled))]
 pub fn spells_flags()
     ensures { SpellsFlags }
 {}

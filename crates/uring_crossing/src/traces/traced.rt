@@ -119,6 +119,7 @@ pub fn names_the_steps()
 {}
 
 /// They are those that are told of it, each at its place.
+#[tactic(auto, using(crate::proofs::TracedPlaces::tells_each_step))]
 pub fn tells_each_step()
     ensures { TellsEachStep }
 {}

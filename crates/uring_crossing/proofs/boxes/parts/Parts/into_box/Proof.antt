@@ -1,36 +1,5 @@
 -- `into_box` hands what the parts own to `from_raw`.
-use mathlib.Core.Path.{◌≡◌, refl, sym, subst, ap}
-use mathlib.Core.List.{List, [], ◌∷◌, ◌++◌}
-use lib.Dec.{T}
-use seplogic.Ra.Ura.{Ura}
-use mir.Syntax.{Fn, Body, place, copy, assign, rv_opd, seq, return}
-use mir.MapTy.{inst_fn}
-use mir.Val.{Val, vptr, has_ty, WT}
-use base.Logic.{SProp, ent, id⊢}
-use base.Fml.{ftrue, fsep, flft}
-use contract.BorrowLft.{◌⊑◌}
-use prog.Memory.{Memory}
-use prog.Routine.{Routine}
-use prog.Wp.{WpFn, Tables}
-use types.Logic.{Logic}
-use contract.Monad.{Fun, fact}
-use contract.Running.{tables, tables_of}
-use sound.WpLaws.{fm_of, WpFn-mono}
-use types.Kit.{Item, at_ret, ‵, raw, ◌⊛◌, some, later, ◌$◌, ◌∵◌, !, qed, by, move, drop, use1, join, split, split3, pick, rewrite, fsplit, fjoin, feq_i, suffices, await, done}
-use types.Part.{whole, sub}
-use types.Run.{stop, fld, no_more, and_then, of_opd, returns, enter, first, blocks, exec}
-use types.ByLocal.{alloc_all, pass_all, free_all, look_at, get, get_in, sets, lands_last, env}
-use denote.RattleType.{RattleType}
-use denote.Exit.{no}
-use denote.RawPtr.{block_ptr}
-use denote.Signature.{plain}
-use denote.Steps.{heard, nothing, only}
-use denote.Triple.Call.{calls_at_last}
-use denote.Triple.Clauses.{Ended, Clauses}
-use denote.Triple.Spec.{triple_of}
-use denote.Triple.Statement.{Triple, Contract}
-use denote.Triple.Table.{entered}
-use denote.Triple.Walked.{says, Stays, stay_dropped, walk_of, ends_at, walk_Meets}
+use Rattle.uring_crossing.proofs.Walks.{ !, Body, Clauses, Contract, Ended, Fn, Fun, Item, List, Logic, Memory, RattleType, Routine, SProp, Stays, T, Tables, Triple, Ura, Val, WT, WpFn, WpFn-mono, [], alloc_all, and_then, ap, assign, at_ret, await, block_ptr, blocks, by, calls_at_last, copy, done, drop, ends_at, ent, enter, entered, env, exec, fact, feq_i, first, fjoin, fld, flft, fm_of, free_all, fsep, fsplit, ftrue, get, get_in, has_ty, heard, id⊢, inst_fn, join, lands_last, later, look_at, move, no, no_more, nothing, of_opd, only, pass_all, pick, place, plain, qed, raw, refl, return, returns, rewrite, rv_opd, says, seq, sets, some, split, split3, stay_dropped, stop, sub, subst, suffices, sym, tables, tables_of, triple_of, use1, vptr, walk_Meets, walk_of, whole, ‵, ◌$◌, ◌++◌, ◌∵◌, ◌∷◌, ◌≡◌, ◌⊑◌, ◌⊛◌}
 use Rattle.uring_crossing.proofs.Common.{B, Bx, D, Goes-blank, P, R, args, box_in, box_out, box_ty, box_typed, token, word}
 use Rattle.std.specs.Box.Ownership.{box_owns}
 use Rattle.uring_crossing.specs.contracts.boxes.parts.Parts as parts

@@ -1,38 +1,6 @@
 -- `of` takes the box apart, and the parts own what it owned.
-use mathlib.Core.Path.{◌≡◌, refl, sym, subst, ap, ◌∙◌}
-use mathlib.Core.List.{List, [], ◌∷◌, ◌++◌}
-use seplogic.Ra.Ura.{Ura}
-use mir.Syntax.{Fn, Args, Dict, a_type, dcons, dnil}
-use mir.MapTy.{inst_fn}
+use Rattle.uring_crossing.proofs.Walks.{ !, Args, Clauses, Contract, Dict, Ended, Fn, Fun, Item, List, Logic, Memory, Ptr, RattleType, RawPtr, Routine, SProp, Stays, Tables, Triple, Tuple, Ura, Val, WpFn, WpFn-mono, [], a_type, agg, alloc_all, and_then, ap, await, block_ptr, bounded, by, calls_at, dcons, dnil, done, drop, ends_at, ent, enter, entered, fact, feq_l, fjoin, fld, flft, fm_of, fpick, free_all, fsep, fsplit, fst∗, ftrue, get, get_in, heard, id⊢, in_a_block, inst_fn, join, lands_as, later, look_at, move, never, no, no_more, nothing, null_ptr, of_list, of_opd, only, pass_all, pick, plain, ptr_val, qed, raw, refl, returns, rewrite, says, sem, sets, some, split, split3, stay_dropped, stop, sub, subst, suffices, sym, tables, tables_of, triple_of, use1, vstruct, walk_Meets, walk_of, whole, ‵, ◌$◌, ◌++◌, ◌∙◌, ◌∵◌, ◌∷◌, ◌≡◌, ◌⊑◌, ◌⊛◌}
 use mir.Raw.{raw as bare}
-use mir.Val.{Val, vstruct, of_list}
-use base.Logic.{SProp, ent, id⊢, never, fst∗}
-use base.Fml.{ftrue, fsep, flft}
-use contract.BorrowLft.{◌⊑◌}
-use prog.Memory.{Memory}
-use prog.Routine.{Routine}
-use prog.Wp.{WpFn, Tables}
-use types.Logic.{Logic, sem}
-use contract.Monad.{Fun, fact}
-use contract.Running.{tables, tables_of}
-use sound.WpLaws.{fm_of, WpFn-mono}
-use types.Kit.{Item, ‵, raw, ◌⊛◌, some, later, ◌$◌, ◌∵◌, !, qed, by, move, drop, use1, join, split, split3, pick, rewrite, fsplit, fjoin, fpick, feq_l, suffices, await, done}
-use types.Part.{whole, sub, agg}
-use types.Run.{stop, fld, no_more, and_then, of_opd, returns, enter}
-use types.ByLocal.{alloc_all, pass_all, free_all, look_at, get, get_in, sets, lands_as}
-use denote.RattleType.{RattleType}
-use denote.Exit.{no}
-use denote.Param.{bounded}
-use denote.RawPtr.{Ptr, RawPtr, block_ptr, null_ptr, ptr_val, in_a_block}
-use denote.Signature.{plain}
-use denote.Steps.{heard, nothing, only}
-use denote.Struct.Tuple.{Tuple}
-use denote.Triple.Call.{calls_at}
-use denote.Triple.Clauses.{Ended, Clauses}
-use denote.Triple.Spec.{triple_of}
-use denote.Triple.Statement.{Triple, Contract}
-use denote.Triple.Table.{entered}
-use denote.Triple.Walked.{says, Stays, stay_dropped, walk_of, ends_at, walk_Meets}
 use Rattle.uring_crossing.proofs.Common.{B, Bx, D, Goes-blank, P, R, box_in, box_out, box_typed, handle_tells, token, word, τ}
 use Rattle.std.specs.Box.Ownership.{box_owns}
 use Rattle.uring_crossing.specs.contracts.boxes.parts.Parts as parts

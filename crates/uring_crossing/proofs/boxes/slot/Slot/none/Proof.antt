@@ -1,36 +1,9 @@
 -- `none` makes a slot with a null pointer, which owns nothing beside its allocator.
-use mathlib.Core.Path.{refl, sym, subst}
-use mathlib.Core.List.{List, [], ◌∷◌, ◌++◌}
-use lib.Dec.{lit<}
-use seplogic.Ra.Ura.{Ura}
-use mir.Val.{Val, vnull, vstruct, vnil, vcons, has_ty}
-use base.Logic.{SProp, ent, emp}
-use base.Fml.{ftrue, fsep}
-use prog.Memory.{Memory}
-use prog.Routine.{Routine}
-use prog.Wp.{WpFn, Tables}
-use types.Logic.{Logic}
-use contract.Monad.{Fun}
-use contract.Running.{tables, tables_of}
-use sound.WpLaws.{WpFn-mono}
-use types.Kit.{Item, ‵, raw, ◌⊛◌, ◌$◌, ◌∵◌, !, qed, by, move, drop, join, split, fsplit, fjoin, fpack, feq_i, suffices, done}
-use types.Part.{agg}
-use types.Run.{lit, no_more, and_then, returns, enter}
-use types.ByLocal.{alloc_all, pass_all, free_all, look_at, get, sets}
-use denote.Exit.{yes}
-use denote.RattleType.{Valss}
-use denote.RawPtr.{null_ptr, ptr_val}
-use denote.Signature.{plain, type_at}
-use denote.Steps.{nothing}
-use denote.Struct.Owning.{shape, fields, to}
-use denote.Struct.Struct.{within}
-use denote.Triple.Spec.{triple_of}
-use denote.Triple.Table.{entered}
-use denote.Triple.Walked.{says, Stays, stay_dropped, walk_of, ends_at, Goes-dropped, walk_Meets}
+use Rattle.uring_crossing.proofs.Walks.{ !, Fun, Goes-dropped, Item, List, Logic, Memory, Routine, SProp, Stays, Tables, Ura, Val, Valss, WpFn, WpFn-mono, [], agg, alloc_all, and_then, by, done, drop, emp, ends_at, ent, enter, entered, feq_i, fields, fjoin, fpack, free_all, fsep, fsplit, ftrue, get, has_ty, join, lit, lit<, look_at, move, no_more, nothing, null_ptr, pass_all, plain, ptr_val, qed, raw, refl, returns, says, sets, shape, split, stay_dropped, subst, suffices, sym, tables, tables_of, to, triple_of, type_at, vcons, vnil, vnull, vstruct, walk_Meets, walk_of, within, yes, ‵, ◌$◌, ◌++◌, ◌∵◌, ◌∷◌, ◌⊛◌}
 use Rattle.uring_crossing.proofs.Common.{None, handle_tells, α}
 use Rattle.std.specs.contracts.alloc.Global as Heap
 use Rattle.std.proofs.ResultValues.{and_tt}
-use Rattle.uring_crossing.proofs.CoreBox.{E}
+use Rattle.uring_crossing.proofs.HeldKinds.{memory}
 use Rattle.uring_crossing.specs.contracts.boxes.slot.Slot as Slot
 use Rattle.uring_crossing.specs.contracts.boxes.slot.Slot.none as F
 use Rattle.uring_crossing.specs.contracts.boxes.slot.Slot.none.Key.{name as #self}
@@ -51,12 +24,12 @@ module _ {M : Type 1} {𝓤 : Ura M} (𝓛 : Logic 𝓤) (at_mem : Memory → SP
       let To = type_at (F.signature).result tt in
       let made : To.Denot = record { at = null_ptr; alloc = a; held = None } in
       qed 𝓛 ((‵ ftrue ⊛ ‵ (fsep ((Heap.the_row).own_val a z.0.4.0) ftrue)) ∷ raw (emp 𝓤) ∷ []) ∵ split ! $ drop ! $ fsplit ! $
-      handle_tells E.al ! a z.0.4.0 (λ hv ea fa. move ! (1 ∷ 2 ∷ []) $ drop ! $ drop ! $
+      handle_tells memory ! a z.0.4.0 (λ hv ea fa. move ! (1 ∷ 2 ∷ []) $ drop ! $ drop ! $
       let w : Val = vstruct (vcons vnull (vcons hv vnil)) in
       let Γ : List (Item 𝓤) = ‵ ((Heap.the_row).own_val a (hv ∷ [])) ∷ [] in
       by ! (subst (λ (us : List Val). ent 𝓤 (types.Kit.⋆ 𝓛 Γ) (WpFn 𝓤 H 𝓣.C 𝓣.Λ code.function (us ++ []) Post)) (sym ea)
       (qed 𝓛 Γ ∵ enter ! 𝓣.C 𝓣.Λ code.function (hv ∷ []) _ $ alloc_all ! (λ ls. pass_all ! refl (fa, tt) $
-      sets ! (agg ! (and_then ! (lit ! tt) (and_then ! (get ! refl) (no_more !)))) refl (and_tt (has_ty (α E.al) hv) fa.0, (record { fits = lit< tt }, (fa.1, tt))) $
+      sets ! (agg ! (and_then ! (lit ! tt) (and_then ! (get ! refl) (no_more !)))) refl (and_tt (has_ty (α memory) hv) fa.0, (record { fits = lit< tt }, (fa.1, tt))) $
       returns ! (look_at ! 0 refl) $ free_all ! refl $
       nothing ! $ move ! (1 ∷ 0 ∷ []) $ fjoin ! $ feq_i ! (List Val) (vnull ∷ []) (ptr_val null_ptr ∷ []) refl $ fjoin ! $
       feq_i ! (List Val) (w ∷ []) (w ∷ []) refl $ fjoin ! $
