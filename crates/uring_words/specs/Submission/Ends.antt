@@ -1,12 +1,11 @@
 -- Glue. What callers see of an end of the submission ring's table, and what its fields are.
-use Rattle.std.specs.Prelude.{◌≡◌, ℕ, ◌+◌, ◌-◌, ◌%◌, ◌^◌, ◌<◌, ◌≤◌, true, List, [], ◌++◌, drop, length, map}
+use Rattle.std.specs.Prelude.{◌≡◌, ℕ, ◌+◌, ◌-◌, ◌<◌, true, List, [], ◌++◌, drop, length, map}
 use Rattle.atomic_table.specs.Seated.{TableId}
-use Rattle.uring_entry.specs.IndexWords.{word_of}
-use Rattle.uring_words.specs.Slots.{SlotsFit, held_by, known_to}
+use Rattle.uring_words.specs.Places.{words_between}
+use Rattle.uring_words.specs.Slots.{HoldsDone, SlotsFit, held_by, known_to}
 use Rattle.uring_words.specs.Submission.Calls.{AreWhole}
 use Rattle.uring_words.specs.Submission.Layout.{word_count}
-use Rattle.uring_words.specs.Submission.Rule.{tail_seen}
-use Rattle.uring_words.specs.Submission.Steps.{Holder, with_first_after, head_loaded}
+use Rattle.uring_words.specs.Submission.Steps.{Holder, head_loaded}
 use Rattle.uring_words.specs.declared.submission.view.AppSide.{AppSide}
 use Rattle.uring_words.specs.declared.submission.view.KernelSide.{KernelSide}
 use Rattle.uring_words.specs.declared.submission.view.Position.{Position}
@@ -36,10 +35,6 @@ kernel_knows e d = record { table = e.table; knows = record e.knows { kernel = d
 abbrev pub has_loaded : View AppSide KernelSide → ℕ → View AppSide KernelSide
 has_loaded v end = record v { app = head_loaded v.app end }
 
--- how many counts there are from one index word to another
-abbrev pub words_between : (from to : ℕ) → ℕ
-words_between from to = (to + (2 ^ 32 - from)) % 2 ^ 32
-
 -- the application's end with a seat that knows and holds this, and with these index words of the place that it writes next and of the end of its places, after which stand those that it has written
 abbrev pub writer_of : TableId → Holder → (tail end : ℕ) → Writer
 writer_of table me tail end =
@@ -51,17 +46,14 @@ reader_of table me tail head =
     let known = (known_to me).kernel.known in
     record { table = table; knows = known_to me; unread = drop (length known - words_between head tail) known }
 
--- The application's end: its seat of this table, what it knows, the places that it holds, those that it has written after the others, the ring's size, and its index words of the place that it writes next and of the end of its places.
+-- The application's end: its seat of this table, what it knows, the places that it holds, the ring's size, and its index words of the place that it writes next and of the end of its places.
 pub record IsWriter (seat table : TableId) (v : View AppSide KernelSide) (held : List (ℕ × Position)) (size tail end : ℕ) : Type 0 where
   pub fits : SlotsFit seat table word_count 4096 size v.app.size
   pub is_app : v.is_app ≡ true
   pub blank : List Position
   pub written : List Position
-  pub holds : held ≡ with_first_after v.app.start v.app.size (length v.app.published) blank written
-  pub tail_word : tail ≡ word_of v.app.start (length v.app.published + length written)
-  pub end_word : end ≡ word_of v.app.start v.app.end
+  pub has : HoldsDone v.app.start v.app.size (length v.app.published) tail end held blank written
   pub many : length v.app.published + (length written + length blank) ≡ v.app.end
-  pub few : length written + length blank ≤ size
 
 -- between two calls: whole calls are published, and nothing is written after them
 pub record WriterRests (e : Writer) : Type 0 where
@@ -73,17 +65,14 @@ pub record LooksInVain (before after : Writer) (count : ℕ) : Type 0 where
   pub looked : before.knows.app.looks < after.knows.app.looks
   pub room : after.knows.app.end < length after.knows.app.published + count
 
--- The dispatcher's end: its seat of this table, what it knows, the places of the positions that it knows, those that it has read after the others, the ring's size, and its index words of the tail that it last saw and of the place that it reads next.
+-- The dispatcher's end: its seat of this table, what it knows, the places of the positions that it knows, the ring's size, and its index words of the tail that it last saw and of the place that it reads next.
 pub record IsReader (seat table : TableId) (v : View AppSide KernelSide) (held : List (ℕ × Position)) (size tail head : ℕ) : Type 0 where
   pub fits : SlotsFit seat table word_count 4096 size v.kernel.size
   pub is_kernel : v.is_kernel ≡ true
   pub read : List Position
   pub unread : List Position
   pub known : v.kernel.known ≡ read ++ unread
-  pub holds : held ≡ with_first_after v.kernel.start v.kernel.size (length v.kernel.taken) unread read
-  pub tail_word : tail ≡ word_of v.kernel.start (tail_seen v.kernel)
-  pub head_word : head ≡ word_of v.kernel.start (length v.kernel.taken + length read)
-  pub few : length v.kernel.known ≤ size
+  pub has : HoldsDone v.kernel.start v.kernel.size (length v.kernel.taken) head tail held unread read
 
 -- between two calls: what was taken is whole calls, what is known after it too, and nothing of that is read
 pub record ReaderRests (e : Reader) : Type 0 where

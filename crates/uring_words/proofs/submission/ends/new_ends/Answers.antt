@@ -6,6 +6,7 @@ use Rattle.uring_words.specs.declared.submission.view.Position.TheVariants as po
 use Rattle.uring_words.proofs.Plays.{opens}
 use Rattle.uring_words.proofs.FirstTable.{both_fit, start_word}
 use Rattle.uring_words.proofs.SlotSeats.{splits}
+use Rattle.uring_words.proofs.Turning.{fresh}
 use Rattle.uring_words.proofs.submission.ends.new_ends.Goals as goal
 
 pub new_slot_table-requires-clause-opens : goal.new_slot_table-requires-clause-opens
@@ -19,17 +20,13 @@ pub invariant_of-writer : goal.invariant_of-writer
 invariant_of-writer g c =
     let app = c.in_ok-app.ensures.app in
     let start = start_word c.args.shape.start (search rules) in
-    rw app.2 (record {
-      fits = record { same_table = app.0; many = app.1; power = c.requires.power; most = c.requires.limit; sized = refl };
-      is_app = refl;
-      blank = [];
-      written = [];
-      holds = refl;
-      tail_word = start;
-      end_word = start;
-      many = refl;
-      few = omega arith;
-    })
+    rw app.2 (record { fits = record { same_table = app.0; many = app.1; power = c.requires.power; most = c.requires.limit; sized = refl }; is_app = refl; blank = []; written = []; has = fresh c.args.shape.start c.args.shape.size 0 c.args.shape.start c.args.shape.start [] start start (omega arith); many = refl })
+
+pub invariant_of-reader : goal.invariant_of-reader
+invariant_of-reader g c =
+    let kernel = c.in_ok-app.ensures.kernel in
+    let start = start_word c.args.shape.start (search rules) in
+    rw kernel.2 (record { fits = record { same_table = kernel.0; many = kernel.1; power = c.requires.power; most = c.requires.limit; sized = refl }; is_kernel = refl; read = []; unread = []; known = refl; has = fresh c.args.shape.start c.args.shape.size 0 c.args.shape.start c.args.shape.start [] start start (omega arith) })
 
 pub returns-clause-app : goal.returns-clause-app
 returns-clause-app g c =

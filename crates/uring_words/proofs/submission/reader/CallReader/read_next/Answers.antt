@@ -1,11 +1,12 @@
 use Rattle.std.proofs.Common.{refl}
-use Rattle.uring_words.proofs.Reading.{next_first, reads, read_is}
+use Rattle.uring_words.proofs.Reading.{next, read_is, reads}
 use Rattle.uring_words.proofs.submission.reader.CallReader.read_next.Goals as goal
 
 pub slot_mut-position-requires : goal.slot_mut-position-requires
 slot_mut-position-requires c =
     let i = c.self.invariant in
-    rw c.deref.ensures (i.fits.same_table, next_first i (rw (← c.self.view_is) at c.requires))
+    let n = next i (rw (← c.self.view_is) at c.requires) in
+    rw c.deref.ensures (i.fits.same_table, (n.0, n.3))
 
 pub invariant_of-self : goal.invariant_of-self
 invariant_of-self c =
