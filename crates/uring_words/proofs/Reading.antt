@@ -23,9 +23,7 @@ module _ {seat table : TableId} {v : View AppSide KernelSide} {held : List (ℕ 
   many = left i.has (omega (arith, i.fits.most, i.fits.sized))
 
   unread_is : drop (length v.kernel.known - words_between head tail) v.kernel.known ≡ i.unread
-  unread_is =
-      let front : length v.kernel.known - words_between head tail ≡ length i.read = omega (arith, parts, many) in
-      ap (λ k. drop k v.kernel.known) front ∙ ap (drop (length i.read)) i.known ∙ drop-append_seam i.read i.unread
+  unread_is = grind (arith, parts, many, i.known, drop-append_seam i.read i.unread)
 
   -- what callers see
   pub sees : reader_of seat (v, held) tail head ≡ record { table = seat; knows = v; unread = i.unread }

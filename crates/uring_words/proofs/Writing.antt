@@ -16,11 +16,8 @@ module _ {seat table : TableId} {v : View AppSide KernelSide} {held : List (ℕ 
 
   written_is : map (λ x. x.1) (drop (words_between tail end) held) ≡ i.written
   written_is =
-      let n : ℕ = length v.app.published in
-      let blank = held_from v.app.start v.app.size (n + length i.written) i.blank in
-      let written = held_from v.app.start v.app.size n i.written in
-      let far : words_between tail end ≡ length blank = many ∙ sym (held-length v.app.start v.app.size (n + length i.written) i.blank) in
-      ap (λ k. map (λ (x : ℕ × Position). x.1) (drop k held)) far ∙ ap (λ h. map (λ (x : ℕ × Position). x.1) (drop (length blank) h)) i.has.holds ∙ ap (map (λ (x : ℕ × Position). x.1)) (drop-append_seam blank written) ∙ held_values v.app.start v.app.size n i.written
+      let written = drop-append_seam (held_from v.app.start v.app.size (length v.app.published + length i.written) i.blank) (held_from v.app.start v.app.size (length v.app.published) i.written) in
+      grind (arith, many, i.has.holds, held-length, held_values, written)
 
   -- what callers see
   pub sees : writer_of seat (v, held) tail end ≡ record { table = seat; knows = v; written = i.written }

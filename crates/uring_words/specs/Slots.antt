@@ -1,11 +1,10 @@
 -- Tables whose slots the two sides hand to each other: slot i holds what stands at place i of the ring. Our own rule.
-use Rattle.std.specs.Prelude.{◌≡◌, ℕ, ◌+◌, ◌≤◌, true, List, [], ◌∷◌, ◌++◌, length}
+use Rattle.std.specs.Prelude.{◌≡◌, ℕ, ◌+◌, ◌≤◌, true, List, [], ◌∷◌}
 use Rattle.std.specs.Int.{IsPowerOfTwo}
 use mathlib.Core.Option.{Option, some}
 use lib.ListN.{get_elem?}
 use Rattle.atomic_table.specs.Seated.{TableId}
 use Rattle.atomic_table.specs.Table.{State, Me}
-use Rattle.uring_entry.specs.IndexWords.{word_of}
 use Rattle.uring_words.specs.Places.{place_of}
 use Rattle.uring_words.specs.Sides.{Knows}
 use Rattle.uring_words.specs.declared.sides.View.{View}
@@ -24,13 +23,6 @@ module _ {S : Type 0} where
   StandFrom start size homes count (x ∷ xs) =
       (get_elem? homes (place_of start size count) ≡ some (some x))
       × StandFrom start size homes (count + 1) xs
-
-  -- The slots that a seat holds, from this count on in a ring of this size: those that it has written or read (done) stand after the others. The index words of the first of the others and of the count at which they end.
-  pub record HoldsDone (start size count next last : ℕ) (held : List (ℕ × S)) (others done : List S) : Type 0 where
-    pub few : length done + length others ≤ size
-    pub holds : held ≡ held_from start size (count + length done) others ++ held_from start size count done
-    pub next_word : next ≡ word_of start (count + length done)
-    pub last_word : last ≡ word_of start (count + (length done + length others))
 
 -- A is what the application knows, D what the dispatcher knows.
 module _ {S A D : Type 0} where

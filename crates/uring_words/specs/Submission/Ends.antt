@@ -1,11 +1,11 @@
 -- Glue. What callers see of an end of the submission ring's table, and what its fields are.
-use Rattle.std.specs.Prelude.{◌≡◌, ℕ, ◌+◌, ◌-◌, ◌<◌, true, List, [], ◌++◌, drop, length, map}
+use Rattle.std.specs.Prelude.{◌≡◌, ℕ, ◌+◌, ◌-◌, ◌%◌, ◌^◌, ◌<◌, ◌≤◌, true, List, [], ◌++◌, drop, length, map}
 use Rattle.atomic_table.specs.Seated.{TableId}
-use Rattle.uring_words.specs.Places.{words_between}
-use Rattle.uring_words.specs.Slots.{HoldsDone, SlotsFit, held_by, known_to}
+use Rattle.uring_entry.specs.IndexWords.{word_of}
+use Rattle.uring_words.specs.Slots.{SlotsFit, held_by, known_to}
 use Rattle.uring_words.specs.Submission.Calls.{AreWhole}
 use Rattle.uring_words.specs.Submission.Layout.{word_count}
-use Rattle.uring_words.specs.Submission.Steps.{Holder, head_loaded}
+use Rattle.uring_words.specs.Submission.Steps.{Holder, with_first_after, head_loaded}
 use Rattle.uring_words.specs.declared.submission.view.AppSide.{AppSide}
 use Rattle.uring_words.specs.declared.submission.view.KernelSide.{KernelSide}
 use Rattle.uring_words.specs.declared.submission.view.Position.{Position}
@@ -35,6 +35,10 @@ kernel_knows e d = record { table = e.table; knows = record e.knows { kernel = d
 abbrev pub has_loaded : View AppSide KernelSide → ℕ → View AppSide KernelSide
 has_loaded v end = record v { app = head_loaded v.app end }
 
+-- how many counts there are from one index word to another
+abbrev pub words_between : (from to : ℕ) → ℕ
+words_between from to = (to + (2 ^ 32 - from)) % 2 ^ 32
+
 -- the application's end with a seat that knows and holds this, and with these index words of the place that it writes next and of the end of its places, after which stand those that it has written
 abbrev pub writer_of : TableId → Holder → (tail end : ℕ) → Writer
 writer_of table me tail end =
@@ -45,6 +49,13 @@ abbrev pub reader_of : TableId → Holder → (tail head : ℕ) → Reader
 reader_of table me tail head =
     let known = (known_to me).kernel.known in
     record { table = table; knows = known_to me; unread = drop (length known - words_between head tail) known }
+
+-- The places that a seat holds, from this count on in a ring of this size: those that it has written or read (done) stand after the others. The index words of the first of the others and of the count at which they end.
+pub record HoldsDone (start size count next last : ℕ) (held : List (ℕ × Position)) (others done : List Position) : Type 0 where
+  pub few : length done + length others ≤ size
+  pub holds : held ≡ with_first_after start size count others done
+  pub next_word : next ≡ word_of start (count + length done)
+  pub last_word : last ≡ word_of start (count + (length done + length others))
 
 -- The application's end: its seat of this table, what it knows, the places that it holds, the ring's size, and its index words of the place that it writes next and of the end of its places.
 pub record IsWriter (seat table : TableId) (v : View AppSide KernelSide) (held : List (ℕ × Position)) (size tail end : ℕ) : Type 0 where

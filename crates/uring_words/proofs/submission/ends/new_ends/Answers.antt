@@ -20,13 +20,13 @@ pub invariant_of-writer : goal.invariant_of-writer
 invariant_of-writer g c =
     let app = c.in_ok-app.ensures.app in
     let start = start_word c.args.shape.start (search rules) in
-    rw app.2 (record { fits = record { same_table = app.0; many = app.1; power = c.requires.power; most = c.requires.limit; sized = refl }; is_app = refl; blank = []; written = []; has = fresh c.args.shape.start c.args.shape.size 0 c.args.shape.start c.args.shape.start [] start start (omega arith); many = refl })
+    rw app.2 (record { fits = assumption (app, c.requires); is_app = refl; blank = []; written = []; has = fresh c.args.shape.start c.args.shape.size 0 c.args.shape.start c.args.shape.start [] start start (omega arith); many = refl })
 
 pub invariant_of-reader : goal.invariant_of-reader
 invariant_of-reader g c =
     let kernel = c.in_ok-app.ensures.kernel in
     let start = start_word c.args.shape.start (search rules) in
-    rw kernel.2 (record { fits = record { same_table = kernel.0; many = kernel.1; power = c.requires.power; most = c.requires.limit; sized = refl }; is_kernel = refl; read = []; unread = []; known = refl; has = fresh c.args.shape.start c.args.shape.size 0 c.args.shape.start c.args.shape.start [] start start (omega arith) })
+    rw kernel.2 (record { fits = assumption (kernel, c.requires); is_kernel = refl; read = []; unread = []; known = refl; has = fresh c.args.shape.start c.args.shape.size 0 c.args.shape.start c.args.shape.start [] start start (omega arith) })
 
 pub returns-clause-app : goal.returns-clause-app
 returns-clause-app g c =
