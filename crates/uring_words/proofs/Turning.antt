@@ -1,6 +1,6 @@
 -- An end of the submission ring that writes or reads the first of its places, which then goes after the others.
-use Rattle.uring_words.proofs.Common.{HoldsDone, Position, held_from, place_of, rest, with_first_after, word_of, words_between}
-use Rattle.std.proofs.Common.{◌≡◌, ℕ, ◌+◌, ◌%◌, ◌^◌, ◌<◌, ◌≤◌, List, [], ◌∷◌, ◌++◌, length, ◌∙◌, ap, arith, append-nil, append_assoc, length-append}
+use Rattle.uring_words.proofs.Common.{HoldsDone, Position, held_from, place_of, rest, word_of, words_between}
+use Rattle.std.proofs.Common.{◌≡◌, ℕ, ◌+◌, ◌%◌, ◌^◌, ◌<◌, ◌≤◌, List, [], ◌∷◌, ◌++◌, length, ap, arith, append-nil, append_assoc, length-append}
 use Rattle.uring_words.proofs.SlotActs.{first_held}
 use Rattle.uring_words.proofs.Standing.{at_place}
 
@@ -8,12 +8,6 @@ held_more : (start size count : ℕ) (xs : List Position) (x : Position)
     → held_from start size count (xs ++ x ∷ []) ≡ held_from start size count xs ++ (place_of start size (count + length xs), x) ∷ []
 held_more start size count [] x = grind arith
 held_more start size count (y ∷ ys) x = grind (arith, (held_more start size (count + 1) ys x))
-
-goes_after : (start size count place : ℕ) (held : List (ℕ × Position)) (xs done : List Position) (x : Position)
-    → place ≡ place_of start size (count + length done)
-    → rest held ≡ held_from start size (count + length done + 1) xs ++ held_from start size count done
-    → rest held ++ (place, x) ∷ [] ≡ with_first_after start size count xs (done ++ x ∷ [])
-goes_after start size count place held xs done x at others = grind (arith, held_more, append_assoc, length-append)
 
 -- none is done
 pub fresh : (start size count next last : ℕ) (others : List Position) → next ≡ word_of start count
@@ -42,10 +36,10 @@ module _ {start own count next last : ℕ} {held : List (ℕ × Position)} {othe
     pub turns : (x y : Position) (ys : List Position) → others ≡ x ∷ ys
         → HoldsDone start own count ((next + 1) % 2 ^ 32) last (rest held ++ (next % size, y) ∷ []) ys (done ++ y ∷ [])
     turns x y ys is =
-        let all = h.holds ∙ ap (λ l. with_first_after start own count l done) is in
+        let at = at_place start size own (count + length done) next sized h.next_word in
         record {
           few = omega (arith, h.few, ap length is, length-append done (y ∷ []));
-          holds = goes_after start own count (next % size) held ys done y (at_place start size own (count + length done) next sized h.next_word) (ap rest all);
+          holds = grind (arith, h.holds, is, at, held_more, append_assoc, length-append);
           next_word = omega (arith, h.next_word, length-append done (y ∷ []));
           last_word = omega (arith, h.last_word, ap length is, length-append done (y ∷ []));
         }

@@ -47,6 +47,7 @@ impl CallReader {
     }
 
     /// How many positions are known to be there and not read.
+    #[tactic(auto, using(crate::proofs::Reading::waits))]
     fn waiting(&self) -> u32
         ensures many { result ≡ length self.now.unread }
         ensures few { result ≤ self.now.knows.kernel.size }

@@ -1,7 +1,5 @@
-use Rattle.std.proofs.Common.{◌≡◌, [], rules, refl, ap, ◌∙◌, arith, length}
-use Rattle.uring_words.specs.Sides.{app_part}
-use Rattle.uring_words.proofs.Common.{Holder, Writer, false≢true, has_loaded}
-use Rattle.uring_words.specs.Submission.Rule.{at_first}
+use Rattle.std.proofs.Common.{[], rules, refl, arith}
+use Rattle.uring_words.proofs.Common.{false≢true}
 use Rattle.uring_words.specs.declared.submission.view.Position.TheVariants as position
 use Rattle.uring_words.proofs.Plays.{opens}
 use Rattle.uring_words.proofs.FirstTable.{both_fit, start_word}
@@ -27,13 +25,6 @@ invariant_of-reader g c =
     let kernel = c.in_ok-app.ensures.kernel in
     let start = start_word c.args.shape.start (search rules) in
     rw kernel.2 (record { fits = assumption (kernel, c.requires); is_kernel = refl; read = []; unread = []; known = refl; has = fresh c.args.shape.start c.args.shape.size 0 c.args.shape.start c.args.shape.start [] start start (omega arith) })
-
-pub returns-clause-app : goal.returns-clause-app
-returns-clause-app g c =
-    let me = c.in_ok-app.ensures.app.2 in
-    let l = c.load_head.ensures in
-    let end : c.load_head.new.self.knows.app.end ≡ c.args.shape.size = omega (arith, l.least, l.most, ap (λ (m : Holder). m.0.app.size) me, ap (λ (m : Holder). length m.0.app.published) me) in
-    ap (λ (e : Writer). e.knows) l.is ∙ ap (λ (m : Holder). has_loaded m.0 c.load_head.new.self.knows.app.end) me ∙ ap (has_loaded (app_part (at_first c.args.shape))) end
 
 pub returns-in_err-app-clause-granted : goal.returns-in_err-app-clause-granted
 returns-in_err-app-clause-granted g c = λ n grants room.

@@ -1,4 +1,4 @@
-use Rattle.std.proofs.Common.{◌≡◌, ◌+◌, [], ◌∷◌, ◌++◌, take, arith, sym, ap, ◌∙◌, length-take-le, take_all}
+use Rattle.std.proofs.Common.{◌≡◌, ◌+◌, [], ◌∷◌, ◌++◌, take, arith, ap, ◌∙◌, length-take-le, take_all}
 use Rattle.uring_words.proofs.Common.{Writer, all_more, take_more}
 use Rattle.uring_words.specs.declared.submission.view.Position.TheVariants as position
 use Rattle.uring_words.proofs.CallLemmas.{more_append, more_length}
@@ -15,7 +15,8 @@ loop-item-preserved c =
     let k = c.loop-item.item-index in
     let items = c.args.front.now in
     let x = c.item-item.result in
-    let longer : all_more (take k items) ++ position.More x ∷ [] ≡ all_more (take (k + 1) items) = sym (ap all_more (take_more items k x c.loop-item-test.true ∙ ap (λ y. take k items ++ y ∷ []) (sym c.item-item.is)) ∙ more_append (take k items) (x ∷ [])) in
+    let next = take_more items k x c.loop-item-test.true in
+    let longer : all_more (take k items) ++ position.More x ∷ [] ≡ all_more (take (k + 1) items) = grind (arith, next, c.item-item.is, more_append) in
     c.write_next.ensures ∙ ap (λ (e : Writer). record e { written = e.written ++ position.More x ∷ [] }) c.loop-item.invariant ∙ ap (λ w. record c.args.self.now { written = w }) longer
 
 pub write_next-requires-2 : goal.write_next-requires-2
