@@ -160,8 +160,7 @@ pub call_ends : (old : Reader) (front : List Item) (unread : List Position) → 
     → 0 < length old.knows.kernel.known → old.knows.kernel.known ≡ all_more front ++ unread → length unread ≡ 0 → ⊥
 call_ends old front unread rests open' some known empty =
     let whole = (whole_both false old.knows.kernel.taken old.knows.kernel.known rests.whole open').0 rests.known in
-    let all : old.knows.kernel.known ≡ all_more front = known ∙ ap (λ l. all_more front ++ l) (nil_from_length unread empty) ∙ append-nil (all_more front) in
-    never_open front (omega (arith, some, ap length all, more_length front)) (rw all at whole)
+    grind (arith, known, whole, nil_from_length unread empty, append-nil, never_open front, more_length front)
 
 -- one more item that others of its call follow
 pub goes_on : (known left unread : List Position) (front all : List Item) (x : Position) (item : Item) → known ≡ all_more front ++ left → left ≡ x ∷ unread
