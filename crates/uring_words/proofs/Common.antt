@@ -9,12 +9,11 @@ pub use Rattle.atomic_table.specs.Table.{Act, Allows, Joins, Me, Splits, Valid, 
 pub use Rattle.uring_entry.specs.IndexWords.{word_of}
 pub use Rattle.uring_ports.specs.Ports.{LeavesItems, Pulls, Put, items_of_calls, places_of, with_call, with_close}
 pub use Rattle.uring_ports.specs.declared.item.Item.{Item}
-pub use Rattle.uring_words.specs.Completion.Ends.{IsReader}
 pub use Rattle.uring_words.specs.Completion.Rule.{Agree, BothAgree, at_first, last_of}
 pub use Rattle.uring_words.specs.Places.{place_of}
 pub use Rattle.uring_words.specs.Slots.{SidesAgree, StandFrom, app_has, held_from, kernel_has, parts_of_both}
 pub use Rattle.uring_words.specs.Submission.Calls.{AreWhole, AreWholeFrom, all_more, calls_of, has_close_mark, items_of, put_of}
-pub use Rattle.uring_words.specs.Submission.Ends.{AreRead, End, HoldsKnown, IsWriter, ReaderRests, ReadsCall, Writes, app_knows, has_loaded, kernel_knows, known_of, published_of, tail_after, taken_of}
-pub use Rattle.uring_words.specs.Submission.Steps.{GivesAll, Holder, LoadsHead, LoadsTail, StoresHead, StoresTail, all_given, head_loaded, head_stored, tail_loaded, tail_stored, with_first_after}
+pub use Rattle.uring_words.specs.Submission.Ends.{HoldsDone, IsReader, IsWriter, Reader, ReaderRests, Writer, app_knows, has_loaded, kernel_knows, reader_of, words_between, writer_of}
+pub use Rattle.uring_words.specs.Submission.Steps.{GivesAll, HeadTold, Holder, LoadsHead, LoadsTail, StoresHead, StoresTail, TailTold, all_given, head_loaded, head_stored, tail_loaded, tail_stored, with_first_after}
 pub use Rattle.uring_words.specs.declared.sides.View.{View}
 pub use Rattle.uring_words.specs.declared.submission.view.Position.{Position}

@@ -43,8 +43,7 @@ module _ (slots id : ℕ) (v : View AppSide KernelSide) (held : List (ℕ × Cqe
       → Allows BothAgree slots id (v, held) dropped_index (λ _. word) (λ _. StoresDropped (step slots dropped_index word 0 none) (v, held) word)
   stores_dropped word is_kernel small =
       kernel_step slots id dropped_index (λ _. word) v held (λ _. StoresDropped (step slots dropped_index word 0 none) (v, held) word) is_kernel (λ words homes a h both.
-      let d : KernelSide = v.kernel in
-      (dropped_stored d word, keeps, tt, grind (arith, keeps_stored (lists h) dropped_index word, last_after 0 d.dropped word [], get_or-set_same, had_more (0 ∷ d.dropped) (word ∷ []) a.dropped), refl))
+      (dropped_stored v.kernel word, keeps, tt, grind (arith, keeps_stored (lists h) dropped_index word, last_after 0 v.kernel.dropped word [], get_or-set_same, had_more (0 ∷ v.kernel.dropped) (word ∷ []) a.dropped), refl))
 
   -- the head is loaded
   pub loads_head : (blank : List Cqe) → v.is_kernel ≡ true
@@ -54,15 +53,14 @@ module _ (slots id : ℕ) (v : View AppSide KernelSide) (held : List (ℕ × Cqe
   loads_head blank is_kernel holds ends =
       kernel_hands slots id head_index (λ n. n) v held (LoadsHead (step slots head_index 0 0 none) (v, held)) is_kernel (λ words homes a h both.
       let d : KernelSide = v.kernel in
-      let l = lists h in
-      let r = loads_free l blank ends in (
+      let r = loads_free (lists h) blank ends in (
         held_from d.start d.size (length d.put) blank,
         held_from d.start d.size (length d.put) (blank ++ h.free),
         head_loaded d (length a.got + d.size),
         holds,
         r.0,
         grind (arith, set-get_or),
-        (length a.got, blank ++ h.free, refl, grind (arith, put_many l, l.all, length-append), refl),
+        (length a.got, blank ++ h.free, refl, grind (arith, put_many (lists h), (lists h).all, length-append), refl),
       ))
 
   -- the dispatcher gives back its cells
@@ -84,15 +82,14 @@ module _ (slots id : ℕ) (v : View AppSide KernelSide) (held : List (ℕ × Cqe
       let a : AppSide = v.app in
       let n : ℕ = length a.got in
       let s = h.sized in
-      let l = lists h in
-      let r = loads_rest l in (
+      let r = loads_rest (lists h) in (
         held_from d.start d.size n a.known,
         held_from d.start d.size n (a.known ++ h.rest),
         tail_loaded a h.rest,
         holds ∙ (λ j. held_from (s.start j) (s.size j) n a.known),
         r.0,
         grind (arith, set-get_or),
-        (h.rest, (λ j. app_has (v, held) (tail_loaded a h.rest) (held_from (sym s.start j) (sym s.size j) n (a.known ++ h.rest))), grind (arith, put_many l, l.all), refl),
+        (h.rest, (λ j. app_has (v, held) (tail_loaded a h.rest) (held_from (sym s.start j) (sym s.size j) n (a.known ++ h.rest))), grind (arith, put_many (lists h), (lists h).all), refl),
       ))
 
   -- the head is stored
@@ -105,9 +102,8 @@ module _ (slots id : ℕ) (v : View AppSide KernelSide) (held : List (ℕ × Cqe
       let a : AppSide = v.app in
       let n : ℕ = length a.got in
       let s = h.sized in
-      let l = lists h in
       let holds' : held ≡ held_from d.start d.size n (c ∷ cs) = holds ∙ ap₂ (λ start size. held_from start size n a.known) s.start s.size ∙ ap (held_from d.start d.size n) known in
-      let stored = stores_known l word c cs known (is_word ∙ ap (λ start. word_of start (n + 1)) s.start) in
+      let stored = stores_known (lists h) word c cs known (is_word ∙ ap (λ start. word_of start (n + 1)) s.start) in
       (got_first a a.known, gives, tt, rw (holds', known) (grind (arith, get_or-set_other)), refl))
 
   -- the dropped word is loaded

@@ -39,7 +39,7 @@ same_parts xs ys us vs many e =
     grind (arith, (take-append_seam xs ys), (take-append_seam us vs), (drop-append_seam xs ys), (drop-append_seam us vs))
 
 module _ {S : Type 0} where
-  held_values : (start size count : ℕ) (xs : List S)
+  pub held_values : (start size count : ℕ) (xs : List S)
       → map (λ x. x.1) (held_from start size count xs) ≡ xs
   held_values start size count [] = refl
   held_values start size count (x ∷ xs) = ap (λ l. x ∷ l) (held_values start size (count + 1) xs)

@@ -10,11 +10,12 @@ pub mod Turning
 -- Both rings: what a step keeps, and what a new table is:
 mod RingLists
 pub mod FirstTable
--- The submission ring: what each step asks, and calls as they are copied:
-mod DroppedWords
+-- The submission ring: what each step asks, calls, and what its two ends do:
 pub mod Plays
 pub mod CallLemmas
-pub mod Copying
+pub mod Writing
+pub mod Reading
 -- The completion ring:
+mod DroppedWords
 pub mod CompletionPlays
 pub mod CompletionEnds

@@ -59,15 +59,14 @@ module _ (slots id : ℕ) (v : View AppSide KernelSide) (held : List (ℕ × Pos
   loads_head blank is_app holds ends =
       app_hands slots id 1 (λ n. n) v held (LoadsHead (step slots 1 0 0 none) (v, held)) is_app (λ words homes d h both.
       let a = v.app in
-      let l = lists h in
-      let r = loads_free l blank ends in (
+      let r = loads_free (lists h) blank ends in (
         held_from a.start a.size (length a.published) blank,
         held_from a.start a.size (length a.published) (blank ++ h.free),
         head_loaded a (length d.taken + a.size),
         holds,
         r.0,
         grind (arith, set-get_or),
-        (length d.taken, blank ++ h.free, refl, grind (arith, put_many l, l.all, length-append), refl),
+        (length d.taken, blank ++ h.free, refl, grind (arith, put_many (lists h), (lists h).all, length-append), refl),
       ))
 
   -- all places are given back
@@ -89,15 +88,14 @@ module _ (slots id : ℕ) (v : View AppSide KernelSide) (held : List (ℕ × Pos
       let d = v.kernel in
       let n : ℕ = length d.taken in
       let s = h.sized in
-      let l = lists h in
-      let r = loads_rest l in (
+      let r = loads_rest (lists h) in (
         held_from a.start a.size n d.known,
         held_from a.start a.size n (d.known ++ h.rest),
         tail_loaded d h.rest,
         holds ∙ (λ i. held_from (s.start i) (s.size i) n d.known),
         r.0,
         grind (arith, set-get_or),
-        (h.rest, (λ i. kernel_has (v, held) (tail_loaded d h.rest) (held_from (sym s.start i) (sym s.size i) n (d.known ++ h.rest))), grind (arith, put_many l, l.all), refl),
+        (h.rest, (λ i. kernel_has (v, held) (tail_loaded d h.rest) (held_from (sym s.start i) (sym s.size i) n (d.known ++ h.rest))), grind (arith, put_many (lists h), (lists h).all), refl),
       ))
 
   -- the head is stored

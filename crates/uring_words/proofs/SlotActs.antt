@@ -107,11 +107,11 @@ module _ {S : Type 0} (start size : ℕ) (power : IsPowerOfTwo size) (fits : siz
   stand_both homes k n [] ys is s t = subst (λ (m : ℕ). StandFrom start size homes m ys) (omega arith) t
   stand_both homes k n (x ∷ xs) ys is s t = (s.0, stand_both homes (k + 1) n xs ys (omega arith) s.1 t)
 
--- the first slot of a seat that holds some, in a ring of this size, at this index word
-pub first_held : {S : Type 0} (start size own count word : ℕ) (held : List (ℕ × S)) (xs : List S)
-    → own ≡ size → word ≡ word_of start count → held ≡ held_from start own count xs → 0 < length xs
+-- the first slot of a seat that holds some and then others, in a ring of this size, at this index word
+pub first_held : {S : Type 0} (start size own count word : ℕ) (held : List (ℕ × S)) (xs : List S) (others : List (ℕ × S))
+    → own ≡ size → word ≡ word_of start count → held ≡ held_from start own count xs ++ others → 0 < length xs
     → (x : S) × (ys : List S) × (xs ≡ x ∷ ys)
-    × (held ≡ (word % size, x) ∷ rest held) × (rest held ≡ held_from start own (count + 1) ys)
+    × (held ≡ (word % size, x) ∷ rest held) × (rest held ≡ held_from start own (count + 1) ys ++ others)
     × (word % size ≡ place_of start own count)
-first_held start size own count word held [] is at holds positive = absurd (omega arith)
-first_held start size own count word held (x ∷ ys) is at holds positive = (x, ys, refl, grind arith, grind arith, grind arith)
+first_held start size own count word held [] others is at holds positive = absurd (omega arith)
+first_held start size own count word held (x ∷ xs) others is at holds positive = (x, xs, refl, grind arith, grind arith, grind arith)

@@ -85,14 +85,8 @@ module _ {S A D : Type 0} {Agree : List ℕ → List (Option S) → A → D → 
   -- a new table keeps the rule, if what its first seat knows agrees
   pub opens_with : (words : List ℕ) (slots : List S) (a : A) (d : D) → Agree words (map some slots) a d
       → SidesAgree Agree (opening words slots (both_know a d))
-  opens_with words slots a d agree = record {
-    app_seat = 0;
-    kernel_seat = 0;
-    app = a;
-    kernel = d;
-    agree = agree;
-    seats = λ seat v there. grind (arith, get_elem?);
-  }
+  opens_with words slots a d agree =
+      record { app_seat = 0; kernel_seat = 0; app = a; kernel = d; agree = agree; seats = λ seat v there. grind (arith, get_elem?) }
 
   -- a seat of both sides is cut into one of each
   pub splits : (id : ℕ) (me : View A D) → me.is_app ≡ true → me.is_kernel ≡ true

@@ -1,44 +1,45 @@
--- The first slot that a seat holds goes after the others.
-use Rattle.uring_words.proofs.Common.{drop_more, held_from, place_of, rest, take_more, turned}
-use Rattle.std.proofs.Common.{◌≡◌, ℕ, ◌+◌, ◌<◌, List, [], ◌∷◌, ◌++◌, drop, take, length, get_or, arith, append_assoc}
+-- An end of the submission ring that writes or reads the first of its places, which then goes after the others.
+use Rattle.uring_words.proofs.Common.{HoldsDone, Position, held_from, place_of, rest, word_of, words_between}
+use Rattle.std.proofs.Common.{◌≡◌, ℕ, ◌+◌, ◌%◌, ◌^◌, ◌<◌, ◌≤◌, List, [], ◌∷◌, ◌++◌, length, ap, arith, append-nil, append_assoc, length-append}
+use Rattle.uring_words.proofs.SlotActs.{first_held}
+use Rattle.uring_words.proofs.Standing.{at_place}
 
-module _ {S : Type 0} where
-  -- one element of a list, with those in front of it and those after it
-  next_of : (k : ℕ) (xs : List S) → k < length xs
-      → (x : S) × (drop k xs ≡ x ∷ drop (k + 1) xs) × (take (k + 1) xs ≡ take k xs ++ x ∷ [])
-  next_of k [] below = absurd (omega arith)
-  next_of k (x ∷ xs) below = (get_or (x ∷ xs) k x, drop_more (x ∷ xs) k x below, take_more (x ∷ xs) k x below)
+held_more : (start size count : ℕ) (xs : List Position) (x : Position)
+    → held_from start size count (xs ++ x ∷ []) ≡ held_from start size count xs ++ (place_of start size (count + length xs), x) ∷ []
+held_more start size count [] x = grind arith
+held_more start size count (y ∷ ys) x = grind (arith, (held_more start size (count + 1) ys x))
 
-  held_more : (start size count : ℕ) (xs : List S) (x : S)
-      → held_from start size count (xs ++ x ∷ []) ≡ held_from start size count xs ++ (place_of start size (count + length xs), x) ∷ []
-  held_more start size count [] x = grind arith
-  held_more start size count (y ∷ ys) x = grind (arith, (held_more start size (count + 1) ys x))
+-- none is done
+pub fresh : (start size count next last : ℕ) (others : List Position) → next ≡ word_of start count
+    → last ≡ word_of start (count + length others) → length others ≤ size
+    → HoldsDone start size count next last (held_from start size count others) others []
+fresh start size count next last others is_next is_last few =
+    record { few = omega arith; holds = grind (arith, append-nil); next_word = omega arith; last_word = omega arith }
 
-  -- the slots from a count on, of which k are done and stand after the others
-  abbrev pub part_done : (start size count k : ℕ) → List S → List S → List (ℕ × S)
-  part_done start size count k all done =
-      held_from start size (count + k) (drop k all) ++ held_from start size count done
+module _ {start own count next last : ℕ} {held : List (ℕ × Position)} {others done : List Position} (h : HoldsDone start own count next last held others done) where
+  pub left : own ≤ 4096 → words_between next last ≡ length others
+  left limit = omega (arith, h.next_word, h.last_word, h.few)
 
-  module _ {V : Type 0} (start size count k place : ℕ) (all done : List S) (me : V × List (ℕ × S)) (v : V) (is : me ≡ (v, part_done start size count k all done)) (below : k < length all) (at : place ≡ place_of start size (count + k)) where
-    first : me.1 ≡ (place, (next_of k all below).0) ∷ held_from start size (count + (k + 1)) (drop (k + 1) all) ++ held_from start size count done
-    first = grind arith
+  pub none_done : done ≡ [] → held ≡ held_from start own count others
+  none_done none = grind (arith, append-nil, h.holds)
 
+  -- those that are done are given away
+  pub others_left : HoldsDone start own (count + length done) next last (held_from start own (count + length done) others) others []
+  others_left = fresh start own (count + length done) next last others h.next_word (omega (arith, h.last_word)) (omega (arith, h.few))
+
+  module _ (size : ℕ) (sized : own ≡ size) where
     -- the next one is first
-    pub stands_first : (x : S) × (me.1 ≡ (place, x) ∷ rest me.1)
-    stands_first = let n = next_of k all below in (n.0, grind (arith, first))
+    pub first : 0 < length others → (x : Position) × (ys : List Position) × (others ≡ x ∷ ys) × (held ≡ (next % size, x) ∷ rest held)
+    first some = let f = first_held start size own (count + length done) next held others (held_from start own count done) sized h.next_word h.holds some in (f.0, f.1, f.2, f.3)
 
-    pub reads_next : (x : S) → me.1 ≡ (place, x) ∷ rest me.1
-        → (drop k all ≡ x ∷ drop (k + 1) all) × (take (k + 1) all ≡ take k all ++ x ∷ [])
-    reads_next x read = grind (arith, first, next_of k all below)
-
-    -- and goes after the others with some value
-    pub goes_after : (x : S) (after : V × List (ℕ × S)) → k ≡ length done
-        → after ≡ (me.0, rest me.1 ++ (place, x) ∷ [])
-        → after ≡ (v, part_done start size count (k + 1) all (done ++ x ∷ []))
-    goes_after x after many moved = grind (arith, held_from, first, append_assoc, held_more)
-
-    -- with the value that it had
-    pub turns_after : (x : S) (after : V × List (ℕ × S)) → done ≡ take k all → k ≡ length done
-        → me.1 ≡ (place, x) ∷ rest me.1 → after ≡ (me.0, turned me.1)
-        → after ≡ (v, part_done start size count (k + 1) all (take (k + 1) all))
-    turns_after x after same many read moved = grind (arith, reads_next x read, goes_after)
+    -- it is done, with the value y
+    pub turns : (x y : Position) (ys : List Position) → others ≡ x ∷ ys
+        → HoldsDone start own count ((next + 1) % 2 ^ 32) last (rest held ++ (next % size, y) ∷ []) ys (done ++ y ∷ [])
+    turns x y ys is =
+        let at = at_place start size own (count + length done) next sized h.next_word in
+        record {
+          few = omega (arith, h.few, ap length is, length-append done (y ∷ []));
+          holds = grind (arith, h.holds, is, at, held_more, append_assoc, length-append);
+          next_word = omega (arith, h.next_word, length-append done (y ∷ []));
+          last_word = omega (arith, h.last_word, ap length is, length-append done (y ∷ []));
+        }

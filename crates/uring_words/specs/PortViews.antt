@@ -6,7 +6,7 @@ use Rattle.uring_ports.specs.Ports.{Sizes, Put}
 use Rattle.uring_ports.specs.Seen.{SeenRoom, SeenCompletions, SeenCalls}
 use Rattle.uring_words.specs.Completion.Ends.{End as Completions}
 use Rattle.uring_words.specs.Submission.Calls.{put_of}
-use Rattle.uring_words.specs.Submission.Ends.{End as Calls}
+use Rattle.uring_words.specs.Submission.Ends.{Reader, Writer}
 
 -- the application's port: the numbers of its pair, the sizes, all that was put, every completion that was got, the room and the completions that it has seen, and every dropped word that was loaded
 pub record AppWords : Type 0 where
@@ -38,7 +38,7 @@ abbrev pub numbers_of_tables : TableId → TableId → List ℕ
 numbers_of_tables z y = length z.slot_names ∷ (numbers_of_table z ++ numbers_of_table y)
 
 -- the application's port over these ends of the two rings
-abbrev pub app_words : Calls → Completions → AppWords
+abbrev pub app_words : Writer → Completions → AppWords
 app_words calls completions =
     let a = calls.knows.app in
     let c = completions.knows.app in
@@ -53,7 +53,7 @@ app_words calls completions =
     }
 
 -- the dispatcher's port over these
-abbrev pub kernel_words : Calls → Completions → KernelWords
+abbrev pub kernel_words : Reader → Completions → KernelWords
 kernel_words calls completions =
     let d = calls.knows.kernel in
     let c = completions.knows.kernel in

@@ -36,13 +36,21 @@ module _ {S A D : Type 0} where
     pub seats : (seat : ℕ) (v : View A D) → get_elem? s.views seat ≡ some v
         → Knows app_seat kernel_seat app kernel seat v
 
+  -- what a seat knows
+  abbrev pub known_to : Me S (View A D) → View A D
+  known_to m = m.0
+
+  -- the slots that it holds, each with what stands there
+  abbrev pub held_by : Me S (View A D) → List (ℕ × S)
+  held_by m = m.1
+
   -- only what the application knows changed, to a, and its seat holds these slots
   abbrev pub app_has : Me S (View A D) → A → List (ℕ × S) → Me S (View A D)
-  app_has m a held = (record m.0 { app = a }, held)
+  app_has m a held = (record (known_to m) { app = a }, held)
 
   -- only what the dispatcher knows changed, to d, and its seat holds these slots
   abbrev pub kernel_has : Me S (View A D) → D → List (ℕ × S) → Me S (View A D)
-  kernel_has m d held = (record m.0 { kernel = d }, held)
+  kernel_has m d held = (record (known_to m) { kernel = d }, held)
 
 -- an application's seat that takes in a dispatcher's
 abbrev pub parts_of_both : {A D : Type 0} → View A D → View A D → View A D

@@ -35,7 +35,7 @@ impl Model for AppWords {
 
     ghost view = { λ p. app_words p.calls p.completions };
 
-    ghost invariant = { λ p. WriterRests p.calls.knows.app };
+    ghost invariant = { λ p. WriterRests p.calls };
 }
 
 /// The dispatcher's port over shared words.
@@ -59,7 +59,7 @@ impl Model for KernelWords {
 
     ghost view = { λ p. kernel_words p.calls p.completions };
 
-    ghost invariant = { λ p. ReaderRests p.calls.knows.kernel
+    ghost invariant = { λ p. ReaderRests p.calls
         × (p.closed ≡ has_close_mark p.calls.knows.kernel.taken) };
 }
 

@@ -23,15 +23,16 @@ pub struct CompletionWriter {
 }
 
 impl Model for CompletionWriter {
+    ghost use Rattle.uring_words.specs.Slots.{held_by, known_to};
     ghost use Rattle.uring_words.specs.Completion.Ends.{End, IsWriter};
 
     ghost Value = { End };
 
     ghost use Rattle.std.specs.Arc.{arc_value};
 
-    ghost view = { λ e. record { table = e.seat.table_id; knows = e.seat.me.0 } };
+    ghost view = { λ e. record { table = e.seat.table_id; knows = known_to e.seat.me } };
 
-    ghost invariant = { λ e. IsWriter e.seat.table_id (arc_value e.ring).shared.table_id e.seat.me.0 e.seat.me.1 e.size e.tail e.end };
+    ghost invariant = { λ e. IsWriter e.seat.table_id (arc_value e.ring).shared.table_id (known_to e.seat.me) (held_by e.seat.me) e.size e.tail e.end };
 }
 
 impl CompletionWriter {

@@ -2,7 +2,7 @@
 ghost use Rattle.std.specs.Prelude.{◌≡◌, ℕ, ◌≤◌, IfOk, IsOk};
 ghost use Rattle.std.specs.Int.{IsPowerOfTwo};
 ghost use Rattle.uring_words.specs.Sides.{app_part, kernel_part};
-ghost use Rattle.uring_words.specs.Submission.Ends.{has_loaded};
+ghost use Rattle.uring_words.specs.Submission.Ends.{ReaderRests, WriterRests, has_loaded};
 ghost use Rattle.uring_words.specs.Submission.Layout.{element_count};
 ghost use Rattle.uring_words.specs.Submission.Rule.{at_first};
 
@@ -25,6 +25,7 @@ pub fn new_ends<M: TableMemory>(
     requires power { IsPowerOfTwo shape.size }
     requires limit { shape.size ≤ 4096 }
     ensures table { IfOk result (λ ends. ends.0.table ≡ ends.1.table) }
+    ensures rest { IfOk result (λ ends. WriterRests ends.0 × ReaderRests ends.1) }
     ensures app { IfOk result
         (λ ends. ends.0.knows ≡ has_loaded (app_part (at_first shape)) shape.size) }
     ensures kernel { IfOk result (λ ends. ends.1.knows ≡ kernel_part (at_first shape)) }

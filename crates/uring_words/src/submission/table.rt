@@ -2,7 +2,7 @@
 
 use crate::sides::{Shape, View};
 use crate::submission::view::{AppSide, KernelSide, Position};
-use atomic_table::{Join, Play, Shared, Table, TableRule};
+use atomic_table::{Join, Play, Table, TableRule};
 use std::alloc::Global;
 
 /// The index of the tail's word.
@@ -27,9 +27,6 @@ impl TableRule<Position, Known, Shape> for RingRule {
 
 /// The table of the submission ring, which both ends own.
 pub type Ring = Table<Position, Known, Shape, RingRule, Global>;
-
-/// The words and places of the submission ring, as both sides share them.
-pub type Words = Shared<Position, Known, Shape, RingRule>;
 
 /// What one side may do to the words and places, what it knows of them, and the places that it holds.
 pub type Seat = atomic_table::Seat<Position, Known>;

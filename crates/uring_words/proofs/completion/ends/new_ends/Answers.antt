@@ -23,16 +23,7 @@ pub invariant_of-writer : goal.invariant_of-writer
 invariant_of-writer g c =
     let kernel = c.in_ok-app.ensures.kernel in
     let start = start_word c.args.shape.start (search rules) in
-    rw kernel.2 (record {
-      fits = record { same_table = kernel.0; many = kernel.1; power = c.requires.power; most = c.requires.limit; sized = refl };
-      is_kernel = refl;
-      tail_word = start;
-      end_word = start;
-      blank = [];
-      holds = refl;
-      many = refl;
-      few = omega arith;
-    })
+    rw kernel.2 (record { fits = assumption (kernel, c.requires); is_kernel = refl; tail_word = start; end_word = start; blank = []; holds = refl; many = refl; few = omega arith })
 
 pub returns-in_err-app-clause-granted : goal.returns-in_err-app-clause-granted
 returns-in_err-app-clause-granted g c = λ n grants room.

@@ -1,11 +1,10 @@
-use Rattle.std.proofs.Common.{◌≡◌, rules, refl, ap, ◌∙◌, arith, length}
-use Rattle.uring_words.specs.Sides.{app_part}
-use Rattle.uring_words.proofs.Common.{End, Holder, false≢true, has_loaded}
-use Rattle.uring_words.specs.Submission.Rule.{at_first}
+use Rattle.std.proofs.Common.{[], rules, refl, arith}
+use Rattle.uring_words.proofs.Common.{false≢true}
 use Rattle.uring_words.specs.declared.submission.view.Position.TheVariants as position
 use Rattle.uring_words.proofs.Plays.{opens}
-use Rattle.uring_words.proofs.FirstTable.{both_fit}
+use Rattle.uring_words.proofs.FirstTable.{both_fit, start_word}
 use Rattle.uring_words.proofs.SlotSeats.{splits}
+use Rattle.uring_words.proofs.Turning.{fresh}
 use Rattle.uring_words.proofs.submission.ends.new_ends.Goals as goal
 
 pub new_slot_table-requires-clause-opens : goal.new_slot_table-requires-clause-opens
@@ -15,12 +14,17 @@ new_slot_table-requires-clause-opens g c =
 pub new_slot_table-requires-clause-cuts : goal.new_slot_table-requires-clause-cuts
 new_slot_table-requires-clause-cuts g c = λ id. splits id _ refl refl
 
-pub returns-clause-app : goal.returns-clause-app
-returns-clause-app g c =
-    let me = c.in_ok-app.ensures.app.2 in
-    let l = c.load_head.ensures in
-    let end : c.load_head.new.self.knows.app.end ≡ c.args.shape.size = omega (arith, l.least, l.most, ap (λ (m : Holder). m.0.app.size) me, ap (λ (m : Holder). length m.0.app.published) me) in
-    ap (λ (e : End). e.knows) l.is ∙ ap (λ (m : Holder). has_loaded m.0 c.load_head.new.self.knows.app.end) me ∙ ap (has_loaded (app_part (at_first c.args.shape))) end
+pub invariant_of-writer : goal.invariant_of-writer
+invariant_of-writer g c =
+    let app = c.in_ok-app.ensures.app in
+    let start = start_word c.args.shape.start (search rules) in
+    rw app.2 (record { fits = assumption (app, c.requires); is_app = refl; blank = []; written = []; has = fresh c.args.shape.start c.args.shape.size 0 c.args.shape.start c.args.shape.start [] start start (omega arith); many = refl })
+
+pub invariant_of-reader : goal.invariant_of-reader
+invariant_of-reader g c =
+    let kernel = c.in_ok-app.ensures.kernel in
+    let start = start_word c.args.shape.start (search rules) in
+    rw kernel.2 (record { fits = assumption (kernel, c.requires); is_kernel = refl; read = []; unread = []; known = refl; has = fresh c.args.shape.start c.args.shape.size 0 c.args.shape.start c.args.shape.start [] start start (omega arith) })
 
 pub returns-in_err-app-clause-granted : goal.returns-in_err-app-clause-granted
 returns-in_err-app-clause-granted g c = λ n grants room.

@@ -1,60 +1,38 @@
-use Rattle.std.proofs.Common.{◌≡◌, ℕ, ◌+◌, false, ◌++◌, length, arith, sym, ap, ◌∙◌, subst, append_assoc, length-append}
-use Rattle.uring_words.proofs.Common.{AreRead, AreWhole, End, Holder, Pulls, ReaderRests, has_close_mark, held_from, kernel_knows, put_of, taken_of, word_of}
-use Rattle.uring_words.proofs.CallLemmas.{whole_both}
-use Rattle.uring_words.proofs.Copying.{head_allowed, head_taken, pulls}
+use Rattle.std.proofs.Common.{◌+◌, length, arith, ap, ◌∙◌, rules}
+use Rattle.uring_words.proofs.Common.{Reader}
+use Rattle.uring_words.proofs.Reading.{call_ends, goes_on, takes_call, takes_close}
 use Rattle.uring_words.proofs.submission.reader.CallReader.take_call.Goals as goal
 
-pub read_call-pulled-requires-clause-whole : goal.read_call-pulled-requires-clause-whole
-read_call-pulled-requires-clause-whole c =
-    let e = c.args.self.now in
-    let d = e.knows.kernel in
-    subst (λ (x : End). AreWhole x.knows.kernel.known) (sym c.self.view_is) ((whole_both false d.taken d.known c.requires.rests.whole c.requires.open).0 c.requires.rests.known)
+pub returns-in-Last : goal.returns-in-Last
+returns-in-Last c =
+    let inv = c.loop.invariant in
+    let next = c.read_next.ensures in
+    let push = c.push_reserved-in-Last.ensures in
+    let few = rw c.waiting-end.ensures.many at c.waiting-end.ensures.few in
+    let t = takes_call c.args.self.now c.loop.self c.read_next.new.self c.store_head.new.self c.loop.items.items c.read_next.result c.requires.rests c.requires.open few inv.is inv.known next.is next.read c.store_head.ensures c.in-Last.item c.in-Last.is in
+    record { is = t.is; rests = t.rests; room = push.capacity ∙ inv.room; pulled = rw push.items t.pulled; some = search rules }
 
-pub store-requires : goal.store-requires
-store-requires c =
-    let i = c.self.invariant in
-    rw c.deref.ensures (
-      c.read_call-pulled.ensures.table ∙ i.fits.same_table,
-      omega (arith, i.fits.many),
-      head_allowed _ _ c.self.inside.seat.me _ _ _ _ c.read_call-pulled.ensures.read i.is_kernel (omega (arith, i.few, i.fits.most)),
-    )
+pub returns-in-Close : goal.returns-in-Close
+returns-in-Close c =
+    let inv = c.loop.invariant in
+    let next = c.read_next.ensures in
+    let few = rw c.waiting-end.ensures.many at c.waiting-end.ensures.few in
+    let t = takes_close c.args.self.now c.loop.self c.read_next.new.self c.store_head-in-Close.new.self c.loop.items.items c.read_next.result c.requires.rests c.requires.open few inv.is inv.known next.is next.read c.store_head-in-Close.ensures c.in-Close.is in
+    record { is = t.is; rests = t.rests; room = inv.room; pulled = t.pulled; some = search rules }
 
-pub invariant_of-self : goal.invariant_of-self
-invariant_of-self c =
-    let i = c.self.invariant in
-    let v = c.self.inside.seat.me.0 in
-    let d = v.kernel in
-    let r = c.read_call-pulled.ensures.read in
-    let is = head_taken c.deref.result.now.shared.table_id.slots c.self.inside.seat.me _ _ _ _ _ r c.store.ensures.2 in
-    let long = length-append d.taken r.read in
-    let parts : length d.known ≡ length r.read + length r.others = ap length r.known ∙ length-append r.read r.others in
-    let seen : length d.taken + length d.known ≡ length (d.taken ++ r.read) + length r.others = omega arith in
-    rw (c.store.ensures.0 ∙ c.read_call-pulled.ensures.table, is) (record {
-      fits = i.fits;
-      is_kernel = i.is_kernel;
-      holds = ap (λ (k : ℕ). held_from d.start d.size k r.others) (sym long);
-      tail_word = i.tail_word ∙ ap (word_of d.start) seen;
-      head_word = r.next_word ∙ ap (word_of d.start) (sym long);
-      few = omega (arith, i.few);
-    })
-
-pub returns : goal.returns
-returns c =
-    let i = c.self.invariant in
-    let d = c.self.inside.seat.me.0.kernel in
-    let r = c.read_call-pulled.ensures.read in
-    let is = head_taken c.deref.result.now.shared.table_id.slots c.self.inside.seat.me _ _ _ _ _ r c.store.ensures.2 in
-    let same = sym is in
-    let table = c.store.ensures.0 ∙ c.read_call-pulled.ensures.table in
-    let rests = subst (λ (x : End). ReaderRests x.knows.kernel) (sym c.self.view_is) c.requires.rests in
-    let open' = subst (λ (x : End). has_close_mark x.knows.kernel.taken ≡ false) (sym c.self.view_is) c.requires.open in
-    let p = pulls d _ _ r.read r.others rests open' (omega (arith, i.few, i.fits.sized)) r.known r.holds in
+pub loop-preserved : goal.loop-preserved
+loop-preserved c =
+    let inv = c.loop.invariant in
+    let next = c.read_next.ensures in
+    let push = c.push_reserved.ensures in
     record {
-      is = (λ j. record { table = table j; knows = (is j).0 }) ∙ (λ j. kernel_knows (c.self.view_is j) (record (c.self.view_is j).knows.kernel { taken = (same j).0.kernel.taken; known = (same j).0.kernel.known }));
-      rests = subst (λ (m : Holder). ReaderRests m.0.kernel) same (record { known = subst AreWhole (ap (λ l. d.taken ++ l) r.known ∙ sym (append_assoc d.taken r.read r.others)) rests.known; whole = p.1 });
-      room = c.read_call-pulled.ensures.room;
-      pulled =
-          subst (λ (e : End). Pulls e.knows.kernel.size (put_of e.knows.kernel.taken) c.read_call-pulled.result.0 c.read_call-pulled.new.items.items (put_of (taken_of c.store.new.seat.me))) c.self.view_is
-          (subst (λ (m : Holder). Pulls d.size (put_of d.taken) c.read_call-pulled.result.0 c.read_call-pulled.new.items.items (put_of (taken_of m))) same p.0);
-      some = λ none. subst (λ w. AreRead w c.read_call-pulled.new.items.items r.read) none r.holds;
+      is = next.is ∙ ap (λ (e : Reader). record e { unread = c.read_next.new.self.unread }) inv.is;
+      known = goes_on _ _ _ c.loop.items.items _ _ c.in-More.item inv.known next.read c.in-More.is push.items;
+      left = omega (arith, inv.left, ap length next.read);
+      many = push.len ∙ ap (λ n. n + 1) inv.many;
+      room = push.capacity ∙ inv.room;
     }
+
+pub unreachable-requires : goal.unreachable-requires
+unreachable-requires c =
+    call_ends c.args.self.now c.loop.items.items c.loop.self.unread c.requires.rests c.requires.open c.requires.some c.loop.invariant.known (omega (arith, c.loop.invariant.left, c.loop-test.false, c.waiting-end.ensures.many, ap length c.requires.rests.all))

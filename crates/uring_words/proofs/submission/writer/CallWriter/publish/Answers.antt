@@ -1,31 +1,25 @@
-use Rattle.std.proofs.Common.{◌∷◌, ◌++◌, [], arith, ap, ◌∙◌}
-use Rattle.uring_words.proofs.Common.{End, all_more, app_knows, tail_stored}
-use Rattle.uring_words.proofs.Copying.{last_stands_first, publishes, tail_allowed, tail_published}
+use Rattle.std.proofs.Common.{◌≡◌, ◌+◌, [], ◌∷◌, ◌++◌, take, arith, ap, ◌∙◌, length-take-le, take_all}
+use Rattle.uring_words.proofs.Common.{Writer, all_more, take_more}
+use Rattle.uring_words.specs.declared.submission.view.Position.TheVariants as position
+use Rattle.uring_words.proofs.CallLemmas.{more_append, more_length}
 use Rattle.uring_words.proofs.submission.writer.CallWriter.publish.Goals as goal
 
-pub write_first-requires-clause-first : goal.write_first-requires-clause-first
-write_first-requires-clause-first c =
-    let front = c.write_front-next.ensures in
-    last_stands_first c.self.invariant _ c.self.view_is c.args.front.now c.args.last c.requires.room _ _ front.written front.tail
+pub write_next-requires : goal.write_next-requires
+write_next-requires c =
+    let k = c.loop-item.item-index in
+    let items = c.args.front.now in
+    rw c.loop-item.invariant (omega (arith, c.requires.room, more_length (take k items), length-take-le k items (omega (arith, c.loop-item-test.true)), c.loop-item-test.true))
 
-pub store-requires : goal.store-requires
-store-requires c =
-    let i = c.self.invariant in
-    let front = c.write_front-next.ensures in
-    rw c.deref.ensures (
-      c.write_first.ensures.table ∙ front.table ∙ i.fits.same_table,
-      omega (arith, i.fits.many),
-      tail_allowed i _ c.self.view_is c.args.front.now c.args.last c.requires.room _ _ front.written front.tail _ c.write_first.ensures.written _ _ c.requires.whole,
-    )
+pub loop-item-preserved : goal.loop-item-preserved
+loop-item-preserved c =
+    let k = c.loop-item.item-index in
+    let items = c.args.front.now in
+    let x = c.item-item.result in
+    let next = take_more items k x c.loop-item-test.true in
+    let longer : all_more (take k items) ++ position.More x ∷ [] ≡ all_more (take (k + 1) items) = grind (arith, next, c.item-item.is, more_append) in
+    c.write_next.ensures ∙ ap (λ (e : Writer). record e { written = e.written ++ position.More x ∷ [] }) c.loop-item.invariant ∙ ap (λ w. record c.args.self.now { written = w }) longer
 
-pub invariant_of-self : goal.invariant_of-self
-invariant_of-self c =
-    let front = c.write_front-next.ensures in
-    rw (c.store.ensures.0 ∙ c.write_first.ensures.table ∙ front.table) (publishes c.self.invariant _ c.self.view_is c.args.front.now c.args.last c.requires.room _ _ front.written front.tail _ c.write_first.ensures.written c.deref.result.now.shared.table_id.slots _ c.store.ensures.2)
-
-pub returns : goal.returns
-returns c =
-    let front = c.write_front-next.ensures in
-    let table = c.store.ensures.0 ∙ c.write_first.ensures.table ∙ front.table in
-    let is = tail_published c.self.invariant _ c.self.view_is c.args.front.now c.args.last c.requires.room _ _ front.written front.tail _ c.write_first.ensures.written c.deref.result.now.shared.table_id.slots _ c.store.ensures.2 in
-    (λ j. record { table = table j; knows = (is j).0 }) ∙ ap (λ (e : End). app_knows e (tail_stored e.knows.app (all_more c.args.front.now ++ c.args.last ∷ []))) c.self.view_is
+pub write_next-requires-2 : goal.write_next-requires-2
+write_next-requires-2 c =
+    let items = c.args.front.now in
+    rw (c.loop-item.invariant, take_all c.loop-item.item-index items c.loop-item-test.false) (omega (arith, c.requires.room, more_length items))
