@@ -1,5 +1,5 @@
 -- One kind of step, so many times: results that are taken in, and requests that are issued.
-use Rattle.std.proofs.Common.{◌≡◌, ℕ, ◌+◌, Bool, true, List, [], ◌∷◌, ◌++◌, map, length, count_by, refl, sym, subst, ap, ◌∙◌, arith, append-nil, drop, false, cond}
+use Rattle.std.proofs.Common.{◌≡◌, ℕ, Bool, true, List, [], ◌∷◌, ◌++◌, map, length, count_by, refl, sym, subst, ap, ◌∙◌, arith, append-nil, drop, false, cond}
 use Rattle.uring_threads.proofs.Common.{Answer, Event, Grows, IsUnmoved, Kept, OnlyPosts, Records, Repeats, Step, Tally, append_cancel_left, both, happens, is_refused, length-map, map-append, nil_from_length, none_counted, now, step_of, steps_of, sum_by-cons, tally_of}
 use Rattle.uring_threads.proofs.Posting.{posts_then}
 use Rattle.uring_threads.proofs.Recording.{records_none, records_then, records_one}
@@ -29,7 +29,7 @@ pub repeats_still : {a k r : Kept} {kind : ℕ → Step} {t : Tally} → Repeats
 repeats_still {a} {k} {r} {kind} {t} p u = subst (Repeats a r kind) (both_none t) (repeats_then p (repeats_none kind u))
 
 -- the steps of the events that were appended
-pub appended : {a b : Kept} {kind : ℕ → Step} {t : Tally} (p : Repeats a b kind t)
+appended : {a b : Kept} {kind : ℕ → Step} {t : Tally} (p : Repeats a b kind t)
     → map step_of p.tally.events ≡ map kind p.numbers
 appended {a} {b} {kind} p = append_cancel_left (steps_of a) (map step_of p.tally.events) (map kind p.numbers) (sym (ap (map step_of) p.tally.trace ∙ map-append step_of a.trace p.tally.events) ∙ p.row)
 
@@ -42,7 +42,7 @@ repeats_idle {a} {b} {kind} p none =
 
 -- As many Finishes and Issues as were counted.
 
-pub kind_steps : (kind : ℕ → Step) (p : Event → Bool) (events : List Event) (numbers : List ℕ)
+kind_steps : (kind : ℕ → Step) (p : Event → Bool) (events : List Event) (numbers : List ℕ)
     → ((n : ℕ) (a : Answer) → is_refused (kind n, a) ≡ false → p (kind n, a) ≡ true)
     → map step_of events ≡ map kind numbers → count_by is_refused events ≡ 0
     → length numbers ≡ count_by p events
@@ -50,3 +50,8 @@ kind_steps kind p [] [] passes e served = refl
 kind_steps kind p ((s, a) ∷ es) (n ∷ ns) passes e served =
     grind (arith, (passes n a), e, served, (kind_steps kind p es ns passes (ap (drop 1) e)), (sum_by-cons (λ x. cond (p x) 1 0) (s, a) es), (sum_by-cons (λ x. cond (is_refused x) 1 0) (s, a) es))
 kind_steps kind p _ _ passes e served = absurd cc
+
+pub repeats_many : {a b : Kept} {kind : ℕ → Step} {t : Tally} (p : Event → Bool)
+    → ((n : ℕ) (a : Answer) → is_refused (kind n, a) ≡ false → p (kind n, a) ≡ true)
+    → (r : Repeats a b kind t) → length r.numbers ≡ count_by p r.tally.events
+repeats_many {kind = kind} p passes r = kind_steps kind p r.tally.events r.numbers passes (appended r) r.tally.served

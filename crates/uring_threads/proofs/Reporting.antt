@@ -1,7 +1,7 @@
 -- What is reported once all ends are settled, from what ties them to the trace.
 use Rattle.std.proofs.Common.{◌≡◌, ◌↔◌, ℕ, zero, suc, ◌+◌, ◌<◌, ◌≤◌, ◌==◌, Bool, Some, true, List, [], ◌∷◌, ◌++◌, length, map, take, drop, get_or, cond, refl, sym, subst, ap, ◌∙◌, arith, inl, inr, append_assoc, append-nil, length-drop, add-zero, drop_at, take_at, flat_map}
 use Rattle.uring_ports.specs.AppEnd.{AppEnd}
-use Rattle.uring_threads.proofs.Common.{AreItems, AreSettled, AreTogether, BeginsCalls, ClosesOnlyAllTaken, Completions, Cqe, DeliversReaped, Event, FinishesAll, HasOneClose, HaveLooked, HaveSeenAll, History, IsItem, IsKernel, IsLawful, IsSameKernel, Item, Job, JobResult, Kept, Kernel, LeavesCompletions, LeavesItems, LeavesRunning, OnlyPosts, PublishesItems, Report, Setup, Sizes, TakesAll, WorkLanes, Worker, World, all_published_as, all_untaken, all_waiting, calls_left, calls_of, closes_ring, finish_of, flat_map-append, get_or_from_slice_get, has_job, history, history_of_cons, is_running, items_of_calls, job_of, jobs_of, left_by, length-append, length-map, list_any, map-append, now, or_cases, or_right, posts, reverse-append, slice_get, slice_get_within, take_all, take_more, taken, unreaped, untaken_at, waiting_in, with_end_of, with_taken_in, world}
+use Rattle.uring_threads.proofs.Common.{AreItems, AreSettled, AreTogether, BeginsCalls, ClosesOnlyAllTaken, Completions, Cqe, DeliversReaped, Event, FinishesAll, HasOneClose, HaveLooked, HaveSeenAll, History, IsItem, IsKernel, IsLawful, IsSameKernel, Item, Job, JobResult, Kept, Kernel, LeavesCompletions, LeavesItems, LeavesRunning, OnlyPosts, PublishesItems, Report, Setup, Sizes, TakesAll, WorkLanes, Worker, World, all_published_as, all_untaken, all_waiting, calls_left, calls_of, closes_ring, finish_of, flat_map-append, get_or_from_slice_get, has_job, history, history_of_cons, is_running, items_of_calls, job_of, jobs_of, left_by, length-append, length-map, list_any, map-append, now, or_cases, or_right, reverse-append, slice_get, slice_get_within, take_all, take_more, unreaped, untaken_at, waiting_in, with_end_of, with_taken_in, world}
 use Rattle.uring_core.specs.declared.answer.Answer.TheVariants as answer
 use Rattle.uring_laws.specs.Laws.{ReapedBeginPosted, in_ring, in_overflow}
 use Rattle.std.proofs.lemmas.List.Folds.{fold-map, fold_stays, list_any-append}

@@ -1,6 +1,6 @@
 -- The laws of settling: a result that waits can be taken in, and once none waits the history is settled.
 -- From what is left at a place, worker by worker.
-use Rattle.std.proofs.Common.{◌≡◌, ◌≢◌, ℕ, zero, suc, ◌+◌, ◌<◌, ◌≤◌, ◌==◌, List, [], ◌∷◌, ◌++◌, map, drop, true, refl, sym, subst, ◌∙◌, ap, arith, append_assoc, append-nil}
+use Rattle.std.proofs.Common.{◌≡◌, ◌≢◌, ℕ, zero, suc, ◌<◌, ◌≤◌, ◌==◌, List, [], ◌∷◌, ◌++◌, map, drop, true, refl, sym, subst, ◌∙◌, ap, arith, append_assoc, append-nil}
 use Rattle.uring_threads.proofs.Common.{AllByRecursion, Done, FinishesApart, History, IsDealtByFile, IsLawfulApart, IsWork, Job, JobResult, NoneWaits, Op, ResultsRun, Settles, Setup, Sqe, Work, all_kept_by, cases_eq, done_by_worker, done_in, entry_of, eq-eqb, finish_of, history_of_append, history_of_cons, job_of, jobs_in, jobs_of, jobs_to, length-map, list_any, map-append, nil_from_length, operation_of, or_left, place_of, place_of_file, result_of, results_of, waiting_of, with_taken_in, world}
 use Rattle.uring_core.specs.declared.answer.Answer.TheVariants as answer
 use Rattle.uring_threads.proofs.Dealing.{dealt_by_file, workers_join, files_by_worker}
