@@ -1,10 +1,10 @@
 -- How the steps of a submission call are answered, and what they make: from the laws of the call of the positions that wait.
-use Rattle.std.proofs.Common.{◌≡◌, ℕ, ◌+◌, ◌-◌, ◌<◌, ◌≤◌, false, true, Bool, List, [], ◌∷◌, length, drop, get_or, Some, None, if◌then◌else◌, refl, subst, ap, ◌∙◌, arith, add-one}
-use Rattle.uring_threads.proofs.Common.{Answer, Appends, CalledForApart, Grows, IsFirst, Kept, Place, Setup, Stands, Submission, World, after_call, beginning, call_closes, call_opens, calls_after, calls_counted, calls_left, drop_more, drop_of_length-le, ends_after, ends_of, happens, in_call, is_spent, none_counted, now, place_answer, position_taken, slice_get-get_or, sum_by_push, taken}
+use Rattle.std.proofs.Common.{◌≡◌, ℕ, ◌+◌, ◌-◌, ◌<◌, ◌≤◌, false, true, Bool, List, [], ◌∷◌, length, drop, get_or, Some, None, if◌then◌else◌, subst, ap, ◌∙◌, arith, add-one}
+use Rattle.uring_threads.proofs.Common.{Answer, CalledForApart, Grows, IsFirst, Kept, Place, Setup, Stands, Submission, World, after_call, beginning, call_closes, call_opens, calls_after, calls_left, drop_more, drop_of_length-le, ends_after, ends_of, happens, in_call, is_spent, now, place_answer, position_taken, slice_get-get_or, sum_by_push, taken}
 use Rattle.uring_core.specs.declared.step.Step.TheVariants as step
 use Rattle.uring_core.specs.declared.answer.Answer.TheVariants as answer
 use Rattle.uring_threads.specs.declared.calls.CallMade.TheVariants as made
-use Rattle.uring_threads.proofs.TraceSteps.{grown, appends_one, appends_then}
+use Rattle.uring_threads.proofs.TraceSteps.{grown}
 
 -- The Begin of a call of all positions that wait, in a ring that isn't closed.
 module _ (a : Kept) (count : ℕ) (x : Answer) (s : Stands (now a).submission [] count) (not_closed : (now a).is_closed ≡ false) (called : CalledForApart a.setup (now a) (step.Begin count) x) where
@@ -103,11 +103,3 @@ pub opened_first : (g : Setup) (w o v : World) (count n : ℕ) → o ≡ in_call
     ≡ n ∷ calls_after (ends_of g (drop (taken o.submission + n) o.submission.published)) 0
     → v ≡ after_call g w n → IsFirst g w.submission v.submission count (made.Taken n)
 opened_first g w o v count n at s some few first is = grind (arith, sum_by_push)
-
--- what a call that opened appends
-pub call_counts : (a o t e b : Kept) (count : ℕ) (x y z : Answer) → Grows a o (step.Begin count, x)
-    → Appends o t none_counted → Grows t e (step.End, y) → Grows e b (step.LoadHead, z)
-    → Appends a b (calls_counted 1)
-call_counts a o t e b count x y z begin take end load =
-    appends_then a o b _ _ _ (appends_one a o _ (calls_counted 1) begin refl refl) (appends_then o t b _ _ _ take
-    (appends_then t e b _ _ _ (appends_one t e _ none_counted end refl refl) (appends_one e b _ none_counted load refl refl) refl) refl) refl

@@ -1,12 +1,12 @@
 -- What calls that are made one after the other leave: which are left, how the ring stands, what they append, and which rows of steps they are.
 use Rattle.std.proofs.Common.{◌≡◌, ℕ, suc, ◌+◌, ◌-◌, ◌≤◌, Bool, true, List, [], ◌∷◌, ◌++◌, length, map, sum, refl, sym, ap, ◌∙◌, arith, append_assoc, append-nil, length-drop, ◌<◌, drop_at}
-use Rattle.uring_threads.proofs.Common.{Appends, AreBegun, AreTaken, HasBegun, HaveMade, Intake, IsFirst, IsUnmoved, Item, Kept, Published, Records, Setup, Sqe, Stands, Step, Submission, World, after_call, after_calls, all_published_as, call_row, calls_after, calls_counted, calls_left, calls_of, calls_row, drop_of_length-le, ends_after_item, ends_of, is_spent, items_fresh, items_keep, items_row, length-map, lt-ltb, now, refused_row, sum_by-cons, taken, with_items, with_items_published, with_published, words_of}
+use Rattle.uring_threads.proofs.Common.{Appends, AreBegun, AreTaken, HasBegun, HaveMade, Intake, IsFirst, IsUnmoved, Item, Kept, Published, Setup, Sqe, Stands, Step, Submission, World, after_call, after_calls, all_published_as, call_row, calls_after, calls_left, calls_of, calls_row, drop_of_length-le, ends_after_item, ends_of, is_spent, items_fresh, items_keep, items_row, length-map, lt-ltb, now, refused_row, sum_by-cons, taken, with_items, with_items_published, with_published, words_of}
 use Rattle.uring_entry.specs.Submission.{place_of}
 use Rattle.uring_threads.specs.declared.calls.CallMade.TheVariants as made
 use Rattle.uring_threads.proofs.TraceSteps.{appends_none, appends_then, still}
 use Rattle.uring_core.specs.declared.step.Step.TheVariants as step
 use Rattle.uring_threads.specs.declared.intake.Intake.TheVariants as intake
-use Rattle.uring_threads.proofs.Recording.{records_none, calls_row_snoc, refused_is, records_then}
+use Rattle.uring_threads.proofs.Recording.{calls_row_snoc, refused_is}
 use Rattle.uring_threads.proofs.ItemSteps.{items_stand}
 
 -- Lengths of calls.
@@ -69,67 +69,64 @@ kept_after g f stays w (first ∷ later) = grind (arith, (kept_after g f stays (
 
 pub none_made : (k : Kept) (count : ℕ) → Stands (now k).submission [] count → HaveMade k k [] count
 unfolding after_calls
-none_made k count s = grind (arith, appends_none)
+none_made k count s = grind arith
 
 -- One call more.
 module _ (a b c : Kept) (done : List ℕ) (rest : ℕ) (h : HaveMade a b done rest) where
   -- it is the next of those that were left
   pub one_made : (n : ℕ) → now c ≡ after_call b.setup (now b) n
       → IsFirst b.setup (now b).submission (now c).submission rest (made.Taken n)
-      → Appends b c (calls_counted 1) → HaveMade a c (done ++ n ∷ []) (rest - n)
-  one_made n e first p =
-      let appends = appends_then a b c (calls_counted h.begun) (calls_counted 1) (calls_counted (h.begun + 1)) h.appends p refl in
-      grind (arith, appends, first, (after_snoc a.setup (now a) done n), append_assoc)
+      → c.setup ≡ b.setup → HaveMade a c (done ++ n ∷ []) (rest - n)
+  one_made n e first same =
+      grind (arith, first, (after_snoc a.setup (now a) done n), append_assoc)
 
   -- or the next doesn't open
-  one_refused : now c ≡ now b → Appends b c (calls_counted 1) → HaveMade a c done rest
-  one_refused e p =
-      let appends = appends_then a b c (calls_counted h.begun) (calls_counted 1) (calls_counted (h.begun + 1)) h.appends p refl in
-      grind (arith, appends)
+  one_refused : now c ≡ now b → c.setup ≡ b.setup → HaveMade a c done rest
+  one_refused e same = grind arith
 
 -- The rows of calls that were begun.
 
 -- no call was made yet
-pub none_recorded : (k : Kept) (left : List ℕ) → Records k k (calls_row [] left)
+pub none_recorded : (k : Kept) (left : List ℕ) → Appends k k (calls_row [] left)
 unfolding calls_row
-none_recorded k left = records_none k k (still k)
+none_recorded k left = appends_none k k (still k)
 
-module _ (a b c : Kept) (done : List ℕ) (rest : ℕ) (h : HaveMade a b done rest) (p : Records a b (calls_row done (calls_left a.setup (now b).submission))) where
+module _ (a b c : Kept) (done : List ℕ) (rest : ℕ) (h : HaveMade a b done rest) (p : Appends a b (calls_row done (calls_left a.setup (now b).submission))) where
   -- one more was
   pub next_recorded : (n : ℕ) → IsFirst b.setup (now b).submission (now c).submission rest (made.Taken n)
-      → Records b c (call_row rest (made.Taken n))
-      → Records a c (calls_row (done ++ n ∷ []) (calls_left a.setup (now c).submission))
+      → Appends b c (call_row rest (made.Taken n))
+      → Appends a c (calls_row (done ++ n ∷ []) (calls_left a.setup (now c).submission))
   next_recorded n first q =
-      let next : calls_left a.setup (now b).submission ≡ n ∷ calls_left a.setup (now c).submission = grind (arith, first, h.appends.setup) in
+      let next : calls_left a.setup (now b).submission ≡ n ∷ calls_left a.setup (now c).submission = grind (arith, first, h.setup) in
       let many : rest ≡ n + sum (calls_left a.setup (now c).submission) = omega (arith, sum_left a.setup (now b).submission rest h.stands, ap sum next, sum_by-cons (λ x. x) n (calls_left a.setup (now c).submission)) in
-      rw calls_row_snoc (records_then a b c _ _ (rw next at p) (rw many at q))
+      rw calls_row_snoc (appends_then (rw next at p) (rw many at q))
 
   -- or the next didn't open
-  module _ (some : 0 < rest) (e : now c ≡ now b) (t : Appends b c (calls_counted 1)) (q : Records b c (step.Begin rest ∷ [])) where
-    refused_recorded : Records a c (calls_row done (calls_left a.setup (now c).submission) ++ refused_row (calls_left a.setup (now c).submission))
-    refused_recorded = rw (e, refused_is _ rest (sum_left a.setup (now b).submission rest h.stands) some) (records_then a b c _ _ p q)
+  module _ (some : 0 < rest) (e : now c ≡ now b) (q : Appends b c (step.Begin rest ∷ [])) where
+    refused_recorded : Appends a c (calls_row done (calls_left a.setup (now c).submission) ++ refused_row (calls_left a.setup (now c).submission))
+    refused_recorded = rw (e, refused_is _ rest (sum_left a.setup (now b).submission rest h.stands) some) (appends_then p q)
 
     pub begun_again : HasBegun a c (intake.Waiting rest)
-    begun_again = grind (arith, one_refused, refused_recorded)
+    begun_again = grind (arith, (one_refused a b c done rest h e q.setup), refused_recorded)
 
     pub begun_spent : is_spent (now b) rest ≡ true → HasBegun a c (intake.Spent rest)
-    begun_spent spent = grind (arith, one_refused, refused_recorded)
+    begun_spent spent = grind (arith, (one_refused a b c done rest h e q.setup), refused_recorded)
 
 -- or none is left
 pub begun_all : (a b : Kept) (done : List ℕ) (rest : ℕ) → rest ≡ 0 → HaveMade a b done rest
-    → Records a b (calls_row done (calls_left a.setup (now b).submission)) → HasBegun a b intake.Ready
+    → Appends a b (calls_row done (calls_left a.setup (now b).submission)) → HasBegun a b intake.Ready
 unfolding refused_row
 begun_all a b done rest none h p = grind (arith, append-nil, none_left)
 
 -- what waited was begun again
 pub row_begun : (a r b : Kept) (x : Intake) → IsUnmoved a r → HasBegun r b x
-    → (steps : List Step) × AreBegun (calls_left a.setup (now a).submission) steps × Records a b steps
-row_begun a r b x u h = grind arith
+    → (steps : List Step) × AreBegun (calls_left a.setup (now a).submission) steps × Appends a b steps
+row_begun a r b x u h = grind (arith, (appends_then (appends_none a r u) h.row))
 
 -- items were published, and calls begun that take them
 pub row_taken : (a p b : Kept) (items : List Item) (x : Intake) → Stands (now a).submission [] 0
     → length items ≤ a.setup.sq → p.setup ≡ a.setup
     → now p ≡ with_items_published a.setup.sq (now a) (all_published_as items)
-    → Records a p (items_row 0 items ++ step.StoreTail ∷ []) → HasBegun p b x
-    → (steps : List Step) × AreTaken a.setup items steps × Records a b steps
-row_taken a p b items x s few same at published h = grind (arith, published_left, append_assoc)
+    → Appends a p (items_row 0 items ++ step.StoreTail ∷ []) → HasBegun p b x
+    → (steps : List Step) × AreTaken a.setup items steps × Appends a b steps
+row_taken a p b items x s few same at published h = grind (arith, published_left, append_assoc, (appends_then published h.row))

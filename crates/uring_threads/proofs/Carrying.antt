@@ -1,9 +1,10 @@
 -- What the lanes of the workers have carried, as the trace goes on; a lane for jobs that shows no room has carried as many as it holds, so as many requests were started.
 use Rattle.std.proofs.Common.{◌≡◌, ◌≢◌, ℕ, ◌<◌, ◌==◌, cond, List, [], ◌∷◌, ◌++◌, length, get_or, count_by, Option, Some, None, refl, ap, ◌∙◌, arith, ◌+◌, ◌≤◌, false, append-nil}
-use Rattle.uring_threads.proofs.Common.{Answer, Appends, Bool, Event, Grows, HaveCarried, History, HoldJobs, IsEnded, IsSent, Job, Kept, None, Op, Setup, SomeIsFull, Tally, WorkLanes, cases_eq, count_by-le-length, done_by_worker, done_in, entry_of, history, history_of, history_of_cons, issues_request, jobs_in, jobs_to, length-append, length-filter, now, operation_of, place_of, starts_request, sum_by-cons, takes_result}
+use Rattle.uring_threads.proofs.Common.{Adds, Answer, Bool, Event, Grows, HaveCarried, History, HoldJobs, IsEnded, IsSent, Job, Kept, None, Op, Setup, SomeIsFull, Tally, WorkLanes, cases_eq, count_by-le-length, done_by_worker, done_in, entry_of, history, history_of, history_of_cons, is_finish, is_issue, jobs_in, jobs_to, length-append, length-filter, now, operation_of, place_of, starts_request, step_of, sum_by-cons}
 use Rattle.uring_core.specs.declared.step.Step.TheVariants as step
 use Rattle.uring_core.specs.declared.answer.Answer.TheVariants as answer
 use Rattle.uring_threads.proofs.TraceSteps.{grown_history, longer_history}
+use Rattle.uring_threads.proofs.Tallying.{adds_count}
 use Rattle.uring_threads.proofs.Sent.{one_more_at, none_more_at}
 use Rattle.uring_workers.proofs.LaneFacts.{lane_full}
 
@@ -17,10 +18,10 @@ none_told told p stays [] h none = refl
 none_told told p stays (e ∷ later) h none =
     grind (arith, (history_of_cons e later h), (none_told told p stays later (e ∷ h)), (stays e h), (sum_by-cons (λ x. cond (p x) 1 0) e later))
 
-pub done_stays : (a b : Kept) (t : Tally) → Appends a b t → t.finishes ≡ 0 → (workers k : ℕ)
+pub done_stays : (a b : Kept) (t : Tally) → Adds a b t → t.finishes ≡ 0 → (workers k : ℕ)
     → done_by_worker b.setup workers k (history b) ≡ done_by_worker a.setup workers k (history a)
 done_stays a b t p none workers k =
-    rw (p.setup, longer_history a b p.events p.trace, none_told (done_in a.setup) takes_result (λ e h none. grind arith) p.events (history a) (ap (λ (u : Tally). u.finishes) p.tally ∙ none))
+    rw (p.appends.setup, longer_history a b p.appends.events p.appends.trace, none_told (done_in a.setup) (λ e. is_finish (step_of e)) (λ e h none. grind arith) p.appends.events (history a) (adds_count is_finish p ∙ ap (λ (u : Tally). u.finishes) p.tally ∙ none))
 
 -- the jobs sent and the operations done stay
 pub record WorkStays (old new : Kept) : Type 0 where
@@ -30,11 +31,11 @@ pub record WorkStays (old new : Kept) : Type 0 where
       → done_by_worker new.setup workers k (history new)
       ≡ done_by_worker old.setup workers k (history old)
 
-pub quiet_stays : (a b : Kept) (t : Tally) → Appends a b t → t.issues ≡ 0 → t.finishes ≡ 0
+pub quiet_stays : (a b : Kept) (t : Tally) → Adds a b t → t.issues ≡ 0 → t.finishes ≡ 0
     → WorkStays a b
 quiet_stays a b t p none idle =
     record {
-      jobs = λ workers k. rw (p.setup, longer_history a b p.events p.trace, none_told (jobs_in a.setup) issues_request (λ e h none. grind arith) p.events (history a) (ap (λ (u : Tally). u.issues) p.tally ∙ none));
+      jobs = λ workers k. rw (p.appends.setup, longer_history a b p.appends.events p.appends.trace, none_told (jobs_in a.setup) (λ e. is_issue (step_of e)) (λ e h none. grind arith) p.appends.events (history a) (adds_count is_issue p ∙ ap (λ (u : Tally). u.issues) p.tally ∙ none));
       done = done_stays a b t p idle;
     }
 

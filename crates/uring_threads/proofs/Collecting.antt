@@ -1,6 +1,6 @@
 -- What is sent and taken in, as a result is taken in: the operation is the last of its worker's, and all else stays; and how many results of each worker a turn takes in.
 use Rattle.std.proofs.Common.{◌≡◌, ℕ, ◌+◌, ◌<◌, arith, true, List, [], ◌∷◌, ◌++◌, length, refl, sym, ap, ◌∙◌, inl, inr, ◌*◌, ◌≤◌, get_or, add-zero}
-use Rattle.uring_threads.proofs.Common.{Answer, AreSameLanes, AreTakenIn, CanBeTaken, Collects, CollectsSeen, Done, Grows, HasCarried, HaveCarried, IsFinished, IsLawfulApart, IsTakenIn, IsUnmoved, JobResult, Kept, NextStays, NoneComes, OnErr, OnlyReceives, Repeats, Result, TakesFewResults, TakesSeen, Wait, WorkLanes, cases_lt, done_by_worker, done_in, entry_of, finish_of, finishes_counted, history, is_running, is_running_ended_other, is_running_ended_same, length-set, length_push, map-append, most_results, now, operation_of, place_of, results_of, results_received, results_seen, results_taken_in, set}
+use Rattle.uring_threads.proofs.Common.{Answer, AreSameLanes, AreTakenIn, CanBeTaken, Collects, CollectsSeen, Done, Grows, HasCarried, HaveCarried, IsFinished, IsLawfulApart, IsTakenIn, IsUnmoved, JobResult, Kept, NextStays, NoneComes, OnErr, OnlyReceives, Repeats, Result, TakesFewResults, TakesSeen, Wait, WorkLanes, cases_lt, done_by_worker, done_in, entry_of, finish_of, history, is_running, is_running_ended_other, is_running_ended_same, length-set, length_push, map-append, most_results, now, operation_of, place_of, results_of, results_received, results_seen, results_taken_in, set}
 use mathlib.Core.List.{IsPrefix}
 use Rattle.uring_core.specs.declared.step.Step.TheVariants as step
 use Rattle.uring_core.specs.declared.answer.Answer.TheVariants as answer
@@ -40,7 +40,7 @@ collects_first {a} {b} {workers} {place} r can grows =
     let at : Done → ℕ = λ d. place_of workers a.setup.files d.op in
     let longer = grown_history a b (finish_of r) grows in
     record {
-      repeats = repeats_one step.Finish r.number (answer.Ended r.outcome.res r.outcome.bytes) (finishes_counted 1) grows refl refl (posts_only a.setup (now a) r.number (answer.Ended r.outcome.res r.outcome.bytes)).1;
+      repeats = repeats_one step.Finish r.number (answer.Ended r.outcome.res r.outcome.bytes) grows refl (posts_only a.setup (now a) r.number (answer.Ended r.outcome.res r.outcome.bytes)).1;
       own = rw (grows.setup, longer, one_more_at at place (done_in a.setup (history a)) end can.own) (length_push _ end);
       others = record {
         jobs = λ k. rw (grows.setup, longer);
@@ -94,7 +94,7 @@ next_waits a b r later lawful w grows = grind (arith, (grown_history a b (finish
 -- Results of the workers before this place were taken in, few of each, and of the others none.
 pub record CollectsBefore (first : List WorkLanes) (a : Kept) (place count : ℕ) (b : Kept) (lanes : List WorkLanes) : Type 0 where
   pub most : count ≤ 64 * place
-  pub repeats : Repeats a b step.Finish (finishes_counted count)
+  pub repeats : Repeats a b step.Finish count
   pub carried : HaveCarried b lanes
   pub same : AreSameLanes first lanes
   pub before : (k : ℕ) → k < place

@@ -43,7 +43,7 @@ pub use Rattle.uring_threads.specs.Collected.{CanBeTaken, Collects, CollectsSeen
 pub use Rattle.uring_threads.specs.Dealt.{DealtByFile, FilesByWorker, IsDealtByFile, WorkersJoin, done_by_worker, job_by, job_in, jobs_at, jobs_in, jobs_to}
 pub use Rattle.uring_threads.specs.Delivered.{KeepsAllBut, OnlyPosts, on_completions, with_reaped_all}
 pub use Rattle.uring_threads.specs.Dispatched.{AreTakenIn, HasCarried, HaveCarried}
-pub use Rattle.uring_threads.specs.EventRows.{AreTaken, IsAgain, IsPulled, IsTaken, Records, RecordsIntake, RecordsTurn, Repeats, call_row, delivery_row, item_row, items_row, step_of, steps_of}
+pub use Rattle.uring_threads.specs.EventRows.{AreTaken, IsAgain, IsPulled, IsTaken, RecordsIntake, RecordsTurn, Repeats, call_row, delivery_row, item_row, items_row}
 pub use Rattle.uring_threads.specs.Kept.{Grows, IsUnmoved, Kept, history, next_in, now}
 pub use Rattle.uring_threads.specs.Kernel.{IsKernel, Kernel}
 pub use Rattle.uring_threads.specs.Report.{AreTogether, BeginsCalls, ClosesOnlyAllTaken, DeliversReaped, FinishesAll, HasOneClose, IsSameKernel, LeavesRunning, PublishesItems, Report, all_untaken, all_waiting, has_job, left_by, untaken_at, waiting_at}
@@ -52,7 +52,7 @@ pub use Rattle.uring_threads.specs.Served.{DeliversMost, HasServed, HasTurned, P
 pub use Rattle.uring_threads.specs.Settled.{IsSettled, IsTakenIn, IsWork, NoneWaits, ResultsRun, Settles, Work, finish_of, waiting_of, with_taken_in}
 pub use Rattle.uring_threads.specs.SettledWorker.{AreSettled, HaveFiles, HaveLooked, HaveSeenAll, IsSettledAt, settled_work, works_of}
 pub use Rattle.uring_threads.specs.Taking.{HasBegun, HaveMade, IsFirst, TakesIn}
-pub use Rattle.uring_threads.specs.Tallies.{Appends, TakesFewResults, Tally, both, calls_counted, close_counted, closes_ring, finishes_counted, is_refused, issues_counted, issues_request, items_counted, most_results, none_counted, reaps_counted, results_taken_in, starts_request, takes_result, tally_of}
+pub use Rattle.uring_threads.specs.Tallies.{Adds, Appends, TakesFewResults, Tally, both, calls_counted, closes_ring, finishes_counted, is_close, is_finish, is_issue, is_refused, issues_counted, issues_request, items_counted, most_results, none_counted, reaps_counted, results_taken_in, starts_request, step_of, tally_of}
 pub use Rattle.uring_threads.specs.Turns.{AreTies, ClosesOnce, Counts, IsDelivered, Tied, awaits_memory, is_shut, waiting_in}
 pub use Rattle.uring_threads.specs.declared.intake.Intake.{Intake}
 pub use Rattle.uring_threads.specs.declared.turns.Turn.{Turn}

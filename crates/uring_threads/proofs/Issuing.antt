@@ -1,12 +1,13 @@
 -- How the Issue of the next request is answered, and the loop of issues: lanes are looked at, and then a request is issued.
 use Rattle.std.proofs.Common.{◌≡◌, ℕ, true, List, Option, Some, None, length, ℤ, refl, sym, ap, ◌∙◌, ◌+◌, ◌<◌, ◌≤◌, get_or, arith}
-use Rattle.uring_threads.proofs.Common.{Answer, AreSameLanes, CalledForApart, Grows, HaveCarried, IsLookedAt, IsUnmoved, Kept, Op, Repeats, WorkLanes, World, cond_some, count_by-le-length, entry_of, is_issuable, is_running, is_running_started_same, issues_counted, issues_request, length-append, next_in, none_counted, now, operation_of, operation_running, requests_of}
+use Rattle.uring_threads.proofs.Common.{Answer, AreSameLanes, CalledForApart, Grows, HaveCarried, IsLookedAt, IsUnmoved, Kept, Op, Repeats, WorkLanes, World, cond_some, entry_of, is_issuable, is_running, is_running_started_same, issues_request, length-append, length-map, next_in, none_counted, now, operation_of, operation_running, requests_of, step_of}
 use Rattle.uring_core.proofs.SoundRequests.{outstanding_tells}
 use Rattle.uring_entry.proofs.BelowLemmas.{least_below_tells}
 use Rattle.uring_core.proofs.Issuable.{issue_goes, issued_ends, issuable_outstanding}
 use Rattle.uring_core.specs.declared.step.Step.TheVariants as step
 use Rattle.uring_core.specs.declared.answer.Answer.TheVariants as answer
-use Rattle.uring_threads.proofs.TraceSteps.{grown, appends_none}
+use Rattle.uring_threads.proofs.TraceSteps.{grown}
+use Rattle.uring_threads.proofs.Tallying.{adds_none}
 use Rattle.uring_workers.proofs.LaneFacts.{looked_results}
 use Rattle.uring_threads.proofs.Carrying.{IssuedAs, quiet_stays, carried_stays}
 use Rattle.uring_threads.proofs.SameLanes.{lanes_then}
@@ -38,12 +39,12 @@ started_op a b n op grows some =
 
 -- and that is one issue
 pub issued_repeats : (a b : Kept) (n : ℕ) (told : Option Op) → IssuedAs a b n told
-    → Repeats a b step.Issue (issues_counted 1)
+    → Repeats a b step.Issue 1
 issued_repeats a b n (Some op) issued =
-    repeats_one step.Issue n answer.Run (issues_counted 1) issued.0 refl refl (posts_only a.setup (now a) n answer.Run).0
+    repeats_one step.Issue n answer.Run issued.0 refl (posts_only a.setup (now a) n answer.Run).0
 issued_repeats a b n None issued =
     let served : issues_request (step.Issue n, issued.0) ≡ true = grind arith in
-    repeats_one step.Issue n issued.0 (issues_counted 1) issued.1 (rw served) (rw served) (posts_only a.setup (now a) n issued.0).0
+    repeats_one step.Issue n issued.0 issued.1 (rw served) (posts_only a.setup (now a) n issued.0).0
 
 -- Room was asked for, and the lanes were looked at.
 pub looked_on : (k r : Kept) (first old new : List WorkLanes) → IsUnmoved k r
@@ -53,12 +54,12 @@ pub looked_on : (k r : Kept) (first old new : List WorkLanes) → IsUnmoved k r
 looked_on k r first old new u many looked carried same = (
   λ j d low.
       let before : j < length old = omega (arith, low, many) in
-      let had = carried_stays k r old (quiet_stays k r none_counted (appends_none k r u) refl refl) carried j d before in
+      let had = carried_stays k r old (quiet_stays k r none_counted (adds_none k r u) refl refl) carried j d before in
       grind (arith, had, (looked j d before), many),
   grind (arith, (lanes_then first old new same), (λ (j : ℕ) (d : WorkLanes) (low : j < length old). looked_results _ _ (looked j d low))),
 )
 
 -- one request more was issued
-pub issued_length : {r b : Kept} → Repeats r b step.Issue (issues_counted 1)
+pub issued_length : {r b : Kept} → Repeats r b step.Issue 1
     → length r.trace + 1 ≤ length b.trace
-issued_length {r} p = grind (arith, length-append, count_by-le-length)
+issued_length {r} p = omega (arith, ap length p.row.trace, length-append r.trace p.row.events, length-map p.row.events step_of, ap length p.row.row, length-map p.numbers step.Issue, p.many)

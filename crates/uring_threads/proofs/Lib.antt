@@ -4,6 +4,7 @@ mod Common
 pub mod Keeping
 -- What steps of the trace make, one by one and so many times:
 pub mod TraceSteps
+pub mod Tallying
 pub mod Recording
 mod Repeating
 pub mod ItemSteps

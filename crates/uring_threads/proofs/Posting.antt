@@ -1,6 +1,6 @@
 -- What ends of requests and a delivery leave of the rings: ends leave them as they were, but for what is posted.
-use Rattle.std.proofs.Common.{◌≡◌, ℕ, ◌+◌, ◌-◌, ◌≤◌, List, length, refl, sym, subst, arith, min, append_assoc}
-use Rattle.uring_threads.proofs.Common.{Answer, Appends, Cqe, DeliversMost, Grows, IsDelivered, IsUnmoved, KeepsAllBut, Kept, OnlyPosts, Setup, World, happens, now, on_completions, reaps_counted, sum_by-append, with_flushed, with_head_stored, with_reaped_all, with_tail_loaded}
+use Rattle.std.proofs.Common.{◌≡◌, ℕ, ◌+◌, ◌-◌, ◌≤◌, List, length, refl, sym, subst, arith, min}
+use Rattle.uring_threads.proofs.Common.{Answer, Cqe, DeliversMost, Grows, IsDelivered, IsUnmoved, KeepsAllBut, Kept, OnlyPosts, Setup, World, happens, now, on_completions, with_flushed, with_head_stored, with_reaped_all, with_tail_loaded}
 use Rattle.uring_core.specs.declared.step.Step.TheVariants as step
 use Rattle.uring_threads.proofs.TraceSteps.{grown, unmoved_now}
 
@@ -23,10 +23,6 @@ module _ (a room flushed loaded reaped b : Kept) (x y z : Answer) (all : List Cq
 
   pub row_delivers : IsDelivered (now b).completions all
   row_delivers = subst (λ (w : World). IsDelivered w.completions all) (sym row) (record { reaped = refl; head = refl })
-
-  pub row_counts : (n : ℕ) → Appends loaded reaped (reaps_counted n) → Appends a b (reaps_counted n)
-  row_counts n p =
-      grind (arith, append_assoc, sum_by-append)
 
   -- the least was delivered of what waited, of what there was space for, and of what the ring holds
   pub row_most : (posted reaped space free size n : ℕ) → reaped ≤ posted

@@ -1,6 +1,6 @@
--- What a step makes of the trace's world, and how tallies add up.
-use Rattle.std.proofs.Common.{◌≡◌, ◌+◌, List, [], ◌∷◌, ◌++◌, length, count_by, refl, ap, ap₂, ◌∙◌, arith, append_assoc, append-nil, add-zero}
-use Rattle.uring_threads.proofs.Common.{Answer, Appends, Event, Grows, IsUnmoved, Kept, Setup, Step, Tally, both, happens, history, history_of, history_of_snoc, is_refused, length_push, none_counted, now, reverse-append, sum_by-append, tally_of, world}
+-- What a step makes of the trace's world, and how what is appended adds up.
+use Rattle.std.proofs.Common.{◌≡◌, ◌+◌, List, [], ◌∷◌, ◌++◌, length, count_by, cond, refl, ap, ap₂, ◌∙◌, arith, append_assoc, append-nil}
+use Rattle.uring_threads.proofs.Common.{Answer, Appends, Event, Grows, IsUnmoved, Kept, Setup, Step, happens, history, history_of, history_of_snoc, is_refused, length-map, length_push, map-append, nil_from_length, now, reverse-append, step_of, sum_by-append, world}
 
 -- the world after one event more
 pub grown : (a b : Kept) (s : Step) (x : Answer) → Grows a b (s, x)
@@ -27,27 +27,29 @@ unmoved_now a b u = grind arith
 pub still : (a : Kept) → IsUnmoved a a
 still a = record { trace = refl; room = omega arith; setup = refl }
 
--- Tallies.
-
--- nothing counted beside it changes no tally
-pub both_none : (t : Tally) → both t none_counted ≡ t
-both_none t = simp add-zero
+-- What is appended.
 
 -- one event
-pub appends_one : (a b : Kept) (e : Event) (t : Tally) → Grows a b e → tally_of (e ∷ []) ≡ t
-    → count_by is_refused (e ∷ []) ≡ 0
-    → Appends a b t
-appends_one a b e t g counted served = grind arith
+pub appends_one : (a b : Kept) (s : Step) (x : Answer) → Grows a b (s, x)
+    → count_by is_refused ((s, x) ∷ []) ≡ 0 → Appends a b (s ∷ [])
+appends_one a b s x g served = grind arith
 
 -- no event
-pub appends_none : (a b : Kept) → IsUnmoved a b → Appends a b none_counted
+pub appends_none : (a b : Kept) → IsUnmoved a b → Appends a b []
 appends_none a b u = grind (arith, append-nil)
 
--- one after the other
-pub appends_then : (a b c : Kept) (t u v : Tally) → Appends a b t → Appends b c u → both t u ≡ v
-    → Appends a c v
-appends_then a b c t u v p q sums = grind (arith, append_assoc, sum_by-append)
+-- one row after the other
+pub appends_then : {a b c : Kept} {xs ys : List Step} → Appends a b xs → Appends b c ys
+    → Appends a c (xs ++ ys)
+appends_then {a} p q = record {
+  events = p.events ++ q.events;
+  trace = rw (q.trace, p.trace) (append_assoc a.trace p.events q.events);
+  row = rw (map-append, p.row, q.row);
+  served = omega (arith, p.served, q.served, sum_by-append (λ e. cond (is_refused e) 1 0) p.events q.events);
+  room = omega (arith, p.room, q.room);
+  setup = q.setup ∙ p.setup;
+}
 
--- after where nothing happened
-pub appends_after : (a b c : Kept) (t : Tally) → IsUnmoved a b → Appends b c t → Appends a c t
-appends_after a b c t u q = grind arith
+-- without any the trace stays
+pub appends_idle : {a b : Kept} → Appends a b [] → b.trace ≡ a.trace
+appends_idle p = rw (p.trace, nil_from_length p.events (omega (arith, length-map p.events step_of, ap length p.row)), append-nil)

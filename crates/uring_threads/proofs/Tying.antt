@@ -1,12 +1,13 @@
 -- What ties the dispatcher's lists to its trace: what was pulled stays tied to the submission ring, and the trace has one Close once the close mark was pulled, and none before.
 use Rattle.std.proofs.Common.{◌≡◌, ℕ, ◌+◌, ◌<◌, ◌≤◌, true, false, List, [], ◌∷◌, ◌++◌, length, refl, sym, subst, ap, ◌∙◌, arith, append_assoc, append-nil, count_by, cond, zero-add, take_at, drop_at}
-use Rattle.uring_threads.proofs.Common.{All, Answer, Appends, ClosesOnce, Event, Grows, HasBegun, HaveMade, Intake, IsItem, IsUnmoved, Item, Kept, None, Published, Pulls, Put, Setup, Stands, Submission, TakesIn, Tally, Tied, World, all_published_as, awaits_memory, close_answer, closes_ring, closing, flat_map-append, if◌then◌else◌, is_shut, is_some, items_of_calls, items_published, length-map, map-append, now, published_as, sum_by-append, tail_publishes, with_call, with_close, with_items_published}
+use Rattle.uring_threads.proofs.Common.{Adds, All, Answer, ClosesOnce, Event, Grows, HasBegun, Intake, IsItem, IsUnmoved, Item, Kept, None, Published, Pulls, Put, Setup, Stands, Submission, TakesIn, Tally, Tied, World, all_published_as, awaits_memory, close_answer, closes_ring, closing, flat_map-append, if◌then◌else◌, is_close, is_shut, is_some, items_of_calls, items_published, length-map, map-append, now, published_as, sum_by-append, tail_publishes, with_call, with_close, with_items_published}
 use Rattle.uring_ports.specs.declared.pulled.Pulled.{Pulled}
 use Rattle.uring_threads.proofs.CallsMade.{none_left, published_left, calls_add_up, kept_after}
 use Rattle.uring_core.specs.declared.step.Step.TheVariants as step
 use Rattle.uring_core.specs.declared.answer.Answer.TheVariants as answer
 use Rattle.uring_threads.proofs.ItemSteps.{items_stand}
-use Rattle.uring_threads.proofs.TraceSteps.{grown, unmoved_now, appends_none, appends_then}
+use Rattle.uring_threads.proofs.TraceSteps.{grown, unmoved_now}
+use Rattle.uring_threads.proofs.Tallying.{adds_count, adds_none, adds_then}
 use Rattle.std.proofs.lemmas.List.Elements.{All-drop, All-take}
 use Rattle.uring_threads.specs.declared.intake.Intake.TheVariants as intake
 
@@ -47,18 +48,15 @@ tied_published g w put items t not_closed few =
 
 -- What a row of the intake appends.
 
-pub takes_calls : (a b : Kept) (done : List ℕ) (rest : ℕ) → HaveMade a b done rest → TakesIn a b 0
-takes_calls a b done rest h = grind arith
-
 pub takes_nothing : (a b : Kept) → IsUnmoved a b → TakesIn a b 0
-takes_nothing a b u = grind (arith, appends_none)
+takes_nothing a b u = record { calls = 0; closes = 0; adds = adds_none a b u; idle = λ none. u.trace }
 
 -- one after the other
 pub takes_then : (a b c : Kept) (n m k : ℕ) → TakesIn a b n → TakesIn b c m → n + m ≡ k
     → TakesIn a c k
 takes_then a b c n m k p q sums =
-    let appends = appends_then a b c _ _ _ p.appends q.appends (ap (λ i. record { items = i; issues = 0; finishes = 0; reaps = 0; calls = p.calls + q.calls; closes = p.closes + q.closes }) sums) in
-    grind (arith, appends)
+    let adds = adds_then p.adds q.adds in
+    grind (arith, adds)
 
 -- A row of the intake where nothing happened before but that room was asked for.
 
@@ -131,12 +129,12 @@ closes_append es fs = sum_by-append (λ e. cond (closes_ring e) 1 0) es fs
 pub once_unmoved : (a b : Kept) (i : Intake) → IsUnmoved a b → ClosesOnce a i → ClosesOnce b i
 once_unmoved a b i u once = ap (count_by closes_ring) u.trace ∙ once
 
-pub once_stays : (a b : Kept) (t : Tally) (i : Intake) → Appends a b t → t.closes ≡ 0
+pub once_stays : (a b : Kept) (t : Tally) (i : Intake) → Adds a b t → t.closes ≡ 0
     → ClosesOnce a i → ClosesOnce b i
-once_stays a b t i p none once = grind (arith, closes_append)
+once_stays a b t i p none once = grind (arith, closes_append, (adds_count is_close p))
 
 -- calls were begun
-pub once_begun : (a b : Kept) (t : Tally) (i x : Intake) → Appends a b t → t.closes ≡ 0
+pub once_begun : (a b : Kept) (t : Tally) (i x : Intake) → Adds a b t → t.closes ≡ 0
     → is_shut x ≡ false → (ClosesOnce a i → ClosesOnce a intake.Ready) → ClosesOnce a i
     → ClosesOnce b x
 once_begun a b t i x p none not_shut ready once = grind (arith, (once_stays a b t intake.Ready p none (ready once)))

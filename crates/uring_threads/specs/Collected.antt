@@ -10,7 +10,7 @@ use Rattle.uring_workers.specs.WorkLanes.{results_seen}
 use Rattle.uring_core.specs.declared.step.Step.TheVariants as step
 use Rattle.uring_threads.specs.EventRows.{Repeats}
 use Rattle.uring_threads.specs.Kept.{Kept, now, history}
-use Rattle.uring_threads.specs.Tallies.{finishes_counted, most_results, results_taken_in}
+use Rattle.uring_threads.specs.Tallies.{most_results, results_taken_in}
 use Rattle.uring_workers.specs.Work.{place_of}
 use Rattle.uring_threads.specs.Dealt.{jobs_to, done_by_worker}
 use Rattle.uring_threads.specs.Settled.{IsWork, finish_of}
@@ -48,7 +48,7 @@ NoneComes old new workers =
 
 -- so many results of a worker were taken in, and recorded as Finishes
 pub record Collects (old new : Kept) (workers place count : ℕ) : Type 0 where
-  pub repeats : Repeats old new step.Finish (finishes_counted count)
+  pub repeats : Repeats old new step.Finish count
   pub own : results_taken_in workers place new ≡ results_taken_in workers place old + count
   pub others : OthersStay old new workers place
   pub none_comes : NoneComes old new workers

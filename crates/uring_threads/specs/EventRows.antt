@@ -2,7 +2,6 @@
 use Rattle.std.specs.Prelude.{◌≡◌, ◌⊎◌, ℕ, zero, suc, ◌+◌, List, [], ◌∷◌, ◌++◌, length, map, replicate, Result, IfOk}
 use Rattle.uring_entry.specs.Setup.{Setup}
 use Rattle.uring_entry.specs.Submission.{Submission}
-use Rattle.uring_core.specs.Histories.{Event}
 use Rattle.uring_core.specs.declared.step.Step.{Step}
 use Rattle.uring_core.specs.declared.step.Step.TheVariants as step
 use Rattle.uring_ports.specs.declared.item.Item.{Item}
@@ -13,24 +12,12 @@ use Rattle.uring_ports.specs.Ports.{Put, Pulls}
 use Rattle.uring_threads.specs.Calls.{AreBegun, calls_of, calls_left}
 use Rattle.uring_threads.specs.Delivered.{OnlyPosts}
 use Rattle.uring_threads.specs.Kept.{Kept, now}
-use Rattle.uring_threads.specs.Tallies.{Tally, Appends}
+use Rattle.uring_threads.specs.Tallies.{Appends}
 use Rattle.uring_threads.specs.declared.calls.CallMade.{CallMade}
 use Rattle.uring_threads.specs.declared.calls.CallMade.TheVariants as made
 use Rattle.uring_threads.specs.declared.intake.Intake.{Intake}
 use Rattle.uring_threads.specs.declared.intake.Intake.TheVariants as intake
 use Rattle.uring_threads.specs.declared.turns.Turn.{Turn}
-
--- the step of an event
-abbrev pub step_of : Event → Step
-step_of e = e.0
-
--- the steps of a trace
-abbrev pub steps_of : Kept → List Step
-steps_of k = map step_of k.trace
-
--- These steps were recorded, after all others.
-abbrev pub Records : Kept → Kept → List Step → Type 0
-Records old new steps = steps_of new ≡ steps_of old ++ steps
 
 -- An item is put into a slot: an entry is filled in and its slot staged, and a bad word is staged.
 abbrev pub item_row : ℕ → Item → List Step
@@ -84,13 +71,13 @@ pub record RecordsIntake (old new : Kept) (i : Intake) (before after : Put) : Ty
   pub pulled : List Step
   pub is_again : IsAgain old.setup (now old).submission i again
   pub is_pulled : IsPulled old.setup before after pulled
-  pub row : Records old new (again ++ pulled)
+  pub row : Appends old new (again ++ pulled)
 
--- Glue. Results are taken in, or requests issued, each by one such step: nothing else is recorded, so much is counted, and of the rings only more is posted.
-pub record Repeats (old new : Kept) (kind : ℕ → Step) (t : Tally) : Type 0 where
+-- Glue. So many results are taken in, or requests issued, each by one such step: nothing else is recorded, and of the rings only more is posted.
+pub record Repeats (old new : Kept) (kind : ℕ → Step) (count : ℕ) : Type 0 where
   pub numbers : List ℕ
-  pub row : Records old new (map kind numbers)
-  pub tally : Appends old new t
+  pub many : length numbers ≡ count
+  pub row : Appends old new (map kind numbers)
   pub posts : OnlyPosts (now old) (now new)
 
 -- So many results, issues and completions are those of a turn.
@@ -108,7 +95,7 @@ pub record RecordsTurn {E : Type 0} (old new : Kept) (i : Intake) (before after 
   pub delivered : ℕ
   pub is_again : IsAgain old.setup (now old).submission i again
   pub is_pulled : IsPulled old.setup before after pulled
-  pub row : Records old new
+  pub row : Appends old new
       (again ++ pulled ++ map step.Finish finished ++ map step.Issue issued
       ++ delivery_row delivered)
   pub told : IfOk answer (λ turn. AreOfTurn turn finished issued delivered)

@@ -7,7 +7,7 @@ use Rattle.uring_ports.specs.Seen.{SeenCalls, FindsNoCall, HasLooked}
 use Rattle.uring_threads.specs.EventRows.{RecordsTurn}
 use Rattle.uring_threads.specs.Kept.{now, next_in}
 use Rattle.uring_threads.specs.Kernel.{Kernel, IsKernel}
-use Rattle.uring_threads.specs.Tallies.{Tally, Appends, TakesFewResults, starts_request}
+use Rattle.uring_threads.specs.Tallies.{Tally, Adds, TakesFewResults, starts_request}
 use Rattle.uring_threads.specs.Turns.{Counts, awaits_memory}
 use Rattle.uring_threads.specs.declared.intake.Intake.{Intake}
 use Rattle.uring_threads.specs.declared.intake.Intake.TheVariants as intake
@@ -51,7 +51,7 @@ pub record HasTurned {E : Type 0} (old new : Kernel) (answer : Result Turn E) : 
   pub next : IfOk answer
       (λ turn. count_by starts_request new.kept.trace < 64 → next_in new.kept ≡ None)
   -- if memory was refused too it appended events, and none of them is refused
-  pub err : OnErr answer ((t : Tally) × Appends old.kept new.kept t)
+  pub err : OnErr answer ((t : Tally) × Adds old.kept new.kept t)
   -- its events are rows of steps, one after the other, also if memory was refused
   pub rows : RecordsTurn old.kept new.kept old.intake old.pulled new.pulled answer
   -- of each worker at most 64 results are taken in, also if memory was refused

@@ -1,11 +1,16 @@
--- What is counted of the events that the dispatcher appends to its trace.
-use Rattle.std.specs.Prelude.{◌≡◌, ℕ, ◌+◌, ◌≤◌, Bool, true, false, not, List, ◌++◌, length, count_by}
+-- What the dispatcher appends to its trace, and what is counted of it.
+use Rattle.std.specs.Prelude.{◌≡◌, ℕ, ◌+◌, ◌≤◌, Bool, true, false, not, List, ◌++◌, length, map, count_by}
 use Rattle.uring_core.specs.Histories.{Event, history_of}
+use Rattle.uring_core.specs.declared.step.Step.{Step}
 use Rattle.uring_core.specs.declared.step.Step.TheVariants as step
 use Rattle.uring_core.specs.declared.answer.Answer.{Answer}
 use Rattle.uring_core.specs.declared.answer.Answer.TheVariants as answer
 use Rattle.uring_threads.specs.Kept.{Kept}
 use Rattle.uring_threads.specs.Dealt.{done_by_worker}
+
+-- the step of an event
+abbrev pub step_of : Event → Step
+step_of e = e.0
 
 -- an item was staged: each has one word
 abbrev pub stages_item : Event → Bool
@@ -23,39 +28,64 @@ abbrev pub starts_request : Event → Bool
 starts_request (step.Issue n, answer.Run) = true
 starts_request _ = false
 
--- a result was taken in, however it was answered
-abbrev pub takes_result : Event → Bool
-takes_result (step.Finish n, a) = true
-takes_result _ = false
-
 -- a completion was reaped
 abbrev pub reaps_completion : Event → Bool
 reaps_completion (step.Reap, answer.Reaped completion) = true
 reaps_completion _ = false
-
--- a call was begun, whether it opened or not
-abbrev pub begins_call : Event → Bool
-begins_call (step.Begin count, a) = true
-begins_call _ = false
-
--- the ring was closed
-abbrev pub closes_ring : Event → Bool
-closes_ring (step.Close, a) = true
-closes_ring _ = false
 
 -- an end, with any result
 abbrev pub is_end : Answer → Bool
 is_end (answer.Ended res bytes) = true
 is_end _ = false
 
--- a step was refused: a Finish that ends no request, an Issue that neither starts nor ends one, or a Reap that takes no completion
+-- a step was refused: an Index that stages no item, a Finish that ends no request, an Issue that neither starts nor ends one, or a Reap that takes no completion
 abbrev pub is_refused : Event → Bool
+is_refused (step.Index word, a) = not (stages_item (step.Index word, a))
 is_refused (step.Finish n, a) = not (is_end a)
 is_refused (step.Issue n, a) = not (issues_request (step.Issue n, a))
 is_refused (step.Reap, a) = not (reaps_completion (step.Reap, a))
 is_refused _ = false
 
--- How many events there are of each of these kinds.
+-- The trace goes on with events of these steps, after all others. No item that it stages, no result that it takes in, no issue and no reap of them was refused.
+pub record Appends (old new : Kept) (steps : List Step) : Type 0 where
+  pub events : List Event
+  pub trace : new.trace ≡ old.trace ++ events
+  pub row : map step_of events ≡ steps
+  pub served : count_by is_refused events ≡ 0
+  pub room : old.room ≤ new.room
+  pub setup : new.setup ≡ old.setup
+
+-- The kinds of steps that are counted: an item is staged, a request issued, a result taken in, a completion reaped, a call begun, whether it opens or not, and the ring closed.
+
+abbrev pub is_index : Step → Bool
+is_index (step.Index word) = true
+is_index _ = false
+
+abbrev pub is_issue : Step → Bool
+is_issue (step.Issue n) = true
+is_issue _ = false
+
+abbrev pub is_finish : Step → Bool
+is_finish (step.Finish n) = true
+is_finish _ = false
+
+abbrev pub is_reap : Step → Bool
+is_reap step.Reap = true
+is_reap _ = false
+
+abbrev pub is_begin : Step → Bool
+is_begin (step.Begin count) = true
+is_begin _ = false
+
+abbrev pub is_close : Step → Bool
+is_close step.Close = true
+is_close _ = false
+
+-- the ring was closed
+abbrev pub closes_ring : Event → Bool
+closes_ring e = is_close (step_of e)
+
+-- How many steps there are of each of these kinds.
 pub record Tally : Type 0 where
   pub items : ℕ
   pub issues : ℕ
@@ -64,15 +94,21 @@ pub record Tally : Type 0 where
   pub calls : ℕ
   pub closes : ℕ
 
-abbrev pub tally_of : List Event → Tally
-tally_of events = record {
-  items = count_by stages_item events;
-  issues = count_by issues_request events;
-  finishes = count_by takes_result events;
-  reaps = count_by reaps_completion events;
-  calls = count_by begins_call events;
-  closes = count_by closes_ring events;
+abbrev pub tally_of : List Step → Tally
+tally_of steps = record {
+  items = count_by is_index steps;
+  issues = count_by is_issue steps;
+  finishes = count_by is_finish steps;
+  reaps = count_by is_reap steps;
+  calls = count_by is_begin steps;
+  closes = count_by is_close steps;
 }
+
+-- The trace goes on with events of this tally. None of them was refused, so each counts what it says.
+pub record Adds (old new : Kept) (t : Tally) : Type 0 where
+  pub steps : List Step
+  pub appends : Appends old new steps
+  pub tally : tally_of steps ≡ t
 
 -- both together
 abbrev pub both : Tally → Tally → Tally
@@ -111,18 +147,6 @@ reaps_counted n = record { items = 0; issues = 0; finishes = 0; reaps = n; calls
 
 abbrev pub calls_counted : ℕ → Tally
 calls_counted n = record { items = 0; issues = 0; finishes = 0; reaps = 0; calls = n; closes = 0 }
-
-abbrev pub close_counted : Tally
-close_counted = record { items = 0; issues = 0; finishes = 0; reaps = 0; calls = 0; closes = 1 }
-
--- The trace goes on with events of this tally, after all others. No result that it takes in, no issue and no reap of them was refused.
-pub record Appends (old new : Kept) (t : Tally) : Type 0 where
-  pub events : List Event
-  pub trace : new.trace ≡ old.trace ++ events
-  pub tally : tally_of events ≡ t
-  pub served : count_by is_refused events ≡ 0
-  pub room : old.room ≤ new.room
-  pub setup : new.setup ≡ old.setup
 
 -- Results of one worker.
 

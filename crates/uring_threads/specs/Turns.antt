@@ -12,7 +12,7 @@ use Rattle.uring_ports.specs.Ports.{Put, items_of_calls}
 use Rattle.uring_threads.specs.Calls.{calls_of, calls_left}
 use Rattle.uring_threads.specs.Dispatched.{HaveCarried}
 use Rattle.uring_threads.specs.Kept.{Kept, now}
-use Rattle.uring_threads.specs.Tallies.{Appends, closes_ring}
+use Rattle.uring_threads.specs.Tallies.{Adds, closes_ring}
 use Rattle.uring_threads.specs.declared.intake.Intake.{Intake}
 use Rattle.uring_threads.specs.declared.intake.Intake.TheVariants as intake
 use Rattle.uring_threads.specs.declared.turns.Turn.{Turn}
@@ -70,6 +70,6 @@ awaits_memory other = false
 pub record Counts (old new : Kept) (turn : Turn) : Type 0 where
   pub calls : ℕ
   pub closes : ℕ
-  pub appends : Appends old new (record { items = turn.popped; issues = turn.issued; finishes = turn.finished; reaps = turn.delivered; calls = calls; closes = closes })
+  pub adds : Adds old new (record { items = turn.popped; issues = turn.issued; finishes = turn.finished; reaps = turn.delivered; calls = calls; closes = closes })
   pub idle : turn.popped + turn.issued + turn.finished + turn.delivered + calls + closes ≡ 0
       → new.trace ≡ old.trace

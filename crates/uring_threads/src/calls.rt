@@ -7,11 +7,11 @@ ghost use Rattle.uring_core.specs.World.{World};
 ghost use Rattle.uring_core.specs.declared.step.Step.TheVariants as step;
 ghost use Rattle.uring_ports.specs.Items.{all_published_as};
 ghost use Rattle.uring_threads.specs.Calls.{calls_after, calls_left, ends_of};
-ghost use Rattle.uring_threads.specs.EventRows.{Records, items_row, call_row};
+ghost use Rattle.uring_threads.specs.EventRows.{items_row, call_row};
 ghost use Rattle.uring_threads.specs.Kept.{now};
 ghost use Rattle.uring_threads.specs.Rows.{with_items_published, with_call_made};
 ghost use Rattle.uring_threads.specs.Taking.{IsFirst, HasBegun};
-ghost use Rattle.uring_threads.specs.Tallies.{Appends, none_counted, calls_counted, items_counted};
+ghost use Rattle.uring_threads.specs.Tallies.{Appends};
 ghost use Rattle.uring_threads.specs.Turns.{awaits_memory};
 ghost use Rattle.uring_threads.specs.declared.calls.CallMade.TheVariants as made;
 
@@ -55,8 +55,7 @@ fn take_positions(kept: &mut Kept, count: u32) -> u32
     ensures call { calls_left kept.old.setup (now kept.old).submission
         ≡ result
         ∷ calls_after (ends_of kept.old.setup (drop (taken (now kept.old).submission + result) (now kept.old).submission.published)) 0 }
-    ensures tally { Appends kept.old kept.new none_counted }
-    ensures row { Records kept.old kept.new (replicate result step.Take) }
+    ensures row { Appends kept.old kept.new (replicate result step.Take) }
     ensures length { length kept.new.trace ≤ length kept.old.trace + result }
 {
     kept.is_lawful();
@@ -79,8 +78,7 @@ fn make_call<M: Memory>(memory: &M, kept: &mut Kept, count: u32) -> CallMade
     ensures world { now kept.new ≡ with_call_made kept.old.setup (now kept.old) result }
     ensures first { IsFirst kept.old.setup (now kept.old).submission
         (now kept.new).submission count result }
-    ensures tally { Appends kept.old kept.new (calls_counted 1) }
-    ensures row { Records kept.old kept.new (call_row count result) }
+    ensures row { Appends kept.old kept.new (call_row count result) }
 
     // It is given up only if the numbers of requests are spent.
     ensures spent { result ≡ made.Spent → is_spent (now kept.old) count ≡ true }
@@ -127,8 +125,7 @@ pub fn publish_items(kept: &mut Kept, items: &[Item])
     ensures world { now kept.new
         ≡ with_items_published kept.old.setup.sq (now kept.old) (all_published_as items.now) }
     ensures stands { Stands (now kept.new).submission [] (length items.now) }
-    ensures tally { Appends kept.old kept.new (items_counted (length items.now)) }
-    ensures row { Records kept.old kept.new (items_row 0 items.now ++ step.StoreTail ∷ []) }
+    ensures row { Appends kept.old kept.new (items_row 0 items.now ++ step.StoreTail ∷ []) }
     ensures length { length kept.new.trace ≤ length kept.old.trace + 2 * length items.now + 1 }
 {
     kept.is_lawful();

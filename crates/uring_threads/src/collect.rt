@@ -5,7 +5,7 @@ ghost use Rattle.uring_workers.specs.WorkLanes.{AreSameLanes, OnlyReceives, resu
 ghost use Rattle.uring_threads.specs.Collected.{CanBeTaken, Collects, CollectsSeen, TakesAll, TakesSeen, Wait};
 ghost use Rattle.uring_threads.specs.Dispatched.{HaveCarried, AreTakenIn};
 ghost use Rattle.uring_threads.specs.EventRows.{Repeats};
-ghost use Rattle.uring_threads.specs.Tallies.{TakesFewResults, finishes_counted, most_results};
+ghost use Rattle.uring_threads.specs.Tallies.{TakesFewResults, most_results};
 
 use crate::kept::Kept;
 use std::alloc::AllocError;
@@ -28,9 +28,9 @@ pub fn collect_all<M: Memory>(
     // Of each worker, fewer than 64 only if no other result is seen, or the next can't be taken in.
     ensures seen { OnOk result (TakesSeen kept.old kept.new lanes.new) }
     ensures ok { IfOk result
-        (λ count. Repeats kept.old kept.new step.Finish (finishes_counted count)) }
+        (λ count. Repeats kept.old kept.new step.Finish count) }
     ensures err { OnErr result
-        ((count : ℕ) × Repeats kept.old kept.new step.Finish (finishes_counted count)) }
+        ((count : ℕ) × Repeats kept.old kept.new step.Finish count) }
     ensures granted { ((n : ℕ) → M.grants memory.now n) → IsOk result }
 {
     let workers = lanes.len() as u32;

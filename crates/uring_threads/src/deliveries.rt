@@ -4,10 +4,10 @@ ghost use Rattle.uring_core.specs.declared.step.Step.TheVariants as step;
 ghost use Rattle.uring_ports.specs.Seen.{HasLooked};
 ghost use Rattle.uring_threads.specs.Delivered.{KeepsAllBut, on_completions, with_reaped_all};
 ghost use Rattle.uring_threads.specs.Turns.{IsDelivered};
-ghost use Rattle.uring_threads.specs.EventRows.{Records, delivery_row};
+ghost use Rattle.uring_threads.specs.EventRows.{delivery_row};
 ghost use Rattle.uring_threads.specs.Kept.{now, IsUnmoved};
 ghost use Rattle.uring_threads.specs.Served.{DeliversMost};
-ghost use Rattle.uring_threads.specs.Tallies.{Appends, reaps_counted};
+ghost use Rattle.uring_threads.specs.Tallies.{Appends};
 
 use crate::kept::Kept;
 use std::alloc::AllocError;
@@ -28,8 +28,7 @@ fn reap_all<P: KernelPort>(kept: &mut Kept, port: &mut P, count: u64)
         (with_reaped_all (now kept.old).completions (P.delivered port.new)) }
     ensures delivered { length (P.delivered port.new) ≡ length (P.delivered port.old) + count }
     ensures free { P.free port.new + count ≡ P.free port.old }
-    ensures tally { Appends kept.old kept.new (reaps_counted count) }
-    ensures row { Records kept.old kept.new (replicate count step.Reap) }
+    ensures row { Appends kept.old kept.new (replicate count step.Reap) }
     ensures length { length kept.new.trace ≤ length kept.old.trace + count }
     ensures pairing { P.pairing port.new ≡ P.pairing port.old }
     ensures sizes { P.sizes port.new ≡ P.sizes port.old }
@@ -58,8 +57,7 @@ pub fn deliver<M: Memory, P: KernelPort>(
     requires delivered { IsDelivered (now kept.old).completions (P.delivered port.old) }
     ensures delivered { IsDelivered (now kept.new).completions (P.delivered port.new) }
     ensures keeps { KeepsAllBut (now kept.old) (now kept.new) }
-    ensures tally { IfOk result (λ n. Appends kept.old kept.new (reaps_counted n)) }
-    ensures row { IfOk result (λ n. Records kept.old kept.new (delivery_row n)) }
+    ensures row { IfOk result (λ n. Appends kept.old kept.new (delivery_row n)) }
 
     // Nothing is recorded if nothing is delivered.
     ensures idle { IfOk result (λ n. n ≡ 0 → IsUnmoved kept.old kept.new) }

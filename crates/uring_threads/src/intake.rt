@@ -2,10 +2,11 @@
 ghost use Rattle.std.specs.Prelude.{◌≡◌, ℕ, ◌+◌, ◌*◌, ◌≤◌, false, List, length, IsOk, IfOk, OnErr, vec_capacity};
 ghost use Rattle.uring_ports.specs.Ports.{Put, Pulls};
 ghost use Rattle.uring_core.specs.declared.step.Step.{Step};
-ghost use Rattle.uring_threads.specs.EventRows.{Records, RecordsIntake, IsAgain, IsTaken};
+ghost use Rattle.uring_threads.specs.EventRows.{RecordsIntake, IsAgain, IsTaken};
 ghost use Rattle.uring_threads.specs.Kept.{now};
 ghost use Rattle.uring_threads.specs.Served.{PullsMost};
 ghost use Rattle.uring_threads.specs.Taking.{TakesIn};
+ghost use Rattle.uring_threads.specs.Tallies.{Appends};
 ghost use Rattle.uring_threads.specs.Turns.{ClosesOnce, Tied};
 ghost use Rattle.uring_threads.specs.Turns as turns;
 ghost use Rattle.uring_threads.specs.declared.intake.Intake.TheVariants.{Ready};
@@ -41,7 +42,7 @@ fn retry<M: Memory>(memory: &M, kept: &mut Kept, intake: &mut Intake) -> Result<
     ensures completions { (now kept.new).completions ≡ (now kept.old).completions }
     ensures taken { TakesIn kept.old kept.new 0 }
     ensures row { (steps : List Step) × IsAgain kept.old.setup (now kept.old).submission intake.old steps
-        × Records kept.old kept.new steps }
+        × Appends kept.old kept.new steps }
     ensures once { ClosesOnce kept.old intake.old → ClosesOnce kept.new intake.new }
     ensures granted { ((n : ℕ) → M.grants memory.now n) → IsOk result }
     ensures begun { ((n : ℕ) → M.grants memory.now n) → turns.awaits_memory intake.new ≡ false }
@@ -72,7 +73,7 @@ fn take_pulled<M: Memory>(
     ensures completions { (now kept.new).completions ≡ (now kept.old).completions }
     ensures taken { TakesIn kept.old kept.new result }
     ensures row { (steps : List Step) × IsTaken kept.old.setup pulled items.now steps
-        × Records kept.old kept.new steps }
+        × Appends kept.old kept.new steps }
     ensures once { ClosesOnce kept.old intake.old → ClosesOnce kept.new intake.new }
     ensures none { result ≡ 0 → intake.new ≡ Ready → pulled ≡ Pulled.Nothing }
     ensures begun { ((n : ℕ) → M.grants memory.now n) → turns.awaits_memory intake.new ≡ false }

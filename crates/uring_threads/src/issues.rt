@@ -5,7 +5,6 @@ ghost use Rattle.uring_threads.specs.Dispatched.{HaveCarried};
 ghost use Rattle.uring_workers.specs.WorkLanes.{ShowRoom, SomeIsFull, AreSameLanes};
 ghost use Rattle.uring_threads.specs.EventRows.{Repeats};
 ghost use Rattle.uring_threads.specs.Kept.{next_in};
-ghost use Rattle.uring_threads.specs.Tallies.{issues_counted};
 
 use crate::kept::Kept;
 use std::alloc::AllocError;
@@ -23,7 +22,7 @@ fn issue_one(kept: &mut Kept, lanes: &mut [WorkLanes], number: u64)
     requires carried { HaveCarried kept.old lanes.old }
     ensures carried { HaveCarried kept.new lanes.new }
     ensures lanes { AreSameLanes lanes.old lanes.new }
-    ensures repeats { Repeats kept.old kept.new step.Issue (issues_counted 1) }
+    ensures repeats { Repeats kept.old kept.new step.Issue 1 }
 {
     match kept.step_reserved(Step::Issue { number }) {
         Answer::Run => {
@@ -54,9 +53,9 @@ pub fn issue_all<M: Memory>(
     ensures none_left { IfOk result
         (λ count. (next_in kept.new ≡ None) ⊎ SomeIsFull lanes.new) }
     ensures ok { IfOk result
-        (λ count. Repeats kept.old kept.new step.Issue (issues_counted count)) }
+        (λ count. Repeats kept.old kept.new step.Issue count) }
     ensures err { OnErr result
-        ((count : ℕ) × Repeats kept.old kept.new step.Issue (issues_counted count)) }
+        ((count : ℕ) × Repeats kept.old kept.new step.Issue count) }
     ensures granted { ((n : ℕ) → M.grants memory.now n) → IsOk result }
 {
     for count in 0..u64::MAX {

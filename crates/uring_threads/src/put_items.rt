@@ -2,10 +2,10 @@
 ghost use Rattle.std.specs.Prelude.{◌≡◌, ◌+◌, ◌<◌, ◌≤◌, length};
 ghost use Rattle.uring_laws.specs.Standing.{Stands};
 ghost use Rattle.uring_ports.specs.Items.{published_as};
-ghost use Rattle.uring_threads.specs.EventRows.{Records, item_row};
+ghost use Rattle.uring_threads.specs.EventRows.{item_row};
 ghost use Rattle.uring_threads.specs.Kept.{now};
 ghost use Rattle.uring_threads.specs.Rows.{with_item_put};
-ghost use Rattle.uring_threads.specs.Tallies.{Appends, items_counted};
+ghost use Rattle.uring_threads.specs.Tallies.{Appends};
 
 use crate::kept::Kept;
 use uring_core::Step;
@@ -18,8 +18,7 @@ pub fn put_item(kept: &mut Kept, slot: u32, item: Item)
     requires stands { Stands (now kept.old).submission (now kept.old).submission.fresh 0 }
     requires few { length (now kept.old).submission.fresh < kept.old.setup.sq }
     ensures world { now kept.new ≡ with_item_put (now kept.old) slot (published_as item) }
-    ensures tally { Appends kept.old kept.new (items_counted 1) }
-    ensures row { Records kept.old kept.new (item_row slot item) }
+    ensures row { Appends kept.old kept.new (item_row slot item) }
     ensures length { length kept.new.trace ≤ length kept.old.trace + 2 }
 {
     match item {

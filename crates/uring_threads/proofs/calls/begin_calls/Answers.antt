@@ -19,7 +19,7 @@ loop-rest-preserved g c =
     let n = c.in-Taken.taken in
     record {
       made = i.made ++ n ∷ [];
-      have = one_made c.args.kept.now c.loop-rest.kept c.make_call.new.kept i.made c.loop-rest.rest i.have n ensures.world ensures.first ensures.tally;
+      have = one_made c.args.kept.now c.loop-rest.kept c.make_call.new.kept i.made c.loop-rest.rest i.have n ensures.world ensures.first ensures.row.setup;
       row = next_recorded c.args.kept.now c.loop-rest.kept c.make_call.new.kept i.made c.loop-rest.rest i.have i.row n ensures.first ensures.row;
       not_closed = ap (λ (w : World). w.is_closed) ensures.world ∙ i.not_closed;
       events = omega (arith, i.events, ensures.length n refl, ensures.first.0, ensures.first.1);
@@ -28,12 +28,12 @@ loop-rest-preserved g c =
 pub returns-in-Again-clause-begun : goal.returns-in-Again-clause-begun
 returns-in-Again-clause-begun g c =
     let i = c.loop-rest.invariant in
-    begun_again c.args.kept.now c.loop-rest.kept c.make_call.new.kept i.made c.loop-rest.rest i.have i.row c.loop-rest-test.true c.in-Again.ensures.world c.in-Again.ensures.tally c.in-Again.ensures.row
+    begun_again c.args.kept.now c.loop-rest.kept c.make_call.new.kept i.made c.loop-rest.rest i.have i.row c.loop-rest-test.true c.in-Again.ensures.world c.in-Again.ensures.row
 
 pub returns-in-Spent-clause-begun : goal.returns-in-Spent-clause-begun
 returns-in-Spent-clause-begun g c =
     let i = c.loop-rest.invariant in
-    begun_spent c.args.kept.now c.loop-rest.kept c.make_call.new.kept i.made c.loop-rest.rest i.have i.row c.loop-rest-test.true c.in-Spent.ensures.world c.in-Spent.ensures.tally c.in-Spent.ensures.row (c.in-Spent.ensures.spent refl)
+    begun_spent c.args.kept.now c.loop-rest.kept c.make_call.new.kept i.made c.loop-rest.rest i.have i.row c.loop-rest-test.true c.in-Spent.ensures.world c.in-Spent.ensures.row (c.in-Spent.ensures.spent refl)
 
 pub returns-clause-begun : goal.returns-clause-begun
 returns-clause-begun g c =

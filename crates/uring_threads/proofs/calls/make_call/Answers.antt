@@ -1,10 +1,9 @@
 use Rattle.std.proofs.Common.{◌≡◌, ℕ, ◌+◌, ◌∷◌, [], drop, refl, ap, ◌∙◌, sym, subst, arith}
-use Rattle.uring_threads.proofs.Common.{Setup, Stands, World, beginning, calls_after, calls_counted, calls_left, ends_of, in_call, now, taken}
+use Rattle.uring_threads.proofs.Common.{Setup, Stands, World, beginning, calls_after, calls_left, ends_of, in_call, now, taken}
 use Rattle.uring_core.specs.declared.step.Step.TheVariants as step
 use Rattle.uring_threads.specs.declared.calls.CallMade.TheVariants as made
-use Rattle.uring_threads.proofs.CallSteps.{begun_cases, begun_spent, opened_now, closed_now, opened_first, call_counts}
-use Rattle.uring_threads.proofs.Recording.{records_one, call_recorded}
-use Rattle.uring_threads.proofs.TraceSteps.{appends_one, grown, grown_length}
+use Rattle.uring_threads.proofs.CallSteps.{begun_cases, begun_spent, opened_now, closed_now, opened_first}
+use Rattle.uring_threads.proofs.TraceSteps.{appends_one, appends_then, grown, grown_length}
 use Rattle.uring_threads.proofs.calls.make_call.Goals as goal
 
 -- ways in which a call can go are told apart
@@ -30,8 +29,7 @@ returns-in-Again g c =
     record {
       world = is;
       first = subst (λ (w : World). Stands w.submission [] c.args.count) (sym is) c.requires.stands;
-      tally = appends_one c.args.kept.now c.step_reserved_in.new.self (step.Begin c.args.count, c.step_reserved_in.result) (calls_counted 1) c.step_reserved_in.ensures.grows refl refl;
-      row = records_one c.args.kept.now c.step_reserved_in.new.self (step.Begin c.args.count) c.step_reserved_in.result c.step_reserved_in.ensures.grows;
+      row = appends_one c.args.kept.now c.step_reserved_in.new.self (step.Begin c.args.count) c.step_reserved_in.result c.step_reserved_in.ensures.grows refl;
       spent = λ same. absurd (again_spent same);
       length = λ n same. absurd (taken_again n (sym same));
       granted = λ all same. c.step_reserved_in.ensures.granted all c.in-Again.is;
@@ -43,8 +41,7 @@ returns-in-Spent g c =
     record {
       world = is;
       first = subst (λ (w : World). Stands w.submission [] c.args.count) (sym is) c.requires.stands;
-      tally = appends_one c.args.kept.now c.step_reserved_in.new.self (step.Begin c.args.count, c.step_reserved_in.result) (calls_counted 1) c.step_reserved_in.ensures.grows refl refl;
-      row = records_one c.args.kept.now c.step_reserved_in.new.self (step.Begin c.args.count) c.step_reserved_in.result c.step_reserved_in.ensures.grows;
+      row = appends_one c.args.kept.now c.step_reserved_in.new.self (step.Begin c.args.count) c.step_reserved_in.result c.step_reserved_in.ensures.grows refl;
       spent = λ same. begun_spent c.args.kept.now c.args.count c.step_reserved_in.result c.requires.stands c.requires.not_closed c.step_reserved_in.ensures.called c.in-Spent.is;
       length = λ n same. absurd (taken_spent n (sym same));
       granted = λ all same. absurd (again_spent (sym same));
@@ -64,14 +61,13 @@ returns g c =
     let load = c.step_reserved-2.ensures.grows in
     let took = c.take_positions-taken.ensures in
     let opened = opened_now c.args.kept.now c.args.count c.step_reserved_in.result c.requires.stands c.requires.not_closed c.step_reserved_in.ensures.called o _ c.in-Call.is begin in
-    let is = closed_now c.args.kept.now t c.step_reserved.new.self c.step_reserved-2.new.self c.args.count n c.step_reserved.result c.step_reserved-2.result c.requires.stands took.few (took.world ∙ ap (λ w. in_call w n n) opened) end c.step_reserved.ensures.called load (took.tally.setup ∙ begin.setup) in
+    let is = closed_now c.args.kept.now t c.step_reserved.new.self c.step_reserved-2.new.self c.args.count n c.step_reserved.result c.step_reserved-2.result c.requires.stands took.few (took.world ∙ ap (λ w. in_call w n n) opened) end c.step_reserved.ensures.called load (took.row.setup ∙ begin.setup) in
     record {
       world = is;
       first =
           opened_first c.args.kept.now.setup (now c.args.kept.now) (now o) (now c.step_reserved-2.new.self) c.args.count n opened c.requires.stands took.some took.few
           (subst (λ (s : Setup). calls_left s (now o).submission ≡ n ∷ calls_after (ends_of s (drop (taken (now o).submission + n) (now o).submission.published)) 0) begin.setup took.call) is;
-      tally = call_counts c.args.kept.now o t c.step_reserved.new.self c.step_reserved-2.new.self c.args.count c.step_reserved_in.result c.step_reserved.result c.step_reserved-2.result begin took.tally end load;
-      row = call_recorded c.args.kept.now o t c.step_reserved.new.self c.step_reserved-2.new.self c.args.count n c.step_reserved_in.result c.step_reserved.result c.step_reserved-2.result begin took.row end load;
+      row = appends_then (appends_one c.args.kept.now o _ _ begin refl) (appends_then took.row (appends_then (appends_one t c.step_reserved.new.self _ _ end refl) (appends_one c.step_reserved.new.self c.step_reserved-2.new.self _ _ load refl)));
       spent = λ same. absurd (taken_spent n same);
       length = λ m same. let is_m = taken_same n m same in omega (arith, grown_length c.args.kept.now o _ begin, took.length, grown_length t c.step_reserved.new.self _ end, grown_length c.step_reserved.new.self c.step_reserved-2.new.self _ load);
       granted = λ all same. absurd (taken_again n same);

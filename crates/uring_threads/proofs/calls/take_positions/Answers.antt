@@ -1,36 +1,34 @@
 use Rattle.std.proofs.Common.{◌≡◌, ◌+◌, ◌∷◌, drop, true, false, if◌then◌else◌, refl, ap, subst, ◌∙◌, arith}
-use Rattle.uring_threads.proofs.Common.{Submission, calls_after, calls_left, ends_of, in_call, none_counted, now, taken}
+use Rattle.uring_threads.proofs.Common.{Submission, calls_after, calls_left, ends_of, in_call, now, replicate_more, taken}
 use Rattle.uring_threads.proofs.CallSteps.{all_taken, between_stands, ended_there, ends_as, gone_on, none_after, took_of}
 use Rattle.uring_core.specs.declared.step.Step.TheVariants as step
-use Rattle.uring_threads.proofs.Recording.{records_more}
 use Rattle.uring_threads.proofs.TraceSteps.{grown_length, appends_one, appends_then}
 use Rattle.uring_threads.proofs.calls.take_positions.Goals as goal
 
 pub returns-then-is_ended-clause-world : goal.returns-then-is_ended-clause-world
 returns-then-is_ended-clause-world c =
     let i = c.loop-done.invariant in
-    let t = took_of c.args.kept.now c.loop-done.kept c.step_reserved-answer.new.self c.requires.in_call.0 c.args.count c.loop-done.done c.step_reserved-answer.result c.is_lawful.ensures.goes_on i.tally.setup c.requires.in_call.1 c.requires.in_call.2 c.loop-done-test.true i.world c.step_reserved-answer.ensures.grows c.step_reserved-answer.ensures.called in
+    let t = took_of c.args.kept.now c.loop-done.kept c.step_reserved-answer.new.self c.requires.in_call.0 c.args.count c.loop-done.done c.step_reserved-answer.result c.is_lawful.ensures.goes_on i.row.setup c.requires.in_call.1 c.requires.in_call.2 c.loop-done-test.true i.world c.step_reserved-answer.ensures.grows c.step_reserved-answer.ensures.called in
     let e = ends_as c.step_reserved-answer.new.self c.args.kept.now.setup c.setup-setup.result (now c.args.kept.now) c.args.count c.loop-done.done c.step_reserved-answer.result c.is_ended.result true c.setup-setup.ensures.value c.is_ended.ensures c.if-is_ended.true t in
     t.world ∙ ap (λ b. in_call (now c.args.kept.now) (if b then c.loop-done.done + 1 else c.args.count) (c.loop-done.done + 1)) e
 
 pub returns-then-is_ended-clause-call : goal.returns-then-is_ended-clause-call
 returns-then-is_ended-clause-call c =
     let i = c.loop-done.invariant in
-    let t = took_of c.args.kept.now c.loop-done.kept c.step_reserved-answer.new.self c.requires.in_call.0 c.args.count c.loop-done.done c.step_reserved-answer.result c.is_lawful.ensures.goes_on i.tally.setup c.requires.in_call.1 c.requires.in_call.2 c.loop-done-test.true i.world c.step_reserved-answer.ensures.grows c.step_reserved-answer.ensures.called in
+    let t = took_of c.args.kept.now c.loop-done.kept c.step_reserved-answer.new.self c.requires.in_call.0 c.args.count c.loop-done.done c.step_reserved-answer.result c.is_lawful.ensures.goes_on i.row.setup c.requires.in_call.1 c.requires.in_call.2 c.loop-done-test.true i.world c.step_reserved-answer.ensures.grows c.step_reserved-answer.ensures.called in
     let e = ends_as c.step_reserved-answer.new.self c.args.kept.now.setup c.setup-setup.result (now c.args.kept.now) c.args.count c.loop-done.done c.step_reserved-answer.result c.is_ended.result true c.setup-setup.ensures.value c.is_ended.ensures c.if-is_ended.true t in
     ended_there c.args.kept.now.setup _ _ t.place c.loop-done.done _ t.next i.calls e
 
 pub loop-done-preserved : goal.loop-done-preserved
 loop-done-preserved c =
     let i = c.loop-done.invariant in
-    let t = took_of c.args.kept.now c.loop-done.kept c.step_reserved-answer.new.self c.requires.in_call.0 c.args.count c.loop-done.done c.step_reserved-answer.result c.is_lawful.ensures.goes_on i.tally.setup c.requires.in_call.1 c.requires.in_call.2 c.loop-done-test.true i.world c.step_reserved-answer.ensures.grows c.step_reserved-answer.ensures.called in
+    let t = took_of c.args.kept.now c.loop-done.kept c.step_reserved-answer.new.self c.requires.in_call.0 c.args.count c.loop-done.done c.step_reserved-answer.result c.is_lawful.ensures.goes_on i.row.setup c.requires.in_call.1 c.requires.in_call.2 c.loop-done-test.true i.world c.step_reserved-answer.ensures.grows c.step_reserved-answer.ensures.called in
     let e = ends_as c.step_reserved-answer.new.self c.args.kept.now.setup c.setup-setup.result (now c.args.kept.now) c.args.count c.loop-done.done c.step_reserved-answer.result c.is_ended.result false c.setup-setup.ensures.value c.is_ended.ensures c.if-is_ended.false t in
     record {
       events = omega (arith, i.events, grown_length _ _ _ c.step_reserved-answer.ensures.grows);
       world = t.world ∙ ap (λ b. in_call (now c.args.kept.now) (if b then c.loop-done.done + 1 else c.args.count) (c.loop-done.done + 1)) e;
       calls = gone_on c.args.kept.now.setup _ _ t.place c.loop-done.done _ t.next i.calls e;
-      tally = appends_then _ _ _ _ _ _ i.tally (appends_one _ _ _ none_counted c.step_reserved-answer.ensures.grows refl refl) refl;
-      row = records_more c.args.kept.now c.loop-done.kept c.step_reserved-answer.new.self step.Take c.loop-done.done c.step_reserved-answer.result i.row c.step_reserved-answer.ensures.grows;
+      row = rw (← (replicate_more c.loop-done.done step.Take)) (appends_then i.row (appends_one _ _ _ _ c.step_reserved-answer.ensures.grows refl));
     }
 
 pub returns-clause-call : goal.returns-clause-call

@@ -1,6 +1,6 @@
 use Rattle.uring_threads.proofs.Common.{Setup, false≢true, min}
 use Rattle.std.proofs.Common.{◌+◌, length, sym, ap, ap₂, ◌∙◌, arith}
-use Rattle.uring_threads.proofs.Posting.{row_keeps, row_delivers, row_counts, row_most}
+use Rattle.uring_threads.proofs.Posting.{row_keeps, row_delivers, row_most}
 use Rattle.uring_threads.proofs.Recording.{delivery_recorded}
 use Rattle.uring_threads.proofs.deliveries.deliver.Goals as goal
 
@@ -13,11 +13,6 @@ pub returns-clause-delivered : goal.returns-clause-delivered
 returns-clause-delivered g c =
     row_delivers c.args.kept.now c.reserve.new.self c.step_reserved.new.self c.step_reserved-2.new.self c.reap_all.new.kept c.step_reserved-3.new.self c.step_reserved.result c.step_reserved-2.result c.step_reserved-3.result (g.P.KernelPort.delivered c.reap_all.new.port)
     c.reserve.ensures.unmoved c.step_reserved.ensures.grows c.step_reserved-2.ensures.grows c.reap_all.ensures.world c.step_reserved-3.ensures.grows
-
-pub returns-clause-tally : goal.returns-clause-tally
-returns-clause-tally g c =
-    row_counts c.args.kept.now c.reserve.new.self c.step_reserved.new.self c.step_reserved-2.new.self c.reap_all.new.kept c.step_reserved-3.new.self c.step_reserved.result c.step_reserved-2.result c.step_reserved-3.result (g.P.KernelPort.delivered c.reap_all.new.port)
-    c.reserve.ensures.unmoved c.step_reserved.ensures.grows c.step_reserved-2.ensures.grows c.reap_all.ensures.world c.step_reserved-3.ensures.grows _ c.reap_all.ensures.tally
 
 pub returns-clause-row : goal.returns-clause-row
 returns-clause-row g c =

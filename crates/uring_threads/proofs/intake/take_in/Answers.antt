@@ -1,9 +1,9 @@
 use Rattle.uring_threads.proofs.Common.{IsTaken, Setup, Tied, false≢true, is_shut, now}
 use Rattle.std.proofs.Common.{[], ◌∙◌, sym, subst, ap, refl, arith, length, ◌+◌, ◌*◌}
 use Rattle.uring_threads.proofs.Collecting.{on_err}
-use Rattle.uring_threads.proofs.Recording.{again_recorded, intake_recorded, none_pulled, pulled_as, records_none, records_then}
+use Rattle.uring_threads.proofs.Recording.{again_recorded, intake_recorded, none_pulled, pulled_as}
 use Rattle.uring_threads.proofs.Tying.{completions_after, once_unmoved, pulled_at, takes_after, takes_nothing, takes_then}
-use Rattle.uring_threads.proofs.TraceSteps.{unmoved_now}
+use Rattle.uring_threads.proofs.TraceSteps.{appends_none, appends_then, unmoved_now}
 use Rattle.uring_threads.proofs.intake.take_in.Goals as goal
 
 -- What waited was not begun.
@@ -46,7 +46,7 @@ pub returns-in_err-reserve-clause-row : goal.returns-in_err-reserve-clause-row
 returns-in_err-reserve-clause-row g c =
     let r = c.retry.ensures.row in
     let before = g.P.KernelPort.pulled c.args.port.now in
-    intake_recorded c.args.kept.now c.retry.new.kept c.reserve.new.self c.args.intake.now before before r.0 [] r.1 (none_pulled c.args.kept.now.setup before) r.2 (records_none c.retry.new.kept c.reserve.new.self c.reserve.ensures.unmoved)
+    intake_recorded c.args.kept.now c.retry.new.kept c.reserve.new.self c.args.intake.now before before r.0 [] r.1 (none_pulled c.args.kept.now.setup before) r.2 (appends_none c.retry.new.kept c.reserve.new.self c.reserve.ensures.unmoved)
 
 pub returns-in_err-reserve-clause-once : goal.returns-in_err-reserve-clause-once
 returns-in_err-reserve-clause-once g c = λ once.
@@ -61,7 +61,7 @@ pub take_pulled-requires-clause-tied : goal.take_pulled-requires-clause-tied
 take_pulled-requires-clause-tied g c =
     let before = g.P.KernelPort.pulled c.args.port.now in
     let after = g.P.KernelPort.pulled c.pull-pulled.new.self in
-    let setup = c.retry.ensures.taken.appends.setup in
+    let setup = c.retry.ensures.taken.adds.appends.setup in
     let tied = subst (λ (s : Setup). Tied s (now c.retry.new.kept) before c.retry.new.intake) (sym setup) (c.retry.ensures.tied before c.requires.tied) in
     let at = pulled_at c.retry.new.kept c.reserve.new.self before after _ c.pull-pulled.result c.pull-pulled.new.items.items c.deref.result.now c.retry.new.intake
     c.reserve.ensures.unmoved (c.requires.sizes ∙ ap (λ (s : Setup). s.sq) (sym setup)) c.deref.ensures.value tied c.pull-pulled.ensures.pulled in
@@ -71,7 +71,7 @@ pub returns-clause-tied : goal.returns-clause-tied
 returns-clause-tied g c =
     let before = g.P.KernelPort.pulled c.args.port.now in
     let after = g.P.KernelPort.pulled c.pull-pulled.new.self in
-    let setup = c.retry.ensures.taken.appends.setup in
+    let setup = c.retry.ensures.taken.adds.appends.setup in
     let tied = subst (λ (s : Setup). Tied s (now c.retry.new.kept) before c.retry.new.intake) (sym setup) (c.retry.ensures.tied before c.requires.tied) in
     let at = pulled_at c.retry.new.kept c.reserve.new.self before after _ c.pull-pulled.result c.pull-pulled.new.items.items c.deref.result.now c.retry.new.intake
     c.reserve.ensures.unmoved (c.requires.sizes ∙ ap (λ (s : Setup). s.sq) (sym setup)) c.deref.ensures.value tied c.pull-pulled.ensures.pulled in
@@ -90,8 +90,8 @@ returns-clause-row g c =
     let again = c.retry.ensures.row in
     let taken = c.take_pulled.ensures.row in
     intake_recorded c.args.kept.now c.retry.new.kept c.take_pulled.new.kept c.args.intake.now before after again.0 taken.0 again.1
-    (pulled_as _ c.args.kept.now.setup before after c.pull-pulled.result c.pull-pulled.new.items.items c.deref.result.now taken.0 c.requires.sizes c.deref.ensures.value c.pull-pulled.ensures.pulled (subst (λ (s : Setup). IsTaken s c.pull-pulled.result c.deref.result.now taken.0) (c.reserve.ensures.unmoved.setup ∙ c.retry.ensures.taken.appends.setup) taken.1))
-    again.2 (records_then c.retry.new.kept c.reserve.new.self c.take_pulled.new.kept [] taken.0 (records_none c.retry.new.kept c.reserve.new.self c.reserve.ensures.unmoved) taken.2)
+    (pulled_as _ c.args.kept.now.setup before after c.pull-pulled.result c.pull-pulled.new.items.items c.deref.result.now taken.0 c.requires.sizes c.deref.ensures.value c.pull-pulled.ensures.pulled (subst (λ (s : Setup). IsTaken s c.pull-pulled.result c.deref.result.now taken.0) (c.reserve.ensures.unmoved.setup ∙ c.retry.ensures.taken.adds.appends.setup) taken.1))
+    again.2 (appends_then (appends_none c.retry.new.kept c.reserve.new.self c.reserve.ensures.unmoved) taken.2)
 
 pub returns-clause-once : goal.returns-clause-once
 returns-clause-once g c = λ once. c.take_pulled.ensures.once (once_unmoved c.retry.new.kept c.reserve.new.self c.retry.new.intake c.reserve.ensures.unmoved (c.retry.ensures.once once))

@@ -1,6 +1,6 @@
 use Rattle.std.proofs.Common.{◌≤◌, ◌^◌, length}
 use Rattle.uring_core.specs.declared.step.Step.TheVariants as step
-use Rattle.uring_threads.proofs.Common.{AreSameLanes, HaveCarried, Repeats, issues_counted}
+use Rattle.uring_threads.proofs.Common.{AreSameLanes, HaveCarried, Repeats}
 use Rattle.uring_threads.proofs.issues.issue_all.Given as goal
 
 -- so many requests were issued, each with an event of its own
@@ -10,5 +10,5 @@ invariant-loop-count g l = record {
   limit : l.count ≤ 2 ^ 63;
   carried : HaveCarried l.kept l.lanes;
   lanes : AreSameLanes l.initial.lanes l.lanes;
-  repeats : Repeats l.initial.kept l.kept step.Issue (issues_counted l.count);
+  repeats : Repeats l.initial.kept l.kept step.Issue l.count;
 }
