@@ -2,7 +2,7 @@
 pub use Rattle.std.proofs.lemmas.Bool.{both_ways, cases_lt, false≢true, le-leb, lt-leb, true≢false}
 pub use Rattle.std.proofs.lemmas.List.{append-nil, append_cancel_right, drop_more, length-append, take-append-drop, take_all, take_more}
 pub use Rattle.std.proofs.lemmas.Result.{IfOk-weaker, on_ok_weaker}
-pub use Rattle.std.specs.Fmt.{signed_decimal}
+pub use Rattle.std.specs.Fmt.{decimal, signed_decimal}
 pub use Rattle.std.specs.Prelude.{IsErrOf, IsTrue, codes, if◌then◌else◌, nat_le, string_bytes, ℤ, ◌↔◌}
 pub use Rattle.uring_check.specs.Checking.{FitsBy, Has, HasOneAnswer, Holds, IsEither, IsJudged, IsOneJudged, IsSplit, IsStanding, IsTold, IsUnsplit, IsWanted, Judges, Knows, Looked, Looks, LooksAt, LooksBy, LooksIf, ReadsIn, noted_poster, number_in, reasons_by, rules_of}
 pub use Rattle.uring_check.specs.Findings.{AreFound, Finding, Found, IsFinding, IsWrongText, first_fault, has_stopped, history_after, judged, lines_of, verdict_of, with_finding}
@@ -10,7 +10,7 @@ pub use Rattle.uring_check.specs.Posters.{poster_of, posters}
 pub use Rattle.uring_check.specs.Records.{AreRecorded, IsLawfulText, IsNoRecord, IsRecord}
 pub use Rattle.uring_check.specs.Reports.{closing, completion_wanted, counted_with, line_text, missed_text, wanted_text, why_bad}
 pub use Rattle.uring_check.specs.Rules.{AllowedBy, CalledBy, CalledIn, IsCalled, IsLawfulBy, IsPlain, MayGive, Rules, entry_asked, entry_in, is_apart}
-pub use Rattle.uring_check.specs.SetupLines.{IsSaid, IsSaidBy, IsSaidOf, MissesSetup, begins_setup, sizes_in, sizes_said}
+pub use Rattle.uring_check.specs.SetupLines.{IsSaid, IsSaidBy, IsSaidOf, MissesSetup, begins_setup, end_text, sizes_in, sizes_said}
 pub use Rattle.uring_check.specs.declared.checker.Checker.{Checker}
 pub use Rattle.uring_check.specs.declared.ends.Ends.{Ends}
 pub use Rattle.uring_check.specs.declared.follower.Follower.{Follower}

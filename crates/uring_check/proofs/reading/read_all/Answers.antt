@@ -1,7 +1,12 @@
-use Rattle.std.proofs.Common.{◌≡◌, [], ◌++◌, rules}
+use Rattle.std.proofs.Common.{◌≡◌, ◌≢◌, [], ◌++◌, rules}
 use Rattle.std.proofs.KnownBytes.{Consumes-nil, Consumes-trans, Consumes-kept}
 use Rattle.uring_check.proofs.Common.{append-nil, false≢true}
+use Rattle.uring_text.specs.declared.trace_fault.TraceFault.TheVariants as fault
 use Rattle.uring_check.proofs.reading.read_all.Goals as goal
+
+-- a read that failed wrote nothing
+read_alone : fault.Read ≢ fault.Write
+read_alone e = absurd cc
 
 pub loop-chunk-init : goal.loop-chunk-init
 loop-chunk-init g c = λ setup all h. ([], Consumes-nil _, h)
@@ -27,7 +32,7 @@ loop-chunk-preserved g c = λ setup all h.
     let so = c.loop-chunk.invariant setup all h in (so.0, Consumes-kept _ _ _ so.0 so.1 c.in-Err.ensures.bytes, so.2)
 
 pub returns-clause-bytes : goal.returns-clause-bytes
-returns-clause-bytes g c = λ setup all h. let so = c.loop-chunk.invariant setup all h in (so.0, so.1, λ e. absurd cc)
+returns-clause-bytes g c = λ setup all h. let so = c.loop-chunk.invariant setup all h in (so.0, so.1, read_alone)
 
 pub returns-in_err-feed-in-Ok-clause-granted : goal.returns-in_err-feed-in-Ok-clause-granted
 returns-in_err-feed-in-Ok-clause-granted g c = λ sure r all h.
