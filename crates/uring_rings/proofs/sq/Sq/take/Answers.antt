@@ -1,8 +1,15 @@
-use Rattle.std.proofs.Common.{ℕ, ◌%◌, ◌<◌, sym, ap, ◌∙◌}
-use Rattle.uring_rings.proofs.Common.{Sq, get_or_from_slice_get}
+use Rattle.std.proofs.Common.{◌≡◌, ℕ, ◌%◌, ◌<◌, sym, ap, ◌∙◌}
+use Rattle.uring_rings.proofs.Common.{Sq, Sqe, get_or_from_slice_get}
 use Rattle.uring_rings.proofs.Elements.{read_cell}
 use Rattle.uring_rings.proofs.SubmissionCalls.{takes_place, take_gives, take_drops, take_gives_shows, take_drops_shows}
+use Rattle.uring_rings.specs.declared.answers.TakeAnswer.TheVariants.{Dropped, Entry, NoCall, NoMore}
 use Rattle.uring_rings.proofs.sq.Sq.take.Goals as goal
+
+dropped : (Dropped ≡ NoCall → ⊥) × (Dropped ≡ NoMore → ⊥)
+dropped = (λ e. absurd cc, λ e. absurd cc)
+
+given : (entry : Sqe) → (Entry entry ≡ NoCall → ⊥) × (Entry entry ≡ NoMore → ⊥)
+given entry = (λ e. absurd cc, λ e. absurd cc)
 
 pub returns-then-word-self : goal.returns-then-word-self
 returns-then-word-self c =
@@ -12,8 +19,8 @@ returns-then-word-self c =
     record {
       answer = rw (← c.self.view_is) (λ g l s. take_drops g l c.in-Some.call c.index-word.result.now (takes_place g _ l c.in-Some.call c.index-word.result.now s c.in-Some.is c.if-call.false read) (rw (← s.size) c.if-word-self.true));
       shows = rw (← c.self.view_is) (λ g l s. take_drops_shows g _ l c.in-Some.call c.index-word.result.now s (takes_place g _ l c.in-Some.call c.index-word.result.now s c.in-Some.is c.if-call.false read) (rw (← s.size) c.if-word-self.true));
-      no_call = λ e. absurd cc;
-      no_more = λ e. absurd cc;
+      no_call = λ e. absurd (dropped.0 e);
+      no_more = λ e. absurd (dropped.1 e);
     }
 
 pub returns : goal.returns
@@ -27,6 +34,6 @@ returns c =
           let entry = c.index.ensures ∙ get_or_from_slice_get c.self.inside.table.items c.index-word.result.now (l.content c.index-word.result.now) c.index.result.now (s.slots c.index-word.result.now valid) in
           take_gives g l c.in-Some.call c.index-word.result.now c.index.result.now (takes_place g _ l c.in-Some.call c.index-word.result.now s c.in-Some.is c.if-call.false read) valid entry);
       shows = rw (← c.self.view_is) (λ g l s. take_gives_shows g _ l c.in-Some.call c.index-word.result.now s (takes_place g _ l c.in-Some.call c.index-word.result.now s c.in-Some.is c.if-call.false read) (rw (← s.size) c.if-word-self.false));
-      no_call = λ e. absurd cc;
-      no_more = λ e. absurd cc;
+      no_call = λ e. absurd ((given c.index.result.now).0 e);
+      no_more = λ e. absurd ((given c.index.result.now).1 e);
     }
