@@ -17,6 +17,9 @@ pub all_empty : (files : List FileContents) (count : ℕ) → files ≡ empty_fi
     → files ≡ empty_files (length files)
 all_empty files count e = e ∙ ap empty_files (sym (ap length e ∙ length-replicate count empty_file))
 
+pub both : {X : Type 0} {a b c d : X} → a ≡ c → b ≡ d → a ∷ b ∷ [] ≡ c ∷ d ∷ []
+both p q = cc
+
 -- what is true of each place is so of one more
 each_next : {X : Type 0} (P : ℕ → X → Type 0) (xs : List X) (x : X)
     → ((k : ℕ) (d : X) → k < length xs → P k (get_or xs k d)) → P (length xs) x

@@ -1,8 +1,8 @@
-use Rattle.std.proofs.Common.{◌+◌, List, length, ap, ◌∙◌, arith}
+use Rattle.std.proofs.Common.{◌+◌, List, length, ap, sym, ◌∙◌, arith}
 use Rattle.std.proofs.lemmas.List.{length_push}
 use Rattle.uring_workers.specs.Opened.{IsFreshWorker}
 use Rattle.uring_workers.specs.declared.work_lanes.WorkLanes.{WorkLanes}
-use Rattle.uring_workers.proofs.FreshWorkers.{all_empty, opened_next}
+use Rattle.uring_workers.proofs.FreshWorkers.{all_empty, both, opened_next}
 use Rattle.uring_workers.proofs.Working.{same_ring}
 use Rattle.uring_workers.proofs.work_lanes.open_next.Goals as goal
 
@@ -22,7 +22,7 @@ returns-clause-opened g c =
     let fresh : IsFreshWorker c.args.files (length c.args.lanes.now.items) c.new-worker.result = record { place = new.place ∙ omega (arith, c.len.ensures, many, c.reserve.new.list.ok.0); done = new.done; empty = new.files ∙ c.in_ok-files.ensures.ok } in
     opened_next c.args.files c.args.lanes.now.items c.args.workers.now.items made c.new-worker.result c.push_reserved.ensures.items c.reserve.ensures.items c.push_reserved-2.ensures.items c.reserve-2.ensures.items
     c.requires.opened jobs.producer.0 results.consumer.0 jobs.producer.2 results.consumer.2
-    (cc (new.pairing, same_ring c.in_ok-jobs.to_do.end c.in_ok-jobs.jobs.end jobs.pair.0 jobs.pair.1 jobs.pair.2, same_ring c.in_ok-done.results.end c.in_ok-done.done.end results.pair.0 results.pair.1 results.pair.2)) fresh
+    (new.pairing ∙ both (same_ring c.in_ok-jobs.to_do.end c.in_ok-jobs.jobs.end jobs.pair.0 jobs.pair.1 jobs.pair.2) (sym (same_ring c.in_ok-done.results.end c.in_ok-done.done.end results.pair.0 results.pair.1 results.pair.2))) fresh
 
 pub push_reserved-requires : goal.push_reserved-requires
 push_reserved-requires g c = omega (arith, c.in_ok-reserve.ensures.ok)
