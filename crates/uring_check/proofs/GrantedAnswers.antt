@@ -16,8 +16,7 @@ any_called : (apart : Bool) (g : Setup) (h : History) (s : Step)
     → ((a : Answer) → IsEnded a → CalledIn apart g (world g h) s a) → (apart ≡ true) × (n : ℕ) × (s ≡ step.Finish n)
 any_called true g h (step.Finish n) any = (refl, n, refl)
 any_called false g h (step.Finish n) any = grind (arith, (any (end_with []) tt), (any (end_with (0 ∷ [])) tt))
-any_called apart g h (step.Begin count) any =
-    absurd (grind (arith, (any (end_with []) tt)))
+any_called apart g h (step.Begin count) any = absurd (grind (arith, (any (end_with []) tt)))
 any_called apart g h s any =
     absurd (cc (one_answer apart g (world g h) s (end_with []) (end_with (0 ∷ [])) tt (any (end_with []) tt) (any (end_with (0 ∷ [])) tt)))
 
@@ -30,8 +29,7 @@ any_finishes m s h is none =
 -- and without files
 pub any_apart : (m : Follower) (s : Step) (h : History) → IsWanted h m s AnyEnd
     → is_apart (rules_of m).ends ≡ false → ⊥
-any_apart m s h is off =
-    true≢false (sym (any_called (is_apart (rules_of m).ends) (rules_of m).setup h s is.0.only).0 ∙ off)
+any_apart m s h is off = true≢false (sym (any_called (is_apart (rules_of m).ends) (rules_of m).setup h s is.0.only).0 ∙ off)
 
 -- without files no two ends alone are wanted, so results need not be allowed where they are
 pub either_allowed : (m : Follower) (s : Step) (h : History) (res : ℤ) (x : Answer)

@@ -55,16 +55,13 @@ none_more : (g : Rules) (line : List ℕ) (lines : List (List ℕ)) (known h : H
     → IsFinding g known line f → (judged verdict.Lawful f ≡ verdict.Lawful → ⊥)
     → ((past : History) → IsLawfulBy g past → AreRecorded g lines past → past ≡ known)
     → IsLawfulBy g h → AreRecorded g (line ∷ lines) h → ⊥
-none_more g line lines known h (finding.Wrong s wanted) is v prior lawful (inl passed) =
-    passed.0.0 s is.0 is.1
+none_more g line lines known h (finding.Wrong s wanted) is v prior lawful (inl passed) = passed.0.0 s is.0 is.1
 none_more g line lines known h (finding.Wrong s wanted) is v prior lawful (inr r) =
     let so = lawful_first g r.0.0 r.0.1 r.1 (rw r.2 at lawful) in
     let once = record_once line r.0.0 s (text_of r.0.1) is.0 r.3.0 is.1 in
     is.2.not_called r.0.1 (rw (prior r.1 so.1 r.4, once.0) at so.0) once.1 (rw once.0 at r.3.1)
-none_more g line lines known h finding.Bad is v prior lawful (inl passed) =
-    true≢false (sym passed.0.1 ∙ is.1)
-none_more g line lines known h finding.Bad is v prior lawful (inr r) =
-    is.0 r.0.0 (text_of r.0.1) r.3.0
+none_more g line lines known h finding.Bad is v prior lawful (inl passed) = true≢false (sym passed.0.1 ∙ is.1)
+none_more g line lines known h finding.Bad is v prior lawful (inr r) = is.0 r.0.0 (text_of r.0.1) r.3.0
 none_more g line lines known h _ is v prior lawful rec = v refl
 
 unlawful_said : (g : Rules) (all : Bool) (xs : List Found) → AreFound g all xs

@@ -6,7 +6,6 @@ pub mod WantedAnswers
 pub mod SameTexts
 pub mod SetupLaws
 pub mod FirstLines
-pub mod Told
 -- What a checker makes of a line, and of all of them:
 pub mod Posting
 pub mod GrantedAnswers

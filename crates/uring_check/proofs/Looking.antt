@@ -26,8 +26,7 @@ pub looked_bad : (old mid : Checker) (report : String Global) (line : List ℕ) 
     → is_remark line ≡ false → Knows old h
     → string_bytes report ≡ string_bytes mid.report ++ line_text mid.number ++ ended (codes "bad line") ++ why_bad line
     → Looked old (record mid { is_over = true; report = report }) line h
-looked_bad old mid report line h is none remark fits =
-    grind (arith, append_assoc, (rules_of old.follower))
+looked_bad old mid report line h is none remark fits = grind (arith, append_assoc, (rules_of old.follower))
 
 -- what is known of the completions that were posted, before a step and after it
 pub record Notes (old : Checker) (m : Follower) (p : Vec ℕ Global) (s : Step) (before after : ℕ) : Type 0 where

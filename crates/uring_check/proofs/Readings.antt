@@ -1,8 +1,8 @@
 -- What a reading takes in, byte by byte, and what is returned and written of it.
 use Rattle.std.proofs.Common.{◌≡◌, ◌≢◌, ℕ, Bool, List, [], ◌∷◌, ◌++◌, Option, Result, Ok, Err, sym, ap, arith}
-use Rattle.std.specs.Io.KnownBytes.{Consumes, Appends, IsAtEnd, Keeps}
-use Rattle.std.proofs.KnownBytes.{Consumes-nil, Consumes-trans, Consumes-kept, Appends-nil}
-use Rattle.uring_check.proofs.Common.{Checker, Has, Holds, IsTold, Looks, ReadsIn, Rules, Verdict, append-nil}
+use Rattle.std.specs.Io.KnownBytes.{Consumes, Appends}
+use Rattle.std.proofs.KnownBytes.{Appends-nil}
+use Rattle.uring_check.proofs.Common.{Checker, Has, Holds, IsTold, Looks, ReadsIn, Rules, Verdict}
 use Rattle.uring_text.specs.KeptLine.{KeptLine, kept_of}
 use Rattle.uring_text.specs.Lines.{with_last}
 use Rattle.uring_text.specs.Writing.{WritesText}
@@ -65,39 +65,6 @@ Known = Option (List ℕ)
 -- What was read and taken in so far: the reader had a left and has r.
 abbrev pub So : Rules → Bool → Known → Known → Reading → Type 0
 So g all a r s = (bytes : List ℕ) × Consumes a r bytes × Has g all s bytes
-
-pub at_start : (g : Rules) (all : Bool) (a : Known) (s : Reading) → Has g all s [] → So g all a a s
-at_start g all a s h = ([], Consumes-nil a, h)
-
--- a read that was interrupted
-pub tried_again : (g : Rules) (all : Bool) (a r r' : Known) (s : Reading) → Keeps r r'
-    → So g all a r s → So g all a r' s
-tried_again g all a r r' s h so = (so.0, Consumes-kept a r r' so.0 so.1 h, so.2)
-
--- bytes that were taken in
-pub goes_on : (g : Rules) (all : Bool) (a r r' : Known) (s s' : Reading) (more : List ℕ)
-    → Consumes r r' more
-    → ((g : Rules) (all : Bool) (before : List ℕ) → Has g all s before → Has g all s' (before ++ more))
-    → So g all a r s → So g all a r' s'
-goes_on g all a r r' s s' more read took so =
-    (so.0 ++ more, Consumes-trans a r r' so.0 more so.1 read, took g all so.0 so.2)
-
--- bytes that were not
-pub not_taken : (g : Rules) (all : Bool) (answer : Result (Unit {0}) TraceFault) (e : TraceFault) (a r r' : Known) (s s' : Reading) (more : List ℕ)
-    → answer ≡ Err e → e ≡ fault.Memory → Consumes r r' more → So g all a r s
-    → ReadsIn g all answer a r' s'
-not_taken g all answer e a r r' s s' more is memory read so =
-    (so.0 ++ more, Consumes-trans a r r' so.0 more so.1 read, rw is (λ other. absurd cc))
-
--- the end of the input
-pub all_read : (g : Rules) (all : Bool) (a r r' : Known) (s : Reading) → Consumes r r' []
-    → IsAtEnd r' → So g all a r s
-    → (bytes : List ℕ) × Consumes a r' bytes × (Has g all s bytes × IsAtEnd r')
-all_read g all a r r' s read end so = (so.0 ++ [], Consumes-trans a r r' so.0 [] so.1 read, (rw (append-nil so.0) so.2, end))
-
--- a read that failed wrote nothing
-pub read_alone : fault.Read ≢ fault.Write
-read_alone e = absurd cc
 
 -- ---- the whole check
 

@@ -27,6 +27,5 @@ finish_once n running a b e f same p q = grind (arith, result_once)
 pub apart_once : (g : Setup) (w : World) (s : Step) (a b : Answer) → CalledForApart g w s a
     → CalledForApart g w s b → text_of a ≡ text_of b → IsPlain a true s → IsPlain b true s → a ≡ b
 apart_once g w (step.Begin count) a b p q same x y = begin_once (begin_answer w count) a b p q same
-apart_once g w (step.Finish n) a b p q same x y =
-    finish_once n (is_running w.requests n) a b p q same x y
+apart_once g w (step.Finish n) a b p q same x y = finish_once n (is_running w.requests n) a b p q same x y
 apart_once g w _ a b p q same x y = p ∙ sym q

@@ -31,6 +31,5 @@ end_once files r n false a b e f same = e ∙ sym f
 pub answer_once : (g : Setup) (w : World) (s : Step) (a b : Answer) → CalledFor g w s a
     → CalledFor g w s b → text_of a ≡ text_of b → a ≡ b
 answer_once g w (step.Begin count) a b p q same = begin_once (begin_answer w count) a b p q same
-answer_once g w (step.Finish n) a b p q same =
-    end_once (files_of g w) w.requests n (is_running w.requests n) a b p q same
+answer_once g w (step.Finish n) a b p q same = end_once (files_of g w) w.requests n (is_running w.requests n) a b p q same
 answer_once g w _ a b p q same = p ∙ sym q

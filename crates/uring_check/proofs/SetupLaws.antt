@@ -9,8 +9,7 @@ use Rattle.uring_check.specs.declared.setup_line.Said.{Said}
 use Rattle.uring_check.specs.declared.setup_line.Sizes.{Sizes}
 
 pub misses : (sizes : Option Sizes) (n : Sizes) (e : BadSetup) (result : Result Setup BadSetup)
-    → sizes ≡ Some n → result ≡ Err e
-    → (IsErrOf result BadSq ↔ IsBadSq n.sq)
+    → sizes ≡ Some n → result ≡ Err e → (IsErrOf result BadSq ↔ IsBadSq n.sq)
     → (IsErrOf result BadCq ↔ ((IsBadSq n.sq → ⊥) × ((p : ℕ) → IsNextPowerOfTwo n.sq p → IsBadCq p (Some n.cq))))
     → (IsErrOf result BadFiles ↔ ((IsBadSq n.sq → ⊥) × ((p : ℕ) → IsNextPowerOfTwo n.sq p → IsBadCq p (Some n.cq) → ⊥) × IsBadFiles n.files))
     → MissesSetup sizes
@@ -24,6 +23,5 @@ begun tokens said is of = grind arith
 
 pub set_up : (tokens : List (List ℕ)) (sign name : List ℕ) (rest : List (List ℕ)) (said : Said)
     → tokens ≡ sign ∷ name ∷ rest → bytes_eq sign (codes "#") ≡ true
-    → bytes_eq name (codes "setup") ≡ true → IsSaidOf (sizes_said rest) said
-    → IsSaidBy tokens said
+    → bytes_eq name (codes "setup") ≡ true → IsSaidOf (sizes_said rest) said → IsSaidBy tokens said
 set_up tokens sign name rest said are one two of = grind (arith, (begun (sign ∷ name ∷ rest) said (rw (one, two) refl)))

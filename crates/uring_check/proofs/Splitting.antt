@@ -43,7 +43,7 @@ pub record IsCut (line front back : List ℕ) (n : ℕ) : Type 0 where
   pub here : n < length line → get_or line n 0 ≡ 61
 
 -- the cut of a split line
-cut_split : (line front back before text : List ℕ) (n : ℕ) → IsCut line front back n
+pub cut_split : (line front back before text : List ℕ) (n : ℕ) → IsCut line front back n
     → IsSplit line before text → (front ≡ before ++ 32 ∷ []) × (back ≡ 61 ∷ 32 ∷ text)
 cut_split line front back before text n c h = elim (cases_lt n (length line)) [
   | inl lt ↦
@@ -58,18 +58,6 @@ cut_split line front back before text n c h = elim (cases_lt n (length line)) [
 pub split_made : (line front back before text : List ℕ) (n : ℕ) → IsCut line front back n
     → front ≡ before ++ 32 ∷ [] → back ≡ 61 ∷ 32 ∷ text → IsSplit line before text
 split_made line front back before text n c x y = grind (arith, take-append-drop, none_before, (append_assoc before (32 ∷ []) (61 ∷ 32 ∷ text)))
-
--- no space before the `=`
-pub no_front : (line front back : List ℕ) (n : ℕ) → IsCut line front back n
-    → ((before : List ℕ) → front ≢ before ++ 32 ∷ []) → IsUnsplit line
-no_front line front back n c none =
-    λ before text h. none before (cut_split line front back before text n c h).0
-
--- no `=` with a space after it
-pub no_back : (line front back : List ℕ) (n : ℕ) → IsCut line front back n
-    → ((text : List ℕ) → back ≢ 61 ∷ 32 ∷ text) → IsUnsplit line
-no_back line front back n c none =
-    λ before text h. none text (cut_split line front back before text n c h).1
 
 -- a line is split in one way
 pub split_once : (line before text other rest : List ℕ) → IsSplit line before text

@@ -19,8 +19,7 @@ pub words_after : (a b : ℕ) (rest more : List ℕ) → a < 2 ^ 64 → b < 2 ^ 
 words_after a b rest more first second same range = grind (arith, append-nil)
 
 kept_words : (a b : ℕ) (rest again : List ℕ) → AreWords rest
-    → HasWords (completion_of (a ∷ b ∷ rest)) again
-    → again ≡ without_flags (a ∷ b ∷ rest)
+    → HasWords (completion_of (a ∷ b ∷ rest)) again → again ≡ without_flags (a ∷ b ∷ rest)
 kept_words a b rest (x ∷ y ∷ more) range h =
     cc (h.first, of_z-to_z w32 (b % 2 ^ 32) (omega arith), same_words more rest h.range.1.1 range h.payload)
 kept_words a b rest _ range h = absurd (grind (arith, h.size))

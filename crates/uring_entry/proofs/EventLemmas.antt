@@ -17,8 +17,7 @@ pub is_after_failure_from : (r : Requests) (n m : ℕ) → IsFailureBefore r n m
     → is_after_failure r n ≡ true
 unfolding is_after_failure
 is_after_failure_from r n m f =
-    some_below_some (λ k. (is_joined r k n && is_soft (entry_of r k)) && has_failed r k) n m f.before
-    (and_from _ _ (and_from _ _ f.joined f.soft) f.failed)
+    some_below_some (λ k. (is_joined r k n && is_soft (entry_of r k)) && has_failed r k) n m f.before (and_from _ _ (and_from _ _ f.joined f.soft) f.failed)
 
 pub is_after_failure_tells : (r : Requests) (n : ℕ) → is_after_failure r n ≡ true
     → (m : ℕ) × IsFailureBefore r n m

@@ -48,8 +48,7 @@ pub first_entry_accepted : (r : Requests) (entry : Sqe) (p : Sqe → Bool) (from
     → end ≤ length r.accepted
     → first_member (λ m. p (entry_of (with_accepted r entry) m)) from end
     ≡ first_member (λ m. p (entry_of r m)) from end
-first_entry_accepted r entry p from end le =
-    first_member_same _ _ from end (λ m lt. entry_same r entry p m (omega arith))
+first_entry_accepted r entry p from end le = first_member_same _ _ from end (λ m lt. entry_same r entry p m (omega arith))
 
 pub first_entry_more : (r : Requests) (entry : Sqe) (p : Sqe → Bool) (from : ℕ)
     → from ≤ length r.accepted
@@ -58,15 +57,13 @@ pub first_entry_more : (r : Requests) (entry : Sqe) (p : Sqe → Bool) (from : �
 first_entry_more r entry p from le = grind (arith, first_member_more, first_entry_accepted, entry_of_accepted_at)
 
 pub first_broken_accepted : (r : Requests) (entry : Sqe) (from end : ℕ)
-    → has_ended r (length r.accepted) ≡ false
-    → end ≤ length r.accepted
+    → has_ended r (length r.accepted) ≡ false → end ≤ length r.accepted
     → first_broken (with_accepted r entry) from end ≡ first_broken r from end
 first_broken_accepted r entry from end none le =
     first_member_same _ _ from end (λ m lt. grind (arith, (entry_same r entry is_soft m), (has_failed_accepted r entry m none)))
 
 pub first_broken_more : (r : Requests) (entry : Sqe) (from : ℕ)
-    → has_ended r (length r.accepted) ≡ false
-    → from ≤ length r.accepted
+    → has_ended r (length r.accepted) ≡ false → from ≤ length r.accepted
     → first_broken (with_accepted r entry) from (length r.accepted + 1)
     ≡ first_broken r from (length r.accepted)
 first_broken_more r entry from none le =
@@ -94,8 +91,7 @@ least_below_changed p q zero n lt was others = absurd (omega arith)
 least_below_changed p q (suc end) n lt was others = grind (arith, (cases_lt n end), (least_below_changed p q end n), least_below_same, least_below_low)
 
 pub first_broken_ended : (r : Requests) (n : ℕ) (res : ℤ) (bytes : List ℕ) (from end : ℕ) → from ≤ n
-    → n < end
-    → has_ended r n ≡ false
+    → n < end → has_ended r n ≡ false
     → first_broken (with_ended r n res bytes) from end
     ≡ earlier_of (first_broken r from end) (is_soft (entry_of r n) && not (is_success (entry_of r n) res)) n
 unfolding first_member
@@ -112,6 +108,5 @@ first_broken_elsewhere r n res bytes from end apart =
     least_below_same _ _ end (λ m lt. grind (arith, (apart m), (has_failed_other r n res bytes m)))
 
 pub group_ended : (r : Requests) (n : ℕ) (res : ℤ) (bytes : List ℕ) (from end : ℕ)
-    → IsGroup r from end
-    → IsGroup (with_ended r n res bytes) from end
+    → IsGroup r from end → IsGroup (with_ended r n res bytes) from end
 group_ended r n res bytes from end g = grind arith

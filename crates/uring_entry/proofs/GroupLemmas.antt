@@ -14,8 +14,7 @@ joined_member r from end m n g high lt le = grind (arith, (cases_lt m from), (is
 
 -- a later one if it is before the end
 pub in_group_member : (r : Requests) (from end n m : ℕ) → IsGroup r from end → from ≤ n → n < end
-    → m < length r.accepted
-    → is_in_group r m n ≡ (leb from m && ltb m end)
+    → m < length r.accepted → is_in_group r m n ≡ (leb from m && ltb m end)
 in_group_member r from end n m g high lt within =
     grind (arith, (min m n), (max m n), (joined_member r from end m n g high lt), (cases_lt m end), is_joined_yes, (is_joined_no r n m (end - 1)), (g.ends (end - 1)))
 
@@ -27,13 +26,11 @@ pub least_member_is : (r : Requests) (p : Sqe → Bool) (from end n : ℕ) → I
     → least_below (λ m. is_in_group r m n && p (entry_of r m)) (length r.accepted) ≡ first_member (λ m. p (entry_of r m)) from end
 unfolding first_member
 least_member_is r p from end n g high lt =
-    least_below_between _ end (length r.accepted) g.accepted
-    (λ m past within. grind (arith, (in_group_member r from end n m g high lt within)))
+    least_below_between _ end (length r.accepted) g.accepted (λ m past within. grind (arith, (in_group_member r from end n m g high lt within)))
     ∙ least_below_same _ _ end (λ m inside. grind (arith, (in_group_member r from end n m g high lt)))
 
-some_member_is : (r : Requests) (p : Sqe → Bool) (from end n : ℕ) → IsGroup r from end
-    → from ≤ n → n < end
-    → some_member r p n ≡ is_some (first_member (λ m. p (entry_of r m)) from end)
+some_member_is : (r : Requests) (p : Sqe → Bool) (from end n : ℕ) → IsGroup r from end → from ≤ n
+    → n < end → some_member r p n ≡ is_some (first_member (λ m. p (entry_of r m)) from end)
 unfolding some_member
 some_member_is r p from end n g high lt = rw (← is_some_least_below, least_member_is r p from end n g high lt)
 
@@ -84,8 +81,7 @@ ready_yes r from end n g high lt members drains alone =
     is_ready_yes r n (λ m low. grind (arith, (joined_member r from end m n g high lt), (members m), (drains m), alone))
 
 pub ready_not_member : (r : Requests) (from end n m : ℕ) → IsGroup r from end → n < end → from ≤ m
-    → m < n → has_ended r m ≡ false
-    → is_ready r n ≡ false
+    → m < n → has_ended r m ≡ false → is_ready r n ≡ false
 ready_not_member r from end n m g lt inside low going = grind (arith, (is_ready_no r n m low), (joined_member r from end m n g))
 
 pub ready_not_alone : (r : Requests) (n m : ℕ) → m < n → has_ended r m ≡ false
@@ -98,8 +94,7 @@ ready_not_after r n m low going drains = grind (arith, (is_ready_no r n m low))
 
 -- Two groups of which one begins before the other ends are one: a member of an earlier group lies before the later group.
 pub groups_apart : (r : Requests) (from end first last m : ℕ) → IsGroup r from end
-    → IsGroup r first last → from ≤ m → m < end
-    → m < first → first < end → ⊥
+    → IsGroup r first last → from ≤ m → m < end → m < first → first < end → ⊥
 groups_apart r from end first last m g h high lt low inside = grind (arith, (g.joined (first - 1)), (h.begins (first - 1)))
 
 -- a least member that was found is a member

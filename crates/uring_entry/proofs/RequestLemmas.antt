@@ -150,8 +150,7 @@ list_any_both p q [] e = refl
 list_any_both p q (x ∷ xs) e = grind (arith, (list_any_both p q xs))
 
 pub has_failed_unended : (r : Requests) (k : ℕ) → has_ended r k ≡ false → has_failed r k ≡ false
-has_failed_unended r k e =
-    list_any_both (λ x. x.number == k) (λ x. not (is_success (entry_of r k) x.res)) r.ended e
+has_failed_unended r k e = list_any_both (λ x. x.number == k) (λ x. not (is_success (entry_of r k) x.res)) r.ended e
 
 pub has_failed_same : (r : Requests) (n : ℕ) (res : ℤ) (bytes : List ℕ) → has_ended r n ≡ false
     → has_failed (with_ended r n res bytes) n ≡ not (is_success (entry_of r n) res)

@@ -10,6 +10,5 @@ not_outside low high n from to h = grind arith
 
 -- the submission ring's size is the one way to round it
 pub at_any_rounding : (sq size : ℕ) (cq : Option ℕ) → 1 ≤ sq → IsNextPowerOfTwo sq size
-    → IsBadCq size cq → (p : ℕ)
-    → IsNextPowerOfTwo sq p → IsBadCq p cq
+    → IsBadCq size cq → (p : ℕ) → IsNextPowerOfTwo sq p → IsBadCq p cq
 at_any_rounding sq size cq some rounded bad p also = grind (arith, rounded_once)

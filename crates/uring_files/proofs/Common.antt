@@ -1,5 +1,5 @@
 -- The names that several of these files cite, passed on from one place. Declares nothing.
-pub use Rattle.std.proofs.lemmas.Bool.{both_ways, cases_Bool, true≢false}
+pub use Rattle.std.proofs.lemmas.Bool.{both_ways, cases_Bool}
 pub use Rattle.std.proofs.lemmas.Bool.Decides.{Decides-int_eq, nat_tests}
 pub use Rattle.std.proofs.lemmas.List.{length-set, places}
 pub use Rattle.std.specs.Option.{option_map, option_map_or}

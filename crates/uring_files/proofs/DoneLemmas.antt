@@ -12,8 +12,7 @@ left_snoc files (first ∷ later) d = left_snoc (after files first.op first.outc
 pub done_snoc : (files : List FileContents) (done : List Done) (d : Done) → AreDone files done
     → IsOutcome (files_left files done) d.op d.outcome → AreDone files (done ++ d ∷ [])
 done_snoc files [] d all last = (last, tt)
-done_snoc files (first ∷ later) d all last =
-    (all.0, done_snoc (after files first.op first.outcome.res) later d all.1 last)
+done_snoc files (first ∷ later) d all last = (all.0, done_snoc (after files first.op first.outcome.res) later d all.1 last)
 
 -- all but the last, and the last
 pub done_unsnoc : (files : List FileContents) (done : List Done) (d : Done)

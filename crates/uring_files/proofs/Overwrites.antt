@@ -22,10 +22,8 @@ whole_part new old len same all = grind (arith, common_steps)
 
 -- bytes filled up with zeros and then written over as a slice
 pub filled_and_replaced : (old grown seen put new : List ℕ) (off n len size : ℕ) → len ≡ length old
-    → 1 ≤ length new
-    → n ≡ max len (off + length new)
-    → grown ≡ take n old ++ replicate (n - len) 0 → seen ≡ grown
-    → put ≡ take off seen ++ new ++ drop (off + length new) seen
+    → 1 ≤ length new → n ≡ max len (off + length new) → grown ≡ take n old ++ replicate (n - len) 0
+    → seen ≡ grown → put ≡ take off seen ++ new ++ drop (off + length new) seen
     → length put ≡ length seen → size ≡ length grown
     → take size (put ++ drop (length put) grown) ≡ overwritten old off new
 filled_and_replaced old grown seen put new off n len size len_is some n_is grown_is seen_is put_is same size_is =

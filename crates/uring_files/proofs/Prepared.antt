@@ -9,8 +9,7 @@ use Rattle.uring_files.proofs.OperationCases.{most_of}
 
 -- what isn't found isn't the first
 not_first : (first : Bool) (fault : Fault) (later : Option Fault)
-    → (if first then Some fault else later) ≡ None
-    → (first ≡ false) × (later ≡ None)
+    → (if first then Some fault else later) ≡ None → (first ≡ false) × (later ≡ None)
 not_first first fault later none = grind arith
 
 -- an entry without a fault has an operation that is served

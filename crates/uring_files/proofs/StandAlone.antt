@@ -29,8 +29,7 @@ changed_same files (pos fd) change = set_same files fd empty_file change
 changed_same files (negsuc below) change = refl
 
 pub changed_other : (files : List FileContents) (own fd : ℤ) (change : FileContents → FileContents)
-    → fd ≢ own
-    → file_of (with_changed files own change) fd ≡ file_of files fd
+    → fd ≢ own → file_of (with_changed files own change) fd ≡ file_of files fd
 changed_other files (pos k) (pos j) change differ = set_other files k j _ (λ e. differ (ap pos e))
 changed_other files (pos k) (negsuc below) change differ = refl
 changed_other files (negsuc below) fd change differ = refl

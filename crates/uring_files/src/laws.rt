@@ -25,6 +25,7 @@ pub fn files_stand_alone()
 {}
 
 /// What an operation changes tells all that becomes of the bytes of its file, and is on no other. What it changes of a longer file it changes of a shorter one too.
+#[tactic(auto, using(crate::proofs::Changes::changes_tell_bytes))]
 pub fn changes_tell_all()
     ensures bytes { ChangesTellBytes }
     ensures asked { ChangesAreAsked }

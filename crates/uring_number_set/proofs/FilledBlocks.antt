@@ -37,11 +37,9 @@ same_filled s t f g h p q start stop few let_go = grind (arith, holds_same)
 
 -- a number more is covered, and so is the place of its block, by no block more than that needs
 pub filled_few : (s t f g : NumberSet) (n : ℕ) → IsFilled s f → n < stop_of t
-    → stop_of s ≤ stop_of t
-    → ((m : ℕ) → stop_of f ≤ 64 * m → n / 64 < 64 * m → stop_of g ≤ 64 * m)
+    → stop_of s ≤ stop_of t → ((m : ℕ) → stop_of f ≤ 64 * m → n / 64 < 64 * m → stop_of g ≤ 64 * m)
     → stop_of g ≤ t.first + length t.blocks + 63
-filled_few s t f g n h covered longer no_more =
-    grind (arith, no_more (f.first + length f.blocks), no_more (n / 64 / 64 + 1))
+filled_few s t f g n h covered longer no_more = grind (arith, no_more (f.first + length f.blocks), no_more (n / 64 / 64 + 1))
 
 -- The memory isn't part of the set.
 

@@ -46,8 +46,7 @@ not_over words n s writes set_up (m, small_writes, small) =
     omega (arith, set_up.limits.cq_holds_sq, small.smaller)
 
 not_both : (words : List Text) (o : Options) → AskFor words o → AskForTooSmall words → ⊥
-not_both words (Outcomes _ _ _ _ _ _ _ _ _) (n, writes, over) small =
-    not_over words n _ writes over.1 small
+not_both words (Outcomes _ _ _ _ _ _ _ _ _) (n, writes, over) small = not_over words n _ writes over.1 small
 not_both words (Check _ _ _ _) (n, writes, over) small = not_over words n _ writes over.1.0.0 small
 not_both words (CheckPage _) (n, writes, over) small = not_over words n _ writes over.1.0.0 small
 not_both words (CheckJson _) (n, writes, over) small = not_over words n _ writes over.1.0.0 small

@@ -33,8 +33,7 @@ closed_by : (g : Setup) (w : World) (call : Option Call) (accepted missed head :
     → answer.Taken accepted missed head ≡ end_answer_in g w call
     → (entries : List Sqe) × ((ending g w (answer.Taken accepted missed head)).requests ≡ with_call w.requests entries)
 closed_by g w None accepted missed head opened is = absurd cc
-closed_by g w (Some call) accepted missed head opened is =
-    (entries_from w.submission call.count, rw opened)
+closed_by g w (Some call) accepted missed head opened is = (entries_from w.submission call.count, rw opened)
 
 -- the entries that are kept, seen from the requests after the call: what wasn't accepted hasn't ended
 has_all : (r : Requests) (more : List Sqe) → IsSoundRequests r → HasAll r.accepted (with_call r more)

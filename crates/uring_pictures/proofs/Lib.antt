@@ -4,5 +4,4 @@ pub mod Moments
 pub mod Arrows
 mod Members
 pub mod Streams
-pub mod Together
 pub mod Pictures

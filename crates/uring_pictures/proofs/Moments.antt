@@ -27,8 +27,7 @@ follows_none at setup a kept empty same keeps = grind arith
 -- a byte of a line
 pub follows_byte : (at : Option ℕ) (setup : Setup) (a : Accepted) (kept kept' : KeptLine) (number : ℕ) (before : List ℕ) (b : ℕ)
     → b ≢ 10 → ((line : List ℕ) → kept ≡ kept_of line → kept' ≡ kept_of (line ++ b ∷ []))
-    → Following at setup a kept number before
-    → Following at setup a kept' number (before ++ b ∷ [])
+    → Following at setup a kept number before → Following at setup a kept' number (before ++ b ∷ [])
 follows_byte at setup a kept kept' number before b ne more f = grind (arith, (split_more before f.lines f.rest b ne f.splits))
 
 -- the end of a line that counts

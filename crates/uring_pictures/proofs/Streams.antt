@@ -1,5 +1,5 @@
 -- What is read while nothing is answered.
-use Rattle.std.proofs.Common.{◌≡◌, ℕ, List, [], ◌++◌, Option, Result, Ok, Err}
+use Rattle.std.proofs.Common.{◌≡◌, ℕ, List, [], ◌++◌, Option, Result, Ok, Err, arith}
 use Rattle.uring_pictures.proofs.Common.{Appends, Consumes, EndsLine, Explainer, HasEnded, HasTold, OnOk, Setup, TakesIn}
 use Rattle.uring_text.specs.declared.trace_fault.TraceFault.{TraceFault}
 use Rattle.uring_text.specs.Writing.{WritesText}
@@ -33,3 +33,11 @@ ended_in s s' none none' new new' e e' a b finish w = λ setup before told noted
 abbrev pub Far : Setup → Known → Known → Known → Known → Explainer → Type 0
 Far setup a r x e s = (bytes : List ℕ) × (text : List ℕ) × (notes : List ℕ) × Consumes a r bytes
     × Appends x e notes × HasTold setup s bytes text notes
+
+-- And the same holds of the watcher.
+abbrev pub FarWith : (List ℕ → Type 0) → Setup → Known → Known → Known → Known → Explainer → Type 0
+FarWith P setup a r x e s = (so : Far setup a r x e s) × P so.0
+
+-- what holds whatever was written
+pub on_done : (result : Done) (P : Type 0) → P → OnOk result P
+on_done result P p = grind arith

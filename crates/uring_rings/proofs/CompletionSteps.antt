@@ -36,8 +36,7 @@ wait_shows g q l x room spare s = grind (arith, length_push, take-append-le, dro
 
 -- A post puts the completion into the ring, where none waits and a cell is free.
 pub post_puts : (g : Setup) (q : Cq) (l : Completions) (x : Cqe) (room : ℕ) → IsCq q.size q.cells
-    → ShowsCompletions g q l
-    → has_room g.cq l ≡ true
+    → ShowsCompletions g q l → has_room g.cq l ≡ true
     → ShowsCompletions g (record q { room = room; posted = (q.posted + 1) % 2 ^ 64; tail = (q.tail + 1) % 2 ^ 32; cells = set q.cells (q.tail % q.size) x }) (with_posted g.cq l x)
 post_puts g q l x room i s open_ring =
     let none : q.overflow ≡ [] = grind (arith, all_put g q l s, nil_from_length q.overflow) in
@@ -46,16 +45,14 @@ post_puts g q l x room i s open_ring =
 
 -- A post that finds the ring full, or others waiting, leaves the completion after them.
 pub post_waits : (g : Setup) (q : Cq) (l : Completions) (x : Cqe) (room spare : ℕ)
-    → ShowsCompletions g q l
-    → has_room g.cq l ≡ false
+    → ShowsCompletions g q l → has_room g.cq l ≡ false
     → ShowsCompletions g (record q { room = room; spare = spare; posted = (q.posted + 1) % 2 ^ 64; overflow = q.overflow ++ x ∷ [] }) (with_posted g.cq l x)
 post_waits g q l x room spare s full = grind (arith, (wait_shows g q l x room spare s))
 
 -- what is read from the next cell is the next of the posted
 pub reaps : (g : Setup) (q : Cq) (l : Completions) (cell : ℕ) (x : Cqe) → IsCq q.size q.cells
-    → ShowsCompletions g q l
-    → (q.next ≡ q.seen_tail → ⊥) → cell ≡ q.next % q.size → x ≡ get_or q.cells cell x
-    → get_or l.posted (length l.reaped) x ≡ x
+    → ShowsCompletions g q l → (q.next ≡ q.seen_tail → ⊥) → cell ≡ q.next % q.size
+    → x ≡ get_or q.cells cell x → get_or l.posted (length l.reaped) x ≡ x
 reaps g q l cell x i s apart is_cell read = grind arith
 
 -- a reap answers the next of the posted
@@ -66,8 +63,7 @@ reap_answers g q l x i s apart next = grind (arith, ne_eqb, slice_get-get_or)
 
 -- and the ring shows it as reaped
 pub reap_shows : (g : Setup) (q : Cq) (l : Completions) (x : Cqe) (next : ℕ) → IsCq q.size q.cells
-    → ShowsCompletions g q l
-    → (q.next ≡ q.seen_tail → ⊥) → get_or l.posted (length l.reaped) x ≡ x
+    → ShowsCompletions g q l → (q.next ≡ q.seen_tail → ⊥) → get_or l.posted (length l.reaped) x ≡ x
     → next ≡ (q.next + 1) % 2 ^ 32
     → ShowsCompletions g (record q { next = next; reaped = (q.reaped + 1) % 2 ^ 64 }) (with_reaped l x)
 reap_shows g q l x next i s apart is is_next = grind (arith, length_push, take_more, get_or)

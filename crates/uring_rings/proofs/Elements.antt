@@ -16,6 +16,5 @@ slice_get_append_right xs ys k past = grind arith
 
 -- what is read from the cell of a word
 pub read_cell : (array : List ℕ) (cell word n size x : ℕ) → x ≡ get_or array cell x
-    → cell ≡ word % n → cell < n → n ≡ size
-    → length array ≡ size → get_or array (word % size) 0 ≡ x
+    → cell ≡ word % n → cell < n → n ≡ size → length array ≡ size → get_or array (word % size) 0 ≡ x
 read_cell array cell word n size x read is_cell below same cells = grind (arith, get_or_read)

@@ -22,16 +22,14 @@ pub entry_more : (places : List Place) (n t : ℕ) (p : Place) (e : Sqe)
     → slice_get places (n + t) ≡ Some p → p.entry ≡ Some e
     → length (entries_of (take (t + 1) (drop n places)))
     ≡ length (entries_of (take t (drop n places))) + 1
-entry_more places n t p e found has =
-    rw (places_more places n t p found, filter_map-append, has) (length_push _ _)
+entry_more places n t p e found has = rw (places_more places n t p found, filter_map-append, has) (length_push _ _)
 
 -- one more place with no entry is no more entry
 pub dropped_more : (places : List Place) (n t : ℕ) (p : Place) → slice_get places (n + t) ≡ Some p
     → p.entry ≡ None
     → length (entries_of (take (t + 1) (drop n places)))
     ≡ length (entries_of (take t (drop n places)))
-dropped_more places n t p found has =
-    rw (places_more places n t p found, filter_map-append, has) (ap length (append-nil _))
+dropped_more places n t p found has = rw (places_more places n t p found, filter_map-append, has) (ap length (append-nil _))
 
 -- the words dropped among the first n + m places
 pub dropped_beyond : (places : List Place) (n m : ℕ)

@@ -29,17 +29,15 @@ pub record TakesPlace (g : Setup) (l : Submission) (c : OpenCall) (word : ℕ) :
   pub of_word : place ≡ place_of g.sq l.content word
 
 pub takes_place : (g : Setup) (q : Sq) (l : Submission) (c : OpenCall) (word : ℕ)
-    → ShowsSubmission g q l → q.call ≡ Some c
-    → (c.taken ≡ c.count → ⊥) → get_or q.array ((q.head + c.taken) % 2 ^ 32 % q.size) 0 ≡ word
-    → TakesPlace g l c word
+    → ShowsSubmission g q l → q.call ≡ Some c → (c.taken ≡ c.count → ⊥)
+    → get_or q.array ((q.head + c.taken) % 2 ^ 32 % q.size) 0 ≡ word → TakesPlace g l c word
 takes_place g q l c word s is_call more read =
     let (call, is, same, within, ready) = is_open l c l.call (sym is_call ∙ s.call) s.call_fits in
     let r = reads_place g q l (taken l) q.head call.taken s s.head s.seen_first (grind arith) in
     grind (arith, r.found, s.places (taken l + call.taken) r.place)
 
 pub take_gives : (g : Setup) (l : Submission) (c : OpenCall) (word : ℕ) (entry : Sqe)
-    → TakesPlace g l c word → word < g.sq
-    → entry ≡ l.content word → Given entry ≡ take_answer l
+    → TakesPlace g l c word → word < g.sq → entry ≡ l.content word → Given entry ≡ take_answer l
 take_gives g l c word entry t valid held = grind arith
 
 pub take_drops : (g : Setup) (l : Submission) (c : OpenCall) (word : ℕ) → TakesPlace g l c word
@@ -48,14 +46,12 @@ take_drops g l c word t bad = grind arith
 
 -- the call goes on by one position
 pub take_gives_shows : (g : Setup) (q : Sq) (l : Submission) (c : OpenCall) (word : ℕ)
-    → ShowsSubmission g q l
-    → TakesPlace g l c word → word < g.sq
+    → ShowsSubmission g q l → TakesPlace g l c word → word < g.sq
     → ShowsSubmission g (record q { call = Some (record { count = c.count; taken = c.taken + 1; accepted = c.accepted + 1 }) }) (taken_on l l.call)
 take_gives_shows g q l c word s t valid = grind (arith, entry_more)
 
 pub take_drops_shows : (g : Setup) (q : Sq) (l : Submission) (c : OpenCall) (word : ℕ)
-    → ShowsSubmission g q l
-    → TakesPlace g l c word → g.sq ≤ word
+    → ShowsSubmission g q l → TakesPlace g l c word → g.sq ≤ word
     → ShowsSubmission g (record q { call = Some (record { count = c.count; taken = c.taken + 1; accepted = c.accepted }) }) (taken_on l l.call)
 take_drops_shows g q l c word s t bad = grind (arith, dropped_more)
 
@@ -69,8 +65,7 @@ pub record IsDone (l : Submission) (c : OpenCall) : Type 0 where
   pub ready : call.count ≤ pending l
 
 pub is_done : (g : Setup) (q : Sq) (l : Submission) (c : OpenCall) → ShowsSubmission g q l
-    → q.call ≡ Some c → c.count ≤ c.taken
-    → IsDone l c
+    → q.call ≡ Some c → c.count ≤ c.taken → IsDone l c
 is_done g q l c s is_call through = grind arith
 
 -- Such a call is closed.

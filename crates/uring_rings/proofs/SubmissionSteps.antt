@@ -8,9 +8,8 @@ use Rattle.uring_rings.proofs.SubmissionWords.{length_words, words_indexed, word
 
 -- a word is staged in the next cell
 pub index_shows : (g : Setup) (q : Sq) (l : Submission) (d tail cell word : ℕ)
-    → IsSq q.size q.table q.array q.call
-    → ShowsSubmission g q l → d < 2 ^ 32 → (q.seen_head + d) % 2 ^ 32 ≡ q.tail → (d ≡ q.size → ⊥)
-    → tail ≡ (q.tail + 1) % 2 ^ 32
+    → IsSq q.size q.table q.array q.call → ShowsSubmission g q l → d < 2 ^ 32
+    → (q.seen_head + d) % 2 ^ 32 ≡ q.tail → (d ≡ q.size → ⊥) → tail ≡ (q.tail + 1) % 2 ^ 32
     → cell ≡ q.tail % q.size
     → ShowsSubmission g (record q { tail = tail; array = set q.array cell word }) (with_staged l word)
 index_shows g q l d tail cell word i s small leads not_full is_tail is_cell =
@@ -18,8 +17,7 @@ index_shows g q l d tail cell word i s small leads not_full is_tail is_cell =
 
 -- a table's slots after one was written
 slot_after_fill : (table : List Sqe) (content : ℕ → Sqe) (slot n : ℕ) (entry : Sqe)
-    → slot < length table
-    → slice_get table n ≡ Some (content n) → n < length table
+    → slot < length table → slice_get table n ≡ Some (content n) → n < length table
     → slice_get (set table slot entry) n ≡ Some (cond (eqb n slot) entry (content n))
 slot_after_fill table content slot n entry within old short =
     grind (arith, cond, length-set, slice_get-get_or (set table slot entry) n [], cases_eq n slot, eq-eqb, ne_eqb, get_or-set_at table slot n entry [], get_or-set_other, get_or_from_slice_get table n (content n) [])

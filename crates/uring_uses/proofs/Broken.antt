@@ -14,8 +14,7 @@ module _ (r : Requests) (n below : ℕ) (bytes : List ℕ) (next : IsNextInChain
   -- who failed with a negative result has the next after its failure, if a soft link joins them
   next_after : is_after_failure (with_ended r n (negsuc below) bytes) (n + 1) ≡ true
   next_after =
-      is_after_failure_from (with_ended r n (negsuc below) bytes) (n + 1) n
-      (record {
+      is_after_failure_from (with_ended r n (negsuc below) bytes) (n + 1) n (record {
         before = omega arith;
         joined = grind (arith, is_joined_ended, is_joined_yes, next.joined);
         soft = next.soft;
@@ -40,8 +39,7 @@ same_result : (linux : Bool) (r : Requests) (n k : ℕ) (res : ℤ) (bytes : Lis
 same_result linux r n k res bytes = grind arith
 
 doomed_ends : (outstanding running doomed ready cancel : Bool) (as_doomed as_cancel : ℤ)
-    → outstanding ≡ true → running ≡ false
-    → doomed ≡ true
+    → outstanding ≡ true → running ≡ false → doomed ≡ true
     → (if not outstanding then answer.Unknown else (if running then answer.Running else (if doomed then answer.Ended as_doomed no_bytes else (if not ready then answer.NotReady else (if cancel then answer.Ended as_cancel no_bytes else answer.Run)))))
     ≡ answer.Ended as_doomed no_bytes
 doomed_ends outstanding running doomed ready cancel x y o r d = grind arith

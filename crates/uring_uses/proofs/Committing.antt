@@ -35,13 +35,10 @@ pub record IsCommitted (old new : Volume) (end : ℕ) (bytes : List ℕ) (n : �
   pub history : new.history ≡ with_record old.history (record { number = n; off = end; bytes = bytes }) s
 
 pub committed : (v v1 v2 v3 v4 : Volume) (end : ℕ) (bytes : List ℕ) (n s : ℕ) (ran synced : Bool)
-    → v1 ≡ with_write end bytes v → n ≡ v.next
-    → ran ≡ is_one_of n (running_writes v1.history)
-    → v2 ≡ cond ran (with_event (WriteEnded n) v1) v1
-    → v3 ≡ with_sync Whole v2 → s ≡ v2.next
+    → v1 ≡ with_write end bytes v → n ≡ v.next → ran ≡ is_one_of n (running_writes v1.history)
+    → v2 ≡ cond ran (with_event (WriteEnded n) v1) v1 → v3 ≡ with_sync Whole v2 → s ≡ v2.next
     → synced ≡ is_one_of s (running_syncs v3.history)
-    → v4 ≡ cond synced (with_event (SyncEnded s) v3) v3
-    → IsCommitted v v4 end bytes n
+    → v4 ≡ cond synced (with_event (SyncEnded s) v3) v3 → IsCommitted v v4 end bytes n
 committed v v1 v2 v3 v4 end bytes n s ran synced e1 number r e2 e3 sync t e4 =
     let is : ran ≡ true = grind (arith, just_begun) in
     let is3 : synced ≡ true = grind (arith, just_begun) in
@@ -53,9 +50,8 @@ pub commit_keeps : (old new : Volume) (end : ℕ) (bytes : List ℕ) (n : ℕ) �
 commit_keeps old new end bytes n sound after made =
     rw made.history (grind (arith, not_from_false, not_given_up, made.number, sound, after))
 
-pub commit_leaves : (old new : Volume) (end : ℕ) (bytes : List ℕ) (n : ℕ)
-    → EndsBy end old.history → IsCommitted old new end bytes n
-    → (w : Write) → IsKept old.history w → IsKept new.history w
+pub commit_leaves : (old new : Volume) (end : ℕ) (bytes : List ℕ) (n : ℕ) → EndsBy end old.history
+    → IsCommitted old new end bytes n → (w : Write) → IsKept old.history w → IsKept new.history w
 commit_leaves old new end bytes n after made w kept = grind arith
 
 pub commit_ends : (old new : Volume) (end : ℕ) (bytes : List ℕ) (n : ℕ) → EndsBy end old.history

@@ -19,8 +19,7 @@ opened_same (answer.Call count) x y p q = grind arith
 opened_same _ x y p q = inl (p ∙ sym q)
 
 finished_same : (files : List FileContents) (r : Requests) (n : ℕ) (running : Bool) (x y : Answer)
-    → EndsOn files r n running x
-    → EndsOn files r n running y → AreSame x y
+    → EndsOn files r n running x → EndsOn files r n running y → AreSame x y
 finished_same files r n false x y p q = inl (p ∙ sym q)
 finished_same files r n true (answer.Ended res bytes) (answer.Ended other more) p q = grind arith
 finished_same files r n true (answer.Ended res bytes) _ p q = absurd q
@@ -34,9 +33,8 @@ called_same g w _ x y p q = inl (p ∙ sym q)
 
 -- the same steps after the same history
 replayed : (g : Setup) (h : History) (steps : List Step) (xs ys : List Answer)
-    → length xs ≡ length steps
-    → length ys ≡ length steps → IsLawful g (history_of (zip steps xs) ++ h)
-    → IsLawful g (history_of (zip steps ys) ++ h)
+    → length xs ≡ length steps → length ys ≡ length steps
+    → IsLawful g (history_of (zip steps xs) ++ h) → IsLawful g (history_of (zip steps ys) ++ h)
     → AreReplays xs ys
 replayed g h [] [] [] m n p q = inl refl
 replayed g h (s ∷ steps) (x ∷ xs) (y ∷ ys) m n p q =
@@ -52,8 +50,6 @@ replayed g h _ _ _ m n p q = absurd (omega (arith, m, n))
 
 -- the same steps from the beginning
 pub replayed_anew : (g : Setup) (steps : List Step) (xs ys : List Answer) → length xs ≡ length steps
-    → length ys ≡ length steps
-    → IsLawful g (history_of (zip steps xs)) → IsLawful g (history_of (zip steps ys))
-    → AreReplays xs ys
-replayed_anew g steps xs ys m n p q =
-    replayed g [] steps xs ys m n (rw append-nil p) (rw append-nil q)
+    → length ys ≡ length steps → IsLawful g (history_of (zip steps xs))
+    → IsLawful g (history_of (zip steps ys)) → AreReplays xs ys
+replayed_anew g steps xs ys m n p q = replayed g [] steps xs ys m n (rw append-nil p) (rw append-nil q)

@@ -18,8 +18,7 @@ use Rattle.uring_core.proofs.Issuable.{issue_goes, issuable_outstanding}
 -- with something outstanding and nothing running there is a next
 some_next : (next least : Option ℕ) (r : Requests) (a : Answer)
     → ((n : ℕ) → least ≡ Some n → (is_running r n ≡ true) ⊎ (is_some next ≡ true))
-    → ((n : ℕ) → is_running r n ≡ false)
-    → 1 ≤ outstanding_in r → least_of r ≡ least
+    → ((n : ℕ) → is_running r n ≡ false) → 1 ≤ outstanding_in r → least_of r ≡ least
     → a ≡ next_answer_of next → ((k : ℕ) → a ≡ answer.Next k → ⊥) → ⊥
 some_next (Some m) least r a goes quiet some e is other = other m is
 some_next None (Some n) r a goes quiet some e is other = grind (arith, (goes n refl), (quiet n))
@@ -57,8 +56,7 @@ turn_ended p h n _ quiet outstanding ended fits = absurd ended
 
 -- it ran, and was finished
 pub turn_run : (p : Core) (h : History) (n : ℕ) (res : ℤ) (bytes : List ℕ)
-    → NoneRuns (world p.setup h)
-    → is_outstanding (world p.setup h).requests n ≡ true
+    → NoneRuns (world p.setup h) → is_outstanding (world p.setup h).requests n ≡ true
     → FitsApart p ((step.Finish n, answer.Ended res bytes) ∷ (step.Issue n, answer.Run) ∷ h)
     → HasRun p h 1
 turn_run p h n res bytes quiet outstanding fits =
@@ -75,10 +73,8 @@ turn_run p h n res bytes quiet outstanding fits =
 
 -- Next is answered
 pub turn_goes_on : (old asked : Core) (h : History) (a : Answer) → asked.setup ≡ old.setup
-    → NoneRuns (world old.setup h)
-    → 1 ≤ outstanding_in (world old.setup h).requests → FitsApart asked ((step.Next, a) ∷ h)
-    → ((k : ℕ) → a ≡ answer.Next k → ⊥)
-    → ⊥
+    → NoneRuns (world old.setup h) → 1 ≤ outstanding_in (world old.setup h).requests
+    → FitsApart asked ((step.Next, a) ∷ h) → ((k : ℕ) → a ≡ answer.Next k → ⊥) → ⊥
 turn_goes_on old asked h a same quiet some fits other =
     let lawful : IsLawfulApart old.setup h = subst (λ g. IsLawfulApart g h) same fits.lawful.1 in
     some_next (by_rules.next_of old.setup.linux (requests_of (world old.setup h))) (least_of (world old.setup h).requests)
@@ -104,10 +100,9 @@ pub record IsStarted (p : Core) (h : History) (n : ℕ) : Type 0 where
   pub fits : FitsApart p ((step.Issue n, answer.Run) ∷ h)
 
 pub turn_start : (old asked new : Core) (h : History) (n : ℕ) (a b : Answer)
-    → asked.setup ≡ old.setup → new.setup ≡ asked.setup
-    → a ≡ answer.Next n → b ≡ answer.Run → NoneRuns (world old.setup h)
-    → FitsApart asked ((step.Next, a) ∷ h) → FitsApart new ((step.Issue n, b) ∷ h)
-    → IsStarted new h n
+    → asked.setup ≡ old.setup → new.setup ≡ asked.setup → a ≡ answer.Next n → b ≡ answer.Run
+    → NoneRuns (world old.setup h) → FitsApart asked ((step.Next, a) ∷ h)
+    → FitsApart new ((step.Issue n, b) ∷ h) → IsStarted new h n
 turn_start old asked new h n a b same kept named ran quiet asked_fits fits = grind (arith, requests_of, is_running_started_same)
 
 -- so it has an operation
@@ -126,8 +121,7 @@ pub run_none : (p : Core) (h : History) → NoneRuns (world p.setup h) → FitsA
 run_none p h quiet fits = grind arith
 
 pub run_more : (old new : Core) (h : History) (ended : ℕ) → new.setup ≡ old.setup
-    → (before : HasRun old h ended)
-    → HasRun new (before.events ++ h) 1 → HasRun new h (ended + 1)
+    → (before : HasRun old h ended) → HasRun new (before.events ++ h) 1 → HasRun new h (ended + 1)
 run_more old new h ended same before last =
     record {
       events = last.events ++ before.events;

@@ -13,13 +13,11 @@ run_ready outstanding running doomed ready cancel x y is = grind arith
 
 -- by either's rules each earlier member of the group of a request that runs has ended
 pub run_after_ended : (g : Setup) (w : World) (n m : ℕ) → answer.Run ≡ issue_answer g w n → m < n
-    → is_joined w.requests m n ≡ true
-    → has_ended w.requests m ≡ true
+    → is_joined w.requests m n ≡ true → has_ended w.requests m ≡ true
 run_after_ended g w n m is lt joined = grind (arith, (g.linux), run_ready, and_parts, turn_first, ready_first)
 
 -- by the manual pages' rules what a request that runs waits for has ended
 pub run_waits_for_none : (g : Setup) (w : World) (n m : ℕ) → g.linux ≡ false
-    → answer.Run ≡ issue_answer g w n → m < n
-    → waits_for w.requests n m ≡ true
+    → answer.Run ≡ issue_answer g w n → m < n → waits_for w.requests n m ≡ true
     → has_ended w.requests m ≡ true
 run_waits_for_none g w n m manual is lt waits = grind (arith, manual, run_ready, is_ready_inside)

@@ -32,9 +32,8 @@ each_next P [] x all last (suc k) d low = absurd (omega (arith, low))
 
 pub opened_next : {later mid : List WorkLanes} {more those : List Worker} (files : ℕ) (lanes : List WorkLanes) (workers : List Worker) (l : WorkLanes) (w : Worker)
     → later ≡ mid ++ l ∷ [] → mid ≡ lanes → more ≡ those ++ w ∷ [] → those ≡ workers
-    → AreOpened files lanes workers
-    → sent l.jobs ≡ [] → received l.results ≡ [] → producer_capacity l.jobs ≡ 64
-    → consumer_capacity l.results ≡ 64
+    → AreOpened files lanes workers → sent l.jobs ≡ [] → received l.results ≡ []
+    → producer_capacity l.jobs ≡ 64 → consumer_capacity l.results ≡ 64
     → w.pairing ≡ pairing_of l.jobs l.results → IsFreshWorker files (length lanes) w
     → AreOpened files later more
 opened_next files lanes workers l w with_lanes same_lanes with_worker same_workers o jobs results jobs_hold results_hold pairing fresh =
@@ -56,6 +55,3 @@ opened_next files lanes workers l w with_lanes same_lanes with_worker same_worke
       hold = each_next (λ k (x : WorkLanes). producer_capacity x.jobs ≡ 64) lanes l o.hold jobs_hold;
       fresh = each_next (IsFreshWorker files) workers w o.fresh (subst (λ n. IsFreshWorker files n w) (sym many) fresh);
     })
-
-pub room_for_one : (n m : ℕ) → n + 1 ≤ m → n < m
-room_for_one n m room = omega arith

@@ -1,14 +1,7 @@
-use Rattle.std.proofs.Common.{◌≡◌, Result, Ok, Err, sym, ap, ◌∙◌, rules}
-use Rattle.uring_check.proofs.Common.{Verdict, false≢true, string_bytes}
+use Rattle.std.proofs.Common.{◌≡◌, Err, rules}
+use Rattle.uring_check.proofs.Common.{false≢true, string_bytes}
 use Rattle.uring_check.proofs.Readings.{part_checked, unsaid_checked, cut_checked, whole_checked}
-use Rattle.uring_text.specs.declared.trace_fault.TraceFault.{TraceFault}
-use Rattle.uring_text.specs.declared.trace_fault.TraceFault.TheVariants as fault
 use Rattle.uring_check.proofs.check_loop.check_all.Goals as goal
-
--- the fault, if there is one
-abbrev fault_of : Result Verdict TraceFault → TraceFault
-fault_of (Ok v) = fault.Read
-fault_of (Err e) = e
 
 pub returns-in_err-read_all-clause-checked : goal.returns-in_err-read_all-clause-checked
 returns-in_err-read_all-clause-checked g c = λ r all h. part_checked r all c.from_residual.result c.in_err-read_all.field-0.0 _ _ _ c.read_all.new.reading (search (rules, c.from_residual.ensures)) (c.in_err-read_all.ensures.bytes r all h)
@@ -29,7 +22,7 @@ returns-clause-checked g c =
 pub returns-in_err-read_all-clause-granted : goal.returns-in_err-read_all-clause-granted
 returns-in_err-read_all-clause-granted g c = λ sure r all h e.
     let same : c.from_residual.result ≡ Err c.in_err-read_all.field-0.0 = search (rules, c.from_residual.ensures) in
-    c.in_err-read_all.ensures.granted sure r all h (ap (λ (f : TraceFault). Err f) (ap fault_of (sym same ∙ e)))
+    c.in_err-read_all.ensures.granted sure r all h (cc (same, e))
 
 pub returns-in_err-verdict-clause-granted : goal.returns-in_err-verdict-clause-granted
 returns-in_err-verdict-clause-granted g c = λ sure r all h.

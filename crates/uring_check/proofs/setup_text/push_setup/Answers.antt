@@ -1,4 +1,4 @@
-use Rattle.std.proofs.Common.{◌≡◌, ◌++◌, List, ℕ, refl, ap, ap₂, ◌∙◌, append_assoc}
+use Rattle.std.proofs.Common.{◌≡◌, ◌++◌, List, ℕ, ap₂, ◌∙◌, append_assoc}
 use Rattle.uring_check.proofs.Common.{codes, decimal, end_text, on_ok_weaker, string_bytes}
 use Rattle.uring_check.proofs.setup_text.push_setup.Goals as goal
 
@@ -6,10 +6,7 @@ use Rattle.uring_check.proofs.setup_text.push_setup.Goals as goal
 five_parts : (old a b c d new u k v l w m x n y z : List ℕ) → a ≡ old ++ u ++ k → b ≡ a ++ v ++ l
     → c ≡ b ++ w ++ m → d ≡ c ++ x ++ n → new ≡ d ++ y → y ≡ z
     → new ≡ old ++ (u ++ k ++ v ++ l ++ w ++ m ++ x ++ n ++ z)
-five_parts old a b c d new u k v l w m x n y z e f g h i is =
-    i ∙ ap (λ (t : List ℕ). d ++ t) is
-    ∙ ap (λ (t : List ℕ). t ++ z) (h ∙ ap (λ (t : List ℕ). t ++ x ++ n) (g ∙ ap (λ (t : List ℕ). t ++ w ++ m) (f ∙ ap (λ (t : List ℕ). t ++ v ++ l) e)))
-    ∙ simp append_assoc (refl)
+five_parts old a b c d new u k v l w m x n y z e f g h i is = rw (i, is, h, g, f, e) (simp append_assoc)
 
 pub returns : goal.returns
 returns c =

@@ -1,4 +1,4 @@
-use Rattle.std.proofs.Common.{◌≡◌, ◌++◌, ◌∷◌, [], List, ℕ, refl, ap, ◌∙◌, append_assoc}
+use Rattle.std.proofs.Common.{◌≡◌, ◌++◌, ◌∷◌, [], List, ℕ, append_assoc}
 use Rattle.uring_check.proofs.Common.{codes, line_text, on_ok_weaker, string_bytes}
 use Rattle.uring_trace.specs.Flaws.{line_flaw}
 use Rattle.uring_trace.specs.declared.flaws.Language.TheVariants as language
@@ -8,9 +8,7 @@ use Rattle.uring_check.proofs.telling.tell_bad.Goals as goal
 four_parts : (old a b c new n f : List ℕ) → a ≡ old ++ n → b ≡ a ++ codes "bad line\nwhy: "
     → c ≡ b ++ f → new ≡ c ++ 10 ∷ []
     → new ≡ old ++ n ++ (codes "bad line" ++ 10 ∷ []) ++ (codes "why: " ++ (f ++ 10 ∷ []))
-four_parts old a b c new n f ea eb ec en =
-    en ∙ ap (λ (t : List ℕ). t ++ 10 ∷ []) (ec ∙ ap (λ (t : List ℕ). t ++ f) (eb ∙ ap (λ (t : List ℕ). t ++ codes "bad line\nwhy: ") ea))
-    ∙ simp append_assoc (refl)
+four_parts old a b c new n f ea eb ec en = rw (en, ec, eb, ea) (simp append_assoc)
 
 pub returns-clause-told : goal.returns-clause-told
 returns-clause-told g c =

@@ -1,4 +1,4 @@
-use Rattle.std.proofs.Common.{◌≡◌, ◌++◌, ◌∷◌, [], List, ℕ, refl, ap, ◌∙◌, append_assoc}
+use Rattle.std.proofs.Common.{◌≡◌, ◌++◌, ◌∷◌, [], List, ℕ, append_assoc}
 use Rattle.uring_check.proofs.Common.{codes, completion_wanted, line_text, on_ok_weaker, reasons_by, string_bytes, wanted_text}
 use Rattle.uring_text.specs.Visible.{visible_line}
 use Rattle.uring_check.proofs.telling.tell_wrong.Goals as goal
@@ -7,9 +7,7 @@ use Rattle.uring_check.proofs.telling.tell_wrong.Goals as goal
 six_parts : (old a b c d e new n v w r : List ℕ) → a ≡ old ++ n → b ≡ a ++ v
     → c ≡ b ++ codes "\nwanted: " → d ≡ c ++ w → e ≡ d ++ 10 ∷ [] → new ≡ e ++ r
     → new ≡ old ++ n ++ (v ++ 10 ∷ []) ++ codes "wanted: " ++ (w ++ 10 ∷ []) ++ r
-six_parts old a b c d e new n v w r ea eb ec ed ee en =
-    en ∙ ap (λ (t : List ℕ). t ++ r) (ee ∙ ap (λ (t : List ℕ). t ++ 10 ∷ []) (ed ∙ ap (λ (t : List ℕ). t ++ w) (ec ∙ ap (λ (t : List ℕ). t ++ codes "\nwanted: ") (eb ∙ ap (λ (t : List ℕ). t ++ v) ea))))
-    ∙ simp append_assoc (refl)
+six_parts old a b c d e new n v w r ea eb ec ed ee en = rw (en, ee, ed, ec, eb, ea) (simp append_assoc)
 
 pub returns-clause-told : goal.returns-clause-told
 returns-clause-told g c =

@@ -3,8 +3,7 @@ use Rattle.uring_entry.proofs.Powers.{double_rounded, rounded_once, rounded_with
 use Rattle.uring_entry.proofs.setup.completion_size.Goals as goal
 
 pub returns-in_default-clause-some : goal.returns-in_default-clause-some
-returns-in_default-clause-some c =
-    rw c.in_default.is (double_rounded c.args.sq c.requires.0, omega arith, omega arith)
+returns-in_default-clause-some c = rw c.in_default.is (double_rounded c.args.sq c.requires.0, omega arith, omega arith)
 
 pub returns-then-size-sq-clause-none : goal.returns-then-size-sq-clause-none
 returns-then-size-sq-clause-none c =

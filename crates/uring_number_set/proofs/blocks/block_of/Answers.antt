@@ -15,8 +15,7 @@ returns-in-Some c =
 
 pub returns-in-None : goal.returns-in-None
 returns-in-None c =
-    sym
-    (elim (cases_lt (c.args.place - c.args.first) (length c.args.blocks.now.items)) [
+    sym (elim (cases_lt (c.args.place - c.args.first) (length c.args.blocks.now.items)) [
       | inl lt ↦ absurd (false≢true (c.in-None.ensures.variant.1 (omega arith)))
       | inr le ↦ block_of_past _ _ _ (omega arith)
     ])

@@ -3,6 +3,5 @@ use Rattle.uring_options.proofs.command_line.filled.Goals as goal
 
 pub returns : goal.returns
 returns c =
-    let over = c.in_ok-setup.ensures.ok in
-    let most = c.given_number-most.ensures 1 4294967295 (omega arith) c.requires.1.1.1.0 in
-    (over.0, over.1, (refl, over.2, most.0))
+    let (numbers, gives, over) = c.in_ok-setup.ensures.ok in
+    (numbers, gives, (refl, over, (c.given_number-most.ensures 1 4294967295 (omega arith) c.requires.1.1.1.0).0))

@@ -3,8 +3,7 @@ use Rattle.uring_options.proofs.Refusals.{words_answered, words_refused, small_e
 use Rattle.uring_options.proofs.command_line.options.Goals as goal
 
 pub asked-requires : goal.asked-requires
-asked-requires c =
-    (texts c.args.args.now, c.in_ok-matches_of.ensures.matches, c.in_ok-matches_of.ensures.kinds)
+asked-requires c = (texts c.args.args.now, c.in_ok-matches_of.ensures.matches, c.in_ok-matches_of.ensures.kinds)
 
 pub returns : goal.returns
 returns c =

@@ -7,8 +7,7 @@ pub stopping_if-requires : goal.stopping_if-requires
 stopping_if-requires c = c.in_ok-setup.ensures.ok.2.goes_on
 
 pub linux_if-requires : goal.linux_if-requires
-linux_if-requires c =
-    ap (λ (s : Setup). s.linux) c.stopping_if.ensures ∙ c.in_ok-setup.ensures.ok.2.manual
+linux_if-requires c = ap (λ (s : Setup). s.linux) c.stopping_if.ensures ∙ c.in_ok-setup.ensures.ok.2.manual
 
 pub returns-clause-ok : goal.returns-clause-ok
 returns-clause-ok c =

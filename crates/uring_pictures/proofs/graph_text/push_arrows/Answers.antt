@@ -1,12 +1,12 @@
-use Rattle.std.proofs.Common.{◌≡◌, Bool, true, false, refl, sym, ap, ◌∙◌, rules}
-use Rattle.uring_pictures.proofs.Common.{arrows_below, entry_outstanding, is_linux_at, is_some, linux_at, requests_at}
-use Rattle.uring_pictures.proofs.Arrows.{arrows_more, before_next, up_to_same}
+use Rattle.std.proofs.Common.{◌≡◌, Bool, true, false, refl, sym, ap, ◌∙◌, add-one, append_assoc, rules}
+use Rattle.uring_pictures.proofs.Common.{arrows_below, arrows_text, entry_outstanding, is_linux_at, is_some, linux_at, requests_at, string_bytes}
+use Rattle.uring_pictures.proofs.Arrows.{before_next}
 use Rattle.uring_pictures.proofs.graph_text.push_arrows.Goals as goal
 use Rattle.uring_pictures.proofs.graph_text.push_arrows.Goals.{then-ends_chain, else-ends_chain+then-is_some, else-ends_chain+else-is_some}
 
 pub loop-number-preserved : goal.loop-number-preserved
 loop-number-preserved g c = record {
-  arrows = λ h keeps. arrows_more (is_linux_at c.args.accepted.now) (linux_at c.args.accepted.now h) c.loop-number.number _ _ _ _ _ (c.loop-number.invariant.arrows h keeps) c.in_ok-push_both.ensures.arrows (c.loop-number.invariant.chain h keeps) (c.why.ensures h keeps);
+  arrows = λ h keeps. rw (c.in_ok-push_both.ensures.arrows, c.loop-number.invariant.arrows h keeps, add-one, ← c.loop-number.invariant.chain h keeps, ← c.why.ensures h keeps) (append_assoc (string_bytes c.args.text.now) (arrows_below (is_linux_at c.args.accepted.now) (linux_at c.args.accepted.now h) c.loop-number.number) (arrows_text c.loop-number.number c.loop-number.before c.why.result));
   chain = λ h keeps.
       let r = requests_at c.args.accepted.now h in
       let next = λ (last some : Bool) (ends : c.ends_chain.result ≡ last) (has : some ≡ is_some (entry_outstanding r c.loop-number.number)). before_next r c.loop-number.number last some _ (sym ends ∙ c.ends_chain.ensures h keeps) has (c.loop-number.invariant.chain h keeps) in
@@ -20,4 +20,4 @@ loop-number-preserved g c = record {
 pub returns-clause-arrows : goal.returns-clause-arrows
 returns-clause-arrows g c =
     let last : c.loop-number.number ≡ c.count-number-end.result = search rules in
-    λ h keeps. up_to_same (arrows_below (is_linux_at c.args.accepted.now) (linux_at c.args.accepted.now h)) _ _ _ _ (c.loop-number.invariant.arrows h keeps) (last ∙ c.count-number-end.ensures h keeps)
+    λ h keeps. rw (last ∙ c.count-number-end.ensures h keeps) at (c.loop-number.invariant.arrows h keeps)

@@ -1,5 +1,4 @@
-use Rattle.uring_pictures.proofs.Streams.{took_in}
-use Rattle.uring_pictures.proofs.Together.{on_done}
+use Rattle.uring_pictures.proofs.Streams.{on_done, took_in}
 use Rattle.uring_pictures.proofs.watching.watch.Goals as goal
 
 pub returns-in-Ok-clause-taken : goal.returns-in-Ok-clause-taken

@@ -1,6 +1,6 @@
 use Rattle.std.proofs.Common.{[], ◌-◌, ◌^◌}
 use Rattle.uring_pictures.proofs.Common.{HasTold, Setup}
-use Rattle.uring_pictures.proofs.Together.{FarWith}
+use Rattle.uring_pictures.proofs.Streams.{FarWith}
 use Rattle.uring_pictures.proofs.watching.watch_all.Given as goal
 
 -- what was read so far is what the explainer and the watcher took in, and what was noted was written

@@ -2,7 +2,7 @@ use Rattle.std.proofs.Common.{◌+◌, List, length, ap, sym, ◌∙◌, arith}
 use Rattle.std.proofs.lemmas.List.{length_push}
 use Rattle.uring_workers.specs.Opened.{IsFreshWorker}
 use Rattle.uring_workers.specs.declared.work_lanes.WorkLanes.{WorkLanes}
-use Rattle.uring_workers.proofs.FreshWorkers.{all_empty, both, opened_next, room_for_one}
+use Rattle.uring_workers.proofs.FreshWorkers.{all_empty, both, opened_next}
 use Rattle.uring_workers.proofs.Working.{same_ring}
 use Rattle.uring_workers.proofs.work_lanes.open_next.Goals as goal
 
@@ -25,7 +25,7 @@ returns-clause-opened g c =
     (new.pairing ∙ both (same_ring c.in_ok-jobs.to_do.end c.in_ok-jobs.jobs.end jobs.pair.0 jobs.pair.1 jobs.pair.2) (sym (same_ring c.in_ok-done.results.end c.in_ok-done.done.end results.pair.0 results.pair.1 results.pair.2))) fresh
 
 pub push_reserved-requires : goal.push_reserved-requires
-push_reserved-requires g c = room_for_one _ _ c.in_ok-reserve.ensures.ok
+push_reserved-requires g c = omega (arith, c.in_ok-reserve.ensures.ok)
 
 pub push_reserved-requires-2 : goal.push_reserved-requires-2
-push_reserved-requires-2 g c = room_for_one _ _ c.in_ok-reserve-2.ensures.ok
+push_reserved-requires-2 g c = omega (arith, c.in_ok-reserve-2.ensures.ok)

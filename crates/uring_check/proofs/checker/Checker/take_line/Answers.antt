@@ -5,8 +5,7 @@ use Rattle.uring_check.proofs.checker.Checker.take_line.Goals as goal
 
 pub returns-then-not-self-clause-looks : goal.returns-then-not-self-clause-looks
 returns-then-not-self-clause-looks g c =
-    if_ok_both c.take_next.result _ _ _
-    (λ done looks over d all lines text e k. took_next d all lines text c.args.self.now c.take_next.new.self (search rules) (λ g a ls. looks g a ls text e) over k)
+    if_ok_both c.take_next.result _ _ _ (λ done looks over d all lines text e k. took_next d all lines text c.args.self.now c.take_next.new.self (search rules) (λ g a ls. looks g a ls text e) over k)
     c.take_next.ensures.looks c.take_next.ensures.over
 
 pub returns-in-Nothing-clause-looks : goal.returns-in-Nothing-clause-looks

@@ -1,20 +1,16 @@
-use Rattle.std.proofs.Common.{◌≡◌, ◌<◌, ◌+◌, ℕ, List, [], ◌∷◌, ◌++◌, length, take, get_or, sym, ap, subst, ◌∙◌, append_assoc, arith, rules}
-use Rattle.uring_check.proofs.Common.{Has, false≢true, take_all, take_more}
+use Rattle.std.proofs.Common.{◌<◌, length, append_assoc, arith, rules}
+use Rattle.uring_check.proofs.Common.{false≢true, take_all, take_more}
 use Rattle.uring_check.proofs.Readings.{kept_byte, took_line}
 use Rattle.uring_check.proofs.reading.Reading.feed.Goals as goal
 use Rattle.uring_check.proofs.reading.Reading.feed.Goals.{then-byte-eq10+in_ok-take_line, else-byte-eq10}
 
 pub loop-byte-preserved : goal.loop-byte-preserved
 loop-byte-preserved g c = λ r all before h.
-    let bytes : List ℕ = c.args.bytes.now in
-    let i : ℕ = c.loop-byte.byte-index in
     let so = c.loop-byte.invariant r all before h in
-    let lt : i < length bytes = search rules in
-    let next : take (i + 1) bytes ≡ take i bytes ++ get_or bytes i 0 ∷ [] = take_more bytes i 0 lt in
-    subst (λ (l : List ℕ). Has r all c.if-byte-eq10.self l) (append_assoc before (take i bytes) (get_or bytes i 0 ∷ []) ∙ ap (λ (l : List ℕ). before ++ l) (sym next))
-    (elim c.if-byte-eq10.branch [
-      | then-byte-eq10+in_ok-take_line w ↦ rw (w.self-is, w.if-byte-eq10.true, w.clear.ensures) (took_line r all _ _ w.take_line.new.self (before ++ take i bytes) w.in_ok-take_line.ensures.looks so)
-      | else-byte-eq10 w ↦ rw w.self-is (kept_byte r all _ _ _ (before ++ take i bytes) (get_or bytes i 0) w.if-byte-eq10.false w.push.ensures so)
+    let lt : c.loop-byte.byte-index < length c.args.bytes.now = search rules in
+    rw (take_more c.args.bytes.now c.loop-byte.byte-index 0 lt, ← append_assoc before) (elim c.if-byte-eq10.branch [
+      | then-byte-eq10+in_ok-take_line w ↦ rw (w.self-is, w.if-byte-eq10.true, w.clear.ensures) (took_line r all _ _ w.take_line.new.self _ w.in_ok-take_line.ensures.looks so)
+      | else-byte-eq10 w ↦ rw w.self-is (kept_byte r all _ _ _ _ _ w.if-byte-eq10.false w.push.ensures so)
     ])
 
 pub returns-in_err-take_line-clause-granted : goal.returns-in_err-take_line-clause-granted

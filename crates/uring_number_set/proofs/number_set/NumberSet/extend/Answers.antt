@@ -5,19 +5,16 @@ use Rattle.uring_number_set.proofs.number_set.NumberSet.extend.Goals as goal
 
 pub invariant_of-self : goal.invariant_of-self
 invariant_of-self c =
-    let a = c.self.invariant.start in
-    let b = c.self.invariant.stop in
-    same_filled _ _ _ _ c.self.invariant c.extend.ensures.same c.extend-2.ensures.same (omega arith)
-    (let no_more = c.extend.ensures.no_more (stop_of c.extend-2.new.self) (omega arith) (omega arith) in omega arith)
-    (filled_few c.self.inside.numbers c.extend.new.self c.self.inside.filled c.extend-2.new.self c.args.n c.self.invariant c.extend.ensures.covered c.extend.ensures.longer c.extend-2.ensures.no_more)
-    (omega (arith, c.self.invariant.let_go))
+    let known = c.self.invariant in
+    let no_more = c.extend.ensures.no_more (stop_of c.extend-2.new.self) in
+    same_filled _ _ _ _ known c.extend.ensures.same c.extend-2.ensures.same (omega arith) (omega arith)
+    (filled_few c.self.inside.numbers c.extend.new.self c.self.inside.filled c.extend-2.new.self c.args.n known c.extend.ensures.covered c.extend.ensures.longer c.extend-2.ensures.no_more) (omega arith)
 
 pub returns : goal.returns
 returns c =
     let a = c.extend.ensures.same.limit in
     let b = c.extend-2.ensures.same.limit in
-    rw (← c.self.view_is)
-    (record {
+    rw (← c.self.view_is) (record {
       same = record { same = c.extend.ensures.same.same; limit = omega arith };
       start = c.extend.ensures.start;
       longer = c.extend.ensures.longer;

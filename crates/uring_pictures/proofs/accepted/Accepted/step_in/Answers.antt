@@ -13,8 +13,7 @@ returns-in_default-answer-clause-made g c =
 
 pub returns-clause-made : goal.returns-clause-made
 returns-clause-made g c =
-    on_ok_weaker c.add_entries.result
-    (λ adds. call_made _ _ c.args.step c.step_in-answer.result _ _ _ c.in-End.is c.in-Taken.is c.step_in-answer.ensures.setup c.step_in-answer.ensures.fits
+    on_ok_weaker c.add_entries.result (λ adds. call_made _ _ c.args.step c.step_in-answer.result _ _ _ c.in-End.is c.in-Taken.is c.step_in-answer.ensures.setup c.step_in-answer.ensures.fits
     (λ h fits all. adds h fits (c.counts-accepted.ensures h fits).accepted all)
     (λ h fits. c.in_ok-push_value.ensures.items ∙ ap (λ (n : ℕ). c.args.self.now.cuts.items ++ n ∷ []) (c.counts-accepted.ensures h fits).accepted))
     c.add_entries.ensures.entries

@@ -10,8 +10,7 @@ returns-then-is_empty-clause-taken g c = λ first bytes f at setup start. follow
 pub returns-then-counts-clause-taken : goal.returns-then-counts-clause-taken
 returns-then-counts-clause-taken g c =
     let some : (line : List ℕ) → c.args.self.now.line ≡ kept_of line → line ≡ [] → ⊥ = λ line e none. let is : IsTrue false = (c.if-is_empty.ensures line e).1 none in absurd cc in
-    on_ok_weaker c.read_line.result
-    (λ reads first bytes f at setup start.
+    on_ok_weaker c.read_line.result (λ reads first bytes f at setup start.
     let so = f at setup start in
     followed_last at setup _ _ _ _ bytes some (ap (λ (o : Option ℕ). does_count o c.args.self.now.number) so.0 ∙ sym c.counts.ensures ∙ c.if-counts.true) reads so.1)
     c.read_line.ensures.read

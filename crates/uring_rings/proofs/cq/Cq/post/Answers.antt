@@ -5,16 +5,8 @@ use Rattle.uring_rings.proofs.cq.Cq.post.Goals as goal
 
 pub returns-then-fits-clause-shows : goal.returns-then-fits-clause-shows
 returns-then-fits-clause-shows c =
-    rw c.put.ensures
-    (λ g l s.
-    let inside = subst (λ (q : Cq). ShowsCompletions g q l) (sym c.self.view_is) s in
-    let free = sym (c.has_free_cell-fits.ensures g l s) ∙ c.if-fits.true in
-    post_puts g _ l c.args.completion _ c.self.invariant.0 inside free)
+    rw c.put.ensures (λ g l s. post_puts g _ l c.args.completion _ c.self.invariant.0 (subst (λ (q : Cq). ShowsCompletions g q l) (sym c.self.view_is) s) (sym (c.has_free_cell-fits.ensures g l s) ∙ c.if-fits.true))
 
 pub returns-else-fits-clause-shows : goal.returns-else-fits-clause-shows
 returns-else-fits-clause-shows c =
-    rw c.push_back_reserved.ensures.items
-    (λ g l s.
-    let inside = subst (λ (q : Cq). ShowsCompletions g q l) (sym c.self.view_is) s in
-    let full = sym (c.has_free_cell-fits.ensures g l s) ∙ c.if-fits.false in
-    post_waits g _ l c.args.completion _ _ inside full)
+    rw c.push_back_reserved.ensures.items (λ g l s. post_waits g _ l c.args.completion _ _ (subst (λ (q : Cq). ShowsCompletions g q l) (sym c.self.view_is) s) (sym (c.has_free_cell-fits.ensures g l s) ∙ c.if-fits.false))

@@ -11,10 +11,8 @@ returns-then-index-slot c =
     let named =
     read_cell c.self.inside.array.items c.cell-cell.result _ c.args.self.now.size c.self.inside.size c.index.result.now c.index.ensures cell c.cell-cell.ensures.within (sym size) c.self.invariant.cells
     ∙ c.if-index-slot.true in
-    rw (← c.self.view_is)
-    (λ g l s. sym (loop_finds g _ l c.distance-count.result c.loop-k.k c.args.slot c.self.invariant s (search rules) (search rules) (search rules) named))
+    rw (← c.self.view_is) (λ g l s. sym (loop_finds g _ l c.distance-count.result c.loop-k.k c.args.slot c.self.invariant s (search rules) (search rules) (search rules) named))
 
 pub returns : goal.returns
 returns c =
-    rw (← c.self.view_is)
-    (λ g l s. sym (loop_passes g _ l c.distance-count.result c.loop-k.k c.args.slot c.self.invariant s (search rules) (search rules) (search rules) c.loop-k.invariant))
+    rw (← c.self.view_is) (λ g l s. sym (loop_passes g _ l c.distance-count.result c.loop-k.k c.args.slot c.self.invariant s (search rules) (search rules) (search rules) c.loop-k.invariant))

@@ -29,9 +29,7 @@ returns c =
     let cell = c.cell-cell.ensures.value ∙ ap (λ (w : ℕ). w % c.args.self.now.size) c.after.ensures in
     let read = read_cell c.self.inside.array.items c.cell-cell.result _ c.args.self.now.size c.self.inside.size c.index-word.result.now c.index-word.ensures cell c.cell-cell.ensures.within (sym size) c.self.invariant.cells in
     record {
-      answer =
-          rw (← c.self.view_is)
-          (λ g l s.
+      answer = rw (← c.self.view_is) (λ g l s.
           let valid : c.index-word.result.now < g.sq = rw (← s.size) c.if-word-self.false in
           let entry = c.index.ensures ∙ get_or_from_slice_get c.self.inside.table.items c.index-word.result.now (l.content c.index-word.result.now) c.index.result.now (s.slots c.index-word.result.now valid) in
           take_gives g l c.in-Some.call c.index-word.result.now c.index.result.now (takes_place g _ l c.in-Some.call c.index-word.result.now s c.in-Some.is c.if-call.false read) valid entry);

@@ -26,8 +26,7 @@ returns-clause-turns g c =
       record {
         outcome = rw (← c.self.view_is) c.carry_out-outcome.ensures.outcome;
         done =
-            rw (← c.self.view_is)
-            (same_worker inside.place (same_ring c.pop.new.self.end inside.jobs.end popped.ring.0.0 popped.ring.0.1 popped.ring.0.2)
+            rw (← c.self.view_is) (same_worker inside.place (same_ring c.pop.new.self.end inside.jobs.end popped.ring.0.0 popped.ring.0.1 popped.ring.0.2)
             (same_ring c.push_reserved.new.self.end inside.results.end (pushed.ring.0.0 ∙ full.0.0.0) (pushed.ring.0.1 ∙ full.0.0.1) (pushed.ring.0.2 ∙ full.0.0.2))
             (rw (popped.ok.0, pushed.sent.0, full.1) (done_of_snoc (received inside.jobs) (sent inside.results) inside.files c.self.invariant c.in-Ok.job c.carry_out-outcome.result))
             c.carry_out-outcome.ensures.files);

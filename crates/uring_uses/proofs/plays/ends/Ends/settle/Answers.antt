@@ -9,7 +9,6 @@ invariant_of-result g c =
     let self = c.args.self in
     record {
       together =
-          subst (λ app. AreTogether app c.in-Err.ends.kernel c.in-Err.ends.workers.items) (sym back.app)
-          (subst (AreTogether self.app c.in-Err.ends.kernel) (sym back.workers)
+          subst (λ app. AreTogether app c.in-Err.ends.kernel c.in-Err.ends.workers.items) (sym back.app) (subst (AreTogether self.app c.in-Err.ends.kernel) (sym back.workers)
           (together_same self.app self.kernel c.in-Err.ends.kernel self.workers.items back.kernel self.together));
     }
