@@ -1,6 +1,7 @@
 -- The form that is read of tokens is the one that they spell.
-use Rattle.std.proofs.Common.{◌≡◌, ℕ, ◌^◌, List, [], ◌∷◌, Some, refl, sym, ap, arith}
-use Rattle.uring_text.proofs.Common.{Form, Name, Parts, SayParts, SaysPart, SpellsForm, bytes_eq-Decides, form_of, kinds_of, name_of, name_text, part_of, parts_of}
+use Rattle.std.proofs.Common.{◌≡◌, ℕ, ◌^◌, List, [], ◌∷◌, Option, Some, refl, sym, ap, arith}
+use Rattle.uring_text.proofs.Common.{Form, Name, Parts, SayParts, SaysPart, SpellsForm, bytes_eq-Decides, form_of, kinds_of, name_of, name_text, option_map, part_of, parts_of}
+use Rattle.uring_text.specs.Reading.{form_named}
 use Rattle.uring_text.specs.declared.place.Kind.{Kind}
 use Rattle.uring_text.specs.declared.place.Kind.TheVariants as kind
 use Rattle.uring_text.proofs.Options.{bind_some, mapped}
@@ -51,12 +52,20 @@ name_found : (token : List ℕ) (n : Name) → name_of token ≡ Some n → toke
 unfolding name_of
 name_found token n e = grind (arith, bytes_eq-Decides)
 
+-- the name and the parts of the form that is made of them
+named_parts : (name : Name) (parts : Option Parts) (f : Form)
+    → option_map (λ (p : Parts). record { name = name; parts = p }) parts ≡ Some f
+    → (name ≡ f.name) × (parts ≡ Some f.parts)
+named_parts name parts f e = grind arith
+
 -- what is read is spelled so
 pub form_found : (tokens : List (List ℕ)) (f : Form) → form_of tokens ≡ Some f → SpellsForm tokens f
 unfolding form_of
 form_found [] f e = absurd cc
 form_found (token ∷ tokens) f e =
-    (tokens, grind (arith, name_found), parts_found (kinds_of f.name) tokens f.parts (grind arith))
+    let read = bind_some (name_of token) (λ name. form_named name tokens) f e in
+    let named = named_parts read.0 (parts_of (kinds_of read.0) tokens) f read.2 in
+    (tokens, cc (name_found token read.0 read.1, named.0), parts_found (kinds_of f.name) tokens f.parts (cc (named.0, named.1)))
 
 -- what is spelled so is read
 pub form_again : (tokens : List (List ℕ)) (f : Form) → SpellsForm tokens f → form_of tokens ≡ Some f
