@@ -1,6 +1,6 @@
 -- The completion ring's lists, read off a history.
-use Rattle.std.proofs.Common.{◌≡◌, [], ◌∷◌, refl, rules, arith}
-use Rattle.uring_laws.proofs.Common.{Answer, Completions, Event, History, IsLawfulApart, Setup, Step, World, is_load_cq_tail, world}
+use Rattle.std.proofs.Common.{◌≡◌, ℕ, Bool, [], ◌∷◌, if◌then◌else◌, refl, rules, arith}
+use Rattle.uring_laws.proofs.Common.{Answer, Completions, Cqe, Event, History, IsLawfulApart, Setup, Step, World, is_load_cq_tail, with_end_of, with_posted, world}
 use Rattle.uring_laws.specs.Direct.{before_last, reaps as reaps_in, stored_head, flushed_head}
 use Rattle.uring_core.proofs.CompletionMoves.{CompletionMove, stays, ends, completion_move, IsOffCompletions}
 
@@ -15,12 +15,17 @@ still_direct : (g : Setup) (h : History) (e : Event) (l : Completions) → IsOff
     → DirectCompletions g h l → DirectCompletions g (e ∷ h) l
 still_direct g h e l off i = search rules
 
+-- nor does a completion that is posted, or isn't
+posted_direct : (g : Setup) (h : History) (posts : Bool) (size : ℕ) (l : Completions) (c : Cqe)
+    → DirectCompletions g h l → DirectCompletions g h (if posts then with_posted size l c else l)
+posted_direct g h posts size l c i = grind arith
+
 completions_direct : (g : Setup) (h : History) (w : World) (s : Step) (a : Answer) (v : World)
     → CompletionMove g w s a v → w ≡ world g h → DirectCompletions g h w.completions
     → DirectCompletions g ((s, a) ∷ h) v.completions
 completions_direct g h w s a v (stays _ _ l r is_closed off no_end left) is i = search rules
 completions_direct g h w s a v (ends _ _ n res bytes r off told same_accepted one_more) is i =
-    grind (arith, (still_direct g h (s, a) w.completions off i))
+    still_direct g h (s, a) (with_end_of g w n res bytes) off (posted_direct g h _ g.cq w.completions _ i)
 completions_direct g h w s a v _ is i = search rules
 
 pub direct_completions : (g : Setup) (h : History) → IsLawfulApart g h
