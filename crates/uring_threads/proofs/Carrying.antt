@@ -1,6 +1,6 @@
 -- What the lanes of the workers have carried, as the trace goes on; a lane for jobs that shows no room has carried as many as it holds, so as many requests were started.
 use Rattle.std.proofs.Common.{◌≡◌, ◌≢◌, ℕ, ◌<◌, ◌==◌, cond, List, [], ◌∷◌, ◌++◌, length, get_or, count_by, Option, Some, None, refl, ap, ◌∙◌, arith, ◌+◌, ◌≤◌, false, append-nil}
-use Rattle.uring_threads.proofs.Common.{Adds, Answer, Bool, Event, Grows, HaveCarried, History, HoldJobs, IsEnded, IsSent, Job, Kept, None, Op, Setup, SomeIsFull, Tally, WorkLanes, cases_eq, count_by-le-length, done_by_worker, done_in, entry_of, history, history_of, history_of_cons, is_finish, is_issue, jobs_in, jobs_to, length-append, length-filter, now, operation_of, place_of, starts_request, step_of, sum_by-cons}
+use Rattle.uring_threads.proofs.Common.{Adds, Answer, Bool, Event, Grows, HaveCarried, History, HoldJobs, IsEnded, IsSent, Job, Kept, None, Op, Setup, SomeIsFull, Tally, WorkLanes, cases_eq, count_by-le-length, done_by_worker, done_in, entry_of, history, history_of, history_of_cons, is_finish, is_issue, jobs_in, jobs_to, length-filter, length_push, now, operation_of, place_of, starts_request, step_of, sum_by-cons}
 use Rattle.uring_core.specs.declared.step.Step.TheVariants as step
 use Rattle.uring_core.specs.declared.answer.Answer.TheVariants as answer
 use Rattle.uring_threads.proofs.TraceSteps.{grown_history, longer_history}
@@ -70,12 +70,18 @@ carried_run a b n place op old new issued carried at low many was_sent others = 
     let none = none_more_at (λ (i : Job). place_of (length old) a.setup.files i.op) k (jobs_in a.setup (history a)) j in
     rw many (grind (arith, (cases_eq k place), (was_sent d), (others k d within'), (carried k d within'), longer, issued.0.setup, issued.1, one, none))
 
+-- a request that starts sends a job, and nothing else does
+one_job : (g : Setup) (h : History) (e : Event)
+    → length (jobs_in g (e ∷ h)) ≡ length (jobs_in g h) + cond (starts_request e) 1 0
+one_job g h (step.Issue n, answer.Run) = length_push (jobs_in g h) _
+one_job g h _ = omega arith
+
 -- each request that starts sends a job
 jobs_count : (g : Setup) (events : List Event) (h : History)
     → length (jobs_in g (history_of events ++ h)) ≡ count_by starts_request events + length (jobs_in g h)
 jobs_count g [] h = omega arith
 jobs_count g (e ∷ later) h =
-    grind (arith, (history_of_cons e later h), (jobs_count g later (e ∷ h)), length-append, (sum_by-cons (λ x. cond (starts_request x) 1 0) e later))
+    rw (history_of_cons e later h) (omega (arith, one_job g h e, jobs_count g later (e ∷ h), sum_by-cons (λ x. cond (starts_request x) 1 0) e later))
 
 -- a lane that shows no room has carried 64 jobs
 pub some_full : (k : Kept) (lanes : List WorkLanes) → HaveCarried k lanes → HoldJobs lanes

@@ -1,5 +1,6 @@
 -- What is sent and taken in, as a result is taken in: the operation is the last of its worker's, and all else stays; and how many results of each worker a turn takes in.
 use Rattle.std.proofs.Common.{◌≡◌, ℕ, ◌+◌, ◌<◌, arith, true, List, [], ◌∷◌, ◌++◌, length, refl, sym, ap, ◌∙◌, inl, inr, ◌*◌, ◌≤◌, get_or, add-zero}
+use Rattle.std.specs.Result.{OnOk}
 use Rattle.uring_threads.proofs.Common.{Answer, AreSameLanes, AreTakenIn, CanBeTaken, Collects, CollectsSeen, Done, Grows, HasCarried, HaveCarried, IsFinished, IsLawfulApart, IsTakenIn, IsUnmoved, JobResult, Kept, NextStays, NoneComes, OnErr, OnlyReceives, Repeats, Result, TakesFewResults, TakesSeen, Wait, WorkLanes, cases_lt, done_by_worker, done_in, entry_of, finish_of, history, is_running, is_running_ended_other, is_running_ended_same, length-set, length_push, map-append, most_results, now, operation_of, place_of, results_of, results_received, results_seen, results_taken_in, set}
 use mathlib.Core.List.{IsPrefix}
 use Rattle.uring_core.specs.declared.step.Step.TheVariants as step
@@ -73,7 +74,11 @@ pub collects_still : {a b c : Kept} {workers place n : ℕ} → Collects a b wor
     → IsUnmoved b c → Collects a c workers place n
 collects_still {workers = workers} {place} p u = rw add-zero at (collects_then p (collects_none workers place u))
 
--- what holds anyway holds of an error
+-- what holds anyway holds of a result that is Ok
+pub on_ok : {X E P : Type 0} (result : Result X E) → P → OnOk result P
+on_ok result p = grind arith
+
+-- and of an error
 pub on_err : {X E P : Type 0} (result : Result X E) → P → OnErr result P
 on_err result p = grind arith
 

@@ -40,3 +40,6 @@ returns-clause-call c =
     let none = ap (λ n. drop (taken l + n) l.published) same ∙ none_after (now c.args.kept.now) c.args.count stands in
     subst (λ n. calls_left c.args.kept.now.setup l ≡ n ∷ calls_after (ends_of c.args.kept.now.setup (drop (taken l + n) l.published)) 0) same
     (all_taken c.args.kept.now.setup (drop (taken l + c.loop-done.done) l.published) c.loop-done.done (calls_left c.args.kept.now.setup l) (omega (arith, same, c.requires.some)) none i.calls)
+
+pub returns-then-is_ended-clause-length : goal.returns-then-is_ended-clause-length
+returns-then-is_ended-clause-length c = omega (arith, c.loop-done.invariant.events, grown_length _ _ _ c.step_reserved-answer.ensures.grows)

@@ -1,5 +1,5 @@
 use Rattle.std.proofs.Common.{◌∙◌, [], ◌∷◌, length, ap, refl, sym, subst, arith}
-use Rattle.uring_threads.proofs.Common.{ClosesOnce, IsTaken, Pulls, Stands, Tied, World, awaits_memory, now, waiting_in}
+use Rattle.uring_threads.proofs.Common.{ClosesOnce, IsTaken, Pulls, Stands, Tied, World, awaits_memory, false≢true, is_shut, now, waiting_in}
 use Rattle.uring_core.specs.declared.step.Step.TheVariants as step
 use Rattle.uring_threads.proofs.CallsMade.{row_taken}
 use Rattle.uring_threads.proofs.Tying.{once_begun, once_shut, once_stays, begun_completions, closed_world, takes_nothing, takes_then, tied_shut, tied_taken}
@@ -54,7 +54,7 @@ returns-in-Close g c =
       taken = record { calls = 0; closes = 1; adds = record { steps = _; appends = appends_one _ _ _ _ c.step_reserved.ensures.grows refl; tally = refl }; idle = λ none. absurd (omega (arith, none)) };
       row = (step.Close ∷ [], subst (λ p. IsTaken c.args.kept.now.setup p c.args.items.now (step.Close ∷ [])) (sym c.in-Close.is) refl, appends_one c.args.kept.now c.step_reserved.new.self step.Close c.step_reserved.result c.step_reserved.ensures.grows refl);
       once = λ once. once_shut c.args.kept.now c.step_reserved.new.self c.step_reserved.result c.step_reserved.ensures.grows (subst (ClosesOnce c.args.kept.now) c.requires.ready once);
-      none = λ none ready. absurd cc;
+      none = λ none ready. absurd (false≢true (sym (ap is_shut ready)));
       begun = λ all. refl;
     }
 

@@ -14,7 +14,7 @@ invariant_of-self g c =
 pub returns : goal.returns
 returns g c =
     record {
-      grows = rw (← c.self.view_is) (record { trace = cc; room = omega arith; setup = cc });
+      grows = rw (← c.self.view_is) (record { trace = c.push_reserved.ensures.items; room = omega (arith, c.push_reserved.ensures.room); setup = c.step_in-answer.ensures.setup });
       called =
           let h = history_of c.self.inside.trace.items in
           rw (← c.self.view_is) (subst (λ (g : Setup). CalledForApart g (world g h) c.args.step c.step_in-answer.result) c.step_in-answer.ensures.setup (c.step_in-answer.ensures.fits h c.self.invariant.1).lawful.0);

@@ -37,7 +37,7 @@ returns-clause-lawful g c =
     settled_lawful c.settle_workers.new.kept c.settle_workers.new.workers (omega (arith, c.requires.some, c.requires.lanes.many, ap length c.deref_mut-2.ensures.value, settled.workers.many)) settled.settled
 
 pub returns-clause-trace : goal.returns-clause-trace
-returns-clause-trace g c = cc
+returns-clause-trace g c = rw (← c.deref_mut.ensures.value, ← c.deref_mut-2.ensures.value) c.settle_workers.ensures.trace.trace
 
 pub returns-clause-posted : goal.returns-clause-posted
 returns-clause-posted g c = c.list_unreaped.ensures
