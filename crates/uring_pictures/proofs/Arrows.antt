@@ -1,10 +1,15 @@
 -- The parts of a graph, one by one.
 use Rattle.std.proofs.Common.{◌≡◌, ℕ, ◌+◌, List, ◌++◌, Bool, not, ◌||◌, Option, Some, None, refl, append_assoc, arith}
-use Rattle.uring_pictures.proofs.Common.{Requests, Sqe, call_of, entry_outstanding, first_of, if◌then◌else◌, in_chain, is_last, is_some, member_before, node_text, placed_text, row_text}
+use Rattle.uring_pictures.proofs.Common.{Requests, Sqe, arrows_text, call_of, codes, decimal, entry_outstanding, first_of, if◌then◌else◌, in_chain, is_last, is_some, member_before, node_text, placed_text, row_text}
 use Rattle.std.specs.Prelude.{nat_lt}
 use Rattle.uring_linux.specs.LinuxRequests.{LinuxRequests}
 use Rattle.uring_rules.specs.Rules.{why_of}
+use Rattle.uring_entry.specs.declared.why.Since.{Since}
+use Rattle.uring_entry.specs.declared.why.Since.TheVariants.{SameGroup, ItDrains, OwnDrains, Deferred}
 use Rattle.uring_entry.specs.declared.why.Why.{Why}
+use Rattle.uring_entry.specs.declared.why.Why.TheVariants.{Waits}
+use Rattle.uring_pictures.specs.Graphs.{chain_arrow}
+use Rattle.uring_trace.specs.Reasons.{since_text}
 
 -- what stands in a cluster, whose beginning has five parts, and in two
 pub framed : (old so on new p q r s t part end : List ℕ) → so ≡ old ++ (p ++ (q ++ (r ++ (s ++ t))))
@@ -21,6 +26,10 @@ framed_twice old so on new p q r s t u v w x y part end last a b is = grind (ari
 pub node_parts : (a b c d e f g p q r s t h i j k l : List ℕ)
     → a ++ (b ++ (c ++ (d ++ (e ++ (f ++ (g ++ (p ++ (q ++ (r ++ (s ++ (t ++ (h ++ (i ++ (j ++ (k ++ l))))))))))))))) ≡ a ++ b ++ c ++ d ++ (e ++ f ++ g ++ (p ++ q ++ r ++ s ++ t) ++ h ++ i ++ j ++ k) ++ l
 node_parts a b c d e f g p q r s t h i j k l = simp append_assoc refl
+
+-- the parts of an arrow
+pub arrow_parts : (a b c d e f g : List ℕ) → a ++ (b ++ (c ++ (d ++ (e ++ (f ++ g))))) ≡ a ++ b ++ c ++ d ++ e ++ f ++ g
+arrow_parts a b c d e f g = simp append_assoc refl
 
 -- the first member of the next request's chain
 pub first_next : (r : Requests) (n : ℕ) (last : Bool) (first : ℕ) → last ≡ is_last r n → first ≡ first_of r n
@@ -41,3 +50,13 @@ pub row_placed : (linux : Bool) (l : LinuxRequests) (n : ℕ) (e : Sqe) (call fi
     → after ≡ before ++ row_text linux l n
 row_placed linux l n e call first last why before after is calls same ends stands found =
     rw (← found, ← calls, ← same, ← ends, ← stands) is
+
+-- the arrows from a request that waits for one of another group
+pub both_arrows : (old on new : List ℕ) (n m : ℕ) (before : Option ℕ) (since : Since) → (since ≡ SameGroup → ⊥)
+    → on ≡ old ++ chain_arrow n before
+    → new ≡ on ++ (codes "  " ++ decimal n ++ codes " -> " ++ decimal m ++ codes " [style=dashed, label=\"" ++ since_text m since ++ codes "\"];\n")
+    → new ≡ old ++ arrows_text n before (Waits m since)
+both_arrows old on new n m before SameGroup other chain line = absurd (other refl)
+both_arrows old on new n m before ItDrains other chain line = rw (line, chain) (append_assoc old _ _)
+both_arrows old on new n m before OwnDrains other chain line = rw (line, chain) (append_assoc old _ _)
+both_arrows old on new n m before Deferred other chain line = rw (line, chain) (append_assoc old _ _)

@@ -47,7 +47,9 @@ pub fn graph_in<M: TextMemory, R: Read, W: Write, E: Write>(
         (λ bad. Draws at setup.now bad (R.remaining reader.old) (R.remaining reader.new) (W.contents writer.old) (W.contents writer.new) (E.contents errors.old) (E.contents errors.new)) }
     ensures granted { ((n : ℕ) → M.grants memory.now n) → result ≢ Err TraceFault.Memory }
 {
-    let mut moment = Moment::new_in(memory, alloc, setup, at)?;
+    let Ok(mut moment) = Moment::new_in(memory, alloc, setup, at) else {
+        return Err(TraceFault::Memory);
+    };
     let drawn = draw_all(memory, alloc, setup, &mut moment, reader, writer, errors);
     drop(moment);
     drawn

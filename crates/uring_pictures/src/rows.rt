@@ -57,10 +57,14 @@ impl Timeline {
         if counts == self.counts {
             return Ok(());
         }
-        self.add_rows(memory, counts.accepted)?;
+        if let Err(refused) = self.add_rows(memory, counts.accepted) {
+            return Err(refused);
+        }
         let has_posted = counts.posted > self.counts.posted;
         for number in 0..self.rows.len() as u64 {
-            self.look_at(memory, number, machine.why(number), has_posted)?;
+            if let Err(refused) = self.look_at(memory, number, machine.why(number), has_posted) {
+                return Err(refused);
+            }
         }
         for place in self.counts.reaped..counts.reaped {
             if let Some(number) = self.posters.get(place as usize) {

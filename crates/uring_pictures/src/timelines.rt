@@ -46,7 +46,11 @@ pub fn timeline_in<M: TextMemory, R: Read, W: Write, E: Write>(
     let mut timeline = Timeline::new(alloc);
     let bad = watch_trace(memory, alloc, setup, &mut timeline, reader, errors)?;
     let mut text = String::new(alloc);
-    timeline.push_rows(memory, &mut text)?;
-    write_all(writer, text.as_bytes(), &mut Calls::new())?;
-    Ok(bad)
+    if let Err(_) = timeline.push_rows(memory, &mut text) {
+        return Err(TraceFault::Memory);
+    }
+    match write_all(writer, text.as_bytes(), &mut Calls::new()) {
+        Ok(()) => Ok(bad),
+        Err(fault) => Err(fault),
+    }
 }

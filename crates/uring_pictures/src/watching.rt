@@ -86,7 +86,9 @@ pub(crate) fn watch_trace<M: TextMemory, W: Watcher, R: Read, E: Write>(
         (λ bad. (r : Reads setup.now bad (R.remaining reader.old) (R.remaining reader.new) (E.contents errors.old) (E.contents errors.new)) × ((first : W) → W.follows first watcher.old [] → W.ended first watcher.new r.bytes)) }
     ensures granted { ((n : ℕ) → M.grants memory.now n) → result ≢ Err TraceFault.Memory }
 {
-    let mut explainer = Explainer::new_in(memory, alloc, setup)?;
+    let Ok(mut explainer) = Explainer::new_in(memory, alloc, setup) else {
+        return Err(TraceFault::Memory);
+    };
     let watched = watch_all(memory, alloc, &mut explainer, watcher, reader, errors);
     drop(explainer);
     watched
@@ -199,14 +201,20 @@ pub fn watch_byte<M: TextMemory, W: Watcher>(
     ensures granted { ((n : ℕ) → M.grants memory.now n) → result ≢ Err TraceFault.Memory }
 {
     let (told_before, noted_before) = (text.len(), notes.len());
-    watcher.take_byte(memory, explainer.machine(), byte)?;
-    explainer.feed_in(memory, &[byte], text, notes)?;
+    if let Err(_) = watcher.take_byte(memory, explainer.machine(), byte) {
+        return Err(TraceFault::Memory);
+    }
+    if let Err(_) = explainer.feed_in(memory, &[byte], text, notes) {
+        return Err(TraceFault::Memory);
+    }
     if byte == b'\n' {
         let told = Told {
             text: rest_of(text, told_before),
             note: rest_of(notes, noted_before),
         };
-        watcher.end_line(memory, explainer.machine(), told)?;
+        if let Err(_) = watcher.end_line(memory, explainer.machine(), told) {
+            return Err(TraceFault::Memory);
+        }
     }
     Ok(())
 }
@@ -230,15 +238,21 @@ fn watch_end<M: TextMemory, W: Watcher, E: Write>(
         (λ bad. EndsIn bad explainer.old explainer.new (E.contents errors.old) (E.contents errors.new) × ((first : W) (bytes : List ℕ) → W.follows first watcher.old bytes → W.ended first watcher.new bytes)) }
     ensures granted { ((n : ℕ) → M.grants memory.now n) → result ≢ Err TraceFault.Memory }
 {
-    watcher.take_byte(memory, explainer.machine(), b'\n')?;
+    if let Err(_) = watcher.take_byte(memory, explainer.machine(), b'\n') {
+        return Err(TraceFault::Memory);
+    }
     let mut text = String::new(alloc);
     let mut notes = String::new(alloc);
-    explainer.finish_in(memory, &mut text, &mut notes)?;
+    if let Err(_) = explainer.finish_in(memory, &mut text, &mut notes) {
+        return Err(TraceFault::Memory);
+    }
     let told = Told {
         text: rest_of(&text, 0),
         note: rest_of(&notes, 0),
     };
-    watcher.end_input(memory, explainer.machine(), told)?;
+    if let Err(_) = watcher.end_input(memory, explainer.machine(), told) {
+        return Err(TraceFault::Memory);
+    }
     write_all(errors, notes.as_bytes(), writes)?;
     Ok(explainer.has_bad())
 }

@@ -9,6 +9,12 @@ use std::alloc::AllocError;
 use uring_machine::{Doom, Why};
 use uring_text::TextMemory;
 
+/// How a request has ended.
+const ENDED: &str = "@{\"request\":@,\"is\":\"@\"@,\"result\":@}";
+
+/// How a request stands that hasn't ended.
+const STANDS: &str = "@{\"request\":@,\"is\":\"@\"@,\"why\":\"@\"}";
+
 /// What stands before a change: a comma after another, and the beginning of the array before the first.
 fn comma(text: &str) -> &'static str {
     if text.is_empty() {
@@ -56,15 +62,15 @@ pub(crate) fn push_standing<M: TextMemory>(
         _ => ("ready", None),
     };
     let (form, last) = match why {
-        Why::HasEnded => (",\"result\":@}", Value::Signed(result_of(look.answer))),
-        _ => (",\"why\":\"@\"}", Value::Reason(why)),
+        Why::HasEnded => (ENDED, Value::Signed(result_of(look.answer))),
+        _ => (STANDS, Value::Reason(why)),
     };
     let values = [
         Value::Text(comma(text)),
         Value::Number(number),
         Value::Text(state),
         Value::Member(",\"of\":", other),
+        last,
     ];
-    push_form(memory, text, "@{\"request\":@,\"is\":\"@\"@", &values)?;
-    push_form(memory, text, form, &[last])
+    push_form(memory, text, form, &values)
 }

@@ -87,9 +87,15 @@ impl Changes {
                 issued: None,
                 ended: None,
             };
-            push_value(memory, &mut self.requests, request)?;
-            push_value(memory, &mut self.outstanding, number)?;
-            push_state(memory, &mut self.text, number, "accepted")?;
+            if let Err(refused) = push_value(memory, &mut self.requests, request) {
+                return Err(refused);
+            }
+            if let Err(refused) = push_value(memory, &mut self.outstanding, number) {
+                return Err(refused);
+            }
+            if let Err(refused) = push_state(memory, &mut self.text, number, "accepted") {
+                return Err(refused);
+            }
         }
         Ok(())
     }
@@ -113,12 +119,25 @@ impl Changes {
                 request.issued = request.issued.or(Some(look.line));
             }
         }
-        self.look_at_all(memory, machine, look)?;
-        if counts.posted > self.counts.posted {
-            self.post(memory, put, look.moved)?;
+        if let Err(refused) = self.look_at_all(memory, machine, look) {
+            return Err(refused);
         }
-        self.push_posted(memory, self.put, put, "ring")?;
-        self.push_posted(memory, self.counts.reaped, counts.reaped, "reaped")?;
+        if counts.posted > self.counts.posted {
+            if let Err(refused) = self.post(memory, put, look.moved) {
+                return Err(refused);
+            }
+        }
+        if let Err(refused) = self.push_posted(memory, self.put, put, "ring") {
+            return Err(refused);
+        }
+        if let Err(refused) = self.push_posted(
+            memory,
+            self.counts.reaped,
+            counts.reaped,
+            "reaped",
+        ) {
+            return Err(refused);
+        }
         self.put = put;
         self.counts = counts;
         self.note_safe(memory, look)

@@ -41,7 +41,9 @@ pub fn recorded_page_in<M: TextMemory, W: Write>(
 ) -> Result<(), TraceFault>
     ensures granted { ((n : ℕ) → M.grants memory.now n) → result ≢ Err TraceFault.Memory }
 {
-    let mut recorder = Recorder::new(memory, alloc, setup)?;
+    let Ok(mut recorder) = Recorder::new(memory, alloc, setup) else {
+        return Err(TraceFault::Memory);
+    };
     let recorded = record_lines(memory, alloc, setup, &mut recorder, trace, report);
     let written = match recorded {
         Ok(()) => write_form(memory, &mut recorder, writer, form),
@@ -62,7 +64,9 @@ fn record_lines<M: TextMemory>(
 ) -> Result<(), TraceFault>
     ensures { ((n : ℕ) → M.grants memory.now n) → result ≢ Err TraceFault.Memory }
 {
-    let mut explainer = Explainer::new_in(memory, alloc, setup)?;
+    let Ok(mut explainer) = Explainer::new_in(memory, alloc, setup) else {
+        return Err(TraceFault::Memory);
+    };
     let recorded = record_all(memory, alloc, &mut explainer, recorder, trace, report);
     drop(explainer);
     recorded
@@ -92,10 +96,15 @@ fn record_all<M: TextMemory>(
         }
         let (line, after) = split_at_mark(rest, b"\n");
         if number == last {
-            return Ok(recorder.push_wrong(memory, line, report)?);
+            return match recorder.push_wrong(memory, line, report) {
+                Ok(()) => Ok(()),
+                Err(_) => Err(TraceFault::Memory),
+            };
         }
-        if !record_line(memory, alloc, explainer, recorder, line)? {
-            break;
+        match record_line(memory, alloc, explainer, recorder, line) {
+            Ok(true) => {}
+            Ok(false) => break,
+            Err(fault) => return Err(fault),
         }
         number = number.saturating_add(1);
         rest = after;
@@ -121,12 +130,18 @@ fn record_line<M: TextMemory>(
             text: answer,
             note: b"",
         };
-        recorder.end_line(memory, explainer.machine(), told)?;
-        return Ok(is_again);
+        return match recorder.end_line(memory, explainer.machine(), told) {
+            Ok(()) => Ok(is_again),
+            Err(_) => Err(TraceFault::Memory),
+        };
     }
     let mut text = String::new(alloc);
     let mut notes = String::new(alloc);
-    watch_bytes(memory, explainer, recorder, step, &mut text, &mut notes)?;
-    watch_byte(memory, explainer, recorder, b'\n', &mut text, &mut notes)?;
-    Ok(true)
+    match watch_bytes(memory, explainer, recorder, step, &mut text, &mut notes) {
+        Ok(()) => match watch_byte(memory, explainer, recorder, b'\n', &mut text, &mut notes) {
+            Ok(()) => Ok(true),
+            Err(fault) => Err(fault),
+        },
+        Err(fault) => Err(fault),
+    }
 }

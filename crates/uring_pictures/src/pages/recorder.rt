@@ -21,6 +21,12 @@ pub(crate) const RESULT: &[u8] = b" = ";
 const HEAD: &str =
     "{\"form\":1,\"setup\":{\"sq\":@,\"cq\":@,\"files\":@,\"start\":@,\"stops\":@},\"lines\":[";
 
+/// The beginning of a line: its number, itself unless it has more than 300 bytes, and what is told of it.
+const LINE: &str = "@{\"line\":@,\"text\":\"@\"@@@";
+
+/// A line that isn't lawful, with its answer and what a check told of it.
+const WRONG: &str = "@{\"line\":@,\"text\":\"@\",\"answer\":\"@\",\"wrong\":\"@\"}";
+
 /// How many index words there are.
 const WORDS: u64 = 4_294_967_296;
 
@@ -79,20 +85,6 @@ impl Recorder {
         }
     }
 
-    /// Begins the object of the line, with its number and itself: nothing, if it has more than 300 bytes.
-    fn push_line<M: TextMemory>(&mut self, memory: &M) -> Result<(), AllocError>
-        ensures { ((n : ℕ) → M.grants memory.now n) → IsOk result }
-    {
-        let line = self.line.whole().unwrap_or_default();
-        let values = [
-            Value::Text(separator(self.number == 1)),
-            Value::Number(self.number),
-            Value::Seen(self.alloc, line),
-        ];
-        let form = "@{\"line\":@,\"text\":\"@\"";
-        push_form(memory, &mut self.text, form, &values)
-    }
-
     /// Appends the line of a recorded trace that isn't lawful, with what a check told of it after its first line.
     pub(crate) fn push_wrong<'a, M: TextMemory>(
         &mut self,
@@ -105,13 +97,14 @@ impl Recorder {
         let (step, answer) = split_at_mark(line, RESULT);
         let told = split_at_mark(report, b"\n").1;
         self.keep_all(step);
-        self.push_line(memory)?;
         let values = [
+            Value::Text(separator(self.number == 1)),
+            Value::Number(self.number),
+            Value::Seen(self.alloc, self.line.whole().unwrap_or_default()),
             Value::Seen(self.alloc, answer),
             Value::Quoted(told.strip_suffix(b"\n").unwrap_or(told)),
         ];
-        let form = ",\"answer\":\"@\",\"wrong\":\"@\"}";
-        push_form(memory, &mut self.text, form, &values)
+        push_form(memory, &mut self.text, WRONG, &values)
     }
 
     /// Appends what a step has changed.
@@ -124,12 +117,16 @@ impl Recorder {
     ) -> Result<(), AllocError>
         ensures { ((n : ℕ) → M.grants memory.now n) → IsOk result }
     {
-        self.submission.take_in(memory, step, answer)?;
+        if let Err(refused) = self.submission.take_in(memory, step, answer) {
+            return Err(refused);
+        }
         let put = self.changes.put;
         self.changes.text.clear();
         if matches!(step, Step::End) && answer.starts_with(b"taken ") {
             let call = self.submission.calls.saturating_sub(1);
-            self.changes.accept(memory, &self.submission.entries, call)?;
+            if let Err(refused) = self.changes.accept(memory, &self.submission.entries, call) {
+                return Err(refused);
+            }
         }
         let look = Look {
             line: self.number,
@@ -141,8 +138,12 @@ impl Recorder {
             found: self.found,
             answer,
         };
-        self.changes.look(memory, machine, &look)?;
-        self.push_effects(memory, step, answer, put)?;
+        if let Err(refused) = self.changes.look(memory, machine, &look) {
+            return Err(refused);
+        }
+        if let Err(refused) = self.push_effects(memory, step, answer, put) {
+            return Err(refused);
+        }
         self.push_file(memory, machine, step, answer)
     }
 
@@ -246,17 +247,25 @@ impl Watcher for Recorder {
         told: Told<'_>,
     ) -> Result<(), AllocError> {
         let (answer, reason) = split_at_mark(told.text, b"  # ");
-        self.push_line(memory)?;
         let values = [
+            Value::Text(separator(self.number == 1)),
+            Value::Number(self.number),
+            Value::Seen(self.alloc, self.line.whole().unwrap_or_default()),
             Value::Told(",\"answer\":\"", answer),
             Value::Told(",\"reason\":\"", reason),
             Value::Told(",\"bad\":\"", told.note),
         ];
-        push_form(memory, &mut self.text, "@@@", &values)?;
-        if let Some(step) = self.step {
-            self.push_step(memory, machine, &step, answer)?;
+        if let Err(refused) = push_form(memory, &mut self.text, LINE, &values) {
+            return Err(refused);
         }
-        push_text(memory, &mut self.text, "}")?;
+        if let Some(step) = self.step {
+            if let Err(refused) = self.push_step(memory, machine, &step, answer) {
+                return Err(refused);
+            }
+        }
+        if let Err(refused) = push_text(memory, &mut self.text, "}") {
+            return Err(refused);
+        }
         self.step = None;
         self.found = None;
         self.line.clear();

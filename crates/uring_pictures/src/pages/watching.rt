@@ -57,7 +57,9 @@ pub fn page_in<M: TextMemory, R: Read, W: Write, E: Write>(
         (λ bad. Reads setup.now bad (R.remaining reader.old) (R.remaining reader.new) (E.contents errors.old) (E.contents errors.new)) }
     ensures granted { ((n : ℕ) → M.grants memory.now n) → result ≢ Err TraceFault.Memory }
 {
-    let mut recorder = Recorder::new(memory, alloc, setup)?;
+    let Ok(mut recorder) = Recorder::new(memory, alloc, setup) else {
+        return Err(TraceFault::Memory);
+    };
     let drawn = draw_all(
         memory,
         alloc,
@@ -88,8 +90,10 @@ fn draw_all<M: TextMemory, R: Read, W: Write, E: Write>(
     ensures granted { ((n : ℕ) → M.grants memory.now n) → result ≢ Err TraceFault.Memory }
 {
     let bad = watch_trace(memory, alloc, setup, recorder, reader, errors)?;
-    write_form(memory, recorder, writer, form)?;
-    Ok(bad)
+    match write_form(memory, recorder, writer, form) {
+        Ok(()) => Ok(bad),
+        Err(fault) => Err(fault),
+    }
 }
 
 /// Writes what was recorded.
@@ -101,7 +105,9 @@ pub(crate) fn write_form<M: TextMemory, W: Write>(
 ) -> Result<(), TraceFault>
     ensures { ((n : ℕ) → M.grants memory.now n) → result ≢ Err TraceFault.Memory }
 {
-    push_requests(memory, &mut recorder.text, &recorder.changes.requests)?;
+    if let Err(_) = push_requests(memory, &mut recorder.text, &recorder.changes.requests) {
+        return Err(TraceFault::Memory);
+    }
     let text = recorder.text.as_str();
     let mut writes = Calls::new();
     match form {
