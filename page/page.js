@@ -310,8 +310,7 @@ addEventListener("beforeprint", () => { for (const pane of panes) pane.isPrinted
 addEventListener("afterprint", () => { for (const pane of panes) pane.isPrinted = false; draw(); });
 
 function legend() {
-  const areRings = panes.every(pane => hasRings(pane.run));
-  const isSeen = name => (areRings && name !== "hidden") || panes.some(pane => pane.run.requests.some(request => request.spans.some(span => span.is === name)));
+  const isSeen = name => panes.some(pane => pane.run.requests.some(request => request.spans.some(span => span.is === name)));
   const items = STATES.filter(([name]) => isSeen(name)).map(([name, words]) => {
     const item = node("li"), picture = make("svg", { width: 26, height: 12, "aria-hidden": "true" });
     put(picture, "rect", { class: name, width: 26, height: 12 });
@@ -319,9 +318,14 @@ function legend() {
     item.append(picture, words);
     return item;
   });
-  const others = ["end, with its result", "\u2713 what was written is safe"];
-  if (areRings) others.push("\u25cb reaped", "arrows: solid orange a member of its group, long dashes a drain, short dashes a cancel, solid red what dooms, grey a link");
-  if (panes.some(pane => pane.run.requests.some(request => request.marks.some(mark => mark.is in LEFT)))) others.push("\u2715 lost, \u2571 torn, \u2014 left, though it needn't be");
+  const isMarked = names => panes.some(pane => pane.run.requests.some(request => request.marks.some(mark => names.includes(mark.is))));
+  const others = ["| end, with its result"];
+  if (isMarked(["safe"])) others.push("\u2713 what was written is safe");
+  if (isMarked(["reaped"])) others.push("\u25cf reaped");
+  const kinds = new Set(panes.flatMap(pane => pane.run.arrows.map(arrow => arrow.kind)));
+  const arrows = ARROWS.filter(([kind]) => kinds.has(kind)).map(([, words]) => words);
+  if (arrows.length) others.push(`arrows: ${arrows.join(", ")}`);
+  if (isMarked(["lost", "torn", "left"])) others.push("\u2715 lost, \u2571 torn, \u2014 left, though it needn't be");
   if (panes.some(pane => pane.run.choices.length)) others.push("\u25bc a choice: pale where it is the one in order");
   if (panes.some(pane => pane.run.parts >= 0)) others.push("a dashed line from top to bottom: where the runs part");
   clean(get("legend"), ...items, ...others.map(words => node("li", words)));
@@ -334,8 +338,8 @@ function told(run) {
   return { counts: `${run.size} lines, ${run.requests.length} requests`, rings: `submission ring ${run.setup.sq}, completion ring ${run.setup.cq}${files}${verdict}`, verdict };
 }
 
-// What a crash makes of what isn't safe.
-const LEFT = { lost: 1, torn: 1, left: 1 };
+// The kinds of arrows, and how each is drawn.
+const ARROWS = [["group", "solid orange a member of its group"], ["drain", "long dashes a drain"], ["cancel", "short dashes a cancel"], ["doom", "solid red what dooms"], ["link", "grey a link"]];
 
 // What keys do in every page.
 const KEYS_TOLD = get("keys").textContent;
@@ -356,18 +360,27 @@ function openGroup(group) {
   get("rings").style.display = hasRings(runs[0]) ? "" : "none";
   get("counted").textContent = hasRings(runs[0]) ? "Rings" : "Operations";
   get("summary").textContent = data.told || `${counts}; ${rings}`;
-  get("title").textContent = data.title || "A run";
+  get("title").textContent = data.title || `A run of ${runs[0].requests.length} requests, line by line`;
   document.title = `uring: ${data.title || `${counts}${verdict}`}`;
   legend();
   panes.forEach(arrange);
-  for (const pane of panes) {
-    const wide = pane.chart.clientWidth - LABEL, longest = Math.max(...runs.map(run => run.size));
-    if (longest && longest * pane.step < wide) pane.step = Math.min(48, (wide - 24) / longest);
-  }
+  const first = fit(runs);
   view = undefined;
   turn(panes[0]);
-  const { run } = view;
-  choose(run.wrong >= 0 ? run.wrong : run.parts >= 0 ? run.parts : Math.max(0, run.size - 1));
+  for (const pane of panes) pane.chart.scrollLeft = first * pane.step;
+  const { run } = view, bad = run.lines.findIndex(line => line.bad !== undefined);
+  choose([run.wrong, bad, run.parts].find(place => place >= 0) ?? Math.max(0, run.size - 1));
+}
+
+// Has the lines from the first on that changes something fill the width, if there is room, and returns it.
+function fit(runs) {
+  const first = Math.max(0, Math.min(...runs.map(run => run.changed[0] ?? 0)) - 1);
+  const shown = Math.max(...runs.map(run => run.size)) - first;
+  for (const pane of panes) {
+    const wide = pane.chart.clientWidth - LABEL - 24;
+    if (shown > 0 && shown * pane.step < wide) pane.step = Math.min(160, wide / shown);
+  }
+  return first;
 }
 
 function start() {

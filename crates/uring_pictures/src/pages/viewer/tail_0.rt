@@ -174,7 +174,7 @@ function stateAt(request, here) {
   if (request.done <= here) return { is: request.marks.some(mark => mark.is === "reaped" && mark.place <= here) ? "reaped" : "ended", why: "" };
   return { is: here >= request.until ? "ended" : "accepted", why: "" };
 }
-const ROW = 24, LABEL = 232, SVG = "http://www.w3.org/2000/svg";
+const ROW = 24, LABEL = innerWidth < 560 ? 150 : 232, SVG = "http://www.w3.org/2000/svg";
 const STATES = [["waits", "waits"], ["ready", "may start"], ["doomed", "doomed"], ["runs", "runs"], ["ring", "completion in the ring"], ["overflow", "completion in the overflow list"], ["hidden", "on its way, unseen"]];
 const MARKS = { safe: "m-4 4l3 4l6 -9", lost: "m-5 -5l10 10m0 -10l-10 10", torn: "m-5 5l10 -10", left: "m-5 0h10" };
 const LETTERS = { waits: "W", ready: "M", doomed: "X", runs: "R", ring: "C", overflow: "O", hidden: "?" };
@@ -275,6 +275,12 @@ function short(text, room) {
   return text.length <= most ? text : `${text.slice(0, Math.max(0, most - 1))}\u2026`;
 }
 
+function shortened(text, room) {
+  const most = Math.floor(room / 6.4), end = text.lastIndexOf(" at ");
+  if (text.length <= most || end < 0 || text.length - end > most - 4) return short(text, room);
+  return `${text.slice(0, most - (text.length - end) - 1)}\u2026${text.slice(end)}`;
+}
+
 function drawEnd(view, lane, request, y, x) {
   const { run, step } = view;
   const at = x(request.until) + Math.min(step, 6) / 2;
@@ -307,7 +313,7 @@ function drawLabel(view, lanes, row, y) {
   const isHead = request.chain === request.request, goesOn = next && next.chain === request.chain;
   if (!isHead || goesOn) put(lanes, "path", { class: "chain", "data-chain": request.chain, d: `M14 ${isHead ? y + 12 : y}H10V${goesOn ? y + ROW : y + 12}H14` });
   const name = `${request.request}: ${short(request.user_data, 110)}`;
-  const words = short(wordsOf(request), LABEL - 38 - name.length * 6.4 - request.flags.length * 8);
+  const words = shortened(wordsOf(request), LABEL - 38 - name.length * 6.4 - request.flags.length * 8);
   const label = put(lanes, "text", { class: "label", x: 20, y: y + 16, "data-request": request.request }, `${name} ${words} ${request.flags}`);
   put(label, "title", {}, `request ${request.request} of call ${request.call}, chain of ${request.chain}: user data ${request.user_data}, ${wordsOf(request)}, flags ${request.flags || "none"}`);
   return label;
@@ -317,12 +323,6 @@ function drawArrow(view, lanes, arrow, x, y, first, last) {
   if (arrow.place < first || arrow.place >= last) return;
   const from = view.rowOf.get(arrow.from), to = view.rowOf.get(arrow.to);
   if (from === undefined || to === undefined) return;
-  const at = x(arrow.place) + Math.min(view.step / 2, 8), y1 = y(from) + 12, y2 = y(to) + (to > from ? 3 : 19);
-  const bend = arrow.kind === "link" ? 0 : 10;
-  const path = put(lanes, "path", { class: `arrow arrow-${arrow.kind}`, d: `M${at} ${y1}C${at + bend} ${y1} ${at + bend} ${y2} ${at} ${y2}`, "marker-end": `url(#head-${arrow.kind}${view.end})`, "data-kind": arrow.kind, "data-from": arrow.from, "data-to": arrow.to });
-  put(path, "title", {}, `${arrow.kind}: from request ${arrow.from} to request ${arrow.to}\n${tellLine(view.run.lines[arrow.place])}`);
-}
-
-function arrowHeads(view) {
-  return ["group", "drain", "cancel", "doom", "link"].map(kind => {
+  const at = x(arrow.place) + Math.min(view.step / 2, 8), isDown = to > from;
+  const y1 = y(from) + (isDown ? 22 : 2), y2 = y(to) + (isDown ? 2 : 22), bend = arrow.kind === "link" ? 0 : 10;
 "###;

@@ -2,7 +2,13 @@
 
 /// The piece.
 pub(crate) const PIECE: &[u8] =
-    br###"    const marker = make("marker", { id: `head-${kind}${view.end}`, viewBox: "0 0 8 8", refX: 7, refY: 4, markerWidth: 6, markerHeight: 6, orient: "auto" });
+    br###"  const path = put(lanes, "path", { class: `arrow arrow-${arrow.kind}`, d: `M${at} ${y1}C${at + bend} ${y1} ${at} ${y2 + (isDown ? -12 : 12)} ${at} ${y2}`, "marker-end": `url(#head-${arrow.kind}${view.end})`, "data-kind": arrow.kind, "data-from": arrow.from, "data-to": arrow.to });
+  put(path, "title", {}, `${arrow.kind}: from request ${arrow.from} to request ${arrow.to}\n${tellLine(view.run.lines[arrow.place])}`);
+}
+
+function arrowHeads(view) {
+  return ["group", "drain", "cancel", "doom", "link"].map(kind => {
+    const marker = make("marker", { id: `head-${kind}${view.end}`, viewBox: "0 0 8 8", refX: 7, refY: 4, markerWidth: 6, markerHeight: 6, orient: "auto" });
     put(marker, "path", { class: `arrow arrow-${kind}`, style: "stroke-dasharray: none", d: "M0 0L8 4L0 8" });
     return marker;
   });
@@ -331,8 +337,7 @@ addEventListener("beforeprint", () => { for (const pane of panes) pane.isPrinted
 addEventListener("afterprint", () => { for (const pane of panes) pane.isPrinted = false; draw(); });
 
 function legend() {
-  const areRings = panes.every(pane => hasRings(pane.run));
-  const isSeen = name => (areRings && name !== "hidden") || panes.some(pane => pane.run.requests.some(request => request.spans.some(span => span.is === name)));
+  const isSeen = name => panes.some(pane => pane.run.requests.some(request => request.spans.some(span => span.is === name)));
   const items = STATES.filter(([name]) => isSeen(name)).map(([name, words]) => {
     const item = node("li"), picture = make("svg", { width: 26, height: 12, "aria-hidden": "true" });
     put(picture, "rect", { class: name, width: 26, height: 12 });
@@ -340,20 +345,12 @@ function legend() {
     item.append(picture, words);
     return item;
   });
-  const others = ["end, with its result", "\u2713 what was written is safe"];
-  if (areRings) others.push("\u25cb reaped", "arrows: solid orange a member of its group, long dashes a drain, short dashes a cancel, solid red what dooms, grey a link");
-  if (panes.some(pane => pane.run.requests.some(request => request.marks.some(mark => mark.is in LEFT)))) others.push("\u2715 lost, \u2571 torn, \u2014 left, though it needn't be");
-  if (panes.some(pane => pane.run.choices.length)) others.push("\u25bc a choice: pale where it is the one in order");
-  if (panes.some(pane => pane.run.parts >= 0)) others.push("a dashed line from top to bottom: where the runs part");
-  clean(get("legend"), ...items, ...others.map(words => node("li", words)));
-}
-
-function told(run) {
-  const verdict = run.wrong >= 0 ? `, line ${run.lines[run.wrong].line} is wrong` : "";
-  const files = run.setup.files === undefined ? "" : `, ${run.setup.files} files`;
-  return { counts: `${run.size} lines, ${run.requests.length} requests`, rings: `submission ring ${run.setup.sq}, completion ring ${run.setup.cq}${files}${verdict}`, verdict };
-}
-
-const LEFT = { lost: 1, torn: 1, left: 1 };
-
+  const isMarked = names => panes.some(pane => pane.run.requests.some(request => request.marks.some(mark => names.includes(mark.is))));
+  const others = ["| end, with its result"];
+  if (isMarked(["safe"])) others.push("\u2713 what was written is safe");
+  if (isMarked(["reaped"])) others.push("\u25cf reaped");
+  const kinds = new Set(panes.flatMap(pane => pane.run.arrows.map(arrow => arrow.kind)));
+  const arrows = ARROWS.filter(([kind]) => kinds.has(kind)).map(([, words]) => words);
+  if (arrows.length) others.push(`arrows: ${arrows.join(", ")}`);
+  if (isMarked(["lost", "torn", "left"])) others.push("\u2715 lost, \u2571 torn, \u2014 left, though it needn't be");
 "###;
