@@ -20,7 +20,6 @@ REASONS = {
     "cancel": "the first cancel notes the user data of all that were accepted since the last one",
     "plays": "a play keeps its whole trace, since its report promises that: an event takes 40 bytes, and an entry 128 more",
     "rates": "two threads at least hand each request over twice, each turn of the dispatcher is written into the trace, and threads that wait spin",
-    "words": "each store of a tail or head is sequentially consistent, since `atomic_table` has no other: an exchange on x86-64. A call takes two of them, and so does each completion",
 }
 
 

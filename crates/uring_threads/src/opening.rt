@@ -2,8 +2,8 @@
 ghost use Rattle.std.specs.Prelude.{◌≡◌, ℕ, List, ◌↔◌, ◌<◌, ◌≤◌, [], length, true, false, Some, None, IsOk, IfOk, IsErrOf, OnOk, vec_capacity};
 ghost use Rattle.uring_ports.specs.Ports.{nothing_put, sizes_of};
 ghost use Rattle.uring_threads.specs.Opening.{AreBadWorkers, AreEnds};
-ghost use Rattle.uring_words.specs.Completion.Layout.{element_count as cq_element_count};
-ghost use Rattle.uring_words.specs.Submission.Layout.{element_count};
+ghost use Rattle.uring_words.specs.Completion.Layout.{word_count as cq_word_count};
+ghost use Rattle.uring_words.specs.Submission.Layout.{word_count};
 ghost use Rattle.uring_workers.specs.Opened.{AreOpened};
 
 use crate::intake::Intake;
@@ -169,7 +169,7 @@ pub fn words<G: Gate>(
     words_in(&alloc, alloc, setup, gates)
 }
 
-/// As `words`, by this memory. If it grants 64 elements, and as many as each table has words and slots and as there are files, `NoMemory` doesn't come.
+/// As `words`, by this memory. If it grants 64 elements, and as many as each table has words and as there are files, `NoMemory` doesn't come.
 pub fn words_in<M: TableMemory, G: Gate>(
     memory: &M,
     alloc: Global,
@@ -185,7 +185,7 @@ pub fn words_in<M: TableMemory, G: Gate>(
     ensures bad_workers { IsErrOf result LanesFault.BadWorkers
         ↔ ((setup.now.stops ≡ false) × AreBadWorkers (length gates.items)) }
     ensures granted { (n : ℕ) → M.grants memory.now n → 64 ≤ n → setup.now.files ≤ n
-        → element_count setup.now.sq ≤ n → cq_element_count setup.now.cq ≤ n
+        → word_count setup.now.sq ≤ n → cq_word_count setup.now.cq ≤ n
         → IsErrOf result LanesFault.NoMemory → ⊥ }
 {
     check_ends(setup, gates.len())?;

@@ -1,120 +1,126 @@
--- What each step of a seat of the completion ring's table asks. v is what the seat knows, and held what it holds.
-use Rattle.uring_words.proofs.Common.{Agree, Allows, BothAgree, IsPowerOfTwo, View, app_has, at_first, gives, held_from, keeps, last_of, opening, place_of, replicate, set-get_or, step, word_of}
-use Rattle.std.proofs.Common.{◌≡◌, ℕ, ◌+◌, ◌^◌, ◌<◌, ◌≤◌, true, List, [], ◌∷◌, ◌++◌, length, get_or, refl, sym, ◌∙◌, ap, ap₂, arith, length-append, get_or-set_other, get_or-set_same}
-use mathlib.Core.Option.{Option, none}
-use Rattle.uring_entry.specs.Layout.{Cqe}
-use Rattle.uring_words.specs.Completion.Layout.{tail_index, head_index, dropped_index}
-use Rattle.uring_words.specs.Completion.Steps.{put_first, dropped_stored, head_loaded, all_given, tail_loaded, got_first, dropped_loaded, StoresTail, StoresDropped, LoadsHead, GivesAll, LoadsTail, StoresHead, LoadsDropped}
+-- What each step of a seat of the completion ring's table asks.
+use Rattle.std.specs.Prelude.{◌==◌, if◌then◌else◌}
+use Rattle.std.proofs.Common.{◌≡◌, ℕ, ◌+◌, ◌^◌, ◌<◌, true, List, ◌∷◌, ◌++◌, length, get_or, set, refl, sym, ◌∙◌, ap, subst, arith, length-append}
+use Rattle.std.proofs.lemmas.List.{set-get_or}
+use Rattle.atomic_table.specs.Table.{step, Allows}
+use mathlib.Core.Option.{none}
+use Rattle.uring_entry.specs.IndexWords.{word_of}
+use Rattle.uring_ports.specs.Dropped.{WereHad}
+use Rattle.uring_words.specs.Completion.Layout.{cell_index, tail_index, head_index, dropped_index, IsCell}
+use Rattle.uring_words.specs.Completion.Rule.{last_of, tail_seen, Agree, BothAgree}
+use Rattle.uring_words.specs.Completion.Steps.{Holder, word_stored, tail_stored, dropped_stored, head_loaded, tail_loaded, word_loaded, got_of, head_stored, dropped_loaded, StoresWord, StoresTail, StoresDropped, LoadsHead, LoadsTail, LoadsWord, StoresHead, LoadsDropped}
+use Rattle.uring_words.specs.Places.{place_of}
 use Rattle.uring_words.specs.declared.completion.view.AppSide.{AppSide}
 use Rattle.uring_words.specs.declared.completion.view.KernelSide.{KernelSide}
-use Rattle.uring_words.specs.declared.sides.Shape.{Shape}
-use Rattle.uring_words.proofs.DroppedWords.{last_after, had_more, had_last}
-use Rattle.uring_words.proofs.FirstTable.{first_lists}
-use Rattle.uring_words.proofs.RingLists.{ListsAgree, put_many, keeps_stored, stores_first, stores_known, loads_free, gives_blank, loads_rest}
-use Rattle.uring_words.proofs.SlotSeats.{app_hands, app_step, kernel_hands, kernel_step, opens_with}
+use Rattle.uring_words.proofs.CompletionSteps.{keeps_word_stored, keeps_tail_stored, keeps_dropped_stored, keeps_head_loaded, keeps_tail_loaded, keeps_word_loaded, keeps_dropped_loaded, known_stands, keeps_head_stored}
+use Rattle.uring_words.proofs.Seats.{app_step, kernel_step}
 
--- The sides agree by their lists, and on the dropped words.
-module _ {words : List ℕ} {homes : List (Option Cqe)} {a : AppSide} {d : KernelSide} where
-  lists : (h : Agree words homes a d)
-      → ListsAgree 3 words homes d.start d.size d.end a.got a.known d.put h.rest h.free
-  lists h = grind arith
+-- a word of the next cell is stored
+pub stores_word : (slots id i : ℕ) (me : Holder) (word : ℕ) → me.0.is_kernel ≡ true
+    → length me.0.kernel.put < me.0.kernel.head_seen + me.0.kernel.size
+    → length me.0.kernel.cell < 10
+    → i
+    ≡ cell_index (place_of me.0.kernel.start me.0.kernel.size (length me.0.kernel.put)) (length me.0.kernel.cell)
+    → Allows BothAgree slots id me i (λ _. word) (λ _. StoresWord (step slots i word 0 none) me word)
+stores_word slots id i me word is_kernel room few is =
+    kernel_step slots id i (λ _. word) me (λ _. StoresWord (step slots i word 0 none) me word) is_kernel
+    (λ words a h both. (word_stored me.0.kernel word, rw is (keeps_word_stored words a me.0.kernel word h room few), refl))
 
--- a new table keeps the rule
-pub opens : (key : Shape) (blank : Cqe) → IsPowerOfTwo key.size → key.size ≤ 8192 → key.start < 2 ^ 32
-    → BothAgree (opening (key.start ∷ key.start ∷ 0 ∷ []) (replicate key.size blank) (at_first key))
-opens key blank power limit small =
-    opens_with (key.start ∷ key.start ∷ 0 ∷ []) (replicate key.size blank) (at_first key).app (at_first key).kernel
-    (grind (arith, first_lists key.start key.size blank (0 ∷ []) power (omega arith) small))
+-- the tail is stored
+pub stores_tail : (slots id i : ℕ) (me : Holder) (word : ℕ) → me.0.is_kernel ≡ true
+    → length me.0.kernel.put < me.0.kernel.head_seen + me.0.kernel.size
+    → IsCell me.0.kernel.cell
+    → word ≡ word_of me.0.kernel.start (length me.0.kernel.put + 1)
+    → i ≡ tail_index me.0.kernel.size
+    → Allows BothAgree slots id me i (λ _. word) (λ _. StoresTail (step slots i word 0 none) me word)
+stores_tail slots id i me word is_kernel room cell is_word is =
+    kernel_step slots id i (λ _. word) me (λ _. StoresTail (step slots i word 0 none) me word) is_kernel
+    (λ words a h both. (tail_stored me.0.kernel, rw is (keeps_tail_stored words a me.0.kernel word h room cell is_word), refl))
 
-module _ (slots id : ℕ) (v : View AppSide KernelSide) (held : List (ℕ × Cqe)) where
-  -- the tail is stored
-  pub stores_tail : (word : ℕ) (c : Cqe) (others : List (ℕ × Cqe)) → v.is_kernel ≡ true
-      → held ≡ (place_of v.kernel.start v.kernel.size (length v.kernel.put), c) ∷ others
-      → length v.kernel.put < v.kernel.end
-      → word ≡ word_of v.kernel.start (length v.kernel.put + 1)
-      → Allows BothAgree slots id (v, held) tail_index (λ _. word) (λ _. StoresTail (step slots tail_index word 0 none) (v, held) word)
-  stores_tail word c others is_kernel holds room is_word =
-      kernel_step slots id tail_index (λ _. word) v held (λ _. StoresTail (step slots tail_index word 0 none) (v, held) word) is_kernel (λ words homes a h both.
-      let stored = stores_first (lists h) word c room is_word in
-      (put_first v.kernel held, gives, tt, rw holds (grind (arith, get_or-set_other)), refl))
+-- the dropped word is stored
+pub stores_dropped : (slots id i : ℕ) (me : Holder) (word : ℕ) → me.0.is_kernel ≡ true
+    → word < 2 ^ 32 → i ≡ dropped_index me.0.kernel.size
+    → Allows BothAgree slots id me i (λ _. word) (λ _. StoresDropped (step slots i word 0 none) me word)
+stores_dropped slots id i me word is_kernel small is =
+    kernel_step slots id i (λ _. word) me (λ _. StoresDropped (step slots i word 0 none) me word) is_kernel
+    (λ words a h both. (dropped_stored me.0.kernel word, rw is (keeps_dropped_stored words a me.0.kernel word h small), refl))
 
-  -- the dropped word is stored
-  pub stores_dropped : (word : ℕ) → v.is_kernel ≡ true → word < 2 ^ 32
-      → Allows BothAgree slots id (v, held) dropped_index (λ _. word) (λ _. StoresDropped (step slots dropped_index word 0 none) (v, held) word)
-  stores_dropped word is_kernel small =
-      kernel_step slots id dropped_index (λ _. word) v held (λ _. StoresDropped (step slots dropped_index word 0 none) (v, held) word) is_kernel (λ words homes a h both.
-      (dropped_stored v.kernel word, keeps, tt, grind (arith, keeps_stored (lists h) dropped_index word, last_after 0 v.kernel.dropped word [], get_or-set_same, had_more (0 ∷ v.kernel.dropped) (word ∷ []) a.dropped), refl))
+-- how many were got is at most how many were put
+got_few : (words : List ℕ) (a : AppSide) (d : KernelSide) → (h : Agree words a d)
+    → length d.put ≡ tail_seen a + length h.rest
+got_few words a d h = omega (arith, ap length h.begins, length-append (a.got ++ a.known) h.rest, length-append a.got a.known)
 
-  -- the head is loaded
-  pub loads_head : (blank : List Cqe) → v.is_kernel ≡ true
-      → held ≡ held_from v.kernel.start v.kernel.size (length v.kernel.put) blank
-      → length v.kernel.put + length blank ≡ v.kernel.end
-      → Allows BothAgree slots id (v, held) head_index (λ n. n) (LoadsHead (step slots head_index 0 0 none) (v, held))
-  loads_head blank is_kernel holds ends =
-      kernel_hands slots id head_index (λ n. n) v held (LoadsHead (step slots head_index 0 0 none) (v, held)) is_kernel (λ words homes a h both.
-      let d : KernelSide = v.kernel in
-      let r = loads_free (lists h) blank ends in (
-        held_from d.start d.size (length d.put) blank,
-        held_from d.start d.size (length d.put) (blank ++ h.free),
-        head_loaded d (length a.got + d.size),
-        holds,
-        r.0,
-        grind (arith, set-get_or),
-        (length a.got, blank ++ h.free, refl, grind (arith, put_many (lists h), (lists h).all, length-append), refl),
-      ))
+-- the head is loaded
+pub loads_head : (slots id i : ℕ) (me : Holder) → me.0.is_kernel ≡ true
+    → i ≡ head_index me.0.kernel.size
+    → Allows BothAgree slots id me i (λ n. n) (LoadsHead (step slots i 0 0 none) me)
+loads_head slots id i me is_kernel is =
+    kernel_step slots id i (λ n. n) me (LoadsHead (step slots i 0 0 none) me) is_kernel (λ words a h both. (
+      head_loaded me.0.kernel (length a.got),
+      rw set-get_or (keeps_head_loaded words a me.0.kernel h),
+      (length a.got, refl, ap (λ j. get_or words j 0) is ∙ h.head, h.head_seen, omega (arith, got_few words a me.0.kernel h), is),
+    ))
 
-  -- the dispatcher gives back its cells
-  pub gives_back : (blank : List Cqe) → v.is_kernel ≡ true
-      → held ≡ held_from v.kernel.start v.kernel.size (length v.kernel.put) blank
-      → length v.kernel.put + length blank ≡ v.kernel.end
-      → Allows BothAgree slots id (v, held) head_index (λ n. n) (GivesAll (step slots head_index 0 0 none) (v, held))
-  gives_back blank is_kernel holds ends =
-      kernel_hands slots id head_index (λ n. n) v held (GivesAll (step slots head_index 0 0 none) (v, held)) is_kernel (λ words homes a h both.
-      let r = gives_blank (lists h) blank ends in
-      (held_from v.kernel.start v.kernel.size (length v.kernel.put) blank, [], all_given v.kernel, holds, r.0, grind (arith, set-get_or), refl))
+-- the tail is loaded
+pub loads_tail : (slots id i : ℕ) (me : Holder) → me.0.is_app ≡ true → i ≡ tail_index me.0.app.size
+    → Allows BothAgree slots id me i (λ n. n) (LoadsTail (step slots i 0 0 none) me)
+loads_tail slots id i me is_app is =
+    app_step slots id i (λ n. n) me (LoadsTail (step slots i 0 0 none) me) is_app (λ words d h both.
+    let a : AppSide = me.0.app in
+    let many = got_few words a d h in (
+      tail_loaded a h.rest,
+      rw set-get_or (keeps_tail_loaded words a d h),
+      (
+        h.rest,
+        refl,
+        record {
+          tail = ap (λ j. get_or words j 0) (is ∙ ap tail_index h.sized.size) ∙ h.tail ∙ ap (λ s. word_of s (length d.put)) (sym h.sized.start) ∙ ap (word_of a.start) many;
+          few = omega (arith, h.room, h.head_seen, many, h.sized.size);
+          all = λ is_kernel. ap (λ (e : KernelSide). e.put) (both is_kernel) ∙ h.begins;
+          dropped = λ is_kernel. let Q : KernelSide → Type 0 = λ e. WereHad (0 ∷ e.dropped) a.dropped in subst Q (sym (both is_kernel)) h.loaded;
+        },
+        is,
+      ),
+    ))
 
-  -- the tail is loaded
-  pub loads_tail : v.is_app ≡ true
-      → held ≡ held_from v.app.start v.app.size (length v.app.got) v.app.known
-      → Allows BothAgree slots id (v, held) tail_index (λ n. n) (LoadsTail (step slots tail_index 0 0 none) (v, held))
-  loads_tail is_app holds =
-      app_hands slots id tail_index (λ n. n) v held (LoadsTail (step slots tail_index 0 0 none) (v, held)) is_app (λ words homes d h both.
-      let a : AppSide = v.app in
-      let n : ℕ = length a.got in
-      let s = h.sized in
-      let r = loads_rest (lists h) in (
-        held_from d.start d.size n a.known,
-        held_from d.start d.size n (a.known ++ h.rest),
-        tail_loaded a h.rest,
-        holds ∙ (λ j. held_from (s.start j) (s.size j) n a.known),
-        r.0,
-        grind (arith, set-get_or),
-        (h.rest, (λ j. app_has (v, held) (tail_loaded a h.rest) (held_from (sym s.start j) (sym s.size j) n (a.known ++ h.rest))), grind (arith, put_many (lists h), (lists h).all), refl),
-      ))
+-- a word of the first of the known completions is loaded
+pub loads_word : (slots id i : ℕ) (me : Holder) → me.0.is_app ≡ true
+    → Allows BothAgree slots id me i (λ n. n) (LoadsWord (step slots i 0 0 none) me)
+loads_word slots id i me is_app =
+    app_step slots id i (λ n. n) me (LoadsWord (step slots i 0 0 none) me) is_app (λ words d h both. (
+      word_loaded me.0.app i,
+      rw set-get_or (keeps_word_loaded words me.0.app d i h),
+      (
+        refl,
+        λ c cs k known within is.
+            let there = known_stands words me.0.app d c cs h known in
+            (ap (λ n. get_or words n 0) is ∙ there.0 k within, there.1),
+      ),
+    ))
 
-  -- the head is stored
-  pub stores_head : (word : ℕ) (c : Cqe) (cs : List Cqe) → v.is_app ≡ true → v.app.known ≡ c ∷ cs
-      → held ≡ held_from v.app.start v.app.size (length v.app.got) v.app.known
-      → word ≡ word_of v.app.start (length v.app.got + 1)
-      → Allows BothAgree slots id (v, held) head_index (λ _. word) (λ _. StoresHead (step slots head_index word 0 none) (v, held) word)
-  stores_head word c cs is_app known holds is_word =
-      app_step slots id head_index (λ _. word) v held (λ _. StoresHead (step slots head_index word 0 none) (v, held) word) is_app (λ words homes d h both.
-      let a : AppSide = v.app in
-      let n : ℕ = length a.got in
-      let s = h.sized in
-      let holds' : held ≡ held_from d.start d.size n (c ∷ cs) = holds ∙ ap₂ (λ start size. held_from start size n a.known) s.start s.size ∙ ap (held_from d.start d.size n) known in
-      let stored = stores_known (lists h) word c cs known (is_word ∙ ap (λ start. word_of start (n + 1)) s.start) in
-      (got_first a a.known, gives, tt, rw (holds', known) (grind (arith, get_or-set_other)), refl))
+-- the head is stored
+pub stores_head : (slots id i : ℕ) (me : Holder) (word : ℕ) (c : List ℕ) (cs : List (List ℕ))
+    → me.0.is_app ≡ true → me.0.app.loaded ≡ 10 → me.0.app.known ≡ c ∷ cs
+    → word ≡ word_of me.0.app.start (length me.0.app.got + 1)
+    → i ≡ head_index me.0.app.size
+    → Allows BothAgree slots id me i (λ _. word) (λ _. StoresHead (step slots i word 0 none) me word)
+stores_head slots id i me word c cs is_app ten known is_word is =
+    app_step slots id i (λ _. word) me (λ _. StoresHead (step slots i word 0 none) me word) is_app (λ words d h both.
+    let P : List (List ℕ) → Type 0 = λ ks. Agree (set words i word) (got_of me.0.app ks) d in
+    let Q : AppSide → Type 0 = λ e. Agree (set words i word) e d in
+    let all : head_stored me.0.app ≡ got_of me.0.app me.0.app.known = ap (λ n. if n == 10 then got_of me.0.app me.0.app.known else me.0.app) ten in
+    (head_stored me.0.app, subst Q (sym all) (subst P (sym known) (rw is (keeps_head_stored words me.0.app d word c cs h known is_word))), refl))
 
-  -- the dropped word is loaded
-  pub loads_dropped : v.is_app ≡ true
-      → Allows BothAgree slots id (v, held) dropped_index (λ n. n) (LoadsDropped (step slots dropped_index 0 0 none) (v, held))
-  loads_dropped is_app =
-      app_step slots id dropped_index (λ n. n) v held (LoadsDropped (step slots dropped_index 0 0 none) (v, held)) is_app (λ words homes d h both.
-      let kept : Agree words homes (dropped_loaded v.app (last_of 0 d.dropped)) d = grind (arith, had_last 0 d.dropped v.app.dropped) in (
-        dropped_loaded v.app (get_or words dropped_index 0),
-        keeps,
-        tt,
-        rw (set-get_or words dropped_index 0, h.dropped) kept,
-        (refl, rw h.dropped h.small, refl),
-      ))
+-- the dropped word is loaded
+pub loads_dropped : (slots id i : ℕ) (me : Holder) → me.0.is_app ≡ true
+    → i ≡ dropped_index me.0.app.size
+    → Allows BothAgree slots id me i (λ n. n) (LoadsDropped (step slots i 0 0 none) me)
+loads_dropped slots id i me is_app is =
+    app_step slots id i (λ n. n) me (LoadsDropped (step slots i 0 0 none) me) is_app (λ words d h both.
+    let a : AppSide = me.0.app in
+    let found : get_or words i 0 ≡ last_of 0 d.dropped = ap (λ j. get_or words j 0) (is ∙ ap dropped_index h.sized.size) ∙ h.dropped in
+    let P : ℕ → List ℕ → Type 0 = λ n ws. Agree ws (dropped_loaded a n) d in (
+      dropped_loaded a (get_or words i 0),
+      subst (P (get_or words i 0)) (sym (set-get_or words i 0)) (subst (λ (n : ℕ). P n words) (sym found) (keeps_dropped_loaded words a d h)),
+      (refl, rw found h.small, is),
+    ))

@@ -1,6 +1,5 @@
 pub mod Places
 pub mod Sides
-pub mod Slots
 pub mod Submission
 pub mod Completion
 pub mod PortViews

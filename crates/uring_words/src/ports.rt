@@ -2,8 +2,8 @@
 ghost use Rattle.std.specs.Prelude.{◌≡◌, ℕ, ◌≤◌, false, [], ◌∷◌, ◌++◌, length, Some, IfOk, IfErr, IsOk, OnOk};
 ghost use Rattle.uring_ports.specs.Dropped.{WereHad};
 ghost use Rattle.uring_ports.specs.Ports.{nothing_put, sizes_of, LeavesItems, LeavesCompletions};
-ghost use Rattle.uring_words.specs.Completion.Layout.{element_count as cq_element_count};
-ghost use Rattle.uring_words.specs.Submission.Layout.{element_count};
+ghost use Rattle.uring_words.specs.Completion.Layout.{word_count as cq_word_count};
+ghost use Rattle.uring_words.specs.Submission.Layout.{word_count};
 
 use crate::completion::reader::CompletionReader;
 use crate::completion::writer::CompletionWriter;
@@ -35,7 +35,7 @@ impl Model for AppWords {
 
     ghost view = { λ p. app_words p.calls p.completions };
 
-    ghost invariant = { λ p. WriterRests p.calls };
+    ghost invariant = { λ p. WriterRests p.calls.knows.app };
 }
 
 /// The dispatcher's port over shared words.
@@ -59,8 +59,8 @@ impl Model for KernelWords {
 
     ghost view = { λ p. kernel_words p.calls p.completions };
 
-    ghost invariant = { λ p. ReaderRests p.calls
-        × (p.closed ≡ has_close_mark p.calls.knows.kernel.taken) };
+    ghost invariant = { λ p. ReaderRests p.calls.knows.kernel
+        × (p.closed ≡ has_close_mark p.calls.knows.kernel.copied) };
 }
 
 /// The two ports of a new pair, with the sizes of this set-up's rings. `AllocError`: out of memory.
@@ -80,7 +80,7 @@ pub fn word_ports(alloc: Global, setup: &Setup) -> Result<(AppWords, KernelWords
     word_ports_in(&alloc, alloc, setup)
 }
 
-/// As `word_ports`, by this memory. If it grants as many elements as each table has words and slots, there is no error.
+/// As `word_ports`, by this memory. If it grants as many elements as each table has words, there is no error.
 pub fn word_ports_in<M: TableMemory>(
     memory: &M,
     alloc: Global,
@@ -97,8 +97,8 @@ pub fn word_ports_in<M: TableMemory>(
     ensures seen { IfOk result
         (λ ports. (ports.0.saw_room.places ≡ setup.now.sq)
         × (ports.0.saw_completions.waiting ≡ []) × (ports.1.saw_calls.waits ≡ false)) }
-    ensures granted { (n : ℕ) → M.grants memory.now n → element_count setup.now.sq ≤ n
-        → cq_element_count setup.now.cq ≤ n → IsOk result }
+    ensures granted { (n : ℕ) → M.grants memory.now n → word_count setup.now.sq ≤ n
+        → cq_word_count setup.now.cq ≤ n → IsOk result }
 {
     let start = setup.start();
     let calls = Shape {

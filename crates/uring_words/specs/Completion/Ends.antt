@@ -1,15 +1,18 @@
 -- Glue. What callers see of an end of the completion ring's table, and what its fields are between two calls.
-use Rattle.std.specs.Prelude.{◌≡◌, ℕ, ◌+◌, ◌<◌, ◌≤◌, true, List, [], ◌∷◌, ◌++◌, length}
+use Rattle.std.specs.Prelude.{◌≡◌, ℕ, ◌+◌, ◌<◌, ◌≤◌, true, List, [], ◌∷◌, ◌++◌, length, map}
 use Rattle.atomic_table.specs.Seated.{TableId}
 use Rattle.uring_entry.specs.IndexWords.{word_of}
-use Rattle.uring_entry.specs.Layout.{Cqe}
+use Rattle.uring_entry.specs.Layout.{Cqe, completion_of}
 use Rattle.uring_words.specs.Completion.Layout.{word_count}
 use Rattle.uring_words.specs.Completion.Rule.{tail_seen}
-use Rattle.uring_words.specs.Completion.Steps.{head_loaded}
-use Rattle.uring_words.specs.Slots.{SlotsFit, held_from}
+use Rattle.uring_words.specs.Sides.{Hands, Fits}
 use Rattle.uring_words.specs.declared.completion.view.AppSide.{AppSide}
 use Rattle.uring_words.specs.declared.completion.view.KernelSide.{KernelSide}
 use Rattle.uring_words.specs.declared.sides.View.{View}
+
+-- the completions that these words are
+abbrev pub completions_of : List (List ℕ) → List Cqe
+completions_of cells = map completion_of cells
 
 -- an end: its table, and what its seat knows
 pub record End : Type 0 where
@@ -24,26 +27,21 @@ app_knows e a = record e { knows = record e.knows { app = a } }
 abbrev pub kernel_knows : End → KernelSide → End
 kernel_knows e d = record e { knows = record e.knows { kernel = d } }
 
--- what a dispatcher's seat knows once it has loaded the head, and the cells that it holds end at this count
-abbrev pub has_loaded : View AppSide KernelSide → ℕ → View AppSide KernelSide
-has_loaded v end = record v { kernel = head_loaded v.kernel end }
-
--- The dispatcher's end: its seat of this table, what it knows, the cells that it holds, whatever stands there, the ring's size, and its index words of the tail and of the count at which these cells end.
-pub record IsWriter (seat table : TableId) (v : View AppSide KernelSide) (held : List (ℕ × Cqe)) (size tail end : ℕ) : Type 0 where
-  pub fits : SlotsFit seat table word_count 8192 size v.kernel.size
+-- The dispatcher's end, with no word of the next cell stored: its seat of this table, what it knows, what it carries, the ring's size, and its index words of the head that it last saw and of the tail.
+pub record IsWriter (seat table : TableId) (v : View AppSide KernelSide) (carried : Hands) (size head tail : ℕ) : Type 0 where
+  pub fits : Fits seat table carried (word_count size) 8192 size v.kernel.size
   pub is_kernel : v.is_kernel ≡ true
+  pub cell : v.kernel.cell ≡ []
   pub tail_word : tail ≡ word_of v.kernel.start (length v.kernel.put)
-  pub end_word : end ≡ word_of v.kernel.start v.kernel.end
-  pub blank : List Cqe
-  pub holds : held ≡ held_from v.kernel.start v.kernel.size (length v.kernel.put) blank
-  pub many : length v.kernel.put + length blank ≡ v.kernel.end
-  pub few : length blank ≤ size
+  pub head_word : head ≡ word_of v.kernel.start v.kernel.head_seen
+  pub below : v.kernel.head_seen ≤ length v.kernel.put
+  pub room : length v.kernel.put ≤ v.kernel.head_seen + size
 
--- The application's end: the cells that it holds are those of the completions that it knows; its index words of the tail that it last saw and of the head.
-pub record IsReader (seat table : TableId) (v : View AppSide KernelSide) (held : List (ℕ × Cqe)) (size tail head : ℕ) : Type 0 where
-  pub fits : SlotsFit seat table word_count 8192 size v.app.size
+-- The application's end, with no word of the next completion loaded, and its index words of the tail that it last saw and of the head.
+pub record IsReader (seat table : TableId) (v : View AppSide KernelSide) (carried : Hands) (size tail head : ℕ) : Type 0 where
+  pub fits : Fits seat table carried (word_count size) 8192 size v.app.size
   pub is_app : v.is_app ≡ true
-  pub holds : held ≡ held_from v.app.start v.app.size (length v.app.got) v.app.known
+  pub loaded : v.app.loaded ≡ 0
   pub tail_word : tail ≡ word_of v.app.start (tail_seen v.app)
   pub head_word : head ≡ word_of v.app.start (length v.app.got)
   pub few : length v.app.known ≤ size
@@ -56,7 +54,9 @@ pub record FindsNone (before after : End) : Type 0 where
 
 -- The first of the known completions was got, and is this one.
 pub record GetsOne (before after : End) (completion : Cqe) : Type 0 where
-  pub others : List Cqe
-  pub known : before.knows.app.known ≡ completion ∷ others
+  pub words : List ℕ
+  pub others : List (List ℕ)
+  pub known : before.knows.app.known ≡ words ∷ others
   pub is : after
-      ≡ app_knows before (record before.knows.app { got = before.knows.app.got ++ completion ∷ []; known = others })
+      ≡ app_knows before (record before.knows.app { got = before.knows.app.got ++ words ∷ []; known = others })
+  pub gives : completion_of words ≡ completion

@@ -1,24 +1,35 @@
--- What positions hold: items, call by call, and the close mark after all calls. Our own rule.
-use Rattle.std.specs.Prelude.{◌≡◌, Bool, true, false, List, [], ◌∷◌}
+-- What the words of the places say: items, call by call, and the close mark after all calls. Our own rule.
+use Rattle.std.specs.Prelude.{◌≡◌, ℕ, Bool, true, false, ◌||◌, not, List, [], ◌∷◌, if◌then◌else◌, MatchBool}
 use Rattle.uring_ports.specs.declared.item.Item.{Item}
+use Rattle.uring_ports.specs.declared.item.Item.TheVariants as item
 use Rattle.uring_ports.specs.Messages.{with_first}
 use Rattle.uring_ports.specs.Ports.{Put}
+use Rattle.uring_words.specs.Submission.Layout.{closes, ends_call, slot_of}
 use Rattle.uring_words.specs.declared.submission.view.Position.{Position}
-use Rattle.uring_words.specs.declared.submission.view.Position.TheVariants as position
+
+-- the item of these words: an entry, or a word that names no slot if there are no entry words
+abbrev pub item_from : ℕ → List ℕ → Item
+item_from mark [] = item.Bad (slot_of mark)
+item_from mark (w ∷ ws) = item.Entry (w ∷ ws)
+
+abbrev pub item_of : Position → Item
+item_of p = item_from p.mark p.entry
+
+-- an item in front of the calls after it: it ends its call, or is the first of the next of them
+abbrev pub with_item : Bool → Item → List (List Item) → List (List Item)
+with_item true x calls = (x ∷ []) ∷ calls
+with_item false x calls = with_first x calls
 
 -- the calls that these positions hold
 abbrev pub calls_of : List Position → List (List Item)
 calls_of [] = []
-calls_of (position.More x ∷ ps) = with_first x (calls_of ps)
-calls_of (position.Last x ∷ ps) = (x ∷ []) ∷ calls_of ps
-calls_of (position.Close ∷ ps) = []
+calls_of (p ∷ ps) =
+    if closes p.mark then [] else with_item (ends_call p.mark) (item_of p) (calls_of ps)
 
 -- whether the close mark is among these positions
 abbrev pub has_close_mark : List Position → Bool
 has_close_mark [] = false
-has_close_mark (position.More x ∷ ps) = has_close_mark ps
-has_close_mark (position.Last x ∷ ps) = has_close_mark ps
-has_close_mark (position.Close ∷ ps) = true
+has_close_mark (p ∷ ps) = closes p.mark || has_close_mark ps
 
 -- all that these positions hold
 abbrev pub put_of : List Position → Put
@@ -27,22 +38,19 @@ put_of ps = record { calls = calls_of ps; closed = has_close_mark ps }
 -- the items that these positions hold
 abbrev pub items_of : List Position → List Item
 items_of [] = []
-items_of (position.More x ∷ ps) = x ∷ items_of ps
-items_of (position.Last x ∷ ps) = x ∷ items_of ps
-items_of (position.Close ∷ ps) = items_of ps
+items_of (p ∷ ps) = if closes p.mark then items_of ps else item_of p ∷ items_of ps
 
--- the rest of a call if inside is true, then whole calls, and nothing after the close mark
+-- these positions end what goes on, whole calls and nothing after the close mark. inside: whether they begin inside a call
 abbrev pub AreWholeFrom : Bool → List Position → Type 0
 AreWholeFrom inside [] = inside ≡ false
-AreWholeFrom inside (position.More x ∷ ps) = AreWholeFrom true ps
-AreWholeFrom inside (position.Last x ∷ ps) = AreWholeFrom false ps
-AreWholeFrom inside (position.Close ∷ ps) = (inside ≡ false) × (ps ≡ [])
+AreWholeFrom inside (p ∷ ps) =
+    MatchBool (closes p.mark) ((inside ≡ false) × (ps ≡ [])) (AreWholeFrom (not (ends_call p.mark)) ps)
 
 -- whole calls, and nothing after the close mark
 abbrev pub AreWhole : List Position → Type 0
 AreWhole ps = AreWholeFrom false ps
 
--- the positions of items that others of their call follow
-abbrev pub all_more : List Item → List Position
-all_more [] = []
-all_more (x ∷ xs) = position.More x ∷ all_more xs
+-- items of a call that goes on after them
+abbrev pub AllGoOn : List Position → Type 0
+AllGoOn [] = Unit {0}
+AllGoOn (p ∷ ps) = (closes p.mark ≡ false) × (ends_call p.mark ≡ false) × AllGoOn ps

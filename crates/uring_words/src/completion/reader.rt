@@ -1,14 +1,12 @@
 //! The application's end of the completion ring: it gets completions, and loads the dropped word.
-ghost use Rattle.std.specs.Prelude.{◌≡◌, ◌+◌, ◌<◌, ◌≤◌, true, [], ◌∷◌, ◌++◌, length, vec_capacity, MatchOption};
+ghost use Rattle.std.specs.Prelude.{◌≡◌, ◌+◌, ◌<◌, ◌≤◌, true, [], ◌∷◌, ◌++◌, length, vec_capacity, vec_len, MatchOption};
 ghost use mathlib.Core.List.{IsPrefix};
 ghost use Rattle.uring_ports.specs.Dropped.{WereHad};
 ghost use Rattle.uring_ports.specs.Ports.{LeavesCompletions};
-ghost use Rattle.uring_words.specs.Completion.Ends.{app_knows, FindsNone, GetsOne};
+ghost use Rattle.uring_words.specs.Completion.Ends.{completions_of, app_knows, FindsNone, GetsOne};
 ghost use Rattle.uring_words.specs.Completion.Steps.{dropped_loaded};
 
-use crate::completion::table::{
-    BothSides, DROPPED, HEAD, LoadDropped, LoadTail, Ring, Seat, StoreHead, TAIL,
-};
+use crate::completion::table::{BothSides, LoadDropped, LoadTail, LoadWord, Ring, Seat, StoreHead};
 use crate::completion::writer::CompletionWriter;
 use std::alloc::Global;
 use std::marker::Model;
@@ -27,16 +25,15 @@ pub struct CompletionReader {
 }
 
 impl Model for CompletionReader {
-    ghost use Rattle.uring_words.specs.Slots.{held_by, known_to};
     ghost use Rattle.uring_words.specs.Completion.Ends.{End, IsReader};
 
     ghost Value = { End };
 
     ghost use Rattle.std.specs.Arc.{arc_value};
 
-    ghost view = { λ e. record { table = e.seat.table_id; knows = known_to e.seat.me } };
+    ghost view = { λ e. record { table = e.seat.table_id; knows = e.seat.me.0 } };
 
-    ghost invariant = { λ e. IsReader e.seat.table_id (arc_value e.ring).shared.table_id (known_to e.seat.me) (held_by e.seat.me) e.size e.tail e.head };
+    ghost invariant = { λ e. IsReader e.seat.table_id (arc_value e.ring).shared.table_id e.seat.me.0 e.seat.me.1 e.size e.tail e.head };
 }
 
 impl CompletionReader {
@@ -66,7 +63,10 @@ impl CompletionReader {
         ensures dropped { self.old.knows.is_kernel ≡ true
             → WereHad (0 ∷ self.old.knows.kernel.dropped) self.old.knows.app.dropped }
     {
-        self.tail = self.ring.shared.load::<LoadTail>(&mut self.seat, TAIL) as u32;
+        self.tail = self
+            .ring
+            .shared
+            .load::<LoadTail>(&mut self.seat, 10 * self.size as usize) as u32;
     }
 
     /// Loads the tail if nothing is known to be there.
@@ -87,11 +87,16 @@ impl CompletionReader {
         requires { 0 < length self.old.knows.app.known }
         ensures { GetsOne self.old self.new result }
     {
+        let mut cell = [0; 10];
+        let first = 10 * (self.head % self.size) as usize;
         let words = &self.ring.shared;
-        let completion = *self.seat.slot_mut(words, (self.head % self.size) as usize);
+        let seat = &mut self.seat;
+        for k in 0..10 {
+            cell[k] = words.load::<LoadWord>(seat, first + k);
+        }
         self.head = self.head.wrapping_add(1);
-        words.store::<StoreHead>(&mut self.seat, HEAD, self.head as u64);
-        completion
+        words.store::<StoreHead>(seat, 10 * self.size as usize + 1, self.head as u64);
+        Cqe::from_words(cell)
     }
 
     /// Gets the oldest completion that was put and not got. `None` says only that this end looked and saw none.
@@ -100,10 +105,11 @@ impl CompletionReader {
             ≡ app_knows self.old
             (record self.old.knows.app { got = self.new.knows.app.got; known = self.new.knows.app.known; looks = self.new.knows.app.looks }) }
         ensures got { MatchOption result (self.new.knows.app.got ≡ self.old.knows.app.got)
-            (λ completion. self.new.knows.app.got ≡ self.old.knows.app.got ++ completion ∷ []) }
+            (λ completion. completions_of self.new.knows.app.got
+            ≡ completions_of self.old.knows.app.got ++ completion ∷ []) }
         ensures looked { MatchOption result (FindsNone self.old self.new)
-            (λ completion. IsPrefix self.old.knows.app.known
-            (completion ∷ self.new.knows.app.known)) }
+            (λ completion. IsPrefix (completions_of self.old.knows.app.known)
+            (completion ∷ completions_of self.new.knows.app.known)) }
     {
         self.see_tail();
         if self.waiting() == 0 {
@@ -118,7 +124,19 @@ impl CompletionReader {
     {
         self.ring
             .shared
-            .load::<LoadDropped>(&mut self.seat, DROPPED) as u32
+            .load::<LoadDropped>(&mut self.seat, 10 * self.size as usize + 2) as u32
+    }
+
+    /// Takes the completions that are known to be there.
+    fn take_known(&mut self, completions: &mut Vec<Cqe>)
+        requires { vec_len completions.old + length self.old.knows.app.known
+            ≤ vec_capacity completions.old }
+        ensures { completions.new.items
+            ≡ completions.old.items ++ completions_of self.old.knows.app.known }
+    {
+        for _ in 0..self.waiting() {
+            completions.push_reserved(self.get_one());
+        }
     }
 
     /// Takes the completions that were put and not got.
@@ -126,19 +144,25 @@ impl CompletionReader {
         requires table { self.table ≡ writer.table }
         requires room { self.knows.app.size ≤ vec_capacity completions.old }
         requires empty { completions.old.items ≡ [] }
-        ensures completions { LeavesCompletions writer.knows.kernel.put self.knows.app.got
-            completions.new.items }
+        ensures completions { LeavesCompletions (completions_of writer.knows.kernel.put)
+            (completions_of self.knows.app.got) completions.new.items }
         ensures dropped { WereHad (0 ∷ writer.knows.kernel.dropped) self.knows.app.dropped }
     {
-        let kernel_seat = writer.give_all();
-        let CompletionReader {
+        let CompletionWriter {
             ring,
             mut seat,
+            size: _,
+            head: _,
+            tail: _,
+        } = writer;
+        let CompletionReader {
+            ring: _,
+            seat: app_seat,
             size,
             tail,
             head,
         } = self;
-        ring.shared.join_seat::<BothSides>(&mut seat, kernel_seat);
+        ring.shared.join_seat::<BothSides>(&mut seat, app_seat);
         let mut both = CompletionReader {
             ring,
             seat,
@@ -147,8 +171,6 @@ impl CompletionReader {
             head,
         };
         both.load_tail();
-        for _ in 0..both.waiting() {
-            completions.push_reserved(both.get_one());
-        }
+        both.take_known(completions);
     }
 }

@@ -1,27 +1,17 @@
-//! The table of the completion ring, its rule, and its steps. A step changes only what the seat that steps knows and holds.
+//! The table of the completion ring, its rule, and its steps. A step changes only what the seat that steps knows.
 
 use crate::completion::view::{AppSide, KernelSide};
 use crate::sides::{Shape, View};
-use atomic_table::{Join, Play, Table, TableRule};
+use atomic_table::{Join, Play, Shared, Table, TableRule};
 use std::alloc::Global;
-use uring_entry::Cqe;
-
-/// Where the tail stands among the words of the table.
-pub const TAIL: usize = 0;
-
-/// Where the head stands.
-pub const HEAD: usize = 1;
-
-/// Where the dropped word stands.
-pub const DROPPED: usize = 2;
 
 /// What a seat knows.
 type Known = View<AppSide, KernelSide>;
 
-/// The application and the dispatcher agree on the words and the cells.
+/// The application and the dispatcher agree on the words.
 pub struct RingRule;
 
-impl TableRule<Cqe, Known, Shape> for RingRule {
+impl TableRule<(), Known, Shape> for RingRule {
     ghost use Rattle.uring_words.specs.Completion.Rule.{BothAgree, at_first};
 
     ghost holds = { λ _. BothAgree };
@@ -29,16 +19,28 @@ impl TableRule<Cqe, Known, Shape> for RingRule {
     ghost first = { at_first };
 }
 
-/// The table of the completion ring, which both ends own.
-pub type Ring = Table<Cqe, Known, Shape, RingRule, Global>;
+/// The table of the completion ring, before its seats are taken.
+pub type Ring = Table<(), Known, Shape, RingRule, Global>;
 
-/// What one side may do to the words and cells, what it knows of them, and the cells that it holds.
-pub type Seat = atomic_table::Seat<Cqe, Known>;
+/// The words of the completion ring, as both sides share them.
+pub type Words = Shared<(), Known, Shape, RingRule>;
 
-/// The dispatcher stores the tail, with which a completion is put and its cell goes home.
+/// What one side may do to the words, and what it knows of them.
+pub type Seat = atomic_table::Seat<(), Known>;
+
+/// The dispatcher stores a cell word.
+pub struct StoreWord;
+
+impl Play<(), Known> for StoreWord {
+    ghost use Rattle.uring_words.specs.Completion.Steps.{StoresWord};
+
+    ghost then = { StoresWord };
+}
+
+/// The dispatcher stores the tail, with which a completion is put.
 pub struct StoreTail;
 
-impl Play<Cqe, Known> for StoreTail {
+impl Play<(), Known> for StoreTail {
     ghost use Rattle.uring_words.specs.Completion.Steps.{StoresTail};
 
     ghost then = { StoresTail };
@@ -47,65 +49,65 @@ impl Play<Cqe, Known> for StoreTail {
 /// The dispatcher stores the dropped word.
 pub struct StoreDropped;
 
-impl Play<Cqe, Known> for StoreDropped {
+impl Play<(), Known> for StoreDropped {
     ghost use Rattle.uring_words.specs.Completion.Steps.{StoresDropped};
 
     ghost then = { StoresDropped };
 }
 
-/// The dispatcher loads the head, with which it takes the cells that are free.
+/// The dispatcher loads the head.
 pub struct LoadHead;
 
-impl Play<Cqe, Known> for LoadHead {
+impl Play<(), Known> for LoadHead {
     ghost use Rattle.uring_words.specs.Completion.Steps.{LoadsHead};
 
     ghost then = { LoadsHead };
 }
 
-/// The dispatcher loads the head, and gives back the cells that it holds.
-pub struct GiveAll;
-
-impl Play<Cqe, Known> for GiveAll {
-    ghost use Rattle.uring_words.specs.Completion.Steps.{GivesAll};
-
-    ghost then = { GivesAll };
-}
-
-/// The application loads the tail, with which it takes the cells of the completions that were put.
+/// The application loads the tail.
 pub struct LoadTail;
 
-impl Play<Cqe, Known> for LoadTail {
+impl Play<(), Known> for LoadTail {
     ghost use Rattle.uring_words.specs.Completion.Steps.{LoadsTail};
 
     ghost then = { LoadsTail };
 }
 
+/// The application loads a cell word.
+pub struct LoadWord;
+
+impl Play<(), Known> for LoadWord {
+    ghost use Rattle.uring_words.specs.Completion.Steps.{LoadsWord};
+
+    ghost then = { LoadsWord };
+}
+
 /// The application loads the dropped word.
 pub struct LoadDropped;
 
-impl Play<Cqe, Known> for LoadDropped {
+impl Play<(), Known> for LoadDropped {
     ghost use Rattle.uring_words.specs.Completion.Steps.{LoadsDropped};
 
     ghost then = { LoadsDropped };
 }
 
-/// The application stores the head, with which a completion is got and its cell goes home.
+/// The application stores the head, with which a completion is got.
 pub struct StoreHead;
 
-impl Play<Cqe, Known> for StoreHead {
+impl Play<(), Known> for StoreHead {
     ghost use Rattle.uring_words.specs.Completion.Steps.{StoresHead};
 
     ghost then = { StoresHead };
 }
 
-/// The dispatcher's seat goes into the application's.
+/// The application's seat goes into the dispatcher's.
 pub struct BothSides;
 
 impl Join<Known> for BothSides {
     ghost use Rattle.uring_words.specs.Completion.Steps.{spent};
-    ghost use Rattle.uring_words.specs.Slots.{parts_of_both};
+    ghost use Rattle.uring_words.specs.Sides.{both_parts};
 
-    ghost both = { parts_of_both };
+    ghost both = { both_parts };
 
     ghost spent = { spent };
 }

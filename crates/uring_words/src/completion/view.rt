@@ -1,18 +1,20 @@
 //! What the two sides of the completion ring's table know. No value of these types is made.
 
 use std::collections::LinkedList;
-use uring_entry::Cqe;
 
 /// What the application knows.
 pub struct AppSide {
     pub start: u32,
     pub size: u32,
 
-    /// The completions that it got, oldest first.
-    pub got: LinkedList<Cqe>,
+    /// The words of the completions that it got, oldest first.
+    pub got: LinkedList<LinkedList<u64>>,
 
     /// Those after them that it knows to be put, oldest first.
-    pub known: LinkedList<Cqe>,
+    pub known: LinkedList<LinkedList<u64>>,
+
+    /// How many words of the first of these it has loaded, from the first word on.
+    pub loaded: u64,
 
     /// How often it loaded the tail.
     pub looks: u64,
@@ -26,11 +28,14 @@ pub struct KernelSide {
     pub start: u32,
     pub size: u32,
 
-    /// The completions that it put, oldest first.
-    pub put: LinkedList<Cqe>,
+    /// The words of the completions that it put, oldest first.
+    pub put: LinkedList<LinkedList<u64>>,
 
-    /// The count at which the cells that it holds end: they are those from the tail up to there.
-    pub end: u64,
+    /// The words that it stored of the next one.
+    pub cell: LinkedList<u64>,
+
+    /// The count at the head that it last loaded.
+    pub head_seen: u64,
 
     /// How often it loaded the head.
     pub looks: u64,

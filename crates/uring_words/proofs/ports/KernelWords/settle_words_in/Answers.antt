@@ -1,13 +1,7 @@
-use Rattle.std.proofs.Common.{◌≡◌, sym, ap, ◌∙◌, arith}
-use Rattle.atomic_table.specs.Seated.{TableId}
-use Rattle.uring_words.specs.PortViews.{AppWords, KernelWords, numbers_of_tables}
-use Rattle.uring_words.proofs.Handing.{same_parts}
+use Rattle.std.proofs.Common.{sym, ap, ◌∙◌}
+use Rattle.uring_words.specs.PortViews.{AppWords, KernelWords}
+use Rattle.uring_words.proofs.Tables.{same_tables}
 use Rattle.uring_words.proofs.ports.KernelWords.settle_words_in.Goals as goal
-
--- the numbers of a pair of tables are those of no other
-same_tables : (z y u v : TableId) → numbers_of_tables z y ≡ numbers_of_tables u v
-    → (z ≡ u) × (y ≡ v)
-same_tables z y u v e = grind (arith, same_parts)
 
 pub take_unsent-requires-clause-table : goal.take_unsent-requires-clause-table
 take_unsent-requires-clause-table g c =

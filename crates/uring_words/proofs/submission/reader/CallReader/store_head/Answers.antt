@@ -1,14 +1,9 @@
-use Rattle.std.proofs.Common.{arith}
-use Rattle.uring_words.proofs.Reading.{after_is, store_allowed, stored, takes}
+use Rattle.std.proofs.Common.{arith, sym, ap}
+use Rattle.uring_words.specs.Submission.Layout.{head_index}
+use Rattle.uring_words.proofs.Plays.{stores_head}
 use Rattle.uring_words.proofs.submission.reader.CallReader.store_head.Goals as goal
 
 pub store-requires : goal.store-requires
 store-requires c =
     let i = c.self.invariant in
-    rw c.deref.ensures (i.fits.same_table, omega (arith, i.fits.many), store_allowed i _ _)
-
-pub invariant_of-self : goal.invariant_of-self
-invariant_of-self c = let i = c.self.invariant in rw (c.store.ensures.0, after_is i c.store.new.seat.me c.store.ensures.2) (stored i)
-
-pub returns : goal.returns
-returns c = let i = c.self.invariant in rw (c.store.ensures.0, after_is i c.store.new.seat.me c.store.ensures.2, ← c.self.view_is) (takes i)
+    rw c.deref.ensures (i.fits.same_table, omega (arith, i.fits.many), stores_head _ _ _ _ _ i.is_kernel i.head_word (ap head_index (sym i.fits.sized)))

@@ -1,0 +1,11 @@
+use Rattle.std.proofs.Common.{◌≡◌, ℕ, ◌<◌, List, ◌∷◌, get_or, length}
+use Rattle.uring_words.specs.Sides.{with_app}
+use Rattle.uring_words.proofs.completion.reader.CompletionReader.get_one.Given as goal
+
+abbrev pub invariant-loop-k : goal.invariant-loop-k
+invariant-loop-k l = record {
+  table : l.seat.table_id ≡ l.initial.seat.table_id;
+  same : l.seat.me ≡ with_app l.initial.seat.me (record l.initial.seat.me.0.app { loaded = l.k });
+  size : length l.cell ≡ 10;
+  words : (c : List ℕ) (cs : List (List ℕ)) (j : ℕ) → l.initial.seat.me.0.app.known ≡ c ∷ cs → j < l.k → (get_or l.cell j 0 ≡ get_or c j 0) × (length c ≡ 10);
+}
