@@ -1,6 +1,5 @@
 -- What each step of a seat of the completion ring's table asks.
-use Rattle.std.specs.Prelude.{◌==◌, if◌then◌else◌}
-use Rattle.std.proofs.Common.{◌≡◌, ℕ, ◌+◌, ◌^◌, ◌<◌, true, List, ◌∷◌, ◌++◌, length, get_or, set, refl, sym, ◌∙◌, ap, subst, arith, length-append}
+use Rattle.std.proofs.Common.{◌≡◌, ℕ, ◌+◌, ◌^◌, ◌<◌, true, List, ◌∷◌, ◌++◌, length, get_or, refl, sym, ◌∙◌, ap, subst, arith, length-append}
 use Rattle.std.proofs.lemmas.List.{set-get_or}
 use Rattle.atomic_table.specs.Table.{step, Allows}
 use mathlib.Core.Option.{none}
@@ -8,7 +7,7 @@ use Rattle.uring_entry.specs.IndexWords.{word_of}
 use Rattle.uring_ports.specs.Dropped.{WereHad}
 use Rattle.uring_words.specs.Completion.Layout.{cell_index, tail_index, head_index, dropped_index, IsCell}
 use Rattle.uring_words.specs.Completion.Rule.{last_of, tail_seen, Agree, BothAgree}
-use Rattle.uring_words.specs.Completion.Steps.{Holder, word_stored, tail_stored, dropped_stored, head_loaded, tail_loaded, word_loaded, got_of, head_stored, dropped_loaded, StoresWord, StoresTail, StoresDropped, LoadsHead, LoadsTail, LoadsWord, StoresHead, LoadsDropped}
+use Rattle.uring_words.specs.Completion.Steps.{Holder, word_stored, tail_stored, dropped_stored, head_loaded, tail_loaded, word_loaded, head_stored, dropped_loaded, StoresWord, StoresTail, StoresDropped, LoadsHead, LoadsTail, LoadsWord, StoresHead, LoadsDropped}
 use Rattle.uring_words.specs.Places.{place_of}
 use Rattle.uring_words.specs.declared.completion.view.AppSide.{AppSide}
 use Rattle.uring_words.specs.declared.completion.view.KernelSide.{KernelSide}
@@ -45,10 +44,10 @@ stores_dropped slots id i me word is_kernel small is =
     kernel_step slots id i (λ _. word) me (λ _. StoresDropped (step slots i word 0 none) me word) is_kernel
     (λ words a h both. (dropped_stored me.0.kernel word, rw is (keeps_dropped_stored words a me.0.kernel word h small), refl))
 
--- how many were got is at most how many were put
+-- how many were put beyond the tail seen
 got_few : (words : List ℕ) (a : AppSide) (d : KernelSide) → (h : Agree words a d)
     → length d.put ≡ tail_seen a + length h.rest
-got_few words a d h = omega (arith, ap length h.begins, length-append (a.got ++ a.known) h.rest, length-append a.got a.known)
+got_few words a d h = omega (arith, ap length h.begins, length-append (a.copied ++ a.known) h.rest, length-append a.copied a.known)
 
 -- the head is loaded
 pub loads_head : (slots id i : ℕ) (me : Holder) → me.0.is_kernel ≡ true
@@ -56,9 +55,9 @@ pub loads_head : (slots id i : ℕ) (me : Holder) → me.0.is_kernel ≡ true
     → Allows BothAgree slots id me i (λ n. n) (LoadsHead (step slots i 0 0 none) me)
 loads_head slots id i me is_kernel is =
     kernel_step slots id i (λ n. n) me (LoadsHead (step slots i 0 0 none) me) is_kernel (λ words a h both. (
-      head_loaded me.0.kernel (length a.got),
+      head_loaded me.0.kernel a.got,
       rw set-get_or (keeps_head_loaded words a me.0.kernel h),
-      (length a.got, refl, ap (λ j. get_or words j 0) is ∙ h.head, h.head_seen, omega (arith, got_few words a me.0.kernel h), is),
+      (a.got, refl, ap (λ j. get_or words j 0) is ∙ h.head, h.ordered.head_seen, omega (arith, h.ordered.got, h.ordered.tail_seen), is),
     ))
 
 -- the tail is loaded
@@ -75,7 +74,7 @@ loads_tail slots id i me is_app is =
         refl,
         record {
           tail = ap (λ j. get_or words j 0) (is ∙ ap tail_index h.sized.size) ∙ h.tail ∙ ap (λ s. word_of s (length d.put)) (sym h.sized.start) ∙ ap (word_of a.start) many;
-          few = omega (arith, h.room, h.head_seen, many, h.sized.size);
+          few = omega (arith, h.ordered.room, h.ordered.head_seen, many, h.sized.size);
           all = λ is_kernel. ap (λ (e : KernelSide). e.put) (both is_kernel) ∙ h.begins;
           dropped = λ is_kernel. let Q : KernelSide → Type 0 = λ e. WereHad (0 ∷ e.dropped) a.dropped in subst Q (sym (both is_kernel)) h.loaded;
         },
@@ -83,33 +82,33 @@ loads_tail slots id i me is_app is =
       ),
     ))
 
--- a word of the first of the known completions is loaded
-pub loads_word : (slots id i : ℕ) (me : Holder) → me.0.is_app ≡ true
+-- the next word of the first known completion is loaded
+pub loads_word : (slots id i k : ℕ) (me : Holder) (c : List ℕ) (cs : List (List ℕ))
+    → me.0.is_app ≡ true → me.0.app.known ≡ c ∷ cs → me.0.app.loaded ≡ k → k < 10
+    → i ≡ cell_index (place_of me.0.app.start me.0.app.size (length me.0.app.copied)) k
     → Allows BothAgree slots id me i (λ n. n) (LoadsWord (step slots i 0 0 none) me)
-loads_word slots id i me is_app =
-    app_step slots id i (λ n. n) me (LoadsWord (step slots i 0 0 none) me) is_app (λ words d h both. (
-      word_loaded me.0.app i,
-      rw set-get_or (keeps_word_loaded words me.0.app d i h),
+loads_word slots id i k me c cs is_app known loaded within is =
+    app_step slots id i (λ n. n) me (LoadsWord (step slots i 0 0 none) me) is_app (λ words d h both.
+    let a : AppSide = me.0.app in (
+      word_loaded a,
+      rw set-get_or (keeps_word_loaded words a d h),
       (
         refl,
-        λ c cs k known within is.
-            let there = known_stands words me.0.app d c cs h known in
-            (ap (λ n. get_or words n 0) is ∙ there.0 k within, there.1),
+        λ x xs j known' loaded' inside.
+            let there = known_stands words a d x xs h known' in
+            let same : k ≡ j = omega arith in
+            let at = is ∙ ap (cell_index (place_of a.start a.size (length a.copied))) same in
+            (ap (λ n. get_or words n 0) at ∙ there.0 j inside, there.1, at),
       ),
     ))
 
 -- the head is stored
-pub stores_head : (slots id i : ℕ) (me : Holder) (word : ℕ) (c : List ℕ) (cs : List (List ℕ))
-    → me.0.is_app ≡ true → me.0.app.loaded ≡ 10 → me.0.app.known ≡ c ∷ cs
-    → word ≡ word_of me.0.app.start (length me.0.app.got + 1)
-    → i ≡ head_index me.0.app.size
+pub stores_head : (slots id i : ℕ) (me : Holder) (word : ℕ) → me.0.is_app ≡ true
+    → word ≡ word_of me.0.app.start (length me.0.app.copied) → i ≡ head_index me.0.app.size
     → Allows BothAgree slots id me i (λ _. word) (λ _. StoresHead (step slots i word 0 none) me word)
-stores_head slots id i me word c cs is_app ten known is_word is =
-    app_step slots id i (λ _. word) me (λ _. StoresHead (step slots i word 0 none) me word) is_app (λ words d h both.
-    let P : List (List ℕ) → Type 0 = λ ks. Agree (set words i word) (got_of me.0.app ks) d in
-    let Q : AppSide → Type 0 = λ e. Agree (set words i word) e d in
-    let all : head_stored me.0.app ≡ got_of me.0.app me.0.app.known = ap (λ n. if n == 10 then got_of me.0.app me.0.app.known else me.0.app) ten in
-    (head_stored me.0.app, subst Q (sym all) (subst P (sym known) (rw is (keeps_head_stored words me.0.app d word c cs h known is_word))), refl))
+stores_head slots id i me word is_app is_word is =
+    app_step slots id i (λ _. word) me (λ _. StoresHead (step slots i word 0 none) me word) is_app
+    (λ words d h both. (head_stored me.0.app, rw is (keeps_head_stored words me.0.app d word h is_word), refl))
 
 -- the dropped word is loaded
 pub loads_dropped : (slots id i : ℕ) (me : Holder) → me.0.is_app ≡ true

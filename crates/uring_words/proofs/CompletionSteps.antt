@@ -1,11 +1,12 @@
 -- The steps of the completion ring's table keep the agreement.
-use Rattle.std.proofs.Common.{◌≡◌, ◌≢◌, ℕ, ◌+◌, ◌^◌, ◌<◌, ◌≤◌, List, [], ◌∷◌, ◌++◌, length, get_or, set, refl, sym, ◌∙◌, ap, arith, append_assoc, append-nil, length-append, length-set, get_or-set_other, get_or-set_same}
+use Rattle.std.proofs.Common.{◌≡◌, ◌≢◌, ℕ, ◌+◌, ◌^◌, ◌<◌, ◌≤◌, Bool, List, [], ◌∷◌, ◌++◌, length, get_or, set, if◌then◌else◌, refl, sym, ◌∙◌, ap, arith, append_assoc, append-nil, length-append, length-set, get_or-set_other, get_or-set_same}
 use Rattle.std.proofs.Math.Seq.{get_or-append_seam}
 use Rattle.uring_entry.specs.IndexWords.{word_of}
 use Rattle.uring_ports.specs.Dropped.{WereHad}
 use Rattle.uring_words.specs.Completion.Layout.{cell_index, tail_index, head_index, dropped_index, IsCell, StandsAt}
-use Rattle.uring_words.specs.Completion.Rule.{last_of, Agree}
-use Rattle.uring_words.specs.Completion.Steps.{word_stored, tail_stored, dropped_stored, head_loaded, tail_loaded, word_loaded, dropped_loaded}
+use Rattle.uring_words.specs.Completion.Ends.{copied_one}
+use Rattle.uring_words.specs.Completion.Rule.{last_of, begun, Agree}
+use Rattle.uring_words.specs.Completion.Steps.{word_stored, tail_stored, dropped_stored, head_loaded, tail_loaded, loaded_of, word_loaded, head_stored, dropped_loaded}
 use Rattle.uring_words.specs.Places.{place_of}
 use Rattle.uring_words.specs.declared.completion.view.AppSide.{AppSide}
 use Rattle.uring_words.specs.declared.completion.view.KernelSide.{KernelSide}
@@ -21,7 +22,7 @@ stands_elsewhere words cell i w c other s k below =
 -- a store of the tail, the head or the dropped word leaves the words of the cells as they were
 others_stand : (words : List ℕ) (a : AppSide) (d : KernelSide) (i w : ℕ) → Agree words a d
     → tail_index d.size ≤ i
-    → ((k : ℕ) (e : List ℕ) → length a.got ≤ k → k < length d.put → StandsAt (set words i w) (place_of d.start d.size k) (get_or d.put k e))
+    → ((k : ℕ) (e : List ℕ) → a.got ≤ k → k < length d.put → StandsAt (set words i w) (place_of d.start d.size k) (get_or d.put k e))
     × ((k : ℕ) → k < length d.cell → get_or (set words i w) (cell_index (place_of d.start d.size (length d.put)) k) 0 ≡ get_or d.cell k 0)
 others_stand words a d i w h after =
     let some : 0 < d.size = some_size d.size h.sized.power in
@@ -33,6 +34,10 @@ others_stand words a d i w h after =
       λ k inside. get_or-set_other words i (cell_index (place_of d.start d.size (length d.put)) k) w 0 (λ e. omega arith) ∙ h.writing k inside,
     )
 
+begun_more : (ws : List ℕ) (w : ℕ) → begun (ws ++ w ∷ []) ≡ 1
+begun_more [] w = refl
+begun_more (x ∷ xs) w = refl
+
 -- a cell word is stored in the next cell
 pub keeps_word_stored : (words : List ℕ) (a : AppSide) (d : KernelSide) (w : ℕ) → Agree words a d
     → length d.put < d.head_seen + d.size → length d.cell < 10
@@ -42,14 +47,13 @@ keeps_word_stored words a d w h room few =
     let size : ℕ = d.size in
     let place : ℕ = place_of d.start size n in
     let index : ℕ = cell_index place (length d.cell) in
-    let seen = h.head_seen in
+    let o = h.ordered in
     let some : 0 < size = some_size size h.sized.power in
     let below : place < size = place_below d.start size n some in
     let long = h.sized.many in
     record {
       sized = grind (arith, length-set);
-      head_seen = h.head_seen;
-      room = h.room;
+      ordered = record { head_seen = o.head_seen; got = o.got; tail_seen = o.tail_seen; room = omega (arith, begun_more d.cell w) };
       tail = get_or-set_other words index (tail_index size) w 0 (λ e. omega arith) ∙ h.tail;
       head = get_or-set_other words index (head_index size) w 0 (λ e. omega arith) ∙ h.head;
       dropped = get_or-set_other words index (dropped_index size) w 0 (λ e. omega arith) ∙ h.dropped;
@@ -79,16 +83,16 @@ keeps_tail_stored words a d w h room cell is_word =
     let long = h.sized.many in
     let others = others_stand words a d index w h (omega arith) in
     let many : length (d.put ++ d.cell ∷ []) ≡ length d.put + 1 = length-append d.put (d.cell ∷ []) in
+    let o = h.ordered in
     record {
       sized = grind (arith, length-set);
-      head_seen = h.head_seen;
-      room = omega arith;
+      ordered = record { head_seen = o.head_seen; got = o.got; tail_seen = omega arith; room = omega arith };
       tail = get_or-set_same words index w 0 (omega arith) ∙ is_word ∙ ap (word_of d.start) (sym many);
       head = get_or-set_other words index (head_index size) w 0 (λ e. omega arith) ∙ h.head;
       dropped = get_or-set_other words index (dropped_index size) w 0 (λ e. omega arith) ∙ h.dropped;
       small = h.small;
       whole = λ k e. one_more (λ j x. IsCell x) d.put d.cell e (λ j inside. h.whole j e inside) cell k;
-      stand = λ k e low within. one_more (λ j x. length a.got ≤ j → StandsAt (set words index w) (place_of d.start size j) x) d.put d.cell e (λ j inside low'. others.0 j e low' inside) (λ _ j inside. others.1 j (omega (arith, cell.many))) k within low;
+      stand = λ k e low within. one_more (λ j x. a.got ≤ j → StandsAt (set words index w) (place_of d.start size j) x) d.put d.cell e (λ j inside low'. others.0 j e low' inside) (λ _ j inside. others.1 j (omega (arith, cell.many))) k within low;
       writing = λ k none. absurd (omega arith);
       few = omega arith;
       rest = h.rest ++ d.cell ∷ [];
@@ -130,8 +134,7 @@ keeps_dropped_stored words a d w h is_small =
     let last = last_after 0 d.dropped w [] in
     record {
       sized = grind (arith, length-set);
-      head_seen = h.head_seen;
-      room = h.room;
+      ordered = grind arith;
       tail = get_or-set_other words index (tail_index size) w 0 (λ e. omega arith) ∙ h.tail;
       head = get_or-set_other words index (head_index size) w 0 (λ e. omega arith) ∙ h.head;
       dropped = get_or-set_same words index w 0 (omega arith) ∙ sym last;
@@ -147,59 +150,67 @@ keeps_dropped_stored words a d w h is_small =
 
 -- the head is loaded
 pub keeps_head_loaded : (words : List ℕ) (a : AppSide) (d : KernelSide) → Agree words a d
-    → Agree words a (head_loaded d (length a.got))
+    → Agree words a (head_loaded d a.got)
 keeps_head_loaded words a d h = grind arith
 
 -- the tail is loaded: all that was put is known
 pub keeps_tail_loaded : (words : List ℕ) (a : AppSide) (d : KernelSide) → (h : Agree words a d)
     → Agree words (tail_loaded a h.rest) d
-keeps_tail_loaded words a d h = grind (arith, append_assoc, append-nil)
+keeps_tail_loaded words a d h = grind (arith, append_assoc, length-append, append-nil)
 
--- a word of a cell is loaded
-pub keeps_word_loaded : (words : List ℕ) (a : AppSide) (d : KernelSide) (i : ℕ) → Agree words a d
-    → Agree words (word_loaded a i) d
-keeps_word_loaded words a d i h = grind arith
+-- a word of the first known completion is loaded
+keeps_either : (words : List ℕ) (a : AppSide) (d : KernelSide) (c : List ℕ) (cs : List (List ℕ))
+    → Agree words a d → a.known ≡ c ∷ cs → (b : Bool)
+    → Agree words (if b then copied_one a c cs else record a { loaded = a.loaded + 1 }) d
+keeps_either words a d c cs h is all = grind (arith, length-append, append_assoc)
+
+keeps_known : (words : List ℕ) (a : AppSide) (d : KernelSide) → Agree words a d
+    → (cs : List (List ℕ)) → a.known ≡ cs → Agree words (loaded_of a cs) d
+keeps_known words a d h cs is = grind (arith, keeps_either)
+
+pub keeps_word_loaded : (words : List ℕ) (a : AppSide) (d : KernelSide) → Agree words a d
+    → Agree words (word_loaded a) d
+keeps_word_loaded words a d h = keeps_known words a d h a.known refl
 
 -- the dropped word is loaded
 pub keeps_dropped_loaded : (words : List ℕ) (a : AppSide) (d : KernelSide) → (h : Agree words a d)
     → Agree words (dropped_loaded a (last_of 0 d.dropped)) d
 keeps_dropped_loaded words a d h = grind (arith, had_last 0 d.dropped a.dropped h.loaded)
 
--- the first of the known completions is the next that was put
+-- the first known completion is the next that was put
 known_at : (words : List ℕ) (a : AppSide) (d : KernelSide) (c : List ℕ) (cs : List (List ℕ))
     → (h : Agree words a d) → a.known ≡ c ∷ cs
-    → (get_or d.put (length a.got) c ≡ c) × (length a.got < length d.put)
+    → (get_or d.put (length a.copied) c ≡ c) × (length a.copied < length d.put)
 known_at words a d c cs h is = grind (arith, append_assoc, get_or-append_seam, length-append)
 
 -- so its words stand, and are ten
 pub known_stands : (words : List ℕ) (a : AppSide) (d : KernelSide) (c : List ℕ) (cs : List (List ℕ))
     → Agree words a d → a.known ≡ c ∷ cs
-    → StandsAt words (place_of a.start a.size (length a.got)) c × (length c ≡ 10)
-known_stands words a d c cs h is = grind (arith, known_at words a d c cs h is, h.stand (length a.got) c, h.whole (length a.got) c)
+    → StandsAt words (place_of a.start a.size (length a.copied)) c × (length c ≡ 10)
+known_stands words a d c cs h is = grind (arith, known_at words a d c cs h is, h.stand (length a.copied) c, h.whole (length a.copied) c)
 
--- the head is stored after the first of the known completions, which is then got
-pub keeps_head_stored : (words : List ℕ) (a : AppSide) (d : KernelSide) (w : ℕ) (c : List ℕ) (cs : List (List ℕ))
-    → Agree words a d → a.known ≡ c ∷ cs → w ≡ word_of a.start (length a.got + 1)
-    → Agree (set words (head_index a.size) w) (record a { got = a.got ++ c ∷ []; known = cs; loaded = 0 }) d
-keeps_head_stored words a d w c cs h is is_word =
+-- the head is stored after all that was copied
+pub keeps_head_stored : (words : List ℕ) (a : AppSide) (d : KernelSide) (w : ℕ) → Agree words a d
+    → w ≡ word_of a.start (length a.copied)
+    → Agree (set words (head_index a.size) w) (head_stored a) d
+keeps_head_stored words a d w h is_word =
     let size : ℕ = d.size in
     let index : ℕ = head_index size in
     let long = h.sized.many in
+    let o = h.ordered in
     let others = others_stand words a d index w h (omega arith) in
-    let many : length (a.got ++ c ∷ []) ≡ length a.got + 1 = length-append a.got (c ∷ []) in
     rw h.sized.size (record {
       sized = grind (arith, length-set);
-      head_seen = omega (arith, h.head_seen);
-      room = h.room;
+      ordered = grind arith;
       tail = get_or-set_other words index (tail_index size) w 0 (λ e. omega arith) ∙ h.tail;
-      head = get_or-set_same words index w 0 (omega arith) ∙ is_word ∙ ap (λ s. word_of s (length a.got + 1)) h.sized.start ∙ ap (word_of d.start) (sym many);
+      head = get_or-set_same words index w 0 (omega arith) ∙ is_word ∙ ap (λ s. word_of s (length a.copied)) h.sized.start;
       dropped = get_or-set_other words index (dropped_index size) w 0 (λ e. omega arith) ∙ h.dropped;
       small = h.small;
       whole = h.whole;
-      stand = λ k e low within. others.0 k e (omega arith) within;
+      stand = λ k e low within. others.0 k e (omega (arith, o.got)) within;
       writing = others.1;
       few = h.few;
       rest = h.rest;
-      begins = grind (arith, append_assoc);
+      begins = h.begins;
       loaded = h.loaded;
     })

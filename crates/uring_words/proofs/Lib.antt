@@ -5,6 +5,7 @@ mod CompletionSteps
 pub mod Seats
 pub mod Plays
 pub mod CompletionPlays
+pub mod Cells
 pub mod CallLemmas
 pub mod Positions
 pub mod Copying

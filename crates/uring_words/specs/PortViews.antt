@@ -47,7 +47,7 @@ app_words calls completions =
       pairing = numbers_of_tables calls.table completions.table;
       sizes = record { sq = a.size; cq = c.size };
       put = put_of a.published;
-      got = completions_of c.got;
+      got = completions_of c.copied;
       saw_room = record { places = a.head_seen + a.size - length a.published; looks = Some a.looks };
       saw_completions = record { waiting = completions_of c.known; looks = Some c.looks };
       dropped = c.dropped;

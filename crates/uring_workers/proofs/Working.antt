@@ -1,5 +1,5 @@
 -- A worker that carries out one job more goes on to work.
-use Rattle.std.proofs.Common.{◌≡◌, ℕ, List, [], ◌∷◌, ◌++◌, refl, sym, subst, ◌∙◌, ap}
+use Rattle.std.proofs.Common.{◌≡◌, ℕ, Option, List, [], ◌∷◌, ◌++◌, refl, sym, subst, ◌∙◌, ap}
 use Rattle.std.proofs.lemmas.List.{map-append}
 use Rattle.uring_entry.specs.declared.operation.Outcome.{Outcome}
 use Rattle.uring_files.specs.Contents.{FileContents}
@@ -51,7 +51,7 @@ pub same_ring : {T A P : Type 0} (a b : End T A P) → a.words ≡ b.words → a
 same_ring a b words slots names = cc
 
 -- workers whose parts are the same are the same
-pub same_worker : (place : ℕ) {jobs others results pairs : List ℕ} {done same : List Done} {files these : List FileContents} {seen : List Job} {room : ℕ}
-    → jobs ≡ others → results ≡ pairs → done ≡ same → files ≡ these
-    → ◌≡◌ {A = Worker} (record { place = place; pairing = jobs ∷ results ∷ []; done = done; files = files; seen = seen; room = room }) (record { place = place; pairing = others ∷ pairs ∷ []; done = same; files = these; seen = seen; room = room })
-same_worker place j r d f = cc
+pub same_worker : (place : ℕ) {jobs others results pairs : List ℕ} {done same : List Done} {files these : List FileContents} {passed times : ℕ} {last number : Option ℕ} {seen : List Job} {room : ℕ}
+    → jobs ≡ others → results ≡ pairs → done ≡ same → files ≡ these → passed ≡ times → last ≡ number
+    → ◌≡◌ {A = Worker} (record { place = place; pairing = jobs ∷ results ∷ []; done = done; files = files; passed = passed; last_passed = last; seen = seen; room = room }) (record { place = place; pairing = others ∷ pairs ∷ []; done = same; files = these; passed = times; last_passed = number; seen = seen; room = room })
+same_worker place j r d f p n = cc

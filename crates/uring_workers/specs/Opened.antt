@@ -1,16 +1,17 @@
 -- Workers and their lanes: which belong together, and how they stand before anything is done with them. All of it is our own rule.
-use Rattle.std.specs.Prelude.{◌≡◌, ℕ, ◌<◌, ◌≤◌, List, [], length, get_or}
+use Rattle.std.specs.Prelude.{◌≡◌, ℕ, ◌<◌, ◌≤◌, List, [], length, get_or, None}
 use Rattle.uring_files.specs.Contents.{empty_files}
 use Rattle.uring_workers.specs.Pairings.{pairing_of}
 use Rattle.uring_workers.specs.WorkLanes.{HaveCarriedNone, HoldJobs, results_held}
 use Rattle.uring_workers.specs.Worker.{Worker}
 use Rattle.uring_workers.specs.declared.work_lanes.WorkLanes.{WorkLanes}
 
--- the worker of this place, which did nothing yet: it has so many empty files
+-- the worker of this place, which did nothing yet: it has so many empty files, and its gate wasn't passed
 pub record IsFreshWorker (files k : ℕ) (worker : Worker) : Type 0 where
   pub place : worker.place ≡ k
   pub done : worker.done ≡ []
   pub empty : worker.files ≡ empty_files files
+  pub passed : (worker.passed ≡ 0) × (worker.last_passed ≡ None)
 
 -- the workers, in their order
 abbrev pub AreFreshWorkers : ℕ → List Worker → Type 0

@@ -1,5 +1,5 @@
 -- A worker: what it has done, and what a turn of it does. All of it is our own rule.
-use Rattle.std.specs.Prelude.{◌≡◌, ℕ, ◌+◌, ◌<◌, ◌≤◌, List, [], ◌∷◌, ◌++◌, length}
+use Rattle.std.specs.Prelude.{◌≡◌, ℕ, ◌+◌, ◌%◌, ◌^◌, ◌<◌, ◌≤◌, List, [], ◌∷◌, ◌++◌, length, Option, Some}
 use mathlib.Core.List.{IsPrefix}
 use Rattle.uring_files.specs.Contents.{FileContents, empty_files}
 use Rattle.uring_files.specs.Operations.{after, result_of, IsOutcome}
@@ -20,6 +20,10 @@ pub record Worker : Type 0 where
   pub done : List Done
   -- its files
   pub files : List FileContents
+  -- how often its gate was passed, modulo 2^64
+  pub passed : ℕ
+  -- the number that its gate was passed with last
+  pub last_passed : Option ℕ
   -- the jobs that it has seen and not taken
   pub seen : List Job
   -- for how many results more it has seen room
@@ -49,11 +53,11 @@ pub record Looks (old new : Worker) : Type 0 where
   pub seen : IsPrefix old.seen new.seen
   pub room : old.room ≤ new.room
 
--- it took the job of this operation, the first that it saw, carried it out on its files and sent the result
+-- it took the job of this operation, the first that it saw, passed its gate once, with the job's number, carried the job out on its files and sent the result
 pub record CarriesOut (old new : Worker) (d : Done) : Type 0 where
   pub outcome : IsOutcome old.files d.op d.outcome
   pub done : new
-      ≡ record old { done = old.done ++ d ∷ []; files = after old.files d.op d.outcome.res; seen = new.seen; room = new.room }
+      ≡ record old { done = old.done ++ d ∷ []; files = after old.files d.op d.outcome.res; passed = (old.passed + 1) % 2 ^ 64; last_passed = Some d.number; seen = new.seen; room = new.room }
   pub first : IsPrefix old.seen (job_of d ∷ new.seen)
   pub room : old.room ≤ new.room + 1
 

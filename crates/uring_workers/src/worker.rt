@@ -1,5 +1,5 @@
 //! A worker: it carries out jobs on files that it alone has.
-ghost use Rattle.std.specs.Prelude.{◌≡◌, ℕ, ◌≤◌, true, [], ◌∷◌, ◌++◌, length};
+ghost use Rattle.std.specs.Prelude.{◌≡◌, ℕ, ◌+◌, ◌%◌, ◌^◌, ◌≤◌, true, Some, None, [], ◌∷◌, ◌++◌, length};
 ghost use Rattle.rtrb.specs.Ring.{sent, known_free, received, known_items};
 ghost use Rattle.uring_files.specs.Operations.{state_of, byte_of, after, result_of, IsForFiles, IsOutcome};
 ghost use Rattle.uring_workers.specs.Pairings.{producer_numbers, consumer_numbers, pairing_of};
@@ -7,7 +7,7 @@ ghost use Rattle.uring_workers.specs.Work.{jobs_of, results_of};
 ghost use Rattle.uring_workers.specs.Worker.{EndsAsCalledFor, IsRight, Looks, Turns};
 ghost use Rattle.uring_files.specs.Contents.{empty_files, max_len};
 
-use crate::gate::Gate;
+use crate::gate::{CountedGate, Gate};
 use crate::job::{Job, JobResult};
 use crate::work_lanes::WorkLanes;
 use rtrb::{Consumer, Producer, Protocol};
@@ -48,7 +48,7 @@ pub struct Worker<G: Gate> {
     // The memory that its writes ask for.
     memory: Global,
     place: u32,
-    gate: G,
+    gate: CountedGate<G>,
     files: Files,
     jobs: Consumer<Job, Global, ForFiles>,
     results: Producer<JobResult>,
@@ -64,7 +64,7 @@ impl<G: Gate> Model for Worker<G> {
     ghost use Rattle.uring_workers.specs.Pairings.{producer_numbers, consumer_numbers};
     ghost use Rattle.uring_workers.specs.Worker.{done_of, IsWorking};
 
-    ghost view = { λ w. record { place = w.place; pairing = consumer_numbers w.jobs ∷ producer_numbers w.results ∷ []; done = done_of (received w.jobs) (sent w.results); files = w.files; seen = known_items w.jobs; room = known_free w.results } };
+    ghost view = { λ w. record { place = w.place; pairing = consumer_numbers w.jobs ∷ producer_numbers w.results ∷ []; done = done_of (received w.jobs) (sent w.results); files = w.files; passed = w.gate.passed; last_passed = w.gate.last_passed; seen = known_items w.jobs; room = known_free w.results } };
 
     ghost invariant = { λ w. IsWorking (received w.jobs) (sent w.results) w.files };
 }
@@ -86,18 +86,19 @@ impl<G: Gate> Worker<G> {
         ensures pairing { result.pairing ≡ consumer_numbers jobs ∷ producer_numbers results ∷ [] }
         ensures done { result.done ≡ [] }
         ensures files { result.files ≡ files }
+        ensures passed { (result.passed ≡ 0) × (result.last_passed ≡ None) }
     {
         Worker {
             memory,
             place,
-            gate,
+            gate: CountedGate::new(gate),
             files,
             jobs,
             results,
         }
     }
 
-    /// Takes one job, if it sees one and sees room for its result: passes the gate with the job's number, carries the job out and sends the result. Only a write that lengthens its file takes memory.
+    /// Takes one job, if it sees one and sees room for its result: passes the gate once, with the job's number, carries the job out and sends the result. Only a write that lengthens its file takes memory.
     ///
     /// Use: `match worker.turn() { Worked::Done(_) => {} Worked::Idle | Worked::Held => thread::yield_now(), }`
     pub fn turn(&mut self) -> Worked
@@ -126,7 +127,7 @@ impl<G: Gate> Worker<G> {
         let Ok(job) = self.jobs.pop() else {
             return Worked::Idle;
         };
-        let outcome = carry_out(memory, &self.gate, &mut self.files, &job);
+        let outcome = carry_out(memory, &mut self.gate, &mut self.files, &job);
         self.results.push_reserved(JobResult {
             number: job.number,
             outcome,
@@ -180,11 +181,18 @@ impl<G: Gate> Worker<G> {
     }
 }
 
-/// Passes the gate with the job's number, and then carries the job out on these files.
-fn carry_out<M: Memory, G: Gate>(memory: &M, gate: &G, files: &mut Files, job: &Job) -> Outcome
+/// Passes the gate once, with the job's number, and then carries the job out on these files.
+fn carry_out<M: Memory, G: Gate>(
+    memory: &M,
+    gate: &mut CountedGate<G>,
+    files: &mut Files,
+    job: &Job,
+) -> Outcome
     requires { IsForFiles job.now.op }
     // The gate let it pass with the files as they were before.
-    ensures passed { G.passes gate.now job.now.number files.old ≡ true }
+    ensures passed { G.passes gate.old.gate job.now.number files.old ≡ true }
+    ensures once { (gate.new.passed ≡ (gate.old.passed + 1) % 2 ^ 64)
+        × (gate.new.last_passed ≡ Some job.now.number) }
     ensures outcome { IsOutcome files.old job.now.op result }
     ensures files { files.new ≡ after files.old job.now.op result.res }
     ensures granted { (n : ℕ) → M.grants memory.now n → max_len ≤ n

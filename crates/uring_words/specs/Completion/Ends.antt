@@ -37,26 +37,31 @@ pub record IsWriter (seat table : TableId) (v : View AppSide KernelSide) (carrie
   pub below : v.kernel.head_seen ≤ length v.kernel.put
   pub room : length v.kernel.put ≤ v.kernel.head_seen + size
 
--- The application's end, with no word of the next completion loaded, and its index words of the tail that it last saw and of the head.
+-- The application's end, where all that was copied is got and no word of the next completion is loaded, and its index words of the tail that it last saw and of the head.
 pub record IsReader (seat table : TableId) (v : View AppSide KernelSide) (carried : Hands) (size tail head : ℕ) : Type 0 where
   pub fits : Fits seat table carried (word_count size) 8192 size v.app.size
   pub is_app : v.is_app ≡ true
   pub loaded : v.app.loaded ≡ 0
   pub tail_word : tail ≡ word_of v.app.start (tail_seen v.app)
-  pub head_word : head ≡ word_of v.app.start (length v.app.got)
+  pub head_word : head ≡ word_of v.app.start (length v.app.copied)
+  pub got : v.app.got ≡ length v.app.copied
   pub few : length v.app.known ≤ size
 
--- It knew of no completion that isn't got, it loaded the tail, and it knows of none.
+-- It knew of no completion that isn't copied, it loaded the tail, and it knows of none.
 pub record FindsNone (before after : End) : Type 0 where
   pub before_none : before.knows.app.known ≡ []
   pub looked : before.knows.app.looks < after.knows.app.looks
   pub after_none : after.knows.app.known ≡ []
 
--- The first of the known completions was got, and is this one.
+-- the first known completion, c, was copied
+abbrev pub copied_one : AppSide → List ℕ → List (List ℕ) → AppSide
+copied_one a c cs = record a { copied = a.copied ++ c ∷ []; known = cs; loaded = 0 }
+
+-- The first known completion was copied and got, and is this one.
 pub record GetsOne (before after : End) (completion : Cqe) : Type 0 where
   pub words : List ℕ
   pub others : List (List ℕ)
   pub known : before.knows.app.known ≡ words ∷ others
   pub is : after
-      ≡ app_knows before (record before.knows.app { got = before.knows.app.got ++ words ∷ []; known = others })
+      ≡ app_knows before (record before.knows.app { copied = before.knows.app.copied ++ words ∷ []; known = others; got = before.knows.app.got + 1 })
   pub gives : completion_of words ≡ completion

@@ -19,7 +19,12 @@ last_of w (x ∷ xs) = last_of x xs
 
 -- the count at the tail that the application last saw
 abbrev pub tail_seen : AppSide → ℕ
-tail_seen a = length a.got + length a.known
+tail_seen a = length a.copied + length a.known
+
+-- how many cells the dispatcher has begun to write above those that it put, by the words that it stored of the next one
+abbrev pub begun : List ℕ → ℕ
+begun [] = 0
+begun (w ∷ ws) = 1
 
 -- The sizes of the table are those that both sides know.
 pub record AreSized (words : List ℕ) (a : AppSide) (d : KernelSide) : Type 0 where
@@ -29,24 +34,30 @@ pub record AreSized (words : List ℕ) (a : AppSide) (d : KernelSide) : Type 0 w
   pub limit : d.size ≤ 8192
   pub many : length words ≡ word_count d.size
 
--- What the application and the dispatcher know of the table, between any two steps: the cells at every count from the head on, below the tail, hold what the dispatcher put there, ten words with no flags; what the application got, and then what it knows to be there, begins what was put; the dropped word is the last that the dispatcher stored, and those that the application loaded are, in order, words that it had.
+-- head seen ≤ got ≤ copied ≤ tail seen ≤ put, and no more cells put or begun than the ring has above the head seen
+pub record AreInOrder (a : AppSide) (d : KernelSide) : Type 0 where
+  pub head_seen : d.head_seen ≤ a.got
+  pub got : a.got ≤ length a.copied
+  pub tail_seen : tail_seen a ≤ length d.put
+  pub room : length d.put + begun d.cell ≤ d.head_seen + d.size
+
+-- What the application and the dispatcher know of the table, between any two steps: the cells at every count from the head on, below the tail, hold what the dispatcher put there, ten words with no flags, and the next one what it stored there; what the application copied, and then what it knows to be there, begins what was put; the dropped word is the last that the dispatcher stored, and those that the application loaded are, in order, words that it had.
 pub record Agree (words : List ℕ) (a : AppSide) (d : KernelSide) : Type 0 where
   pub sized : AreSized words a d
-  pub head_seen : d.head_seen ≤ length a.got
-  pub room : length d.put ≤ d.head_seen + d.size
+  pub ordered : AreInOrder a d
   pub tail : slice_index words (tail_index d.size) ≡ word_of d.start (length d.put)
-  pub head : slice_index words (head_index d.size) ≡ word_of d.start (length a.got)
+  pub head : slice_index words (head_index d.size) ≡ word_of d.start a.got
   pub dropped : slice_index words (dropped_index d.size) ≡ last_of 0 d.dropped
   pub small : last_of 0 d.dropped < 2 ^ 32
   pub whole : (k : ℕ) (e : List ℕ) → k < length d.put → IsCell (slice_index_or d.put k e)
-  pub stand : (k : ℕ) (e : List ℕ) → length a.got ≤ k → k < length d.put
+  pub stand : (k : ℕ) (e : List ℕ) → a.got ≤ k → k < length d.put
       → StandsAt words (place_of d.start d.size k) (slice_index_or d.put k e)
   pub writing : (k : ℕ) → k < length d.cell
       → slice_index words (cell_index (place_of d.start d.size (length d.put)) k)
       ≡ slice_index d.cell k
   pub few : length d.cell ≤ 10
   pub rest : List (List ℕ)
-  pub begins : d.put ≡ (a.got ++ a.known) ++ rest
+  pub begins : d.put ≡ (a.copied ++ a.known) ++ rest
   pub loaded : WereHad (0 ∷ d.dropped) a.dropped
 
 -- The rule: there is one application and one dispatcher, who agree.
@@ -56,5 +67,5 @@ BothAgree s = AgreeBy Agree s
 -- what the first seat knows, which is both sides'
 abbrev pub at_first : Shape → View AppSide KernelSide
 at_first k = both_know
-    (record { start = k.start; size = k.size; got = []; known = []; loaded = 0; looks = 0; dropped = [] })
+    (record { start = k.start; size = k.size; copied = []; known = []; loaded = 0; got = 0; looks = 0; dropped = [] })
     (record { start = k.start; size = k.size; put = []; cell = []; head_seen = 0; looks = 0; dropped = [] })

@@ -54,18 +54,19 @@ LoadsHead st before found after =
 abbrev pub tail_loaded : AppSide → List (List ℕ) → AppSide
 tail_loaded a more = record a { known = a.known ++ more; looks = a.looks + 1 }
 
--- a word is loaded: the next one of the first of the known completions, or another, which doesn't count
-abbrev pub word_loaded : AppSide → ℕ → AppSide
-word_loaded a word =
-    if word == cell_index (place_of a.start a.size (length a.got)) a.loaded then record a { loaded = a.loaded + 1 } else a
+-- a word of the first known completion is loaded: the completion is copied once all its ten words are
+abbrev pub loaded_of : AppSide → List (List ℕ) → AppSide
+loaded_of a [] = a
+loaded_of a (c ∷ cs) =
+    if a.loaded + 1 == 10 then record a { copied = a.copied ++ c ∷ []; known = cs; loaded = 0 } else
+    record a { loaded = a.loaded + 1 }
 
--- the head is stored once all ten words of the first of the known completions are loaded: it is got, and its cell may be written again
-abbrev pub got_of : AppSide → List (List ℕ) → AppSide
-got_of a [] = a
-got_of a (c ∷ cs) = record a { got = a.got ++ c ∷ []; known = cs; loaded = 0 }
+abbrev pub word_loaded : AppSide → AppSide
+word_loaded a = loaded_of a a.known
 
+-- the head is stored: all that was copied is got, and its cells may be written again
 abbrev pub head_stored : AppSide → AppSide
-head_stored a = if a.loaded == 10 then got_of a a.known else a
+head_stored a = record a { got = length a.copied }
 
 -- the dropped word is loaded
 abbrev pub dropped_loaded : AppSide → ℕ → AppSide
@@ -74,9 +75,9 @@ dropped_loaded a word = record a { dropped = a.dropped ++ word ∷ [] }
 -- What the load of the tail tells: no more completions than the ring has cells. If one seat has both sides: all that were put, and that the dropped words loaded are, in order, words that were had.
 pub record TailTold (before : View AppSide KernelSide) (found : ℕ) (more : List (List ℕ)) : Type 0 where
   pub tail : found ≡ word_of before.app.start (tail_seen before.app + length more)
-  pub few : tail_seen before.app + length more ≤ length before.app.got + before.app.size
+  pub few : tail_seen before.app + length more ≤ before.app.got + before.app.size
   pub all : before.is_kernel ≡ true
-      → before.kernel.put ≡ (before.app.got ++ before.app.known) ++ more
+      → before.kernel.put ≡ (before.app.copied ++ before.app.known) ++ more
   pub dropped : before.is_kernel ≡ true → WereHad (0 ∷ before.kernel.dropped) before.app.dropped
 
 abbrev pub LoadsTail : Step (Unit {0}) → Holder → ℕ → Holder → Type 0
@@ -84,11 +85,11 @@ LoadsTail st before found after = (more : List (List ℕ))
     × (after ≡ with_app before (tail_loaded before.0.app more)) × TailTold before.0 found more
     × (st.word ≡ tail_index before.0.app.size)
 
--- the word counts if it is the next; the first of the known completions has ten words, and the word found is the one that stands at that index of its cell
+-- the word found is the next of the first known completion, which has ten words
 abbrev pub LoadsWord : Step (Unit {0}) → Holder → ℕ → Holder → Type 0
 LoadsWord st before found after =
-    (after ≡ with_app before (word_loaded before.0.app st.word))
-    × ((c : List ℕ) (cs : List (List ℕ)) (k : ℕ) → before.0.app.known ≡ c ∷ cs → k < 10 → st.word ≡ cell_index (place_of before.0.app.start before.0.app.size (length before.0.app.got)) k → (found ≡ slice_index c k) × (length c ≡ 10))
+    (after ≡ with_app before (word_loaded before.0.app))
+    × ((c : List ℕ) (cs : List (List ℕ)) (k : ℕ) → before.0.app.known ≡ c ∷ cs → before.0.app.loaded ≡ k → k < 10 → (found ≡ slice_index c k) × (length c ≡ 10) × (st.word ≡ cell_index (place_of before.0.app.start before.0.app.size (length before.0.app.copied)) k))
 
 abbrev pub StoresHead : Step (Unit {0}) → Holder → ℕ → Holder → Type 0
 StoresHead st before found after = after ≡ with_app before (head_stored before.0.app)
@@ -101,5 +102,5 @@ LoadsDropped st before found after =
 -- what is left of the seat that is taken in
 abbrev pub spent : View AppSide KernelSide
 spent = spent_with
-    (record { start = 0; size = 0; got = []; known = []; loaded = 0; looks = 0; dropped = [] })
+    (record { start = 0; size = 0; copied = []; known = []; loaded = 0; got = 0; looks = 0; dropped = [] })
     (record { start = 0; size = 0; put = []; cell = []; head_seen = 0; looks = 0; dropped = [] })

@@ -1,12 +1,16 @@
 //! The application's end of the completion ring: it gets completions, and loads the dropped word.
-ghost use Rattle.std.specs.Prelude.{◌≡◌, ◌+◌, ◌<◌, ◌≤◌, true, [], ◌∷◌, ◌++◌, length, vec_capacity, vec_len, MatchOption};
+ghost use Rattle.std.specs.Prelude.{◌≡◌, ℕ, ◌+◌, ◌*◌, ◌<◌, ◌≤◌, true, List, [], ◌∷◌, ◌++◌, length, vec_capacity, vec_len, MatchOption};
 ghost use mathlib.Core.List.{IsPrefix};
 ghost use Rattle.uring_ports.specs.Dropped.{WereHad};
 ghost use Rattle.uring_ports.specs.Ports.{LeavesCompletions};
-ghost use Rattle.uring_words.specs.Completion.Ends.{completions_of, app_knows, FindsNone, GetsOne};
+ghost use Rattle.uring_words.specs.Completion.Ends.{completions_of, app_knows, copied_one, FindsNone, GetsOne};
 ghost use Rattle.uring_words.specs.Completion.Steps.{dropped_loaded};
+ghost use Rattle.uring_words.specs.Places.{place_of};
+ghost use Rattle.uring_words.specs.Sides.{with_app};
 
-use crate::completion::table::{BothSides, LoadDropped, LoadTail, LoadWord, Ring, Seat, StoreHead};
+use crate::completion::table::{
+    BothSides, LoadDropped, LoadTail, LoadWord, Ring, Seat, StoreHead, Words,
+};
 use crate::completion::writer::CompletionWriter;
 use std::alloc::Global;
 use std::marker::Model;
@@ -36,6 +40,26 @@ impl Model for CompletionReader {
     ghost invariant = { λ e. IsReader e.seat.table_id (arc_value e.ring).shared.table_id e.seat.me.0 e.seat.me.1 e.size e.tail e.head };
 }
 
+/// Copies the first known completion, whose cell begins with the word `first`.
+fn load_cell(words: &Words, seat: &mut Seat, first: usize) -> [u64; 10]
+    requires table { seat.old.table_id ≡ words.now.table_id }
+    requires within { first + 10 ≤ words.now.table_id.words }
+    requires app { (seat.old.me.0.is_app ≡ true) × (seat.old.me.0.app.loaded ≡ 0) }
+    requires some { 0 < length seat.old.me.0.app.known }
+    requires first { first
+        ≡ 10
+        * place_of seat.old.me.0.app.start seat.old.me.0.app.size (length seat.old.me.0.app.copied) }
+    ensures table { seat.new.table_id ≡ seat.old.table_id }
+    ensures copied { (others : List (List ℕ)) × (seat.old.me.0.app.known ≡ result ∷ others)
+        × (seat.new.me ≡ with_app seat.old.me (copied_one seat.old.me.0.app result others)) }
+{
+    let mut cell = [0; 10];
+    for k in 0..10 {
+        cell[k] = words.load::<LoadWord>(seat, first + k);
+    }
+    cell
+}
+
 impl CompletionReader {
     /// How many cells the ring has.
     pub fn size(&self) -> u32
@@ -59,7 +83,7 @@ impl CompletionReader {
         ensures more { IsPrefix self.old.knows.app.known self.new.knows.app.known }
         ensures few { length self.new.knows.app.known ≤ self.old.knows.app.size }
         ensures all { self.old.knows.is_kernel ≡ true
-            → self.old.knows.kernel.put ≡ self.old.knows.app.got ++ self.new.knows.app.known }
+            → self.old.knows.kernel.put ≡ self.old.knows.app.copied ++ self.new.knows.app.known }
         ensures dropped { self.old.knows.is_kernel ≡ true
             → WereHad (0 ∷ self.old.knows.kernel.dropped) self.old.knows.app.dropped }
     {
@@ -82,18 +106,15 @@ impl CompletionReader {
         }
     }
 
-    /// Gets the first of the known completions.
+    /// Copies and gets the first known completion.
     fn get_one(&mut self) -> Cqe
         requires { 0 < length self.old.knows.app.known }
         ensures { GetsOne self.old self.new result }
     {
-        let mut cell = [0; 10];
         let first = 10 * (self.head % self.size) as usize;
         let words = &self.ring.shared;
         let seat = &mut self.seat;
-        for k in 0..10 {
-            cell[k] = words.load::<LoadWord>(seat, first + k);
-        }
+        let cell = load_cell(words, seat, first);
         self.head = self.head.wrapping_add(1);
         words.store::<StoreHead>(seat, 10 * self.size as usize + 1, self.head as u64);
         Cqe::from_words(cell)
@@ -103,10 +124,10 @@ impl CompletionReader {
     pub fn get(&mut self) -> Option<Cqe>
         ensures is { self.new
             ≡ app_knows self.old
-            (record self.old.knows.app { got = self.new.knows.app.got; known = self.new.knows.app.known; looks = self.new.knows.app.looks }) }
-        ensures got { MatchOption result (self.new.knows.app.got ≡ self.old.knows.app.got)
-            (λ completion. completions_of self.new.knows.app.got
-            ≡ completions_of self.old.knows.app.got ++ completion ∷ []) }
+            (record self.old.knows.app { copied = self.new.knows.app.copied; known = self.new.knows.app.known; got = self.new.knows.app.got; looks = self.new.knows.app.looks }) }
+        ensures got { MatchOption result (self.new.knows.app.copied ≡ self.old.knows.app.copied)
+            (λ completion. completions_of self.new.knows.app.copied
+            ≡ completions_of self.old.knows.app.copied ++ completion ∷ []) }
         ensures looked { MatchOption result (FindsNone self.old self.new)
             (λ completion. IsPrefix (completions_of self.old.knows.app.known)
             (completion ∷ completions_of self.new.knows.app.known)) }
@@ -145,7 +166,7 @@ impl CompletionReader {
         requires room { self.knows.app.size ≤ vec_capacity completions.old }
         requires empty { completions.old.items ≡ [] }
         ensures completions { LeavesCompletions (completions_of writer.knows.kernel.put)
-            (completions_of self.knows.app.got) completions.new.items }
+            (completions_of self.knows.app.copied) completions.new.items }
         ensures dropped { WereHad (0 ∷ writer.knows.kernel.dropped) self.knows.app.dropped }
     {
         let CompletionWriter {

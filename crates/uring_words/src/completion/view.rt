@@ -7,14 +7,17 @@ pub struct AppSide {
     pub start: u32,
     pub size: u32,
 
-    /// The words of the completions that it got, oldest first.
-    pub got: LinkedList<LinkedList<u64>>,
+    /// The words of the completions that it copied, oldest first.
+    pub copied: LinkedList<LinkedList<u64>>,
 
     /// Those after them that it knows to be put, oldest first.
     pub known: LinkedList<LinkedList<u64>>,
 
-    /// How many words of the first of these it has loaded, from the first word on.
+    /// How many words of the first of these it has loaded.
     pub loaded: u64,
+
+    /// The count at the head that it last stored.
+    pub got: u64,
 
     /// How often it loaded the tail.
     pub looks: u64,

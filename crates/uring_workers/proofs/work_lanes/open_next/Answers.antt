@@ -19,7 +19,7 @@ returns-clause-opened g c =
     let new = c.new-worker.ensures in
     let made : WorkLanes = record { jobs = c.in_ok-jobs.jobs; results = c.in_ok-done.results } in
     let many = ap length c.reserve.ensures.items in
-    let fresh : IsFreshWorker c.args.files (length c.args.lanes.now.items) c.new-worker.result = record { place = new.place ∙ omega (arith, c.len.ensures, many, c.reserve.new.list.ok.0); done = new.done; empty = new.files ∙ c.in_ok-files.ensures.ok } in
+    let fresh : IsFreshWorker c.args.files (length c.args.lanes.now.items) c.new-worker.result = record { place = new.place ∙ omega (arith, c.len.ensures, many, c.reserve.new.list.ok.0); done = new.done; empty = new.files ∙ c.in_ok-files.ensures.ok; passed = new.passed } in
     opened_next c.args.files c.args.lanes.now.items c.args.workers.now.items made c.new-worker.result c.push_reserved.ensures.items c.reserve.ensures.items c.push_reserved-2.ensures.items c.reserve-2.ensures.items
     c.requires.opened jobs.producer.0 results.consumer.0 jobs.producer.2 results.consumer.2
     (new.pairing ∙ both (same_ring c.in_ok-jobs.to_do.end c.in_ok-jobs.jobs.end jobs.pair.0 jobs.pair.1 jobs.pair.2) (sym (same_ring c.in_ok-done.results.end c.in_ok-done.done.end results.pair.0 results.pair.1 results.pair.2))) fresh

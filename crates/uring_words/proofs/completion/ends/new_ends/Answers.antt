@@ -20,6 +20,7 @@ invariant_of-reader g c =
       fits = record { same_table = app.0; many = app.1 ∙ ap length c.deref.ensures.value ∙ c.in_ok-words.ensures.many; carries_none = refl; power = c.requires.power; most = c.requires.limit; sized = refl };
       is_app = refl;
       loaded = refl;
+      got = refl;
       few = omega arith;
       tail_word = start;
       head_word = start;

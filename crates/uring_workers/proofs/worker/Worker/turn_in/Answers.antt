@@ -29,7 +29,7 @@ returns-clause-turns g c =
             rw (← c.self.view_is) (same_worker inside.place (same_ring c.pop.new.self.end inside.jobs.end popped.ring.0.0 popped.ring.0.1 popped.ring.0.2)
             (same_ring c.push_reserved.new.self.end inside.results.end (pushed.ring.0.0 ∙ full.0.0.0) (pushed.ring.0.1 ∙ full.0.0.1) (pushed.ring.0.2 ∙ full.0.0.2))
             (rw (popped.ok.0, pushed.sent.0, full.1) (done_of_snoc (received inside.jobs) (sent inside.results) inside.files c.self.invariant c.in-Ok.job c.carry_out-outcome.result))
-            c.carry_out-outcome.ensures.files);
+            c.carry_out-outcome.ensures.files c.carry_out-outcome.ensures.once.0 c.carry_out-outcome.ensures.once.1);
         first = rw (← c.self.view_is) popped.ok.1;
         room = rw (← c.self.view_is) (let before = full.2 in let after = pushed.sent.1 in omega arith);
       },
