@@ -218,7 +218,8 @@ class Run:
         with open(path) as lines:
             self.record = [line.rstrip("\n") for line in lines if line.endswith("\n")]
         found = [line.split(" ", 3) for line in self.record if line[0].isdecimal()]
-        self.choices = [(int(words[0]), int(words[1]), int(words[2]), words[3]) for words in found]
+        # (a fault is chosen amid the end of its request, and recorded before that)
+        self.choices = sorted((int(words[0]), int(words[1]), int(words[2]), words[3]) for words in found)
 
     def outlook(self):
         """What could go on at each choice, if that was recorded."""
