@@ -1,12 +1,12 @@
 """Which things that could go on commute, and so which runs only repeat others.
 
-A way is a letter, a ring and a request's number, as `liburing/layer/choices/outlook.h` tells it: `i` starts a request, `e` ends it unstarted, `f` finishes it, `b` starts and finishes it, and `r` returns to the application. Amid an end, `n` is that the request has no fault, and `x` that it has one. Two ways commute if each can still go on after the other, does the same there, and the application can't tell in which order they went. What isn't known to commute is taken not to.
+A way is a letter, a ring and a request's number, as `liburing/layer/choices/outlook.h` tells it: `i` starts a request, `e` ends it unstarted, `f` finishes it, `b` starts and finishes it, and `r` returns to the application. Amid an end, `n` is that the request has no fault, and `x` that it has one; before a step, `n` that no time passes, and `t` that it does. Two ways commute if each can still go on after the other, does the same there, and the application can't tell in which order they went. What isn't known to commute is taken not to.
 """
 
 import collections
 
-# Amid an end: that the request has no fault, or one.
-AMID = "nx"
+# What is chosen beside what goes on: that there is no fault and no time passes, a fault, and that time passes.
+BESIDE = "nxt"
 
 READS, WRITES, NOTHING = (22, 1), (23, 2), (0, 3)
 
@@ -44,9 +44,9 @@ class Outlook:
         if word == "r":
             return RETURN
         number, _, fault = word[1:].partition(".")
-        if word[0] in AMID:
+        if word[0] in BESIDE:
             self.faulty.add((ring, number))
-        return Way(word[0] + fault, ring, number, self.requests[ring, number], False)
+        return Way(word[0] + fault, ring, number, self.requests.get((ring, number)), False)
 
     def seen_here(self, way):
         """A way that was seen in another run, with its request as this one has it: where bytes lie in memory differs between processes."""
@@ -109,7 +109,7 @@ def commute(one, other):
     """Whether one that is asleep stays so after the other, which went on."""
     if other.letter == "n":
         return True
-    if one.letter[0] in AMID or other.letter[0] in AMID:
+    if one.letter[0] in BESIDE or other.letter[0] in BESIDE:
         return False
     if "r" in (one.letter, other.letter):
         return commute_return(one, other)

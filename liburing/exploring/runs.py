@@ -16,6 +16,8 @@ from exploring.reducing import Outlook
 from exploring.serving import ACCOUNT_SIZE, ROOM, Lost, Server
 
 OF_RUN = struct.Struct("<4Q")
+# What the surroundings say of faults and of time is part of a run: without it the same list gives another.
+PARTS = "WULGACH_FAULTS", "WULGACH_FAULT_RATE", "WULGACH_TIMEOUTS"
 
 
 class Program:

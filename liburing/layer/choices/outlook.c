@@ -105,6 +105,12 @@ void record_faults(const struct ring *ring, const struct request *request, uint6
     record_line("\n");
 }
 
+void record_passing(const struct ring *ring, uint64_t at)
+{
+    if (is_recording_ways())
+        record_line("ways %" PRIu64 " %" PRIu32 " n t\n", at, ring->index);
+}
+
 void record_break(void)
 {
     if (is_recording_ways())
