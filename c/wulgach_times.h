@@ -150,7 +150,7 @@ void wulgach_times_move_to(struct wulgach_times *times, uint64_t now);
  * time began; else what was slept passes, and what two calls slept at once counts once. */
 void wulgach_times_slept(struct wulgach_times *times, bool is_real, uint64_t origin, uint64_t start, uint64_t stop);
 
-/* Nothing else can go on, and time passes until this timeout is over. */
+/* Time passes until this timeout is over, where nothing else can go on, or where its caller chooses so. */
 void wulgach_times_pass(struct wulgach_times *times, const struct wulgach_timeout *timeout);
 
 /* Writes the timeout that ends next, and returns 0, if its time is over; else returns -2 (ENOENT), and writes nothing. The one ends

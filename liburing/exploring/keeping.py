@@ -5,9 +5,7 @@ import shlex
 import shutil
 import stat
 
-from exploring.runs import list_of
-
-FAULTS = "WULGACH_FAULTS", "WULGACH_FAULT_RATE"
+from exploring.runs import PARTS, list_of
 
 
 def keep(folder, program, run):
@@ -27,7 +25,7 @@ def keep(folder, program, run):
 
 def write_replay(path, folder, program, run, traced):
     variables = {name: traced.environment[name] for name in ("WULGACH_POLICY", "WULGACH_CHOOSE")}
-    variables |= {name: os.environ[name] for name in FAULTS if name in os.environ}
+    variables |= {name: os.environ[name] for name in PARTS if name in os.environ}
     words = [shlex.quote(f"{name}={value}") for name, value in variables.items()]
     libraries = keep_libraries(folder)
     if libraries:

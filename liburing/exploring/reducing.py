@@ -1,9 +1,12 @@
 """Which things that could go on commute, and so which runs only repeat others.
 
-A way is a letter, a ring and a request's number, as `liburing/layer/choices/outlook.h` tells it: `i` starts a request, `e` ends it unstarted, `f` finishes it, `b` starts and finishes it, and `r` returns to the application. Two ways commute if each can still go on after the other, does the same there, and the application can't tell in which order they went. What isn't known to commute is taken not to.
+A way is a letter, a ring and a request's number, as `liburing/layer/choices/outlook.h` tells it: `i` starts a request, `e` ends it unstarted, `f` finishes it, `b` starts and finishes it, and `r` returns to the application. Amid an end, `n` is that the request has no fault, and `x` that it has one; before a step, `n` that no time passes, and `t` that it does. Two ways commute if each can still go on after the other, does the same there, and the application can't tell in which order they went. What isn't known to commute is taken not to.
 """
 
 import collections
+
+# What is chosen beside what goes on: that there is no fault and no time passes, a fault, and that time passes.
+BESIDE = "nxt"
 
 READS, WRITES, NOTHING = (22, 1), (23, 2), (0, 3)
 
@@ -23,7 +26,7 @@ class Outlook:
     """What a run's record says of what could go on."""
 
     def __init__(self, lines):
-        self.requests, self.silent, self.nodes, by_choice = {}, set(), [], {}
+        self.requests, self.silent, self.faulty, self.nodes, by_choice = {}, set(), set(), [], {}
         for words in lines:
             if words[0] == "request":
                 self.requests[words[1], words[2]] = Request(*map(int, words[3:8]), words[8])
@@ -38,16 +41,22 @@ class Outlook:
                 by_choice[int(words[0])].chosen = int(words[1])
 
     def way(self, ring, word):
-        return RETURN if word == "r" else Way(word[0], ring, word[1:], self.requests[ring, word[1:]], False)
+        if word == "r":
+            return RETURN
+        number, _, fault = word[1:].partition(".")
+        if word[0] in BESIDE:
+            self.faulty.add((ring, number))
+        return Way(word[0] + fault, ring, number, self.requests.get((ring, number)), False)
 
     def seen_here(self, way):
         """A way that was seen in another run, with its request as this one has it: where bytes lie in memory differs between processes."""
         return way._replace(request=self.requests.get((way.ring, way.number), way.request))
 
     def chosen(self, node):
-        """What went on at a node, with what it turned out to be."""
+        """What went on at a node, with what it turned out to be. An end that may have a fault isn't silent with that."""
         way = node.ways[node.chosen]
-        return way._replace(is_silent=way.letter in "fb" and (way.ring, way.number) in self.silent)
+        of = way.ring, way.number
+        return way._replace(is_silent=way.letter in "fb" and of in self.silent and of not in self.faulty)
 
 
 def overlap(one, length, other, other_length):
@@ -98,6 +107,10 @@ def are_plain(one, other):
 
 def commute(one, other):
     """Whether one that is asleep stays so after the other, which went on."""
+    if other.letter == "n":
+        return True
+    if one.letter[0] in BESIDE or other.letter[0] in BESIDE:
+        return False
     if "r" in (one.letter, other.letter):
         return commute_return(one, other)
     if (one.ring, one.number) == (other.ring, other.number):

@@ -16,6 +16,8 @@ from exploring.reducing import Outlook
 from exploring.serving import ACCOUNT_SIZE, ROOM, Lost, Server
 
 OF_RUN = struct.Struct("<4Q")
+# What the surroundings say of faults and of time is part of a run: without it the same list gives another.
+PARTS = "WULGACH_FAULTS", "WULGACH_FAULT_RATE", "WULGACH_TIMEOUTS"
 
 
 class Program:
@@ -218,7 +220,8 @@ class Run:
         with open(path) as lines:
             self.record = [line.rstrip("\n") for line in lines if line.endswith("\n")]
         found = [line.split(" ", 3) for line in self.record if line[0].isdecimal()]
-        self.choices = [(int(words[0]), int(words[1]), int(words[2]), words[3]) for words in found]
+        # (a fault is chosen amid the end of its request, and recorded before that)
+        self.choices = sorted((int(words[0]), int(words[1]), int(words[2]), words[3]) for words in found)
 
     def outlook(self):
         """What could go on at each choice, if that was recorded."""

@@ -6,20 +6,22 @@ import shlex
 import sys
 
 from exploring.lines import places_of
-from exploring.runs import Policies, list_of, stop
+from exploring.runs import PARTS, Policies, list_of, stop
 from exploring.traces import URING
 
+# How a choice begins by which time passes.
+TIME = "time passes", "the wait's time"
 POLICY = re.compile(r"order|lazy|seed:\d+|pct:\d+:\d+(:\d+)?|list:(\d+(=\d+)?(,\d+(=\d+)?)*)?")
 
 
-def shortest(program, items):
-    """Leaves choices out, so that they are made in order, as long as the run still fails."""
+def shortest(program, items, beside=()):
+    """Leaves choices out, so that they are made in order, as long as the run still fails with those beside."""
     size = max(1, len(items) // 2)
     while True:
         at = 0
         while at < len(items):
             fewer = items[:at] + items[at + size :]
-            run = program.run(list_of(fewer))
+            run = program.run(list_of(sorted([*fewer, *beside])))
             if run.fails():
                 # (what the run didn't come to, or couldn't do, isn't needed either)
                 items = [it for it in run.items() if it in fewer]
@@ -28,6 +30,13 @@ def shortest(program, items):
         if size == 1:
             return items
         size //= 2
+
+
+def without_times(program, run):
+    """The choices of a failing run, without those by which time passes that aren't needed."""
+    times = [(at, way) for at, way, _, what in run.choices if way and what.startswith(TIME)]
+    others = [it for it in run.items() if it not in times]
+    return sorted([*shortest(program, times, others), *others]) if times else others
 
 
 def need_uring(options):
@@ -52,7 +61,7 @@ def shrink(options, program):
     if not program.run(list_of(items)).fails():
         print(f"{name} fails, and its list of choices doesn't: the program doesn't do the same in each run")
         return 2
-    before = len(run.choices)
+    before, items = len(run.choices), without_times(program, run)
     while True:
         fewer = shortest(program, items)
         if len(fewer) == len(items):
@@ -78,9 +87,8 @@ def print_run(options, program, policy, title):
     """Prints a run: the choices that aren't in order, then what happened on each ring. Draws it too, if a page is asked for."""
     run = program.run(policy, is_tracing=True)
     variables = " ".join(f"{name}={value}" for name, value in run.environment.items() if name in ("WULGACH_POLICY", "WULGACH_CHOOSE"))
-    # What the surroundings say of faults is part of the run: without it the same list gives another.
-    faults = " ".join(f"{name}={shlex.quote(os.environ[name])}" for name in ("WULGACH_FAULTS", "WULGACH_FAULT_RATE") if name in os.environ)
-    variables = f"{faults} {variables}" if faults else variables
+    parts = " ".join(f"{name}={shlex.quote(os.environ[name])}" for name in PARTS if name in os.environ)
+    variables = f"{parts} {variables}" if parts else variables
     print(f"    {variables} {shlex.join(program.words)}\n")
     for at, way, count, what in run.choices:
         if way:

@@ -43,6 +43,7 @@ struct waiting {
     uint32_t flags;
     bool is_extended;               /* the last argument is a structure */
     int fault;                      /* of the last argument, read after the submission; 0: none */
+    bool waits;                     /* it waits for completions, if there aren't enough */
 };
 
 /* Reads the structure that a call gives as its last argument, which has this size. Returns its fault, or 0. */
@@ -117,6 +118,14 @@ static int64_t submit_published(struct ring *ring, uint32_t to_submit)
 
 /* ---- what a call wants, and what becomes of it ---- */
 
+/* Until when the call waits, if it does so for a time at most. */
+static void note_limit(struct ring *ring, const struct waiting *waiting)
+{
+    ring->waits_until = (struct wulgach_limit){0};
+    if (waiting->waits)
+        wulgach_sleeps_to(&waiting->least, &waiting->limit, &ring->waits_until);
+}
+
 /* Submits, and says what came of it. After that the last argument is read, and the caller's time counts from then on. A fault of the argument counts only
  * where nothing was submitted; else it ends the call where that would sleep. */
 static enum wulgach_reply_kind submit_entries(struct ring *ring, struct waiting *waiting, struct wulgach_reply *reply)
@@ -130,6 +139,8 @@ static enum wulgach_reply_kind submit_entries(struct ring *ring, struct waiting 
         wulgach_times_deadline(&ring->times, &waiting->limit);
     if (waiting->least.is_set)
         wulgach_times_deadline(&ring->times, &waiting->least);
+    waiting->waits = waiting->flags & IORING_ENTER_GETEVENTS && waiting->min_complete > 0 && submitted == waiting->to_submit;
+    note_limit(ring, waiting);
     reply->number = (uint32_t)(submitted < 0 ? -submitted : submitted);
     reply->kind = submitted < 0 ? WULGACH_NOT_TAKEN : WULGACH_WAS_TAKEN;
     do_duties_at_reply(ring, reply);
@@ -189,6 +200,8 @@ static enum wulgach_reply_kind wait_for_time(struct ring *ring, struct waiting *
     enum wulgach_reply_kind kind = wait_for_any(ring, &until, waiting->least.is_set, &waiting->masks, error);
     if (kind == WULGACH_LEAST_OVER)
         waiting->least.is_set = false;
+    /* (another call may have been made on the ring meanwhile) */
+    note_limit(ring, waiting);
     return kind;
 }
 
@@ -269,6 +282,7 @@ static int64_t carry_call_out(struct ring *ring, struct waiting *waiting, uint32
         see(ring, &reply);
         demand(wulgach_enter_next(&call, &reply, &command) == 0, "a call doesn't take a reply");
     }
+    ring->waits_until.is_set = ring->is_rushed = false;
     return command.result;
 }
 

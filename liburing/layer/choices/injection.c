@@ -2,10 +2,11 @@
  *
  *   WULGACH_FAULTS      ITEMS, separated by commas: [RING:]NUMBER=KIND, for request NUMBER of ring RING (0 if it isn't
  *                       given); KIND is EIO, ENOSPC or SHORT
- *   WULGACH_FAULT_RATE  N: each transfer, fsync or fallocate is given a fault with a chance of one in N under a seed. That
- *                       is a choice, so a list replays it.
+ *   WULGACH_FAULT_RATE  N: each request that can have a fault is given one with a chance of one in N under a seed, of those that
+ *                       it can have. That is a choice, so a list replays it.
  */
 #include "choices/injection.h"
+#include "choices/outlook.h"
 #include "choices/policy.h"
 #include "operations/operations.h"
 #include "process/fault.h"
@@ -87,20 +88,37 @@ bool has_listed_faults(void)
     return item_count > 0;
 }
 
-/* A choice of 3 * rate ways of which 3 are faults: 1, 2 and 3. The others are no fault. */
-static enum injection roll_fault(struct ring *ring)
+/* Writes the faults that a request can have behind `faults`, and returns how many they are. */
+static uint32_t list_faults(const struct request *request, enum injection *faults)
 {
-    if (!rate || policy() == IN_ORDER || policy() == LAZY)
+    uint32_t count = 0;
+    for (int fault = FAULT_EIO; fault <= FAULT_SHORT; fault++)
+        if (can_have(request, (enum injection)fault))
+            faults[count++] = (enum injection)fault;
+    return count;
+}
+
+/* A choice: way 0 is no fault, and the others are those that the request can have. Each of these is one of `rate` times as many. */
+static enum injection roll_fault(struct ring *ring, const struct request *request)
+{
+    enum injection faults[FAULT_SHORT + 1] = {NO_FAULT};
+    uint32_t ways = 1 + list_faults(request, faults + 1);
+    if (ways == 1)
         return NO_FAULT;
     uint64_t at = count_choice();
-    uint32_t count = 3 * rate < 4 ? 4 : 3 * rate, chosen = choose(at, count);
-    enum injection fault = chosen <= FAULT_SHORT ? (enum injection)chosen : NO_FAULT;
+    record_faults(ring, request, at, faults + 1, ways - 1);
+    uint32_t count = (ways - 1) * rate < ways ? ways : (ways - 1) * rate, rolled = choose(at, count), chosen = rolled < ways ? rolled : 0;
     char what[64];
-    snprintf(what, sizeof what, "fault %s", names[fault]);
-    if (fault)
-        trace_note(ring, "choice %" PRIu64 " is %d of %d: %s", at, (int)fault, FAULT_SHORT + 1, what);
-    record_choice(at, FAULT_SHORT + 1, fault, what);
-    return fault;
+    snprintf(what, sizeof what, "fault %s", names[faults[chosen]]);
+    if (chosen)
+        trace_note(ring, "choice %" PRIu64 " is %" PRIu32 " of %" PRIu32 ": %s", at, chosen, ways, what);
+    record_choice(at, ways, chosen, what);
+    return faults[chosen];
+}
+
+static bool is_rolling(void)
+{
+    return rate && policy() != IN_ORDER && policy() != LAZY;
 }
 
 __attribute__((noinline)) static enum injection find_fault(struct ring *ring, const struct request *request)
@@ -109,10 +127,10 @@ __attribute__((noinline)) static enum injection find_fault(struct ring *ring, co
     for (size_t i = 0; i < item_count; i++)
         if (items[i].ring == ring->index && items[i].number == request->number)
             fault = items[i].fault;
-    if (!fault && can_have(request, FAULT_EIO))
-        fault = roll_fault(ring);
     if (!can_have(request, fault))
-        return NO_FAULT;
+        fault = NO_FAULT;
+    if (!fault && is_rolling())
+        fault = roll_fault(ring, request);
     if (fault)
         trace_note(ring, "request %" PRIu64 " has fault %s", request->number, names[fault]);
     return fault;

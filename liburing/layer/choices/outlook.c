@@ -95,6 +95,22 @@ void record_return(bool may_return)
     record_line(may_return ? " r\n" : "\n");
 }
 
+void record_faults(const struct ring *ring, const struct request *request, uint64_t at, const enum injection *faults, uint32_t count)
+{
+    if (!is_recording_ways())
+        return;
+    record_line("ways %" PRIu64 " %" PRIu32 " n%" PRIu64, at, ring->index, request->number);
+    for (uint32_t i = 0; i < count; i++)
+        record_line(" x%" PRIu64 ".%d", request->number, (int)faults[i]);
+    record_line("\n");
+}
+
+void record_passing(const struct ring *ring, uint64_t at)
+{
+    if (is_recording_ways())
+        record_line("ways %" PRIu64 " %" PRIu32 " n t\n", at, ring->index);
+}
+
 void record_break(void)
 {
     if (is_recording_ways())

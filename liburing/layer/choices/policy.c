@@ -189,6 +189,17 @@ static uint64_t roll(void)
     return z ^ z >> 31;
 }
 
+uint32_t drawn_apart(uint32_t count)
+{
+    if (chosen_by.policy != SEEDED && chosen_by.policy != BY_PRIORITY)
+        return 0;
+    uint64_t kept = chosen_by.random;
+    chosen_by.random = ~kept;
+    uint64_t drawn = roll();
+    chosen_by.random = kept;
+    return (uint32_t)((drawn >> 32) * count >> 32);
+}
+
 uint64_t count_choice(void)
 {
     pthread_mutex_lock(&chosen_by.lock);

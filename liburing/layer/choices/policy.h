@@ -35,6 +35,9 @@ uint64_t count_choice(void);
  * whether an operation has a fault. */
 uint32_t choose(uint64_t at, uint32_t count);
 
+/* A number below `count` that the seed draws as the program begins, apart from its choices; 0 where there is no seed. */
+uint32_t drawn_apart(uint32_t count);
+
 /* A ring was set up: the record of choices is there from now on, if there is to be one. */
 void note_ring(void);
 

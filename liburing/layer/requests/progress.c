@@ -1,6 +1,7 @@
 /* Goes on with a ring's requests. Whether a request may start, and what its end makes of others, is the core's decision:
  * the layer asks which can be issued.
  */
+#define _GNU_SOURCE
 #include "requests/progress.h"
 #include "calls/duties.h"
 #include "calls/extras.h"
@@ -8,6 +9,7 @@
 #include "choices/injection.h"
 #include "choices/issuable.h"
 #include "choices/outlook.h"
+#include "choices/passing_time.h"
 #include "choices/policy.h"
 #include "choices/ways.h"
 #include "operations/openness.h"
@@ -19,6 +21,7 @@
 #include "requests/timeouts.h"
 #include "traces/logged.h"
 #include "waiting/streams.h"
+#include "waiting/waiting.h"
 #include "wulgach_results.h"
 #include "wulgach_taking.h"
 
@@ -254,6 +257,22 @@ static struct request *first_in_order(struct ring *ring)
     return running && wulgach_ways_at(&(struct wulgach_ways){.ready = 1, .issuable = 1}, 0, &place) == WULGACH_WAY_FINISH ? running : first_to_issue(ring);
 }
 
+/* Time passes by choice, or what is chosen goes on. A wait whose time is over sleeps, as where nothing can go on. */
+static enum progress go_on_chosen(struct ring *ring, struct request *first, bool may_return)
+{
+    switch (choose_passing(ring, may_return)) {
+    case A_TIMEOUT_ENDS:
+        ring->returns = 0;
+        pass_by_choice(ring);
+        return WENT_ON;
+    case THE_WAIT_ENDS:
+        ring->is_rushed = true;
+        return STUCK;
+    default:
+        return go_on_by_choice(ring, first, may_return);
+    }
+}
+
 enum progress go_on(struct ring *ring, bool may_return)
 {
     post_messages(ring);
@@ -263,7 +282,7 @@ enum progress go_on(struct ring *ring, bool may_return)
     if (!first)
         return STUCK;
     if (is_by_choice())
-        return go_on_by_choice(ring, first, may_return);
+        return go_on_chosen(ring, first, may_return);
     go_on_with(ring, first);
     return WENT_ON;
 }

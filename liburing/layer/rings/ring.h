@@ -104,6 +104,8 @@ struct ring {
     struct wulgach_due due;             /* those that are to find their files in their turn */
     struct completions completions;     /* posted and not reaped */
     struct wulgach_held_back held;      /* what was posted of the ends of the newest submission */
+    struct wulgach_limit waits_until;   /* until when the call waits that has its lock, if it does so for a time at most; */
+    bool is_rushed;                     /* and that is over, by choice, before anything else goes on */
     struct wulgach_times times;         /* its time, in nanoseconds, and how many timeouts run: */
     struct wulgach_timeout *timeouts;   /* these, */
     size_t timeouts_room;               /* and for how many there is room */

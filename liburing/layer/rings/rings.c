@@ -5,6 +5,7 @@
 #include "calls/signals.h"
 #include "calls/whole_calls.h"
 #include "choices/injection.h"
+#include "choices/passing_time.h"
 #include "choices/policy.h"
 #include "forks/server.h"
 #include "operations/openness.h"
@@ -226,6 +227,7 @@ int setup(uint32_t entries, struct io_uring_params *params, bool is_polled)
     block_signals(&own);
     read_policy();
     read_injection();
+    read_passing_time();
     read_handlers();
     read_devices();
     read_trace();

@@ -87,7 +87,9 @@ static struct wulgach_waited wait_as(struct ring *ring, const struct wulgach_wai
 enum wulgach_reply_kind wait_for_any(struct ring *ring, const struct wulgach_limit *deadline, bool is_least, const struct sleep_masks *masks, int *error)
 {
     take_dropped(masks->own);
-    struct wulgach_wake_sources sources = wake_sources(ring, masks->asleep);
+    /* (by choice time passes before any of these) */
+    struct wulgach_wake_sources sources = ring->is_rushed ? (struct wulgach_wake_sources){0} : wake_sources(ring, masks->asleep);
+    ring->is_rushed = false;
     struct wulgach_wait wait;
     wulgach_times_wait(&ring->times, ring->timeouts, ring->timeouts_room, &sources, deadline, &wait);
     struct wulgach_waited waited = wait_as(ring, &wait, masks);
@@ -120,6 +122,19 @@ void pass_time(struct ring *ring)
 {
     struct wulgach_timeout timeout;
     if (find_passing(ring, &timeout))
+        fire(ring, &timeout);
+}
+
+bool find_next_timeout(const struct ring *ring, struct wulgach_timeout *timeout)
+{
+    static const struct wulgach_wake_sources nothing_else;
+    return ring->times.count > 0 && wulgach_times_passing(&ring->times, ring->timeouts, ring->timeouts_room, &nothing_else, timeout) == 0;
+}
+
+void pass_by_choice(struct ring *ring)
+{
+    struct wulgach_timeout timeout;
+    if (find_next_timeout(ring, &timeout))
         fire(ring, &timeout);
 }
 

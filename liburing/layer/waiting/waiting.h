@@ -19,6 +19,10 @@ bool can_pass_time(const struct ring *ring);
 /* Ends the timeout that ends first, unless a stream is waited for. Where time is real, it is one that is over. */
 void pass_time(struct ring *ring);
 
+/* Finds the timeout that ends first, whatever else could go on; and ends it. */
+bool find_next_timeout(const struct ring *ring, struct wulgach_timeout *timeout);
+void pass_by_choice(struct ring *ring);
+
 /* Where time is real, ends all timeouts that are over. */
 void pass_real_time(struct ring *ring);
 

@@ -59,6 +59,26 @@ static void test_linked(void)
     close_ring(&ring);
 }
 
+/* A write that has started can't be cancelled: it ends with what it wrote, whenever the time of its timeout is over. */
+static void test_linked_to_write(void)
+{
+    struct __kernel_timespec time = {.tv_nsec = MILLISECOND};
+    int32_t results[2];
+    for (int i = 0; i < 40; i++) {
+        struct ring ring;
+        int fd = make_file();
+        make_ring(&ring, 8, 0, 0);
+        put_transfer(&ring, IORING_OP_WRITE, 0, IOSQE_IO_LINK, fd, "text", 4, 0);
+        put_transfer(&ring, IORING_OP_LINK_TIMEOUT, 1, 0, -1, &time, 1, 0);
+        check(enter(&ring, 2, 0, 0) == 2);
+        usleep(2000);
+        reap_all(&ring, 2, results);
+        check(results[0] == 4 && results[1] == -ECANCELED);
+        close(fd);
+        close_ring(&ring);
+    }
+}
+
 /* A timeout that is over by then isn't cancelled by a call of io_uring_register(2). */
 static void test_cancelled_late(void)
 {
@@ -98,6 +118,6 @@ static void test_signal(void)
 
 int main(int count, char **words)
 {
-    static const struct named tests[] = {{"timeout", test_timeout}, {"limit", test_limit}, {"linked", test_linked}, {"cancelled late", test_cancelled_late}, {"signal", test_signal}};
+    static const struct named tests[] = {{"timeout", test_timeout}, {"limit", test_limit}, {"linked", test_linked}, {"linked to a write", test_linked_to_write}, {"cancelled late", test_cancelled_late}, {"signal", test_signal}};
     return run_tests(tests, sizeof tests / sizeof *tests, count > 1 ? words[1] : NULL);
 }

@@ -1,5 +1,5 @@
-/* Tests by direct calls: memory that is refused, by the wrapped malloc, calloc and realloc of this program. All hold under every
- * policy.
+/* Tests by direct calls: memory that is refused, by the wrapped malloc, calloc and realloc of this program, and how often memory is asked
+ * for to grow. All hold under every policy.
  */
 #define _GNU_SOURCE
 #include "engines.h"
@@ -11,6 +11,7 @@
 
 /* So many are allowed, or all if it is negative; then one is refused, or as many as `refusals` says. */
 static long allocations_left = -1, refusals;
+static unsigned reallocations;
 
 static bool is_allowed(void)
 {
@@ -39,6 +40,7 @@ void *__wrap_calloc(size_t count, size_t size)
 
 void *__wrap_realloc(void *at, size_t size)
 {
+    reallocations++;
     return is_allowed() ? __real_realloc(at, size) : NULL;
 }
 
@@ -284,6 +286,19 @@ static void test_refused_readiness(void)
         unsetenv("WULGACH_TEST_POLLED");
 }
 
+/* Calls of one no-op each, of which none is reaped: tables grow by doubling, or each call would move all that waits. */
+static void test_growing(void)
+{
+    enum { CALLS = 2048, MOST_GROWTHS = 200 };
+    struct ring ring;
+    make_ring(&ring, 8, 0, 0);
+    unsigned before = reallocations;
+    for (unsigned i = 0; i < CALLS; i++)
+        submit_nop(&ring, i);
+    check(reallocations - before <= MOST_GROWTHS);
+    close_ring(&ring);
+}
+
 int main(int count, char **words)
 {
     static const struct named tests[] = {
@@ -293,6 +308,7 @@ int main(int count, char **words)
         {"refused extras", test_refused_extras},
         {"refused notice", test_refused_notice},
         {"refused readiness", test_refused_readiness},
+        {"growing", test_growing},
     };
     return run_tests(tests, sizeof tests / sizeof *tests, count > 1 ? words[1] : NULL);
 }

@@ -6,6 +6,7 @@
 #define _GNU_SOURCE
 #include "engines.h"
 
+#include <malloc.h>
 #include <sys/socket.h>
 #include <sys/uio.h>
 
@@ -120,6 +121,22 @@ static void test_groups(void)
     check(register_group(&ring, cells, 8, 2) == 0 && unregister_group(&ring, 2) == 0);
     check(provide(&ring, at, 1, 65536, 0, 3) == 0 && provide(&ring, at, 1, 1, 0, 3) == -EOVERFLOW);
     check(remove_buffers(&ring, 65536, 3) == 65535 && remove_buffers(&ring, 1, 3) == 0);
+    munmap(cells, 4096);
+    close_ring(&ring);
+}
+
+/* A group whose ring of buffers goes is gone: nothing of it is kept. */
+static void test_unregistered(void)
+{
+    enum { EACH = 16, MOST_KEPT = 16384 };
+    struct ring ring;
+    char *cells = mmap(NULL, 4096, PROT_READ | PROT_WRITE, MAP_PRIVATE | MAP_ANONYMOUS, -1, 0);
+    make_ring(&ring, 8, 0, 0);
+    check(register_group(&ring, cells, 8, 0) == 0 && unregister_group(&ring, 0) == 0);
+    size_t before = mallinfo2().uordblks;
+    for (uint32_t group = 0; group <= UINT16_MAX; group += EACH)
+        check(register_group(&ring, cells, 8, (uint16_t)group) == 0 && unregister_group(&ring, (uint16_t)group) == 0);
+    check(mallinfo2().uordblks <= before + MOST_KEPT);
     munmap(cells, 4096);
     close_ring(&ring);
 }
@@ -282,6 +299,7 @@ int main(int count, char **words)
     static const struct named tests[] = {
         {"provided", test_provided},
         {"groups", test_groups},
+        {"unregistered", test_unregistered},
         {"empty lists", test_empty_lists},
         {"failing", test_failing},
         {"failing in chains", test_failing_in_chains},

@@ -262,7 +262,7 @@ static void test_sqpoll(void)
     close_ring(&ring);
 }
 
-/* Entries and completions of twice the size: each stands after the other by so much. */
+/* Entries and completions of twice the size: each stands after the other by so much. The second half of a completion is 0, whatever stood there. */
 static void test_large_cells(void)
 {
     struct ring ring;
@@ -270,6 +270,7 @@ static void test_large_cells(void)
     const size_t entry_size = 2 * sizeof(struct io_uring_sqe), completion_size = 2 * sizeof(struct io_uring_cqe);
     size_t entries_size = ring.params.sq_entries * entry_size, cq_size = ring.params.cq_off.cqes + ring.params.cq_entries * completion_size;
     char *entries = map(&ring, entries_size, IORING_OFF_SQES), *cq = map(&ring, cq_size, IORING_OFF_CQ_RING);
+    memset(cq + ring.params.cq_off.cqes, 0xff, ring.params.cq_entries * completion_size);
     for (unsigned i = 0; i < 10; i++) {
         unsigned slot = i % ring.params.sq_entries;
         struct io_uring_sqe *entry = (void *)(entries + slot * entry_size);
@@ -280,6 +281,7 @@ static void test_large_cells(void)
         check(enter(&ring, 1, 1, IORING_ENTER_GETEVENTS) == 1);
         const struct io_uring_cqe *completion = (void *)(cq + ring.params.cq_off.cqes + i % ring.params.cq_entries * completion_size);
         check(completion->user_data == i && completion->res == (i % 2 ? 0 : -EINVAL));
+        check(memcmp(&completion[1], (char[sizeof *completion]){0}, sizeof *completion) == 0);
         __atomic_store_n(cq_word(&ring, ring.params.cq_off.head), i + 1, __ATOMIC_RELEASE);
     }
     munmap(entries, entries_size);

@@ -3,7 +3,8 @@
  *   ways run WAY [unsynced]     8 KB go to `data`; once they are safe, or, `unsynced`, once they are written, a line is printed
  *   ways check                  status 1: the line was printed, and `data` isn't whole
  *   ways list                   prints the ways
- *   ways run CASE, ways check CASE   what a parameter of `explore crash` decides: unit, replace, retry; and what nobody sees: killed
+ *   ways run CASE, ways check CASE   what a parameter of `explore crash` decides: unit, replace, retry; what nobody sees: killed; and two
+ *                               folders, each of which has a name and is synced: folders
  */
 #define _GNU_SOURCE
 #include "ways.h"
@@ -13,6 +14,7 @@
 #include <stdio.h>
 #include <string.h>
 #include <sys/mman.h>
+#include <sys/stat.h>
 #include <unistd.h>
 
 /* Memory that nobody sees written, since the process is killed: the comparison at the end tells of it. */
@@ -62,6 +64,24 @@ static void run_retry(void)
     puts("safe");
 }
 
+static void sync_named(const char *folder)
+{
+    int opened = open(folder, O_RDONLY | O_DIRECTORY);
+    demand(opened >= 0 && fsync(opened) == 0 && close(opened) == 0, folder);
+}
+
+/* A name in each of two folders is safe once its folder was synced: the sync of one isn't that of the other. */
+static void run_folders(void)
+{
+    demand(mkdir("one", 0777) == 0 && mkdir("two", 0777) == 0, "mkdir");
+    sync_folder();
+    make("one/name", 0);
+    make("two/name", 0);
+    sync_named("one");
+    sync_named("two");
+    puts("safe");
+}
+
 static bool is_printed(const char *word)
 {
     char line[100];
@@ -85,8 +105,18 @@ static bool is_whole(size_t size, const char *letters)
     return true;
 }
 
+static int check_folders(void)
+{
+    if (!is_printed("safe") || (access("one/name", F_OK) == 0 && access("two/name", F_OK) == 0))
+        return 0;
+    puts("a name is lost");
+    return 1;
+}
+
 static int check(const char *what)
 {
+    if (what && strcmp(what, "folders") == 0)
+        return check_folders();
     bool is_half = what && (strcmp(what, "unit") == 0 || strcmp(what, "replace") == 0);
     if (is_half ? !is_printed("begun") || is_whole(SECTOR, "xy") : !is_printed("safe") || is_whole(SIZE, "x"))
         return 0;
@@ -102,6 +132,8 @@ static int run(const char *name)
         return run_replace(), 0;
     if (strcmp(name, "retry") == 0)
         return run_retry(), 0;
+    if (strcmp(name, "folders") == 0)
+        return run_folders(), 0;
     if (strcmp(name, "killed") == 0)
         return run_killed(), 0;
     for (const struct way *way = ways; way->name; way++)
