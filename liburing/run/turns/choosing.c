@@ -74,10 +74,11 @@ void change_world(void)
 /* What a thread waits for is asked anew only after the world has changed. */
 static bool is_met(struct thread *thread)
 {
-    if (!thread->is_ready || thread->asked == world->changes)
-        return false;
-    thread->asked = world->changes;
-    return thread->is_ready(thread->argument);
+    if (thread->is_ready && thread->asked != world->changes) {
+        thread->asked = world->changes;
+        thread->is_met = thread->is_ready(thread->argument);
+    }
+    return thread->is_ready && thread->is_met;
 }
 
 /* The candidates; when the next moment is that somebody waits for; and whether somebody waits for what may come from outside. */

@@ -11,6 +11,7 @@
 #include "chance.h"
 #include "clocks.h"
 #include "dates.h"
+#include "notices.h"
 #include "turns.h"
 #include "watch.h"
 
@@ -73,7 +74,7 @@ static void serve_trap(void *argument)
     note_place(trap);
     long result = serve_row(trap);
     note_call(trap, result);
-    if (result == RESTARTS && is_made_again(trap->call)) {
+    if (result == RESTARTS && is_made_again(trap->call) && is_restarted()) {
         registers[REG_RIP] -= 2;
         registers[REG_RAX] = trap->call;
     } else {

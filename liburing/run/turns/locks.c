@@ -41,7 +41,7 @@ static int find_ready(int *ready, uint64_t now)
         const struct thread *thread = world->threads + i;
         if (thread->state == READY)
             ready[count++] = i;
-        else if (thread->state == WAITS && (thread->limit <= now || (thread->is_ready && thread->asked != world->changes)))
+        else if (thread->state == WAITS && (thread->limit <= now || (thread->is_ready && (thread->is_met || thread->asked != world->changes))))
             return -1;
     }
     return count;

@@ -99,11 +99,18 @@ static bool does_nothing(int signal)
 
 static void interrupt(struct thread *thread, int signal)
 {
-    if (thread->state != WAITS || thread->mask & bit_of(signal) || does_nothing(signal))
+    bool is_awaited = thread->awaited & bit_of(signal);
+    if (thread->state != WAITS || (!is_awaited && (thread->mask & bit_of(signal) || does_nothing(signal))))
         return;
     thread->wanted_count = 0;
-    thread->reason = INTERRUPTED;
+    thread->reason = is_awaited ? IS_READY : INTERRUPTED;
+    thread->by = signal;
     thread->state = READY;
+}
+
+bool is_restarted(void)
+{
+    return actions[self->by].flags & SA_RESTART;
 }
 
 static struct thread *thread_of_number(int number)
@@ -116,14 +123,19 @@ static struct thread *thread_of_number(int number)
     return NULL;
 }
 
-/* One for the process: this thread has it, if it is open here; else the first that has it open. */
+static bool takes(const struct thread *thread, int signal)
+{
+    return thread->state != FREE && thread->state != ENDED && (!(thread->mask & bit_of(signal)) || (thread->state == WAITS && thread->awaited & bit_of(signal)));
+}
+
+/* One for the process: this thread has it, if it is open here; else the first that has it open, or waits for it. */
 static struct thread *taker_of(int signal)
 {
     if (!(self->mask & bit_of(signal)))
         return self;
     for (int i = 0; i < world->count; i++) {
         struct thread *thread = world->threads + i;
-        if (thread->state != FREE && thread->state != ENDED && !(thread->mask & bit_of(signal)))
+        if (takes(thread, signal))
             return thread;
     }
     return NULL;
@@ -278,7 +290,10 @@ long serve_timed_wait(struct trap *trap)
         long result = kernel(SYS_rt_sigtimedwait, &wanted, trap->words[1], &none, sizeof wanted);
         if (result != -EAGAIN || limit <= world->now)
             return result;
-        if (wait_until(is_pending, &wanted, false, limit) == INTERRUPTED)
+        self->awaited = wanted;
+        enum reason reason = wait_until(is_pending, &wanted, true, limit);
+        self->awaited = 0;
+        if (reason == INTERRUPTED)
             return -EINTR;
     }
 }

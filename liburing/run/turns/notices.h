@@ -9,6 +9,9 @@ serving serve_mask, serve_action, serve_signal_stack, serve_suspend, serve_pause
 /* A signal was raised, in the thread of this number, or (0) in the process: who waits and has it open goes on. */
 void note_raised(int thread, int signal);
 
+/* Whether a call that this thread's signal has interrupted is made again after the handler (SA_RESTART). */
+bool is_restarted(void);
+
 /* A wait that another mask goes with: a signal that only this lets through ends it, and has its handler called under that mask. */
 long wait_under_mask(struct trap *trap, const uint64_t *mask, long (*wait)(const long *words));
 

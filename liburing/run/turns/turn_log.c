@@ -63,6 +63,19 @@ static int words_of(long call, const long *words)
     }
 }
 
+/* A lock by its owner, or the end of a thread, is awaited by the number of a thread, which isn't the same twice. */
+enum { OWNER = -1 };
+
+static bool is_of_owner(const struct trap *trap, int word)
+{
+    if (trap->call != SYS_futex || word != 2)
+        return false;
+    for (int i = 0; i < world->count; i++)
+        if (world->threads[i].number == ((int)trap->words[2] & FUTEX_TID_MASK))
+            return true;
+    return false;
+}
+
 static void put_line(const char *line, int size)
 {
     if (length + (size_t)size > ROOM)
@@ -77,6 +90,7 @@ static bool has_number(long call)
     switch (call) {
     case SYS_getpid: case SYS_gettid: case SYS_getppid: case SYS_set_tid_address: case SYS_clone: case SYS_clone3: case SYS_fork: case SYS_vfork: case SYS_tkill: case SYS_tgkill: case SYS_kill:
     case SYS_wait4: case SYS_waitid: case SYS_rt_sigqueueinfo: case SYS_rt_tgsigqueueinfo: case SYS_getpgid: case SYS_getsid: case SYS_setsid: case SYS_getpgrp: case SYS_prlimit64:
+    case SYS_sched_getaffinity: case SYS_sched_setaffinity: case SYS_sched_getparam: case SYS_sched_getscheduler: case SYS_sched_setscheduler: case SYS_setpriority: case SYS_getpriority:
         return true;
     default:
         return false;
@@ -95,7 +109,7 @@ void note_call(const struct trap *trap, long result)
         return;
     }
     for (int i = 0; i < count; i++)
-        size += snprintf(line + size, sizeof line - (size_t)size, i ? ", %#lx" : "%#lx", (unsigned long)trap->words[i]);
+        size += snprintf(line + size, sizeof line - (size_t)size, i ? ", %#lx" : "%#lx", (unsigned long)(is_of_owner(trap, i) ? OWNER : trap->words[i]));
     size += snprintf(line + size, sizeof line - (size_t)size, ") = %ld, at %lu ns\n", result, world->now);
     put_line(line, size);
 }

@@ -40,11 +40,14 @@ struct thread {
     bool (*is_ready)(void *);
     void *argument;
     bool is_outside;     /* it may come from another process */
-    uint64_t asked;      /* at which change of the world it was asked last */
+    uint64_t asked;      /* at which change of the world it was asked last, and whether it was so */
+    bool is_met;
 
     /* Where it stands. */
     long call, words[6];
     uint64_t mask;       /* of signals, as it was trapped */
+    uint64_t awaited;    /* signals for which it waits, though they are blocked */
+    int by;              /* the signal that has interrupted its wait */
     const void *place;   /* of the program, if that is known */
     uintptr_t stack;
     uint64_t looks;      /* at the clock since its last point */

@@ -1,6 +1,7 @@
 /* poll, select, epoll, and waiting for processes. */
 #define _GNU_SOURCE
 #include "waits.h"
+#include "clocks.h"
 #include "descriptors.h"
 #include "notices.h"
 
@@ -169,9 +170,15 @@ long serve_select(struct trap *trap)
     return ready;
 }
 
+/* (the kernel's says what is left of the time, of which the C library's function says nothing) */
 static long pselect_words(const long *words)
 {
-    return select_until(words, limit_after((const struct timespec *)words[4]));
+    struct timespec *time = (struct timespec *)words[4];
+    uint64_t limit = limit_after(time);
+    long ready = select_until(words, limit);
+    if (time)
+        *time = left_until(limit);
+    return ready;
 }
 
 long serve_pselect(struct trap *trap)
