@@ -16,8 +16,8 @@
 #include "watch.h"
 
 #include <errno.h>
-#include <linux/io_uring.h>
 #include <string.h>
+#include <sys/mman.h>
 #include <sys/prctl.h>
 
 enum { BY_FILTER = 1, BY_DISPATCH = 2, RESTORED = 0x04000000 };
@@ -54,10 +54,20 @@ static void note_place(const struct trap *trap)
     self->stack = (uintptr_t)trap->at->uc_mcontext.gregs[REG_RSP];
 }
 
+/* A thread that makes many calls of which no other hears may wait for one all the same, or for a timer. */
+static bool is_point(const struct row *row)
+{
+    enum { MOST_QUIET = 1000, LOOK = 1000 };
+    if (!row || !row->is_quiet)
+        return true;
+    world->now += LOOK;
+    return ++self->looks > MOST_QUIET;
+}
+
 static long serve_row(struct trap *trap)
 {
     const struct row *row = row_of(trap->call);
-    if (!row || !row->is_quiet)
+    if (is_point(row))
         make_point(trap->call == SYS_sched_yield || trap->call == YIELD_AT_LOCK);
     if (row && row->serve)
         return row->serve(trap);
@@ -73,6 +83,10 @@ static void serve_trap(void *argument)
     greg_t *registers = trap->at->uc_mcontext.gregs;
     note_place(trap);
     long result = serve_row(trap);
+    if (has_left_turns) {       /* (a child that was forked) */
+        registers[REG_RAX] = result;
+        return;
+    }
     note_call(trap, result);
     if (result == RESTARTS && is_made_again(trap->call) && is_restarted()) {
         registers[REG_RIP] -= 2;
@@ -89,9 +103,19 @@ static void point_before_ring(void *argument)
     make_point(false);
 }
 
-static bool is_of_ring(long call)
+/* Memory that is shared with a file may be a ring's, unless this library itself maps it. */
+static bool is_of_ring(const struct trap *trap)
 {
-    return call == SYS_io_uring_setup || call == SYS_io_uring_enter || call == SYS_io_uring_register;
+    switch (trap->call) {
+    case SYS_io_uring_setup:
+    case SYS_io_uring_enter:
+    case SYS_io_uring_register:
+        return true;
+    case SYS_mmap:
+        return !(trap->words[3] & MAP_ANONYMOUS) && trap->words[3] & MAP_SHARED && (uint64_t)trap->words[4] >> 32 != PASSES;
+    default:
+        return false;
+    }
 }
 
 /* What is marked so is asked of the kernel in earnest. */
@@ -105,11 +129,39 @@ static char *own_stack(void)
     return stack_of_slot(slot_of(self) + 1);
 }
 
+/* Calls of the layer's are trapped before it is on a stack of its own (stacks.c), and this one may be small: so it begins on the slot's, with signals on another
+ * part of that, since the program's stack of signals may have this trap's frame. */
+struct beginning {
+    struct trap *trap;
+    bool is_served;
+};
+
+static void begin_apart(void *argument)
+{
+    struct beginning *beginning = argument;
+    const struct trap *trap = beginning->trap;
+    const stack_t signals = {.ss_sp = stack_of_slot(slot_of(self)), .ss_size = SIGNALS_STACK}, *program = &trap->at->uc_stack;
+    bool has_signals = program->ss_size > 0 && !(program->ss_flags & SS_DISABLE);
+    self->is_in_ring = true;
+    if (has_signals)
+        kernel(SYS_sigaltstack, &signals, 0);
+    beginning->is_served = wants_own_stack(trap->at);
+    if (beginning->is_served)
+        serve_by_layer(trap->at, trap->call);
+    if (has_signals)
+        kernel(SYS_sigaltstack, program, 0);
+    self->is_in_ring = false;
+}
+
 static void serve_ring(struct trap *trap)
 {
+    struct beginning beginning = {trap, false};
     call_on(own_stack(), point_before_ring, trap);
     int kept = errno;
-    serve_by_layer(trap->at, trap->call);
+    if (!self->is_in_ring)
+        call_on(own_stack() - SERVING_STACK, begin_apart, &beginning);
+    if (!beginning.is_served)
+        serve_by_layer(trap->at, trap->call);
     errno = kept;
     note_call(trap, trap->at->uc_mcontext.gregs[REG_RAX]);
     change_world();
@@ -126,7 +178,7 @@ static void on_call(int number, siginfo_t *info, void *context)
         return_from_program(registers[REG_RSP]);
     else if (!self || asks_kernel(&trap))
         registers[REG_RAX] = pass_on(&trap);
-    else if (is_of_ring(trap.call))
+    else if (is_of_ring(&trap))
         serve_ring(&trap);
     else
         call_on(own_stack(), serve_trap, &trap);

@@ -11,7 +11,8 @@
 #include <time.h>
 #include <ucontext.h>
 
-enum { MOST_THREADS = 1024, SERVING_STACK = 1 << 16 };
+/* Of a slot's memory the lowest part is for signals while a call of a ring begins, the next for that, and the last for serving a call. */
+enum { MOST_THREADS = 1024, SIGNALS_STACK = 1 << 15, RING_STACK = 1 << 16, SERVING_STACK = 1 << 16, STACKS = SIGNALS_STACK + RING_STACK + SERVING_STACK };
 
 #define NEVER UINT64_MAX
 #define SECOND 1000000000ul
@@ -51,6 +52,7 @@ struct thread {
     const void *place;   /* of the program, if that is known */
     uintptr_t stack;
     uint64_t looks;      /* at the clock since its last point */
+    bool is_in_ring;     /* whether a call of a ring has begun on the slot's stack for that */
 
     uint64_t cleared;    /* where the kernel would put 0 as it ends */
     uint64_t robust;     /* the list of its robust locks */

@@ -27,6 +27,7 @@ void pause_watch(bool is_paused)
     set_ticks(is_paused ? 0 : TICK);
 }
 
+/* Or something comes by itself, as an alarm. */
 static bool can_others_go_on(void)
 {
     for (int i = 0; i < world->count; i++) {
@@ -34,7 +35,7 @@ static bool can_others_go_on(void)
         if (thread != self && (thread->state == READY || (thread->state == WAITS && (thread->is_ready || thread->limit != NEVER))))
             return true;
     }
-    return false;
+    return world->due != NEVER;
 }
 
 static void tell_interrupted(const ucontext_t *at)
@@ -68,6 +69,7 @@ void on_tick(int number, siginfo_t *info, void *context)
     self->words[0] = at->uc_mcontext.gregs[REG_RIP];
     self->mask = mask_at(at);
     self->stack = (uintptr_t)at->uc_mcontext.gregs[REG_RSP];
+    world->now += world->patience;
     change_world();
     wait_until(NULL, NULL, false, world->now + 1);
     points_seen = ++world->points;

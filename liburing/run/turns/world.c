@@ -53,7 +53,7 @@ void end_run(int status)
 char *stack_of_slot(int slot)
 {
     const uintptr_t page = 4096, end = (uintptr_t)(world + 1) + page;
-    return (char *)(end / page * page + (uintptr_t)slot * SERVING_STACK);
+    return (char *)(end / page * page + (uintptr_t)slot * STACKS);
 }
 
 struct thread *take_slot(void)
