@@ -184,15 +184,24 @@ struct task {
     stack_t signals, before;
 };
 
+/* Where the library has turns, these set it so, if the thread takes them. */
+bool set_signal_stack_in_turns(const stack_t *stack) __attribute__((weak));
+
+static void put_signal_stack(const stack_t *stack)
+{
+    if (!set_signal_stack_in_turns || !set_signal_stack_in_turns(stack))
+        sigaltstack(stack, NULL);
+}
+
 static void run(void *argument)
 {
     struct task *task = argument;
     bool has_signal_stack = task->before.ss_size > 0;
     if (has_signal_stack)
-        sigaltstack(&task->signals, NULL);
+        put_signal_stack(&task->signals);
     task->function(task->argument);
     if (has_signal_stack)
-        sigaltstack(&task->before, NULL);
+        put_signal_stack(&task->before);
 }
 
 static void call_on(char *top, void (*function)(void *), void *argument)

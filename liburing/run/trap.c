@@ -14,6 +14,7 @@
 #include "../layer/process/passing.h"
 #include "rewriting.h"
 #include "run.h"
+#include "turns/calls.h"
 
 #include <errno.h>
 #include <linux/io_uring.h>
@@ -30,6 +31,9 @@
 #include <sys/syscall.h>
 #include <ucontext.h>
 #include <unistd.h>
+
+/* Only where the library has turns. */
+bool begin_turns(void) __attribute__((weak));
 
 long wulgach_polled_syscall(long call, ...);
 long wulgach_blocked_enter(const long words[6], const sigset_t *signals);
@@ -185,6 +189,21 @@ static bool is_of_trap(long call, const ucontext_t *at)
     }
 }
 
+/* On the stack that it was trapped on, or on one that has room. */
+static void serve_with_room(struct trapped *trapped)
+{
+    /* (one of the mask, of an action or of an epoll instance takes next to no room, and may be the last that its thread makes) */
+    bool is_small = trapped->call == SYS_rt_sigprocmask || trapped->call == SYS_rt_sigaction || trapped->call == SYS_epoll_ctl;
+    if (!is_small && wants_own_stack(trapped->at)) {
+        if (!call_on_own_stack(trapped->at, serve_trapped, trapped))
+            trapped->at->uc_mcontext.gregs[REG_RAX] = wulgach_seen_missing_fault(WULGACH_NO_MEMORY_OWN);
+        return;
+    }
+    const void *before = wulgach_note_caller(NULL);
+    serve_trapped(trapped);
+    wulgach_note_caller(before);
+}
+
 static void answer(int number, siginfo_t *info, void *context)
 {
     struct trapped trapped = {context, info->si_syscall};
@@ -194,16 +213,7 @@ static void answer(int number, siginfo_t *info, void *context)
         errno = kept;
         return;
     }
-    /* (one of the mask, of an action or of an epoll instance takes next to no room, and may be the last that its thread makes) */
-    bool is_small = trapped.call == SYS_rt_sigprocmask || trapped.call == SYS_rt_sigaction || trapped.call == SYS_epoll_ctl;
-    if (!is_small && wants_own_stack(trapped.at)) {
-        if (!call_on_own_stack(trapped.at, serve_trapped, &trapped))
-            trapped.at->uc_mcontext.gregs[REG_RAX] = wulgach_seen_missing_fault(WULGACH_NO_MEMORY_OWN);
-    } else {
-        const void *before = wulgach_note_caller(NULL);
-        serve_trapped(&trapped);
-        wulgach_note_caller(before);
-    }
+    serve_with_room(&trapped);
     errno = kept;
     leave_trap(trapped.at);
 }
@@ -274,7 +284,14 @@ static bool is_trapped(void)
     return was_trapped;
 }
 
-static void __attribute__((constructor)) begin(void)
+/* What turns ask for (turns/calls.h). */
+void serve_by_layer(ucontext_t *at, long call)
+{
+    struct trapped trapped = {at, call};
+    serve_with_room(&trapped);
+}
+
+void begin_without_turns(void)
 {
     /* (a parent that wasn't reached may have blocked it) */
     unblock_trap();
@@ -283,5 +300,11 @@ static void __attribute__((constructor)) begin(void)
         say("the calls can't be trapped here: the kernel refuses the filter", "");
         _exit(125);
     }
+}
+
+static void __attribute__((constructor)) begin(void)
+{
+    if (!begin_turns || !begin_turns())
+        begin_without_turns();
     errno = 0;      /* as a program finds it that begins */
 }

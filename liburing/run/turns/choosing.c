@@ -1,0 +1,231 @@
+/* Who goes on: at each point the threads that can are the ways of a choice, way 0 the one that has the baton, or after a yield the next by number, the others
+ * following by number. Where nobody can, time moves to the next moment for which one waits. */
+#define _GNU_SOURCE
+#include "turns.h"
+#include "dates.h"
+
+#include <stdlib.h>
+#include <string.h>
+
+enum { STEP = 1000, MOST_HOURS = 1, LOOK_AGAIN = 1024 };
+
+/* Where `candidates` has way 0. */
+static int first_way(const int *candidates, int count)
+{
+    for (int i = 0; i < count; i++)
+        if (candidates[i] >= slot_of(self) + world->yields)
+            return i;
+    return 0;
+}
+
+/* A seed has rolled how often a thread stays: where each turn is rolled anew all go equally fast, which finds little. */
+static int pick_by_seed(const int *candidates, int count)
+{
+    int first = first_way(candidates, count);
+    bool can_stay = candidates[first] == slot_of(self) && !world->yields;
+    if (can_stay && roll(&world->turns_random) % world->stay != 0)
+        return first;
+    return (int)((roll(&world->turns_random) >> 32) * (uint64_t)count >> 32);
+}
+
+static bool is_fall(uint64_t choice)
+{
+    for (uint64_t i = 0; i < world->fall_count; i++)
+        if (world->falls[i] == choice)
+            return true;
+    return false;
+}
+
+/* The highest goes on; at some choices it falls first. Who yields has fallen. */
+static int pick_by_priorities(const int *candidates, int count)
+{
+    for (;;) {
+        int best = 0;
+        for (int i = 1; i < count; i++)
+            if (world->threads[candidates[i]].priority > world->threads[candidates[best]].priority)
+                best = i;
+        if (!is_fall(world->choices))
+            return best;
+        world->threads[candidates[best]].priority = world->lowest--;
+        world->choices++;
+    }
+}
+
+int pick_of(const int *candidates, int count)
+{
+    if (count == 1)
+        return candidates[0];
+    world->choices++;
+    switch (world->how) {
+    case BY_SEED:
+        return candidates[pick_by_seed(candidates, count)];
+    case BY_PRIORITIES:
+        return candidates[pick_by_priorities(candidates, count)];
+    default:
+        return candidates[first_way(candidates, count)];
+    }
+}
+
+void change_world(void)
+{
+    world->changes++;
+}
+
+/* What a thread waits for is asked anew only after the world has changed. */
+static bool is_met(struct thread *thread)
+{
+    if (thread->is_ready && thread->asked != world->changes) {
+        thread->asked = world->changes;
+        thread->is_met = thread->is_ready(thread->argument);
+    }
+    return thread->is_ready && thread->is_met;
+}
+
+/* The candidates; when the next moment is that somebody waits for; and whether somebody waits for what may come from outside. */
+static int find_candidates(uint64_t *moment, bool *is_outside)
+{
+    int count = 0;
+    *moment = world->due;
+    *is_outside = false;
+    for (int i = 0; i < world->count; i++) {
+        struct thread *thread = world->threads + i;
+        if (thread->state == READY || (thread->state == WAITS && (thread->limit <= world->now || is_met(thread)))) {
+            world->candidates[count++] = i;
+        } else if (thread->state == WAITS) {
+            *moment = thread->limit < *moment ? thread->limit : *moment;
+            *is_outside |= thread->is_ready && thread->is_outside;
+        }
+    }
+    return count;
+}
+
+static struct thread *take_turn(int count)
+{
+    struct thread *next = world->threads + pick_of(world->candidates, count);
+    if (next->state == WAITS) {
+        bool is_over = next->limit <= world->now;
+        next->reason = is_over && !(next->is_ready && next->is_ready(next->argument)) ? TIME_IS_OVER : IS_READY;
+        next->state = READY;
+    }
+    return next;
+}
+
+/* Somebody waits for another process, which has a while of real time to do something. */
+static bool wait_outside(uint64_t *waited, uint64_t moment)
+{
+    const uint64_t slice = 200000;
+    const struct timespec while_ = {0, (long)slice};
+    if (moment != NEVER && (*waited >= world->grace || *waited >= moment - world->now))
+        return false;
+    kernel(SYS_nanosleep, &while_);
+    *waited += slice;
+    change_world();
+    return true;
+}
+
+static void move_time(uint64_t moment)
+{
+    if (moment > world->now)
+        world->now = moment;
+    if (world->now > MOST_HOURS * 3600 * SECOND)
+        tell_endless();
+    change_world();
+}
+
+struct thread *choose_next(void)
+{
+    uint64_t waited = 0, moment;
+    bool is_outside, is_sure = false, has_waited = false;
+    for (;;) {
+        fire_dates();
+        int count = find_candidates(&moment, &is_outside);
+        if (count > 0) {
+            world->from_outside += has_waited;
+            if (has_waited)
+                note_event("outside", count);
+            return take_turn(count);
+        }
+        has_waited = is_outside && wait_outside(&waited, moment);
+        if (has_waited)
+            continue;
+        if (moment != NEVER) {
+            move_time(moment);
+        } else if (is_sure) {
+            tell_deadlock();
+        } else {        /* (all are asked once more) */
+            is_sure = true;
+            change_world();
+        }
+    }
+}
+
+void make_point(bool yields)
+{
+    world->points++;
+    world->now += STEP;
+    self->looks = 0;
+    if (world->points % LOOK_AGAIN == 0)
+        change_world();
+    if (yields)
+        self->priority = world->lowest--;
+    world->yields = yields;
+    struct thread *next = choose_next();
+    world->yields = false;
+    go_on_as(next);
+}
+
+enum reason wait_until(bool (*is_ready)(void *), void *argument, bool is_outside, uint64_t limit)
+{
+    self->is_ready = is_ready;
+    self->argument = argument;
+    self->is_outside = is_outside;
+    self->limit = limit;
+    self->asked = 0;
+    self->reason = NO_REASON;
+    self->ticket = world->tickets++;
+    self->state = WAITS;
+    go_on_as(choose_next());
+    self->state = READY;
+    self->is_ready = NULL;
+    self->wanted = NULL;
+    self->wanted_count = 0;
+    return self->reason;
+}
+
+void place_new_thread(struct thread *thread)
+{
+    const uint64_t above = 1ul << 41, room = 1ul << 40;
+    thread->priority = above + roll(&world->turns_random) % room;
+}
+
+/* pct:SEED:DEPTH[:CHOICES]: so many falls, less one, among so many choices. */
+static void roll_falls(const char *words)
+{
+    char *at;
+    enum { SOME_CHOICES = 1000 };
+    world->seed = strtoul(words, &at, 10);
+    uint64_t depth = *at == ':' ? strtoul(at + 1, &at, 10) : 1, most = *at == ':' ? strtoul(at + 1, &at, 10) : SOME_CHOICES;
+    world->turns_random = world->seed;
+    world->fall_count = depth > 64 ? 64 : depth > 0 ? depth - 1 : 0;
+    for (uint64_t i = 0; i < world->fall_count; i++)
+        world->falls[i] = 1 + roll(&world->turns_random) % (most > 0 ? most : SOME_CHOICES);
+}
+
+/* By the policy of the rings: under a seed, or by priorities; else a thread goes on until it waits. */
+void begin_choices(void)
+{
+    static const uint64_t stays[] = {1, 20, 100};
+    const char *policy = getenv("WULGACH_POLICY");
+    world->lowest = 1ul << 40;
+    world->stay = 1;
+    if (policy && strncmp(policy, "seed:", 5) == 0) {
+        world->how = BY_SEED;
+        world->seed = strtoul(policy + 5, NULL, 10);
+        world->turns_random = world->seed;
+        world->stay = stays[roll(&world->turns_random) % 3];
+    } else if (policy && strncmp(policy, "pct:", 4) == 0) {
+        world->how = BY_PRIORITIES;
+        roll_falls(policy + 4);
+    }
+    world->chance_random = world->seed ^ 0x6368616e6365;
+}

@@ -1,0 +1,299 @@
+/* Masks, actions, the stack of signals; waits for signals, and who hears of one. */
+#define _GNU_SOURCE
+#include "notices.h"
+#include "chance.h"
+#include "dispatch.h"
+
+#include <errno.h>
+#include <signal.h>
+#include <string.h>
+#include <sys/syscall.h>
+
+enum { LAST_SIGNAL = 64 };
+
+static uint64_t bit_of(int signal)
+{
+    return (uint64_t)1 << (signal - 1);
+}
+
+/* As the program has said it, which the kernel needn't be asked. */
+static struct program_action actions[LAST_SIGNAL + 1];
+
+long serve_mask(struct trap *trap)
+{
+    const uint64_t *given = (const uint64_t *)trap->words[1];
+    uint64_t *told = (uint64_t *)trap->words[2], was = mask_at(trap->at), mask = was;
+    if (trap->words[3] != sizeof mask)
+        return -EINVAL;
+    if (given && trap->words[0] == SIG_BLOCK)
+        mask |= *given;
+    else if (given && trap->words[0] == SIG_UNBLOCK)
+        mask &= ~*given;
+    else if (given && trap->words[0] == SIG_SETMASK)
+        mask = *given;
+    else if (given)
+        return -EINVAL;
+    mask = without_ours(mask);
+    memcpy(&trap->at->uc_sigmask, &mask, sizeof mask);
+    if (told)
+        *told = was;
+    return 0;
+}
+
+/* Those that are ours are kept for when the program asks again. */
+static long keep_action(struct program_action *kept, const struct trap *trap)
+{
+    struct program_action before = *kept;
+    if (trap->words[1])
+        *kept = *(const struct program_action *)trap->words[1];
+    if (trap->words[2])
+        *(struct program_action *)trap->words[2] = before;
+    return 0;
+}
+
+long serve_action(struct trap *trap)
+{
+    int signal = (int)trap->words[0];
+    if (signal < 1 || signal > LAST_SIGNAL || trap->words[3] != sizeof(uint64_t))
+        return -EINVAL;
+    if (is_ours(signal))
+        return keep_action(signal == SIGSEGV ? &of_faults : actions + signal, trap);
+    if (!trap->words[1])
+        return pass_on(trap);
+    struct program_action action = *(const struct program_action *)trap->words[1];
+    action.mask = without_ours(action.mask);
+    long result = kernel(SYS_rt_sigaction, signal, &action, trap->words[2], sizeof action.mask);
+    if (result == 0)
+        actions[signal] = action;
+    return result;
+}
+
+/* It is set at once, as if from the program's stack, and in the frame: the kernel doesn't change the one that a handler returns from. */
+long serve_signal_stack(struct trap *trap)
+{
+    const stack_t *given = (const stack_t *)trap->words[0];
+    stack_t *told = (stack_t *)trap->words[1], was = trap->at->uc_stack;
+    uintptr_t at = (uintptr_t)trap->at->uc_mcontext.gregs[REG_RSP], lowest = (uintptr_t)was.ss_sp;
+    bool has = was.ss_size > 0 && !(was.ss_flags & SS_DISABLE), is_on = has && at > lowest && at <= lowest + was.ss_size;
+    if (given && is_on)
+        return -EPERM;
+    if (given) {
+        long result = set_signal_stack_from(given, NULL, (long)at);
+        if (result < 0)
+            return result;
+        trap->at->uc_stack = *given;
+    }
+    if (told) {
+        *told = was;
+        told->ss_flags = !has ? SS_DISABLE : is_on ? SS_ONSTACK : 0;
+    }
+    return 0;
+}
+
+static bool does_nothing(int signal)
+{
+    uint64_t handler = actions[signal].handler;
+    bool is_quiet = signal == SIGCHLD || signal == SIGURG || signal == SIGWINCH || signal == SIGCONT;
+    return handler == (uint64_t)SIG_IGN || (handler == (uint64_t)SIG_DFL && is_quiet);
+}
+
+static void interrupt(struct thread *thread, int signal)
+{
+    bool is_awaited = thread->awaited & bit_of(signal);
+    if (thread->state != WAITS || (!is_awaited && (thread->mask & bit_of(signal) || does_nothing(signal))))
+        return;
+    thread->wanted_count = 0;
+    thread->reason = is_awaited ? IS_READY : INTERRUPTED;
+    thread->by = signal;
+    thread->state = READY;
+}
+
+bool is_restarted(void)
+{
+    return actions[self->by].flags & SA_RESTART;
+}
+
+static struct thread *thread_of_number(int number)
+{
+    for (int i = 0; i < world->count; i++) {
+        struct thread *thread = world->threads + i;
+        if (thread->state != FREE && thread->state != ENDED && thread->number == number)
+            return thread;
+    }
+    return NULL;
+}
+
+static bool takes(const struct thread *thread, int signal)
+{
+    return thread->state != FREE && thread->state != ENDED && (!(thread->mask & bit_of(signal)) || (thread->state == WAITS && thread->awaited & bit_of(signal)));
+}
+
+/* One for the process: this thread has it, if it is open here; else the first that has it open, or waits for it. */
+static struct thread *taker_of(int signal)
+{
+    if (!(self->mask & bit_of(signal)))
+        return self;
+    for (int i = 0; i < world->count; i++) {
+        struct thread *thread = world->threads + i;
+        if (takes(thread, signal))
+            return thread;
+    }
+    return NULL;
+}
+
+void note_raised(int thread, int signal)
+{
+    if (signal < 1 || signal > LAST_SIGNAL)
+        return;
+    change_world();
+    struct thread *taker = thread ? thread_of_number(thread) : taker_of(signal);
+    if (taker)
+        interrupt(taker, signal);
+}
+
+/* A signal that may end the program: the log is there first. */
+static bool may_end(int signal)
+{
+    return signal > 0 && signal <= LAST_SIGNAL && actions[signal].handler == (uint64_t)SIG_DFL && !does_nothing(signal);
+}
+
+/* The kernel lets any thread take one for the process, and those that wait have all blocked: it is sent to the one that is to have it. */
+static long raise_in_process(struct trap *trap, int signal)
+{
+    struct thread *taker = signal > 0 && signal <= LAST_SIGNAL ? taker_of(signal) : NULL;
+    long process = kernel(SYS_getpid);
+    long result = taker ? kernel(SYS_tgkill, process, taker->number, signal) : pass_on(trap);
+    if (result == 0)
+        note_raised(taker ? taker->number : 0, signal);
+    return result;
+}
+
+long serve_kill(struct trap *trap)
+{
+    int signal = (int)trap->words[1];
+    bool is_own = trap->words[0] == kernel(SYS_getpid) || (int)trap->words[0] == 0;
+    if (is_own && may_end(signal)) {
+        note_call(trap, 0);
+        end_log();
+    }
+    if ((int)trap->words[0] != 0 && is_own && signal != 0 && signal != SIGKILL && signal != SIGSTOP && !may_end(signal))
+        return raise_in_process(trap, signal);
+    long result = pass_on(trap);
+    if (result == 0 && is_own)
+        note_raised(0, signal);
+    change_world();
+    return result;
+}
+
+long serve_thread_kill(struct trap *trap)
+{
+    bool has_group = trap->call == SYS_tgkill;
+    int number = (int)trap->words[has_group ? 1 : 0], signal = (int)trap->words[has_group ? 2 : 1];
+    if (may_end(signal)) {
+        note_call(trap, 0);
+        end_log();
+    }
+    long result = pass_on(trap);
+    if (result == 0 && number != self->number)
+        note_raised(number, signal);
+    change_world();
+    return result;
+}
+
+long serve_queue(struct trap *trap)
+{
+    long result = pass_on(trap);
+    if (result == 0 && trap->words[0] == kernel(SYS_getpid))
+        note_raised(0, (int)trap->words[1]);
+    return result;
+}
+
+long serve_thread_queue(struct trap *trap)
+{
+    long result = pass_on(trap);
+    if (result == 0 && trap->words[1] != self->number)
+        note_raised((int)trap->words[1], (int)trap->words[2]);
+    return result;
+}
+
+static bool is_pending(void *argument)
+{
+    uint64_t pending = 0;
+    kernel(SYS_rt_sigpending, &pending, sizeof pending);
+    return (pending & *(const uint64_t *)argument) != 0;
+}
+
+/* What is kept on the program's stack, below what is the program's own there, while its handlers are called (take_pending of passing.c). */
+struct kept {
+    long next, first, second, third, fourth;
+    uint64_t open, mask;
+};
+
+/* The kernel calls the handlers of what is pending by now, as it would, under this mask: once the trap is left, and all signals are blocked until then. The program's
+ * stack stands there, so that its handlers may do what they like. */
+static void go_on_with_pending(struct trap *trap, uint64_t mask)
+{
+    enum { IN_USE = 128 };
+    const uint64_t all = ~(uint64_t)0, open = ~mask;
+    greg_t *registers = trap->at->uc_mcontext.gregs;
+    if (!is_pending((void *)&open))
+        return;
+    struct kept *kept = (struct kept *)(registers[REG_RSP] - IN_USE) - 1;
+    *kept = (struct kept){registers[REG_RIP], registers[REG_RDI], registers[REG_RSI], registers[REG_RDX], registers[REG_R10], mask, mask_at(trap->at)};
+    registers[REG_RSP] = (greg_t)kept;
+    registers[REG_RIP] = (greg_t)take_pending;
+    memcpy(&trap->at->uc_sigmask, &all, sizeof all);
+}
+
+long wait_under_mask(struct trap *trap, const uint64_t *mask, long (*wait)(const long *words))
+{
+    if (!mask)
+        return wait(trap->words);
+    uint64_t kept = self->mask, now = without_ours(*mask), open = ~now;
+    self->mask = now;
+    long result = is_pending(&open) ? -EINTR : wait(trap->words);
+    self->mask = kept;
+    if (result == -EINTR)
+        go_on_with_pending(trap, now);
+    return result;
+}
+
+static long suspend_under(struct trap *trap, uint64_t mask)
+{
+    uint64_t kept = self->mask, open = ~mask;
+    self->mask = mask;
+    while (!is_pending(&open))
+        if (wait_until(is_pending, &open, true, NEVER) == INTERRUPTED)
+            break;
+    self->mask = kept;
+    go_on_with_pending(trap, mask);
+    return -EINTR;
+}
+
+long serve_suspend(struct trap *trap)
+{
+    return suspend_under(trap, without_ours(*(const uint64_t *)trap->words[0]));
+}
+
+long serve_pause(struct trap *trap)
+{
+    return suspend_under(trap, mask_at(trap->at));
+}
+
+/* Signals that are blocked and taken by a call. */
+long serve_timed_wait(struct trap *trap)
+{
+    const struct timespec none = {0, 0};
+    uint64_t wanted = *(const uint64_t *)trap->words[0], limit = limit_after((const struct timespec *)trap->words[2]);
+    for (;;) {
+        change_world();
+        long result = kernel(SYS_rt_sigtimedwait, &wanted, trap->words[1], &none, sizeof wanted);
+        if (result != -EAGAIN || limit <= world->now)
+            return result;
+        self->awaited = wanted;
+        enum reason reason = wait_until(is_pending, &wanted, true, limit);
+        self->awaited = 0;
+        if (reason == INTERRUPTED)
+            return -EINTR;
+    }
+}

@@ -1,0 +1,80 @@
+/* What is said as a run ends: that every thread waits, with each thread's place; that only clocks go on; and what makes a run one that isn't replayed. */
+#define _GNU_SOURCE
+#include "code.h"
+#include "locks.h"
+#include "places.h"
+#include "turns.h"
+
+#include <stdio.h>
+
+enum { DEADLOCK = 99, ENDLESS = 98 };
+
+static int count_threads(void)
+{
+    int count = 0;
+    for (int i = 0; i < world->count; i++)
+        count += world->threads[i].state == READY || world->threads[i].state == WAITS;
+    return count;
+}
+
+/* For whom a lock is kept, if it is one of the C library's that says so. */
+static void describe_owner(const struct thread *thread, char *room, size_t size)
+{
+    int owner = owner_of_lock(thread);
+    room[0] = '\0';
+    for (int i = 0; owner && i < world->count; i++)
+        if (world->threads[i].state != FREE && world->threads[i].number == owner)
+            snprintf(room, size, ", which thread %d has", i + 1);
+}
+
+static void tell_place(const struct thread *thread)
+{
+    char place[PLACE_ROOM], owner[64];
+    const void *at = thread->place ? thread->place : caller_on_stack(thread->stack);
+    describe_owner(thread, owner, sizeof owner);
+    if (at)
+        describe_place(at, place);
+    else
+        snprintf(place, sizeof place, "a place that isn't known");
+    say_line("  thread %d waits in %s at %s%s", slot_of(thread) + 1, thread->place ? name_of_lock(thread) : name_of_call(thread->call), place, owner);
+}
+
+static void tell_places(void)
+{
+    read_code();
+    for (int i = 0; i < world->count; i++)
+        if (world->threads[i].state == WAITS)
+            tell_place(world->threads + i);
+}
+
+void tell_deadlock(void)
+{
+    say_line("deadlock after %lu choices: all %d threads wait", world->choices, count_threads());
+    tell_places();
+    tell_end();
+    end_run(DEADLOCK);
+}
+
+void tell_endless(void)
+{
+    say_line("hangs: for an hour of the run's time only clocks went on");
+    tell_places();
+    tell_end();
+    end_run(ENDLESS);
+}
+
+void tell_fault(const ucontext_t *at)
+{
+    char place[PLACE_ROOM];
+    read_code();
+    describe_place((const void *)at->uc_mcontext.gregs[REG_RIP], place);
+    say_line("thread %d has a fault at %s, which ends the program", self ? slot_of(self) + 1 : 0, place);
+}
+
+void tell_end(void)
+{
+    if (world->from_outside > 0)
+        say_line("%lu times something came from outside that was waited for: this run isn't replayed", world->from_outside);
+    if (world->interrupted > 0)
+        say_line("%lu times a thread was interrupted that seemed to spin: this run isn't replayed", world->interrupted);
+}

@@ -1,0 +1,122 @@
+/* The log of a run: a line for each call, with its thread, its words and its result, into the file that WULGACH_TURNS names. Two runs of one seed have one log. */
+#define _GNU_SOURCE
+#include "turns.h"
+
+#include <fcntl.h>
+#include <linux/futex.h>
+#include <stdio.h>
+#include <stdlib.h>
+#include <string.h>
+#include <unistd.h>
+
+enum { ROOM = 1 << 16, MOST_LINE = 256 };
+
+static int file = -1;
+static char room[ROOM];
+static size_t length;
+
+void begin_log(void)
+{
+    const char *path = getenv("WULGACH_TURNS");
+    struct timespec now;
+    kernel(SYS_clock_gettime, CLOCK_REALTIME, &now);
+    world->began = now.tv_sec;
+    if (!path || !*path)
+        return;
+    enum { FIRST_HIGH = 900 };
+    long opened = kernel(SYS_open, path, O_WRONLY | O_CREAT | O_TRUNC | O_CLOEXEC, 0666);
+    file = opened < 0 ? -1 : (int)kernel(SYS_fcntl, opened, F_DUPFD_CLOEXEC, FIRST_HIGH);
+    if (opened >= 0)
+        kernel(SYS_close, opened);
+    if (file < 0)
+        say_line("%s: the log of turns can't be written", path);
+}
+
+void end_log(void)
+{
+    if (file >= 0 && length > 0)
+        kernel(SYS_write, file, room, length);
+    length = 0;
+}
+
+/* How many of the first three words a call has: the registers of others are whatever was left there. */
+static int words_of(long call, const long *words)
+{
+    switch (call) {
+    case SYS_getpid: case SYS_gettid: case SYS_getppid: case SYS_getuid: case SYS_geteuid: case SYS_getgid: case SYS_getegid: case SYS_sched_yield: case SYS_fork: case SYS_vfork:
+    case SYS_setsid: case SYS_pause: case SYS_sync: case SYS_getpgrp: case POINT_AT_LOOK: case YIELD_AT_LOCK:
+        return 0;
+    case SYS_close: case SYS_fsync: case SYS_fdatasync: case SYS_exit: case SYS_exit_group: case SYS_brk: case SYS_umask: case SYS_uname: case SYS_unlink: case SYS_rmdir: case SYS_chdir:
+    case SYS_time: case SYS_times: case SYS_sysinfo: case SYS_epoll_create: case SYS_epoll_create1: case SYS_dup: case SYS_alarm: case SYS_set_tid_address: case SYS_pipe: case POINT_AT_LOCK: case SYS_timer_delete:
+        return 1;
+    case SYS_futex:
+        return (words[1] & FUTEX_CMD_MASK) == FUTEX_UNLOCK_PI || (words[1] & FUTEX_CMD_MASK) == FUTEX_LOCK_PI ? 2 : 3;
+    case SYS_fcntl:
+        return words[1] == F_GETFL || words[1] == F_GETFD ? 2 : 3;
+    case SYS_mkdir: case SYS_rename: case SYS_access: case SYS_stat: case SYS_lstat: case SYS_fstat: case SYS_munmap: case SYS_ftruncate: case SYS_truncate: case SYS_clone3: case SYS_nanosleep:
+    case SYS_clock_gettime: case SYS_gettimeofday: case SYS_kill: case SYS_tkill: case SYS_listen: case SYS_flock: case SYS_dup2: case SYS_pipe2: case SYS_eventfd2: case SYS_getcwd: case SYS_link:
+    case SYS_symlink: case SYS_chmod: case SYS_getrlimit: case SYS_setrlimit: case SYS_getrusage: case SYS_sigaltstack: case SYS_fchmod: case SYS_getpriority: case SYS_set_robust_list: case SYS_shutdown:
+    case SYS_timerfd_create: case SYS_fstatfs: case SYS_statfs: case SYS_clock_getres: case SYS_sched_getparam: case SYS_getgroups: case SYS_timer_gettime: case SYS_timerfd_gettime:
+        return 2;
+    default:
+        return 3;
+    }
+}
+
+/* A lock by its owner, or the end of a thread, is awaited by the number of a thread, which isn't the same twice. */
+enum { OWNER = -1 };
+
+static bool is_of_owner(const struct trap *trap, int word)
+{
+    if (trap->call != SYS_futex || word != 2)
+        return false;
+    for (int i = 0; i < world->count; i++)
+        if (world->threads[i].number == ((int)trap->words[2] & FUTEX_TID_MASK))
+            return true;
+    return false;
+}
+
+static void put_line(const char *line, int size)
+{
+    if (length + (size_t)size > ROOM)
+        end_log();
+    memcpy(room + length, line, (size_t)size);
+    length += (size_t)size;
+}
+
+/* Numbers of threads and of processes are the kernel's, and not the same twice: they aren't in it. */
+static bool has_number(long call)
+{
+    switch (call) {
+    case SYS_getpid: case SYS_gettid: case SYS_getppid: case SYS_set_tid_address: case SYS_clone: case SYS_clone3: case SYS_fork: case SYS_vfork: case SYS_tkill: case SYS_tgkill: case SYS_kill:
+    case SYS_wait4: case SYS_waitid: case SYS_rt_sigqueueinfo: case SYS_rt_tgsigqueueinfo: case SYS_getpgid: case SYS_getsid: case SYS_setsid: case SYS_getpgrp: case SYS_prlimit64:
+    case SYS_sched_getaffinity: case SYS_sched_setaffinity: case SYS_sched_getparam: case SYS_sched_getscheduler: case SYS_sched_setscheduler: case SYS_setpriority: case SYS_getpriority:
+        return true;
+    default:
+        return false;
+    }
+}
+
+void note_call(const struct trap *trap, long result)
+{
+    char line[MOST_LINE];
+    if (file < 0)
+        return;
+    int count = words_of(trap->call, trap->words), size = snprintf(line, sizeof line, "%lu: thread %d: %s(", world->points, slot_of(self) + 1, name_of_call(trap->call));
+    if (has_number(trap->call)) {
+        size += snprintf(line + size, sizeof line - (size_t)size, "..)\n");
+        put_line(line, size);
+        return;
+    }
+    for (int i = 0; i < count; i++)
+        size += snprintf(line + size, sizeof line - (size_t)size, i ? ", %#lx" : "%#lx", (unsigned long)(is_of_owner(trap, i) ? OWNER : trap->words[i]));
+    size += snprintf(line + size, sizeof line - (size_t)size, ") = %ld, at %lu ns\n", result, world->now);
+    put_line(line, size);
+}
+
+void note_event(const char *what, long number)
+{
+    char line[MOST_LINE];
+    if (file >= 0)
+        put_line(line, snprintf(line, sizeof line, "%lu: %s %ld\n", world->points, what, number));
+}
