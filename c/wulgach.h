@@ -65,13 +65,15 @@ int32_t wulgach_core_step(struct wulgach_core *core, const struct wulgach_step *
 
 /* Writes a step with its answer as the line of a trace, without its end: as much as there is room for, and how many bytes it has.
  * What stands before the answer is read as this step. -22 if the words give no step, or no answer, or no such line is written, as of
- * a FILL with other fields than its operation's form has, or of a write with its data; -12 if memory was refused. Then nothing is
- * written. */
+ * a FILL with other fields than its operation's form has; -12 if memory was refused. Then nothing is written. A write has its data
+ * in its line, and a REAPED the bytes that it gives, so that a log of steps is a trace as it is. */
 enum { WULGACH_MOST_OF_LINE = 512 };
 int32_t wulgach_trace_line(const struct wulgach_step *step, const struct wulgach_answer *answer, uint8_t *line, size_t room, uint64_t *len);
 
 /* Writes the first line of a trace, without its end, as wulgach_trace_line does: `setup`, and the set-up that is asked for as the options of
- * `uring trace`, both rings with the sizes that they have. -22 exactly if it can't be, and -12 if memory was refused. Then nothing is written. */
+ * `uring trace`, both rings with the sizes that they have. A number of files that no machine has, as the 0 of a core, is written as 1.
+ * After `# ` it is what `uring check` and `uring explain` read first. -22 exactly if wulgach_core_new refuses it so, and -12 if memory was
+ * refused. Then nothing is written. */
 int32_t wulgach_trace_setup(const struct wulgach_setup *setup, uint8_t *line, size_t room, uint64_t *len);
 
 /* Writes the letters that a trace has for flags of an entry, as wulgach_trace_line does: D drains, L links, H links hard, A is asynchronous, S
