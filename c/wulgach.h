@@ -7,6 +7,12 @@
  * any size and what a power failure may leave of it; it stands apart from both. A crash machine is a machine whose power may
  * fail: it keeps a volume of each of its files. Outcomes are everything that calls may come to.
  *
+ * Data and sizes. The entry of a read or a write has up to 64 bytes of data; one of more has a fault. The data of a write are a part of
+ * the entry, which is copied as it is filled in and as it is taken; those of a read come with its end. So no buffer of the caller's is
+ * known to a core, and one that moves isn't found there. A request of any size, or of another operation, is an fsync of descriptor -1
+ * here, which ends with 0 if it did all that it was to do, and else with an error number: who waits and who is doomed rests on nothing
+ * else. What it asks for and what its completion tells the caller keeps, by the user data (examples/engine.c).
+ *
  * The types are in wulgach_types.h, volumes and crash machines in wulgach_crashes.h, outcomes in wulgach_outcomes.h, and the operations,
  * with makers of their entries, in wulgach_entries.h. This header includes them.
  *
@@ -21,8 +27,8 @@
  *     its bytes are left alone, and never copied to be used twice. A place may be moved (memcpy) if the old one
  *     isn't used again.
  *   - No pointer is null, each points to a whole struct of its type, and those of one call don't overlap.
- *   - A core stays on the thread that made it. It holds a raw pointer, for whose type no crossing of threads is
- *     proved; nothing in it is tied to a thread, but the proof doesn't say so.
+ *   - A place is used by one thread at a time. It may pass from one thread to another, as by a lock: nothing in it is tied to a
+ *     thread. That is a theorem of nobody, since the proof says nothing of threads.
  *   - No call from a signal handler, nor in the forked child of a process with threads.
  *   - malloc, realloc and free are one allocator, and align a block as C demands.
  *
