@@ -7,6 +7,12 @@
  * any size and what a power failure may leave of it; it stands apart from both. A crash machine is a machine whose power may
  * fail: it keeps a volume of each of its files. Outcomes are everything that calls may come to.
  *
+ * Data and sizes. The entry of a read or a write has up to 64 bytes of data; one of more has a fault. The data of a write are a part of
+ * the entry, which is copied as it is filled in and as it is taken; those of a read come with its end. So no buffer of the caller's is
+ * known to a core, and one that moves isn't found there. A request of any size, or of another operation, is an fsync of descriptor -1
+ * here, which ends with 0 if it did all that it was to do, and else with an error number: who waits and who is doomed rests on nothing
+ * else. What it asks for and what its completion tells the caller keeps, by the user data (examples/engine.c).
+ *
  * The types are in wulgach_types.h, volumes and crash machines in wulgach_crashes.h, outcomes in wulgach_outcomes.h, and the operations,
  * with makers of their entries, in wulgach_entries.h. This header includes them.
  *
@@ -21,8 +27,8 @@
  *     its bytes are left alone, and never copied to be used twice. A place may be moved (memcpy) if the old one
  *     isn't used again.
  *   - No pointer is null, each points to a whole struct of its type, and those of one call don't overlap.
- *   - A core stays on the thread that made it. It holds a raw pointer, for whose type no crossing of threads is
- *     proved; nothing in it is tied to a thread, but the proof doesn't say so.
+ *   - A place is used by one thread at a time. It may pass from one thread to another, as by a lock: nothing in it is tied to a
+ *     thread. That is a theorem of nobody, since the proof says nothing of threads.
  *   - No call from a signal handler, nor in the forked child of a process with threads.
  *   - malloc, realloc and free are one allocator, and align a block as C demands.
  *
@@ -65,13 +71,15 @@ int32_t wulgach_core_step(struct wulgach_core *core, const struct wulgach_step *
 
 /* Writes a step with its answer as the line of a trace, without its end: as much as there is room for, and how many bytes it has.
  * What stands before the answer is read as this step. -22 if the words give no step, or no answer, or no such line is written, as of
- * a FILL with other fields than its operation's form has, or of a write with its data; -12 if memory was refused. Then nothing is
- * written. */
+ * a FILL with other fields than its operation's form has; -12 if memory was refused. Then nothing is written. A write has its data
+ * in its line, and a REAPED the bytes that it gives, so that a log of steps is a trace as it is. */
 enum { WULGACH_MOST_OF_LINE = 512 };
 int32_t wulgach_trace_line(const struct wulgach_step *step, const struct wulgach_answer *answer, uint8_t *line, size_t room, uint64_t *len);
 
 /* Writes the first line of a trace, without its end, as wulgach_trace_line does: `setup`, and the set-up that is asked for as the options of
- * `uring trace`, both rings with the sizes that they have. -22 exactly if it can't be, and -12 if memory was refused. Then nothing is written. */
+ * `uring trace`, both rings with the sizes that they have. A number of files that no machine has, as the 0 of a core, is written as 1.
+ * After `# ` it is what `uring check` and `uring explain` read first. -22 exactly if wulgach_core_new refuses it so, and -12 if memory was
+ * refused. Then nothing is written. */
 int32_t wulgach_trace_setup(const struct wulgach_setup *setup, uint8_t *line, size_t room, uint64_t *len);
 
 /* Writes the letters that a trace has for flags of an entry, as wulgach_trace_line does: D drains, L links, H links hard, A is asynchronous, S

@@ -23,6 +23,9 @@ static const struct {
     {"fill 0 cancelall 8 - 5 = ok", {.kind = WULGACH_FILL, .entry = {[OP] = 14, [ADDR] = 5, [LEN] = 4294967296, [USER_DATA] = 8}}, {.kind = WULGACH_FILLED}},
     {"fill 0 op 99 5 S = ok", {.kind = WULGACH_FILL, .entry = {[OP] = 0x4063, [USER_DATA] = 5}}, {.kind = WULGACH_FILLED}},
     {"fill 0 cancel 1 - 9 = no slot", {.kind = WULGACH_FILL, .entry = {[OP] = 14, [ADDR] = 9, [USER_DATA] = 1}}, {.kind = WULGACH_NO_SLOT}},
+    {"fill 0 write 1 - 0 0 61626364 = ok", {.kind = WULGACH_FILL, .entry = {[OP] = 23, [LEN] = 4, [USER_DATA] = 1, [DATA] = 1684234849}}, {.kind = WULGACH_FILLED}},
+    {"fill 0 write 1 - 0 0 6100 = ok", {.kind = WULGACH_FILL, .entry = {[OP] = 23, [LEN] = 2, [USER_DATA] = 1, [DATA] = 97}}, {.kind = WULGACH_FILLED}},
+    {"fill 0 write 1 D 1 9 - = ok", {.kind = WULGACH_FILL, .entry = {[OP] = 4294967831, [OFF] = 9, [USER_DATA] = 1}}, {.kind = WULGACH_FILLED}},
     {"fill 0 read 1 LHA 0 0 65 = busy", {.kind = WULGACH_FILL, .entry = {[OP] = 0x1c16, [LEN] = 65, [USER_DATA] = 1}}, {.kind = WULGACH_BUSY}},
     {"index 4294967295 = full", {.kind = WULGACH_INDEX, .word = UINT32_MAX}, {.kind = WULGACH_FULL}},
     {"tail = tail 5", {.kind = WULGACH_STORE_TAIL}, {.kind = WULGACH_TAIL, .word = 5}},
@@ -32,6 +35,7 @@ static const struct {
     {"issue 9 = not ready", {.kind = WULGACH_ISSUE, .number = 9}, {.kind = WULGACH_NOT_READY}},
     {"finish 9 = ended -125", {.kind = WULGACH_FINISH, .number = 9}, {.kind = WULGACH_ENDED, .res = -125}},
     {"flush = moved 8", {.kind = WULGACH_FLUSH}, {.kind = WULGACH_MOVED, .number = 8}},
+    {"reap = cqe 7 2 6162", {.kind = WULGACH_REAP}, {.kind = WULGACH_REAPED, .number = 7, .res = 2, .bytes = {97, 98}}},
     {"reap = cqe 7 -22 -", {.kind = WULGACH_REAP}, {.kind = WULGACH_REAPED, .number = 7, .res = -22}},
     {"close = ok", {.kind = WULGACH_CLOSE}, {.kind = WULGACH_SHUT}},
     {"next = next 4", {.kind = WULGACH_NEXT}, {.kind = WULGACH_NEXT_IS, .number = 4}},
@@ -53,6 +57,8 @@ static const struct {
 } setups[] = {
     {"setup --sq 1 --cq 2 --files 1 --start 0", {.sq = 1, .files = 1}},
     {"setup --sq 4 --cq 8 --files 2 --start 0", {.sq = 3, .files = 2}},
+    {"setup --sq 4 --cq 8 --files 1 --start 0", {.sq = 4}},
+    {"setup --sq 4 --cq 8 --files 1 --start 9 --linux", {.sq = 4, .files = 65, .start = 9, .linux_rules = true}},
     {"setup --sq 8 --cq 8 --files 1 --start 0", {.sq = 5, .cq = 5, .files = 1, .has_cq = true}},
     {"setup --sq 8 --cq 16 --files 1 --start 0 --linux", {.sq = 5, .cq = 9, .files = 1, .has_cq = true, .linux_rules = true}},
     {"setup --sq 4096 --cq 8192 --files 64 --start 4294967295 --stop", {.sq = 4096, .cq = 8192, .files = 64, .start = UINT32_MAX, .has_cq = true, .stops = true}},
@@ -108,10 +114,10 @@ static void refusals(void)
     want_refused((struct wulgach_step){.kind = 15}, ok, -22, "no step");
     want_refused(tail, (struct wulgach_answer){.kind = 29}, -22, "no answer");
     want_refused((struct wulgach_step){.kind = WULGACH_FILL, .entry = {[5] = 1}}, ok, -22, "a no-op with another field");
-    want_refused((struct wulgach_step){.kind = WULGACH_FILL, .entry = {[OP] = 23, [LEN] = 4, [USER_DATA] = 1, [DATA] = 1684234849}}, ok, -22, "a write with its data");
+    want_refused((struct wulgach_step){.kind = WULGACH_FILL, .entry = {[OP] = 23, [LEN] = 1, [USER_DATA] = 1, [DATA] = 1684234849}}, ok, -22, "a write with more data than its length");
+    want_refused((struct wulgach_step){.kind = WULGACH_FILL, .entry = {[OP] = 23, [LEN] = 65, [USER_DATA] = 1}}, ok, -22, "a write of more than 64 bytes");
     want_no_setup((struct wulgach_setup){.sq = 0, .files = 1}, -22, "no set-up");
     want_no_setup((struct wulgach_setup){.sq = 4, .cq = 2, .files = 1, .has_cq = true}, -22, "a completion ring that is too small");
-    want_no_setup((struct wulgach_setup){.sq = 4}, -22, "no files");
     served = 0;
     want_refused(tail, ok, -12, "memory is refused");
     served = 0;

@@ -3,7 +3,8 @@
 ghost use Rattle.std.specs.Prelude.{◌<◌};
 
 use crate::fault::Fault;
-use crate::streams::{Outlet, read_in, write_out};
+use crate::steps::StepLines;
+use crate::streams::{Outlet, read_all, write_out};
 use crate::{BAD_LINE, DONE, NOT_SO, status_after};
 use std::alloc::{AllocError, Global};
 use std::io::Read;
@@ -73,15 +74,36 @@ pub(crate) fn run_crash(
 ) -> Result<u8, Fault>
     requires { 0 < asked.now.unit }
 {
-    if file >= setup.files() {
-        return Err(Fault::NoFile(file, setup.files()));
-    }
     let most = most.unwrap_or(DEFAULT_MOST);
     let question = question_of(rt.alloc(), kind, most, words)?;
+    let mut lines = StepLines::new(rt)?;
+    let ended = match lines.setup_over(rt, setup) {
+        Ok(Some(setup)) if file >= setup.files() => Err(Fault::NoFile(file, setup.files())),
+        Ok(Some(setup)) => run_lines(rt, &mut lines, &setup, asked, &question, most, is_each),
+        Ok(None) => Ok(BAD_LINE),
+        Err(fault) => Err(fault),
+    };
+    drop(lines);
+    ended
+}
+
+/// The same after the trace that these lines are, over the set-up that counts.
+fn run_lines(
+    rt: &HostRuntime,
+    lines: &mut StepLines,
+    setup: &Setup,
+    asked: &Asked,
+    question: &Option<Question>,
+    most: u32,
+    is_each: bool,
+) -> Result<u8, Fault>
+    requires { 0 < asked.now.unit }
+{
+    lines.tell_recorded(rt)?;
     if is_each {
-        run_each(rt, setup, asked, &question, most)
+        run_each(rt, lines, setup, asked, question, most)
     } else {
-        run_once(rt, &mut rt.stdin(), setup, asked, &question, most)
+        run_once(rt, lines, setup, asked, question, most)
     }
 }
 
@@ -100,9 +122,10 @@ fn question_of(
     })
 }
 
-/// Answers after each line of the trace that standard input has, up to that of the crash.
+/// Answers after each line of the trace that these lines are, up to that of the crash.
 fn run_each(
     rt: &HostRuntime,
+    lines: &mut StepLines,
     setup: &Setup,
     asked: &Asked,
     question: &Option<Question>,
@@ -110,7 +133,7 @@ fn run_each(
 ) -> Result<u8, Fault>
     requires { 0 < asked.now.unit }
 {
-    let trace = read_in(rt)?;
+    let trace = read_all(rt.alloc(), lines)?;
     let told = tell_each(rt, trace.as_slice(), setup, asked, question, most);
     drop(trace);
     told

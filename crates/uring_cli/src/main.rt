@@ -2,6 +2,7 @@
 #![tactic(auto)]
 
 // the runs
+mod bare;
 mod crashing;
 mod filled;
 mod listing;
@@ -11,6 +12,7 @@ mod powered;
 
 // streams and lines
 mod lines;
+mod steps;
 mod streams;
 mod strict;
 
@@ -18,13 +20,15 @@ mod strict;
 mod fault;
 mod telling;
 
+use crate::bare::bare_of;
 use crate::crashing::{asked_of, kind_of, run_crash};
 use crate::fault::Fault;
 use crate::filled::run_fill;
 use crate::listing::{Wanted, claim_of, run_outcomes};
 use crate::moments::run_early;
 use crate::paged::run_recorded_page;
-use crate::streams::Outlet;
+use crate::steps::StepLines;
+use crate::streams::{Outlet, read_in};
 use crate::strict::{StrictReader, tell_bad_step};
 use crate::telling::tell_fault;
 use std::alloc::{AllocError, Global};
@@ -134,8 +138,16 @@ fn run_words<R: Threads + Wait + Copy + Send + 'static>(
         Options::Timeline(setup) => show(rt, &setup, Shown::Timeline),
         Options::Page(setup) => show(rt, &setup, Shown::Page(Form::Page)),
         Options::Json(setup) => show(rt, &setup, Shown::Page(Form::Json)),
-        Options::CheckPage(setup) => run_recorded_page(rt, &setup, Form::Page),
-        Options::CheckJson(setup) => run_recorded_page(rt, &setup, Form::Json),
+        Options::CheckPage {
+            setup,
+            is_apart,
+            has_results,
+        } => run_recorded_page(rt, &setup, ends_of(is_apart, has_results), Form::Page),
+        Options::CheckJson {
+            setup,
+            is_apart,
+            has_results,
+        } => run_recorded_page(rt, &setup, ends_of(is_apart, has_results), Form::Json),
         Options::Crash {
             setup,
             file,
@@ -241,9 +253,25 @@ fn ends_of(is_apart: bool, has_results: bool) -> Ends {
 
 /// A check of the trace that standard input has.
 fn run_check(rt: &HostRuntime, setup: &Setup, is_all: bool, ends: Ends) -> Result<u8, Fault> {
+    if !matches!(ends, Ends::Given) {
+        return run_bare_check(rt, setup, is_all, ends);
+    }
     let (mut input, mut output) = (rt.stdin(), Outlet::new(rt));
     let checked = check(rt.alloc(), &mut input, &mut output, setup, is_all, ends);
     Ok(status_of(output.unless_closed(checked)?))
+}
+
+/// The same apart from files, where the data of completions aren't looked at.
+fn run_bare_check(rt: &HostRuntime, setup: &Setup, is_all: bool, ends: Ends) -> Result<u8, Fault> {
+    let trace = read_in(rt)?;
+    let bare = bare_of(rt.alloc(), trace.as_slice());
+    drop(trace);
+    let bare = bare?;
+    let (mut input, mut output) = (bare.as_slice(), Outlet::new(rt));
+    let checked = check(rt.alloc(), &mut input, &mut output, setup, is_all, ends);
+    let ended = output.unless_closed(checked);
+    drop(bare);
+    Ok(status_of(ended?))
 }
 
 /// What is shown of a trace.
@@ -262,21 +290,38 @@ enum Shown {
     Page(Form),
 }
 
-/// Shows this of the trace that standard input has.
+/// Shows this of the trace that standard input has, over the set-up that its first line says, if it says one.
 fn show(rt: &HostRuntime, setup: &Setup, shown: Shown) -> Result<u8, Fault> {
-    let (mut input, mut output) = (rt.stdin(), Outlet::new(rt));
-    let (alloc, mut errors) = (rt.alloc(), rt.stderr());
+    let mut lines = StepLines::new(rt)?;
+    let ended = match lines.setup_over(rt, setup) {
+        Ok(Some(setup)) => show_lines(rt, &mut lines, &setup, shown),
+        Ok(None) => Ok(BAD_LINE),
+        Err(fault) => Err(fault),
+    };
+    drop(lines);
+    ended
+}
+
+/// Shows this of the trace that these lines are.
+fn show_lines(
+    rt: &HostRuntime,
+    lines: &mut StepLines,
+    setup: &Setup,
+    shown: Shown,
+) -> Result<u8, Fault> {
+    lines.tell_recorded(rt)?;
+    let (alloc, mut output, mut errors) = (rt.alloc(), Outlet::new(rt), rt.stderr());
     let ended = match shown {
-        Shown::Explained => explain(alloc, &mut input, &mut output, &mut errors, setup),
+        Shown::Explained => explain(alloc, lines, &mut output, &mut errors, setup),
         Shown::Graph(at) => {
             let at = match at {
                 Some(line) => Some(u64::from(line)),
                 None => None,
             };
-            graph(alloc, &mut input, &mut output, &mut errors, setup, at)
+            graph(alloc, lines, &mut output, &mut errors, setup, at)
         }
-        Shown::Timeline => timeline(alloc, &mut input, &mut output, &mut errors, setup),
-        Shown::Page(form) => page(alloc, &mut input, &mut output, &mut errors, setup, form),
+        Shown::Timeline => timeline(alloc, lines, &mut output, &mut errors, setup),
+        Shown::Page(form) => page(alloc, lines, &mut output, &mut errors, setup, form),
     };
     Ok(status_after(output.unless_closed(ended)?))
 }

@@ -1,5 +1,6 @@
 //! The runs of which a page or its data are written.
 
+use crate::bare::bare_of;
 use crate::fault::Fault;
 use crate::lines::line_of;
 use crate::status_of;
@@ -7,13 +8,21 @@ use crate::streams::{Outlet, read_in};
 use std::alloc::{AllocError, Global};
 use uring_check::{Ends, Said, Verdict, check, said_by};
 use uring_options::Setup;
-use uring_pictures::{Form, recorded_page};
+use uring_pictures::{Form, apart_page, recorded_page};
 use uring_trace::TraceFault;
 
-/// A page of the recorded trace that standard input has, or its data.
-pub(crate) fn run_recorded_page(rt: &HostRuntime, setup: &Setup, form: Form) -> Result<u8, Fault> {
+/// A page of the recorded trace that standard input has, judged by these ends, or its data.
+pub(crate) fn run_recorded_page(
+    rt: &HostRuntime,
+    setup: &Setup,
+    ends: Ends,
+    form: Form,
+) -> Result<u8, Fault> {
     let trace = read_in(rt)?;
-    let drawn = draw_recorded(rt, trace.as_slice(), setup, form);
+    let drawn = match ends {
+        Ends::Given => draw_recorded(rt, trace.as_slice(), setup, form),
+        _ => draw_apart(rt, trace.as_slice(), setup, ends, form),
+    };
     drop(trace);
     drawn
 }
@@ -22,10 +31,32 @@ pub(crate) fn run_recorded_page(rt: &HostRuntime, setup: &Setup, form: Form) -> 
 fn draw_recorded(rt: &HostRuntime, trace: &[u8], setup: &Setup, form: Form) -> Result<u8, Fault> {
     let alloc = rt.alloc();
     let mut report = Vec::new(alloc);
-    let verdict = verdict_on(alloc, trace, &mut report, setup)?;
+    let verdict = verdict_on(alloc, trace, &mut report, setup, Ends::Given)?;
     let setup = judged_by(alloc, trace, setup)?;
     let mut output = Outlet::new(rt);
     let written = recorded_page(alloc, trace, report.as_slice(), &mut output, &setup, form);
+    drop(report);
+    output.unless_closed(written)?;
+    Ok(status_of(verdict))
+}
+
+/// The same of this trace apart from files: the data of its completions are drawn, and aren't judged.
+fn draw_apart(
+    rt: &HostRuntime,
+    trace: &[u8],
+    setup: &Setup,
+    ends: Ends,
+    form: Form,
+) -> Result<u8, Fault> {
+    let alloc = rt.alloc();
+    let mut report = Vec::new(alloc);
+    let bare = bare_of(alloc, trace)?;
+    let judged = verdict_on(alloc, bare.as_slice(), &mut report, setup, ends);
+    drop(bare);
+    let verdict = judged?;
+    let setup = judged_by(alloc, trace, setup)?;
+    let mut output = Outlet::new(rt);
+    let written = apart_page(alloc, trace, report.as_slice(), &mut output, &setup, form);
     drop(report);
     output.unless_closed(written)?;
     Ok(status_of(verdict))
@@ -46,9 +77,10 @@ fn verdict_on(
     trace: &[u8],
     report: &mut Vec<u8>,
     setup: &Setup,
+    ends: Ends,
 ) -> Result<Verdict, TraceFault> {
     let mut lines = trace;
-    match check(alloc, &mut lines, report, setup, false, Ends::Given) {
+    match check(alloc, &mut lines, report, setup, false, ends) {
         Ok(verdict) => Ok(verdict),
         // A list of bytes takes what is written unless memory is refused.
         Err(_) => Err(TraceFault::Memory),

@@ -1,6 +1,7 @@
 //! The standard streams: all of the input, and an output of which it is known whether its reader has gone.
 
 use crate::fault::Fault;
+use std::alloc::Global;
 use std::io::{self, ErrorKind, Read, Stdout, Write};
 use uring_trace::TraceFault;
 
@@ -71,8 +72,13 @@ pub(crate) fn write_error(rt: &HostRuntime, bytes: &[u8], status: u8) -> Result<
 
 /// All that standard input has.
 pub(crate) fn read_in(rt: &HostRuntime) -> Result<Vec<u8>, Fault> {
-    let mut bytes = Vec::new(rt.alloc());
-    match rt.stdin().read_to_end(&mut bytes) {
+    read_all(rt.alloc(), &mut rt.stdin())
+}
+
+/// All that this reader has.
+pub(crate) fn read_all<R: Read>(alloc: Global, reader: &mut R) -> Result<Vec<u8>, Fault> {
+    let mut bytes = Vec::new(alloc);
+    match reader.read_to_end(&mut bytes) {
         Ok(_) => Ok(bytes),
         Err(error) => {
             let is_memory = error.kind() == ErrorKind::OutOfMemory;

@@ -10,5 +10,5 @@ pub use Rattle.clap.specs.Walk.{Held, Names, Outcome, Row, Rule, Step, Text, Wai
 unfoldable pub use Rattle.clap.specs.Walk.{bundle_met, walked}
 pub use Rattle.clap.specs.Words.{found_of, rows_of}
 pub use Rattle.uring_entry.specs.Setup.{IsBadCq, Setup}
-pub use Rattle.uring_options.specs.CommandLine.{AreInRange, AskFor, AskForTooSmall, Checks, CommandOption, Crashes, Explains, Fills, Gives, GivesNumbers, IsDrawnCheck, IsFaultOf, IsGiven, IsMemory, IsPlayedOver, IsSetupOver, IsTooSmall, IsTracedOver, IsWithin, Lists, Numbers, Plays, Run, TellsVerdict, Traces, Writes, app_for, flag, number, own_options, setup_options, uring, with_commands_of}
+pub use Rattle.uring_options.specs.CommandLine.{AreInRange, AskFor, AskForTooSmall, Checks, CommandOption, Crashes, Explains, Fills, Gives, GivesNumbers, IsFaultOf, IsGiven, IsMemory, IsPlayedOver, IsSetupOver, IsTooSmall, IsTracedOver, IsWithin, Lists, Numbers, Plays, Run, Traces, Writes, app_for, flag, number, own_options, setup_options, uring, with_commands_of}
 pub use Rattle.uring_options.specs.OptionRows.{AnswersNamed, TakesFor, TakesNamed, TakesOption, TakesOptions, app_of_row, parser_for, with_command_rows, with_rows_of}

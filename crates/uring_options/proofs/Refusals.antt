@@ -48,8 +48,8 @@ not_over words n s writes set_up (m, small_writes, small) =
 not_both : (words : List Text) (o : Options) → AskFor words o → AskForTooSmall words → ⊥
 not_both words (Outcomes _ _ _ _ _ _ _ _ _) (n, writes, over) small = not_over words n _ writes over.1 small
 not_both words (Check _ _ _ _) (n, writes, over) small = not_over words n _ writes over.1.0.0 small
-not_both words (CheckPage _) (n, writes, over) small = not_over words n _ writes over.1.0.0 small
-not_both words (CheckJson _) (n, writes, over) small = not_over words n _ writes over.1.0.0 small
+not_both words (CheckPage _ _ _) (n, writes, over) small = not_over words n _ writes over.1.0.0 small
+not_both words (CheckJson _ _ _) (n, writes, over) small = not_over words n _ writes over.1.0.0 small
 not_both words _ (n, writes, over) small = not_over words n _ writes over.1.0 small
 
 -- what a refusal shows

@@ -1,5 +1,5 @@
 -- The command line, and what it asks for. The options are our own rule.
-use Rattle.std.specs.Prelude.{◌||◌, ◌≡◌, ℕ, ◌<◌, ◌≤◌, ◌⊎◌, pos, Bool, true, false, List, [], ◌∷◌, Option, Some, None, codes, unwrap_or, if◌then◌else◌}
+use Rattle.std.specs.Prelude.{◌≡◌, ℕ, ◌<◌, ◌≤◌, ◌⊎◌, pos, Bool, true, false, List, [], ◌∷◌, Option, Some, None, codes, unwrap_or, if◌then◌else◌}
 use Rattle.std.specs.Int.{IsNextPowerOfTwo}
 use Rattle.std.specs.Str.{bytes_eq}
 use Rattle.std.specs.Str.Parse.{IsNumeral, digits_value, without_leading_plus}
@@ -217,21 +217,16 @@ abbrev pub IsPlayedOver : List Row → Numbers → Setup → Type 0
 IsPlayedOver rows n s =
     IsSetupOver n (record s { linux = false }) × IsGiven rows (codes "linux") s.linux
 
--- a check tells its verdict: if it is asked for that alone, or neither `--page` nor `--json` is given
-abbrev pub TellsVerdict : List Row → Bool → Type 0
-TellsVerdict rows true = Unit {0}
-TellsVerdict rows false = IsGiven rows (codes "page") false × IsGiven rows (codes "json") false
-
 -- such a set-up, and a check that is told or drawn: `--early-effects` isn't given
 abbrev pub IsCheckedOver : List Row → Numbers → Setup → Type 0
 IsCheckedOver rows n s = IsTracedOver rows n s × IsGiven rows (codes "early-effects") false
 
--- a check is drawn: none of `--all`, `--apart` and `--results` is given
-abbrev pub IsDrawnCheck : List Row → Type 0
-IsDrawnCheck rows = IsGiven rows (codes "all") false × IsGiven rows (codes "apart") false
-    × IsGiven rows (codes "results") false
+-- what a check asks of ends: any exactly if `--apart` is given, and what operations may give exactly if `--results` is
+abbrev pub AskForEnds : List Row → (apart results : Bool) → Type 0
+AskForEnds rows apart results =
+    IsGiven rows (codes "apart") apart × IsGiven rows (codes "results") results
 
--- what a command runs, over the set-up that these rows and numbers give: `uring explain` the graph if `--graph` is given, after the line that `--at` gives, else the timeline if `--timeline` is, else the page if `--page` is, else its data if `--json` is, and else the answers; `uring check` whether effects at any moment explain the trace with `--early-effects`, else the verdict with `--all`, `--apart` or `--results`, else the page if `--page` is given, else its data if `--json` is, and else the verdict; `uring play` a play over shared words if `--shared` is given, and else one over lanes; `uring crash` what is left of file 0 if none is given, in units of one byte if none is given
+-- what a command runs, over the set-up that these rows and numbers give: `uring explain` the graph if `--graph` is given, after the line that `--at` gives, else the timeline if `--timeline` is, else the page if `--page` is, else its data if `--json` is, and else the answers; `uring check` whether effects at any moment explain the trace with `--early-effects`, else the page if `--page` is given, else its data if `--json` is, and else the verdict; `uring play` a play over shared words if `--shared` is given, and else one over lanes; `uring crash` what is left of file 0 if none is given, in units of one byte if none is given
 abbrev pub IsRunOver : Run → List Row → Numbers → Options → Type 0
 IsRunOver run rows n (Trace s echo strict) = (run ≡ Traces) × IsTracedOver rows n s
     × IsGiven rows (codes "echo") echo × IsGiven rows (codes "strict") strict
@@ -249,13 +244,14 @@ IsRunOver run rows n (Json s) = (run ≡ Explains) × IsTracedOver rows n s
     × IsGiven rows (codes "graph") false × IsGiven rows (codes "timeline") false
     × IsGiven rows (codes "page") false × IsGiven rows (codes "json") true
 IsRunOver run rows n (Check s all apart results) = (run ≡ Checks) × IsCheckedOver rows n s
-    × IsGiven rows (codes "all") all × IsGiven rows (codes "apart") apart
-    × IsGiven rows (codes "results") results × TellsVerdict rows (all || apart || results)
+    × AskForEnds rows apart results × IsGiven rows (codes "all") all
+    × IsGiven rows (codes "page") false × IsGiven rows (codes "json") false
 IsRunOver run rows n (CheckEarly s most) = (run ≡ Checks) × IsTracedOver rows n s
     × IsGiven rows (codes "early-effects") true × Gives rows (codes "most") most
-IsRunOver run rows n (CheckPage s) = (run ≡ Checks) × IsCheckedOver rows n s × IsDrawnCheck rows
-    × IsGiven rows (codes "page") true
-IsRunOver run rows n (CheckJson s) = (run ≡ Checks) × IsCheckedOver rows n s × IsDrawnCheck rows
+IsRunOver run rows n (CheckPage s apart results) = (run ≡ Checks) × IsCheckedOver rows n s
+    × AskForEnds rows apart results × IsGiven rows (codes "page") true
+IsRunOver run rows n (CheckJson s apart results) = (run ≡ Checks) × IsCheckedOver rows n s
+    × AskForEnds rows apart results
     × IsGiven rows (codes "page") false × IsGiven rows (codes "json") true
 IsRunOver run rows n (Play s workers) =
     (run ≡ Plays) × IsPlayedOver rows n s × AreWorkers rows workers × IsGiven rows (codes "shared") false

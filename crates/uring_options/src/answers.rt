@@ -56,10 +56,22 @@ pub enum Options {
     },
 
     /// `uring check --page`: the page that draws a recorded trace over this set-up, up to the line at which its check ends.
-    CheckPage(Setup),
+    CheckPage {
+        setup: Setup,
+        /// As of `Check`.
+        is_apart: bool,
+        /// As of `Check`.
+        has_results: bool,
+    },
 
     /// `uring check --json`: the data of that page.
-    CheckJson(Setup),
+    CheckJson {
+        setup: Setup,
+        /// As of `Check`.
+        is_apart: bool,
+        /// As of `Check`.
+        has_results: bool,
+    },
 
     /// `uring play`: a play over this set-up, with so many workers, 1 to 8.
     Play(Setup, u32),

@@ -1,6 +1,6 @@
 //! The command line.
 
-ghost use Rattle.std.specs.Prelude.{◌≡◌, ◌↔◌, List, Some, [], ◌∷◌, IfOk, IfErr, IsErrOf, IsErrAnd, ◌||◌};
+ghost use Rattle.std.specs.Prelude.{◌≡◌, ◌↔◌, List, Some, [], ◌∷◌, IfOk, IfErr, IsErrOf, IsErrAnd};
 ghost use Rattle.clap.specs.Words.{FailsBy, HasMatchesOf, fault_of, found_of, kind_of, rows_of, subcommand_of};
 ghost use Rattle.clap.specs.Walk.{Text, texts};
 ghost use Rattle.uring_options.specs.CommandLine.{uring, Run, AskFor, AskForTooSmall, IsWords, IsMemory, IsFaultOf};
@@ -23,7 +23,7 @@ use uring_entry::Setup;
 ///
 /// - `trace`: `--echo` (its steps are written too) and `--strict` (the first bad line ends it).
 /// - `explain`: what is written in place of the answers. `--graph` (of the moment after line `--at`, 32 bits, else the last), `--timeline`, `--page` or `--json`; the first in this order counts.
-/// - `check`: `--all` (all wrong lines are named), `--apart` (ends may be any), `--results` (they may be any that operations give). `--page` or, after it, `--json` is written in place of the verdict, unless one of these three is given. With `--early-effects` none of these counts: operations may take effect at any moment between issue and finish, in `--most` moves (1 to 2^32 - 1).
+/// - `check`: `--all` (all wrong lines are named), `--apart` (ends may be any), `--results` (they may be any that operations give). `--page` or, after it, `--json` is written in place of the verdict; `--all` doesn't count then. With `--early-effects` none of these counts: operations may take effect at any moment between issue and finish, in `--most` moves (1 to 2^32 - 1).
 /// - `play`: `--workers` (1 to 8, else 2), and `--shared` (application and dispatcher share words, else they have lanes).
 /// - `crash`: `--file` (0 to 63, else 0), `--unit` (1 to 65,536 bytes, else 1), `--at` (the line after which the power fails, 32 bits, else the last), `--seed` (of an image, 32 bits, else the least is left). `--count`, `--all` and `--holds` ask of all images, `--each` asks after each line, and `--most` images are listed (1 to 2^32 - 1).
 /// - `outcomes`: `--results` (completions are sorted), `--contents` (files follow), `--crash` (what a power failure may show, with `--unit` as above), `--most` (paths that are taken, 1 to 2^32 - 1), `--explain` (the outcome of which a history is written, the same range), and `--never` and `--always` (what is claimed of the lines).
@@ -119,32 +119,28 @@ fn checked(matches: &ArgMatches<'_>) -> Result<Options, OptionsFault>
         let most = given_number(matches, "most");
         return Ok(Options::CheckEarly { setup, most });
     }
-    let is_all = is_given(matches, "all");
     let is_apart = is_given(matches, "apart");
     let has_results = is_given(matches, "results");
-    let verdict = Options::Check {
-        setup,
-        is_all,
-        is_apart,
-        has_results,
-    };
-    if asks_verdict(is_all, is_apart, has_results) {
-        return Ok(verdict);
-    }
     if is_given(matches, "page") {
-        return Ok(Options::CheckPage(setup));
+        return Ok(Options::CheckPage {
+            setup,
+            is_apart,
+            has_results,
+        });
     }
     if is_given(matches, "json") {
-        return Ok(Options::CheckJson(setup));
+        return Ok(Options::CheckJson {
+            setup,
+            is_apart,
+            has_results,
+        });
     }
-    Ok(verdict)
-}
-
-/// Whether the verdict alone is asked for.
-fn asks_verdict(is_all: bool, is_apart: bool, has_results: bool) -> bool
-    ensures { result ≡ (is_all || is_apart || has_results) }
-{
-    is_all || is_apart || has_results
+    Ok(Options::Check {
+        setup,
+        is_all: is_given(matches, "all"),
+        is_apart,
+        has_results,
+    })
 }
 
 /// What the options of `uring explain` ask for.

@@ -19,7 +19,9 @@ mod rows;
 pub mod laws;
 
 pub use drawing::{graph, graph_in};
-pub use pages::{Form, page, page_in, recorded_page, recorded_page_in};
+pub use pages::{
+    Form, apart_page, apart_page_in, page, page_in, recorded_page, recorded_page_in,
+};
 pub use timelines::{timeline, timeline_in};
 pub use uring_text::TraceFault;
 pub use watching::{Told, Watcher, watch_all, watch_byte};

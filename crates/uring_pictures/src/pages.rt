@@ -1,5 +1,6 @@
 //! A run as data and as a page: what a trace shows as JSON, and the same in one HTML file that draws it.
 
+mod apart;
 mod change_text;
 mod changes;
 mod checked;
@@ -10,6 +11,6 @@ mod submission;
 mod viewer;
 mod watching;
 
-pub use checked::{recorded_page, recorded_page_in};
+pub use checked::{apart_page, apart_page_in, recorded_page, recorded_page_in};
 pub(crate) use submission::push_value;
 pub use watching::{Form, page, page_in};

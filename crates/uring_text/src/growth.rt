@@ -89,7 +89,7 @@ pub fn push_signed<M: TextMemory>(
 }
 
 /// Appends bytes as two lower case hexadecimal digits each, as `push_text` does.
-pub(crate) fn push_hex<M: TextMemory>(
+pub fn push_hex<M: TextMemory>(
     memory: &M,
     text: &mut String,
     bytes: &[u8],

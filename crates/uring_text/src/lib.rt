@@ -34,7 +34,9 @@ pub use completion_text::{push_completion, push_completion_in};
 pub use entry_tokens::spelled_entry;
 pub use flaw::{push_flaw, push_flaw_in};
 pub use forms::{Name, push_operation};
-pub use growth::{TextMemory, push_bytes, push_named, push_number, push_signed, push_text};
+pub use growth::{
+    TextMemory, push_bytes, push_hex, push_named, push_number, push_signed, push_text,
+};
 pub use kept_line::KeptLine;
 pub use number_tokens::{spelled_long, spelled_number, spelled_signed};
 pub use place::{Kind, Place, is_of_kind};

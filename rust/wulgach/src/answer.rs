@@ -1,6 +1,7 @@
 use crate::entry::Entry;
 use crate::ffi;
 use std::fmt;
+use std::io;
 
 /// A completion: the user data of its request, the result, and 64 bytes, those that a read gave first. `{:?}` shows as many bytes as that of an answer.
 #[derive(Clone, Copy, PartialEq, Eq)]
@@ -11,10 +12,32 @@ pub struct Completion {
     pub bytes: [u8; 64],
 }
 
+impl Completion {
+    /// The result as `std::io` has it.
+    ///
+    /// # Errors
+    ///
+    /// The error of the system whose number the result is the negative of.
+    pub fn result(&self) -> io::Result<u32> {
+        u32::try_from(self.res).map_err(|_| io::Error::from_raw_os_error(self.res.wrapping_neg()))
+    }
+}
+
+/// The user data and the result, which are all that a completion of a kernel's has.
+impl From<Completion> for (u64, i32) {
+    fn from(completion: Completion) -> (u64, i32) {
+        (completion.user_data, completion.res)
+    }
+}
+
 /// The bytes that an end gives: as many as its result says, and further ones up to the last that isn't zero. None if all are zero.
 fn given(res: i32, bytes: &[u8; 64]) -> &[u8] {
     match bytes.iter().rposition(|byte| *byte != 0) {
-        Some(last) => &bytes[..usize::try_from(res).map_or(0, |res| res.min(64)).max(last + 1)],
+        Some(last) => {
+            &bytes[..usize::try_from(res)
+                .map_or(0, |res| res.min(64))
+                .max(last + 1)]
+        }
         None => &[],
     }
 }
@@ -156,6 +179,72 @@ impl fmt::Debug for Answer {
 }
 
 impl Answer {
+    pub(crate) fn words(&self) -> ffi::Answer {
+        let bare = |kind| ffi::Answer {
+            kind,
+            ..ffi::Answer::ZERO
+        };
+        let worded = |kind, word| ffi::Answer { word, ..bare(kind) };
+        let numbered = |kind, number| ffi::Answer {
+            number,
+            ..bare(kind)
+        };
+        match *self {
+            Answer::Filled => bare(0),
+            Answer::NoSlot => bare(1),
+            Answer::Busy => bare(2),
+            Answer::Staged => bare(3),
+            Answer::Full => bare(4),
+            Answer::Tail(word) => worded(5, word),
+            Answer::Head(word) => worded(6, word),
+            Answer::Call(count) => worded(7, count),
+            Answer::Closed => bare(8),
+            Answer::InCall => bare(9),
+            Answer::Spent => bare(10),
+            Answer::Again => bare(11),
+            Answer::Entry(entry) => ffi::Answer {
+                entry: entry.words(),
+                ..bare(12)
+            },
+            Answer::Dropped => bare(13),
+            Answer::NoMore => bare(14),
+            Answer::NoCall => bare(15),
+            Answer::Taken {
+                accepted,
+                dropped,
+                head,
+            } => ffi::Answer {
+                dropped,
+                head,
+                ..worded(16, accepted)
+            },
+            Answer::NotAll => bare(17),
+            Answer::Run => bare(18),
+            Answer::Ended { res, bytes } => ffi::Answer {
+                res,
+                bytes,
+                ..bare(19)
+            },
+            Answer::NotReady => bare(20),
+            Answer::Running => bare(21),
+            Answer::Unknown => bare(22),
+            Answer::NotRunning => bare(23),
+            Answer::Moved(count) => numbered(24, count),
+            Answer::Reaped(Completion {
+                user_data,
+                res,
+                bytes,
+            }) => ffi::Answer {
+                res,
+                bytes,
+                ..numbered(25, user_data)
+            },
+            Answer::Nothing => bare(26),
+            Answer::Shut => bare(27),
+            Answer::Next(number) => numbered(28, number),
+        }
+    }
+
     pub(crate) fn of(words: &ffi::Answer) -> Answer {
         match words.kind {
             0 => Answer::Filled,

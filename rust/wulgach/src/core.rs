@@ -11,7 +11,7 @@ use std::cell::UnsafeCell;
 
 /// A pair of rings and its requests, without files: how a running request ends comes from the caller.
 ///
-/// It stays on the thread that made it, since crossing isn't proved: it is neither `Send` nor `Sync`.
+/// It may be sent to another thread, and isn't `Sync`: see [the crate's page](crate#threads).
 ///
 /// ```
 /// use wulgach::{Answer, Core, Entry, Operation, Setup, Step};
@@ -48,6 +48,10 @@ impl Core {
     /// let too_many = Setup { sq: 4097, ..Setup::default() };
     /// assert_eq!(Core::new(&too_many).err(), Some(Error::BadSetup));
     /// ```
+    ///
+    /// # Errors
+    ///
+    /// `BadSetup` if the size of a ring is out of its range, and `NoMemory`.
     pub fn new(setup: &Setup) -> Result<Core, Error> {
         let mut place = Place::empty();
         // SAFETY: the place is empty, and the structs are those of the header.
@@ -57,7 +61,11 @@ impl Core {
         })
     }
 
-    /// Makes one step, and returns its answer. `Error::FinishOfCore` exactly for `Step::Finish`.
+    /// Makes one step, and returns its answer.
+    ///
+    /// # Errors
+    ///
+    /// `FinishOfCore` exactly for `Step::Finish`: nothing has changed.
     pub fn step(&mut self, step: Step) -> Result<Answer, Error> {
         let mut answer = ffi::Answer::ZERO;
         // SAFETY: the place is full from `new` on, and lent to this call alone.
@@ -67,7 +75,7 @@ impl Core {
         }
     }
 
-    /// Makes all steps of a submission call of these entries at once, and returns the answer to its `End`. A refusal is an answer too, as of the step that would be refused: `Closed`, `InCall`, `NoSlot` (more entries than slots) or `Busy` (positions that were staged before wait for a call), and then no step was made; `Spent` or `Again`, and then all entries are published, and wait for another `Begin`. `Error::NoMemory` if there is none for a copy of the entries; then nothing has changed.
+    /// Makes all steps of a submission call of these entries at once, and returns the answer to its `End`. A refusal is an answer too, as of the step that would be refused: `Closed`, `InCall`, `NoSlot` (more entries than slots) or `Busy` (positions that were staged before wait for a call), and then no step was made; `Spent` or `Again`, and then all entries are published, and wait for another `Begin`.
     ///
     /// ```
     /// # use wulgach::{Answer, Core, Entry, Setup, Step};
@@ -84,6 +92,10 @@ impl Core {
     /// # Ok(())
     /// # }
     /// ```
+    ///
+    /// # Errors
+    ///
+    /// `NoMemory` if there is none for a copy of the entries: nothing has changed.
     pub fn submit(&mut self, entries: &[Entry]) -> Result<Answer, Error> {
         let mut answer = ffi::Answer::ZERO;
         // SAFETY: as in `step`, and the library reads so many entries.
@@ -100,7 +112,11 @@ impl Core {
         }
     }
 
-    /// Reaps the completions that the ring shows now, at most this many. Those that wait in the overflow list come into the ring by a `Flush`. `Error::NoMemory` if there is none for a copy of as many; then nothing has changed.
+    /// Reaps the completions that the ring shows now, at most this many. Those that wait in the overflow list come into the ring by a `Flush`.
+    ///
+    /// # Errors
+    ///
+    /// `NoMemory` if there is none for a copy of as many: nothing has changed.
     pub fn reap_all(&mut self, most: usize) -> Result<Vec<Completion>, Error> {
         let mut completions = vec![reading::NO_COMPLETION; most];
         let mut count = 0;
@@ -138,6 +154,7 @@ impl Core {
     }
 
     /// How far the core has come.
+    #[must_use]
     pub fn counts(&self) -> Counts {
         let mut counts = reading::NO_COUNTS;
         // SAFETY: the place is full, no reference to it is handed out, and a core is used by one thread.
@@ -146,6 +163,7 @@ impl Core {
     }
 
     /// The completion at this index among those posted and not reaped, the oldest first.
+    #[must_use]
     pub fn rest(&self, index: u64) -> Option<Completion> {
         // SAFETY: as in `counts`.
         found(reading::NO_COMPLETION, |completion| unsafe {
@@ -155,6 +173,7 @@ impl Core {
     }
 
     /// The least outstanding request, which is the next to go on if nothing else can.
+    #[must_use]
     pub fn least(&self) -> Option<u64> {
         // SAFETY: as in `counts`.
         found(0, |number| unsafe {
@@ -163,6 +182,7 @@ impl Core {
     }
 
     /// What the request of this number asks for, if it is running.
+    #[must_use]
     pub fn running_op(&self, number: u64) -> Option<Operation> {
         // SAFETY: as in `counts`.
         found(NO_OPERATION, |operation| unsafe {
@@ -172,6 +192,7 @@ impl Core {
     }
 
     /// The least request from this number on, any number, that can be issued: that `Step::Issue` starts or ends. `None` exactly if there is none. It looks once at each 4,096 numbers that it passes.
+    #[must_use]
     pub fn next_issuable(&self, from: u64) -> Option<u64> {
         // SAFETY: as in `counts`.
         found(0, |number| unsafe {
@@ -212,6 +233,7 @@ impl Core {
     }
 
     /// How many requests can be issued. By the manual pages' rules it looks once at each 64 numbers from the least outstanding one on, by Linux's at two members of each group at most.
+    #[must_use]
     pub fn issuable_count(&self) -> u64 {
         let mut count = 0;
         // SAFETY: as in `counts`.
@@ -220,6 +242,7 @@ impl Core {
     }
 
     /// The request at this index, from 0, of those that can be issued, in the order of their numbers: `None` exactly past the last. So a random index below `issuable_count` chooses one that isn't refused. It looks at numbers as the count does, up to the one it finds.
+    #[must_use]
     pub fn nth_issuable(&self, index: u64) -> Option<u64> {
         // SAFETY: as in `counts`.
         found(0, |number| unsafe {
@@ -236,6 +259,7 @@ impl Core {
     /// # Ok(())
     /// # }
     /// ```
+    #[must_use]
     pub fn why(&self, number: u64) -> Why {
         let mut words = why::NO_WHY;
         // SAFETY: as in `counts`.

@@ -53,7 +53,7 @@ use std::cell::UnsafeCell;
 /// # }
 /// ```
 ///
-/// It stays on the thread that made it, since crossing isn't proved: it is neither `Send` nor `Sync`.
+/// It may be sent to another thread, and isn't `Sync`: see [the crate's page](crate#threads).
 #[derive(Debug)]
 pub struct CrashMachine {
     place: UnsafeCell<Place>,
@@ -72,6 +72,10 @@ fn done(result: i32) -> Result<(), Error> {
 
 impl CrashMachine {
     /// A new machine, its files empty. A crash leaves each unit of so many bytes by itself; 1 promises least.
+    ///
+    /// # Errors
+    ///
+    /// `BadSetup`, `BadUnit` if a unit has no byte, and `NoMemory`.
     pub fn new(setup: &Setup, unit: u64) -> Result<CrashMachine, Error> {
         CrashMachine::on::<&[u8]>(setup, unit, &[])
     }
@@ -90,6 +94,10 @@ impl CrashMachine {
     /// # Ok(())
     /// # }
     /// ```
+    ///
+    /// # Errors
+    ///
+    /// Those of `new`, `TooManyFiles`, and `FileTooLong` of one above 65,536 bytes.
     pub fn on<B: AsRef<[u8]>>(
         setup: &Setup,
         unit: u64,
@@ -123,7 +131,11 @@ impl CrashMachine {
         }
     }
 
-    /// Makes one step, and returns its answer. `Error::NoMemory` if memory was refused for what is kept of a file: then the machine is lost, and each further step is `Error::Lost`.
+    /// Makes one step, and returns its answer.
+    ///
+    /// # Errors
+    ///
+    /// `NoMemory` if memory was refused for what is kept of a file: then the machine is lost, and each further step is `Lost`.
     pub fn step(&mut self, step: Step) -> Result<Answer, Error> {
         let mut answer = ffi::Answer::ZERO;
         // SAFETY: the place is full from `on` on, and lent to this call alone.
@@ -134,6 +146,7 @@ impl CrashMachine {
     }
 
     /// Whether the machine is lost: memory was refused for a step.
+    #[must_use]
     pub fn is_lost(&self) -> bool {
         let mut is_lost = false;
         // SAFETY: the place is full, no reference to it is handed out, and a machine is used by one thread.
@@ -142,6 +155,7 @@ impl CrashMachine {
     }
 
     /// How far the machine has come in this epoch.
+    #[must_use]
     pub fn counts(&self) -> Counts {
         let mut counts = reading::NO_COUNTS;
         // SAFETY: as in `is_lost`.
@@ -150,6 +164,7 @@ impl CrashMachine {
     }
 
     /// The completion at this index among those posted and not reaped, the oldest first.
+    #[must_use]
     pub fn rest(&self, index: u64) -> Option<Completion> {
         // SAFETY: as in `is_lost`.
         found(reading::NO_COMPLETION, |completion| unsafe {
@@ -159,6 +174,7 @@ impl CrashMachine {
     }
 
     /// What the request of this number asks for, if it is running.
+    #[must_use]
     pub fn running_op(&self, number: u64) -> Option<Operation> {
         // SAFETY: as in `is_lost`.
         found(NO_OPERATION, |operation| unsafe {
@@ -168,6 +184,7 @@ impl CrashMachine {
     }
 
     /// How many requests can be issued.
+    #[must_use]
     pub fn issuable_count(&self) -> u64 {
         let mut count = 0;
         // SAFETY: as in `is_lost`.
@@ -176,6 +193,7 @@ impl CrashMachine {
     }
 
     /// The request at this index, from 0, of those that can be issued, in the order of their numbers: `None` exactly past the last.
+    #[must_use]
     pub fn nth_issuable(&self, index: u64) -> Option<u64> {
         // SAFETY: as in `is_lost`.
         found(0, |number| unsafe {
@@ -184,6 +202,7 @@ impl CrashMachine {
     }
 
     /// How the file of a descriptor stands. Writes and syncs are counted from the start of the epoch on.
+    #[must_use]
     pub fn state(&self, fd: i32) -> Option<FileState> {
         // SAFETY: as in `is_lost`.
         found(reading::NO_FILE, |file| unsafe {
@@ -193,6 +212,7 @@ impl CrashMachine {
     }
 
     /// The byte at an offset of the file of a descriptor.
+    #[must_use]
     pub fn byte(&self, fd: i32, at: u64) -> Option<u8> {
         // SAFETY: as in `is_lost`.
         found(0, |byte| unsafe {
@@ -201,12 +221,17 @@ impl CrashMachine {
     }
 
     /// The bytes of the file of a descriptor, as a read shows them.
+    #[must_use]
     pub fn contents(&self, fd: i32) -> Option<Vec<u8>> {
         let len = self.state(fd)?.len;
         (0..u64::from(len)).map(|at| self.byte(fd, at)).collect()
     }
 
     /// Whether the write of a file that the request of this number is, in this epoch, is safe: false too if it is none.
+    ///
+    /// # Errors
+    ///
+    /// `NoFile` and `Lost`.
     pub fn is_safe(&self, fd: i32, number: u64) -> Result<bool, Error> {
         let mut is_safe = false;
         // SAFETY: as in `is_lost`.
@@ -217,6 +242,10 @@ impl CrashMachine {
     }
 
     /// A file as a crash may leave it, by a choice, as [`Volume::crash`] says. A choice names a write by its place among the writes and syncs of the file that have begun in this epoch, from 1.
+    ///
+    /// # Errors
+    ///
+    /// `NoFile`, `Lost` and `NoMemory`.
     pub fn image(&self, fd: i32, choice: &[u64]) -> Result<Vec<u8>, Error> {
         read(|bytes, room, len| {
             // SAFETY: as in `is_lost`; choice and room are those of slices.
@@ -235,6 +264,10 @@ impl CrashMachine {
     }
 
     /// How many images a file has: how many different files a crash may leave. `u64::MAX` if there are as many or more.
+    ///
+    /// # Errors
+    ///
+    /// `NoFile`, `Lost` and `NoMemory`.
     pub fn count_images(&self, fd: i32) -> Result<u64, Error> {
         let mut count = 0;
         // SAFETY: as in `is_lost`.
@@ -243,6 +276,10 @@ impl CrashMachine {
     }
 
     /// The images of a file, each once, or nothing if there are more than `most`.
+    ///
+    /// # Errors
+    ///
+    /// `NoFile`, `Lost` and `NoMemory`.
     pub fn images(&self, fd: i32, most: u32) -> Result<Option<Vec<Vec<u8>>>, Error> {
         let found = self.count_images(fd)?;
         if found > u64::from(most) {
@@ -267,6 +304,10 @@ impl CrashMachine {
     }
 
     /// The power fails: the machine of the next epoch, whose files are left each by the choice at its place; one that is missing is empty.
+    ///
+    /// # Errors
+    ///
+    /// `Lost` and `NoMemory`.
     pub fn crash<C: AsRef<[u64]>>(&self, choices: &[C]) -> Result<CrashMachine, Error> {
         let numbers: Vec<u64> = choices.iter().flat_map(|c| c.as_ref()).copied().collect();
         let lens: Vec<u64> = choices.iter().map(|c| c.as_ref().len() as u64).collect();
@@ -289,6 +330,10 @@ impl CrashMachine {
     }
 
     /// The same by a seed: each file is left by as many numbers up to `last` of one [`Volume::choice`].
+    ///
+    /// # Errors
+    ///
+    /// `Lost` and `NoMemory`.
     pub fn crash_by(&self, seed: u64, last: u64, count: usize) -> Result<CrashMachine, Error> {
         let numbers = Volume::choice(seed, last, count * self.files as usize);
         self.crash(&numbers.chunks(count.max(1)).collect::<Vec<_>>())

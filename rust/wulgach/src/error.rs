@@ -1,5 +1,6 @@
 use std::error;
 use std::fmt;
+use std::io;
 
 /// Why a call is refused. A refusal changes nothing, but for `NoMemory` of `CrashMachine::step`.
 #[derive(Clone, Copy, Debug, PartialEq, Eq)]
@@ -58,6 +59,18 @@ impl fmt::Display for Error {
 }
 
 impl error::Error for Error {}
+
+/// Want of memory is `OutOfMemory`, a file that isn't there `NotFound`, and anything else `InvalidInput`.
+impl From<Error> for io::Error {
+    fn from(error: Error) -> io::Error {
+        let kind = match error {
+            Error::NoMemory | Error::Lost => io::ErrorKind::OutOfMemory,
+            Error::NoFile => io::ErrorKind::NotFound,
+            _ => io::ErrorKind::InvalidInput,
+        };
+        io::Error::new(kind, error)
+    }
+}
 
 /// What `new` of a core or a machine returned.
 pub(crate) fn made(result: i32) -> Result<(), Error> {

@@ -11,6 +11,9 @@ pub struct Place {
     pub is_full: bool,
 }
 
+// SAFETY: what a place points to is the library's alone: memory of malloc's, which any thread may use and free, and no lock, handle or variable of a thread. The library's proof says nothing of threads, so this is a theorem of nobody: it rests on a reading of the library.
+unsafe impl Send for Place {}
+
 impl Place {
     pub const fn empty() -> Place {
         Place {
@@ -114,6 +117,19 @@ pub struct File {
 
 extern "C" {
     pub fn wulgach_setup_fault(setup: *const Setup) -> i32;
+    pub fn wulgach_trace_line(
+        step: *const Step,
+        answer: *const Answer,
+        line: *mut u8,
+        room: usize,
+        len: *mut u64,
+    ) -> i32;
+    pub fn wulgach_trace_setup(
+        setup: *const Setup,
+        line: *mut u8,
+        room: usize,
+        len: *mut u64,
+    ) -> i32;
     pub fn wulgach_core_new(core: *mut Place, setup: *const Setup) -> i32;
     pub fn wulgach_core_step(core: *mut Place, step: *const Step, answer: *mut Answer) -> i32;
     pub fn wulgach_core_submit(

@@ -6,6 +6,18 @@
 //!
 //! The library below, `libwulgach.a`, is proved: after any calls in any order, each answer is the one that the definitions of the protocol give for the calls before it. This crate isn't proved: it is a thin layer over that library's header, `c/wulgach.h`, and is tested. Nor are the Rust compiler, the linker and the allocator of C.
 //!
+//! # Threads
+//!
+//! Whatever is made here may be sent to another thread (`Send`), and be used by one at a time (it isn't `Sync`). Nothing in it is tied to a thread: it is memory of `malloc`'s, without locks, handles or variables of a thread. The proof of the library doesn't say so: that is a theorem of nobody.
+//!
+//! # Traces
+//!
+//! A [`Step`] and an [`Answer`] are written by `{}` as the trace language of `uring` has them, and `{step} = {answer}` is a line of a recorded trace. [`Setup::trace_line`] is the first one. So a log of an engine goes through `uring check --results`, `uring explain` and their pages as it is.
+//!
+//! # Other crates
+//!
+//! None is needed. An [`Entry`] has the bytes of the kernel's `struct io_uring_sqe`, and its [`flags`] are those of `io-uring`, `rustix` and `linux-raw-sys`: it is made from 64 or 128 bytes, and gives 128. A [`Completion`] gives what a completion of those has, user data and result, and [`Completion::result`] the result as `std::io` has it. [`Error`] becomes a `std::io::Error`.
+//!
 //! # Building
 //!
 //! The build looks for `libwulgach.a` in the folder that the variable `WULGACH_LIB_DIR` names, else asks `pkg-config`, else looks into `c/out` of the repository.
@@ -22,6 +34,7 @@ mod outcomes;
 mod reading;
 mod setup;
 mod step;
+mod text;
 mod volume;
 mod why;
 

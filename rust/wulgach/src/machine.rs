@@ -10,7 +10,7 @@ use std::cell::UnsafeCell;
 
 /// A pair of rings, its requests and up to 64 files in memory, of at most 65,536 bytes each.
 ///
-/// It stays on the thread that made it, since crossing isn't proved: it is neither `Send` nor `Sync`.
+/// It may be sent to another thread, and isn't `Sync`: see [the crate's page](crate#threads).
 ///
 /// ```
 /// use wulgach::{flags, Answer, Entry, Machine, Setup, Step};
@@ -19,19 +19,19 @@ use std::cell::UnsafeCell;
 /// let mut machine = Machine::new(&Setup::default())?;
 /// let chain = [Entry::write(1, flags::IO_LINK, 0, 0, b"hello"), Entry::fsync(2, 0, 0)];
 /// for (slot, entry) in (0..).zip(chain) {
-///     machine.step(Step::Fill { slot, entry });
-///     machine.step(Step::Index { word: slot });
+///     machine.step(Step::Fill { slot, entry })?;
+///     machine.step(Step::Index { word: slot })?;
 /// }
-/// machine.step(Step::StoreTail);
-/// machine.step(Step::Begin { count: 2 });
-/// machine.step(Step::Take);
-/// machine.step(Step::Take);
-/// assert_eq!(machine.step(Step::End), Answer::Taken { accepted: 2, dropped: 0, head: 2 });
+/// machine.step(Step::StoreTail)?;
+/// machine.step(Step::Begin { count: 2 })?;
+/// machine.step(Step::Take)?;
+/// machine.step(Step::Take)?;
+/// assert_eq!(machine.step(Step::End)?, Answer::Taken { accepted: 2, dropped: 0, head: 2 });
 ///
-/// assert_eq!(machine.step(Step::Issue { number: 1 }), Answer::NotReady);
-/// while let Answer::Next(number) = machine.step(Step::Next) {
-///     machine.step(Step::Issue { number });
-///     machine.step(Step::Finish { number });
+/// assert_eq!(machine.step(Step::Issue { number: 1 })?, Answer::NotReady);
+/// while let Answer::Next(number) = machine.step(Step::Next)? {
+///     machine.step(Step::Issue { number })?;
+///     machine.step(Step::Finish { number })?;
 /// }
 /// assert_eq!(machine.byte(0, 4), Some(b'o'));
 /// assert_eq!(machine.state(0).map(|file| file.synced), Some(1));
@@ -45,6 +45,10 @@ pub struct Machine {
 
 impl Machine {
     /// A new machine, its files empty.
+    ///
+    /// # Errors
+    ///
+    /// `BadSetup` if a number of the set-up is out of its range, as `Setup::fault` says, and `NoMemory`.
     pub fn new(setup: &Setup) -> Result<Machine, Error> {
         let mut place = Place::empty();
         // SAFETY: the place is empty, and the structs are those of the header.
@@ -55,14 +59,19 @@ impl Machine {
     }
 
     /// Makes one step, and returns its answer.
-    pub fn step(&mut self, step: Step) -> Answer {
+    ///
+    /// # Errors
+    ///
+    /// None: the form is that of each `step` here.
+    pub fn step(&mut self, step: Step) -> Result<Answer, Error> {
         let mut answer = ffi::Answer::ZERO;
         // SAFETY: the place is full from `new` on, and lent to this call alone.
         unsafe { ffi::wulgach_machine_step(self.place.get_mut(), &step.words(), &mut answer) };
-        Answer::of(&answer)
+        Ok(Answer::of(&answer))
     }
 
     /// How far the machine has come.
+    #[must_use]
     pub fn counts(&self) -> Counts {
         let mut counts = reading::NO_COUNTS;
         // SAFETY: the place is full, no reference to it is handed out, and a machine is used by one thread.
@@ -71,6 +80,7 @@ impl Machine {
     }
 
     /// The completion at this index among those posted and not reaped, the oldest first.
+    #[must_use]
     pub fn rest(&self, index: u64) -> Option<Completion> {
         // SAFETY: as in `counts`.
         found(reading::NO_COMPLETION, |completion| unsafe {
@@ -80,6 +90,7 @@ impl Machine {
     }
 
     /// The least outstanding request, which is the next to go on if nothing else can.
+    #[must_use]
     pub fn least(&self) -> Option<u64> {
         // SAFETY: as in `counts`.
         found(0, |number| unsafe {
@@ -88,6 +99,7 @@ impl Machine {
     }
 
     /// What the request of this number asks for, if it is running.
+    #[must_use]
     pub fn running_op(&self, number: u64) -> Option<Operation> {
         // SAFETY: as in `counts`.
         found(NO_OPERATION, |operation| unsafe {
@@ -97,6 +109,7 @@ impl Machine {
     }
 
     /// The least request from this number on, any number, that can be issued: that `Step::Issue` starts or ends. `None` exactly if there is none. It looks once at each 4,096 numbers that it passes.
+    #[must_use]
     pub fn next_issuable(&self, from: u64) -> Option<u64> {
         // SAFETY: as in `counts`.
         found(0, |number| unsafe {
@@ -111,18 +124,18 @@ impl Machine {
     /// # fn main() -> Result<(), wulgach::Error> {
     /// let mut machine = Machine::new(&Setup::default())?;
     /// for (slot, flags) in [(0, 0), (1, flags::IO_LINK), (2, 0), (3, 0)] {
-    ///     machine.step(Step::Fill { slot, entry: Entry::nop(7, flags) });
-    ///     machine.step(Step::Index { word: slot });
+    ///     machine.step(Step::Fill { slot, entry: Entry::nop(7, flags) })?;
+    ///     machine.step(Step::Index { word: slot })?;
     /// }
-    /// machine.step(Step::StoreTail);
-    /// machine.step(Step::Begin { count: 4 });
-    /// while machine.step(Step::Take) != Answer::NoMore {}
-    /// machine.step(Step::End);
+    /// machine.step(Step::StoreTail)?;
+    /// machine.step(Step::Begin { count: 4 })?;
+    /// while machine.step(Step::Take)? != Answer::NoMore {}
+    /// machine.step(Step::End)?;
     ///
     /// assert_eq!(machine.issuable().collect::<Vec<_>>(), [0, 1, 3]);
     /// assert_eq!(machine.issuable_count(), 3);
     /// let number = machine.nth_issuable(1).unwrap();
-    /// assert_eq!(machine.step(Step::Issue { number }), Answer::Run);
+    /// assert_eq!(machine.step(Step::Issue { number })?, Answer::Run);
     /// assert_eq!(machine.issuable().collect::<Vec<_>>(), [0, 3]);
     /// # Ok(())
     /// # }
@@ -137,6 +150,7 @@ impl Machine {
     }
 
     /// How many requests can be issued. By the manual pages' rules it looks once at each 64 numbers from the least outstanding one on, by Linux's at two members of each group at most.
+    #[must_use]
     pub fn issuable_count(&self) -> u64 {
         let mut count = 0;
         // SAFETY: as in `counts`.
@@ -145,6 +159,7 @@ impl Machine {
     }
 
     /// The request at this index, from 0, of those that can be issued, in the order of their numbers: `None` exactly past the last. So a random index below `issuable_count` chooses one that isn't refused. It looks at numbers as the count does, up to the one it finds.
+    #[must_use]
     pub fn nth_issuable(&self, index: u64) -> Option<u64> {
         // SAFETY: as in `counts`.
         found(0, |number| unsafe {
@@ -161,6 +176,7 @@ impl Machine {
     /// # Ok(())
     /// # }
     /// ```
+    #[must_use]
     pub fn why(&self, number: u64) -> Why {
         let mut words = why::NO_WHY;
         // SAFETY: as in `counts`.
@@ -169,6 +185,7 @@ impl Machine {
     }
 
     /// How the file of a descriptor stands.
+    #[must_use]
     pub fn state(&self, fd: i32) -> Option<FileState> {
         // SAFETY: as in `counts`.
         found(reading::NO_FILE, |file| unsafe {
@@ -178,6 +195,7 @@ impl Machine {
     }
 
     /// The byte at an offset of the file of a descriptor.
+    #[must_use]
     pub fn byte(&self, fd: i32, at: u64) -> Option<u8> {
         // SAFETY: as in `counts`.
         found(0, |byte| unsafe {

@@ -61,11 +61,13 @@ pub(crate) const NO_OPERATION: ffi::Operation = ffi::Operation {
 
 impl Entry {
     /// A no-op.
+    #[must_use]
     pub fn nop(user_data: u64, flags: u8) -> Entry {
         Entry::bare(0, user_data, flags, 0)
     }
 
     /// A read of `len` bytes from `off` on: at most 64, else the entry is faulty.
+    #[must_use]
     pub fn read(user_data: u64, flags: u8, fd: i32, off: u64, len: u32) -> Entry {
         let mut entry = Entry::bare(22, user_data, flags, fd);
         entry.words[1] = off;
@@ -78,23 +80,22 @@ impl Entry {
     /// # Panics
     ///
     /// If there are more than 64.
+    #[must_use]
     pub fn write(user_data: u64, flags: u8, fd: i32, off: u64, bytes: &[u8]) -> Entry {
-        assert!(bytes.len() <= 64, "an entry has room for 64 bytes");
         let mut entry = Entry::bare(23, user_data, flags, fd);
         entry.words[1] = off;
         entry.words[3] = bytes.len() as u64;
-        for (i, byte) in bytes.iter().enumerate() {
-            entry.words[8 + i / 8] |= u64::from(*byte) << (i % 8 * 8);
-        }
-        entry
+        entry.with_data(bytes)
     }
 
     /// A note that the writes of a file so far are safe.
+    #[must_use]
     pub fn fsync(user_data: u64, flags: u8, fd: i32) -> Entry {
         Entry::bare(3, user_data, flags, fd)
     }
 
     /// A cancel of the request with the user data `target`.
+    #[must_use]
     pub fn cancel(user_data: u64, flags: u8, target: u64) -> Entry {
         let mut entry = Entry::bare(14, user_data, flags, 0);
         entry.words[2] = target;
@@ -102,6 +103,7 @@ impl Entry {
     }
 
     /// A cancel of all requests with the user data `target` that don't run, which ends with their number: at most 2^31 - 1.
+    #[must_use]
     pub fn cancel_all(user_data: u64, flags: u8, target: u64) -> Entry {
         let mut entry = Entry::cancel(user_data, flags, target);
         entry.words[3] = 1 << 32;

@@ -38,7 +38,7 @@ use std::cell::UnsafeCell;
 /// # }
 /// ```
 ///
-/// They stay on the thread that made them, since crossing isn't proved: they are neither `Send` nor `Sync`.
+/// They may be sent to another thread, and aren't `Sync`: see [the crate's page](crate#threads).
 #[derive(Debug)]
 pub struct Outcomes {
     place: UnsafeCell<Place>,
@@ -82,6 +82,10 @@ impl Outcomes {
     /// # Ok(())
     /// # }
     /// ```
+    ///
+    /// # Errors
+    ///
+    /// `BadSetup`, `NotTakenWhole` if the ring doesn't take each call whole, and `NoMemory`.
     pub fn new<C: AsRef<[Entry]>>(
         setup: &Setup,
         calls: &[C],
@@ -120,21 +124,25 @@ impl Outcomes {
     }
 
     /// How many there are: all, or a lower bound.
+    #[must_use]
     pub fn len(&self) -> u64 {
         self.count
     }
 
     /// Whether there are none.
+    #[must_use]
     pub fn is_empty(&self) -> bool {
         self.count == 0
     }
 
     /// Whether these are all.
+    #[must_use]
     pub fn is_all(&self) -> bool {
         self.is_all
     }
 
     /// The outcome at this index, from 0: `None` exactly past the last.
+    #[must_use]
     pub fn at(&self, index: u64) -> Option<Outcome> {
         let mut words = vec![reading::NO_COMPLETION; 16];
         let count = loop {
@@ -167,6 +175,7 @@ impl Outcomes {
     }
 
     /// The outcomes one by one. Each is read when it is asked for.
+    #[must_use]
     pub fn iter(&self) -> Iter<'_> {
         Iter {
             outcomes: self,

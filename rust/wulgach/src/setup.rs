@@ -53,6 +53,7 @@ impl Setup {
     /// assert_eq!(Machine::new(&no_files).err(), Some(Error::BadSetup));
     /// assert!(Core::new(&no_files).is_ok());
     /// ```
+    #[must_use]
     pub fn fault(&self) -> Option<SetupField> {
         // SAFETY: the struct is that of the header.
         match unsafe { ffi::wulgach_setup_fault(&self.words()) } {

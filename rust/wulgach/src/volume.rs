@@ -30,7 +30,7 @@ use std::ops::Range;
 /// # }
 /// ```
 ///
-/// It stays on the thread that made it, since crossing isn't proved: it is neither `Send` nor `Sync`.
+/// It may be sent to another thread, and isn't `Sync`: see [the crate's page](crate#threads).
 #[derive(Debug)]
 pub struct Volume {
     place: UnsafeCell<Place>,
@@ -48,6 +48,10 @@ fn done(result: i32) -> Result<(), Error> {
 
 impl Volume {
     /// A volume whose units have so many bytes, and which begins with these bytes. They are safe. A crash leaves each unit by itself; 1 promises least.
+    ///
+    /// # Errors
+    ///
+    /// `BadUnit` if a unit has no byte, and `NoMemory`.
     pub fn new(unit: u64, first: &[u8]) -> Result<Volume, Error> {
         let mut place = Place::empty();
         // SAFETY: the place is empty, and the pointer is that of a slice of this length.
@@ -61,6 +65,10 @@ impl Volume {
     }
 
     /// Begins a write of these bytes at an offset, and returns its number: 1 for the first write or sync, and one more for each.
+    ///
+    /// # Errors
+    ///
+    /// `TooFar` if it would end above 2^63 - 1, `NoNumber`, and `NoMemory`. Nothing has changed.
     pub fn begin_write(&mut self, off: u64, bytes: &[u8]) -> Result<u64, Error> {
         let mut number = 0;
         // SAFETY: the place is full from `new` on, and lent to this call alone; the slice is whole.
@@ -83,6 +91,10 @@ impl Volume {
     }
 
     /// Begins a sync of the whole file, and returns its number. An fdatasync is a sync too: it leaves out what no read of the file needs.
+    ///
+    /// # Errors
+    ///
+    /// `NoNumber` and `NoMemory`. Nothing has changed.
     pub fn begin_sync(&mut self) -> Result<u64, Error> {
         let mut number = 0;
         // SAFETY: as in `begin_write`.
@@ -105,6 +117,10 @@ impl Volume {
     /// # Ok(())
     /// # }
     /// ```
+    ///
+    /// # Errors
+    ///
+    /// `NoNumber` and `NoMemory`. Nothing has changed.
     pub fn begin_range_sync(&mut self, bytes: Range<u64>) -> Result<u64, Error> {
         let mut number = 0;
         let len = bytes.end.saturating_sub(bytes.start);
@@ -133,6 +149,7 @@ impl Volume {
     }
 
     /// Whether a write is safe: false too if no write has this number.
+    #[must_use]
     pub fn is_safe(&self, number: u64) -> bool {
         let mut is_safe = false;
         // SAFETY: the place is full, no reference to it is handed out, and a volume is used by one thread.
@@ -141,6 +158,10 @@ impl Volume {
     }
 
     /// The file as a read shows it: the first bytes with the writes over them that have ended.
+    ///
+    /// # Errors
+    ///
+    /// `NoMemory`.
     pub fn contents(&self) -> Result<Vec<u8>, Error> {
         // SAFETY: as in `is_safe`; the room is that of a slice.
         read(|bytes, room, len| {
@@ -151,6 +172,10 @@ impl Volume {
     /// The file as a crash may leave it. The volume stays as it is, so that many crashes can be tried; for the time after one, make a new volume of what it left.
     ///
     /// Any numbers are a choice. A 0 ends a part: the first part is for the length, each later one for a unit, in their order. The numbers of a part name the writes that are left, one over the other; one that may not come next is passed over. After them follow the other writes, up to the last safe one. Every image that a crash may leave is left by some choice.
+    ///
+    /// # Errors
+    ///
+    /// `NoMemory`.
     pub fn crash(&self, choice: &[u64]) -> Result<Vec<u8>, Error> {
         // SAFETY: as in `contents`; the choice is a slice.
         read(|bytes, room, len| {
@@ -168,6 +193,10 @@ impl Volume {
     }
 
     /// How many images there are: how many different files a crash may leave. `u64::MAX` if there are as many or more.
+    ///
+    /// # Errors
+    ///
+    /// `NoMemory`.
     pub fn count_images(&self) -> Result<u64, Error> {
         let mut count = 0;
         // SAFETY: as in `is_safe`.
@@ -190,6 +219,10 @@ impl Volume {
     /// # Ok(())
     /// # }
     /// ```
+    ///
+    /// # Errors
+    ///
+    /// `NoMemory`.
     pub fn images(&self, most: u32) -> Result<Option<Vec<Vec<u8>>>, Error> {
         let found = self.count_images()?;
         if found > u64::from(most) {
@@ -227,12 +260,17 @@ impl Volume {
     /// # Ok(())
     /// # }
     /// ```
+    ///
+    /// # Errors
+    ///
+    /// `NoMemory`: nothing has changed.
     pub fn fold(&mut self) -> Result<(), Error> {
         // SAFETY: as in `begin_write`.
         done(unsafe { ffi::wulgach_volume_fold(self.place.get_mut()) })
     }
 
     /// A choice of `count` numbers up to `last`, the greatest that a write has, by a seed: the same each time for the same seed. One in four ends a part. It is that of `wulgach_volume_choose` of the header.
+    #[must_use]
     pub fn choice(seed: u64, last: u64, count: usize) -> Vec<u64> {
         let mut seed = seed;
         (0..count)

@@ -1,8 +1,8 @@
-//! Plays the traces of the repository's `examples/` on a machine, and compares the answers with those that stand beside them.
+//! Plays the traces of the repository's `examples/` on a machine, and compares the answers, as they are displayed, with those that stand beside them. Each step is displayed as a line that is the same step.
 
 use std::fs;
 use std::path::Path;
-use wulgach::{flags, Answer, Entry, Machine, Setup, Step};
+use wulgach::{flags, Entry, Machine, Setup, Step};
 
 fn flag_bits(letters: &str) -> u8 {
     letters
@@ -94,62 +94,6 @@ fn step_of(line: &str) -> Option<Step> {
     })
 }
 
-fn data(bytes: &[u8; 64]) -> String {
-    let len = bytes
-        .iter()
-        .rposition(|byte| *byte != 0)
-        .map_or(0, |last| last + 1);
-    if len == 0 {
-        "-".to_owned()
-    } else {
-        bytes[..len]
-            .iter()
-            .map(|byte| format!("{byte:02x}"))
-            .collect()
-    }
-}
-
-fn text_of(answer: Answer) -> String {
-    match answer {
-        Answer::Filled | Answer::Staged | Answer::Shut => "ok".to_owned(),
-        Answer::NoSlot => "no slot".to_owned(),
-        Answer::Busy => "busy".to_owned(),
-        Answer::Full => "full".to_owned(),
-        Answer::Tail(word) => format!("tail {word}"),
-        Answer::Head(word) => format!("head {word}"),
-        Answer::Call(count) => format!("call {count}"),
-        Answer::Closed => "closed".to_owned(),
-        Answer::InCall => "in call".to_owned(),
-        Answer::Spent => "spent".to_owned(),
-        Answer::Again => "again".to_owned(),
-        Answer::Entry(entry) => format!("entry {}", entry.user_data()),
-        Answer::Dropped => "dropped".to_owned(),
-        Answer::NoMore => "no more".to_owned(),
-        Answer::NoCall => "no call".to_owned(),
-        Answer::Taken {
-            accepted,
-            dropped,
-            head,
-        } => format!("taken {accepted} dropped {dropped} head {head}"),
-        Answer::NotAll => "not all".to_owned(),
-        Answer::Run => "run".to_owned(),
-        Answer::Ended { res, .. } => format!("ended {res}"),
-        Answer::NotReady => "not ready".to_owned(),
-        Answer::Running => "running".to_owned(),
-        Answer::Unknown => "unknown".to_owned(),
-        Answer::NotRunning => "not running".to_owned(),
-        Answer::Moved(count) => format!("moved {count}"),
-        Answer::Reaped(completion) => format!(
-            "cqe {} {} {}",
-            completion.user_data,
-            completion.res,
-            data(&completion.bytes)
-        ),
-        Answer::Nothing => "none".to_owned(),
-        Answer::Next(number) => format!("next {number}"),
-    }
-}
-
 fn setup_of(options: &str) -> Setup {
     let mut setup = Setup::default();
     let words: Vec<&str> = options.split_whitespace().collect();
@@ -189,7 +133,11 @@ fn examples_are_answered() {
         let answers: Vec<String> = lines
             .lines()
             .map(|line| {
-                step_of(line).map_or("bad line".to_owned(), |step| text_of(machine.step(step)))
+                let Some(step) = step_of(line) else {
+                    return "bad line".to_owned();
+                };
+                assert_eq!(step_of(&step.to_string()), Some(step), "{step}");
+                machine.step(step).unwrap().to_string()
             })
             .collect();
         let wanted = fs::read_to_string(path.with_extension("answers")).unwrap();

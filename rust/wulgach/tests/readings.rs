@@ -11,14 +11,14 @@ fn machine_with(entries: &[Entry]) -> Result<Machine, Error> {
     let mut machine = Machine::new(&setup)?;
     for (slot, entry) in (0..).zip(entries) {
         let entry = *entry;
-        machine.step(Step::Fill { slot, entry });
-        machine.step(Step::Index { word: slot });
+        machine.step(Step::Fill { slot, entry })?;
+        machine.step(Step::Index { word: slot })?;
     }
-    machine.step(Step::StoreTail);
+    machine.step(Step::StoreTail)?;
     let count = entries.len() as u32;
-    machine.step(Step::Begin { count });
-    while machine.step(Step::Take) != Answer::NoMore {}
-    machine.step(Step::End);
+    machine.step(Step::Begin { count })?;
+    while machine.step(Step::Take)? != Answer::NoMore {}
+    machine.step(Step::End)?;
     Ok(machine)
 }
 
@@ -33,7 +33,7 @@ fn each_number_is_in_its_place() -> Result<(), Error> {
         Entry::nop(15, 0),
     ])?;
     for number in 0..5 {
-        assert_eq!(machine.step(Step::Issue { number }), Answer::Run);
+        assert_eq!(machine.step(Step::Issue { number })?, Answer::Run);
     }
     let mut bytes = [0; 64];
     bytes[..3].copy_from_slice(b"abc");
@@ -52,10 +52,10 @@ fn each_number_is_in_its_place() -> Result<(), Error> {
     }
     assert_eq!(machine.running_op(5), None);
 
-    machine.step(Step::Finish { number: 0 });
-    machine.step(Step::Finish { number: 1 });
-    machine.step(Step::LoadCqTail);
-    machine.step(Step::Reap);
+    machine.step(Step::Finish { number: 0 })?;
+    machine.step(Step::Finish { number: 1 })?;
+    machine.step(Step::LoadCqTail)?;
+    machine.step(Step::Reap)?;
     let counts = Counts {
         accepted: 6,
         outstanding: 4,
@@ -73,7 +73,7 @@ fn each_number_is_in_its_place() -> Result<(), Error> {
         synced: 0,
     };
     assert_eq!(machine.state(1), Some(state));
-    machine.step(Step::Finish { number: 2 });
+    machine.step(Step::Finish { number: 2 })?;
     state.synced = 1;
     assert_eq!(machine.state(1), Some(state));
     Ok(())

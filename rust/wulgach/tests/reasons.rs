@@ -40,7 +40,7 @@ impl Both {
     }
 
     fn step(&mut self, step: Step) -> Answer {
-        let answer = self.machine.step(step);
+        let answer = self.machine.step(step).unwrap();
         assert_eq!(self.core.step(step), Ok(answer));
         answer
     }
@@ -102,7 +102,10 @@ fn each_doom_has_its_name() {
 
     // The read of an empty file moves none of its bytes, which breaks its soft link.
     assert_eq!(both.core.finish(2, 0, bytes), ended);
-    assert_eq!(both.machine.step(Step::Finish { number: 2 }), ended);
+    assert_eq!(
+        both.machine.step(Step::Finish { number: 2 }).unwrap(),
+        ended
+    );
     assert_eq!(both.why(4), Why::IsDoomed(Doom::FailureOf(2)));
 }
 
@@ -125,13 +128,16 @@ fn shown(setup: &Setup) -> usize {
     let mut machine = Machine::new(setup).unwrap();
     for number in 0..9 {
         let entry = Entry::nop(number, 0);
-        assert_eq!(machine.step(Step::Fill { slot: 0, entry }), Answer::Filled);
+        assert_eq!(
+            machine.step(Step::Fill { slot: 0, entry }).unwrap(),
+            Answer::Filled
+        );
         for step in [
             Step::Index { word: 0 },
             Step::StoreTail,
             Step::Begin { count: 1 },
         ] {
-            machine.step(step);
+            machine.step(step).unwrap();
         }
         for step in [
             Step::Take,
@@ -139,16 +145,16 @@ fn shown(setup: &Setup) -> usize {
             Step::LoadHead,
             Step::Issue { number },
         ] {
-            machine.step(step);
+            machine.step(step).unwrap();
         }
         assert!(matches!(
-            machine.step(Step::Finish { number }),
+            machine.step(Step::Finish { number }).unwrap(),
             Answer::Ended { res: 0, .. }
         ));
     }
-    machine.step(Step::LoadCqTail);
+    machine.step(Step::LoadCqTail).unwrap();
     (0..9)
-        .take_while(|_| machine.step(Step::Reap) != Answer::Nothing)
+        .take_while(|_| machine.step(Step::Reap).unwrap() != Answer::Nothing)
         .count()
 }
 

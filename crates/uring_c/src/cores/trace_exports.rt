@@ -3,7 +3,7 @@ ghost use Rattle.std.specs.Prelude.{◌≡◌, ◌↔◌, pos, neg_ℤ};
 ghost use Rattle.uring_entry.specs.declared.errno.TheConstants.{EINVAL, ENOMEM};
 ghost use Rattle.uring_crossing.specs.CoreWords.AnswerForm.{answer_of};
 ghost use Rattle.uring_crossing.specs.Traces.FlagLetters.{flags_text};
-ghost use Rattle.uring_crossing.specs.CoreWords.SetUps.{IsRefused};
+ghost use Rattle.uring_crossing.specs.CoreWords.SetUps.{IsRefused, without_files};
 ghost use Rattle.uring_crossing.specs.Traces.SetupLines.{TellsSetup};
 ghost use Rattle.uring_crossing.specs.Traces.TraceLines.{TellsLine};
 ghost use Rattle.uring_crossing.specs.Volumes.VolumeForms.{IsGiven};
@@ -36,7 +36,7 @@ pub extern "C" fn wulgach_trace_line(
     trace_line_in(&alloc, alloc, step, answer, bytes, len)
 }
 
-/// Writes the set-up that these words ask for as the first line of a trace, without its end, as many bytes as there is room for, and how many there are. -22 (EINVAL) exactly if they ask for none; -12 (ENOMEM) if memory is refused. A refusal writes nothing.
+/// Writes the set-up that these words ask for as the first line of a trace, without its end, as many bytes as there is room for, and how many there are. -22 (EINVAL) exactly if no core has it; -12 (ENOMEM) if memory is refused. A refusal writes nothing.
 #[unsafe(no_mangle)]
 pub extern "C" fn wulgach_trace_setup(
     alloc: Global,
@@ -46,7 +46,7 @@ pub extern "C" fn wulgach_trace_setup(
 ) -> i32
     ensures results { (result ≡ pos 0 → ⊥) → (result ≡ neg_ℤ EINVAL → ⊥) → result ≡ neg_ℤ ENOMEM }
     ensures refused { (result ≡ pos 0 → ⊥) → (bytes.new ≡ bytes.old) × (len.new ≡ len.old) }
-    ensures no_setup { (result ≡ neg_ℤ EINVAL) ↔ IsRefused setup.now }
+    ensures no_setup { (result ≡ neg_ℤ EINVAL) ↔ IsRefused (without_files setup.now) }
     ensures told { result ≡ pos 0 → TellsSetup setup.now bytes.old bytes.new len.new }
 {
     trace_setup_in(&alloc, alloc, setup, bytes, len)

@@ -1,8 +1,8 @@
 -- The first line of a trace: its set-up, as the options of `uring trace`. The language of a trace is our own rule.
-use Rattle.std.specs.Prelude.{◌≡◌, ℕ, Bool, true, List, [], ◌∷◌, ◌++◌, codes, if◌then◌else◌}
+use Rattle.std.specs.Prelude.{◌≡◌, ◌⊎◌, ℕ, Bool, true, List, [], ◌∷◌, ◌++◌, codes, if◌then◌else◌}
 use Rattle.std.specs.Fmt.{decimal}
 use Rattle.uring_entry.specs.Setup.{Setup}
-use Rattle.uring_crossing.specs.CoreWords.SetUps.{IsAskedFor}
+use Rattle.uring_crossing.specs.CoreWords.SetUps.{IsAskedFor, IsRefused, without_files}
 use Rattle.uring_crossing.specs.Volumes.VolumeForms.{IsGiven}
 use Rattle.uring_crossing.specs.declared.core_words.set_up_words.SetupWords.{SetupWords}
 use Rattle.uring_text.specs.Tokens.{tokens_of}
@@ -16,10 +16,14 @@ setup_line s =
     codes "setup --sq " ++ decimal s.sq ++ codes " --cq " ++ decimal s.cq ++ codes " --files " ++ decimal s.files ++ codes " --start " ++ decimal s.start
     ++ named_if s.stops (codes " --stop") ++ named_if s.linux (codes " --linux")
 
+-- this is the set-up that the words ask for, or if they ask for none with so many files, the one of a core, which has none
+abbrev pub IsNamedBy : SetupWords → Setup → Type 0
+IsNamedBy w s = IsAskedFor w s ⊎ (IsRefused w × IsAskedFor (without_files w) s)
+
 -- the line of the set-up that these words ask for was given
 pub record TellsSetup (w : SetupWords) (old new : List ℕ) (len : ℕ) : Type 0 where
   pub setup : Setup
-  pub asked : IsAskedFor w setup
+  pub asked : IsNamedBy w setup
   pub given : IsGiven (setup_line setup) old new len
 
 -- the set-up's numbers with what is asked for besides, all of which its line names

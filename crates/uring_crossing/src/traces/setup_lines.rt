@@ -1,7 +1,7 @@
 //! The first line of a trace, which is its set-up.
 ghost use Rattle.std.specs.Prelude.{◌≡◌, ◌↔◌, ◌++◌, ℕ, OnOk, IsOk, string_bytes, pos, neg_ℤ};
 ghost use Rattle.uring_entry.specs.declared.errno.TheConstants.{EINVAL, ENOMEM};
-ghost use Rattle.uring_crossing.specs.CoreWords.SetUps.{IsRefused};
+ghost use Rattle.uring_crossing.specs.CoreWords.SetUps.{IsRefused, without_files};
 ghost use Rattle.uring_crossing.specs.Traces.SetupLines.{TellsSetup, AsksForTheSame, SpellsSetup, setup_line, named_if};
 
 use crate::core_words::set_up_words::SetupWords;
@@ -22,12 +22,16 @@ pub fn trace_setup_in<M: TextMemory>(
 ) -> i32
     ensures results { (result ≡ pos 0 → ⊥) → (result ≡ neg_ℤ EINVAL → ⊥) → result ≡ neg_ℤ ENOMEM }
     ensures refused { (result ≡ pos 0 → ⊥) → (bytes.new ≡ bytes.old) × (len.new ≡ len.old) }
-    ensures no_setup { (result ≡ neg_ℤ EINVAL) ↔ IsRefused setup.now }
+    ensures no_setup { (result ≡ neg_ℤ EINVAL) ↔ IsRefused (without_files setup.now) }
     ensures told { result ≡ pos 0 → TellsSetup setup.now bytes.old bytes.new len.new }
     ensures granted { ((n : ℕ) → M.grants memory.now n) → result ≡ neg_ℤ ENOMEM → ⊥ }
 {
-    let Some(made) = setup.set_up() else {
+    let Some(core) = setup.without_files().set_up() else {
         return -errno::EINVAL;
+    };
+    let made = match setup.set_up() {
+        Some(made) => made,
+        None => core,
     };
     let mut text = String::new(alloc);
     let Ok(()) = push_setup(memory, &mut text, &made) else {

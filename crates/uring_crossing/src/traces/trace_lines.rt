@@ -11,7 +11,7 @@ use uring_core::StepWords;
 use uring_entry::{Sqe, errno};
 use uring_machine::{Answer, Step};
 use uring_text::Term::{Named, Operation, Signed, Text};
-use uring_text::{Kind, Name, TextMemory, push_named, push_terms, push_text};
+use uring_text::{Kind, Name, TextMemory, push_hex, push_named, push_terms, push_text};
 use uring_trace::{push_answer_in, spells_in, step_name};
 
 /// What `wulgach_trace_line` does, by this memory. If it grants whatever is asked for, -12 isn't returned.
@@ -115,7 +115,7 @@ fn push_fill<M: TextMemory>(
     push_fields(memory, text, entry)
 }
 
-/// Appends what the form of an entry's operation has after its flags: none of the data of a write.
+/// Appends what the form of an entry's operation has after its flags.
 fn push_fields<M: TextMemory>(memory: &M, text: &mut String, entry: &Sqe) -> Result<(), AllocError>
     ensures granted { ((n : ℕ) → M.grants memory.now n) → IsOk result }
 {
@@ -129,6 +129,7 @@ fn push_fields<M: TextMemory>(memory: &M, text: &mut String, entry: &Sqe) -> Res
             Kind::Offset => push_named(memory, text, " ", entry.off()),
             Kind::Length => push_named(memory, text, " ", u64::from(entry.len())),
             Kind::Target => push_named(memory, text, " ", entry.addr()),
+            Kind::Data => push_data(memory, text, entry),
             _ => Ok(()),
         };
         if let Err(error) = pushed {
@@ -136,4 +137,18 @@ fn push_fields<M: TextMemory>(memory: &M, text: &mut String, entry: &Sqe) -> Res
         }
     }
     Ok(())
+}
+
+/// Appends the data of a write, as two digits a byte, or `-` if it has none.
+fn push_data<M: TextMemory>(memory: &M, text: &mut String, entry: &Sqe) -> Result<(), AllocError>
+    ensures granted { ((n : ℕ) → M.grants memory.now n) → IsOk result }
+{
+    if entry.len() == 0 {
+        return push_text(memory, text, " -");
+    }
+    if let Err(error) = push_text(memory, text, " ") {
+        return Err(error);
+    }
+    let payload = entry.payload();
+    push_hex(memory, text, payload.get(..entry.len() as usize).unwrap_or_default())
 }

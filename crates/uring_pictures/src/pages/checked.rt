@@ -2,14 +2,15 @@
 
 ghost use Rattle.std.specs.Prelude.{◌≢◌, ℕ, Err};
 
+use crate::pages::apart::Ends;
 use crate::pages::line_parts::{last_number, split_at_mark};
-use crate::pages::recorder::{RESULT, Recorder};
+use crate::pages::recorder::{REASON, RESULT, Recorder};
 use crate::pages::watching::{Form, write_form};
 use crate::watching::{Told, Watcher, watch_byte, watch_bytes};
 use std::alloc::Global;
 use std::io::Write;
 use uring_machine::Setup;
-use uring_text::{TextMemory, TraceFault, is_name};
+use uring_text::{TextMemory, TraceFault, is_name, push_bytes};
 use uring_trace::Explainer;
 
 /// Writes to `writer` what the lines of a recorded trace show, of which `report` is what `uring_check::check` wrote without going on after a fault: up to the first that is wrong or bad, and of that what the report tells. As JSON, or as a page.
@@ -41,10 +42,82 @@ pub fn recorded_page_in<M: TextMemory, W: Write>(
 ) -> Result<(), TraceFault>
     ensures granted { ((n : ℕ) → M.grants memory.now n) → result ≢ Err TraceFault.Memory }
 {
+    let Ok(recorder) = Recorder::new(memory, alloc, setup) else {
+        return Err(TraceFault::Memory);
+    };
+    draw(memory, alloc, recorder, setup, trace, report, None, writer, form)
+}
+
+/// As `recorded_page`, of a trace whose ends no file gave: `uring_check::check` has judged it with `Ends::Any` or `Ends::Allowed`.
+///
+/// The answers are those of the trace. The reasons are those of a machine that goes along with a no-op or a failing fsync in the place of what was carried out, and no file is told of. An entry that was taken twice, and both succeeded and failed, has the second end as the first line that isn't shown.
+pub fn apart_page<W: Write>(
+    alloc: Global,
+    trace: &[u8],
+    report: &[u8],
+    writer: &mut W,
+    setup: &Setup,
+    form: Form,
+) -> Result<(), TraceFault> {
+    apart_page_in(&alloc, alloc, trace, report, writer, setup, form)
+}
+
+/// As `apart_page`, by this memory. If it grants whatever is asked for, it never ends with `Memory`.
+pub fn apart_page_in<M: TextMemory, W: Write>(
+    memory: &M,
+    alloc: Global,
+    trace: &[u8],
+    report: &[u8],
+    writer: &mut W,
+    setup: &Setup,
+    form: Form,
+) -> Result<(), TraceFault>
+    ensures granted { ((n : ℕ) → M.grants memory.now n) → result ≢ Err TraceFault.Memory }
+{
+    let Ok(ends) = Ends::of(memory, alloc, setup, trace) else {
+        return Err(TraceFault::Memory);
+    };
+    let drawn = draw_apart(memory, alloc, &ends, trace, report, writer, setup, form);
+    drop(ends);
+    drawn
+}
+
+/// The same, of which it is known what became of its entries.
+fn draw_apart<M: TextMemory, W: Write>(
+    memory: &M,
+    alloc: Global,
+    ends: &Ends,
+    trace: &[u8],
+    report: &[u8],
+    writer: &mut W,
+    setup: &Setup,
+    form: Form,
+) -> Result<(), TraceFault>
+    ensures { ((n : ℕ) → M.grants memory.now n) → result ≢ Err TraceFault.Memory }
+{
     let Ok(mut recorder) = Recorder::new(memory, alloc, setup) else {
         return Err(TraceFault::Memory);
     };
-    let recorded = record_lines(memory, alloc, setup, &mut recorder, trace, report);
+    recorder.leave_files();
+    draw(memory, alloc, recorder, setup, trace, report, Some(ends), writer, form)
+}
+
+/// Records the lines, and writes what they show.
+fn draw<M: TextMemory, W: Write>(
+    memory: &M,
+    alloc: Global,
+    recorder: Recorder,
+    setup: &Setup,
+    trace: &[u8],
+    report: &[u8],
+    ends: Option<&Ends>,
+    writer: &mut W,
+    form: Form,
+) -> Result<(), TraceFault>
+    ensures { ((n : ℕ) → M.grants memory.now n) → result ≢ Err TraceFault.Memory }
+{
+    let mut recorder = recorder;
+    let recorded = record_lines(memory, alloc, setup, &mut recorder, trace, report, ends);
     let written = match recorded {
         Ok(()) => write_form(memory, &mut recorder, writer, form),
         Err(fault) => Err(fault),
@@ -61,13 +134,14 @@ fn record_lines<M: TextMemory>(
     recorder: &mut Recorder,
     trace: &[u8],
     report: &[u8],
+    ends: Option<&Ends>,
 ) -> Result<(), TraceFault>
     ensures { ((n : ℕ) → M.grants memory.now n) → result ≢ Err TraceFault.Memory }
 {
     let Ok(mut explainer) = Explainer::new_in(memory, alloc, setup) else {
         return Err(TraceFault::Memory);
     };
-    let recorded = record_all(memory, alloc, &mut explainer, recorder, trace, report);
+    let recorded = record_all(memory, alloc, &mut explainer, recorder, trace, report, ends);
     drop(explainer);
     recorded
 }
@@ -80,6 +154,7 @@ fn record_all<M: TextMemory>(
     recorder: &mut Recorder,
     trace: &[u8],
     report: &[u8],
+    ends: Option<&Ends>,
 ) -> Result<(), TraceFault>
     ensures { ((n : ℕ) → M.grants memory.now n) → result ≢ Err TraceFault.Memory }
 {
@@ -101,7 +176,11 @@ fn record_all<M: TextMemory>(
                 Err(_) => Err(TraceFault::Memory),
             };
         }
-        match record_line(memory, alloc, explainer, recorder, line) {
+        let recorded = match ends {
+            Some(ends) => record_apart(memory, alloc, explainer, recorder, line, ends, number),
+            None => record_line(memory, alloc, explainer, recorder, line),
+        };
+        match recorded {
             Ok(true) => {}
             Ok(false) => break,
             Err(fault) => return Err(fault),
@@ -144,4 +223,80 @@ fn record_line<M: TextMemory>(
         },
         Err(fault) => Err(fault),
     }
+}
+
+/// Records a line that is lawful, or that is passed over, with the answer that it has and the reason that the explainer has in its place. Returns whether the explainer goes along with it.
+fn record_apart<M: TextMemory>(
+    memory: &M,
+    alloc: Global,
+    explainer: &mut Explainer,
+    recorder: &mut Recorder,
+    line: &[u8],
+    ends: &Ends,
+    number: u64,
+) -> Result<bool, TraceFault>
+    ensures { ((n : ℕ) → M.grants memory.now n) → result ≢ Err TraceFault.Memory }
+{
+    let place = number.saturating_sub(1) as usize;
+    if place >= ends.lines {
+        return Ok(false);
+    }
+    let (step, answer) = split_at_mark(line, RESULT);
+    recorder.keep_all(step);
+    let mut text = Vec::new(alloc);
+    if let Err(_) = push_bytes(memory, &mut text, answer) {
+        return Err(TraceFault::Memory);
+    }
+    if !is_name(answer, "again") {
+        if let Err(_) = recorder.take_byte(memory, explainer.machine(), b'\n') {
+            return Err(TraceFault::Memory);
+        }
+        if let Err(fault) = explain_made(memory, alloc, explainer, step, ends, place, &mut text) {
+            return Err(fault);
+        }
+    }
+    let told = Told {
+        text: text.as_slice(),
+        note: b"",
+    };
+    match recorder.end_line(memory, explainer.machine(), told) {
+        Ok(()) => Ok(true),
+        Err(_) => Err(TraceFault::Memory),
+    }
+}
+
+/// Has the explainer go along with what stands in the place of a step, and appends the reason that it has.
+fn explain_made<M: TextMemory>(
+    memory: &M,
+    alloc: Global,
+    explainer: &mut Explainer,
+    step: &[u8],
+    ends: &Ends,
+    place: usize,
+    text: &mut Vec<u8>,
+) -> Result<(), TraceFault>
+    ensures { ((n : ℕ) → M.grants memory.now n) → result ≢ Err TraceFault.Memory }
+{
+    let mut made = String::new(alloc);
+    let Ok(is_made) = ends.push_made(memory, &mut made, place) else {
+        return Err(TraceFault::Memory);
+    };
+    let step = if is_made { made.as_bytes() } else { step };
+    let mut told = String::new(alloc);
+    let mut notes = String::new(alloc);
+    for bytes in [step, b"\n".as_slice()] {
+        if let Err(_) = explainer.feed_in(memory, bytes, &mut told, &mut notes) {
+            return Err(TraceFault::Memory);
+        }
+    }
+    let reason = split_at_mark(told.as_bytes(), REASON).1;
+    if reason.is_empty() {
+        return Ok(());
+    }
+    for bytes in [REASON, reason.strip_suffix(b"\n").unwrap_or(reason)] {
+        if let Err(_) = push_bytes(memory, text, bytes) {
+            return Err(TraceFault::Memory);
+        }
+    }
+    Ok(())
 }

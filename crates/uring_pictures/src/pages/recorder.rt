@@ -17,6 +17,9 @@ use uring_text::{KeptLine, TextMemory, push_text};
 /// What stands between a step and its answer in a recorded trace; a line without it is all step.
 pub(crate) const RESULT: &[u8] = b" = ";
 
+/// What stands between an answer and its reason.
+pub(crate) const REASON: &[u8] = b"  # ";
+
 /// The set-up, and the beginning of the lines.
 const HEAD: &str =
     "{\"form\":1,\"setup\":{\"sq\":@,\"cq\":@,\"files\":@,\"start\":@,\"stops\":@},\"lines\":[";
@@ -41,6 +44,8 @@ pub(crate) struct Recorder {
     // The step that it is, and the request that its cancel finds.
     step: Option<Step>,
     found: Option<u64>,
+    // Whether its files are those of the machine.
+    has_files: bool,
     submission: Submission,
     pub(crate) changes: Changes,
     pub(crate) text: String,
@@ -72,10 +77,16 @@ impl Recorder {
             number: 1,
             step: None,
             found: None,
+            has_files: true,
             submission: Submission::new(memory, alloc, setup.sq())?,
             changes: Changes::new(alloc),
             text,
         })
+    }
+
+    /// Leaves files out: those of the machine aren't those of the trace.
+    pub(crate) fn leave_files(&mut self) {
+        self.has_files = false;
     }
 
     /// Takes in the bytes of a line.
@@ -190,6 +201,9 @@ impl Recorder {
         let Step::Finish { number } = step else {
             return Ok(());
         };
+        if !self.has_files {
+            return Ok(());
+        }
         let Some(request) = self.changes.requests.get(*number as usize) else {
             return Ok(());
         };
@@ -246,7 +260,7 @@ impl Watcher for Recorder {
         machine: &Machine,
         told: Told<'_>,
     ) -> Result<(), AllocError> {
-        let (answer, reason) = split_at_mark(told.text, b"  # ");
+        let (answer, reason) = split_at_mark(told.text, REASON);
         let values = [
             Value::Text(separator(self.number == 1)),
             Value::Number(self.number),

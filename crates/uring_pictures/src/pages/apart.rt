@@ -1,0 +1,195 @@
+//! What stands for the operations of a recorded trace whose ends no file gave: a machine goes along with a no-op in the place of one that succeeded, and an fsync of no file in the place of one that failed, since who waits and who is doomed rests on nothing else.
+
+ghost use Rattle.std.specs.Prelude.{ℕ, IsOk};
+
+use crate::form_text::{Value, push_form};
+use crate::moment::step_of;
+use crate::pages::line_parts::{result_of, split_at_mark};
+use crate::pages::recorder::RESULT;
+use crate::pages::submission::{Submission, push_value};
+use std::alloc::{AllocError, Global};
+use uring_entry::{Sqe, succeeded};
+use uring_machine::{Setup, Step};
+use uring_text::{KeptLine, TextMemory};
+
+/// A descriptor that no file has.
+const NO_FILE: i32 = 64;
+
+/// A line that fills an entry in.
+#[derive(Clone, Copy)]
+struct Filled {
+    slot: u32,
+    entry: Sqe,
+    // Whether its request has succeeded, if that was recorded as its end.
+    succeeded: Option<bool>,
+}
+
+/// What became of the entries that the lines of a trace fill in.
+#[derive(Drop)]
+pub(crate) struct Ends {
+    alloc: Global,
+    submission: Submission,
+    // What each line fills in, if it does, and of each request which line filled it in.
+    filled: Vec<Option<Filled>>,
+    requests: Vec<usize>,
+    /// How many lines a machine goes along with: an entry that was taken twice, and ended in two ways, is at the next.
+    pub(crate) lines: usize,
+}
+
+impl Ends {
+    /// Those of this trace, with so many slots. Here and below: if the memory grants whatever is asked for, there is no error.
+    pub(crate) fn of<M: TextMemory>(
+        memory: &M,
+        alloc: Global,
+        setup: &Setup,
+        trace: &[u8],
+    ) -> Result<Ends, AllocError>
+        ensures { ((n : ℕ) → M.grants memory.now n) → IsOk result }
+    {
+        let mut ends = Ends {
+            alloc,
+            submission: Submission::new(memory, alloc, setup.sq())?,
+            filled: Vec::new(alloc),
+            requests: Vec::new(alloc),
+            lines: usize::MAX,
+        };
+        match ends.take_all(memory, trace) {
+            Ok(()) => Ok(ends),
+            Err(refused) => {
+                drop(ends);
+                Err(refused)
+            }
+        }
+    }
+
+    /// Takes in all lines.
+    fn take_all<M: TextMemory>(&mut self, memory: &M, trace: &[u8]) -> Result<(), AllocError>
+        ensures { ((n : ℕ) → M.grants memory.now n) → IsOk result }
+    {
+        let mut kept = KeptLine::new_in(memory, self.alloc)?;
+        let mut rest = trace;
+        for _ in 0..trace.len() {
+            if rest.is_empty() {
+                break;
+            }
+            let (line, after) = split_at_mark(rest, b"\n");
+            let (step, answer) = split_at_mark(line, RESULT);
+            kept.clear();
+            for byte in step {
+                kept.push(*byte);
+            }
+            self.take_line(memory, &kept, answer)?;
+            rest = after;
+        }
+        Ok(())
+    }
+
+    /// Takes in a step with its answer.
+    fn take_line<M: TextMemory>(
+        &mut self,
+        memory: &M,
+        line: &KeptLine,
+        answer: &[u8],
+    ) -> Result<(), AllocError>
+        ensures { ((n : ℕ) → M.grants memory.now n) → IsOk result }
+    {
+        let step = step_of(memory, self.alloc, line)?;
+        let here = self.filled.len();
+        let filled = match step {
+            Some(Step::Fill { slot, entry }) => Some(Filled {
+                slot,
+                entry,
+                succeeded: None,
+            }),
+            _ => None,
+        };
+        push_value(memory, &mut self.filled, filled)?;
+        match step {
+            Some(Step::Finish { number }) if answer.starts_with(b"ended ") => {
+                self.end(here, number, result_of(answer));
+                Ok(())
+            }
+            Some(step) => self.submit(memory, here, &step, answer),
+            None => Ok(()),
+        }
+    }
+
+    /// Notes that a request has ended with a result, at this line.
+    fn end(&mut self, here: usize, number: u64, res: i32) {
+        let Some(line) = self.requests.get(number as usize) else {
+            return;
+        };
+        if let Some(Some(filled)) = self.filled.get_mut(*line) {
+            let has_succeeded = succeeded(&filled.entry, res);
+            if filled.succeeded.unwrap_or(has_succeeded) != has_succeeded {
+                self.lines = self.lines.min(here);
+            }
+            filled.succeeded = Some(has_succeeded);
+        }
+    }
+
+    /// Takes in a step of a submission, in which an entry has the number of its line for user data.
+    fn submit<M: TextMemory>(
+        &mut self,
+        memory: &M,
+        here: usize,
+        step: &Step,
+        answer: &[u8],
+    ) -> Result<(), AllocError>
+        ensures { ((n : ℕ) → M.grants memory.now n) → IsOk result }
+    {
+        let marked = match step {
+            Step::Fill { slot, .. } => Step::Fill {
+                slot: *slot,
+                entry: Sqe::nop(here as u64, 0),
+            },
+            step => *step,
+        };
+        self.submission.take_in(memory, &marked, answer)?;
+        if !matches!(step, Step::End) || !answer.starts_with(b"taken ") {
+            return Ok(());
+        }
+        for place in 0..self.submission.entries.len() {
+            if let Some(entry) = self.submission.entries.get(place) {
+                let line = entry.user_data() as usize;
+                push_value(memory, &mut self.requests, line)?;
+            }
+        }
+        Ok(())
+    }
+
+    /// Appends what a machine is told in the place of this line, if it fills in what was carried out. Returns whether it does.
+    pub(crate) fn push_made<M: TextMemory>(
+        &self,
+        memory: &M,
+        text: &mut String,
+        line: usize,
+    ) -> Result<bool, AllocError>
+        ensures { ((n : ℕ) → M.grants memory.now n) → IsOk result }
+    {
+        let Some(Some(filled)) = self.filled.get(line) else {
+            return Ok(false);
+        };
+        let Some(has_succeeded) = filled.succeeded else {
+            return Ok(false);
+        };
+        let entry = &filled.entry;
+        let made = Sqe::nop(entry.user_data(), entry.flags());
+        let failed = Sqe::fsync(entry.user_data(), entry.flags(), NO_FILE);
+        let values = [
+            Value::Number(u64::from(filled.slot)),
+            Value::Operation(if has_succeeded { &made } else { &failed }),
+            Value::Number(entry.user_data()),
+            Value::Flags(entry),
+            Value::Text(if has_letters(entry) { "" } else { "-" }),
+            Value::Member(" ", (!has_succeeded).then_some(NO_FILE as u64)),
+        ];
+        push_form(memory, text, "fill @ @ @ @@@", &values)?;
+        Ok(true)
+    }
+}
+
+/// Whether a trace has letters for some of the flags.
+fn has_letters(entry: &Sqe) -> bool {
+    entry.flags() & 0b101_1110 != 0
+}
