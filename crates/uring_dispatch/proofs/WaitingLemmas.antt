@@ -1,6 +1,6 @@
 -- What is told of who waits: how it is kept when other requests are told of anew.
-use Rattle.std.proofs.Common.{◌≡◌, ◌≢◌, ℕ, ◌<◌, ◌≤◌, Bool, true, false, ◌⊎◌, Option, Some, None, is_some, arith}
-use Rattle.uring_dispatch.proofs.Common.{CanTell, Changes, Group, Groups, GrowsTo, HasGrown, HasMoved, IsListed, IsListedAt, IsSameReach, IsSound, Keeps, NumberSet, Puts, Reaches, Request, StandsAsBefore, Waiting, Window, at, dooms, earlier_of, end_of, group_at, holds_same, is_before, is_some_value, leads, waits_at_head, waits_doomed}
+use Rattle.std.proofs.Common.{◌≡◌, ◌≢◌, ℕ, ◌<◌, ◌≤◌, Bool, true, false, ◌⊎◌, ◌||◌, Option, Some, None, is_some, refl, arith}
+use Rattle.uring_dispatch.proofs.Common.{CanTell, Changes, Group, Groups, GrowsTo, HasGrown, HasMoved, IsListed, IsListedAt, holds, IsSameReach, IsSound, Keeps, NumberSet, Puts, Reaches, Request, StandsAsBefore, Waiting, Window, at, dooms, earlier_of, end_of, group_at, holds_same, is_before, is_some_value, leads, runs, waits_at_head, waits_doomed}
 use Rattle.uring_dispatch.proofs.WindowFront.{within_end}
 use Rattle.uring_dispatch.proofs.EndLemmas.{Ends, left_member}
 use Rattle.uring_dispatch.proofs.Changes.{before_end}
@@ -21,6 +21,24 @@ pub idle_listed : (w : Window) (g : Groups) (s t : Waiting) (n : ℕ) (o : Optio
     → waits_at_head g o n ≡ false → waits_doomed g o n ≡ false → Puts s.heads t.heads n false
     → Puts s.doomed t.doomed n false → IsListedAt w g t n
 idle_listed w g s t n o is head doomed a b = grind arith
+
+-- what isn't in a set needn't be taken out
+pub absent_puts : (s : NumberSet) (n : ℕ) → holds s n ≡ false → Puts s s n false
+absent_puts s n e = record { here = e; others = λ k ne. refl; blocks = λ i ne. refl; start = refl; stop = refl; limit = refl }
+
+-- who runs isn't told of
+pub running_absent : (w : Window) (g : Groups) (s : Waiting) (n : ℕ) → IsListedAt w g s n → runs (at w n) ≡ true
+    → (holds s.heads n ≡ false) × (holds s.doomed n ≡ false)
+running_absent w g s n l ran = grind (arith, (is_some_value (at w n)))
+
+-- who waits and isn't doomed isn't told of as doomed
+pub spared_absent : (w : Window) (g : Groups) (s : Waiting) (n : ℕ) (q : Request) (p : Group) (b : Bool) → IsListedAt w g s n → at w n ≡ Some q
+    → group_at g q.group ≡ Some p → b ≡ (dooms (Some p) n || q.is_cancelled) → b ≡ false → holds s.doomed n ≡ false
+spared_absent w g s n q p b l e is doom spared = grind arith
+
+-- telling nothing keeps all
+pub keeps_same : (w : Window) (g : Groups) (s : Waiting) → Keeps w g s s
+keeps_same w g s = grind arith
 
 pub forgotten_keeps : (w : Window) (g : Groups) (s t : Waiting) (n : ℕ) → IsListedAt w g t n
     → Puts s.heads t.heads n false → Puts s.doomed t.doomed n false → Keeps w g s t

@@ -57,7 +57,7 @@ impl Outstanding {
             return self.cancel(n, key, &group, target, all);
         }
         self.grouped.window.start(n, key);
-        self.waiting.forget(n);
+        self.waiting.start(n);
         IssuedPosting::Run(op)
     }
 
@@ -109,8 +109,8 @@ impl Outstanding {
             (one_if (runs (at self.old.grouped.window n))) }
     {
         let others = self.grouped.take_out(n, key, group, is_success);
-        self.waiting.forget(n);
-        self.waiting.relist(&self.grouped, others.head);
+        self.waiting.end(n, others.is_running);
+        self.waiting.relist_other(&self.grouped, others.head, n);
         self.waiting
             .relist_range(&self.grouped, n, others.doomed_end);
         let first = self.grouped.window.first();
@@ -124,6 +124,8 @@ impl Outstanding {
 #[derive(Clone, Copy)]
 struct Others {
     posts: Posts,
+    // Whether the request ran.
+    is_running: bool,
     // The member that may be the least of its group now, or else the request itself.
     head: u64,
     // The members from the request on and before this number may be doomed now.
@@ -148,6 +150,7 @@ impl Grouped {
         ensures counts { HasLost self.old.window self.new.window
             (one_if (runs (at self.old.window n))) }
         ensures gone { Changes self.old.window self.new.window n None }
+        ensures ran { result.is_running ≡ runs (at self.old.window n) }
         ensures head { is_some (at self.old.window result.head) ≡ true }
         ensures doomed { result.doomed_end ≤ end_of self.old.window }
         ensures others { (k : ℕ) → k ≢ n → k ≢ result.head → (k < n) ⊎ (result.doomed_end ≤ k)
@@ -160,6 +163,7 @@ impl Grouped {
             self.groups.remove(request.group);
             return Others {
                 posts,
+                is_running: request.is_running,
                 head: n,
                 doomed_end: n,
             };
@@ -175,6 +179,7 @@ impl Grouped {
         self.groups.update(request.group, left);
         Others {
             posts,
+            is_running: request.is_running,
             head: least,
             doomed_end,
         }

@@ -1,6 +1,7 @@
 //! How an outstanding request stands: whether it is doomed, and whether it may start. io_uring_enter(2), IOSQE_IO_LINK, IOSQE_IO_HARDLINK, IOSQE_IO_DRAIN and IORING_OP_ASYNC_CANCEL. That a failure reaches all later members, that a fault dooms those before it too, and that a doomed request waits for nothing, are our own rules.
 
-ghost use Rattle.std.specs.Prelude.{◌≡◌, true, Some, is_some, IfSome};
+ghost use Rattle.std.specs.Prelude.{◌≡◌, ◌||◌, true, Some, is_some, IfSome};
+ghost use Rattle.uring_dispatch.specs.Waiting.{dooms};
 ghost use Rattle.uring_entry.specs.Requests.{Requests, entry_of};
 ghost use Rattle.uring_entry.specs.Layout.{addr_of};
 ghost use Rattle.uring_entry.specs.Requests as spec;
@@ -40,7 +41,8 @@ impl Grouped {
     pub(crate) fn is_doomed_in(&self, n: u64, request: &Request, group: &Group) -> bool
         requires there { at self.now.window n ≡ Some request.now }
         requires group { IsGroupOf self.now n group.now }
-        ensures { (r : Requests) → Shows self.now r → result ≡ spec.is_doomed r n }
+        ensures doomed { (r : Requests) → Shows self.now r → result ≡ spec.is_doomed r n }
+        ensures kept { result ≡ (dooms (Some group.now) n || request.now.is_cancelled) }
     {
         if request.is_cancelled {
             return true;

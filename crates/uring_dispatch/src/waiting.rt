@@ -1,7 +1,7 @@
 //! Which of the outstanding requests wait at the head of their group, and which are doomed: among these is the next to be issued.
 
-ghost use Rattle.std.specs.Prelude.{◌≡◌, ℕ, ◌+◌, ◌/◌, ◌^◌, ◌<◌, ◌≤◌, false, Some, IsOk, OnOk};
-ghost use Rattle.uring_number_set.specs.NumberSet.{stop_of, Puts, HasSame, HasMoved};
+ghost use Rattle.std.specs.Prelude.{◌≡◌, ℕ, ◌+◌, ◌/◌, ◌^◌, ◌<◌, ◌≤◌, true, false, Some, IsOk, OnOk};
+ghost use Rattle.uring_number_set.specs.NumberSet.{stop_of, holds, Puts, HasSame, HasMoved};
 ghost use Rattle.uring_dispatch.specs.Window.{at};
 ghost use Rattle.uring_dispatch.specs.Groups.{group_at};
 ghost use Rattle.uring_dispatch.specs.Waiting.{waits_at_head, waits_doomed, IsListedAt, CanTell, Keeps, CanGrow, GrowsTo, Starts, IsFirstTold};
@@ -85,6 +85,44 @@ impl Waiting {
     {
         self.heads.put(n, false);
         self.doomed.put(n, false);
+    }
+
+    /// Tells of request `n`, which was started and wasn't doomed, that it doesn't wait.
+    #[inline(always)]
+    pub(crate) fn start(&mut self, n: u64)
+        requires tell { CanTell self.old n }
+        requires free { holds self.old.doomed n ≡ false }
+        ensures heads { Puts self.old.heads self.new.heads n false }
+        ensures doomed { Puts self.old.doomed self.new.doomed n false }
+    {
+        self.heads.put(n, false);
+    }
+
+    /// Tells of request `n`, which has ended, that it doesn't wait. Of one that ran nothing was told.
+    #[inline(always)]
+    pub(crate) fn end(&mut self, n: u64, is_running: bool)
+        requires tell { CanTell self.old n }
+        requires heads { is_running ≡ true → holds self.old.heads n ≡ false }
+        requires doomed { is_running ≡ true → holds self.old.doomed n ≡ false }
+        ensures heads { Puts self.old.heads self.new.heads n false }
+        ensures doomed { Puts self.old.doomed self.new.doomed n false }
+    {
+        if !is_running {
+            self.forget(n);
+        }
+    }
+
+    /// Tells anew of request `n`, unless it is this one, of which it is told.
+    #[inline(always)]
+    pub(crate) fn relist_other(&mut self, grouped: &Grouped, n: u64, told: u64)
+        requires tell { CanTell self.old n }
+        requires told { n ≡ told → IsListedAt grouped.now.window grouped.now.groups self.old n }
+        ensures here { IsListedAt grouped.now.window grouped.now.groups self.new n }
+        ensures keeps { Keeps grouped.now.window grouped.now.groups self.old self.new }
+    {
+        if n != told {
+            self.relist(grouped, n);
+        }
     }
 
     /// Tells anew of the requests from one number on and below another.

@@ -1,4 +1,6 @@
 -- Sets of numbers as blocks: what is found at a place, and what a write of a block does to the set. `uring_dispatch` imports `holds_same` and `popped`.
+use Rattle.std.specs.Prelude.{drop}
+use Rattle.std.proofs.lemmas.Grind.{get_or_default_zero}
 use Rattle.std.proofs.Common.{◌≡◌, ◌≢◌, ℕ, ◌+◌, ◌-◌, ◌*◌, ◌/◌, ◌%◌, ◌^◌, ◌<◌, ◌≤◌, List, [], ◌∷◌, ◌++◌, length, get_or, set, Bool, true, false, eqb, bit_and, bit_or, refl, sym, ◌∙◌, ap, arith, w64, length-set, length-append, Option, Some}
 use Rattle.std.specs.Int.{bit_at, bit_not, trailing_zeros}
 use Rattle.std.specs.Option.{option_to_list}
@@ -38,6 +40,19 @@ pub popped : {X : Type 0} (old new : List X) (r : Option X) (x y : X)
     → x ≡ y → old ≡ y ∷ new
 popped old new r x y e h l is = e ∙ ap (λ o. option_to_list o ++ new) (h x ∙ ap Some (sym l ∙ is))
 
+-- what is left of a list that begins with zero
+pub first_out : (old new : List ℕ) → 0 < length old → get_or old 0 0 ≡ 0 → new ≡ drop 1 old → old ≡ 0 ∷ new
+first_out [] new lt zero e = absurd (omega arith)
+first_out (x ∷ rest) new lt zero e = cc
+
+-- what is read at a covered number's block
+pub kept_here : (s : NumberSet) (n block : ℕ) → Covers s n → block ≡ get_or s.blocks (n / 64 - s.first) block
+    → block ≡ block_at s (n / 64)
+kept_here s n block c e = grind (arith, c.from, c.to, block_of_high, get_or_default_zero)
+
+pub some_of : (n : ℕ) → eqb n 0 ≡ false → 0 < n
+some_of n e = grind arith
+
 -- What is in the set.
 
 pub holds_block : (s : NumberSet) (n block : ℕ) → block_at s (n / 64) ≡ block
@@ -61,6 +76,10 @@ written : (s t : NumberSet) (n block : ℕ) (now : Bool) → Covers s n → t.fi
     → Puts s t n now
 written s t n block now c first blocks limit here others =
     grind (arith, c.from, c.to, block_of_high, block_of_low, get_or-set_same, get_or-set_other, length-set, holds_block)
+
+pub written_here : (s t : NumberSet) (n block : ℕ) → Covers s n → t.first ≡ s.first
+    → t.blocks ≡ set s.blocks (n / 64 - s.first) block → block_at t (n / 64) ≡ block
+written_here s t n block c first blocks = grind (arith, c.from, c.to, block_of_high, get_or-set_same, length-set)
 
 pub insert_puts : (s t : NumberSet) (n block : ℕ) → Covers s n → block ≡ block_at s (n / 64)
     → t.first ≡ s.first

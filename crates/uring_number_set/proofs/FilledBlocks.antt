@@ -19,6 +19,11 @@ pub insert_filled : (s t f g : NumberSet) (n : ℕ) → IsFilled s f → Puts s 
     → Puts f g (n / 64) true → IsFilled t g
 insert_filled s t f g n h p q = grind (arith, holds_zero t n, cases_eq, ne_eqb)
 
+-- one is put into a block in which there is one
+pub insert_filled_some : (s t f : NumberSet) (n : ℕ) → IsFilled s f → Puts s t n true
+    → block_at s (n / 64) ≢ 0 → IsFilled t f
+insert_filled_some s t f n h p was = grind (arith, holds_zero t n, cases_eq, ne_eqb)
+
 -- a number is taken out, and its block is zero then
 pub remove_filled_zero : (s t f g : NumberSet) (n : ℕ) → IsFilled s f → Puts s t n false
     → block_at t (n / 64) ≡ 0 → Puts f g (n / 64) false → IsFilled t g

@@ -1,12 +1,11 @@
 //! A set of numbers as a queue of blocks, 64 numbers to a block.
 
-ghost use Rattle.std.specs.Prelude.{◌≡◌, ℕ, ◌+◌, ◌*◌, ◌/◌, ◌^◌, ◌<◌, ◌≤◌, length, true, false, OnOk, IsOk, MatchOption, slice_index_or, slice_set};
-ghost use Rattle.std.specs.VecDeque.{deque_len, deque_capacity};
+ghost use Rattle.std.specs.Prelude.{◌≡◌, ◌==◌, ℕ, ◌+◌, ◌*◌, ◌/◌, ◌^◌, ◌<◌, ◌≤◌, length, true, false, OnOk, IsOk, MatchOption, slice_index_or, slice_set};
+ghost use Rattle.std.specs.Prelude.{vec_len, vec_capacity};
 ghost use Rattle.std.specs.Int.{trailing_zeros, w64};
 ghost use Rattle.uring_number_set.specs.NumberSet.{block_of, block_at, holds, start_of, stop_of, Covers, Puts, HasLetGo, IsSameSet, IsLeastFrom, IsLeastOf, HasNoneFrom, IsFirstFilled, IsFirstBlock};
 
 use std::alloc::{AllocError, Global};
-use std::collections::VecDeque;
 use std::marker::Model;
 use uring_memory::Memory;
 
@@ -16,12 +15,12 @@ pub(crate) struct Blocks {
     // The place of the first block that is kept: it has the numbers from 64 times this on.
     first: u64,
     // A number's bit is set if the number is in the set.
-    blocks: VecDeque<u64>,
+    blocks: Vec<u64>,
 }
 
 impl Model for Blocks {
     ghost use Rattle.std.specs.Prelude.{◌+◌, ◌*◌, ◌^◌, ◌<◌};
-    ghost use Rattle.std.specs.VecDeque.{deque_len, deque_capacity};
+    ghost use Rattle.std.specs.Prelude.{vec_len, vec_capacity};
     ghost use Rattle.uring_number_set.specs.NumberSet.{NumberSet};
 
     ghost Value = { NumberSet };
@@ -29,10 +28,10 @@ impl Model for Blocks {
     ghost view = { λ s. record {
       first = s.first;
       blocks = s.blocks.items;
-      limit = 64 * (s.first + deque_capacity s.blocks);
+      limit = 64 * (s.first + vec_capacity s.blocks);
     } };
 
-    ghost invariant = { λ s. 64 * (s.first + deque_len s.blocks) < 2 ^ 64 };
+    ghost invariant = { λ s. 64 * (s.first + vec_len s.blocks) < 2 ^ 64 };
 }
 
 impl Blocks {
@@ -45,7 +44,7 @@ impl Blocks {
     {
         Blocks {
             first: 0,
-            blocks: VecDeque::new(alloc),
+            blocks: Vec::new(alloc),
         }
     }
 
@@ -64,7 +63,7 @@ impl Blocks {
         ensures granted { (n : ℕ) → M.grants memory.now n
             → length self.old.blocks + count / 64 + 1 ≤ n → IsOk result }
     {
-        memory.reserve_queue(&mut self.blocks, (count / 64 + 1) as usize)
+        memory.reserve(&mut self.blocks, (count / 64 + 1) as usize)
     }
 
     /// The place of the first block that is kept.
@@ -74,8 +73,9 @@ impl Blocks {
         self.first
     }
 
-    /// Covers the number `n`, which is at most the one after those that are covered.
-    pub(crate) fn extend(&mut self, n: u64)
+    /// Covers the number `n`, which is at most the one after those that are covered. Whether a block was added.
+    #[inline(always)]
+    pub(crate) fn extend(&mut self, n: u64) -> bool
         requires follows { n ≤ stop_of self.old }
         requires room { n < self.old.limit }
         requires fits { n < 2 ^ 63 }
@@ -85,10 +85,13 @@ impl Blocks {
             → stop_of self.new ≤ 64 * m }
         ensures same { IsSameSet self.old self.new }
         ensures start { self.new.first ≡ self.old.first }
+        ensures kept { result ≡ false → self.new ≡ self.old }
     {
-        if n / 64 >= self.first + self.blocks.len() as u64 {
-            self.blocks.push_back_reserved(0);
+        if n / 64 < self.first + self.blocks.len() as u64 {
+            return false;
         }
+        self.blocks.push_reserved(0);
+        true
     }
 
     /// The block at this place.
@@ -100,22 +103,47 @@ impl Blocks {
         block_of(self.first, &self.blocks, place)
     }
 
-    /// Puts the number `n` into the set.
-    pub(crate) fn insert(&mut self, n: u64)
+    /// Puts the number `n` into the set. Whether its block was zero.
+    #[inline(always)]
+    pub(crate) fn insert(&mut self, n: u64) -> bool
         requires { Covers self.old n }
-        ensures { Puts self.old self.new n true }
+        ensures puts { Puts self.old self.new n true }
+        ensures first { result ≡ (block_at self.old (n / 64) == 0) }
     {
-        let block = block_of(self.first, &self.blocks, n / 64) | (1u64 << (n % 64));
-        write(&mut self.blocks, (n / 64 - self.first) as usize, block);
+        let was = self.kept_block(n);
+        write(
+            &mut self.blocks,
+            (n / 64 - self.first) as usize,
+            was | (1u64 << (n % 64)),
+        );
+        was == 0
     }
 
-    /// Takes the number `n` out of the set.
-    pub(crate) fn remove(&mut self, n: u64)
+    /// Takes the number `n` out of the set. Whether its block is zero now, and wasn't.
+    #[inline(always)]
+    pub(crate) fn remove(&mut self, n: u64) -> bool
         requires { Covers self.old n }
-        ensures { Puts self.old self.new n false }
+        ensures puts { Puts self.old self.new n false }
+        ensures last { result ≡ true → block_at self.new (n / 64) ≡ 0 }
+        ensures other { result ≡ false
+            → (block_at self.new (n / 64) == 0) ≡ (block_at self.old (n / 64) == 0) }
     {
-        let block = block_of(self.first, &self.blocks, n / 64) & !(1u64 << (n % 64));
-        write(&mut self.blocks, (n / 64 - self.first) as usize, block);
+        let was = self.kept_block(n);
+        if was == 0 {
+            return false;
+        }
+        let left = was & !(1u64 << (n % 64));
+        write(&mut self.blocks, (n / 64 - self.first) as usize, left);
+        left == 0
+    }
+
+    /// The block of the number `n`, which is covered.
+    #[inline(always)]
+    fn kept_block(&self, n: u64) -> u64
+        requires { Covers self.now n }
+        ensures { result ≡ block_at self.now (n / 64) }
+    {
+        self.blocks[(n / 64 - self.first) as usize]
     }
 
     /// The least number in the set from `n` on.
@@ -150,6 +178,9 @@ impl Blocks {
         ensures same { IsSameSet self.old self.new }
         ensures far { HasLetGo self.new.first self.new.blocks (n / 64) }
     {
+        if n / 64 <= self.first {
+            return;
+        }
         drop_zeros(&mut self.first, &mut self.blocks, n / 64);
     }
 }
@@ -175,30 +206,30 @@ pub(crate) fn least_of(block: u64, n: u64) -> Option<u64>
 }
 
 /// The block at this place, or zero.
-fn block_of(first: u64, blocks: &VecDeque<u64>, place: u64) -> u64
+#[inline(always)]
+#[tactic(auto, using(crate::proofs::BlockLemmas::block_of_low, crate::proofs::BlockLemmas::block_of_high, crate::proofs::BlockLemmas::block_of_past))]
+fn block_of(first: u64, blocks: &Vec<u64>, place: u64) -> u64
     ensures { result ≡ block_of first blocks.now.items place }
 {
     if place < first {
         return 0;
     }
-    match blocks.get((place - first) as usize) {
-        Some(block) => *block,
-        None => 0,
-    }
+    let at = (place - first) as usize;
+    if at < blocks.len() { blocks[at] } else { 0 }
 }
 
 /// Writes a block.
-fn write(blocks: &mut VecDeque<u64>, place: usize, block: u64)
-    requires { place < deque_len blocks.old }
+fn write(blocks: &mut Vec<u64>, place: usize, block: u64)
+    requires { place < vec_len blocks.old }
     ensures items { blocks.new.items ≡ slice_set blocks.old.items place block }
-    ensures len { deque_len blocks.new ≡ deque_len blocks.old }
-    ensures capacity { deque_capacity blocks.new ≡ deque_capacity blocks.old }
+    ensures len { vec_len blocks.new ≡ vec_len blocks.old }
+    ensures capacity { vec_capacity blocks.new ≡ vec_capacity blocks.old }
 {
     blocks[place] = block;
 }
 
 /// The place of the first block from this one on that isn't zero.
-fn first_filled(blocks: &VecDeque<u64>, from: usize) -> Option<usize>
+fn first_filled(blocks: &Vec<u64>, from: usize) -> Option<usize>
     ensures { MatchOption result ((k : ℕ) → from ≤ k → slice_index_or blocks.now.items k 0 ≡ 0)
         (IsFirstFilled blocks.now.items from) }
 {
@@ -211,24 +242,23 @@ fn first_filled(blocks: &VecDeque<u64>, from: usize) -> Option<usize>
 }
 
 /// Drops blocks that are zero from the front on, up to this place.
-fn drop_zeros(first: &mut u64, blocks: &mut VecDeque<u64>, place: u64)
+fn drop_zeros(first: &mut u64, blocks: &mut Vec<u64>, place: u64)
     ensures start { (m : ℕ) → first.old ≤ m → place ≤ m → first.new ≤ m }
     ensures same { (i : ℕ)
         → block_of first.new blocks.new.items i ≡ block_of first.old blocks.old.items i }
-    ensures stop { first.new + deque_len blocks.new ≡ first.old + deque_len blocks.old }
+    ensures stop { first.new + vec_len blocks.new ≡ first.old + vec_len blocks.old }
     ensures longer { first.old ≤ first.new }
     ensures far { HasLetGo first.new blocks.new.items place }
-    ensures capacity { deque_capacity blocks.new ≡ deque_capacity blocks.old }
+    ensures capacity { vec_capacity blocks.new ≡ vec_capacity blocks.old }
 {
     while *first < place {
-        let Some(front) = blocks.front() else {
-            return;
-        };
-        let block = *front;
-        if block != 0 {
+        if blocks.is_empty() {
             return;
         }
-        blocks.pop_front();
+        if blocks[0] != 0 {
+            return;
+        }
+        blocks.remove(0);
         *first += 1;
     }
 }

@@ -77,8 +77,9 @@ impl NumberSet {
         requires fits { n < 2 ^ 63 }
         ensures { HasGrown self.old self.new n }
     {
-        self.numbers.extend(n);
-        self.filled.extend(n / 64);
+        if self.numbers.extend(n) {
+            self.filled.extend(n / 64);
+        }
     }
 
     /// Puts the number `n` into the set.
@@ -86,8 +87,9 @@ impl NumberSet {
         requires { Covers self.old n }
         ensures { Puts self.old self.new n true }
     {
-        self.numbers.insert(n);
-        self.filled.insert(n / 64);
+        if self.numbers.insert(n) {
+            self.filled.insert(n / 64);
+        }
     }
 
     /// Takes the number `n` out of the set.
@@ -95,11 +97,7 @@ impl NumberSet {
         requires { Covers self.old n }
         ensures { Puts self.old self.new n false }
     {
-        if self.numbers.block(n / 64) == 0 {
-            return;
-        }
-        self.numbers.remove(n);
-        if self.numbers.block(n / 64) == 0 {
+        if self.numbers.remove(n) {
             self.filled.remove(n / 64);
         }
     }
