@@ -1,11 +1,14 @@
 //! Memory that lists grow by, as a trait: code that is generic in it can't tell a memory that grants what it is asked for from one that doesn't, and so can make no refusal up.
 #![tactic(auto)]
 
+mod lists;
+
 ghost use Rattle.std.specs.Prelude.{◌≡◌, ℕ, ◌+◌, ◌<◌, ◌≤◌, [], replicate, IfOk, OnOk, OnErr, IsOk, vec_len, vec_capacity};
 ghost use Rattle.std.specs.VecDeque.{deque_len, deque_capacity};
 ghost use Rattle.std.specs.HashMap.{hash_map_len, spare, IsReordered, IsUnique};
 ghost use Rattle.slab.specs.Slab.{slab_len, HasRoomFor};
 
+pub use lists::{copied, push};
 use slab::Slab;
 use std::alloc::{AllocError, Global};
 use std::collections::{HashMap, VecDeque};

@@ -3,7 +3,7 @@
 ghost use Rattle.std.specs.Prelude.{◌≡◌, ◌++◌, ℕ, OnOk, IsOk, string_bytes};
 ghost use Rattle.uring_text.specs.Completions.{completion_text, trimmed};
 
-use crate::growth::{TextMemory, push_hex, push_text};
+use crate::growth::{TextMemory, push_data};
 use crate::terms::Term::{Named, Signed, Text};
 use crate::terms::push_terms;
 use std::alloc::{AllocError, Global};
@@ -35,11 +35,7 @@ pub fn push_completion_in<M: TextMemory>(
     ];
     push_terms(memory, text, &terms)?;
     let payload = completion.payload();
-    let bytes = without_zeros(&payload);
-    if bytes.is_empty() {
-        return push_text(memory, text, "-");
-    }
-    push_hex(memory, text, bytes)
+    push_data(memory, text, without_zeros(&payload))
 }
 
 /// The bytes without the zeros at their end.

@@ -3,6 +3,7 @@
 ghost use Rattle.std.specs.Prelude.{◌≡◌, ◌+◌, ◌<◌, ◌≤◌, ◌++◌, ◌∷◌, [], ℕ, length, codes, slice_index, OnOk, OnErr, IsOk, string_bytes, string_len, string_capacity, decimal};
 ghost use Rattle.std.specs.Fmt.{signed_decimal};
 ghost use Rattle.hex.specs.Hex.{encode_lower, lower_digits};
+ghost use Rattle.uring_text.specs.Tokens.{hex_or_dash};
 
 use itoa::Buffer;
 use std::alloc::{AllocError, Global};
@@ -103,6 +104,22 @@ pub fn push_hex<M: TextMemory>(
         push_text(memory, text, digit(*byte % 16))?;
     }
     Ok(())
+}
+
+/// Appends bytes as two lower case hexadecimal digits each, or `-` for none, as `push_text` does.
+pub fn push_data<M: TextMemory>(
+    memory: &M,
+    text: &mut String,
+    bytes: &[u8],
+) -> Result<(), AllocError>
+    ensures bytes { OnOk result
+        (string_bytes text.new ≡ string_bytes text.old ++ hex_or_dash bytes.now) }
+    ensures granted { ((n : ℕ) → M.grants memory.now n) → IsOk result }
+{
+    if bytes.is_empty() {
+        return push_text(memory, text, "-");
+    }
+    push_hex(memory, text, bytes)
 }
 
 /// The hexadecimal digit of a number below 16.

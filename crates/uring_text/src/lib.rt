@@ -35,7 +35,7 @@ pub use entry_tokens::spelled_entry;
 pub use flaw::{push_flaw, push_flaw_in};
 pub use forms::{Name, push_operation};
 pub use growth::{
-    TextMemory, push_bytes, push_hex, push_named, push_number, push_signed, push_text,
+    TextMemory, push_bytes, push_data, push_hex, push_named, push_number, push_signed, push_text,
 };
 pub use kept_line::KeptLine;
 pub use number_tokens::{spelled_long, spelled_number, spelled_signed};
@@ -43,6 +43,6 @@ pub use place::{Kind, Place, is_of_kind};
 pub use reach::{Reach, entry_reach, kinds_reach};
 pub use streams::{Calls, read_once, write_all};
 pub use terms::{Term, push_terms};
-pub use tokens::{is_name, split_tokens, split_tokens_in};
+pub use tokens::{is_name, split_pieces_in, split_tokens, split_tokens_in};
 pub use trace_fault::TraceFault;
 pub use visible::{push_visible, push_visible_in, push_visible_line, push_visible_line_in};
