@@ -22,10 +22,6 @@ pub idle_listed : (w : Window) (g : Groups) (s t : Waiting) (n : ℕ) (o : Optio
     → Puts s.doomed t.doomed n false → IsListedAt w g t n
 idle_listed w g s t n o is head doomed a b = grind arith
 
--- what isn't in a set needn't be taken out
-pub absent_puts : (s : NumberSet) (n : ℕ) → holds s n ≡ false → Puts s s n false
-absent_puts s n e = record { here = e; others = λ k ne. refl; blocks = λ i ne. refl; start = refl; stop = refl; limit = refl }
-
 -- who runs isn't told of
 pub running_absent : (w : Window) (g : Groups) (s : Waiting) (n : ℕ) → IsListedAt w g s n → runs (at w n) ≡ true
     → (holds s.heads n ≡ false) × (holds s.doomed n ≡ false)
@@ -35,10 +31,6 @@ running_absent w g s n l ran = grind (arith, (is_some_value (at w n)))
 pub spared_absent : (w : Window) (g : Groups) (s : Waiting) (n : ℕ) (q : Request) (p : Group) (b : Bool) → IsListedAt w g s n → at w n ≡ Some q
     → group_at g q.group ≡ Some p → b ≡ (dooms (Some p) n || q.is_cancelled) → b ≡ false → holds s.doomed n ≡ false
 spared_absent w g s n q p b l e is doom spared = grind arith
-
--- telling nothing keeps all
-pub keeps_same : (w : Window) (g : Groups) (s : Waiting) → Keeps w g s s
-keeps_same w g s = grind arith
 
 pub forgotten_keeps : (w : Window) (g : Groups) (s t : Waiting) (n : ℕ) → IsListedAt w g t n
     → Puts s.heads t.heads n false → Puts s.doomed t.doomed n false → Keeps w g s t

@@ -24,16 +24,6 @@ pub insert_filled_some : (s t f : NumberSet) (n : ℕ) → IsFilled s f → Puts
     → block_at s (n / 64) ≢ 0 → IsFilled t f
 insert_filled_some s t f n h p was = grind (arith, holds_zero t n, cases_eq, ne_eqb)
 
--- a number is taken out, and its block is zero then
-pub remove_filled_zero : (s t f g : NumberSet) (n : ℕ) → IsFilled s f → Puts s t n false
-    → block_at t (n / 64) ≡ 0 → Puts f g (n / 64) false → IsFilled t g
-remove_filled_zero s t f g n h p zero q = grind (arith, cases_eq, eq-eqb)
-
--- a number is taken out, and others of its block stay
-pub remove_filled_some : (s t f : NumberSet) (n : ℕ) → IsFilled s f → Puts s t n false
-    → block_at t (n / 64) ≢ 0 → block_at s (n / 64) ≢ 0 → IsFilled t f
-remove_filled_some s t f n h p some was = grind (arith, cases_eq, ne_eqb)
-
 -- the same blocks have the same places
 pub same_filled : (s t f g : NumberSet) → IsFilled s f → IsSameSet s t → IsSameSet f g
     → start_of g ≤ t.first → t.first + length t.blocks ≤ stop_of g
