@@ -31,4 +31,5 @@ pub mod Without
 pub mod Folding
 pub mod Foldable
 pub mod Folded
-pub mod FoldSearch
+-- What is kept of a file:
+pub mod Keeping

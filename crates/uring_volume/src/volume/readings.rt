@@ -6,7 +6,6 @@ use super::{ImagesError, Volume};
 use crate::crash::crash;
 use crate::listing::{count_images, list_images};
 use crate::show::shown;
-use crate::standing::is_number_safe;
 use std::alloc::{AllocError, Global};
 use uring_memory::Memory;
 
@@ -24,14 +23,14 @@ impl Volume {
     pub fn is_sound(&self)
         ensures { IsSound self.now }
     {
-        let _bound = self.next;
+        self.past.is_past();
     }
 
-    /// Whether write `n` is safe: a sync that covers it has ended with success, and none that reaches it had failed by then. False too if no write has this number. It looks at all events, and for each end of a sync at those before it.
+    /// Whether write `n` is safe: a sync that covers it has ended with success, and none that reaches it had failed by then. False too if no write has this number, as after it was folded. It looks at each write that is kept at most once.
     pub fn is_safe(&self, n: u64) -> bool
         ensures { result ≡ has_safe self.now.history (named n (issued self.now.history)) }
     {
-        is_number_safe(&self.events, n)
+        self.past.is_number_safe(n)
     }
 
     /// The bytes that a read of the whole file shows: the first ones with the writes over them that have ended, in the order of their ends.
@@ -46,7 +45,7 @@ impl Volume {
         ensures shown { IfOk result (λ now. IsShown self.now.first self.now.history now.items) }
         ensures granted { ((n : ℕ) → M.grants memory.now n) → IsOk result }
     {
-        shown(memory, alloc, &self.first, &self.events)
+        shown(memory, alloc, &self.first, &self.past)
     }
 
     /// The bytes that a crash leaves, by a choice: a 0 ends one of its parts; the first part names the writes that make the length, and each later one those that are left in a unit, one after the other. Any numbers are a choice. The volume stays as it is, so that many crashes can be tried.
@@ -82,8 +81,9 @@ impl Volume {
             → k < length w.bytes → IsReadBack now.items w k) }
         ensures granted { ((n : ℕ) → M.grants memory.now n) → IsOk result }
     {
-        let _bound = self.next;
-        crash(memory, alloc, self.unit, &self.first, &self.events, choice)
+        self.past.is_past();
+        self.past.is_bounded();
+        crash(memory, alloc, self.unit, &self.first, &self.past, choice)
     }
 
     /// How many images there are: how many different files a crash may leave. 2^64 - 1 if there are as many or more. For each unit it follows the writes of it that no other is before, so it is quick where few of those run at once.
@@ -102,8 +102,8 @@ impl Volume {
             × (count ≡ min (length all) (2 ^ 64 - 1))) }
         ensures granted { ((n : ℕ) → M.grants memory.now n) → IsOk result }
     {
-        let _bound = self.next;
-        count_images(memory, alloc, self.unit, &self.first, &self.events)
+        self.past.is_past();
+        count_images(memory, alloc, self.unit, &self.first, &self.past)
     }
 
     /// The images, each once and nothing else, if there are no more than `most`. They are counted before any is made.
@@ -131,14 +131,14 @@ impl Volume {
             × AreTheImages self.now.unit self.now.first self.now.history all × (most < length all) }
         ensures granted { ((n : ℕ) → M.grants memory.now n) → IfErr result (λ error. error ≡ TooMany) }
     {
-        let _bound = self.next;
-        let Ok(count) = count_images(memory, alloc, self.unit, &self.first, &self.events) else {
+        self.past.is_past();
+        let Ok(count) = count_images(memory, alloc, self.unit, &self.first, &self.past) else {
             return Err(ImagesError::OutOfMemory);
         };
         if count > u64::from(most) {
             return Err(ImagesError::TooMany);
         }
-        match list_images(memory, alloc, self.unit, &self.first, &self.events) {
+        match list_images(memory, alloc, self.unit, &self.first, &self.past) {
             Ok(images) => Ok(images),
             Err(_) => Err(ImagesError::OutOfMemory),
         }

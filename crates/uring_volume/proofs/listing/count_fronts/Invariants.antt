@@ -4,4 +4,4 @@ use Rattle.uring_volume.proofs.listing.count_fronts.Given as goal
 
 abbrev pub invariant-loop-i : goal.invariant-loop-i
 invariant-loop-i g l =
-    l.count ≡ min (length (fronts l.unit l.first (reverse l.events) l.len l.i)) (2 ^ 64 - 1)
+    l.count ≡ min (length (fronts l.unit l.first l.past.history l.len l.i)) (2 ^ 64 - 1)

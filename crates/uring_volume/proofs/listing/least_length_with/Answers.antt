@@ -7,7 +7,7 @@ use Rattle.uring_volume.proofs.listing.least_length_with.Goals.{then-goes_with, 
 
 pub loop-piece-preserved : goal.loop-piece-preserved
 loop-piece-preserved c =
-    let h = reverse c.args.events.now in
+    let h = c.args.past.now.history in
     let needed = is_needed h (map (λ p. p.now) c.args.pieces.now) c.piece-item.result.now in
     let left : c.if-goes_with.is_left ≡ (goes_with h c.args.n c.piece-item.result.now || needed) = elim c.if-goes_with.branch [
       | then-goes_with w ↦ w.is_left-is ∙ w.if-goes_with.true ∙ sym (or_left _ needed (sym c.goes_with.ensures ∙ w.if-goes_with.true))
@@ -18,4 +18,4 @@ loop-piece-preserved c =
 
 pub returns : goal.returns
 returns c =
-    kept_all (λ p. p.now) (λ m. goes_with (reverse c.args.events.now) c.args.n m || is_needed (reverse c.args.events.now) (map (λ p. p.now) c.args.pieces.now) m) c.args.pieces.now c.loop-piece.piece-index c.loop-piece.len c.loop-piece-test.false ∙ c.loop-piece.invariant
+    kept_all (λ p. p.now) (λ m. goes_with c.args.past.now.history c.args.n m || is_needed c.args.past.now.history (map (λ p. p.now) c.args.pieces.now) m) c.args.pieces.now c.loop-piece.piece-index c.loop-piece.len c.loop-piece-test.false ∙ c.loop-piece.invariant
