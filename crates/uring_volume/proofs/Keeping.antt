@@ -1,5 +1,5 @@
 -- What is kept of a file stands as its history says, after each event.
-use Rattle.std.proofs.Common.{◌≡◌, ◌==◌, ◌<◌, ◌≤◌, ◌+◌, ◌-◌, ℕ, zero, suc, Bool, true, false, not, ◌||◌, List, [], ◌∷◌, ◌++◌, ◌⊎◌, length, map, take, drop, get_or, refl, sym, subst, ap, ◌∙◌, inl, inr, rules, arith}
+use Rattle.std.proofs.Common.{◌≡◌, ◌==◌, ◌<◌, ◌≤◌, ◌+◌, ◌-◌, ℕ, zero, suc, Bool, true, false, not, ◌||◌, List, [], ◌∷◌, ◌++◌, ◌⊎◌, length, map, min, take, drop, get_or, refl, sym, subst, ap, ◌∙◌, inl, inr, rules, arith}
 use Rattle.std.proofs.Math.ListN.{set}
 use Rattle.std.proofs.lemmas.List.Elements.{filter-append}
 use Rattle.std.specs.Prelude.{nat_le, nat_lt, IfNone, IsOk, None, Option, Some}
@@ -917,3 +917,14 @@ images_folded old new all sound f are = record {
   complete = λ now image. are.complete now ((f.images [] now sound.lawful).0 image);
   once = are.once;
 }
+
+-- and so is how many there are
+pub count_folded : (old new : Volume) (n most : ℕ) → IsSound old → IsFoldedFrom old new
+    → (all : List (List ℕ)) × AreTheImages new.unit new.first new.history all × (n ≡ min (length all) most)
+    → (all : List (List ℕ)) × AreTheImages old.unit old.first old.history all × (n ≡ min (length all) most)
+count_folded old new n most sound f (all, are, many) = (all, images_folded old new all sound f are, many)
+
+pub more_folded : (old new : Volume) (most : ℕ) → IsSound old → IsFoldedFrom old new
+    → (all : List (List ℕ)) × AreTheImages new.unit new.first new.history all × (most < length all)
+    → (all : List (List ℕ)) × AreTheImages old.unit old.first old.history all × (most < length all)
+more_folded old new most sound f (all, are, many) = (all, images_folded old new all sound f are, many)

@@ -33,3 +33,5 @@ pub mod Foldable
 pub mod Folded
 -- What is kept of a file:
 pub mod Keeping
+-- A count passes over what no write touches:
+pub mod Skipping

@@ -20,8 +20,13 @@ told_more e t = record { history = e ∷ t.history; steps = t.steps + 1 }
 abbrev pub told_without : ℕ → Told → Told
 told_without n t = record { history = without_write n t.history; steps = t.steps + 1 }
 
-abbrev pub told_by : {S E W : Type 0} → (S → Told) → (E → Event) → (W → Write) → Option S → Option E → Option W → ℕ → Told
-told_by f g p None event piece n = nothing_told
-told_by f g p (Some b) (Some e) piece n = told_more (g e) (f b)
-told_by f g p (Some b) None (Some w) n = told_more (WriteIssued (p w)) (f b)
-told_by f g p (Some b) None None n = told_without n (f b)
+-- the same again
+abbrev pub told_again : Told → Told
+told_again t = record { history = t.history; steps = t.steps + 1 }
+
+abbrev pub told_by : {S E W : Type 0} → (S → Told) → (E → Event) → (W → Write) → Option S → Option E → Option W → Option ℕ → Told
+told_by f g p None event piece out = nothing_told
+told_by f g p (Some b) (Some e) piece out = told_more (g e) (f b)
+told_by f g p (Some b) None (Some w) out = told_more (WriteIssued (p w)) (f b)
+told_by f g p (Some b) None None (Some n) = told_without n (f b)
+told_by f g p (Some b) None None None = told_again (f b)

@@ -1,11 +1,17 @@
-//! A write that is kept, and how it stands: whether it has ended, is given up or is safe.
+//! The writes that are kept, and how each stands: whether it has ended, is given up or is safe.
 
-ghost use Rattle.std.specs.Prelude.{◌≡◌, false};
+ghost use Rattle.std.specs.Prelude.{take, drop, ◌≡◌, ℕ, ◌<◌, ◌≤◌, ◌&&◌, ◌==◌, length, map, IfOk, IsOk, IfSome, IfNone, true, false};
+ghost use Rattle.std.specs.List.{list_any};
+ghost use Rattle.uring_volume.specs.Images.{IsIn};
 ghost use Rattle.uring_volume.specs.Past as spec;
-ghost use Rattle.uring_volume.specs.Past.{ended_at, settled, given_up_by};
+ghost use Rattle.uring_volume.specs.Past.{IsAscending, ended_at, settled, given_up_by, can_be_folded};
+ghost use Rattle.uring_volume.specs.declared.kept.Kept.{Kept};
 
 use crate::event::{Piece, SyncRange};
+use crate::fold::overlap;
 use crate::standing::{lies_in, meets};
+use std::alloc::{AllocError, Global};
+use uring_memory::Memory;
 
 /// A write that is kept.
 #[derive(Drop)]
@@ -42,6 +48,20 @@ impl Kept {
         }
     }
 
+    /// A copy, by this memory. If it grants whatever is asked for, there is no error.
+    pub fn copied<M: Memory>(&self, memory: &M, alloc: Global) -> Result<Kept, AllocError>
+        ensures kept { IfOk result (λ copy. copy ≡ self.now) }
+        ensures granted { ((n : ℕ) → M.grants memory.now n) → IsOk result }
+    {
+        let piece = self.piece.copied(memory, alloc)?;
+        Ok(Kept {
+            piece,
+            end_next: self.end_next,
+            failed_yet: self.failed_yet,
+            safe_yet: self.safe_yet,
+        })
+    }
+
     /// Whether it had ended when this number was given.
     pub fn had_ended(&self, number: u64) -> bool
         ensures { result ≡ spec.had_ended self.now number }
@@ -73,4 +93,137 @@ impl Kept {
         let is_reached = self.had_ended(sync.number) && meets(sync.range, &self.piece);
         self.failed_yet = is_reached || self.failed_yet;
     }
+}
+
+/// Ends write `n` among these.
+pub fn end_all(kept: &mut [Kept], n: u64, next: u64)
+    ensures { kept.new ≡ map (ended_at n next) kept.old }
+{
+    for i in 0..kept.len() {
+        kept[i].end(n, next);
+    }
+}
+
+/// Settles these at the end of a sync with success.
+pub fn settle_all(kept: &mut [Kept], sync: Running)
+    ensures { kept.new ≡ map (settled sync) kept.old }
+{
+    for i in 0..kept.len() {
+        kept[i].settle(sync);
+    }
+}
+
+/// Settles these at the end of a sync with an error.
+pub fn give_all_up(kept: &mut [Kept], sync: Running)
+    ensures { kept.new ≡ map (given_up_by sync) kept.old }
+{
+    for i in 0..kept.len() {
+        kept[i].give_up(sync);
+    }
+}
+
+/// Where the write of this number stands among these, if it is there: those before have smaller numbers, and none from there on has.
+fn place(kept: &[Kept], n: u64) -> usize
+    requires { IsAscending kept.now }
+    ensures within { result ≤ length kept.now }
+    ensures below { (k : Kept) → IsIn k (take result kept.now) → k.piece.number < n }
+    ensures above { (k : Kept) → IsIn k (drop result kept.now) → n ≤ k.piece.number }
+{
+    let mut low = 0;
+    let mut high = kept.len();
+    while low < high {
+        let mid = low + (high - low) / 2;
+        if kept[mid].piece.number() < n {
+            low = mid + 1;
+        } else {
+            high = mid;
+        }
+    }
+    low
+}
+
+/// The write of this number, if it is among these.
+pub fn find(kept: &[Kept], n: u64) -> Option<&Kept>
+    requires { IsAscending kept.now }
+    ensures found { IfSome result (λ k. IsIn k.now kept.now × (k.now.piece.number ≡ n)) }
+    ensures none { IfNone result (list_any (λ k. k.piece.number == n) kept.now ≡ false) }
+{
+    let i = place(kept, n);
+    if i < kept.len() && kept[i].piece.number() == n {
+        return Some(&kept[i]);
+    }
+    None
+}
+
+/// Whether write `n` is among these.
+pub fn has_number(kept: &[Kept], n: u64) -> bool
+    requires { IsAscending kept.now }
+    ensures { result ≡ list_any (λ k. k.piece.number == n) kept.now }
+{
+    match find(kept, n) {
+        Some(_) => true,
+        None => false,
+    }
+}
+
+/// Whether write `n` is among these, and safe.
+pub fn has_safe(kept: &[Kept], n: u64) -> bool
+    ensures { result ≡ list_any (λ k. k.piece.number == n && k.safe_yet) kept.now }
+{
+    for k in kept {
+        if k.piece.number() == n && k.safe_yet {
+            return true;
+        }
+    }
+    false
+}
+
+/// Whether another write keeps this one from being folded: it is before it, or it writes the same byte and isn't after it.
+fn stands_in_way(k: &Kept, m: &Kept) -> bool
+    ensures { result ≡ spec.stands_in_way k.now m.now }
+{
+    m.had_ended(k.piece.number())
+        || (m.piece.number() != k.piece.number()
+            && (overlap(&m.piece, &k.piece) && !k.had_ended(m.piece.number())))
+}
+
+/// Whether one of these keeps this write from being folded.
+fn has_one_in_way(kept: &[Kept], k: &Kept) -> bool
+    ensures { result ≡ list_any (λ m. spec.stands_in_way k.now m) kept.now }
+{
+    for m in kept {
+        if stands_in_way(k, m) {
+            return true;
+        }
+    }
+    false
+}
+
+/// The oldest of these that can be folded.
+pub fn first_foldable(kept: &[Kept]) -> Option<&Kept>
+    ensures found { IfSome result (λ k. IsIn k.now kept.now × (can_be_folded kept.now k.now ≡ true)) }
+    ensures none { IfNone result (list_any (λ k. can_be_folded kept.now k) kept.now ≡ false) }
+{
+    for k in kept {
+        if k.safe_yet && !has_one_in_way(kept, k) {
+            return Some(k);
+        }
+    }
+    None
+}
+
+/// A copy of these, as `Kept::copied` takes memory.
+pub fn copied_kept<M: Memory>(
+    memory: &M,
+    alloc: Global,
+    kept: &[Kept],
+) -> Result<Vec<Kept>, AllocError>
+    ensures kept { IfOk result (λ copy. copy.items ≡ kept.now) }
+    ensures granted { ((n : ℕ) → M.grants memory.now n) → IsOk result }
+{
+    let mut copy = memory.list(alloc, kept.len())?;
+    for k in kept {
+        copy.push_reserved(k.copied(memory, alloc)?);
+    }
+    Ok(copy)
 }

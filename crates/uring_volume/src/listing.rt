@@ -2,18 +2,20 @@
 
 ghost use Rattle.std.specs.Prelude.{◌≡◌, ◌+◌, ◌-◌, ◌*◌, ◌^◌, ◌<◌, ◌≤◌, ◌∷◌, [], ◌++◌, ◌&&◌, ◌||◌, ℕ, min, max, nat_eq, length, if◌then◌else◌, map, reverse, IfOk, OnOk, IsOk};
 ghost use Rattle.std.specs.List.{filter};
-ghost use Rattle.uring_volume.specs.Images.{end_of, length_over};
+ghost use Rattle.uring_volume.specs.Images.{IsIn, is_on, end_of, length_over};
 ghost use Rattle.uring_volume.specs.Choices.{issued};
 ghost use Rattle.uring_volume.specs.Ways as spec;
 ghost use Rattle.uring_volume.specs.Ways.{put_by, fewest, fewest_with, lengths_by, contents_of, units_in, files_of, images_of};
 ghost use Rattle.uring_volume.specs.Past.{AreIssued};
+ghost use Rattle.uring_volume.specs.declared.kept.Kept.{Kept};
 
 use crate::crash::{count_units, pieces_on};
 use crate::event::Piece;
-use crate::growth::{grown, push};
+use crate::growth::{copied, grown, push};
+use crate::kept::Kept;
 use crate::order::issued_pieces;
 use crate::past::Past;
-use crate::ways::{contents, copied};
+use crate::ways::contents;
 use std::alloc::{AllocError, Global};
 use uring_memory::Memory;
 
@@ -60,20 +62,41 @@ fn least_length(past: &Past, pieces: &[&Piece], first: u64) -> u64
     len
 }
 
-/// The length that the fewest of these writes make that may be left with write `n`.
-fn least_length_with(past: &Past, pieces: &[&Piece], n: u64, first: u64) -> u64
+/// Of each of these writes, whether it is to be left because one of them is safe. Here and below: if the memory grants whatever is asked for, there is no error.
+fn needed_flags<M: Memory>(
+    memory: &M,
+    alloc: Global,
+    past: &Past,
+    pieces: &[&Piece],
+) -> Result<Vec<bool>, AllocError>
     requires { AreIssued past.now.history (map (λ p. p.now) pieces.now) }
+    ensures flags { IfOk result (λ flags. flags.items
+        ≡ map (λ m. spec.is_needed past.now.history (map (λ p. p.now) pieces.now) m) (map (λ p. p.now) pieces.now)) }
+    ensures granted { ((n : ℕ) → M.grants memory.now n) → IsOk result }
+{
+    let mut flags = memory.list(alloc, pieces.len())?;
+    for piece in pieces {
+        flags.push_reserved(is_needed(past, pieces, piece));
+    }
+    Ok(flags)
+}
+
+/// The length that the fewest of these writes make that may be left with write `n`, where flags say which are needed without it.
+fn least_length_with(past: &Past, pieces: &[&Piece], needed: &[bool], n: u64, first: u64) -> u64
+    requires { needed.now
+        ≡ map (λ m. spec.is_needed past.now.history (map (λ p. p.now) pieces.now) m) (map (λ p. p.now) pieces.now) }
     ensures { result ≡ length_over first (fewest_with past.now.history (map (λ p. p.now) pieces.now) n) }
 {
     let mut len = first;
-    for piece in pieces {
-        let is_left = goes_with(past, n, piece) || is_needed(past, pieces, piece);
+    for i in 0..pieces.len() {
+        let piece = pieces[i];
+        let is_left = goes_with(past, n, piece) || needed[i];
         len = longer_if(is_left, len, piece);
     }
     len
 }
 
-/// Puts a length after these, if it isn't among them. Here and below: if the memory grants whatever is asked for, there is no error.
+/// Puts a length after these, if it isn't among them.
 fn put_length<M: Memory>(memory: &M, lengths: &mut Vec<u64>, len: u64) -> Result<(), AllocError>
     ensures put { OnOk result (lengths.new.items ≡ put_by nat_eq lengths.old.items len) }
     ensures granted { ((n : ℕ) → M.grants memory.now n) → IsOk result }
@@ -101,8 +124,9 @@ fn lengths<M: Memory>(
     let mut lengths = Vec::new(alloc);
     let least = least_length(past, pieces, first);
     push(memory, &mut lengths, least)?;
+    let needed = needed_flags(memory, alloc, past, pieces)?;
     for piece in pieces {
-        let len = least_length_with(past, pieces, piece.number(), first);
+        let len = least_length_with(past, pieces, &needed, piece.number(), first);
         put_length(memory, &mut lengths, len)?;
     }
     Ok(lengths)
@@ -238,7 +262,41 @@ fn files_of_lengths<M: Memory>(
     Ok(all)
 }
 
-/// How many files of this length may be left, or 2^64 - 1 if there are more.
+/// The first unit from `i` on, below `units`, that a write touches; `units` if none does.
+fn next_touched(past: &Past, unit: u64, i: u64, units: u64) -> u64
+    requires some { 0 < unit }
+    requires within { i ≤ units }
+    requires small { i < units → unit * i < 2 ^ 64 }
+    ensures from { i ≤ result }
+    ensures to { result ≤ units }
+    ensures none { (j : ℕ) → i ≤ j → j < result
+        → filter (is_on unit j) (issued past.now.history) ≡ [] }
+{
+    past.is_past();
+    if i >= units {
+        return units;
+    }
+    let from = unit * i;
+    let at = first_from(past.kept(), from);
+    units.min(at / unit)
+}
+
+/// The first offset from `from` on at which one of these writes has a byte, or one before it; 2^64 - 1 if none has.
+fn first_from(kept: &[Kept], from: u64) -> u64
+    ensures from { from ≤ result }
+    ensures none { (k : Kept) → IsIn k kept.now → from < k.piece.off + length k.piece.bytes
+        → result ≤ max k.piece.off from }
+{
+    let mut at = u64::MAX;
+    for k in kept {
+        if from < k.piece.end() {
+            at = at.min(k.piece.off().max(from));
+        }
+    }
+    at
+}
+
+/// How many files of this length may be left, or 2^64 - 1 if there are more. It looks only at the units that a write touches: each other one is left in one way.
 fn count_fronts<M: Memory>(
     memory: &M,
     alloc: Global,
@@ -252,10 +310,13 @@ fn count_fronts<M: Memory>(
         ≡ min (length (spec.fronts unit first.now past.now.history len (units_in unit len))) (2 ^ 64 - 1)) }
     ensures granted { ((n : ℕ) → M.grants memory.now n) → IsOk result }
 {
+    let units = count_units(len, unit);
     let mut count: u64 = 1;
-    for i in 0..count_units(len, unit) {
+    let mut i = next_touched(past, unit, 0, units);
+    while i < units {
         let ends = unit_contents(memory, alloc, unit, first, past, len, i)?;
         count = count.saturating_mul(ends.len() as u64);
+        i = next_touched(past, unit, i + 1, units);
     }
     Ok(count)
 }

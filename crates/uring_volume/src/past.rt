@@ -9,9 +9,13 @@ ghost use Rattle.uring_volume.specs.Volume.{is_one_of};
 ghost use Rattle.uring_volume.specs.declared.kept.Kept.{Kept};
 
 use crate::event::{Event, Piece, SyncRange};
-use crate::fold::{overlap, write_under};
-use crate::kept::{Kept, Running};
-use crate::told::{Told, leave_out, nothing, tell, tell_write};
+use crate::fold::write_under;
+use crate::growth::copied_items;
+use crate::kept::{
+    Kept, Running, copied_kept, end_all, find, first_foldable, give_all_up, has_number, has_safe,
+    settle_all,
+};
+use crate::told::{Told, again, leave_out, nothing, tell, tell_write};
 use crate::volume::{put, take_out};
 use std::alloc::{AllocError, Global};
 use std::marker::Model;
@@ -73,123 +77,6 @@ fn take_sync(syncs: &mut Vec<Running>, s: u64) -> Option<Running>
     Some(sync)
 }
 
-/// Ends write `n` among these.
-fn end_all(kept: &mut [Kept], n: u64, next: u64)
-    ensures { kept.new ≡ map (ended_at n next) kept.old }
-{
-    for i in 0..kept.len() {
-        kept[i].end(n, next);
-    }
-}
-
-/// Settles these at the end of a sync with success.
-fn settle_all(kept: &mut [Kept], sync: Running)
-    ensures { kept.new ≡ map (settled sync) kept.old }
-{
-    for i in 0..kept.len() {
-        kept[i].settle(sync);
-    }
-}
-
-/// Settles these at the end of a sync with an error.
-fn give_all_up(kept: &mut [Kept], sync: Running)
-    ensures { kept.new ≡ map (given_up_by sync) kept.old }
-{
-    for i in 0..kept.len() {
-        kept[i].give_up(sync);
-    }
-}
-
-/// Where the write of this number stands among these, if it is there: those before have smaller numbers, and none from there on has.
-fn place(kept: &[Kept], n: u64) -> usize
-    requires { IsAscending kept.now }
-    ensures within { result ≤ length kept.now }
-    ensures below { (k : Kept) → IsIn k (take result kept.now) → k.piece.number < n }
-    ensures above { (k : Kept) → IsIn k (drop result kept.now) → n ≤ k.piece.number }
-{
-    let mut low = 0;
-    let mut high = kept.len();
-    while low < high {
-        let mid = low + (high - low) / 2;
-        if kept[mid].piece.number() < n {
-            low = mid + 1;
-        } else {
-            high = mid;
-        }
-    }
-    low
-}
-
-/// The write of this number, if it is among these.
-fn find(kept: &[Kept], n: u64) -> Option<&Kept>
-    requires { IsAscending kept.now }
-    ensures found { IfSome result (λ k. IsIn k.now kept.now × (k.now.piece.number ≡ n)) }
-    ensures none { IfNone result (list_any (λ k. k.piece.number == n) kept.now ≡ false) }
-{
-    let i = place(kept, n);
-    if i < kept.len() && kept[i].piece.number() == n {
-        return Some(&kept[i]);
-    }
-    None
-}
-
-/// Whether write `n` is among these.
-fn has_number(kept: &[Kept], n: u64) -> bool
-    requires { IsAscending kept.now }
-    ensures { result ≡ list_any (λ k. k.piece.number == n) kept.now }
-{
-    match find(kept, n) {
-        Some(_) => true,
-        None => false,
-    }
-}
-
-/// Whether write `n` is among these, and safe.
-fn has_safe(kept: &[Kept], n: u64) -> bool
-    ensures { result ≡ list_any (λ k. k.piece.number == n && k.safe_yet) kept.now }
-{
-    for k in kept {
-        if k.piece.number() == n && k.safe_yet {
-            return true;
-        }
-    }
-    false
-}
-
-/// Whether another write keeps this one from being folded: it is before it, or it writes the same byte and isn't after it.
-fn stands_in_way(k: &Kept, m: &Kept) -> bool
-    ensures { result ≡ spec.stands_in_way k.now m.now }
-{
-    m.had_ended(k.piece.number())
-        || (m.piece.number() != k.piece.number()
-            && (overlap(&m.piece, &k.piece) && !k.had_ended(m.piece.number())))
-}
-
-/// Whether one of these keeps this write from being folded.
-fn has_one_in_way(kept: &[Kept], k: &Kept) -> bool
-    ensures { result ≡ list_any (λ m. spec.stands_in_way k.now m) kept.now }
-{
-    for m in kept {
-        if stands_in_way(k, m) {
-            return true;
-        }
-    }
-    false
-}
-
-/// The oldest of these that can be folded.
-fn first_foldable(kept: &[Kept]) -> Option<&Kept>
-    ensures found { IfSome result (λ k. IsIn k.now kept.now × (can_be_folded kept.now k.now ≡ true)) }
-    ensures none { IfNone result (list_any (λ k. can_be_folded kept.now k) kept.now ≡ false) }
-{
-    for k in kept {
-        if k.safe_yet && !has_one_in_way(kept, k) {
-            return Some(k);
-        }
-    }
-    None
-}
-
 impl Past {
     ghost use Rattle.uring_volume.specs.Past.{IsPast};
     ghost use Rattle.uring_volume.specs.Choices.{issued, named};
@@ -211,6 +98,25 @@ impl Past {
             ends: Vec::new(alloc),
             told: nothing(),
         }
+    }
+
+    /// A copy, by this memory. If it grants whatever is asked for, there is no error.
+    pub fn copied<M: Memory>(&self, memory: &M, alloc: Global) -> Result<Past, AllocError>
+        ensures past { IfOk result (λ copy. copy ≡ self.now) }
+        ensures granted { ((n : ℕ) → M.grants memory.now n) → IsOk result }
+    {
+        let kept = copied_kept(memory, alloc, &self.kept)?;
+        let writes = copied_items(memory, alloc, &self.writes, 0)?;
+        let syncs = copied_items(memory, alloc, &self.syncs, 0)?;
+        let ends = copied_items(memory, alloc, &self.ends, self.writes.len())?;
+        Ok(Past {
+            next: self.next,
+            kept,
+            writes,
+            syncs,
+            ends,
+            told: again(&self.told),
+        })
     }
 
     /// What holds of each, for the proofs of callers.

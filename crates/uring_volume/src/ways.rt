@@ -11,7 +11,7 @@ ghost use Rattle.uring_volume.specs.Images.{byte_over};
 ghost use Rattle.uring_volume.specs.Past.{AreIssued, AreWaysIssued};
 
 use crate::event::Piece;
-use crate::growth::{grown, push};
+use crate::growth::{copied, push};
 use crate::order::has_one_before;
 use crate::past::Past;
 use std::alloc::{AllocError, Global};
@@ -24,15 +24,7 @@ pub struct Way<'a> {
     now: Vec<u8>,
 }
 
-/// A copy of some bytes. Here and below: if the memory grants whatever is asked for, there is no error.
-pub fn copied<M: Memory>(memory: &M, alloc: Global, bytes: &[u8]) -> Result<Vec<u8>, AllocError>
-    ensures bytes { IfOk result (λ copy. copy.items ≡ bytes.now) }
-    ensures granted { ((n : ℕ) → M.grants memory.now n) → IsOk result }
-{
-    grown(memory, alloc, bytes, bytes.len())
-}
-
-/// Puts these bytes after those found, if they aren't among them.
+/// Puts these bytes after those found, if they aren't among them. Here and below: if the memory grants whatever is asked for, there is no error.
 fn put_bytes<M: Memory>(
     memory: &M,
     alloc: Global,

@@ -4,6 +4,7 @@ ghost use Rattle.std.specs.Prelude.{◌≡◌, ℕ, ◌↔◌, ◌-◌, min, map
 
 use super::{ImagesError, Volume};
 use crate::crash::crash;
+use crate::growth::copied;
 use crate::listing::{count_images, list_images};
 use crate::show::shown;
 use std::alloc::{AllocError, Global};
@@ -17,6 +18,7 @@ impl Volume {
     ghost use Rattle.uring_volume.specs.Choices.{issued, named, has_safe, IsLeftBy, AreBelow};
     ghost use Rattle.uring_volume.specs.Laws.{IsKept, IsReadBack};
     ghost use Rattle.uring_volume.specs.Listing.{AreTheImages};
+    ghost use Rattle.uring_volume.specs.Folds.{IsFoldedFrom};
     ghost use Rattle.uring_volume.specs.declared.volume.ImagesError.TheVariants.{TooMany};
 
     /// What holds of each volume, for the proofs of callers: a write has a number of its own, below the next one, and ends after it was issued.
@@ -86,7 +88,7 @@ impl Volume {
         crash(memory, alloc, self.unit, &self.first, &self.past, choice)
     }
 
-    /// How many images there are: how many different files a crash may leave. 2^64 - 1 if there are as many or more. For each unit it follows the writes of it that no other is before, so it is quick where few of those run at once.
+    /// How many images there are: how many different files a crash may leave. 2^64 - 1 if there are as many or more. They are counted on a copy in which what can be folded is. For each unit it follows the writes of it that no other is before, so it is quick where few of those run at once.
     pub fn count_images(&self, alloc: Global) -> Result<u64, AllocError>
         ensures { IfOk result (λ count. (all : List (List ℕ))
             × AreTheImages self.now.unit self.now.first self.now.history all
@@ -97,6 +99,18 @@ impl Volume {
 
     /// As `count_images`, by this memory. If it grants whatever is asked for, there is no error.
     pub fn count_images_in<M: Memory>(&self, memory: &M, alloc: Global) -> Result<u64, AllocError>
+        ensures count { IfOk result (λ count. (all : List (List ℕ))
+            × AreTheImages self.now.unit self.now.first self.now.history all
+            × (count ≡ min (length all) (2 ^ 64 - 1))) }
+        ensures granted { ((n : ℕ) → M.grants memory.now n) → IsOk result }
+    {
+        self.is_sound();
+        let folded = self.folded_copy(memory, alloc)?;
+        folded.count_kept(memory, alloc)
+    }
+
+    /// How many images there are, as `count_images`, by the writes that are kept.
+    fn count_kept<M: Memory>(&self, memory: &M, alloc: Global) -> Result<u64, AllocError>
         ensures count { IfOk result (λ count. (all : List (List ℕ))
             × AreTheImages self.now.unit self.now.first self.now.history all
             × (count ≡ min (length all) (2 ^ 64 - 1))) }
@@ -131,6 +145,27 @@ impl Volume {
             × AreTheImages self.now.unit self.now.first self.now.history all × (most < length all) }
         ensures granted { ((n : ℕ) → M.grants memory.now n) → IfErr result (λ error. error ≡ TooMany) }
     {
+        self.is_sound();
+        match self.folded_copy(memory, alloc) {
+            Ok(folded) => folded.images_kept(memory, alloc, most),
+            Err(_) => Err(ImagesError::OutOfMemory),
+        }
+    }
+
+    /// The images, as `images`, by the writes that are kept.
+    fn images_kept<M: Memory>(
+        &self,
+        memory: &M,
+        alloc: Global,
+        most: u32,
+    ) -> Result<Vec<Vec<u8>>, ImagesError>
+        ensures images { IfOk result (λ images.
+            AreTheImages self.now.unit self.now.first self.now.history (map (λ b. b.items) images.items)) }
+        ensures within { IfOk result (λ images. length images.items ≤ most) }
+        ensures too_many { result ≡ Err TooMany → (all : List (List ℕ))
+            × AreTheImages self.now.unit self.now.first self.now.history all × (most < length all) }
+        ensures granted { ((n : ℕ) → M.grants memory.now n) → IfErr result (λ error. error ≡ TooMany) }
+    {
         self.past.is_past();
         let Ok(count) = count_images(memory, alloc, self.unit, &self.first, &self.past) else {
             return Err(ImagesError::OutOfMemory);
@@ -142,5 +177,18 @@ impl Volume {
             Ok(images) => Ok(images),
             Err(_) => Err(ImagesError::OutOfMemory),
         }
+    }
+    /// A copy in which what can be folded is: it has the same images, and they are soon found. If the memory grants whatever is asked for, there is no error.
+    fn folded_copy<M: Memory>(&self, memory: &M, alloc: Global) -> Result<Volume, AllocError>
+        ensures folded { IfOk result (λ copy. IsFoldedFrom self.now copy) }
+        ensures granted { ((n : ℕ) → M.grants memory.now n) → IsOk result }
+    {
+        let mut copy = Volume {
+            unit: self.unit,
+            first: copied(memory, alloc, &self.first)?,
+            past: self.past.copied(memory, alloc)?,
+        };
+        copy.fold_in(memory)?;
+        Ok(copy)
     }
 }

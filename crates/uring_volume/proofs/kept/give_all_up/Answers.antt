@@ -1,7 +1,7 @@
 use Rattle.std.proofs.Common.{◌+◌, arith}
 use Rattle.uring_volume.specs.Past.{given_up_by}
 use Rattle.uring_volume.proofs.Keeping.{all_changed, one_changed}
-use Rattle.uring_volume.proofs.past.give_all_up.Goals as goal
+use Rattle.uring_volume.proofs.kept.give_all_up.Goals as goal
 
 pub loop-i-preserved : goal.loop-i-preserved
 loop-i-preserved c =

@@ -2,7 +2,7 @@ use Rattle.std.proofs.Common.{◌≡◌, ◌<◌, ◌≤◌, ◌+◌, ◌-◌, �
 use Rattle.uring_volume.specs.Images.{IsIn}
 use Rattle.uring_volume.specs.declared.kept.Kept.{Kept}
 use Rattle.uring_volume.proofs.Keeping.{asc_drop, asc_take}
-use Rattle.uring_volume.proofs.past.place.Goals as goal
+use Rattle.uring_volume.proofs.kept.place.Goals as goal
 
 pub loop-low-preserved-then-number-n : goal.loop-low-preserved-then-number-n
 loop-low-preserved-then-number-n c =

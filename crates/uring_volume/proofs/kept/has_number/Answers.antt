@@ -1,7 +1,7 @@
 use Rattle.std.proofs.Common.{◌==◌, sym}
 use Rattle.uring_volume.proofs.Common.{eq-eqb}
 use Rattle.uring_volume.proofs.Puts.{is_any}
-use Rattle.uring_volume.proofs.past.has_number.Goals as goal
+use Rattle.uring_volume.proofs.kept.has_number.Goals as goal
 
 pub returns-in-Some : goal.returns-in-Some
 returns-in-Some c =

@@ -1,7 +1,7 @@
 use Rattle.std.proofs.Common.{◌-◌, ◌<◌, ◌≤◌, length, take, drop}
 use Rattle.uring_volume.specs.Images.{IsIn}
 use Rattle.uring_volume.specs.declared.kept.Kept.{Kept}
-use Rattle.uring_volume.proofs.past.place.Given as goal
+use Rattle.uring_volume.proofs.kept.place.Given as goal
 
 abbrev pub invariant-loop-low : goal.invariant-loop-low
 invariant-loop-low l = record {
