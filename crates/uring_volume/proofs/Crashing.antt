@@ -1,17 +1,17 @@
 -- What a crash of a sound volume leaves.
 use Rattle.std.proofs.Common.{◌≡◌, ◌↔◌, ◌<◌, ℕ, suc, min, List, length, reverse, sym, subst, arith}
-use Rattle.uring_volume.proofs.Common.{AreBelow, AreTheImages, Event, IsImage, IsKept, IsLeftBy, IsReadBack, IsSound, Volume, Write, images_of, part}
+use Rattle.uring_volume.proofs.Common.{AreBelow, AreTheImages, History, IsImage, IsKept, IsLeftBy, IsReadBack, IsSound, Volume, Write, images_of, part}
 use Rattle.uring_volume.proofs.ReadBack.{read_back}
 use Rattle.uring_volume.proofs.Chosen.{chosen_is_image}
 use Rattle.uring_volume.proofs.Flat.{left_once, image_has_choice}
 use Rattle.uring_volume.proofs.Files.{are_the_images}
 
 -- an image of a volume's fields, as one of the volume
-pub left_seen : (inside v : Volume) (first : List ℕ) (events kept : List Event) (choice now : List ℕ)
-    → inside ≡ v → first ≡ inside.first → events ≡ kept → inside.history ≡ reverse kept
-    → IsLeftBy inside.unit first (reverse events) choice now
+pub left_seen : (inside v : Volume) (first : List ℕ) (past : History) (choice now : List ℕ)
+    → inside ≡ v → first ≡ inside.first → inside.history ≡ past
+    → IsLeftBy inside.unit first past choice now
     → IsLeftBy v.unit v.first v.history choice now
-left_seen inside v first events kept choice now same bytes past turned left = grind arith
+left_seen inside v first past choice now same bytes is left = grind arith
 
 pub left_is_image : (v : Volume) (choice now : List ℕ) → IsSound v
     → IsLeftBy v.unit v.first v.history choice now → IsImage v.unit v.first v.history now
@@ -40,20 +40,20 @@ each_is_left v bound sound small now image =
     sound.lawful image
 
 -- the list of a volume's fields, as one of the volume
-pub listed_seen : (inside v : Volume) (first : List ℕ) (events kept : List Event)
-    (images : List (List ℕ)) → inside ≡ v → first ≡ inside.first → events ≡ kept
-    → inside.history ≡ reverse kept → images ≡ images_of inside.unit first (reverse events)
+pub listed_seen : (inside v : Volume) (first : List ℕ) (past : History)
+    (images : List (List ℕ)) → inside ≡ v → first ≡ inside.first
+    → inside.history ≡ past → images ≡ images_of inside.unit first past
     → images ≡ images_of v.unit v.first v.history
-listed_seen inside v first events kept images same bytes past turned is = grind arith
+listed_seen inside v first past images same bytes turned is = grind arith
 
 pub listed : (v : Volume) (images : List (List ℕ)) → IsSound v
     → images ≡ images_of v.unit v.first v.history → AreTheImages v.unit v.first v.history images
 listed v images sound is = grind (arith, are_the_images)
 
 -- how many images a volume has, counted by its fields
-pub counted : (inside v : Volume) (first : List ℕ) (events kept : List Event) (n most : ℕ)
-    → IsSound v → inside ≡ v → first ≡ inside.first → events ≡ kept
-    → inside.history ≡ reverse kept
-    → n ≡ min (length (images_of inside.unit first (reverse events))) most
+pub counted : (inside v : Volume) (first : List ℕ) (past : History) (n most : ℕ)
+    → IsSound v → inside ≡ v → first ≡ inside.first
+    → inside.history ≡ past
+    → n ≡ min (length (images_of inside.unit first past)) most
     → (all : List (List ℕ)) × AreTheImages v.unit v.first v.history all × (n ≡ min (length all) most)
-counted inside v first events kept n most sound same bytes past turned is = grind (arith, are_the_images, min)
+counted inside v first past n most sound same bytes turned is = grind (arith, are_the_images, min)

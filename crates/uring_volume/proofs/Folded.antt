@@ -41,7 +41,7 @@ out_of_but n [] = refl
 out_of_but n (m ∷ ns) = grind (arith, (out_of_but n ns))
 
 -- what runs hasn't ended
-runs_still : (h : History) (n : ℕ) → IsLawful h → is_one_of n (running_writes h) ≡ true
+pub runs_still : (h : History) (n : ℕ) → IsLawful h → is_one_of n (running_writes h) ≡ true
     → has_ended h n ≡ false
 runs_still [] n l is = refl
 runs_still (WriteIssued w ∷ earlier) n l is = grind (arith, one_more, (runs_still earlier n l.2))
@@ -51,7 +51,7 @@ runs_still (e ∷ earlier) n l is = runs_still earlier n l is
 
 -- One write folded.
 
-ended_of : (n m : ℕ) (h : History) → has_ended (without_write n h) m ≡ true → has_ended h m ≡ true
+pub ended_of : (n m : ℕ) (h : History) → has_ended (without_write n h) m ≡ true → has_ended h m ≡ true
 ended_of n m [] is = is
 ended_of n m (WriteIssued w ∷ earlier) is = grind (arith, (ended_of n m earlier))
 ended_of n m (WriteEnded k ∷ earlier) is = grind (arith, (ended_of n m earlier))

@@ -31,4 +31,7 @@ pub mod Without
 pub mod Folding
 pub mod Foldable
 pub mod Folded
-pub mod FoldSearch
+-- What is kept of a file:
+pub mod Keeping
+-- A count passes over what no write touches:
+pub mod Skipping

@@ -1,5 +1,5 @@
 -- A search through a list, and loops over lists of references.
-use Rattle.std.proofs.Common.{◌≡◌, ◌+◌, ◌-◌, ◌*◌, ◌<◌, ◌≤◌, ℕ, zero, suc, min, max, Bool, true, false, cond, List, [], ◌∷◌, ◌++◌, length, map, get_or, take, drop, replicate, sym, ap, ◌∙◌, inl, inr, arith}
+use Rattle.std.proofs.Common.{◌≡◌, ◌+◌, ◌-◌, ◌*◌, ◌<◌, ◌≤◌, ℕ, zero, suc, min, max, Bool, true, false, cond, List, [], ◌∷◌, ◌++◌, length, map, get_or, take, drop, replicate, refl, sym, ap, ◌∙◌, inl, inr, arith}
 use Rattle.uring_volume.proofs.Common.{History, append_assoc, joined, OnOk, Result, Write, byte_over, bytes_from, bytes_over, cond-false, drop_all, drop_more, end_of, ext_get_or, filter, fronts, get_or-drop, get_or-take, get_or_past, length-append, length-drop, length-replicate, length-take, length_over, list_any, list_any-append, map-append, mul-le-mul_left, or_left, put_by, take_more, unit_contents}
 use Rattle.uring_volume.proofs.Painting.{below_or_from}
 use Rattle.uring_volume.proofs.Leaving.{padded}
@@ -101,3 +101,11 @@ padded_from first xs k n a b begins ends is =
     let long : length (xs ++ replicate (n - length xs) 0) ≡ n = omega (arith, size, length-append xs (replicate (n - length xs) 0), length-replicate {A = ℕ} (n - length xs) 0) in
     ext_get_or 0 (xs ++ replicate (n - length xs) 0) (bytes_from first k n) (long ∙ sym (length_bytes_from first k n))
     (λ j within. grind (arith, (padded xs (n - length xs) j), (below_or_from j (b - a)), get_or-take, get_or-drop, get_or_past, (bytes_from_at first k n j)))
+
+-- a flag that was made of each element
+pub flag_is : {X Y : Type 0} (f : X → Y) (p : Y → Bool) (xs : List X) (flags : List Bool) (i : ℕ) (x : X) (b d : Bool)
+    → i < length xs → flags ≡ map p (map f xs) → x ≡ get_or xs i x → b ≡ get_or flags i d → b ≡ p (f x)
+flag_is f p [] flags i x b d within made at is = absurd (omega (arith, within))
+flag_is f p (y ∷ xs) flags zero x b d within made at is = is ∙ ap (λ bs. get_or bs 0 d) made ∙ ap (λ z. p (f z)) (sym at)
+flag_is f p (y ∷ xs) flags (suc i) x b d within made at is =
+    flag_is f p xs (map p (map f xs)) i x b d (omega (arith, within)) refl at (is ∙ ap (λ bs. get_or bs (suc i) d) made)

@@ -44,12 +44,12 @@ step_up h k s w c apart step g =
 
 -- The steps from some ways.
 
-record Comes (h : History) (k : ℕ) (ways : List Way) (t : Way) : Type 0 where
-  from : Way
-  among : IsIn from ways
-  by : Write
-  step : IsStep h k from by
-  is : t ≡ stepped k from by
+pub record Comes (h : History) (k : ℕ) (ways : List Way) (t : Way) : Type 0 where
+  pub from : Way
+  pub among : IsIn from ways
+  pub by : Write
+  pub step : IsStep h k from by
+  pub is : t ≡ stepped k from by
 
 steps_old : (h : History) (k : ℕ) (s : Way) (ws : List Write) (next : List Way) (t : Way)
     → IsIn t next → IsIn t (steps_of h k s ws next)
@@ -91,7 +91,7 @@ next_new h k [] next s w among step = absurd among
 next_new h k (r ∷ more) next s w (inl same) step = grind (arith, next_old, steps_new)
 next_new h k (r ∷ more) next s w (inr later) step = next_new h k more (steps_of h k r r.rest next) s w later step
 
-of_next : (h : History) (k : ℕ) (ways next : List Way) (t : Way) → IsIn t (next_ways h k ways next)
+pub of_next : (h : History) (k : ℕ) (ways next : List Way) (t : Way) → IsIn t (next_ways h k ways next)
     → IsIn t next ⊎ Comes h k ways t
 of_next h k [] next t among = inl among
 of_next h k (s ∷ more) next t among = grind (arith, (of_next h k more (steps_of h k s s.rest next) t among), of_steps)

@@ -53,7 +53,7 @@ in_later [] h w among = among
 in_later (WriteIssued v ∷ later) h w among = inr (in_later later h w among)
 in_later (e ∷ later) h w among = in_later later h w among
 
-but_without : (n : ℕ) (h : History) → WritesBut n h (without_write n h)
+pub but_without : (n : ℕ) (h : History) → WritesBut n h (without_write n h)
 but_without n h = search (rules, of_filter, writes_without, not-true, in_filter, ne_eqb)
 
 pub but_later : (later h : History) (w : Write) → IsLawful (later ++ h) → IsIn w (writes h)

@@ -7,3 +7,5 @@ pub mod Ways
 pub mod Folds
 pub mod Volume
 pub mod Laws
+pub mod Telling
+pub mod Past

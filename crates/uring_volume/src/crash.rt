@@ -7,9 +7,10 @@ ghost use Rattle.uring_volume.specs.Images.{byte_over, length_over};
 ghost use Rattle.uring_volume.specs.Choices.{issued, chosen, part, IsLeftBy};
 ghost use Rattle.uring_volume.specs.Ways.{units_in};
 
-use crate::event::{Event, Piece};
+use crate::event::Piece;
 use crate::growth::grown;
 use crate::order::{choose, issued_pieces};
+use crate::past::Past;
 use std::alloc::{AllocError, Global};
 use uring_memory::Memory;
 
@@ -53,21 +54,21 @@ fn is_on(piece: &Piece, unit: u64, i: u64) -> bool
 pub fn pieces_on<'a, M: Memory>(
     memory: &M,
     alloc: Global,
-    events: &'a [Event],
+    past: &'a Past,
     unit: u64,
     i: u64,
 ) -> Result<Vec<&'a Piece>, AllocError>
     requires { unit * i < 2 ^ 64 }
     ensures pieces { IfOk result (λ on. map (λ p. p.now) on.items
-        ≡ filter (spec.is_on unit i) (issued (reverse events.now))) }
+        ≡ filter (spec.is_on unit i) (issued past.now.history)) }
     ensures granted { ((n : ℕ) → M.grants memory.now n) → IsOk result }
 {
-    let mut on = memory.list(alloc, events.len())?;
-    for event in events {
-        if let Event::WriteIssued(piece) = event {
-            if is_on(piece, unit, i) {
-                on.push_reserved(piece);
-            }
+    past.is_past();
+    let kept = past.kept();
+    let mut on = memory.list(alloc, kept.len())?;
+    for k in kept {
+        if is_on(&k.piece, unit, i) {
+            on.push_reserved(&k.piece);
         }
     }
     Ok(on)
@@ -107,7 +108,7 @@ pub fn write_all(now: &mut [u8], from: usize, to: usize, order: &[&Piece])
 fn leave_unit<M: Memory>(
     memory: &M,
     alloc: Global,
-    events: &[Event],
+    past: &Past,
     choice: &[u64],
     unit: u64,
     i: u64,
@@ -117,12 +118,12 @@ fn leave_unit<M: Memory>(
     requires within { unit * i < length now.old }
     ensures left { OnOk result ((k : ℕ) → k < length now.old → k / unit ≡ i
         → slice_index now.new k ≡ byte_over (slice_index now.old k)
-        (chosen (reverse events.now) (filter (spec.is_on unit i) (issued (reverse events.now))) choice.now) k) }
+        (chosen past.now.history (filter (spec.is_on unit i) (issued past.now.history)) choice.now) k) }
     ensures others { (k : ℕ) → k / unit ≢ i → slice_index now.new k ≡ slice_index now.old k }
     ensures granted { ((n : ℕ) → M.grants memory.now n) → IsOk result }
 {
-    let mut on = pieces_on(memory, alloc, events, unit, i)?;
-    let count = choose(events, &mut on, choice);
+    let mut on = pieces_on(memory, alloc, past, unit, i)?;
+    let count = choose(past, &mut on, choice);
     let from = (unit * i) as usize;
     let to = from + (now.len() - from).min(unit as usize);
     write_all(now, from, to, &on[..count]);
@@ -143,7 +144,7 @@ pub fn count_units(len: u64, unit: u64) -> u64
 fn leave_units<M: Memory>(
     memory: &M,
     alloc: Global,
-    events: &[Event],
+    past: &Past,
     choice: &[u64],
     unit: u64,
     now: &mut [u8],
@@ -151,14 +152,14 @@ fn leave_units<M: Memory>(
     requires { 0 < unit }
     ensures left { OnOk result ((k : ℕ) → k < length now.old
         → slice_index now.new k ≡ byte_over (slice_index now.old k)
-        (chosen (reverse events.now) (filter (spec.is_on unit (k / unit)) (issued (reverse events.now)))
+        (chosen past.now.history (filter (spec.is_on unit (k / unit)) (issued past.now.history))
         (part choice.now (k / unit))) k) }
     ensures granted { ((n : ℕ) → M.grants memory.now n) → IsOk result }
 {
     let mut rest = choice;
     for i in 0..count_units(now.len() as u64, unit) {
         let (own, later) = first_part(rest);
-        leave_unit(memory, alloc, events, own, unit, i, now)?;
+        leave_unit(memory, alloc, past, own, unit, i, now)?;
         rest = later;
     }
     Ok(())
@@ -169,15 +170,15 @@ fn length_chosen<M: Memory>(
     memory: &M,
     alloc: Global,
     first: u64,
-    events: &[Event],
+    past: &Past,
     choice: &[u64],
 ) -> Result<u64, AllocError>
     ensures length { IfOk result (λ len. len ≡ length_over first
-        (chosen (reverse events.now) (issued (reverse events.now)) choice.now)) }
+        (chosen past.now.history (issued past.now.history) choice.now)) }
     ensures granted { ((n : ℕ) → M.grants memory.now n) → IsOk result }
 {
-    let mut pieces = issued_pieces(memory, alloc, events)?;
-    let count = choose(events, &mut pieces, choice);
+    let mut pieces = issued_pieces(memory, alloc, past)?;
+    let count = choose(past, &mut pieces, choice);
     Ok(length_left(first, &pieces[..count]))
 }
 
@@ -187,17 +188,17 @@ pub fn crash<M: Memory>(
     alloc: Global,
     unit: u64,
     first: &[u8],
-    events: &[Event],
+    past: &Past,
     choice: &[u64],
 ) -> Result<Vec<u8>, AllocError>
     requires { 0 < unit }
     ensures left { IfOk result
-        (λ now. IsLeftBy unit first.now (reverse events.now) choice.now now.items) }
+        (λ now. IsLeftBy unit first.now past.now.history choice.now now.items) }
     ensures granted { ((n : ℕ) → M.grants memory.now n) → IsOk result }
 {
     let (whole, rest) = first_part(choice);
-    let len = length_chosen(memory, alloc, first.len() as u64, events, whole)?;
+    let len = length_chosen(memory, alloc, first.len() as u64, past, whole)?;
     let mut now = grown(memory, alloc, first, len as usize)?;
-    leave_units(memory, alloc, events, rest, unit, &mut now)?;
+    leave_units(memory, alloc, past, rest, unit, &mut now)?;
     Ok(now)
 }

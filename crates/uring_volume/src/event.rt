@@ -1,8 +1,11 @@
 //! What happens to a file: writes and syncs, as they are issued and as they end.
 
-ghost use Rattle.std.specs.Prelude.{◌≡◌, ◌+◌, ◌<◌, ◌^◌, length};
+ghost use Rattle.std.specs.Prelude.{◌≡◌, ◌+◌, ◌<◌, ◌^◌, ℕ, length, IfOk, IsOk};
 
+use crate::growth::copied;
+use std::alloc::{AllocError, Global};
 use std::marker::Model;
+use uring_memory::Memory;
 
 /// A write as it was issued. It has a number of its own, by which its end names it, and ends below 2^63.
 #[derive(Drop)]
@@ -59,6 +62,19 @@ impl Piece {
         ensures { result ≡ record { number = number; off = off; bytes = bytes.items } }
     {
         Piece { number, off, bytes }
+    }
+
+    /// A copy, by this memory. If it grants whatever is asked for, there is no error.
+    pub fn copied<M: Memory>(&self, memory: &M, alloc: Global) -> Result<Piece, AllocError>
+        ensures piece { IfOk result (λ copy. copy ≡ self.now) }
+        ensures granted { ((n : ℕ) → M.grants memory.now n) → IsOk result }
+    {
+        let bytes = copied(memory, alloc, &self.bytes)?;
+        Ok(Piece {
+            number: self.number,
+            off: self.off,
+            bytes,
+        })
     }
 
     /// The number by which its end names it.

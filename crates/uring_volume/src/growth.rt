@@ -1,6 +1,6 @@
 //! Growth of lists by a memory.
 
-ghost use Rattle.std.specs.Prelude.{◌≡◌, ◌+◌, ◌-◌, ◌≤◌, ◌++◌, ◌∷◌, [], ℕ, length, replicate, IfOk, OnOk, IsOk};
+ghost use Rattle.std.specs.Prelude.{◌≡◌, ◌+◌, ◌-◌, ◌≤◌, ◌++◌, ◌∷◌, [], ℕ, length, replicate, IfOk, OnOk, IsOk, vec_capacity};
 
 use std::alloc::{AllocError, Global};
 use uring_memory::Memory;
@@ -31,4 +31,29 @@ pub fn grown<M: Memory>(
     let _ = now.extend_from_slice(first);
     let _ = now.resize(len, 0);
     Ok(now)
+}
+
+/// A copy of these bytes, as `push` takes memory.
+pub fn copied<M: Memory>(memory: &M, alloc: Global, bytes: &[u8]) -> Result<Vec<u8>, AllocError>
+    ensures bytes { IfOk result (λ copy. copy.items ≡ bytes.now) }
+    ensures granted { ((n : ℕ) → M.grants memory.now n) → IsOk result }
+{
+    grown(memory, alloc, bytes, bytes.len())
+}
+
+/// A copy of these items, with room for `more` after them, as `push` takes memory.
+pub fn copied_items<M: Memory, T: Copy>(
+    memory: &M,
+    alloc: Global,
+    items: &[T],
+    more: usize,
+) -> Result<Vec<T>, AllocError>
+    ensures items { IfOk result (λ copy. copy.items ≡ items.now) }
+    ensures room { IfOk result (λ copy. length items.now + more ≤ vec_capacity copy) }
+    ensures granted { ((n : ℕ) → M.grants memory.now n) → IsOk result }
+{
+    let mut copy = memory.list(alloc, items.len())?;
+    let _ = copy.extend_from_slice(items);
+    memory.reserve(&mut copy, more)?;
+    Ok(copy)
 }

@@ -4,7 +4,10 @@
 // what happened to a file
 mod event;
 mod growth;
+mod kept;
+mod past;
 mod standing;
+mod told;
 mod volume;
 
 // what reads show, and what a crash leaves

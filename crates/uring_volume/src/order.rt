@@ -2,10 +2,11 @@
 
 ghost use Rattle.std.specs.Prelude.{◌≡◌, ◌++◌, ◌≤◌, length, map, take, drop, reverse, ℕ, IfOk, OnOk, IsOk};
 ghost use Rattle.uring_volume.specs.Choices.{issued, waits_for_one, up_to_safe, named, without, chosen};
+ghost use Rattle.uring_volume.specs.Past.{AreIssued};
 
-use crate::event::{Event, Piece};
+use crate::event::Piece;
 use crate::growth::push;
-use crate::standing::{is_before, is_safe};
+use crate::past::Past;
 use std::alloc::{AllocError, Global};
 use uring_memory::Memory;
 
@@ -13,26 +14,26 @@ use uring_memory::Memory;
 pub fn issued_pieces<'a, M: Memory>(
     memory: &M,
     alloc: Global,
-    events: &'a [Event],
+    past: &'a Past,
 ) -> Result<Vec<&'a Piece>, AllocError>
-    ensures pieces { IfOk result (λ pieces. map (λ p. p.now) pieces.items ≡ issued (reverse events.now)) }
+    ensures pieces { IfOk result (λ pieces. map (λ p. p.now) pieces.items ≡ issued past.now.history) }
     ensures granted { ((n : ℕ) → M.grants memory.now n) → IsOk result }
 {
-    let mut pieces = memory.list(alloc, events.len())?;
-    for event in events {
-        if let Event::WriteIssued(piece) = event {
-            pieces.push_reserved(piece);
-        }
+    past.is_past();
+    let kept = past.kept();
+    let mut pieces = memory.list(alloc, kept.len())?;
+    for k in kept {
+        pieces.push_reserved(&k.piece);
     }
     Ok(pieces)
 }
 
 /// Whether one of these writes is before write `n`.
-pub fn has_one_before(events: &[Event], rest: &[&Piece], n: u64) -> bool
-    ensures { result ≡ waits_for_one (reverse events.now) (map (λ p. p.now) rest.now) n }
+pub fn has_one_before(past: &Past, rest: &[&Piece], n: u64) -> bool
+    ensures { result ≡ waits_for_one past.now.history (map (λ p. p.now) rest.now) n }
 {
     for piece in rest {
-        if is_before(events, piece.number(), n) {
+        if past.is_before(piece.number(), n) {
             return true;
         }
     }
@@ -75,13 +76,14 @@ fn move_named(rest: &mut [&Piece], n: u64) -> usize
 }
 
 /// How many of these writes stand up to the last safe one.
-fn count_up_to_safe(events: &[Event], rest: &[&Piece]) -> usize
+fn count_up_to_safe(past: &Past, rest: &[&Piece]) -> usize
+    requires { AreIssued past.now.history (map (λ p. p.now) rest.now) }
     ensures within { result ≤ length rest.now }
     ensures value { take result (map (λ p. p.now) rest.now)
-        ≡ up_to_safe (reverse events.now) (map (λ p. p.now) rest.now) }
+        ≡ up_to_safe past.now.history (map (λ p. p.now) rest.now) }
 {
     for i in (0..rest.len()).rev() {
-        if is_safe(events, rest[i]) {
+        if past.is_safe(rest[i]) {
             return i + 1;
         }
     }
@@ -89,16 +91,17 @@ fn count_up_to_safe(events: &[Event], rest: &[&Piece]) -> usize
 }
 
 /// Moves the writes that a choice leaves of these before the others, in its order, and answers how many it leaves.
-pub fn choose(events: &[Event], pieces: &mut [&Piece], choice: &[u64]) -> usize
+pub fn choose(past: &Past, pieces: &mut [&Piece], choice: &[u64]) -> usize
+    requires { AreIssued past.now.history (map (λ p. p.now) pieces.old) }
     ensures within { result ≤ length pieces.new }
     ensures chosen { map (λ p. p.now) (take result pieces.new)
-        ≡ chosen (reverse events.now) (map (λ p. p.now) pieces.old) choice.now }
+        ≡ chosen past.now.history (map (λ p. p.now) pieces.old) choice.now }
 {
     let mut count = 0;
     for n in choice {
-        if !has_one_before(events, &pieces[count..], *n) {
+        if !has_one_before(past, &pieces[count..], *n) {
             count += move_named(&mut pieces[count..], *n);
         }
     }
-    count + count_up_to_safe(events, &pieces[count..])
+    count + count_up_to_safe(past, &pieces[count..])
 }

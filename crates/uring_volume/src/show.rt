@@ -4,9 +4,10 @@ ghost use Rattle.std.specs.Prelude.{◌≡◌, ℕ, map, reverse, IfOk, IsOk};
 ghost use Rattle.uring_volume.specs.Volume.{ended, IsShown};
 
 use crate::crash::{length_left, write_all};
-use crate::event::{Event, Piece};
-use crate::growth::{grown, push};
-use crate::order::push_named;
+use crate::event::Piece;
+use crate::growth::grown;
+use crate::order::{issued_pieces, push_named};
+use crate::past::Past;
 use std::alloc::{AllocError, Global};
 use uring_memory::Memory;
 
@@ -14,19 +15,16 @@ use uring_memory::Memory;
 fn ended_pieces<'a, M: Memory>(
     memory: &M,
     alloc: Global,
-    events: &'a [Event],
+    past: &'a Past,
 ) -> Result<Vec<&'a Piece>, AllocError>
-    ensures order { IfOk result (λ order. map (λ p. p.now) order.items ≡ ended (reverse events.now)) }
+    ensures order { IfOk result (λ order. map (λ p. p.now) order.items ≡ ended past.now.history) }
     ensures granted { ((n : ℕ) → M.grants memory.now n) → IsOk result }
 {
-    let mut pieces = Vec::new(alloc);
+    past.is_past();
+    let pieces = issued_pieces(memory, alloc, past)?;
     let mut order = Vec::new(alloc);
-    for event in events {
-        match event {
-            Event::WriteIssued(piece) => push(memory, &mut pieces, piece)?,
-            Event::WriteEnded(n) => push_named(memory, &pieces, *n, &mut order)?,
-            _ => {}
-        }
+    for n in past.ends() {
+        push_named(memory, &pieces, *n, &mut order)?;
     }
     Ok(order)
 }
@@ -36,12 +34,12 @@ pub fn shown<M: Memory>(
     memory: &M,
     alloc: Global,
     first: &[u8],
-    events: &[Event],
+    past: &Past,
 ) -> Result<Vec<u8>, AllocError>
-    ensures shown { IfOk result (λ now. IsShown first.now (reverse events.now) now.items) }
+    ensures shown { IfOk result (λ now. IsShown first.now past.now.history now.items) }
     ensures granted { ((n : ℕ) → M.grants memory.now n) → IsOk result }
 {
-    let order = ended_pieces(memory, alloc, events)?;
+    let order = ended_pieces(memory, alloc, past)?;
     let len = length_left(first.len() as u64, &order) as usize;
     let mut now = grown(memory, alloc, first, len)?;
     write_all(&mut now, 0, len, &order);

@@ -2,7 +2,6 @@
 
 ghost use Rattle.std.specs.Prelude.{◌≡◌, reverse};
 ghost use Rattle.uring_volume.specs.Events as spec;
-ghost use Rattle.uring_volume.specs.Choices.{issued, named, has_safe};
 
 use crate::event::{Event, Piece, SyncRange};
 
@@ -31,7 +30,7 @@ pub fn is_before(events: &[Event], m: u64, n: u64) -> bool
 }
 
 /// Whether all bytes of a write lie in the range of a sync.
-fn lies_in(range: SyncRange, piece: &Piece) -> bool
+pub fn lies_in(range: SyncRange, piece: &Piece) -> bool
     ensures { result ≡ spec.lies_in range piece.now }
 {
     match range {
@@ -41,7 +40,7 @@ fn lies_in(range: SyncRange, piece: &Piece) -> bool
 }
 
 /// Whether a byte of a write lies in the range of a sync.
-fn meets(range: SyncRange, piece: &Piece) -> bool
+pub fn meets(range: SyncRange, piece: &Piece) -> bool
     ensures { result ≡ spec.meets range piece.now }
 {
     match range {
@@ -122,21 +121,6 @@ pub fn is_safe(events: &[Event], piece: &Piece) -> bool
                 }
             }
             _ => {}
-        }
-    }
-    safe
-}
-
-/// Whether write `n` is safe: false too if there is none. The events are in order, the oldest first.
-pub fn is_number_safe(events: &[Event], n: u64) -> bool
-    ensures { result ≡ has_safe (reverse events.now) (named n (issued (reverse events.now))) }
-{
-    let mut safe = false;
-    for event in events {
-        if let Event::WriteIssued(piece) = event {
-            if piece.number() == n && is_safe(events, piece) {
-                safe = true;
-            }
         }
     }
     safe

@@ -7,21 +7,18 @@ ghost use Rattle.uring_volume.specs.declared.volume.BeginError.TheVariants.{OutO
 
 mod readings;
 
-use crate::event::{Event, Piece, SyncRange};
-use crate::fold::fold_first;
+use crate::event::SyncRange;
+use crate::past::Past;
 use std::alloc::{AllocError, Global};
 use std::marker::Model;
 use uring_memory::Memory;
 
-/// One file, the writes and syncs that were made of it, and how far they have come. It keeps all of them.
+/// One file: the writes that were made of it and aren't folded, each with how it stands, and the syncs that run. What was folded and the syncs that ended take no memory; all that ever happened is told to proofs alone. The end of a write or a sync looks at each write that is kept, once.
 #[derive(Drop)]
 pub struct Volume {
     unit: u64,
     first: Vec<u8>,
-    events: Vec<Event>,
-    writes: Vec<u64>,
-    syncs: Vec<u64>,
-    next: u64,
+    past: Past,
 }
 
 impl Model for Volume {
@@ -29,15 +26,11 @@ impl Model for Volume {
 
     ghost Value = { Volume };
 
-    ghost use Rattle.std.specs.Prelude.{◌≡◌, ◌+◌, ◌≤◌, reverse, vec_len, vec_capacity};
-    ghost use Rattle.uring_volume.specs.Volume.{IsHeld};
+    ghost use Rattle.std.specs.Prelude.{◌<◌};
 
-    ghost view = { λ v. record { unit = v.unit; first = v.first.items; history = reverse v.events.items; next = v.next } };
+    ghost view = { λ v. record { unit = v.unit; first = v.first.items; history = v.past.history; next = v.past.next } };
 
-    ghost invariant = { λ v. record {
-      held : IsHeld (record { unit = v.unit; first = v.first.items; history = reverse v.events.items; next = v.next }) v.writes.items v.syncs.items;
-      room : vec_len v.events + vec_len v.writes + vec_len v.syncs ≤ vec_capacity v.events;
-    } };
+    ghost invariant = { λ v. 0 < v.unit };
 }
 
 /// Why a write or a sync can't begin.
@@ -59,7 +52,7 @@ pub enum ImagesError {
 }
 
 /// Puts an item after the others, where there is room for it.
-fn put<T: Drop>(items: &mut Vec<T>, item: T)
+pub fn put<T: Drop>(items: &mut Vec<T>, item: T)
     requires { vec_len items.old < vec_capacity items.old }
     ensures items { items.new.items ≡ items.old.items ++ item ∷ [] }
     ensures len { vec_len items.new ≡ vec_len items.old + 1 }
@@ -68,30 +61,8 @@ fn put<T: Drop>(items: &mut Vec<T>, item: T)
     let _ = items.push(item);
 }
 
-/// Makes room for one event more, for its end and for the ends of so many that run, and for one number more, by this memory.
-fn make_room<M: Memory>(
-    memory: &M,
-    events: &mut Vec<Event>,
-    running: usize,
-    numbers: &mut Vec<u64>,
-) -> Result<(), AllocError>
-    requires { running + 2 < 2 ^ 64 }
-    ensures events { events.new.items ≡ events.old.items }
-    ensures event_count { vec_len events.new ≡ vec_len events.old }
-    ensures event_room { vec_capacity events.old ≤ vec_capacity events.new }
-    ensures numbers { numbers.new.items ≡ numbers.old.items }
-    ensures number_count { vec_len numbers.new ≡ vec_len numbers.old }
-    ensures ends { OnOk result (vec_len events.new + running + 2 ≤ vec_capacity events.new) }
-    ensures number_room { OnOk result (vec_len numbers.new < vec_capacity numbers.new) }
-    ensures granted { (n : ℕ) → M.grants memory.now n → vec_len events.old + running + 2 ≤ n
-        → vec_len numbers.old + 1 ≤ n → IsOk result }
-{
-    memory.reserve(events, running + 2)?;
-    memory.reserve(numbers, 1)
-}
-
 /// Takes a number out of these, and says whether it was there.
-fn take_out(numbers: &mut Vec<u64>, n: u64) -> bool
+pub fn take_out(numbers: &mut Vec<u64>, n: u64) -> bool
     ensures found { result ≡ is_one_of n numbers.old.items }
     ensures items { numbers.new.items ≡ (if result then but n numbers.old.items else numbers.old.items) }
     ensures len { result ≡ true → vec_len numbers.new < vec_len numbers.old }
@@ -119,10 +90,7 @@ impl Volume {
         Volume {
             unit,
             first,
-            events: Vec::new(alloc),
-            writes: Vec::new(alloc),
-            syncs: Vec::new(alloc),
-            next: 1,
+            past: Past::new(alloc),
         }
     }
 
@@ -136,7 +104,7 @@ impl Volume {
         ensures err { OnErr result (self.new ≡ self.old) }
         ensures numbers { (result ≡ Err OutOfNumbers) ↔ (self.old.next + 1 ≡ 2 ^ 64) }
     {
-        let memory = *self.events.allocator();
+        let memory = *self.first.allocator();
         self.begin_write_in(&memory, off, bytes)
     }
 
@@ -155,20 +123,14 @@ impl Volume {
         ensures granted { (n : ℕ) → M.grants memory.now n → elements_to_begin self.old ≤ n
             → IfErr result (λ error. error ≡ OutOfNumbers) }
     {
-        let number = self.next;
+        self.past.is_past();
+        let number = self.past.next();
         if number == u64::MAX {
             return Err(BeginError::OutOfNumbers);
         }
-        let running = self.writes.len() + self.syncs.len();
-        if make_room(memory, &mut self.events, running, &mut self.writes).is_err() {
+        if self.past.begin_write(memory, off, bytes).is_err() {
             return Err(BeginError::OutOfMemory);
         }
-        put(&mut self.writes, number);
-        put(
-            &mut self.events,
-            Event::WriteIssued(Piece::new(number, off, bytes)),
-        );
-        self.next = number + 1;
         Ok(number)
     }
 
@@ -181,7 +143,7 @@ impl Volume {
         ensures err { OnErr result (self.new ≡ self.old) }
         ensures numbers { (result ≡ Err OutOfNumbers) ↔ (self.old.next + 1 ≡ 2 ^ 64) }
     {
-        let memory = *self.events.allocator();
+        let memory = *self.first.allocator();
         self.begin_sync_in(&memory, range)
     }
 
@@ -198,17 +160,14 @@ impl Volume {
         ensures granted { (n : ℕ) → M.grants memory.now n → elements_to_begin self.old ≤ n
             → IfErr result (λ error. error ≡ OutOfNumbers) }
     {
-        let number = self.next;
+        self.past.is_past();
+        let number = self.past.next();
         if number == u64::MAX {
             return Err(BeginError::OutOfNumbers);
         }
-        let running = self.writes.len() + self.syncs.len();
-        if make_room(memory, &mut self.events, running, &mut self.syncs).is_err() {
+        if self.past.begin_sync(memory, range).is_err() {
             return Err(BeginError::OutOfMemory);
         }
-        put(&mut self.syncs, number);
-        put(&mut self.events, Event::SyncIssued(number, range));
-        self.next = number + 1;
         Ok(number)
     }
 
@@ -217,11 +176,7 @@ impl Volume {
         ensures found { result ≡ is_one_of n (running_writes self.old.history) }
         ensures ended { self.new ≡ (if result then with_event (WriteEnded n) self.old else self.old) }
     {
-        let is_running = take_out(&mut self.writes, n);
-        if is_running {
-            put(&mut self.events, Event::WriteEnded(n));
-        }
-        is_running
+        self.past.end_write(n)
     }
 
     /// Ends a running sync with success. It answers whether a sync of this number ran; if none did, nothing changes.
@@ -229,11 +184,7 @@ impl Volume {
         ensures found { result ≡ is_one_of s (running_syncs self.old.history) }
         ensures ended { self.new ≡ (if result then with_event (SyncEnded s) self.old else self.old) }
     {
-        let is_running = take_out(&mut self.syncs, s);
-        if is_running {
-            put(&mut self.events, Event::SyncEnded(s));
-        }
-        is_running
+        self.past.end_sync(s)
     }
 
     /// Ends a running sync with an error. It answers whether a sync of this number ran; if none did, nothing changes.
@@ -241,30 +192,26 @@ impl Volume {
         ensures found { result ≡ is_one_of s (running_syncs self.old.history) }
         ensures failed { self.new ≡ (if result then with_event (SyncFailed s) self.old else self.old) }
     {
-        let is_running = take_out(&mut self.syncs, s);
-        if is_running {
-            put(&mut self.events, Event::SyncFailed(s));
-        }
-        is_running
+        self.past.fail_sync(s)
     }
 
     /// Folds one write, if one can be folded, and answers whether one could.
     fn fold_one<M: Memory>(&mut self, memory: &M) -> Result<bool, AllocError>
         ensures folded { IsFoldedFrom self.old self.new }
-        ensures fewer { result ≡ Ok true → length self.new.history < length self.old.history }
+        ensures fewer { result ≡ Ok true → length (issued self.new.history) < length (issued self.old.history) }
         ensures none { result ≡ Ok false → (w : Write) → IsFoldable self.new.history w → ⊥ }
         ensures granted { ((n : ℕ) → M.grants memory.now n) → IsOk result }
     {
-        let _bound = self.next;
-        fold_first(memory, &mut self.first, &mut self.events)
+        self.past.is_past();
+        self.past.fold_first(memory, &mut self.first)
     }
 
-    /// Gives memory back: folds into the first bytes each write that is safe, that no other is before, and that is before each other write of a byte of it. What a crash may leave stays as it was, whatever happens later, and so does what reads show; the writes that are folded are safe, and have no number any more. Out of memory, some of them may be left. It looks at each pair of writes for each one that it folds.
+    /// Gives memory back: folds into the first bytes each write that is safe, that no other is before, and that is before each other write of a byte of it. What a crash may leave stays as it was, whatever happens later, and so does what reads show; the writes that are folded are safe, and have no number any more. Out of memory, some of them may be left. For each one that it folds it looks at the pairs of writes that are kept, until it finds it: so it is quick if it is called after each sync.
     pub fn fold(&mut self) -> Result<(), AllocError>
         ensures folded { IsFoldedFrom self.old self.new }
         ensures none_left { OnOk result ((w : Write) → IsFoldable self.new.history w → ⊥) }
     {
-        let memory = *self.events.allocator();
+        let memory = *self.first.allocator();
         self.fold_in(&memory)
     }
 
@@ -274,7 +221,8 @@ impl Volume {
         ensures none_left { OnOk result ((w : Write) → IsFoldable self.new.history w → ⊥) }
         ensures granted { ((n : ℕ) → M.grants memory.now n) → IsOk result }
     {
-        let count = self.events.len();
+        self.past.is_past();
+        let count = self.past.kept().len();
         for step in 0..count {
             if !self.fold_one(memory)? {
                 return Ok(());

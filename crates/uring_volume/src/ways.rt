@@ -8,11 +8,12 @@ ghost use Rattle.uring_volume.specs.Ways.{same_write, same_way, put_by, bytes_ov
 ghost use Rattle.uring_volume.specs.Choices as choices;
 ghost use Rattle.uring_volume.specs.Choices.{without};
 ghost use Rattle.uring_volume.specs.Images.{byte_over};
+ghost use Rattle.uring_volume.specs.Past.{AreIssued, AreWaysIssued};
 
-use crate::event::{Event, Piece};
-use crate::growth::{grown, push};
+use crate::event::Piece;
+use crate::growth::{copied, push};
 use crate::order::has_one_before;
-use crate::standing::is_safe;
+use crate::past::Past;
 use std::alloc::{AllocError, Global};
 use uring_memory::Memory;
 
@@ -23,15 +24,7 @@ pub struct Way<'a> {
     now: Vec<u8>,
 }
 
-/// A copy of some bytes. Here and below: if the memory grants whatever is asked for, there is no error.
-pub fn copied<M: Memory>(memory: &M, alloc: Global, bytes: &[u8]) -> Result<Vec<u8>, AllocError>
-    ensures bytes { IfOk result (λ copy. copy.items ≡ bytes.now) }
-    ensures granted { ((n : ℕ) → M.grants memory.now n) → IsOk result }
-{
-    grown(memory, alloc, bytes, bytes.len())
-}
-
-/// Puts these bytes after those found, if they aren't among them.
+/// Puts these bytes after those found, if they aren't among them. Here and below: if the memory grants whatever is asked for, there is no error.
 fn put_bytes<M: Memory>(
     memory: &M,
     alloc: Global,
@@ -148,19 +141,19 @@ fn others<'a, M: Memory>(
 fn put_steps<'a, M: Memory>(
     memory: &M,
     alloc: Global,
-    events: &[Event],
+    past: &Past,
     from: u64,
     rest: &[&'a Piece],
     now: &[u8],
     next: &mut Vec<Way<'a>>,
 ) -> Result<(), AllocError>
     ensures steps { OnOk result (map (λ s. spec.way (map (λ p. p.now) s.rest.items) s.now.items) next.new.items
-        ≡ spec.steps_of (reverse events.now) from (spec.way (map (λ p. p.now) rest.now) now.now) (map (λ p. p.now) rest.now)
+        ≡ spec.steps_of past.now.history from (spec.way (map (λ p. p.now) rest.now) now.now) (map (λ p. p.now) rest.now)
         (map (λ s. spec.way (map (λ p. p.now) s.rest.items) s.now.items) next.old.items)) }
     ensures granted { ((n : ℕ) → M.grants memory.now n) → IsOk result }
 {
     for piece in rest {
-        if !has_one_before(events, rest, piece.number()) {
+        if !has_one_before(past, rest, piece.number()) {
             let later = others(memory, alloc, rest, piece.number())?;
             let mut left = copied(memory, alloc, now)?;
             write_at(&mut left, from, piece);
@@ -178,28 +171,29 @@ fn put_steps<'a, M: Memory>(
 fn next_ways<'a, M: Memory>(
     memory: &M,
     alloc: Global,
-    events: &[Event],
+    past: &Past,
     from: u64,
     ways: &[Way<'a>],
 ) -> Result<Vec<Way<'a>>, AllocError>
     ensures next { IfOk result (λ next. map (λ s. spec.way (map (λ p. p.now) s.rest.items) s.now.items) next.items
-        ≡ spec.next_ways (reverse events.now) from
+        ≡ spec.next_ways past.now.history from
         (map (λ s. spec.way (map (λ p. p.now) s.rest.items) s.now.items) ways.now) []) }
     ensures granted { ((n : ℕ) → M.grants memory.now n) → IsOk result }
 {
     let mut next = Vec::new(alloc);
     for way in ways {
-        put_steps(memory, alloc, events, from, &way.rest, &way.now, &mut next)?;
+        put_steps(memory, alloc, past, from, &way.rest, &way.now, &mut next)?;
     }
     Ok(next)
 }
 
 /// Whether one of these writes is safe.
-fn has_safe(events: &[Event], rest: &[&Piece]) -> bool
-    ensures { result ≡ choices.has_safe (reverse events.now) (map (λ p. p.now) rest.now) }
+fn has_safe(past: &Past, rest: &[&Piece]) -> bool
+    requires { AreIssued past.now.history (map (λ p. p.now) rest.now) }
+    ensures { result ≡ choices.has_safe past.now.history (map (λ p. p.now) rest.now) }
 {
     for piece in rest {
-        if is_safe(events, piece) {
+        if past.is_safe(piece) {
             return true;
         }
     }
@@ -210,18 +204,19 @@ fn has_safe(events: &[Event], rest: &[&Piece]) -> bool
 fn put_found<M: Memory>(
     memory: &M,
     alloc: Global,
-    events: &[Event],
+    past: &Past,
     ways: &[Way],
     found: &mut Vec<Vec<u8>>,
 ) -> Result<(), AllocError>
+    requires { AreWaysIssued past.now.history (map (λ s. spec.way (map (λ p. p.now) s.rest.items) s.now.items) ways.now) }
     ensures found { OnOk result (map (λ b. b.items) found.new.items
-        ≡ spec.found_at (reverse events.now)
+        ≡ spec.found_at past.now.history
         (map (λ s. spec.way (map (λ p. p.now) s.rest.items) s.now.items) ways.now)
         (map (λ b. b.items) found.old.items)) }
     ensures granted { ((n : ℕ) → M.grants memory.now n) → IsOk result }
 {
     for way in ways {
-        if !has_safe(events, &way.rest) {
+        if !has_safe(past, &way.rest) {
             put_bytes(memory, alloc, found, &way.now)?;
         }
     }
@@ -232,13 +227,14 @@ fn put_found<M: Memory>(
 pub fn contents<'a, M: Memory>(
     memory: &M,
     alloc: Global,
-    events: &[Event],
+    past: &Past,
     from: u64,
     on: Vec<&'a Piece>,
     bytes: Vec<u8>,
 ) -> Result<Vec<Vec<u8>>, AllocError>
+    requires { AreIssued past.now.history (map (λ p. p.now) on.items) }
     ensures contents { IfOk result (λ found. map (λ b. b.items) found.items
-        ≡ contents_of (reverse events.now) from (map (λ p. p.now) on.entry.items) bytes.items) }
+        ≡ contents_of past.now.history from (map (λ p. p.now) on.entry.items) bytes.items) }
     ensures granted { ((n : ℕ) → M.grants memory.now n) → IsOk result }
 {
     let steps = on.len() + 1;
@@ -253,8 +249,8 @@ pub fn contents<'a, M: Memory>(
     )?;
     let mut found = Vec::new(alloc);
     for step in 0..steps {
-        put_found(memory, alloc, events, &ways, &mut found)?;
-        ways = next_ways(memory, alloc, events, from, &ways)?;
+        put_found(memory, alloc, past, &ways, &mut found)?;
+        ways = next_ways(memory, alloc, past, from, &ways)?;
     }
     Ok(found)
 }

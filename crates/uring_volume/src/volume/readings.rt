@@ -4,9 +4,9 @@ ghost use Rattle.std.specs.Prelude.{◌≡◌, ℕ, ◌↔◌, ◌-◌, min, map
 
 use super::{ImagesError, Volume};
 use crate::crash::crash;
+use crate::growth::copied;
 use crate::listing::{count_images, list_images};
 use crate::show::shown;
-use crate::standing::is_number_safe;
 use std::alloc::{AllocError, Global};
 use uring_memory::Memory;
 
@@ -18,20 +18,21 @@ impl Volume {
     ghost use Rattle.uring_volume.specs.Choices.{issued, named, has_safe, IsLeftBy, AreBelow};
     ghost use Rattle.uring_volume.specs.Laws.{IsKept, IsReadBack};
     ghost use Rattle.uring_volume.specs.Listing.{AreTheImages};
+    ghost use Rattle.uring_volume.specs.Folds.{IsFoldedFrom};
     ghost use Rattle.uring_volume.specs.declared.volume.ImagesError.TheVariants.{TooMany};
 
     /// What holds of each volume, for the proofs of callers: a write has a number of its own, below the next one, and ends after it was issued.
     pub fn is_sound(&self)
         ensures { IsSound self.now }
     {
-        let _bound = self.next;
+        self.past.is_past();
     }
 
-    /// Whether write `n` is safe: a sync that covers it has ended with success, and none that reaches it had failed by then. False too if no write has this number. It looks at all events, and for each end of a sync at those before it.
+    /// Whether write `n` is safe: a sync that covers it has ended with success, and none that reaches it had failed by then. False too if no write has this number, as after it was folded. It looks at each write that is kept at most once.
     pub fn is_safe(&self, n: u64) -> bool
         ensures { result ≡ has_safe self.now.history (named n (issued self.now.history)) }
     {
-        is_number_safe(&self.events, n)
+        self.past.is_number_safe(n)
     }
 
     /// The bytes that a read of the whole file shows: the first ones with the writes over them that have ended, in the order of their ends.
@@ -46,7 +47,7 @@ impl Volume {
         ensures shown { IfOk result (λ now. IsShown self.now.first self.now.history now.items) }
         ensures granted { ((n : ℕ) → M.grants memory.now n) → IsOk result }
     {
-        shown(memory, alloc, &self.first, &self.events)
+        shown(memory, alloc, &self.first, &self.past)
     }
 
     /// The bytes that a crash leaves, by a choice: a 0 ends one of its parts; the first part names the writes that make the length, and each later one those that are left in a unit, one after the other. Any numbers are a choice. The volume stays as it is, so that many crashes can be tried.
@@ -82,11 +83,12 @@ impl Volume {
             → k < length w.bytes → IsReadBack now.items w k) }
         ensures granted { ((n : ℕ) → M.grants memory.now n) → IsOk result }
     {
-        let _bound = self.next;
-        crash(memory, alloc, self.unit, &self.first, &self.events, choice)
+        self.past.is_past();
+        self.past.is_bounded();
+        crash(memory, alloc, self.unit, &self.first, &self.past, choice)
     }
 
-    /// How many images there are: how many different files a crash may leave. 2^64 - 1 if there are as many or more. For each unit it follows the writes of it that no other is before, so it is quick where few of those run at once.
+    /// How many images there are: how many different files a crash may leave. 2^64 - 1 if there are as many or more. They are counted on a copy in which what can be folded is. For each unit it follows the writes of it that no other is before, so it is quick where few of those run at once.
     pub fn count_images(&self, alloc: Global) -> Result<u64, AllocError>
         ensures { IfOk result (λ count. (all : List (List ℕ))
             × AreTheImages self.now.unit self.now.first self.now.history all
@@ -102,8 +104,20 @@ impl Volume {
             × (count ≡ min (length all) (2 ^ 64 - 1))) }
         ensures granted { ((n : ℕ) → M.grants memory.now n) → IsOk result }
     {
-        let _bound = self.next;
-        count_images(memory, alloc, self.unit, &self.first, &self.events)
+        self.is_sound();
+        let folded = self.folded_copy(memory, alloc)?;
+        folded.count_kept(memory, alloc)
+    }
+
+    /// How many images there are, as `count_images`, by the writes that are kept.
+    fn count_kept<M: Memory>(&self, memory: &M, alloc: Global) -> Result<u64, AllocError>
+        ensures count { IfOk result (λ count. (all : List (List ℕ))
+            × AreTheImages self.now.unit self.now.first self.now.history all
+            × (count ≡ min (length all) (2 ^ 64 - 1))) }
+        ensures granted { ((n : ℕ) → M.grants memory.now n) → IsOk result }
+    {
+        self.past.is_past();
+        count_images(memory, alloc, self.unit, &self.first, &self.past)
     }
 
     /// The images, each once and nothing else, if there are no more than `most`. They are counted before any is made.
@@ -131,16 +145,50 @@ impl Volume {
             × AreTheImages self.now.unit self.now.first self.now.history all × (most < length all) }
         ensures granted { ((n : ℕ) → M.grants memory.now n) → IfErr result (λ error. error ≡ TooMany) }
     {
-        let _bound = self.next;
-        let Ok(count) = count_images(memory, alloc, self.unit, &self.first, &self.events) else {
+        self.is_sound();
+        match self.folded_copy(memory, alloc) {
+            Ok(folded) => folded.images_kept(memory, alloc, most),
+            Err(_) => Err(ImagesError::OutOfMemory),
+        }
+    }
+
+    /// The images, as `images`, by the writes that are kept.
+    fn images_kept<M: Memory>(
+        &self,
+        memory: &M,
+        alloc: Global,
+        most: u32,
+    ) -> Result<Vec<Vec<u8>>, ImagesError>
+        ensures images { IfOk result (λ images.
+            AreTheImages self.now.unit self.now.first self.now.history (map (λ b. b.items) images.items)) }
+        ensures within { IfOk result (λ images. length images.items ≤ most) }
+        ensures too_many { result ≡ Err TooMany → (all : List (List ℕ))
+            × AreTheImages self.now.unit self.now.first self.now.history all × (most < length all) }
+        ensures granted { ((n : ℕ) → M.grants memory.now n) → IfErr result (λ error. error ≡ TooMany) }
+    {
+        self.past.is_past();
+        let Ok(count) = count_images(memory, alloc, self.unit, &self.first, &self.past) else {
             return Err(ImagesError::OutOfMemory);
         };
         if count > u64::from(most) {
             return Err(ImagesError::TooMany);
         }
-        match list_images(memory, alloc, self.unit, &self.first, &self.events) {
+        match list_images(memory, alloc, self.unit, &self.first, &self.past) {
             Ok(images) => Ok(images),
             Err(_) => Err(ImagesError::OutOfMemory),
         }
+    }
+    /// A copy in which what can be folded is: it has the same images, and they are soon found. If the memory grants whatever is asked for, there is no error.
+    fn folded_copy<M: Memory>(&self, memory: &M, alloc: Global) -> Result<Volume, AllocError>
+        ensures folded { IfOk result (λ copy. IsFoldedFrom self.now copy) }
+        ensures granted { ((n : ℕ) → M.grants memory.now n) → IsOk result }
+    {
+        let mut copy = Volume {
+            unit: self.unit,
+            first: copied(memory, alloc, &self.first)?,
+            past: self.past.copied(memory, alloc)?,
+        };
+        copy.fold_in(memory)?;
+        Ok(copy)
     }
 }

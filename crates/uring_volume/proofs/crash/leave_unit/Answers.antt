@@ -1,4 +1,6 @@
-use Rattle.std.proofs.Common.{◌+◌, ◌*◌, inl, inr, arith}
+use Rattle.std.proofs.Common.{◌+◌, ◌*◌, inl, inr, map, ap, ◌∙◌, arith}
+use Rattle.uring_volume.specs.Images.{is_on}
+use Rattle.uring_volume.proofs.Keeping.{filter_issued}
 use Rattle.uring_volume.proofs.Painting.{below_or_from, in_unit}
 use Rattle.uring_volume.proofs.crash.leave_unit.Goals as goal
 
@@ -11,3 +13,6 @@ returns-clause-others g c = λ k apart.
         | inr after ↦ c.write_all.ensures.after k (omega arith)
       ]
     ]
+
+pub choose-count-requires : goal.choose-count-requires
+choose-count-requires g c = filter_issued c.args.past.now.history (is_on c.args.unit c.args.i) _ (ap (map (λ p. p.now)) c.deref_mut.ensures.value ∙ c.in_ok-on.ensures.pieces)

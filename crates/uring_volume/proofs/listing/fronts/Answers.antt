@@ -10,13 +10,13 @@ loop-i-preserved g c =
     ∙ ap (λ xs. joined (map (λ b. b.items) xs) (map (λ b. b.items) c.deref-in-loop-i.result.now)) c.deref.ensures.value
     ∙ ap (λ xs. joined (map (λ b. b.items) c.loop-i.files.items) (map (λ b. b.items) xs)) c.deref-in-loop-i.ensures.value
     ∙ ap (λ bs. joined bs (map (λ b. b.items) c.in_ok-ends.ends.items)) c.loop-i.invariant
-    ∙ ap (joined (fronts c.args.unit c.args.first.now (reverse c.args.events.now) c.args.len c.loop-i.i)) c.in_ok-ends.ensures.contents
-    ∙ ap (fronts c.args.unit c.args.first.now (reverse c.args.events.now) c.args.len) next
+    ∙ ap (joined (fronts c.args.unit c.args.first.now c.args.past.now.history c.args.len c.loop-i.i)) c.in_ok-ends.ensures.contents
+    ∙ ap (fronts c.args.unit c.args.first.now c.args.past.now.history c.args.len) next
 
 pub returns-clause-fronts : goal.returns-clause-fronts
 returns-clause-fronts g c =
     let all : c.loop-i.i ≡ c.count_units-i-end.result = omega arith in
-    c.loop-i.invariant ∙ ap (fronts c.args.unit c.args.first.now (reverse c.args.events.now) c.args.len) (all ∙ c.count_units-i-end.ensures.value)
+    c.loop-i.invariant ∙ ap (fronts c.args.unit c.args.first.now c.args.past.now.history c.args.len) (all ∙ c.count_units-i-end.ensures.value)
 
 pub returns-in_err-ends-clause-granted : goal.returns-in_err-ends-clause-granted
 returns-in_err-ends-clause-granted g c = λ all. absurd (false≢true (c.in_err-ends.ensures.granted all))

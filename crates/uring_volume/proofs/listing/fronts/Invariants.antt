@@ -4,4 +4,4 @@ use Rattle.uring_volume.proofs.listing.fronts.Given as goal
 
 abbrev pub invariant-loop-i : goal.invariant-loop-i
 invariant-loop-i g l =
-    map (λ b. b.items) l.files.items ≡ fronts l.unit l.first (reverse l.events) l.len l.i
+    map (λ b. b.items) l.files.items ≡ fronts l.unit l.first l.past.history l.len l.i

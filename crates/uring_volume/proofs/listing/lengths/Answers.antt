@@ -5,9 +5,9 @@ use Rattle.uring_volume.proofs.listing.lengths.Goals as goal
 
 pub loop-piece-preserved : goal.loop-piece-preserved
 loop-piece-preserved g c =
-    ap (λ ns. lengths_by (reverse c.args.events.now) (map (λ p. p.now) c.args.pieces.now) c.args.first (map (λ p. p.now) (drop (c.loop-piece.piece-index + 1) c.args.pieces.now)) ns)
-    (c.in_ok-put_length.ensures.put ∙ ap (put_by nat_eq c.loop-piece.lengths.items) (c.least_length_with-len.ensures ∙ ap (λ n. length_over c.args.first (fewest_with (reverse c.args.events.now) (map (λ p. p.now) c.args.pieces.now) n)) c.number.ensures))
-    ∙ sym (ap (λ ws. lengths_by (reverse c.args.events.now) (map (λ p. p.now) c.args.pieces.now) c.args.first ws c.loop-piece.lengths.items) (dropped (λ p. p.now) c.args.pieces.now c.loop-piece.piece-index c.piece-item.result c.loop-piece-test.true c.piece-item.is))
+    ap (λ ns. lengths_by c.args.past.now.history (map (λ p. p.now) c.args.pieces.now) c.args.first (map (λ p. p.now) (drop (c.loop-piece.piece-index + 1) c.args.pieces.now)) ns)
+    (c.in_ok-put_length.ensures.put ∙ ap (put_by nat_eq c.loop-piece.lengths.items) (c.least_length_with-len.ensures ∙ ap (λ n. length_over c.args.first (fewest_with c.args.past.now.history (map (λ p. p.now) c.args.pieces.now) n)) c.number.ensures))
+    ∙ sym (ap (λ ws. lengths_by c.args.past.now.history (map (λ p. p.now) c.args.pieces.now) c.args.first ws c.loop-piece.lengths.items) (dropped (λ p. p.now) c.args.pieces.now c.loop-piece.piece-index c.piece-item.result c.loop-piece-test.true c.piece-item.is))
     ∙ c.loop-piece.invariant
 
 pub returns-in_err-push-clause-granted : goal.returns-in_err-push-clause-granted

@@ -5,5 +5,5 @@ use Rattle.uring_volume.proofs.order.count_up_to_safe.Given as goal
 abbrev pub invariant-loop-i : goal.invariant-loop-i
 invariant-loop-i l = record {
   within : l.i ≤ length l.rest;
-  none : has_safe (reverse l.events) (drop l.i (map (λ p. p.now) l.rest)) ≡ false;
+  none : has_safe l.past.history (drop l.i (map (λ p. p.now) l.rest)) ≡ false;
 }

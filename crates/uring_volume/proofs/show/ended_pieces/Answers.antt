@@ -1,58 +1,21 @@
-use Rattle.std.proofs.Common.{◌∙◌, ◌++◌, map, reverse, take, sym, ap}
-use Rattle.uring_volume.proofs.Common.{WriteEnded, WriteIssued, ended, issued, named, false≢true, take_all}
-use Rattle.uring_volume.proofs.Steps.{at_event, ended_same, issued_same}
-use Rattle.uring_volume.proofs.Taking.{push_map}
+use Rattle.std.proofs.Common.{get_or, length, map, take, sym, ap, ◌∙◌, ◌++◌, arith}
+use Rattle.uring_volume.proofs.Common.{issued, named, false≢true, take_all}
+use Rattle.uring_volume.proofs.Keeping.{ended_is, ends_more, ends_of}
 use Rattle.uring_volume.proofs.show.ended_pieces.Goals as goal
-use Rattle.uring_volume.proofs.show.ended_pieces.Goals.{in-WriteIssued+in_ok-push-in-WriteIssued, in-WriteEnded+in_ok-push_named-in-WriteEnded, in_default}
 
-pub loop-event-preserved : goal.loop-event-preserved
-loop-event-preserved g c =
-    let known = c.loop-event.invariant in
-    elim c.match-event.branch [
-      | in-WriteIssued+in_ok-push-in-WriteIssued w ↦ record {
-        pieces =
-            ap (λ v. map (λ p. p.now) v.items) w.pieces-is
-            ∙ push_map (λ p. p.now) _ _ _ _ w.in_ok-push-in-WriteIssued.ensures.items known.pieces
-            ∙ sym (at_event issued _ _ _ (WriteIssued w.in-WriteIssued.piece) c.loop-event-test.true c.event-item.is w.in-WriteIssued.is);
-        order =
-            ap (λ v. map (λ p. p.now) v.items) w.order-is
-            ∙ known.order
-            ∙ sym (at_event ended _ _ _ (WriteIssued w.in-WriteIssued.piece) c.loop-event-test.true c.event-item.is w.in-WriteIssued.is);
-      }
-      | in-WriteEnded+in_ok-push_named-in-WriteEnded w ↦ record {
-        pieces =
-            ap (λ v. map (λ p. p.now) v.items) w.pieces-is
-            ∙ known.pieces
-            ∙ sym (at_event issued _ _ _ (WriteEnded w.in-WriteEnded.n) c.loop-event-test.true c.event-item.is w.in-WriteEnded.is);
-        order =
-            ap (λ v. map (λ p. p.now) v.items) w.order-is
-            ∙ w.in_ok-push_named-in-WriteEnded.ensures.named
-            ∙ ap (λ ps. map (λ p. p.now) c.loop-event.order.items ++ named w.in-WriteEnded.n (map (λ p. p.now) ps)) w.deref.ensures.value
-            ∙ ap (λ ws. ws ++ named w.in-WriteEnded.n (map (λ p. p.now) c.loop-event.pieces.items)) known.order
-            ∙ ap (λ ws. ended (reverse (take c.loop-event.event-index c.args.events.now)) ++ named w.in-WriteEnded.n ws) known.pieces
-            ∙ sym (at_event ended _ _ _ (WriteEnded w.in-WriteEnded.n) c.loop-event-test.true c.event-item.is w.in-WriteEnded.is);
-      }
-      | in_default w ↦ record {
-        pieces =
-            ap (λ v. map (λ p. p.now) v.items) w.pieces-is
-            ∙ known.pieces
-            ∙ sym (issued_same _ _ _ c.loop-event-test.true c.event-item.is w.in_default.not-WriteIssued);
-        order =
-            ap (λ v. map (λ p. p.now) v.items) w.order-is
-            ∙ known.order
-            ∙ sym (ended_same _ _ _ c.loop-event-test.true c.event-item.is w.in_default.not-WriteEnded);
-      }
-    ]
+pub loop-n-preserved : goal.loop-n-preserved
+loop-n-preserved g c =
+    c.in_ok-push_named.ensures.named
+    ∙ ap (λ ws. ws ++ named (get_or c.ends-n-items.result.now c.loop-n.n-index 0) (map (λ p. p.now) c.deref.result.now)) c.loop-n.invariant
+    ∙ ap (λ ps. ends_of (issued c.args.past.now.history) (take c.loop-n.n-index c.args.past.now.ends) ++ named (get_or c.ends-n-items.result.now c.loop-n.n-index 0) (map (λ p. p.now) ps)) c.deref.ensures.value
+    ∙ ap (λ ws. ends_of (issued c.args.past.now.history) (take c.loop-n.n-index c.args.past.now.ends) ++ named (get_or c.ends-n-items.result.now c.loop-n.n-index 0) ws) c.in_ok-pieces.ensures.pieces
+    ∙ sym (ends_more (issued c.args.past.now.history) c.args.past.now.ends c.loop-n.n-index (get_or c.ends-n-items.result.now c.loop-n.n-index 0) (omega (arith, c.loop-n-test.true, ap length c.ends-n-items.ensures)) (ap (λ ns. get_or ns c.loop-n.n-index 0) c.ends-n-items.ensures))
 
-pub returns-in_err-push-in-WriteIssued-clause-granted :
-    goal.returns-in_err-push-in-WriteIssued-clause-granted
-returns-in_err-push-in-WriteIssued-clause-granted g c =
-    λ all. absurd (false≢true (c.in_err-push-in-WriteIssued.ensures.granted all))
-
-pub returns-in_err-push_named-in-WriteEnded-clause-granted :
-    goal.returns-in_err-push_named-in-WriteEnded-clause-granted
-returns-in_err-push_named-in-WriteEnded-clause-granted g c =
-    λ all. absurd (false≢true (c.in_err-push_named-in-WriteEnded.ensures.granted all))
+pub returns-in_err-push_named-clause-granted : goal.returns-in_err-push_named-clause-granted
+returns-in_err-push_named-clause-granted g c = λ all. absurd (false≢true (c.in_err-push_named.ensures.granted all))
 
 pub returns-clause-order : goal.returns-clause-order
-returns-clause-order g c = rw (take_all c.loop-event.event-index c.args.events.now c.loop-event-test.false) at c.loop-event.invariant.order
+returns-clause-order g c =
+    c.loop-n.invariant
+    ∙ ap (ends_of (issued c.args.past.now.history)) (take_all c.loop-n.n-index c.args.past.now.ends (omega (arith, c.loop-n-test.false, ap length c.ends-n-items.ensures)) ∙ c.is_past.ensures.ends_are)
+    ∙ sym (ended_is c.args.past.now.history c.is_past.ensures.lawful)

@@ -1,9 +1,8 @@
-use Rattle.std.proofs.Common.{◌≡◌, map, take, reverse}
-use Rattle.uring_volume.proofs.Common.{ended, issued}
+use Rattle.std.proofs.Common.{◌≡◌, map, take}
+use Rattle.uring_volume.proofs.Common.{issued}
+use Rattle.uring_volume.proofs.Keeping.{ends_of}
 use Rattle.uring_volume.proofs.show.ended_pieces.Given as goal
 
-abbrev pub invariant-loop-event : goal.invariant-loop-event
-invariant-loop-event g l = record {
-  pieces : map (λ p. p.now) l.pieces.items ≡ issued (reverse (take l.event-index l.events));
-  order : map (λ p. p.now) l.order.items ≡ ended (reverse (take l.event-index l.events));
-}
+abbrev pub invariant-loop-n : goal.invariant-loop-n
+invariant-loop-n g l =
+    map (λ p. p.now) l.order.items ≡ ends_of (issued l.past.history) (take l.n-index l.past.ends)

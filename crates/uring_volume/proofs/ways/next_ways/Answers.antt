@@ -8,7 +8,7 @@ returns-in_err-put_steps-clause-granted g c = λ all. absurd (false≢true (c.in
 
 pub loop-way-preserved : goal.loop-way-preserved
 loop-way-preserved g c =
-    let h = reverse c.args.events.now in
+    let h = c.args.past.now.history in
     let old = map (λ s. way (map (λ p. p.now) s.rest.items) s.now.items) c.loop-way.next.items in
     ap (next_ways h c.args.from (map (λ s. way (map (λ p. p.now) s.rest.items) s.now.items) (drop (c.loop-way.way-index + 1) c.args.ways.now)))
     (c.in_ok-put_steps.ensures.steps

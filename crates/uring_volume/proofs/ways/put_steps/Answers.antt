@@ -7,10 +7,10 @@ use Rattle.uring_volume.proofs.ways.put_steps.Goals.{then-not-has_one_before+in_
 
 pub loop-piece-preserved : goal.loop-piece-preserved
 loop-piece-preserved g c =
-    let waits = ap (waits_for_one (reverse c.args.events.now) (map (λ p. p.now) c.args.rest.now)) (sym c.number.ensures) ∙ sym c.has_one_before.ensures in
-    ap (λ ss. steps_of (reverse c.args.events.now) c.args.from (way (map (λ p. p.now) c.args.rest.now) c.args.now.now) (map (λ p. p.now) (drop (c.loop-piece.piece-index + 1) c.args.rest.now)) ss)
+    let waits = ap (waits_for_one c.args.past.now.history (map (λ p. p.now) c.args.rest.now)) (sym c.number.ensures) ∙ sym c.has_one_before.ensures in
+    ap (λ ss. steps_of c.args.past.now.history c.args.from (way (map (λ p. p.now) c.args.rest.now) c.args.now.now) (map (λ p. p.now) (drop (c.loop-piece.piece-index + 1) c.args.rest.now)) ss)
     (elim c.if-not-has_one_before.branch as (λ _. map (λ s. way (map (λ p. p.now) s.rest.items) s.now.items) c.if-not-has_one_before.next.items
-    ≡ cond (waits_for_one (reverse c.args.events.now) (map (λ p. p.now) c.args.rest.now) c.piece-item.result.now.number) (map (λ s. way (map (λ p. p.now) s.rest.items) s.now.items) c.loop-piece.next.items)
+    ≡ cond (waits_for_one c.args.past.now.history (map (λ p. p.now) c.args.rest.now) c.piece-item.result.now.number) (map (λ s. way (map (λ p. p.now) s.rest.items) s.now.items) c.loop-piece.next.items)
     (put_by same_way (map (λ s. way (map (λ p. p.now) s.rest.items) s.now.items) c.loop-piece.next.items) (stepped c.args.from (way (map (λ p. p.now) c.args.rest.now) c.args.now.now) c.piece-item.result.now))) [
       | then-not-has_one_before+in_ok-later+in_ok-left+in_ok-put_way w ↦
           ap (λ v. map (λ s. way (map (λ p. p.now) s.rest.items) s.now.items) v.items) w.next-is
@@ -23,7 +23,7 @@ loop-piece-preserved g c =
           ∙ sym (cond-false _ _ _ (waits ∙ w.if-not-has_one_before.true))
       | else-not-has_one_before w ↦ ap (λ v. map (λ s. way (map (λ p. p.now) s.rest.items) s.now.items) v.items) w.next-is ∙ sym (cond-true _ _ _ (waits ∙ w.if-not-has_one_before.false))
     ])
-    ∙ sym (ap (λ ws. steps_of (reverse c.args.events.now) c.args.from (way (map (λ p. p.now) c.args.rest.now) c.args.now.now) ws (map (λ s. way (map (λ p. p.now) s.rest.items) s.now.items) c.loop-piece.next.items))
+    ∙ sym (ap (λ ws. steps_of c.args.past.now.history c.args.from (way (map (λ p. p.now) c.args.rest.now) c.args.now.now) ws (map (λ s. way (map (λ p. p.now) s.rest.items) s.now.items) c.loop-piece.next.items))
     (dropped (λ p. p.now) c.args.rest.now c.loop-piece.piece-index c.piece-item.result c.loop-piece-test.true c.piece-item.is))
     ∙ c.loop-piece.invariant
 

@@ -1,16 +1,12 @@
-use Rattle.std.proofs.Common.{◌-◌, ◌^◌, map, reverse, subst, refl, arith}
-use Rattle.uring_volume.specs.Volume.{IsSound}
-use Rattle.uring_volume.proofs.Crashing.{counted, listed, listed_seen}
+use Rattle.std.proofs.Common.{map}
+use Rattle.uring_volume.proofs.Results.{on_value}
+use Rattle.uring_volume.proofs.Keeping.{images_folded, more_folded}
 use Rattle.uring_volume.proofs.volume.Volume.images_in.Goals as goal
 
-pub returns-then-count-from-clause-too_many : goal.returns-then-count-from-clause-too_many
-returns-then-count-from-clause-too_many g c = λ _.
-    let sound : IsSound c.args.self.now = subst IsSound c.self.view_is c.self.invariant.held.sound in
-    let k = counted (record { unit = c.self.inside.unit; first = c.self.inside.first.items; history = reverse c.self.inside.events.items; next = c.self.inside.next }) c.args.self.now c.deref.result.now c.deref-2.result.now c.self.inside.events.items c.in-Ok.count (2 ^ 64 - 1) sound c.self.view_is c.deref.ensures.value c.deref-2.ensures.value refl c.in-Ok.ensures.count in
-    (k.0, k.1, omega (arith, k.2, c.if-count-from.true, c.from.ensures))
+pub returns-in-Ok-clause-images : goal.returns-in-Ok-clause-images
+returns-in-Ok-clause-images g c =
+    on_value c.images_kept.result _ _ (λ images is. images_folded c.args.self.now c.in-Ok.folded (map (λ b. b.items) images.items) c.is_sound.ensures c.in-Ok.ensures.folded is) c.images_kept.ensures.images
 
-pub returns-in-Ok-list_images-clause-images : goal.returns-in-Ok-list_images-clause-images
-returns-in-Ok-list_images-clause-images g c =
-    let sound : IsSound c.args.self.now = subst IsSound c.self.view_is c.self.invariant.held.sound in
-    listed c.args.self.now (map (λ b. b.items) c.in-Ok-list_images.images.items) sound
-    (listed_seen (record { unit = c.self.inside.unit; first = c.self.inside.first.items; history = reverse c.self.inside.events.items; next = c.self.inside.next }) c.args.self.now c.deref-3.result.now c.deref-4.result.now c.self.inside.events.items (map (λ b. b.items) c.in-Ok-list_images.images.items) c.self.view_is c.deref-3.ensures.value c.deref-4.ensures.value refl c.in-Ok-list_images.ensures.images)
+pub returns-in-Ok-clause-too_many : goal.returns-in-Ok-clause-too_many
+returns-in-Ok-clause-too_many g c = λ more.
+    more_folded c.args.self.now c.in-Ok.folded c.args.most c.is_sound.ensures c.in-Ok.ensures.folded (c.images_kept.ensures.too_many more)

@@ -1,0 +1,11 @@
+use Rattle.std.proofs.Common.{◌+◌, arith}
+use Rattle.uring_volume.specs.Past.{given_up_by}
+use Rattle.uring_volume.proofs.Keeping.{all_changed, one_changed}
+use Rattle.uring_volume.proofs.kept.give_all_up.Goals as goal
+
+pub loop-i-preserved : goal.loop-i-preserved
+loop-i-preserved c =
+    one_changed (given_up_by c.args.sync) c.args.kept.now c.loop-i.kept c.loop-i.i (c.loop-i.i + 1) c.index-kept-i.result c.give_up.new.self (omega arith) (omega arith) c.loop-i.invariant c.give_up.ensures
+
+pub returns : goal.returns
+returns c = all_changed (given_up_by c.args.sync) c.args.kept.now c.loop-i.kept c.loop-i.i (omega arith) c.loop-i.invariant
