@@ -98,6 +98,8 @@ static void give_fault(int number, siginfo_t *info, void *context)
     tell_fault(context);
     end_log();
     kernel(SYS_rt_sigaction, SIGSEGV, &ends, 0, sizeof(uint64_t));
+    if (info->si_code <= 0)     /* (it was sent, and doesn't come again) */
+        kernel(SYS_tgkill, kernel(SYS_getpid), kernel(SYS_gettid), number);
 }
 
 void on_fault(int number, siginfo_t *info, void *context)

@@ -73,6 +73,7 @@ void tell_fault(const ucontext_t *at)
 
 void tell_end(void)
 {
+    compare_end();
     if (world->from_outside > 0)
         say_line("%lu times something came from outside that was waited for: this run isn't replayed", world->from_outside);
     if (world->interrupted > 0)

@@ -1,4 +1,5 @@
-/* The log of a run: a line for each call, with its thread, its words and its result, into the file that WULGACH_TURNS names. Two runs of one seed have one log. */
+/* The log of a run: a line for each call, with its thread, its words and its result, into the file that WULGACH_TURNS names. Two runs of one seed have one log: it is
+ * compared with the one that WULGACH_RECORDED_TURNS names, and the first line that differs is told. */
 #define _GNU_SOURCE
 #include "turns.h"
 
@@ -7,6 +8,8 @@
 #include <stdio.h>
 #include <stdlib.h>
 #include <string.h>
+#include <sys/mman.h>
+#include <sys/stat.h>
 #include <unistd.h>
 
 enum { ROOM = 1 << 16, MOST_LINE = 256 };
@@ -15,12 +18,72 @@ static int file = -1;
 static char room[ROOM];
 static size_t length;
 
+/* The recorded log: what is left of it. */
+static const char *recorded, *recorded_end;
+
+static bool is_logging_turns(void)
+{
+    return file >= 0 || recorded;
+}
+
+/* At a place of its own, so that what the program maps stands where it does without. */
+static void read_recorded(const char *path)
+{
+    static const uintptr_t place = 0x310000000000;
+    struct stat about = {0};
+    long from = kernel(SYS_open, path, O_RDONLY | O_CLOEXEC), at = -1;
+    if (from >= 0 && kernel(SYS_fstat, from, &about) == 0 && about.st_size > 0)
+        at = kernel(SYS_mmap, place, about.st_size, PROT_READ, MAP_PRIVATE | MAP_FIXED_NOREPLACE, from, 0);
+    if (from >= 0)
+        kernel(SYS_close, from);
+    if (at != (long)place) {
+        say_line("%s: the recorded log of turns can't be read", path);
+        return;
+    }
+    recorded = (const char *)place;
+    recorded_end = recorded + about.st_size;
+}
+
+static const char *end_of_line(const char *line, const char *end)
+{
+    const char *found = memchr(line, '\n', (size_t)(end - line));
+    return found ? found : end;
+}
+
+/* (what comes after is another run) */
+static void tell_difference(const char *line, int size)
+{
+    const char *end = end_of_line(recorded, recorded_end);
+    if (recorded == recorded_end)
+        say_line("choice %lu differs from the recorded run, which ends here: %.*s", world->choices, size - 1, line);
+    else
+        say_line("choice %lu differs from the recorded run: %.*s; recorded: %.*s", world->choices, size - 1, line, (int)(end - recorded), recorded);
+    recorded = NULL;
+}
+
+static void compare_line(const char *line, int size)
+{
+    if (recorded_end - recorded < size || memcmp(recorded, line, (size_t)size) != 0)
+        tell_difference(line, size);
+    else
+        recorded += size;
+}
+
+void compare_end(void)
+{
+    if (recorded && recorded < recorded_end)
+        say_line("the run ends where the recorded one goes on: %.*s", (int)(end_of_line(recorded, recorded_end) - recorded), recorded);
+    recorded = NULL;
+}
+
 void begin_log(void)
 {
-    const char *path = getenv("WULGACH_TURNS");
+    const char *path = getenv("WULGACH_TURNS"), *other = getenv("WULGACH_RECORDED_TURNS");
     struct timespec now;
     kernel(SYS_clock_gettime, CLOCK_REALTIME, &now);
     world->began = now.tv_sec;
+    if (other && *other)
+        read_recorded(other);
     if (!path || !*path)
         return;
     enum { FIRST_HIGH = 900 };
@@ -78,6 +141,10 @@ static bool is_of_owner(const struct trap *trap, int word)
 
 static void put_line(const char *line, int size)
 {
+    if (recorded)
+        compare_line(line, size);
+    if (file < 0)
+        return;
     if (length + (size_t)size > ROOM)
         end_log();
     memcpy(room + length, line, (size_t)size);
@@ -100,7 +167,7 @@ static bool has_number(long call)
 void note_call(const struct trap *trap, long result)
 {
     char line[MOST_LINE];
-    if (file < 0)
+    if (!is_logging_turns())
         return;
     int count = words_of(trap->call, trap->words), size = snprintf(line, sizeof line, "%lu: thread %d: %s(", world->points, slot_of(self) + 1, name_of_call(trap->call));
     if (has_number(trap->call)) {
@@ -117,6 +184,6 @@ void note_call(const struct trap *trap, long result)
 void note_event(const char *what, long number)
 {
     char line[MOST_LINE];
-    if (file >= 0)
+    if (is_logging_turns())
         put_line(line, snprintf(line, sizeof line, "%lu: %s %ld\n", world->points, what, number));
 }

@@ -154,6 +154,7 @@ void begin_log(void);
 void note_call(const struct trap *trap, long result);
 void note_event(const char *what, long number);
 void end_log(void);
+void compare_end(void);
 
 /* The trap (dispatch.c). */
 void begin_dispatch(void);

@@ -7,6 +7,7 @@
  *   spinning  none: a thread spins until another has run, without a call
  *   pushed    semaphores that nobody posts: a deadlock at once
  */
+#define _GNU_SOURCE
 #include <pthread.h>
 #include <semaphore.h>
 #include <stdatomic.h>

@@ -63,7 +63,7 @@ static void end(pthread_t thread)
 }
 
 static int ends[2], fd;
-static const char *path = "turns.of.waits";
+static const char *path = "turns.of.awaits";
 
 static void write_one(void)
 {
@@ -180,13 +180,13 @@ static void of_queues(void)
 {
     char room[16];
     struct mq_attr about = {.mq_maxmsg = 1, .mq_msgsize = sizeof room};
-    posix_queue = mq_open("/turns.of.waits", O_RDWR | O_CREAT, 0600, &about);
+    posix_queue = mq_open("/turns.of.awaits", O_RDWR | O_CREAT, 0600, &about);
     if (posix_queue == (mqd_t)-1)
         return;     /* (a container may have none) */
     pthread_t thread = begin(send_to_queue);
     DEMAND(mq_receive(posix_queue, room, sizeof room, NULL) == 5);
     end(thread);
-    mq_unlink("/turns.of.waits");
+    mq_unlink("/turns.of.awaits");
 }
 
 static void open_to_write(void)
