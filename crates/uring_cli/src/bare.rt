@@ -1,4 +1,4 @@
-//! Recorded traces in which completions have no data: a check apart from files says nothing of data.
+//! Recorded traces in which completions have no data: a check of results alone says nothing of data.
 
 use std::alloc::{AllocError, Global};
 use uring_text::{spelled_long, spelled_signed};
