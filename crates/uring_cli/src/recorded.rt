@@ -53,12 +53,7 @@ fn explain_recorded(
 }
 
 /// What is told of the steps that are made, with the ends and completions that are recorded.
-fn with_ends(
-    alloc: Global,
-    trace: &[u8],
-    made: &[u8],
-    told: &[u8],
-) -> Result<Vec<u8>, AllocError> {
+fn with_ends(alloc: Global, trace: &[u8], made: &[u8], told: &[u8]) -> Result<Vec<u8>, AllocError> {
     let mut text = Vec::new(alloc);
     let (mut lines, mut answers) = (trace, told);
     for made in made.split_inclusive(|byte| *byte == b'\n') {

@@ -18,7 +18,8 @@ const LONGEST: usize = 301;
 const REMARKS: u64 = 1000;
 
 /// What is told of a first line that says no set-up.
-const NO_SETUP: &[u8] = b"uring: line 1: bad line: no set-up, wanted: # setup --sq N --cq N --files N --start N, each within its limits, and --stop, --linux or both, or nothing\n";
+const NO_SETUP: &[u8] =
+    b"uring: line 1: bad line: no set-up, wanted: # setup --sq N --cq N --files N --start N, each within its limits, and --stop, --linux or both, or nothing\n";
 
 /// Standard input as lines, of which those up to the first step are looked at before any is handed on.
 #[derive(Drop)]
