@@ -1,4 +1,4 @@
-"""The proved volume of the library for C (c/wulgach.h), by which all that a crash leaves is chosen."""
+"""The proved volume of the library for C (c/include/wulgach.h), by which all that a crash leaves is chosen."""
 
 import ctypes
 import os

@@ -1,4 +1,4 @@
-//! Recorded traces in which completions have no data: a check apart from files says nothing of data.
+//! Recorded traces in which completions have no data: a check of results alone says nothing of data.
 
 use std::alloc::{AllocError, Global};
 use uring_text::{spelled_long, spelled_signed};
@@ -30,7 +30,9 @@ fn data_of(line: &[u8]) -> Option<&[u8]> {
     let count = usize::try_from(spelled_signed(res)?).ok()?;
     let digits = data.strip_suffix(b"\n").unwrap_or(data);
     let is_right = !digits.is_empty() && digits.len() % 2 == 0 && digits.len() / 2 <= count;
-    let are_digits = digits.iter().all(|byte| matches!(byte, b'0'..=b'9' | b'a'..=b'f'));
+    let are_digits = digits
+        .iter()
+        .all(|byte| matches!(byte, b'0'..=b'9' | b'a'..=b'f'));
     (is_right && are_digits).then_some(data)
 }
 

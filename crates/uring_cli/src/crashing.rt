@@ -99,7 +99,7 @@ fn run_lines(
 ) -> Result<u8, Fault>
     requires { 0 < asked.now.unit }
 {
-    lines.tell_recorded(rt)?;
+    lines.leave_answers(rt)?;
     if is_each {
         run_each(rt, lines, setup, asked, question, most)
     } else {

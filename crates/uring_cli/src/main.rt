@@ -9,6 +9,7 @@ mod listing;
 mod moments;
 mod paged;
 mod powered;
+mod recorded;
 
 // streams and lines
 mod lines;
@@ -27,13 +28,14 @@ use crate::filled::run_fill;
 use crate::listing::{Wanted, claim_of, run_outcomes};
 use crate::moments::run_early;
 use crate::paged::run_recorded_page;
+use crate::recorded::show_recorded;
 use crate::steps::StepLines;
-use crate::streams::{Outlet, read_in};
+use crate::streams::{Outlet, read_all, read_in};
 use crate::strict::{StrictReader, tell_bad_step};
 use crate::telling::tell_fault;
 use std::alloc::{AllocError, Global};
 use std::env;
-use std::io::ErrorKind;
+use std::io::{ErrorKind, Read};
 use std::process::ExitCode;
 use std::sync::Wait;
 use std::thread::Threads;
@@ -253,7 +255,7 @@ fn ends_of(is_apart: bool, has_results: bool) -> Ends {
 
 /// A check of the trace that standard input has.
 fn run_check(rt: &HostRuntime, setup: &Setup, is_all: bool, ends: Ends) -> Result<u8, Fault> {
-    if !matches!(ends, Ends::Given) {
+    if matches!(ends, Ends::Allowed) {
         return run_bare_check(rt, setup, is_all, ends);
     }
     let (mut input, mut output) = (rt.stdin(), Outlet::new(rt));
@@ -261,7 +263,7 @@ fn run_check(rt: &HostRuntime, setup: &Setup, is_all: bool, ends: Ends) -> Resul
     Ok(status_of(output.unless_closed(checked)?))
 }
 
-/// The same apart from files, where the data of completions aren't looked at.
+/// The same where a result is one that its operation may give: the data of completions aren't looked at.
 fn run_bare_check(rt: &HostRuntime, setup: &Setup, is_all: bool, ends: Ends) -> Result<u8, Fault> {
     let trace = read_in(rt)?;
     let bare = bare_of(rt.alloc(), trace.as_slice());
@@ -276,7 +278,7 @@ fn run_bare_check(rt: &HostRuntime, setup: &Setup, is_all: bool, ends: Ends) -> 
 
 /// What is shown of a trace.
 #[derive(Clone, Copy)]
-enum Shown {
+pub(crate) enum Shown {
     /// Its steps, explained.
     Explained,
 
@@ -309,7 +311,23 @@ fn show_lines(
     setup: &Setup,
     shown: Shown,
 ) -> Result<u8, Fault> {
-    lines.tell_recorded(rt)?;
+    if lines.is_recorded {
+        lines.tell_recorded(rt, "it is explained with the ends that it has")?;
+        let trace = read_all(rt.alloc(), lines)?;
+        let shown = show_recorded(rt, trace.as_slice(), setup, shown);
+        drop(trace);
+        return shown;
+    }
+    show_steps(rt, lines, setup, shown)
+}
+
+/// Shows this of the trace that this reader gives.
+pub(crate) fn show_steps<R: Read>(
+    rt: &HostRuntime,
+    lines: &mut R,
+    setup: &Setup,
+    shown: Shown,
+) -> Result<u8, Fault> {
     let (alloc, mut output, mut errors) = (rt.alloc(), Outlet::new(rt), rt.stderr());
     let ended = match shown {
         Shown::Explained => explain(alloc, lines, &mut output, &mut errors, setup),

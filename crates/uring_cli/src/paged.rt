@@ -40,7 +40,7 @@ fn draw_recorded(rt: &HostRuntime, trace: &[u8], setup: &Setup, form: Form) -> R
     Ok(status_of(verdict))
 }
 
-/// The same of this trace apart from files: the data of its completions are drawn, and aren't judged.
+/// The same of this trace apart from files: with `Ends::Allowed` the data of its completions are drawn, and aren't judged.
 fn draw_apart(
     rt: &HostRuntime,
     trace: &[u8],
@@ -50,10 +50,15 @@ fn draw_apart(
 ) -> Result<u8, Fault> {
     let alloc = rt.alloc();
     let mut report = Vec::new(alloc);
-    let bare = bare_of(alloc, trace)?;
-    let judged = verdict_on(alloc, bare.as_slice(), &mut report, setup, ends);
-    drop(bare);
-    let verdict = judged?;
+    let verdict = match ends {
+        Ends::Allowed => {
+            let bare = bare_of(alloc, trace)?;
+            let judged = verdict_on(alloc, bare.as_slice(), &mut report, setup, ends);
+            drop(bare);
+            judged?
+        }
+        _ => verdict_on(alloc, trace, &mut report, setup, ends)?,
+    };
     let setup = judged_by(alloc, trace, setup)?;
     let mut output = Outlet::new(rt);
     let written = apart_page(alloc, trace, report.as_slice(), &mut output, &setup, form);

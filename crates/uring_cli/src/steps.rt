@@ -1,4 +1,4 @@
-//! The lines of a trace of steps, of which the first may say a set-up: of a recorded trace the steps are handed on, and its answers left out.
+//! The lines of a trace of steps, of which the first may say a set-up. They may be those of a recorded trace.
 
 use crate::BAD_LINE;
 use crate::fault::Fault;
@@ -18,7 +18,8 @@ const LONGEST: usize = 301;
 const REMARKS: u64 = 1000;
 
 /// What is told of a first line that says no set-up.
-const NO_SETUP: &[u8] = b"uring: line 1: bad line: no set-up, wanted: # setup --sq N --cq N --files N --start N, each within its limits, and --stop, --linux or both, or nothing\n";
+const NO_SETUP: &[u8] =
+    b"uring: line 1: bad line: no set-up, wanted: # setup --sq N --cq N --files N --start N, each within its limits, and --stop, --linux or both, or nothing\n";
 
 /// Standard input as lines, of which those up to the first step are looked at before any is handed on.
 #[derive(Drop)]
@@ -28,9 +29,13 @@ pub(crate) struct StepLines {
     // What was looked at and is to be handed on, and how much of it was.
     held: Vec<u8>,
     given: usize,
-    // The number of the line after it, and whether its steps have answers.
+    // Where its last line begins, which is the first step, and that line's number.
+    first: usize,
     number: u64,
-    is_recorded: bool,
+    /// Whether the steps have answers.
+    pub is_recorded: bool,
+    // Whether these are left out.
+    leaves: bool,
 }
 
 impl StepLines {
@@ -45,8 +50,10 @@ impl StepLines {
             reader,
             held: Vec::with_capacity(alloc, LONGEST + 1)?,
             given: 0,
+            first: 0,
             number: 0,
             is_recorded: false,
+            leaves: false,
         };
         lines.look()?;
         Ok(lines)
@@ -69,8 +76,9 @@ impl StepLines {
                 return Ok(());
             };
             if !is_remark(rest) {
+                self.first = start;
                 self.is_recorded = is_record(self.alloc, rest)?;
-                return Ok(self.leave_answer(start)?);
+                return Ok(());
             }
         }
         Ok(())
@@ -84,11 +92,18 @@ impl StepLines {
         Ok(())
     }
 
-    /// Leaves out the answer of the line that begins here, if the trace is a recorded one: a call that was answered `again` made nothing, and is a remark.
-    fn leave_answer(&mut self, start: usize) -> Result<(), AllocError> {
+    /// Leaves out the answers of a recorded trace, and tells so, once.
+    pub fn leave_answers(&mut self, rt: &HostRuntime) -> Result<(), Fault> {
         if !self.is_recorded {
             return Ok(());
         }
+        self.leaves = true;
+        self.leave_answer(self.first)?;
+        self.tell_recorded(rt, "its steps are made, and its answers left out")
+    }
+
+    /// Leaves out the answer of the line that begins here: a call that was answered `again` made nothing, and is a remark.
+    fn leave_answer(&mut self, start: usize) -> Result<(), AllocError> {
         let line = self.held.get(start..).unwrap_or_default();
         let line = line.strip_suffix(b"\n").unwrap_or(line);
         let Some((step, answer)) = split_record(line) else {
@@ -116,15 +131,10 @@ impl StepLines {
         }
     }
 
-    /// Tells of a recorded trace that it is one.
-    pub fn tell_recorded(&self, rt: &HostRuntime) -> Result<(), Fault> {
-        if !self.is_recorded {
-            return Ok(());
-        }
+    /// Tells that a trace is a recorded one, and what is done with it.
+    pub fn tell_recorded(&self, rt: &HostRuntime, what: &str) -> Result<(), Fault> {
         let number = self.number;
-        let note = format!(in self.alloc;
-            "uring: line {number}: a recorded trace: its steps are made, and its answers left out\n"
-        )?;
+        let note = format!(in self.alloc; "uring: line {number}: a recorded trace: {what}\n")?;
         write_error(rt, note.as_bytes(), BAD_LINE)?;
         Ok(())
     }
@@ -133,7 +143,7 @@ impl StepLines {
 impl Read for StepLines {
     fn read(&mut self, buf: &mut [u8]) -> io::Result<usize> {
         if self.given >= self.held.len() {
-            if !self.is_recorded {
+            if !self.leaves {
                 return self.reader.read(buf);
             }
             self.held.clear();
@@ -152,7 +162,7 @@ impl Read for StepLines {
 }
 
 /// Whether a line is passed over.
-fn is_remark(line: &[u8]) -> bool {
+pub(crate) fn is_remark(line: &[u8]) -> bool {
     match line.first() {
         Some(byte) => *byte == b'#',
         None => true,

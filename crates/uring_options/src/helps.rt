@@ -54,7 +54,9 @@ The reasons:
   of a cancel of all: chose M M .., found none
 A line that is empty or begins with # is passed over. Any other that is no step
 is answered bad line, and told on standard error with its number and what is
-wrong with it; the status at the end is then 4.
+wrong with it; the status at the end is then 4. The first line may say the
+set-up, as for check. A recorded trace is explained with the ends that it has,
+which is told once.
 
 Lines that ask how things stand, and their answers:
   show counts    accepted N outstanding N running N posted N reaped N
@@ -106,7 +108,8 @@ end with any result, ended RES, and no data is given: reap = cqe UD RES -. What
 is wanted there is: an end. With --results that is so too, but it ends with what
 its operation may give: 0 of a no-op, 0 or an error of an fsync, 0 to the length
 or an error of a read or a write. An error is -1 to -4095, and not -125. What is
-wanted there is of the form: a result of a write of 5.
+wanted there is of the form: a result of a write of 5. A completion may have data,
+at most as many bytes as its result says, which aren't judged: reap = cqe 1 2 6162.
 
 With --early-effects each operation takes effect at some moment between its issue
 and its finish, and not at the finish alone. Such moments are looked for, so that
@@ -116,8 +119,8 @@ search gives up after N moves. No other option of a check counts then.
 
 With --page a page of HTML is written in place of this, which draws the lines up
 to the first that is wrong or bad, and with --json its data; --page goes before
---json. The status stays the same. With --all, --apart or
---results there is no page.";
+--json. The status stays the same. --all counts for nothing then. With --apart or
+--results no file is drawn.";
 
 /// The lines of a play, for its help.
 pub(crate) const ITEMS: &str = "\
@@ -150,7 +153,8 @@ number, counted from 1, and nothing is played; the status is then 1.";
 pub(crate) const IMAGES: &str = "\
 Steps are those of trace; no answers are written. A line that is empty or begins
 with # is passed over. All input is read; the steps of its first lines are made,
-up to that of --at, and then the power fails. Of the file of --file is written
+up to that of --at, and then the power fails. The first line may say the set-up,
+as for check, and the answers of a recorded trace are left out. Of the file of --file is written
   len N data HEX                               what is left of it
   write NUM at OFF: safe, K of N bytes         of each write that began, in
   write NUM at OFF: not safe, K of N bytes     order: K of its bytes stand there

@@ -20,7 +20,8 @@ pub mod laws;
 
 pub use drawing::{graph, graph_in};
 pub use pages::{
-    Form, apart_page, apart_page_in, page, page_in, recorded_page, recorded_page_in,
+    Form, apart_page, apart_page_in, made_steps, made_steps_in, page, page_in, recorded_page,
+    recorded_page_in,
 };
 pub use timelines::{timeline, timeline_in};
 pub use uring_text::TraceFault;

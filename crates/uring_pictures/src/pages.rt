@@ -11,6 +11,7 @@ mod submission;
 mod viewer;
 mod watching;
 
+pub use apart::{made_steps, made_steps_in};
 pub use checked::{apart_page, apart_page_in, recorded_page, recorded_page_in};
 pub(crate) use submission::push_value;
 pub use watching::{Form, page, page_in};

@@ -1,4 +1,4 @@
-//! The structs and functions of `c/wulgach.h`.
+//! The structs and functions of `c/include/wulgach.h`.
 
 use crate::entry::Entry;
 use std::ffi::c_void;

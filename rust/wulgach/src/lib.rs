@@ -4,7 +4,7 @@
 //!
 //! # What is proved, and what isn't
 //!
-//! The library below, `libwulgach.a`, is proved: after any calls in any order, each answer is the one that the definitions of the protocol give for the calls before it. This crate isn't proved: it is a thin layer over that library's header, `c/wulgach.h`, and is tested. Nor are the Rust compiler, the linker and the allocator of C.
+//! The library below, `libwulgach.a`, is proved: after any calls in any order, each answer is the one that the definitions of the protocol give for the calls before it. This crate isn't proved: it is a thin layer over that library's header, `c/include/wulgach.h`, and is tested. Nor are the Rust compiler, the linker and the allocator of C.
 //!
 //! # Threads
 //!

@@ -1,4 +1,4 @@
-//! Lines of traces, and the steps that whole calls have in them, for C: functions of `c/wulgach.h`.
+//! Lines of traces, and the steps that whole calls have in them, for C: functions of `c/include/wulgach.h`.
 ghost use Rattle.std.specs.Prelude.{◌≡◌, ◌↔◌, pos, neg_ℤ};
 ghost use Rattle.uring_entry.specs.declared.errno.TheConstants.{EINVAL, ENOMEM};
 ghost use Rattle.uring_crossing.specs.CoreWords.AnswerForm.{answer_of};

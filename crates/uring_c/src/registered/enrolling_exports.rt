@@ -1,4 +1,4 @@
-//! Which rings a thread has by number, for C: functions of `c/wulgach_register.h`. The words of rows are the caller's memory.
+//! Which rings a thread has by number, for C: functions of `c/include/wulgach_register.h`. The words of rows are the caller's memory.
 ghost use Rattle.std.specs.Prelude.{◌≡◌, ◌+◌, ◌≤◌, ◌<◌, length, pos, List, [], ◌∷◌};
 ghost use Rattle.uring_register.specs.Rings.Enrolling.{Enrolling, Enrolled, Dismissed, KeepsEnrolled, IsEnrolledAt, HasNoRow, content};
 ghost use Rattle.uring_register.specs.Rings.Enrolling as spec;

@@ -1,4 +1,4 @@
-//! What becomes of a list of files or buffers, and in which steps a file is put where there is room, for C: functions of `c/wulgach_tables.h`.
+//! What becomes of a list of files or buffers, and in which steps a file is put where there is room, for C: functions of `c/include/wulgach_tables.h`.
 ghost use Rattle.std.specs.Prelude.{◌≡◌, is_some, unwrap_or};
 ghost use Rattle.uring_register.specs.Tables.Listing as spec;
 ghost use Rattle.uring_register.specs.Tables.Placing as placing;

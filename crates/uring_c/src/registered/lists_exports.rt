@@ -1,4 +1,4 @@
-//! Where the lists of a call of io_uring_register(2) stand, and of which slot each row is, for C: functions of `c/wulgach_register.h`.
+//! Where the lists of a call of io_uring_register(2) stand, and of which slot each row is, for C: functions of `c/include/wulgach_register.h`.
 ghost use Rattle.std.specs.Prelude.{◌≡◌};
 ghost use Rattle.uring_register.specs.Tables.Lists as spec;
 

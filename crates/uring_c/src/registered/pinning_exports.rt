@@ -1,4 +1,4 @@
-//! Which memory may be registered, what the lines of the kernel's list of memory say, which processors a list names, and which lines are of a lock, for C: functions of `c/wulgach_register.h`, `c/wulgach_setup.h` and `c/wulgach_lookout.h`.
+//! Which memory may be registered, what the lines of the kernel's list of memory say, which processors a list names, and which lines are of a lock, for C: functions of `c/include/wulgach_register.h`, `c/include/wulgach_setup.h` and `c/include/wulgach_lookout.h`.
 ghost use Rattle.std.specs.Prelude.{◌≡◌, is_some, unwrap_or};
 ghost use Rattle.uring_register.specs.Buffers.Pinning as spec;
 ghost use Rattle.uring_register.specs.KernelLists.Mapped as maps;

@@ -1,4 +1,4 @@
-//! Groups of buffers that the application provides, for C: functions of `c/wulgach_buffers.h`. The rows of a list are the caller's memory.
+//! Groups of buffers that the application provides, for C: functions of `c/include/wulgach_buffers.h`. The rows of a list are the caller's memory.
 ghost use Rattle.std.specs.Prelude.{◌≡◌, ◌+◌, ◌-◌, ◌^◌, ◌≤◌, min, length, nat_le, ℕ, true, false, List, [], ◌∷◌, MatchOption};
 ghost use Rattle.uring_register.specs.declared.buffers.group.Buffer.{Buffer};
 ghost use Rattle.uring_register.specs.Buffers.Provided.{Change, Provided, Removed, Took, Registered, Unregistered, KeepsGroup, IsTold, left};

@@ -1,4 +1,4 @@
-//! Which calls of io_uring_register(2) are made, and by whom, for C: functions of `c/wulgach_register.h`.
+//! Which calls of io_uring_register(2) are made, and by whom, for C: functions of `c/include/wulgach_register.h`.
 ghost use Rattle.std.specs.Prelude.{◌≡◌, List, [], ◌∷◌};
 ghost use Rattle.uring_register.specs.Rings.Issuing.{Doing, SetUp, Enabled, KeepsIssuer};
 ghost use Rattle.uring_register.specs.Rings.Issuing as issuing;

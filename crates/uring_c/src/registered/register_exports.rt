@@ -1,4 +1,4 @@
-//! What is registered with a ring, for C: functions of `c/wulgach_tables.h`. The words of slots are the caller's memory.
+//! What is registered with a ring, for C: functions of `c/include/wulgach_tables.h`. The words of slots are the caller's memory.
 ghost use Rattle.std.specs.Prelude.{◌≡◌, ◌≢◌, ◌+◌, ◌≤◌, ◌<◌, pos, length, ℕ, Option, None, Some, List, [], ◌∷◌, reverse};
 ghost use Rattle.uring_register.specs.declared.rings.restrictions.Restriction.{Restriction};
 ghost use Rattle.uring_register.specs.Rings.Restricting.{KeepsRestrictions, list_fault, allows_entry, allows_call};

@@ -1,4 +1,4 @@
-//! Which fields of the structures that calls read are reserved, and what is judged of these, for C: functions of `c/wulgach_register.h`.
+//! Which fields of the structures that calls read are reserved, and what is judged of these, for C: functions of `c/include/wulgach_register.h`.
 ghost use Rattle.std.specs.Prelude.{◌≡◌};
 ghost use Rattle.uring_register.specs.Calls.Structures as spec;
 

@@ -1,4 +1,4 @@
-//! When registered files and buffers are gone, and what an operation has of a buffer, for C: functions of `c/wulgach_buffers.h`.
+//! When registered files and buffers are gone, and what an operation has of a buffer, for C: functions of `c/include/wulgach_buffers.h`.
 ghost use Rattle.std.specs.Prelude.{◌≡◌, ◌+◌, ◌<◌, ◌-◌, ◌^◌, Bool, true, false, MatchOption, List, [], ◌∷◌};
 ghost use Rattle.uring_register.specs.Tables.Uses.{Use, Put, Lost, Taken, Given, Dropped, KeepsUses, slots, requests, ending_of};
 ghost use Rattle.uring_register.specs.Buffers.Bytes as spec;

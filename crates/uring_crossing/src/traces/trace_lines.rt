@@ -150,5 +150,9 @@ fn push_data<M: TextMemory>(memory: &M, text: &mut String, entry: &Sqe) -> Resul
         return Err(error);
     }
     let payload = entry.payload();
-    push_hex(memory, text, payload.get(..entry.len() as usize).unwrap_or_default())
+    push_hex(
+        memory,
+        text,
+        payload.get(..entry.len() as usize).unwrap_or_default(),
+    )
 }

@@ -79,6 +79,6 @@ AsksAfterItsFiles = (e : Submission) (how : ℕ) (is_sought : Bool) (s : Standin
     → is_due (at_start e how is_sought) first ≡ true → is_due (after_files s n fault) second ≡ true
     → nat_lt (place first) (place second) ≡ true
 
--- whether a core lets a request start, by the number of the reason why it stands as it does, as `c/wulgach.h` has them: it may start (6), or it is doomed (4), so that its issue ends it. One that was never accepted (1), has ended (2), runs (3) or waits for another (5) it doesn't
+-- whether a core lets a request start, by the number of the reason why it stands as it does, as `c/include/wulgach.h` has them: it may start (6), or it is doomed (4), so that its issue ends it. One that was never accepted (1), has ended (2), runs (3) or waits for another (5) it doesn't
 abbrev pub lets_start : ℕ → Bool
 lets_start why = why == 6 || why == 4

@@ -10,7 +10,36 @@ use crate::pages::submission::{Submission, push_value};
 use std::alloc::{AllocError, Global};
 use uring_entry::{Sqe, succeeded};
 use uring_machine::{Setup, Step};
-use uring_text::{KeptLine, TextMemory};
+use uring_text::{KeptLine, TextMemory, is_name, push_bytes};
+
+/// The steps with which a machine goes along in the place of this recorded trace, a line for each of its own: a no-op in the place of what succeeded, an fsync of no file in the place of what failed, a remark in the place of a call that was answered `again`, and each other step as it is. An entry that was taken twice, and both succeeded and failed, ends them before its second end.
+///
+/// `AllocError`: memory was refused.
+pub fn made_steps(alloc: Global, setup: &Setup, trace: &[u8]) -> Result<Vec<u8>, AllocError> {
+    made_steps_in(&alloc, alloc, setup, trace)
+}
+
+/// As `made_steps`, by this memory. If it grants whatever is asked for, there is no error.
+pub fn made_steps_in<M: TextMemory>(
+    memory: &M,
+    alloc: Global,
+    setup: &Setup,
+    trace: &[u8],
+) -> Result<Vec<u8>, AllocError>
+    ensures granted { ((n : ℕ) → M.grants memory.now n) → IsOk result }
+{
+    let ends = Ends::of(memory, alloc, setup, trace)?;
+    let mut made = Vec::new(alloc);
+    let pushed = ends.push_all(memory, &mut made, trace);
+    drop(ends);
+    match pushed {
+        Ok(()) => Ok(made),
+        Err(refused) => {
+            drop(made);
+            Err(refused)
+        }
+    }
+}
 
 /// A descriptor that no file has.
 const NO_FILE: i32 = 64;
@@ -156,6 +185,51 @@ impl Ends {
             }
         }
         Ok(())
+    }
+
+    /// Appends what a machine is told in the place of each line.
+    fn push_all<M: TextMemory>(
+        &self,
+        memory: &M,
+        made: &mut Vec<u8>,
+        trace: &[u8],
+    ) -> Result<(), AllocError>
+        ensures { ((n : ℕ) → M.grants memory.now n) → IsOk result }
+    {
+        let mut rest = trace;
+        for place in 0..trace.len().min(self.lines) {
+            if rest.is_empty() {
+                break;
+            }
+            let (line, after) = split_at_mark(rest, b"\n");
+            self.push_line(memory, made, line, place)?;
+            rest = after;
+        }
+        Ok(())
+    }
+
+    /// Appends what a machine is told in the place of this line.
+    fn push_line<M: TextMemory>(
+        &self,
+        memory: &M,
+        made: &mut Vec<u8>,
+        line: &[u8],
+        place: usize,
+    ) -> Result<(), AllocError>
+        ensures { ((n : ℕ) → M.grants memory.now n) → IsOk result }
+    {
+        let (step, answer) = split_at_mark(line, RESULT);
+        let mut text = String::new(self.alloc);
+        let is_made = self.push_made(memory, &mut text, place)?;
+        let told = if is_made {
+            text.as_bytes()
+        } else if is_name(answer, "again") {
+            b"#"
+        } else {
+            step
+        };
+        push_bytes(memory, made, told)?;
+        push_bytes(memory, made, b"\n")
     }
 
     /// Appends what a machine is told in the place of this line, if it fills in what was carried out. Returns whether it does.

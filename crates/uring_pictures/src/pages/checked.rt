@@ -45,7 +45,9 @@ pub fn recorded_page_in<M: TextMemory, W: Write>(
     let Ok(recorder) = Recorder::new(memory, alloc, setup) else {
         return Err(TraceFault::Memory);
     };
-    draw(memory, alloc, recorder, setup, trace, report, None, writer, form)
+    draw(
+        memory, alloc, recorder, setup, trace, report, None, writer, form,
+    )
 }
 
 /// As `recorded_page`, of a trace whose ends no file gave: `uring_check::check` has judged it with `Ends::Any` or `Ends::Allowed`.
@@ -99,7 +101,17 @@ fn draw_apart<M: TextMemory, W: Write>(
         return Err(TraceFault::Memory);
     };
     recorder.leave_files();
-    draw(memory, alloc, recorder, setup, trace, report, Some(ends), writer, form)
+    draw(
+        memory,
+        alloc,
+        recorder,
+        setup,
+        trace,
+        report,
+        Some(ends),
+        writer,
+        form,
+    )
 }
 
 /// Records the lines, and writes what they show.

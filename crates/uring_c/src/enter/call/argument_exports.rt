@@ -1,4 +1,4 @@
-//! The last arguments of a call, and what the thread that takes entries takes, for C: functions of `c/wulgach_enter.h` and `c/wulgach_taking.h`.
+//! The last arguments of a call, and what the thread that takes entries takes, for C: functions of `c/include/wulgach_enter.h` and `c/include/wulgach_taking.h`.
 ghost use Rattle.std.specs.Prelude.{◌≡◌, ℕ, List, [], ◌∷◌};
 ghost use Rattle.uring_enter.specs.Call.Arguments as spec;
 ghost use Rattle.uring_enter.specs.TakingUp.Rounds.{KeepsRounds, returned};

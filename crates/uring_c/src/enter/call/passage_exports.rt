@@ -1,4 +1,4 @@
-//! In which order a call is refused, and with which fault one that is to sleep fails, for C: functions of `c/wulgach_enter.h`.
+//! In which order a call is refused, and with which fault one that is to sleep fails, for C: functions of `c/include/wulgach_enter.h`.
 ghost use Rattle.std.specs.Prelude.{◌≡◌, false};
 ghost use Rattle.uring_enter.specs.Call.Arguments as arguments;
 ghost use Rattle.uring_enter.specs.Call.Passages as spec;

@@ -1,4 +1,4 @@
-//! How a call finds its ring, what it begins with, and what goes on in one choice, for C: functions of `c/wulgach_enter.h` and `c/wulgach_taking.h`.
+//! How a call finds its ring, what it begins with, and what goes on in one choice, for C: functions of `c/include/wulgach_enter.h` and `c/include/wulgach_taking.h`.
 ghost use Rattle.std.specs.Prelude.{◌≡◌};
 ghost use Rattle.uring_enter.specs.Call.Reaching as spec;
 ghost use Rattle.uring_c.specs.Enter.TakingUp.DecisionForm.{is_one_choice_of};

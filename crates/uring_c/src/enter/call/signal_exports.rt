@@ -1,4 +1,4 @@
-//! From where on a thread's signals are blocked in a call, for C: functions of `c/wulgach_enter.h`.
+//! From where on a thread's signals are blocked in a call, for C: functions of `c/include/wulgach_enter.h`.
 ghost use Rattle.std.specs.Prelude.{◌≡◌};
 ghost use Rattle.uring_enter.specs.Call.Signals as spec;
 ghost use Rattle.uring_c.specs.Enter.Call.SignalForm.{doing_of};

@@ -1,4 +1,4 @@
-//! What is taken to be so where it can't be asked, and what of it is asked once or only if it matters, for C: functions of `c/wulgach_setup.h`, `c/wulgach_taking.h` and `c/wulgach_times.h`.
+//! What is taken to be so where it can't be asked, and what of it is asked once or only if it matters, for C: functions of `c/include/wulgach_setup.h`, `c/include/wulgach_taking.h` and `c/include/wulgach_times.h`.
 ghost use Rattle.std.specs.Prelude.{◌≡◌, List};
 ghost use Rattle.uring_operations.specs.declared.entries.timeout.Timeout.{Timeout};
 ghost use Rattle.uring_operations.specs.Entries.Timeouts.{Event, running};

@@ -1,4 +1,4 @@
-//! What a cancel finds, for C: the functions of `c/wulgach_cancel.h`.
+//! What a cancel finds, for C: the functions of `c/include/wulgach_cancel.h`.
 ghost use Rattle.std.specs.Prelude.{◌≡◌, ℕ, List, [], ◌∷◌};
 ghost use Rattle.uring_enter.specs.declared.cancels.cancel.Outstanding.{Outstanding};
 ghost use Rattle.uring_enter.specs.declared.cancels.cancel.Sought.{Sought};

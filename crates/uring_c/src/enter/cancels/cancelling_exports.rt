@@ -1,4 +1,4 @@
-//! What is done with a request that a cancel has found, and where the file is looked for that it names, for C: functions of `c/wulgach_cancel.h`.
+//! What is done with a request that a cancel has found, and where the file is looked for that it names, for C: functions of `c/include/wulgach_cancel.h`.
 ghost use Rattle.std.specs.Prelude.{◌≡◌, List};
 ghost use Rattle.uring_operations.specs.declared.requests.act.Fact.{Fact};
 ghost use Rattle.uring_operations.specs.Requests.Courses.{KeepsCourse};

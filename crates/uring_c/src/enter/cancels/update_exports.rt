@@ -1,4 +1,4 @@
-//! What an update makes of a poll or of a timeout, for C: functions of `c/wulgach_cancel.h`.
+//! What an update makes of a poll or of a timeout, for C: functions of `c/include/wulgach_cancel.h`.
 ghost use Rattle.std.specs.Prelude.{◌≡◌, ℕ, List, [], ◌∷◌};
 ghost use Rattle.uring_enter.specs.declared.cancels.update.Linked.{Linked};
 ghost use Rattle.uring_enter.specs.Cancels.Updates as spec;

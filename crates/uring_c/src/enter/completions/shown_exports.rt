@@ -1,4 +1,4 @@
-//! What the application is shown, for C: the functions of `c/wulgach_shown.h`.
+//! What the application is shown, for C: the functions of `c/include/wulgach_shown.h`.
 ghost use Rattle.std.specs.Prelude.{◌≡◌, ◌+◌, ◌%◌, ◌^◌, ◌≤◌, ℕ, pos, negsuc, drop, MatchOption, List, [], ◌∷◌, nat_le, nat_lt};
 ghost use Rattle.uring_enter.specs.Completions.Showing.{Change, Reaped, KeepsShown, IsTold, posted, written, reaped, store_of, after_store, heard_of, overflows, loads_head, may_bring, ready, flags_of};
 ghost use Rattle.uring_enter.specs.Completions.Prospects.{WereSoMany, readable_of};

@@ -1,4 +1,4 @@
-//! In which steps memory is told what was taken, what was reaped is heard, and what is to be registered is read and made, for C: functions of `c/wulgach_shown.h`, `c/wulgach_tables.h` and `c/wulgach_taking.h`.
+//! In which steps memory is told what was taken, what was reaped is heard, and what is to be registered is read and made, for C: functions of `c/include/wulgach_shown.h`, `c/include/wulgach_tables.h` and `c/include/wulgach_taking.h`.
 ghost use Rattle.std.specs.Prelude.{◌≡◌};
 ghost use Rattle.uring_enter.specs.Completions.Storing as storing;
 ghost use Rattle.uring_register.specs.Calls.Stepping as spec;

@@ -1,4 +1,4 @@
-//! Which requests are to find their files in their turn, for C: functions of `c/wulgach_taking.h`.
+//! Which requests are to find their files in their turn, for C: functions of `c/include/wulgach_taking.h`.
 ghost use Rattle.std.specs.Prelude.{◌≡◌, ℕ, true, false, List, [], ◌∷◌, is_some, unwrap_or};
 ghost use Rattle.uring_enter.specs.GoingOn.Due as spec;
 ghost use Rattle.uring_enter.specs.GoingOn.Due.{Happening, Noted, FoundBefore, KeepsDue, is_due};

@@ -1,4 +1,4 @@
-//! What a call does besides what it is asked for, for C: functions of `c/wulgach_enter.h`.
+//! What a call does besides what it is asked for, for C: functions of `c/include/wulgach_enter.h`.
 ghost use Rattle.std.specs.Prelude.{◌≡◌, if◌then◌else◌};
 ghost use Rattle.uring_enter.specs.GoingOn.Duties as spec;
 ghost use Rattle.uring_register.specs.Calls.Calling.{may_post as posts};

@@ -1,4 +1,4 @@
-//! What the end of a request makes of others, for C: functions of `c/wulgach_lookout.h`.
+//! What the end of a request makes of others, for C: functions of `c/include/wulgach_lookout.h`.
 ghost use Rattle.std.specs.Prelude.{◌≡◌};
 ghost use Rattle.uring_enter.specs.GoingOn.Following as spec;
 ghost use Rattle.uring_c.specs.Enter.GoingOn.FollowingForm.{word_of_end};

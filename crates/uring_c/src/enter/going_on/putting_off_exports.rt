@@ -1,4 +1,4 @@
-//! What waits after a completion that was put off, for C: a function of `c/wulgach_taking.h`.
+//! What waits after a completion that was put off, for C: a function of `c/include/wulgach_taking.h`.
 ghost use Rattle.std.specs.Prelude.{◌≡◌};
 ghost use Rattle.uring_enter.specs.GoingOn.PuttingOff as spec;
 ghost use Rattle.uring_c.specs.Enter.GoingOn.PuttingOffForm.{coming_of, word_of_order};

@@ -1,4 +1,4 @@
-//! What is done once an operation was carried out, for C: a function of `c/wulgach_course.h`.
+//! What is done once an operation was carried out, for C: a function of `c/include/wulgach_course.h`.
 ghost use Rattle.std.specs.Prelude.{◌≡◌};
 ghost use Rattle.uring_enter.specs.GoingOn.Tried as spec;
 ghost use Rattle.uring_c.specs.Enter.GoingOn.TriedForm.{word_of_try};

@@ -1,4 +1,4 @@
-//! Whose ring a descriptor names, when it is looked whether rings are closed, and what a call does before it sleeps, for C: functions of `c/wulgach_setup.h` and `c/wulgach_sleeps.h`.
+//! Whose ring a descriptor names, when it is looked whether rings are closed, and what a call does before it sleeps, for C: functions of `c/include/wulgach_setup.h` and `c/include/wulgach_sleeps.h`.
 ghost use Rattle.std.specs.Prelude.{◌≡◌};
 ghost use Rattle.uring_enter.specs.Rings.Closing as spec;
 ghost use Rattle.uring_c.specs.Enter.Rings.RingForm.{known_by};

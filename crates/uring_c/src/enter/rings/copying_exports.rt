@@ -1,4 +1,4 @@
-//! By which ways memory of the application's is copied, for C: a function of `c/wulgach_waits.h`.
+//! By which ways memory of the application's is copied, for C: a function of `c/include/wulgach_waits.h`.
 ghost use Rattle.std.specs.Prelude.{◌≡◌};
 ghost use Rattle.uring_enter.specs.Rings.Copying as spec;
 ghost use Rattle.uring_c.specs.Enter.Rings.CopyingForm.{way_of, word_of_copy};

@@ -1,4 +1,4 @@
-//! What a message to another ring does, for C: functions of `c/wulgach_form.h`.
+//! What a message to another ring does, for C: functions of `c/include/wulgach_form.h`.
 ghost use Rattle.std.specs.Prelude.{◌≡◌, is_some, unwrap_or};
 ghost use Rattle.uring_enter.specs.Rings.Messages as spec;
 ghost use Rattle.uring_c.specs.Enter.Rings.MessageForm.{word_of_message, fault_of_sending};

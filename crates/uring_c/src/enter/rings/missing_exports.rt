@@ -1,4 +1,4 @@
-//! What it ends with that something isn't found, for C: a function of `c/wulgach_waits.h`.
+//! What it ends with that something isn't found, for C: a function of `c/include/wulgach_waits.h`.
 ghost use Rattle.std.specs.Prelude.{◌≡◌};
 ghost use Rattle.uring_c.specs.Enter.Rings.MissingForm.{missing_fault_of, missing_of};
 ghost use Rattle.uring_enter.specs.Rings.Missing as spec;

@@ -1,4 +1,4 @@
-//! What a set-up does, what is mapped of a ring and when it is freed, for C: functions of `c/wulgach_setup.h` and `c/wulgach_tables.h`.
+//! What a set-up does, what is mapped of a ring and when it is freed, for C: functions of `c/include/wulgach_setup.h` and `c/include/wulgach_tables.h`.
 ghost use Rattle.std.specs.Prelude.{◌≡◌};
 ghost use Rattle.uring_enter.specs.Rings.Mappings as mappings;
 ghost use Rattle.uring_enter.specs.Rings.Ringing as spec;

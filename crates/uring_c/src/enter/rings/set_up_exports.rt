@@ -1,4 +1,4 @@
-//! What is wrong with a set-up: `wulgach_setup_fault` of the header; and which rings are made, `wulgach_set_up` of `c/wulgach_setup.h`.
+//! What is wrong with a set-up: `wulgach_setup_fault` of the header; and which rings are made, `wulgach_set_up` of `c/include/wulgach_setup.h`.
 ghost use Rattle.std.specs.Prelude.{◌≡◌, ◌↔◌, pos};
 ghost use Rattle.uring_entry.specs.Setup.{Setup};
 ghost use Rattle.uring_enter.specs.Rings.SettingUp.{IsMade, IsRefusedWith};

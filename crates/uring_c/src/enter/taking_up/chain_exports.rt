@@ -1,4 +1,4 @@
-//! Whether a chain drains, who can start beside drains, and how long that is known, for C: functions of `c/wulgach_taking.h` and `c/wulgach_waits.h`.
+//! Whether a chain drains, who can start beside drains, and how long that is known, for C: functions of `c/include/wulgach_taking.h` and `c/include/wulgach_waits.h`.
 ghost use Rattle.std.specs.Prelude.{◌≡◌, ◌+◌, ◌<◌, ◌^◌, ℕ, length, List, [], ◌∷◌};
 ghost use Rattle.uring_enter.specs.TakingUp.Drainings.{Drainage, KeepsChain, KeepsDrains, keeps_startable, may_change_slots, oldest_starts, when_found};
 ghost use Rattle.uring_enter.specs.TakingUp.Drainings as spec;

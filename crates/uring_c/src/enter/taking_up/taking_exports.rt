@@ -1,4 +1,4 @@
-//! Which positions a call takes, and what goes on next, for C: functions of `c/wulgach_taking.h`.
+//! Which positions a call takes, and what goes on next, for C: functions of `c/include/wulgach_taking.h`.
 ghost use Rattle.std.specs.Prelude.{◌≡◌, ◌+◌, ◌<◌, ◌^◌, ℕ, length, false, List, [], ◌∷◌};
 ghost use Rattle.uring_enter.specs.TakingUp.Takings.{KeepsTaking, most, next_of, has_ended};
 ghost use Rattle.uring_enter.specs.TakingUp.Takings.{refusal_fault as refused};

@@ -1,4 +1,4 @@
-//! What becomes of a timeout's time, of a message, of a poll that is updated, and which requests a cancel waits for, for C: functions of `c/wulgach_course.h` and `c/wulgach_form.h`.
+//! What becomes of a timeout's time, of a message, of a poll that is updated, and which requests a cancel waits for, for C: functions of `c/include/wulgach_course.h` and `c/include/wulgach_form.h`.
 ghost use Rattle.std.specs.Prelude.{◌≡◌, ◌<◌, ◌-◌, ◌^◌, true, false, List, [], ◌∷◌};
 ghost use Rattle.uring_operations.specs.declared.requests.act.Fact.{Fact};
 ghost use Rattle.uring_operations.specs.declared.chains.timing.Timing.{Timing};

@@ -1,4 +1,4 @@
-//! In which order writes to pipes are heard, and where what has overflowed is asked for, for C: functions of `c/wulgach_lookout.h` and `c/wulgach_shown.h`.
+//! In which order writes to pipes are heard, and where what has overflowed is asked for, for C: functions of `c/include/wulgach_lookout.h` and `c/include/wulgach_shown.h`.
 ghost use Rattle.std.specs.Prelude.{◌≡◌};
 ghost use Rattle.uring_enter.specs.Waiting.Hearing as spec;
 ghost use Rattle.uring_enter.specs.Waiting.Rivals as rivals;

@@ -1,4 +1,4 @@
-//! Whether a sleep was left by a jump of a signal's handler, for C: functions of `c/wulgach_sleeps.h`.
+//! Whether a sleep was left by a jump of a signal's handler, for C: functions of `c/include/wulgach_sleeps.h`.
 ghost use Rattle.std.specs.Prelude.{◌≡◌};
 ghost use Rattle.uring_enter.specs.Waiting.Jumps as spec;
 ghost use Rattle.uring_c.specs.Enter.Call.UnknownForm.{known_of};

@@ -1,4 +1,4 @@
-//! What is left undone with a ring by a process that didn't make it, for C: a function of `c/wulgach_sleeps.h`.
+//! What is left undone with a ring by a process that didn't make it, for C: a function of `c/include/wulgach_sleeps.h`.
 ghost use Rattle.std.specs.Prelude.{◌≡◌};
 ghost use Rattle.uring_enter.specs.Waiting.Leaving as spec;
 ghost use Rattle.uring_c.specs.Enter.Waiting.LeavingForm.{word_of_left};

@@ -1,4 +1,4 @@
-//! What a ring looks out for, for C: functions of `c/wulgach_lookout.h`.
+//! What a ring looks out for, for C: functions of `c/include/wulgach_lookout.h`.
 ghost use Rattle.std.specs.Prelude.{◌≡◌, ◌+◌, ◌<◌, ◌^◌, List, [], ◌∷◌};
 ghost use Rattle.uring_enter.specs.Waiting.Lookouts.{Happening, Found, Started, Left, Touched, Updated, Moved, Heard, Opened, Ended, Changed, Woke, KeepsLookout, has_changed, moments, rounds, releases, passed};
 

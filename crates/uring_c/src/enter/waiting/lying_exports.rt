@@ -1,4 +1,4 @@
-//! What a look at descriptors says, what an epoll instance tells of requests that are dormant, and what is told of writes, for C: functions of `c/wulgach_lookout.h`.
+//! What a look at descriptors says, what an epoll instance tells of requests that are dormant, and what is told of writes, for C: functions of `c/include/wulgach_lookout.h`.
 ghost use Rattle.std.specs.Prelude.{◌≡◌, true, List, ◌∷◌};
 ghost use Rattle.uring_operations.specs.Requests.Glances as glances;
 ghost use Rattle.uring_enter.specs.Waiting.Enlisting as enlisting;

@@ -1,4 +1,4 @@
-//! Whom a sleep polls for, that it asks each descriptor once, who keeps a file open, how long a sleep lasts, what time it is after it, and what a cancel looks for before it ends, for C: functions of `c/wulgach_course.h`, `c/wulgach_sleeps.h`, `c/wulgach_times.h` and `c/wulgach_waits.h`.
+//! Whom a sleep polls for, that it asks each descriptor once, who keeps a file open, how long a sleep lasts, what time it is after it, and what a cancel looks for before it ends, for C: functions of `c/include/wulgach_course.h`, `c/include/wulgach_sleeps.h`, `c/include/wulgach_times.h` and `c/include/wulgach_waits.h`.
 ghost use Rattle.std.specs.Prelude.{◌≡◌, ◌≤◌, ℕ, length, take, List, ◌∷◌};
 ghost use Rattle.uring_operations.specs.declared.entries.timeout.Timeout.{Timeout};
 ghost use Rattle.uring_operations.specs.Entries.Timeouts.{Event};

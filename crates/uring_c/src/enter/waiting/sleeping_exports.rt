@@ -1,4 +1,4 @@
-//! When a sleep isn't begun, what came of one, and which polls are told of writes, for C: functions of `c/wulgach_lookout.h`, `c/wulgach_sleeps.h` and `c/wulgach_times.h`.
+//! When a sleep isn't begun, what came of one, and which polls are told of writes, for C: functions of `c/include/wulgach_lookout.h`, `c/include/wulgach_sleeps.h` and `c/include/wulgach_times.h`.
 ghost use Rattle.std.specs.Prelude.{◌≡◌, ◌==◌};
 ghost use Rattle.uring_enter.specs.Waiting.PipePolls as polls;
 ghost use Rattle.uring_enter.specs.Waiting.Selecting as selecting;

@@ -1,4 +1,4 @@
-//! What is known of a request that runs, and whether it can be finished, for C: functions of `c/wulgach_lookout.h`.
+//! What is known of a request that runs, and whether it can be finished, for C: functions of `c/include/wulgach_lookout.h`.
 ghost use Rattle.std.specs.Prelude.{◌≡◌, ◌+◌, ◌<◌, ◌^◌, not, ◌&&◌, List, [], ◌∷◌};
 ghost use Rattle.uring_operations.specs.declared.requests.act.Fact.{Fact};
 ghost use Rattle.uring_operations.specs.Requests.Courses.{KeepsCourse, is_cancelled};

@@ -1,4 +1,4 @@
-//! What a ring's descriptor polls for, for C: functions of `c/wulgach_shown.h`.
+//! What a ring's descriptor polls for, for C: functions of `c/include/wulgach_shown.h`.
 ghost use Rattle.std.specs.Prelude.{◌≡◌, false, true, List, [], ◌∷◌};
 ghost use Rattle.uring_enter.specs.Waiting.Watching.{Waiting, Waits, KeepsWatched, StandsAs, change_of};
 ghost use Rattle.uring_enter.specs.Waiting.Watching as spec;

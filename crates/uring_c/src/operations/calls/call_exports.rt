@@ -1,4 +1,4 @@
-//! By what an operation is carried out, for C: functions of `c/wulgach_calls.h` and `c/wulgach_results.h`.
+//! By what an operation is carried out, for C: functions of `c/include/wulgach_calls.h` and `c/include/wulgach_results.h`.
 ghost use Rattle.std.specs.Prelude.{◌≡◌, true, false, MatchOption};
 ghost use Rattle.uring_operations.specs.Calls.CallResults as results;
 ghost use Rattle.uring_operations.specs.Calls.Means as spec;

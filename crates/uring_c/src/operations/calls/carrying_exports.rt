@@ -1,4 +1,4 @@
-//! How an operation is carried out, and what is asked of descriptors meanwhile, for C: functions of `c/wulgach_calls.h` and `c/wulgach_results.h`.
+//! How an operation is carried out, and what is asked of descriptors meanwhile, for C: functions of `c/include/wulgach_calls.h` and `c/include/wulgach_results.h`.
 ghost use Rattle.std.specs.Prelude.{◌≡◌, true, false, MatchOption};
 ghost use Rattle.uring_operations.specs.Files.Asking as asking;
 ghost use Rattle.uring_operations.specs.Files.ToldLocks as locks;

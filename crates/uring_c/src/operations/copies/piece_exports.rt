@@ -1,4 +1,4 @@
-//! What is copied of an entry, and the faults of that, for C: functions of `c/wulgach_form.h`.
+//! What is copied of an entry, and the faults of that, for C: functions of `c/include/wulgach_form.h`.
 ghost use Rattle.std.specs.Prelude.{◌≡◌, pos, true, false, MatchOption, Option, Some};
 ghost use Rattle.uring_operations.specs.Copies.Pieces as spec;
 ghost use Rattle.uring_operations.specs.Entries.Buffers as buffers;

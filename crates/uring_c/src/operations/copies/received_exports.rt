@@ -1,4 +1,4 @@
-//! What is told of a message that was received, and what is next after a part of one, for C: functions of `c/wulgach_results.h`.
+//! What is told of a message that was received, and what is next after a part of one, for C: functions of `c/include/wulgach_results.h`.
 ghost use Rattle.std.specs.Prelude.{◌≡◌, ◌+◌, ◌^◌, ◌<◌, is_some, unwrap_or};
 ghost use Rattle.uring_operations.specs.Calls.Advances as advances;
 ghost use Rattle.uring_operations.specs.Copies.Receipts as receipts;

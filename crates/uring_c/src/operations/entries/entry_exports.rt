@@ -1,4 +1,4 @@
-//! What is read of the submission ring, what the core is given of it, and what some entries come to, for C: functions of `c/wulgach_course.h` and `c/wulgach_form.h`.
+//! What is read of the submission ring, what the core is given of it, and what some entries come to, for C: functions of `c/include/wulgach_course.h` and `c/include/wulgach_form.h`.
 ghost use Rattle.std.specs.Prelude.{◌≡◌, is_some, unwrap_or};
 ghost use Rattle.uring_enter.specs.TakingUp.CoreEntries as spec;
 ghost use Rattle.uring_operations.specs.Calls.Layouts as layouts;

@@ -1,4 +1,4 @@
-//! What an entry is to the core, and which requests go on, for C: the functions of `c/wulgach_form.h`.
+//! What an entry is to the core, and which requests go on, for C: the functions of `c/include/wulgach_form.h`.
 ghost use Rattle.std.specs.Prelude.{◌≡◌, ◌&&◌, ℕ, Bool, List, [], ◌∷◌};
 ghost use Rattle.uring_operations.specs.Copies.Copies as copies;
 ghost use Rattle.uring_operations.specs.Entries.Forms.{copies_pieces, form_copied, form_of};

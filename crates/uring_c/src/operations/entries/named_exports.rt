@@ -1,4 +1,4 @@
-//! What the fields of an entry mean that the layer's own tables are asked for, for C: functions of `c/wulgach_form.h`.
+//! What the fields of an entry mean that the layer's own tables are asked for, for C: functions of `c/include/wulgach_form.h`.
 ghost use Rattle.std.specs.Prelude.{◌≡◌};
 ghost use Rattle.uring_operations.specs.Entries.Named as spec;
 

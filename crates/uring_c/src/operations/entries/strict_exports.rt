@@ -1,4 +1,4 @@
-//! What a strict ring refuses of an entry, for C: functions of `c/wulgach_form.h`.
+//! What a strict ring refuses of an entry, for C: functions of `c/include/wulgach_form.h`.
 ghost use Rattle.std.specs.Prelude.{◌≡◌, List, []};
 ghost use Rattle.uring_operations.specs.Entries.Strictness as spec;
 ghost use Rattle.uring_operations.specs.Entries.Strictness.{Looked, KeepsStrict, looked_by, refusal_by};

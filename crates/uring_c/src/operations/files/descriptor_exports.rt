@@ -1,4 +1,4 @@
-//! What counts as an open descriptor or a count, what an operation ends with that had a fault as it started, for what a splice is polled, and which signal is taken back, for C: functions of `c/wulgach_logged.h`, `c/wulgach_results.h` and `c/wulgach_waits.h`.
+//! What counts as an open descriptor or a count, what an operation ends with that had a fault as it started, for what a splice is polled, and which signal is taken back, for C: functions of `c/include/wulgach_logged.h`, `c/include/wulgach_results.h` and `c/include/wulgach_waits.h`.
 ghost use Rattle.std.specs.Prelude.{◌≡◌};
 ghost use Rattle.uring_operations.specs.Files.Descriptors as found;
 ghost use Rattle.uring_operations.specs.Files.Openness as opened;

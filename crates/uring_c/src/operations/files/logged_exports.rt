@@ -1,4 +1,4 @@
-//! Which system calls are logged as what, and of which bytes and names, for C: the functions of `c/wulgach_logged.h`.
+//! Which system calls are logged as what, and of which bytes and names, for C: the functions of `c/include/wulgach_logged.h`.
 ghost use Rattle.std.specs.Prelude.{◌≡◌, true, false, Some, None, if◌then◌else◌, MatchOption};
 ghost use Rattle.uring_operations.specs.Files.LoggedBytes as logged;
 ghost use Rattle.uring_operations.specs.Files.LoggedCalls as calls;

@@ -1,4 +1,4 @@
-//! What is logged of writes and syncs, for C: functions of `c/wulgach_logged.h`.
+//! What is logged of writes and syncs, for C: functions of `c/include/wulgach_logged.h`.
 ghost use Rattle.std.specs.Prelude.{◌≡◌, true, false, MatchOption};
 ghost use Rattle.uring_operations.specs.Files.Logging as spec;
 ghost use Rattle.uring_c.specs.Operations.Files.LoggingForm.{word_of_begins, word_of_logged, word_of_open};

@@ -1,4 +1,4 @@
-//! How paths are opened, for C: the functions of `c/wulgach_openings.h`.
+//! How paths are opened, for C: the functions of `c/include/wulgach_openings.h`.
 ghost use Rattle.std.specs.Prelude.{◌≡◌};
 ghost use Rattle.uring_operations.specs.Files.PipeOpens as opens;
 ghost use Rattle.uring_c.specs.Operations.Files.OpeningForm.{word_of_opening, word_of_opening_step, opening_end, opening_step_of};

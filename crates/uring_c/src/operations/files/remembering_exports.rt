@@ -1,4 +1,4 @@
-//! What is remembered of a descriptor's number, for C: functions of `c/wulgach_tries.h`.
+//! What is remembered of a descriptor's number, for C: functions of `c/include/wulgach_tries.h`.
 ghost use Rattle.std.specs.Prelude.{◌≡◌};
 ghost use Rattle.uring_operations.specs.Files.Remembering as spec;
 ghost use Rattle.uring_c.specs.Operations.Files.RememberedForm.{remembered_of, word_of_remembered};

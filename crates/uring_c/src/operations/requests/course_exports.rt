@@ -1,4 +1,4 @@
-//! The course of a request for C, what is shown of its end, and its chain: the functions of `c/wulgach_course.h`.
+//! The course of a request for C, what is shown of its end, and its chain: the functions of `c/include/wulgach_course.h`.
 ghost use Rattle.std.specs.Prelude.{◌≡◌, ◌+◌, ◌<◌, ◌-◌, ◌^◌, ℕ, length, List, [], ◌∷◌, Some, true, false, MatchOption, if◌then◌else◌};
 ghost use Rattle.uring_operations.specs.declared.requests.act.Fact.{Fact};
 ghost use Rattle.uring_operations.specs.declared.requests.act.Fact.TheVariants.{Started, Done};

@@ -1,4 +1,4 @@
-//! What a request's file is kept for, and what others hear of its end, for C: functions of `c/wulgach_lookout.h`.
+//! What a request's file is kept for, and what others hear of its end, for C: functions of `c/include/wulgach_lookout.h`.
 ghost use Rattle.std.specs.Prelude.{◌≡◌};
 ghost use Rattle.uring_operations.specs.Files.Keeping as keeping;
 ghost use Rattle.uring_c.specs.Enter.Call.PassageForm.{copied_if};

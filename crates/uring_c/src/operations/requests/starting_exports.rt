@@ -1,4 +1,4 @@
-//! What is done as a request starts, for C: functions of `c/wulgach_lookout.h`.
+//! What is done as a request starts, for C: functions of `c/include/wulgach_lookout.h`.
 ghost use Rattle.std.specs.Prelude.{◌≡◌};
 ghost use Rattle.uring_operations.specs.Requests.Starts as starts;
 ghost use Rattle.uring_c.specs.Operations.Requests.StartForm.{word_of_starting};

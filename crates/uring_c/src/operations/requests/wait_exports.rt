@@ -1,4 +1,4 @@
-//! What carrying out an operation needs, whether it has to wait, and what becomes of a try, for C: functions of `c/wulgach_tries.h` and `c/wulgach_waits.h`.
+//! What carrying out an operation needs, whether it has to wait, and what becomes of a try, for C: functions of `c/include/wulgach_tries.h` and `c/include/wulgach_waits.h`.
 ghost use Rattle.std.specs.Prelude.{◌≡◌, true, false, MatchOption};
 ghost use Rattle.uring_operations.specs.Entries.Needs as needed;
 ghost use Rattle.uring_operations.specs.Files.Descriptors as found;
