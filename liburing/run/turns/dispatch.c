@@ -233,7 +233,7 @@ static void demand_dispatch(void)
 
 void begin_dispatch(void)
 {
-    const uint64_t all_but_call = ~((uint64_t)1 << (SIGSYS - 1));
+    const uint64_t all_but_call = ~((uint64_t)1 << (SIGSYS - 1) | (uint64_t)1 << (SIGSEGV - 1));     /* (cpuid faults there too) */
     take_vdso();
     take_chance();
     catch_signal(SIGSYS, on_call, SA_NODEFER, all_but_call);
