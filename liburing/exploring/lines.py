@@ -29,7 +29,7 @@ def places_of(note):
     found = []
     for item in note.split(", "):
         file, _, offset = item.rpartition("+0x")
-        if file.endswith("/uring-run.so") or not re.fullmatch("[0-9a-f]+", offset):
+        if file.endswith(("/uring-run.so", "/uring-threads.so")) or not re.fullmatch("[0-9a-f]+", offset):
             continue
         function, line = place_of(file, int(offset, 16))
         if function and LAST.fullmatch(function):

@@ -13,11 +13,15 @@ from exploring.seeds import write_summary
 from exploring.side_by_side import MOST_AT_ONCE, Progress, pool_of
 
 
-class Orders:
-    """What was seen so far, and the lists of first choices that are left to run. `is_reduced`: of runs that differ only in the order of what commutes, one is enough; so with each list stand the ways that needn't be tried after it (`reducing.unfold`)."""
+def is_turn(choice):
+    return choice[3].startswith("thread ")
 
-    def __init__(self, is_reduced):
-        self.is_reduced = is_reduced
+
+class Orders:
+    """What was seen so far, and the lists of first choices that are left to run. `is_reduced`: of runs that differ only in the order of what commutes, one is enough; so with each list stand the ways that needn't be tried after it (`reducing.unfold`). `turns`: where threads take turns, at most so many that aren't way 0."""
+
+    def __init__(self, is_reduced, turns=None):
+        self.is_reduced, self.turns = is_reduced and turns is None, turns
         self.left, self.runs, self.failed, self.repeated, self.outputs = [([], [])], 0, 0, 0, {}
         self.strayed = 0
 
@@ -29,6 +33,8 @@ class Orders:
         self.runs += 1
         self.outputs[run.output] = self.outputs.get(run.output, 0) + 1
         made = [way for _, way, _, _ in run.choices]
+        if self.turns is None and any(is_turn(choice) for choice in run.choices):
+            stop("threads take turns: --turns K says how many of these aren't to be way 0")
         if made[: len(ways)] != ways and not run.fails():
             self.stray(ways)
         if self.is_reduced:
@@ -37,10 +43,16 @@ class Orders:
             self.repeated += is_repeated
         else:
             for at in range(len(ways), len(made)):
+                if not self.may_take(run.choices[: at + 1]):
+                    continue
                 self.left.extend((made[:at] + [way], []) for way in range(1, run.choices[at][2]))
         if run.fails():
             self.failed += 1
             print(f"status {run.status} with {list_of_ways(made)}", flush=True)
+
+    def may_take(self, choices):
+        """Whether the last of these choices may be another way than 0."""
+        return self.turns is None or not is_turn(choices[-1]) or sum(is_turn(it) and it[1] > 0 for it in choices[:-1]) < self.turns
 
     def stray(self, ways):
         """A run that didn't make the choices of its list. Whatever would have come after them is missed."""
@@ -59,6 +71,8 @@ class Orders:
             found = json.load(file)
         if found.get("of") != what_is_run(program):
             stop(f"{path} is left by a call of another program, or of another build of it, or with other words, variables or --ends")
+        if found.get("turns") != self.turns:
+            stop(f"{path} is left by a call with other --turns")
         if found["reduced"] != self.is_reduced:
             stop(f"{path} is left by a call {'with' if self.is_reduced else 'without'} --whole")
         self.runs, self.failed, self.repeated, self.strayed = found["runs"], found["failed"], found["repeated"], found["strayed"]
@@ -69,7 +83,7 @@ class Orders:
         """(what was there stays until the whole is written)"""
         with open(f"{path}.new", "w") as file:
             outputs = {output.decode("latin-1"): count for output, count in self.outputs.items()}
-            json.dump({"of": what_is_run(program), "reduced": self.is_reduced, "runs": self.runs, "failed": self.failed, "repeated": self.repeated, "strayed": self.strayed, "outputs": outputs, "left": self.left}, file)
+            json.dump({"of": what_is_run(program), "reduced": self.is_reduced, "turns": self.turns, "runs": self.runs, "failed": self.failed, "repeated": self.repeated, "strayed": self.strayed, "outputs": outputs, "left": self.left}, file)
             file.write("\n")
         os.replace(f"{path}.new", path)
 
@@ -89,7 +103,7 @@ def digest(path):
 
 def every_order(options, program):
     program.first_run("list:")
-    orders, pool, progress = Orders(not options.whole), pool_of(options, program), Progress(options)
+    orders, pool, progress = Orders(not options.whole, options.turns), pool_of(options, program), Progress(options)
     if options.left and os.path.exists(options.left):
         orders.read(options.left, program)
     try:

@@ -12,6 +12,7 @@
 #include "choices/policy.h"
 #include "choices/account.h"
 #include "choices/priorities.h"
+#include "choices/turns.h"
 #include "process/fault.h"
 #include "process/numbers.h"
 #include "process/process.h"
@@ -248,6 +249,7 @@ static bool is_record_own(void)
 /* (what it is known by isn't closed where it isn't its own) */
 static void open_record(void)
 {
+    static char room[4096];     /* (a turn may be recorded amid malloc) */
     struct stat about = {0};
     if (record_of.lines)
         __fpurge(record_of.lines);
@@ -256,16 +258,18 @@ static void open_record(void)
     fstat(fileno(record_of.lines), &about);
     record_of.device = about.st_dev;
     record_of.inode = about.st_ino;
-    setlinebuf(record_of.lines);
+    setvbuf(record_of.lines, room, _IOLBF, sizeof room);
 }
 
 static void record_all(const char *format, va_list arguments)
 {
     if (!chosen_by.is_recording)
         return;
+    tell_own_calls(true);
     if (!record_of.lines || !is_record_own())
         open_record();
     vfprintf(record_of.lines, format, arguments);
+    tell_own_calls(false);
 }
 
 static void __attribute__((format(printf, 1, 2))) record(const char *format, ...)
@@ -297,6 +301,21 @@ void record_choice(uint64_t at, uint32_t count, uint32_t chosen, const char *wha
     note_choice(what);
     record("%" PRIu64 " %" PRIu32 " %" PRIu32 " %s\n", at, chosen, count, what);
     pthread_mutex_unlock(&chosen_by.lock);
+}
+
+uint32_t choose_turn(uint32_t count, uint32_t rolled, uint64_t *at)
+{
+    *at = chosen_by.made++;
+    uint32_t listed = *at < chosen_by.list_count && chosen_by.list[*at] < count ? chosen_by.list[*at] : 0;
+    return chosen_by.policy == LISTED ? listed : rolled;
+}
+
+void record_turn(uint64_t at, uint32_t count, uint32_t way, const char *what)
+{
+    tell_own_calls(true);
+    note_choice(what);
+    record("%" PRIu64 " %" PRIu32 " %" PRIu32 " %s\n", at, way, count, what);
+    tell_own_calls(false);
 }
 
 void lock_choices(void)

@@ -38,6 +38,10 @@ uint32_t choose(uint64_t at, uint32_t count);
 /* A number below `count` that the seed draws as the program begins, apart from its choices; 0 where there is no seed. */
 uint32_t drawn_apart(uint32_t count);
 
+/* A turn of the program's threads (turns.h). */
+uint32_t choose_turn(uint32_t count, uint32_t rolled, uint64_t *at);
+void record_turn(uint64_t at, uint32_t count, uint32_t way, const char *what);
+
 /* A ring was set up: the record of choices is there from now on, if there is to be one. */
 void note_ring(void);
 

@@ -4,6 +4,7 @@
  */
 #define _GNU_SOURCE
 #include "traces/callers.h"
+#include "choices/turns.h"
 #include "rings/ring.h"
 #include "traces/trace.h"
 
@@ -67,6 +68,7 @@ void trace_callers(struct ring *ring)
     void *frames[MOST_FRAMES];
     if (!ring->trace)
         return;
+    tell_own_calls(true);
     pthread_once(&once, find_program);
     int count = backtrace(frames, MOST_FRAMES), first = 0, told = 0;
     while (first < count && frames[first] != caller)
@@ -76,6 +78,7 @@ void trace_callers(struct ring *ring)
         if (dl_iterate_phdr(look_at_object, &place))
             fprintf(ring->trace, "%s%s+0x%" PRIxPTR, told++ ? ", " : "# called from ", place.file, place.offset);
     }
+    tell_own_calls(false);
     if (told > 0)
         end_trace_line(ring);
 }

@@ -3,6 +3,7 @@
  */
 #define _GNU_SOURCE
 #include "traces/trace.h"
+#include "choices/turns.h"
 #include "calls/signals.h"
 #include "operations/operations.h"
 #include "process/fault.h"
@@ -40,7 +41,10 @@ void end_trace_line(struct ring *ring)
 {
     fputc('\n', ring->trace);
     fflush(ring->trace);
-    if (write_line(ring)) {
+    tell_own_calls(true);
+    bool is_written = write_line(ring);
+    tell_own_calls(false);
+    if (is_written) {
         rewind(ring->trace);
         return;
     }
@@ -105,9 +109,11 @@ void close_trace(struct ring *ring)
 {
     if (!ring->trace)
         return;
+    tell_own_calls(true);
     fclose(ring->trace);
     free(ring->line);
     close(ring->trace_file);
+    tell_own_calls(false);
     ring->trace = NULL;
 }
 
@@ -122,8 +128,11 @@ static void print_flags(FILE *out, uint8_t flags)
 
 void trace_step(struct ring *ring, const struct wulgach_step *step, const struct wulgach_answer *answer)
 {
-    if (!ring->has_trace)
+    if (!ring->has_trace) {
+        tell_own_calls(true);
         open_trace(ring);
+        tell_own_calls(false);
+    }
     if (!ring->trace)
         return;
     uint8_t line[WULGACH_MOST_OF_LINE];

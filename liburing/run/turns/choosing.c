@@ -2,8 +2,10 @@
  * following by number. Where nobody can, time moves to the next moment for which one waits. */
 #define _GNU_SOURCE
 #include "turns.h"
+#include "../../layer/choices/turns.h"
 #include "dates.h"
 
+#include <stdio.h>
 #include <stdlib.h>
 #include <string.h>
 
@@ -51,19 +53,33 @@ static int pick_by_priorities(const int *candidates, int count)
     }
 }
 
+/* The way that is rolled, from way 0 on. */
+static int rolled_way(const int *candidates, int count, int first)
+{
+    int at = world->how == BY_SEED ? pick_by_seed(candidates, count) : world->how == BY_PRIORITIES ? pick_by_priorities(candidates, count) : first;
+    return (at - first + count) % count;
+}
+
+/* Among the policy's choices, where a turn is one of them. */
+static int chosen_way(const int *candidates, int count, int first, int rolled)
+{
+    char what[128];
+    uint64_t at;
+    if (!world->chooses)
+        return rolled;
+    int way = (int)wulgach_choose_turn((uint32_t)count, (uint32_t)rolled, &at), next = candidates[(first + way) % count];
+    snprintf(what, sizeof what, "thread %d at %s, then thread %d", slot_of(self) + 1, name_of_call(self->call), next + 1);
+    wulgach_record_turn(at, (uint32_t)count, (uint32_t)way, what);
+    return way;
+}
+
 int pick_of(const int *candidates, int count)
 {
     if (count == 1)
         return candidates[0];
+    int first = first_way(candidates, count), rolled = rolled_way(candidates, count, first);
     world->choices++;
-    switch (world->how) {
-    case BY_SEED:
-        return candidates[pick_by_seed(candidates, count)];
-    case BY_PRIORITIES:
-        return candidates[pick_by_priorities(candidates, count)];
-    default:
-        return candidates[first_way(candidates, count)];
-    }
+    return candidates[(first + chosen_way(candidates, count, first, rolled)) % count];
 }
 
 void change_world(void)
@@ -211,13 +227,22 @@ static void roll_falls(const char *words)
         world->falls[i] = 1 + roll(&world->turns_random) % (most > 0 ? most : SOME_CHOICES);
 }
 
-/* By the policy of the rings: under a seed, or by priorities; else a thread goes on until it waits. */
+/* The layer's record and its traces are written as if nobody had called. */
+static void note_own_calls(bool begin)
+{
+    if (self)
+        self->own_calls += begin ? 1 : -1;
+}
+
+/* By the policy of the rings: under a seed, by priorities, or as a list says; else a thread goes on until it waits. */
 void begin_choices(void)
 {
     static const uint64_t stays[] = {1, 20, 100};
     const char *policy = getenv("WULGACH_POLICY");
     world->lowest = 1ul << 40;
     world->stay = 1;
+    wulgach_tell_own_calls = note_own_calls;
+    world->chooses = wulgach_begin_turns();
     if (policy && strncmp(policy, "seed:", 5) == 0) {
         world->how = BY_SEED;
         world->seed = strtoul(policy + 5, NULL, 10);

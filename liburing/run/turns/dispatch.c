@@ -54,20 +54,26 @@ static void note_place(const struct trap *trap)
     self->stack = (uintptr_t)trap->at->uc_mcontext.gregs[REG_RSP];
 }
 
+/* Of which none is a point, since malloc makes them with a lock of its own. */
+static bool is_of_memory(long call)
+{
+    return call == SYS_brk || call == SYS_mmap || call == SYS_munmap || call == SYS_mremap || call == SYS_mprotect || call == SYS_madvise;
+}
+
 /* A thread that makes many calls of which no other hears may wait for one all the same, or for a timer. */
-static bool is_point(const struct row *row)
+static bool is_point(long call, const struct row *row)
 {
     enum { MOST_QUIET = 1000, LOOK = 1000 };
     if (!row || !row->is_quiet)
         return true;
     world->now += LOOK;
-    return ++self->looks > MOST_QUIET;
+    return !is_of_memory(call) && ++self->looks > MOST_QUIET;
 }
 
 static long serve_row(struct trap *trap)
 {
     const struct row *row = row_of(trap->call);
-    if (is_point(row))
+    if (is_point(trap->call, row))
         make_point(trap->call == SYS_sched_yield || trap->call == YIELD_AT_LOCK);
     if (row && row->serve)
         return row->serve(trap);
@@ -176,7 +182,7 @@ static void on_call(int number, siginfo_t *info, void *context)
         give_signal(number, info, at, info->si_code == BY_FILTER);
     else if (trap.call == SYS_rt_sigreturn)
         return_from_program(registers[REG_RSP]);
-    else if (!self || asks_kernel(&trap))
+    else if (!self || self->own_calls > 0 || asks_kernel(&trap))
         registers[REG_RAX] = pass_on(&trap);
     else if (is_of_ring(&trap))
         serve_ring(&trap);
@@ -227,7 +233,7 @@ static void demand_dispatch(void)
 
 void begin_dispatch(void)
 {
-    const uint64_t all_but_call = ~((uint64_t)1 << (SIGSYS - 1));
+    const uint64_t all_but_call = ~((uint64_t)1 << (SIGSYS - 1) | (uint64_t)1 << (SIGSEGV - 1));     /* (cpuid faults there too) */
     take_vdso();
     take_chance();
     catch_signal(SIGSYS, on_call, SA_NODEFER, all_but_call);

@@ -64,10 +64,19 @@ static void make_point_at(const void *lock)
         syscall(GO_ON_AS, next, lock);
 }
 
+/* Where this library's code is: its own locks are no points. */
+extern const char __ehdr_start[] __attribute__((visibility("hidden"))), etext[] __attribute__((visibility("hidden")));
+
+static bool is_own(const void *place)
+{
+    return (const char *)place >= __ehdr_start && (const char *)place < etext;
+}
+
 static void begin_lock(const char *name, const void *lock, const void *place, bool is_mutex)
 {
-    if (!self)
+    if (!self || is_own(place))
         return;
+    self->call = POINT_AT_LOCK;
     make_point_at(lock);
     locks[slot_of(self)] = (struct lock){name, lock, is_mutex};
     self->place = place;

@@ -1,6 +1,6 @@
 /* The one range of code whose calls go to the kernel untrapped: a call with six words; one that makes a thread, which begins here; what a handler of ours
  * returns by; where a wait's mask is put, its signals' handlers are called, and the thread's mask is put back; and what sets the stack of signals as if from another stack, since the kernel refuses that on the one that is changed. Registers of a thread that
- * begins are loaded one by one, as `gregs` has them.
+ * begins are loaded one by one, as `gregs` has them. Unwinders know what a handler returns by by its bytes (signals.c).
  */
 #define _GNU_SOURCE
 #include "dispatch.h"
@@ -36,8 +36,9 @@ __asm__(".pushsection .text.passing, \"ax\", @progbits\n\t"
         "hlt\n\t"
         FUNCTION(return_from_program)
         "mov %rdi, %rsp\n"
+        "nop\n"
         FUNCTION(return_from_ours)
-        "mov $15, %eax\n\t"
+        "mov $15, %rax\n\t"
         "syscall\n\t"
         "hlt\n\t"
         FUNCTION(set_signal_stack_from)

@@ -52,6 +52,7 @@ struct thread {
     const void *place;   /* of the program, if that is known */
     uintptr_t stack;
     uint64_t looks;      /* at the clock since its last point */
+    int own_calls;       /* it makes calls of this library's own, of which nobody hears */
     bool is_in_ring;     /* whether a call of a ring has begun on the slot's stack for that */
 
     uint64_t cleared;    /* where the kernel would put 0 as it ends */
@@ -70,6 +71,7 @@ enum how { IN_ORDER_OF_SLOTS, BY_SEED, BY_PRIORITIES };
 struct world {
     /* As it was begun. */
     enum how how;
+    bool chooses;               /* whether turns are among the policy's choices */
     uint64_t seed, stay;
     uint64_t patience, grace;   /* in nanoseconds of the processor, and of real time */
     int processors;

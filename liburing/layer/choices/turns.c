@@ -1,0 +1,29 @@
+/* Turns among the choices of policy.c. */
+#include "choices/turns.h"
+#include "choices/policy.h"
+#include "wulgach_enter.h"
+#include "wulgach_taking.h"
+
+#include <stddef.h>
+
+#define SEEN __attribute__((visibility("default"), externally_visible))
+
+SEEN void (*wulgach_tell_own_calls)(bool begin);
+
+SEEN bool wulgach_begin_turns(void)
+{
+    read_policy();
+    note_ring();
+    record_line("%s", "");
+    return kind_of_policy() == WULGACH_BY_CHOICE;
+}
+
+SEEN uint32_t wulgach_choose_turn(uint32_t count, uint32_t rolled, uint64_t *at)
+{
+    return choose_turn(count, rolled, at);
+}
+
+SEEN void wulgach_record_turn(uint64_t at, uint32_t count, uint32_t way, const char *what)
+{
+    record_turn(at, count, way, what);
+}
