@@ -56,11 +56,12 @@ static bool is_soon(const struct ring *ring, uint64_t at)
     return at <= ring->times.time || at - ring->times.time <= LONGEST;
 }
 
-/* What passes if time does, with what is told of it: the wait's time, if that is over before any timeout's. */
+/* What passes if time does, with what is told of it: the wait's time, if that is over before any timeout's. A ring goes on, whatever waits, that has an eventfd on which its
+ * application may sleep. */
 static enum passing next_passing(const struct ring *ring, bool may_return, char *what, size_t size)
 {
     struct wulgach_timeout timeout;
-    bool has_timeout = find_next_timeout(ring, &timeout), has_limit = ring->waits_until.is_set && !may_return;
+    bool has_timeout = find_next_timeout(ring, &timeout), has_limit = ring->waits_until.is_set && !may_return && wulgach_eventfd_may_leave(&ring->telling, ring->has_thread);
     bool is_wait = has_limit && (!has_timeout || ring->waits_until.at < timeout.expiry);
     if ((!has_timeout && !has_limit) || !is_soon(ring, is_wait ? ring->waits_until.at : timeout.expiry))
         return NO_TIME_PASSES;

@@ -11,6 +11,7 @@
 #include "process/fault.h"
 #include "requests/cancels.h"
 #include "rings/ring.h"
+#include "waiting/clock.h"
 #include "wulgach_cancel.h"
 
 #include <stdlib.h>
@@ -29,13 +30,6 @@ bool is_linked_timeout(const struct request *request)
 static bool is_timed(const struct request *request)
 {
     return wulgach_is_timed(request->entry.opcode);
-}
-
-static uint64_t time_of_clock(clockid_t clock)
-{
-    struct timespec now;
-    clock_gettime(clock, &now);
-    return wulgach_time_of(now.tv_sec, now.tv_nsec);
 }
 
 /* How much later than now the time is over that an entry gives. */

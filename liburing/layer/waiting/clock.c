@@ -1,5 +1,6 @@
 /* Reads WULGACH_TIME: `virtual`, the default, where time moves when nothing else can go on; or `real`, for a program that
- * measures time, where a call sleeps until a timeout or a limit is over.
+ * measures time, where a call sleeps until a timeout or a limit is over. Where time is virtual, a program's clocks go with it that are
+ * those of behind/clocks.c.
  */
 #define _GNU_SOURCE
 #include "waiting/clock.h"
@@ -7,7 +8,9 @@
 
 #include <stdlib.h>
 #include <string.h>
+#include <sys/syscall.h>
 #include <time.h>
+#include <unistd.h>
 
 static bool is_real;        /* read when the process's first ring is set up */
 
@@ -29,11 +32,40 @@ bool is_time_real(void)
     return is_real;
 }
 
-uint64_t real_time(void)
+static bool are_moved;              /* the program's clocks go with the time that is moved: */
+static _Atomic uint64_t moved;      /* by so much, on all rings */
+
+uint64_t wulgach_moved_time(void)
+{
+    return moved;
+}
+
+void wulgach_move_clocks(void)
+{
+    are_moved = true;
+}
+
+void note_moved(uint64_t before, uint64_t after)
+{
+    moved += after > before ? after - before : 0;
+}
+
+/* The clock of the kernel, which no program moves. */
+static uint64_t kernel_time(clockid_t clock)
 {
     struct timespec now;
-    clock_gettime(CLOCK_MONOTONIC, &now);
+    syscall(SYS_clock_gettime, clock, &now);
     return wulgach_time_of(now.tv_sec, now.tv_nsec);
+}
+
+uint64_t real_time(void)
+{
+    return kernel_time(CLOCK_MONOTONIC);
+}
+
+uint64_t time_of_clock(clockid_t clock)
+{
+    return kernel_time(clock) + (are_moved ? moved : 0);
 }
 
 void start_clock(struct ring *ring)

@@ -19,7 +19,9 @@ bool has_expired(const struct ring *ring)
 
 static void fire(struct ring *ring, const struct wulgach_timeout *timeout)
 {
+    uint64_t before = ring->times.time;
     wulgach_times_pass(&ring->times, timeout);
+    note_moved(before, ring->times.time);
     if (timeout->is_linked)
         fire_linked_timeout(ring, timeout);
     else
@@ -74,6 +76,7 @@ static struct wulgach_waited wait_as(struct ring *ring, const struct wulgach_wai
         waited.result = sleep_until(ring, &wait->until, masks);
         break;
     case WULGACH_WAIT_MOVE:
+        note_moved(ring->times.time, wait->until.at);
         wulgach_times_move_to(&ring->times, wait->until.at);
         break;
     default:

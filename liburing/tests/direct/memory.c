@@ -11,7 +11,8 @@
 
 /* So many are allowed, or all if it is negative; then one is refused, or as many as `refusals` says. */
 static long allocations_left = -1, refusals;
-static unsigned reallocations;
+enum { LARGE = 16384 };
+static unsigned reallocations;      /* to so much and more */
 
 static bool is_allowed(void)
 {
@@ -40,7 +41,7 @@ void *__wrap_calloc(size_t count, size_t size)
 
 void *__wrap_realloc(void *at, size_t size)
 {
-    reallocations++;
+    reallocations += size >= LARGE;
     return is_allowed() ? __real_realloc(at, size) : NULL;
 }
 
@@ -289,7 +290,7 @@ static void test_refused_readiness(void)
 /* Calls of one no-op each, of which none is reaped: tables grow by doubling, or each call would move all that waits. */
 static void test_growing(void)
 {
-    enum { CALLS = 2048, MOST_GROWTHS = 200 };
+    enum { CALLS = 2048, MOST_GROWTHS = 20 };
     struct ring ring;
     make_ring(&ring, 8, 0, 0);
     unsigned before = reallocations;

@@ -3,7 +3,7 @@
  *
  *   late planted|right timeout|count|wait [SECONDS]
  *
- * right: waits for the send too. What ends: a timeout, one that counts completions besides, or the limit of a wait, each of so many seconds (1).
+ * It is linked with the clocks that go with virtual time, and sees that they agree. right: waits for the send too. What ends: a timeout, one that counts completions besides, or the limit of a wait, each of so many seconds (1).
  */
 #include <errno.h>
 #include <liburing.h>
@@ -12,12 +12,14 @@
 #include <stdlib.h>
 #include <string.h>
 #include <sys/socket.h>
+#include <time.h>
 #include <unistd.h>
 
 enum { NO_OPS = 20, SEND = 1, TIMEOUT = 2, SIZE = 64 };
 
 static struct io_uring ring;
 static bool is_sent, is_over;
+static int64_t begun, lasts;
 
 static void demand(bool is_so, const char *what)
 {
@@ -45,17 +47,26 @@ static void submit_all(int socket, const char *buffer, const char *what, struct 
     demand(io_uring_submit(&ring) > NO_OPS, "submitting");
 }
 
+static int64_t now(void)
+{
+    struct timespec time;
+    clock_gettime(CLOCK_MONOTONIC, &time);
+    return time.tv_sec * 1000000000 + time.tv_nsec;
+}
+
 /* Waits for one completion, for so long at most if a time is given. */
 static void wait_once(struct __kernel_timespec *limit)
 {
     struct io_uring_cqe *completion;
     int result = limit ? io_uring_wait_cqe_timeout(&ring, &completion, limit) : io_uring_wait_cqe(&ring, &completion);
     is_over |= result == -ETIME;
+    demand(result != -ETIME || now() - begun >= lasts, "the clocks don't know that the time is over");
     demand(result == 0 || (result == -ETIME && limit), "waiting");
     if (result < 0)
         return;
     is_sent |= completion->user_data == SEND;
     is_over |= completion->user_data == TIMEOUT;
+    demand(completion->user_data != TIMEOUT || completion->res != -ETIME || now() - begun >= lasts, "the clocks don't know that the time is over");
     io_uring_cqe_seen(&ring, completion);
 }
 
@@ -68,6 +79,8 @@ int main(int argc, char **argv)
     char buffer[SIZE], got[SIZE];
     demand(io_uring_queue_init(64, &ring, 0) == 0 && socketpair(AF_UNIX, SOCK_STREAM, 0, pair) == 0, "a ring and sockets");
     memset(buffer, 'a', sizeof buffer);
+    begun = now();
+    lasts = time.tv_sec * 1000000000;
     submit_all(pair[0], buffer, what, &time);
     while (!is_sent && (is_right || !is_over))
         wait_once(strcmp(what, "wait") == 0 ? &time : NULL);

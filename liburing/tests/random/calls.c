@@ -24,6 +24,11 @@ static bool is_seeded(const struct model *model)
 
 /* ---- time ---- */
 
+bool passes_by_choice(const struct model *model)
+{
+    return !model->is_kernel && model->program->timeout_rate > 0;
+}
+
 /* Whether one time is certainly before another. */
 static bool is_before(const struct model *model, int64_t one, int64_t other)
 {
@@ -36,7 +41,7 @@ void fire(struct model *model, const struct request *timeout)
         return;
     int64_t end = end_of_timeout(timeout);
     /* (a linked one whose time was over then may have fired in the call before, beside one that ended that) */
-    if (timeout->action->code == IORING_OP_TIMEOUT || end > model->call->began)
+    if (!passes_by_choice(model) && (timeout->action->code == IORING_OP_TIMEOUT || end > model->call->began))
         expect_stuck(model, "can go on while time passes");
     for (const struct request *other = model->requests; other < model->requests + model->count; other++) {
         int64_t end_of_other = other == timeout || other->may_have_fired ? -1 : end_of_timeout(other);
@@ -49,7 +54,7 @@ void fire(struct model *model, const struct request *timeout)
     struct call *call = model->call;
     /* A linked timeout ends no wait: what it cancels posts the completion. */
     call->is_fired |= timeout->action->code == IORING_OP_TIMEOUT;
-    if (!model->is_late && call->min_complete == 0 && has_pipe_reads(model, true))
+    if (!passes_by_choice(model) && !model->is_late && call->min_complete == 0 && has_pipe_reads(model, true))
         wrong(model, "timeout %u ends in a peek, though a pipe is waited for", timeout->index);
     if (!model->is_late && call->deadline >= 0 && is_before(model, call->deadline, end))
         wrong(model, "timeout %u ends after the call's limit", timeout->index);
@@ -73,7 +78,7 @@ static void judge_vain(struct model *model)
 {
     struct call *call = model->call;
     bool has_overflowed = call->flags & IORING_SQ_CQ_OVERFLOW;
-    if (!has_overflowed)
+    if (!has_overflowed && !(passes_by_choice(model) && call->limit >= 0))
         expect_stuck(model, "can go on, and the call waits no longer");
     if (call->limit < 0 && (has_timeouts(model) || model->program->is_threaded))
         wrong(model, "a call that can wait doesn't");
@@ -182,10 +187,10 @@ static bool is_vain_peek(const struct call *call)
     return call->is_getting && call->min_complete == 0 && call->accepted == call->to_submit && call->ready == 0;
 }
 
-/* In a peek that finds nothing a linked timeout may have cancelled its request, which ends in a later call. */
+/* In a peek that finds nothing, and by choice in any call, a linked timeout may have cancelled its request, which ends in a later call. */
 static void note_unseen_fires(struct model *model)
 {
-    if (!is_vain_peek(model->call))
+    if (!is_vain_peek(model->call) && !passes_by_choice(model))
         return;
     for (struct request *request = model->requests; request < model->requests + model->count; request++) {
         int64_t end = request->action->code == IORING_OP_LINK_TIMEOUT ? end_of_timeout(request) : -1;

@@ -375,4 +375,6 @@ void generate(struct program *program, uint64_t seed)
     uint32_t count = 5 + below(one_in(4) ? MOST_ACTIONS - 5 : 45);
     while (program->count < count)
         choose_action(program, &progress);
+    if (!program->is_plain && strncmp(program->policy, "seed", 4) == 0 && one_in(4))
+        program->timeout_rate = (uint16_t)(2 + below(15));
 }

@@ -8,7 +8,8 @@
  *   random --until-failed FIRST COUNT    the same on the layer alone, but ends with the first that fails
  *   random --show SEED               prints a program
  *   random --again SEED POLICY FAULTS NUMBERS    runs the actions of these numbers alone, separated by commas, under this
- *                                    policy ("-" for the seed's own), with the seed's faults ("faults") or without ("-")
+ *                                    policy ("-" for the seed's own), with what the seed has of faults ("faults"), of time
+ *                                    that passes by choice ("times"), of both ("faults,times") or of none ("-")
  */
 #define _GNU_SOURCE
 #include "children.h"
@@ -25,7 +26,9 @@ static void print_again(const struct program *program, const char *name)
     struct program whole;
     generate(&whole, program->seed);
     bool is_same_policy = strcmp(whole.policy, program->policy) == 0;
-    printf("again: %s --again %" PRIu64 " %s %s ", name, program->seed, is_same_policy ? "-" : program->policy, program->fault_rate || program->fault_count ? "faults" : "-");
+    bool has_faults = program->fault_rate || program->fault_count;
+    const char *parts = !program->timeout_rate ? has_faults ? "faults" : "-" : has_faults ? "faults,times" : "times";
+    printf("again: %s --again %" PRIu64 " %s %s ", name, program->seed, is_same_policy ? "-" : program->policy, parts);
     const char *comma = "";
     for (unsigned i = 0; i < program->count; i++)
         if (program->actions[i].kind != NOTHING) {
@@ -93,8 +96,10 @@ static int run_again(char **words)
     generate(&program, strtoull(words[0], NULL, 10));
     if (strcmp(words[1], "-") != 0)
         snprintf(program.policy, sizeof program.policy, "%s", words[1]);
-    if (strcmp(words[2], "-") == 0)
+    if (!strstr(words[2], "faults"))
         program.fault_rate = program.fault_count = 0;
+    if (!strstr(words[2], "times"))
+        program.timeout_rate = 0;
     keep_only(&program, words[3]);
     print_program(stdout, &program);
     bool is_so = is_right(&program, SECONDS);

@@ -263,6 +263,9 @@ void judge_call(struct model *model);
 /* A sum of times; one past the largest is the largest. */
 int64_t add_times(int64_t one, int64_t other);
 
+/* Whether time may pass before anything else goes on. Nobody sees when one has begun to run that waits meanwhile, so whose time is over first isn't judged then. */
+bool passes_by_choice(const struct model *model);
+
 /* Moves virtual time on to a timeout's end. */
 void fire(struct model *model, const struct request *timeout);
 

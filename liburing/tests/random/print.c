@@ -146,6 +146,8 @@ void print_program(FILE *out, const struct program *program)
     fprintf(out, "%s%s", program->is_plain ? ", plain" : "", program->is_threaded ? ", a thread for each ring" : "");
     if (program->fault_rate)
         fprintf(out, ", faults one in %u", program->fault_rate);
+    if (program->timeout_rate)
+        fprintf(out, ", time passes one in %u", program->timeout_rate);
     for (int i = 0; i < program->fault_count; i++)
         fprintf(out, ", fault %u:%u=%s", program->faults[i].ring, program->faults[i].number, kinds[program->faults[i].kind]);
     fputc('\n', out);
@@ -177,4 +179,6 @@ void set_environment(const struct program *program)
     setenv("WULGACH_FAULTS", text, 1);
     snprintf(text, sizeof text, "%u", program->fault_rate);
     setenv("WULGACH_FAULT_RATE", program->fault_rate ? text : "", 1);
+    snprintf(text, sizeof text, "%u", program->timeout_rate);
+    setenv("WULGACH_TIMEOUTS", program->timeout_rate ? text : "", 1);
 }

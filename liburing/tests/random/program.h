@@ -112,6 +112,7 @@ struct program {
     bool has_messages;      /* rings send messages to one another */
     bool has_scopes;        /* cancels have flags: so each end is seen */
     uint16_t fault_rate;
+    uint16_t timeout_rate;  /* time passes by choice, before anything else goes on */
     uint8_t fault_count, ring_count;
     struct fault faults[MOST_FAULTS];
     struct ring_options rings[MOST_RINGS];

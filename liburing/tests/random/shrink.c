@@ -47,6 +47,10 @@ static void simplify(struct program *program)
     if (still_fails(&simple))
         *program = simple;
     simple = *program;
+    simple.timeout_rate = 0;
+    if (still_fails(&simple))
+        *program = simple;
+    simple = *program;
     strcpy(simple.policy, "order");
     if (still_fails(&simple))
         *program = simple;

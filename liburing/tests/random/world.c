@@ -147,6 +147,7 @@ void make_world_ring(struct world *world)
     struct model *model = &world->model;
     memset(model, 0, sizeof *model);
     *model = (struct model){.program = world->program, .ring = world->index, .is_kernel = world->is_kernel, .is_linux = !world->is_kernel && !world->program->is_manual, .things = &world->things, .data = world->data, .provided = world->provided[0]};
+    model->slack = passes_by_choice(model) ? INT64_MAX : 0;
     if (result < 0)
         wrong(model, "set-up ends with %d", result);
     model->layer_index = rings_made++;
