@@ -1,5 +1,7 @@
 //! The runs that tell what calls may come to.
 
+ghost use Rattle.std.specs.Prelude.{◌≡◌, false};
+
 use crate::fault::Fault;
 use crate::powered::{judge_failures, list_failures};
 use crate::streams::{Outlet, read_in, write_out};
@@ -45,7 +47,9 @@ pub(crate) fn run_outcomes(
     setup: &Setup,
     wanted: &Wanted,
     lines: &[&str],
-) -> Result<u8, Fault> {
+) -> Result<u8, Fault>
+    requires { setup.now.linux ≡ false }
+{
     let most = most_of(wanted.most);
     match (wanted.claim, wanted.unit, wanted.number) {
         (Some(claim), unit, _) => run_claim(rt, setup, claim, unit, lines, most),
@@ -56,7 +60,9 @@ pub(crate) fn run_outcomes(
 }
 
 /// The list of outcomes.
-fn run_list(rt: &HostRuntime, setup: &Setup, form: Form, most: u64) -> Result<u8, Fault> {
+fn run_list(rt: &HostRuntime, setup: &Setup, form: Form, most: u64) -> Result<u8, Fault>
+    requires { setup.now.linux ≡ false }
+{
     let (mut input, mut output) = (rt.stdin(), Outlet::new(rt));
     let listed = list(rt.alloc(), &mut input, &mut output, setup, form, most);
     let is_all = output.unless_closed(listed)?;
@@ -71,7 +77,9 @@ fn run_claim(
     unit: Option<u32>,
     lines: &[&str],
     most: u64,
-) -> Result<u8, Fault> {
+) -> Result<u8, Fault>
+    requires { setup.now.linux ≡ false }
+{
     let lines = all_parts(rt.alloc(), lines)?;
     let ended = match unit {
         Some(unit) => judge_failures(rt, setup, claim, unit, lines.as_slice(), most),
@@ -88,7 +96,9 @@ fn judge_outcomes(
     claim: Claim,
     lines: &[Vec<String>],
     most: u64,
-) -> Result<u8, Fault> {
+) -> Result<u8, Fault>
+    requires { setup.now.linux ≡ false }
+{
     let input = read_in(rt)?;
     let mut reader = input.as_slice();
     let ended = match judge(rt.alloc(), &mut reader, setup, claim, lines, most)? {
@@ -177,7 +187,9 @@ fn run_explained(
     form: Form,
     most: u64,
     number: u32,
-) -> Result<u8, Fault> {
+) -> Result<u8, Fault>
+    requires { setup.now.linux ≡ false }
+{
     let input = read_in(rt)?;
     let mut reader = input.as_slice();
     let ended = match choose(rt.alloc(), &mut reader, setup, form, most, number)? {

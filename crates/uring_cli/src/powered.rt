@@ -1,5 +1,7 @@
 //! The runs that tell what a power failure may show of calls.
 
+ghost use Rattle.std.specs.Prelude.{◌≡◌, false};
+
 use crate::fault::Fault;
 use crate::listing::tell_so;
 use crate::streams::{Outlet, write_out};
@@ -13,7 +15,9 @@ pub(crate) fn list_failures(
     setup: &Setup,
     unit: u32,
     most: u64,
-) -> Result<u8, Fault> {
+) -> Result<u8, Fault>
+    requires { setup.now.linux ≡ false }
+{
     let (mut input, mut output) = (rt.stdin(), Outlet::new(rt));
     let listed = list_crashes(rt.alloc(), &mut input, &mut output, setup, unit, most);
     match output.unless_closed(listed)? {
@@ -31,7 +35,9 @@ pub(crate) fn judge_failures(
     unit: u32,
     lines: &[Vec<String>],
     most: u64,
-) -> Result<u8, Fault> {
+) -> Result<u8, Fault>
+    requires { setup.now.linux ≡ false }
+{
     let mut input = rt.stdin();
     match judge_crashes(rt.alloc(), &mut input, setup, unit, claim, lines, most)? {
         CrashesJudged::Holds { count } => tell_so(rt, "crashes", count, None),

@@ -1,6 +1,7 @@
 mod Common
 pub mod Places
 pub mod Texts
+pub mod LineParts
 pub mod CallEntries
 pub mod FileTexts
 pub mod SortedOnce

@@ -1,5 +1,7 @@
 //! What a power failure may show of calls, as text: line by line, and claims about the lines.
 
+ghost use Rattle.std.specs.Prelude.{◌≡◌, false};
+
 use crate::calls::entries_in;
 use crate::claims::{Claim, shows_some, so_by};
 use crate::lines::{join, sort_once};
@@ -44,7 +46,7 @@ pub enum CrashesJudged {
     TooMany,
 }
 
-/// Reads calls, as `list` does, and writes what a power failure may show of them at any moment, on empty files of this set-up of which each unit of so many bytes is left by itself: a line each, sorted by bytes, and then how many lines these are. The walk stops after so many paths.
+/// Reads calls, as `list` does, and writes what a power failure may show of them at any moment, on empty files of this set-up of which each unit of so many bytes is left by itself: a line each, sorted by bytes, and then how many lines these are. The walk stops after so many paths. Condition: the set-up goes by the manual pages' rules.
 ///
 /// The faults are those of `list`.
 pub fn list_crashes<R: Read, W: Write>(
@@ -54,7 +56,9 @@ pub fn list_crashes<R: Read, W: Write>(
     setup: &Setup,
     unit: u32,
     most: u64,
-) -> Result<CrashesListed, PlayFault> {
+) -> Result<CrashesListed, PlayFault>
+    requires { setup.now.linux ≡ false }
+{
     let Some((lines, is_all)) = crash_lines(alloc, reader, setup, unit, most)? else {
         return Ok(CrashesListed::TooMany);
     };
@@ -69,7 +73,7 @@ pub fn list_crashes<R: Read, W: Write>(
     })
 }
 
-/// Reads calls, as `list` does, and tells whether a claim of lines, each as its parts, is so of all that a power failure may show of them.
+/// Reads calls, as `list` does, and tells whether a claim of lines, each as its parts, is so of all that a power failure may show of them. Condition: the set-up goes by the manual pages' rules.
 ///
 /// The faults are those of `read_calls`; `Memory` too if the walk is refused memory.
 pub fn judge_crashes<R: Read>(
@@ -80,7 +84,9 @@ pub fn judge_crashes<R: Read>(
     claim: Claim,
     lines: &[Vec<String>],
     most: u64,
-) -> Result<CrashesJudged, PlayFault> {
+) -> Result<CrashesJudged, PlayFault>
+    requires { setup.now.linux ≡ false }
+{
     let Some((shown, is_all)) = crash_lines(alloc, reader, setup, unit, most)? else {
         return Ok(CrashesJudged::TooMany);
     };
@@ -101,7 +107,9 @@ fn crash_lines<R: Read>(
     setup: &Setup,
     unit: u32,
     most: u64,
-) -> Result<Option<(Vec<String>, bool)>, PlayFault> {
+) -> Result<Option<(Vec<String>, bool)>, PlayFault>
+    requires { setup.now.linux ≡ false }
+{
     let items = read_calls(alloc, reader, setup)?;
     let calls = entries_in(alloc, items.as_slice());
     drop(items);

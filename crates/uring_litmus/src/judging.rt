@@ -1,6 +1,6 @@
 //! Claims that are judged, and outcomes that are chosen.
 
-ghost use Rattle.std.specs.Prelude.{◌≡◌, ◌<◌, Some, IfOk, length, slice_get};
+ghost use Rattle.std.specs.Prelude.{◌≡◌, ◌<◌, Some, false, IfOk, length, slice_get};
 ghost use Rattle.uring_litmus.specs.Parts.{texts_of};
 ghost use Rattle.uring_litmus.specs.Lines.{IsSortedOnce};
 ghost use Rattle.uring_litmus.specs.Claims.{lines_in, Judges};
@@ -39,7 +39,7 @@ pub enum Chosen {
     Missing { count: usize, is_all: bool },
 }
 
-/// Reads calls, as `list` does, and tells whether a claim of lines, each as its parts, is so of all that they may come to on empty files of this set-up. The walk stops after so many paths.
+/// Reads calls, as `list` does, and tells whether a claim of lines, each as its parts, is so of all that they may come to on empty files of this set-up. The walk stops after so many paths. Condition: the set-up goes by the manual pages' rules.
 ///
 /// The faults are those of `read_calls`; `Memory` too if the walk is refused memory.
 pub fn judge<R: Read>(
@@ -50,6 +50,7 @@ pub fn judge<R: Read>(
     lines: &[Vec<String>],
     most: u64,
 ) -> Result<Judged, PlayFault>
+    requires { setup.now.linux ≡ false }
     ensures { IfOk result
         (λ judged. Judges setup.now claim (lines_in lines.now) judged (R.remaining reader.old) (R.remaining reader.new)) }
 {
@@ -87,7 +88,7 @@ fn taken(endings: Vec<Ending>, at: usize) -> Ending
     ending
 }
 
-/// Reads calls, as `list` does, and returns an outcome that the line of this number shows, counted from 1, of their list in this form.
+/// Reads calls, as `list` does, and returns an outcome that the line of this number shows, counted from 1, of their list in this form. Condition: the set-up goes by the manual pages' rules.
 ///
 /// The faults are those of `judge`.
 pub fn choose<R: Read>(
@@ -98,6 +99,7 @@ pub fn choose<R: Read>(
     most: u64,
     number: u32,
 ) -> Result<Chosen, PlayFault>
+    requires { setup.now.linux ≡ false }
     ensures { IfOk result
         (λ chosen. Chooses form setup.now number chosen (R.remaining reader.old) (R.remaining reader.new)) }
 {

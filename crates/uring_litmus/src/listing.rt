@@ -1,6 +1,6 @@
 //! The list of all that calls may come to.
 
-ghost use Rattle.std.specs.Prelude.{◌≡◌, ◌++◌, IfOk, OnOk, length, string_bytes};
+ghost use Rattle.std.specs.Prelude.{◌≡◌, ◌++◌, false, IfOk, OnOk, length, string_bytes};
 ghost use Rattle.std.specs.Io.KnownBytes.{Appends};
 ghost use Rattle.uring_litmus.specs.Parts.{texts_of};
 ghost use Rattle.uring_litmus.specs.Listings.{IsListOf, Finds, Lists, lines_text, told_count};
@@ -17,7 +17,7 @@ use uring_outcomes::{Ending, Found, WalkFault, outcomes_within};
 use uring_play_text::{PlayFault, read_calls};
 use uring_text::{Calls, write_all};
 
-/// Reads calls, as `uring play` does, and writes what they may come to on empty files of this set-up, a line an outcome, sorted by bytes, and then how many lines these are. The walk stops after so many paths; whether it went to its end, so that these are all, is returned.
+/// Reads calls, as `uring play` does, and writes what they may come to on empty files of this set-up, a line an outcome, sorted by bytes, and then how many lines these are. The walk stops after so many paths; whether it went to its end, so that these are all, is returned. Condition: the set-up goes by the manual pages' rules.
 ///
 /// - `Line`, `Long`, `Read`: as of `read_calls`. Nothing is written.
 /// - `Write`: a write failed or took no byte, or 2^64 - 1 writes were made. What is written is cut short.
@@ -30,6 +30,7 @@ pub fn list<R: Read, W: Write>(
     form: Form,
     most: u64,
 ) -> Result<bool, PlayFault>
+    requires { setup.now.linux ≡ false }
     ensures { IfOk result
         (λ is_all. Lists form setup.now most is_all (R.remaining reader.old) (R.remaining reader.new) (W.contents writer.old) (W.contents writer.new)) }
 {
@@ -59,6 +60,7 @@ pub(crate) fn endings_in<R: Read>(
     setup: &Setup,
     most: u64,
 ) -> Result<Found, PlayFault>
+    requires { setup.now.linux ≡ false }
     ensures { IfOk result
         (λ found. Finds setup.now found.endings.items found.is_all (R.remaining reader.old) (R.remaining reader.new)) }
 {

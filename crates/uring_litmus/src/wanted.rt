@@ -1,11 +1,19 @@
 //! The lines of which something is claimed.
 
+ghost use Rattle.std.specs.Prelude.{◌≡◌, ◌↔◌, ◌^◌, ℕ, List, IsTrue, IfOk, MatchOption, All, map, codes};
+ghost use Rattle.uring_litmus.specs.Parts.{texts_of};
+ghost use Rattle.uring_litmus.specs.Wanted.{IsCut, IsData, IsHex, IsHexDigit, IsPart, IsCompletion, IsFileLeft, IsFileShown, IsNumber};
+
 use crate::lines::push_copy;
 use std::alloc::{AllocError, Global};
 use uring_text::{spelled_long, spelled_number, spelled_signed, split_tokens};
 
 /// The parts of a line, if each is one that an outcome may have, or what a power failure shows: a completion, a file, or `none`.
-pub fn parts_of_line(alloc: Global, line: &str) -> Result<Option<Vec<String>>, AllocError> {
+pub fn parts_of_line(alloc: Global, line: &str) -> Result<Option<Vec<String>>, AllocError>
+    ensures { IfOk result (λ found. (parts : List (List ℕ)) × IsCut line.now parts
+        × MatchOption found (All IsPart parts → ⊥)
+        (λ held. (texts_of held.items ≡ parts) × All IsPart parts)) }
+{
     let parts = split_parts(alloc, line)?;
     for part in parts.as_slice() {
         if !is_part(alloc, part.as_str())? {
@@ -16,68 +24,139 @@ pub fn parts_of_line(alloc: Global, line: &str) -> Result<Option<Vec<String>>, A
 }
 
 /// A line cut at each comma with a blank after it.
-pub(crate) fn split_parts(alloc: Global, line: &str) -> Result<Vec<String>, AllocError> {
+pub(crate) fn split_parts(alloc: Global, line: &str) -> Result<Vec<String>, AllocError>
+    ensures { IfOk result (λ parts. IsCut line.now (texts_of parts.items)) }
+{
     let mut parts = Vec::new(alloc);
-    for part in line.split(", ") {
+    let mut rest = line;
+    while let Some((part, after)) = rest.split_once(", ") {
         push_copy(alloc, &mut parts, part)?;
+        rest = after;
     }
+    push_copy(alloc, &mut parts, rest)?;
     Ok(parts)
 }
 
-/// What a part may be: words, and values in brackets.
-const NONE: [&str; 1] = ["none"];
-
-const COMPLETION: [&str; 4] = ["cqe", "<u64>", "<i32>", "<data>"];
-
-const LEFT: [&str; 6] = ["file", "<u32>", "len", "<u32>", "data", "<data>"];
-
-const FILE: [&str; 10] = [
-    "file", "<u32>", "len", "<u32>", "writes", "<u64>", "synced", "<u64>", "data", "<data>",
-];
-
-/// Whether an outcome may have this part.
-fn is_part(alloc: Global, part: &str) -> Result<bool, AllocError> {
+/// Whether an outcome may have this part, or a power failure show it.
+fn is_part(alloc: Global, part: &str) -> Result<bool, AllocError>
+    ensures { IfOk result (λ is. IsTrue is ↔ IsPart part.now) }
+{
     let tokens = split_tokens(alloc, part.as_bytes())?;
-    let wanted = match tokens.len() {
-        1 => NONE.as_slice(),
-        4 => COMPLETION.as_slice(),
-        6 => LEFT.as_slice(),
-        10 => FILE.as_slice(),
-        _ => return Ok(false),
+    let is = part == "none"
+        || is_completion(tokens.as_slice())
+        || is_file_left(tokens.as_slice())
+        || is_file_shown(tokens.as_slice());
+    Ok(is)
+}
+
+/// Whether these are the tokens of a completion.
+fn is_completion(tokens: &[&[u8]]) -> bool
+    ensures { IsTrue result ↔ IsCompletion (map (λ token. token.now) tokens.now) }
+{
+    let [cqe, user_data, res, data] = tokens else {
+        return false;
     };
-    Ok(fit(tokens.as_slice(), wanted))
+    is_word(cqe, b"cqe")
+        && spelled_long(user_data).is_some()
+        && spelled_signed(res).is_some()
+        && is_data(data)
 }
 
-/// Whether these tokens are such words and values, each in its place.
-fn fit(tokens: &[&[u8]], wanted: &[&str]) -> bool {
-    for at in 0..tokens.len() {
-        if at >= wanted.len() {
-            return false;
-        }
-        let token = tokens[at];
-        let fits = match wanted[at] {
-            "<u32>" => spelled_number(token).is_some(),
-            "<u64>" => spelled_long(token).is_some(),
-            "<i32>" => spelled_signed(token).is_some(),
-            "<data>" => is_data(token),
-            word => token == word.as_bytes(),
-        };
-        if !fits {
-            return false;
-        }
+/// Whether these are the tokens of a file that an outcome leaves.
+#[tactic(auto, using(crate::proofs::LineParts::left_from, crate::proofs::LineParts::left_to))]
+fn is_file_left(tokens: &[&[u8]]) -> bool
+    ensures { IsTrue result ↔ IsFileLeft (map (λ token. token.now) tokens.now) }
+{
+    let [
+        file,
+        fd,
+        len,
+        length,
+        writes,
+        written,
+        synced,
+        covered,
+        word,
+        data,
+    ] = tokens
+    else {
+        return false;
+    };
+    if !is_numbered(file, b"file", fd) || !is_numbered(len, b"len", length) {
+        return false;
     }
-    true
+    are_counts(writes, written, synced, covered) && is_held(word, data)
 }
 
-/// Whether this is `-`, or two lower case hexadecimal digits for each byte of some.
-fn is_data(token: &[u8]) -> bool {
-    if token == b"-".as_slice() {
-        return true;
+/// Whether these are the tokens of what a power failure leaves of a file.
+#[tactic(auto, using(crate::proofs::LineParts::shown_from, crate::proofs::LineParts::shown_to))]
+fn is_file_shown(tokens: &[&[u8]]) -> bool
+    ensures { IsTrue result ↔ IsFileShown (map (λ token. token.now) tokens.now) }
+{
+    let [file, fd, len, length, word, data] = tokens else {
+        return false;
+    };
+    if !is_numbered(file, b"file", fd) || !is_numbered(len, b"len", length) {
+        return false;
     }
-    for byte in token {
-        if !matches!(byte, b'0'..=b'9' | b'a'..=b'f') {
-            return false;
-        }
-    }
-    !token.is_empty() && token.len() % 2 == 0
+    is_held(word, data)
+}
+
+/// Whether a token is this word, and the other a number of 32 bits.
+fn is_numbered(token: &[u8], word: &[u8], number: &[u8]) -> bool
+    ensures { IsTrue result ↔ ((token.now ≡ word.now) × IsNumber (2 ^ 32) number.now) }
+{
+    is_word(token, word) && spelled_number(number).is_some()
+}
+
+/// Whether a token is this word, and the other a number of 64 bits.
+fn is_counted(token: &[u8], word: &[u8], number: &[u8]) -> bool
+    ensures { IsTrue result ↔ ((token.now ≡ word.now) × IsNumber (2 ^ 64) number.now) }
+{
+    is_word(token, word) && spelled_long(number).is_some()
+}
+
+/// Whether these tokens are `writes` and `synced`, each with a number of 64 bits after it.
+fn are_counts(writes: &[u8], written: &[u8], synced: &[u8], covered: &[u8]) -> bool
+    ensures { IsTrue result ↔ ((writes.now ≡ codes "writes") × IsNumber (2 ^ 64) written.now
+        × (synced.now ≡ codes "synced") × IsNumber (2 ^ 64) covered.now) }
+{
+    is_counted(writes, b"writes", written) && is_counted(synced, b"synced", covered)
+}
+
+/// Whether these tokens are `data` and bytes.
+fn is_held(word: &[u8], bytes: &[u8]) -> bool
+    ensures { IsTrue result ↔ ((word.now ≡ codes "data") × IsData bytes.now) }
+{
+    is_word(word, b"data") && is_data(bytes)
+}
+
+/// Whether a token is this word.
+fn is_word(token: &[u8], word: &[u8]) -> bool
+    ensures { IsTrue result ↔ (token.now ≡ word.now) }
+{
+    token == word
+}
+
+/// Whether a token is `-`, or two lower case hexadecimal digits for each byte of some.
+fn is_data(token: &[u8]) -> bool
+    ensures { IsTrue result ↔ IsData token.now }
+{
+    is_word(token, b"-") || is_hex(token)
+}
+
+/// Whether a token is two lower case hexadecimal digits for each byte of some.
+fn is_hex(token: &[u8]) -> bool
+    ensures { IsTrue result ↔ IsHex token.now }
+{
+    !token.is_empty() && token.len() % 2 == 0 && are_digits(token)
+}
+
+/// Whether all bytes of a token are lower case hexadecimal digits.
+fn are_digits(token: &[u8]) -> bool
+    ensures { IsTrue result ↔ All IsHexDigit token.now }
+{
+    token
+        .iter()
+        .all(|byte| matches!(byte, b'0'..=b'9' | b'a'..=b'f'))
 }

@@ -33,12 +33,13 @@ pub struct Found {
     pub is_all: bool,
 }
 
-/// Everything that these calls may come to on empty files of this set-up, by the manual pages' rules: each ending that moves lead to is in the list, once, and nothing else is. Each call has the entries that it accepts.
+/// Everything that these calls may come to on empty files of this set-up, by the manual pages' rules: each ending that moves lead to is in the list, once, and nothing else is. Each call has the entries that it accepts. Condition: the set-up goes by these rules.
 ///
 /// `Paths`: 2^64 - 1 paths were taken, and some are left.
 /// `Spent`: the calls have more than 2^63 - 1 entries.
 #[tactic(auto, using(crate::proofs::Faulting::spent_but_paths))]
 pub fn outcomes(alloc: Global, setup: &Setup, calls: &[Vec<Sqe>]) -> Result<Vec<Ending>, WalkFault>
+    requires { setup.now.linux ≡ false }
     ensures all { IfOk result
         (λ found. AreAllEndings setup.now (entries_of calls.now) found.items) }
     ensures once { IfOk result (λ found. AreOnce found.items) }
@@ -54,6 +55,7 @@ pub fn outcomes_in<M: MapMemory>(
     setup: &Setup,
     calls: &[Vec<Sqe>],
 ) -> Result<Vec<Ending>, WalkFault>
+    requires { setup.now.linux ≡ false }
     ensures all { IfOk result
         (λ found. AreAllEndings setup.now (entries_of calls.now) found.items) }
     ensures once { IfOk result (λ found. AreOnce found.items) }
@@ -78,6 +80,7 @@ pub fn outcomes_within(
     calls: &[Vec<Sqe>],
     most: u64,
 ) -> Result<Found, WalkFault>
+    requires { setup.now.linux ≡ false }
     ensures right { IfOk result
         (λ found. AreEndings setup.now (entries_of calls.now) found.endings.items) }
     ensures all { IfOk result
@@ -97,6 +100,7 @@ pub fn outcomes_within_in<M: MapMemory>(
     calls: &[Vec<Sqe>],
     most: u64,
 ) -> Result<Found, WalkFault>
+    requires { setup.now.linux ≡ false }
     ensures right { IfOk result
         (λ found. AreEndings setup.now (entries_of calls.now) found.endings.items) }
     ensures all { IfOk result

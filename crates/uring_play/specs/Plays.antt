@@ -1,5 +1,5 @@
 -- Plays: what the threads make of calls, and what is written of it. Our own rule.
-use Rattle.std.specs.Prelude.{◌≡◌, ℕ, ◌<◌, List, [], ◌++◌, length, flat_map, Option, Result, Ok, Err}
+use Rattle.std.specs.Prelude.{◌≡◌, ℕ, ◌<◌, List, [], ◌++◌, length, Option, Result, Ok, Err}
 use Rattle.std.specs.Io.KnownBytes.{Appends, Consumes, IsAtEnd}
 use Rattle.std.specs.List.Sorted.{IsPermutation}
 use Rattle.uring_entry.specs.Layout.{Cqe}
@@ -12,7 +12,7 @@ use Rattle.uring_core.specs.World.{World}
 use Rattle.uring_ports.specs.Items.{all_published_as}
 use Rattle.uring_ports.specs.Ports.{items_of_calls}
 use Rattle.uring_ports.specs.declared.item.Item.{Item}
-use Rattle.uring_threads.specs.Calls.{calls_of}
+use Rattle.uring_threads.specs.Calls.{lengths_of}
 use Rattle.uring_threads.specs.Report.{Report}
 use Rattle.uring_play_text.specs.Inputs.{IsTold}
 use Rattle.uring_play_text.specs.Outputs.{lines_text, counts_text, IsInOrder, Writes}
@@ -29,7 +29,7 @@ pub record IsPlay (g : Setup) (calls : List (List Item)) (trace : List Event) (c
   pub lawful : IsLawful g (history_of trace)
   pub published : published_items (made_by g trace).submission
       ≡ all_published_as (items_of_calls calls)
-  pub cut : (made_by g trace).submission.calls ≡ flat_map (calls_of g) calls
+  pub cut : (made_by g trace).submission.calls ≡ lengths_of g calls
   pub none_outstanding : outstanding_in (made_by g trace).requests ≡ 0
   pub reaped : (made_by g trace).completions.reaped ≡ completions
   pub none_waits : (made_by g trace).completions.posted ≡ completions

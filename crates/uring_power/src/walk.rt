@@ -1,6 +1,6 @@
 //! The walk over all lists of moves, with what a power failure may show after each.
 
-ghost use Rattle.std.specs.Prelude.{◌≡◌, ◌<◌, ◌∷◌, [], true, IfOk, IfErr, OnOk};
+ghost use Rattle.std.specs.Prelude.{◌≡◌, ◌<◌, ◌∷◌, [], true, false, IfOk, IfErr, OnOk};
 ghost use Rattle.uring_outcomes.specs.declared.move_of_calls.Move.{Move};
 ghost use Rattle.uring_outcomes.specs.Runs.{entries_of};
 ghost use Rattle.uring_outcomes.specs.Walks.{paths_of};
@@ -25,7 +25,7 @@ pub struct FoundCrashes {
     pub is_all: bool,
 }
 
-/// What a power failure may show of these calls, at any moment, on files of this set-up that were empty at first, of which each unit of so many bytes is left by itself. The walk stops after so many paths; what it has found by then it may show, and whether these are all is told. Each call has the entries that it accepts.
+/// What a power failure may show of these calls, at any moment, on files of this set-up that were empty at first, of which each unit of so many bytes is left by itself. The walk stops after so many paths; what it has found by then it may show, and whether these are all is told. Each call has the entries that it accepts. Conditions: a unit has at least one byte, and the set-up goes by the manual pages' rules.
 ///
 /// `Memory`: memory was refused.
 /// `Spent`: the calls have more than 2^63 - 1 entries.
@@ -38,7 +38,8 @@ pub fn crashes_within(
     most: u64,
     images: u32,
 ) -> Result<FoundCrashes, CrashFault>
-    requires { 0 < unit }
+    requires unit { 0 < unit }
+    requires manual { setup.now.linux ≡ false }
     ensures right { IfOk result (λ found.
         AreCrashes unit setup.now (entries_of calls.now) found.crashes.items) }
     ensures all { IfOk result (λ found. found.is_all ≡ true

@@ -37,7 +37,7 @@ pub use Rattle.uring_ports.specs.Ports.{LeavesCompletions, LeavesItems, Pulls, P
 pub use Rattle.uring_ports.specs.Seen.{HasLooked}
 pub use Rattle.uring_ports.specs.declared.item.Item.{Item}
 pub use Rattle.uring_rules.specs.Rules.{is_issuable, posts, with_issued_end}
-pub use Rattle.uring_threads.specs.Calls.{AreBegun, calls_left, calls_of, ends_after_item, ends_of}
+pub use Rattle.uring_threads.specs.Calls.{AreBegun, KeepsLengths, calls_left, calls_of, ends_after_item, ends_of, lengths_of}
 unfoldable pub use Rattle.uring_threads.specs.Calls.{after_calls, calls_after, calls_row, refused_row}
 pub use Rattle.uring_threads.specs.Collected.{CanBeTaken, Collects, CollectsSeen, NextStays, NoneComes, TakesAll, TakesSeen, Wait}
 pub use Rattle.uring_threads.specs.Dealt.{DealtByFile, FilesByWorker, IsDealtByFile, WorkersJoin, done_by_worker, job_by, job_in, jobs_at, jobs_in, jobs_to}

@@ -10,6 +10,7 @@ mod Repeating
 pub mod ItemSteps
 pub mod CallSteps
 mod CallsMade
+pub mod CallLengths
 -- A turn of the dispatcher: what it pulls, issues and posts:
 pub mod Tying
 pub mod Issuing

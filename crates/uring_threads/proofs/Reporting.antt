@@ -1,11 +1,12 @@
 -- What is reported once all ends are settled, from what ties them to the trace.
 use Rattle.std.proofs.Common.{◌≡◌, ◌↔◌, ℕ, zero, suc, ◌+◌, ◌<◌, ◌≤◌, ◌==◌, Bool, Some, true, List, [], ◌∷◌, ◌++◌, length, map, take, drop, get_or, cond, refl, sym, subst, ap, ◌∙◌, arith, inl, inr, append_assoc, append-nil, length-drop, add-zero, drop_at, take_at, flat_map}
 use Rattle.uring_ports.specs.AppEnd.{AppEnd}
-use Rattle.uring_threads.proofs.Common.{AreItems, AreSettled, AreTogether, BeginsCalls, ClosesOnlyAllTaken, Completions, Cqe, DeliversReaped, Event, FinishesAll, HasOneClose, HaveLooked, HaveSeenAll, History, IsItem, IsKernel, IsLawful, IsSameKernel, Item, Job, JobResult, Kept, Kernel, LeavesCompletions, LeavesItems, LeavesRunning, OnlyPosts, PublishesItems, Report, Setup, Sizes, TakesAll, WorkLanes, Worker, World, all_published_as, all_untaken, all_waiting, calls_left, calls_of, closes_ring, finish_of, flat_map-append, get_or_from_slice_get, has_job, history, history_of_cons, is_running, items_of_calls, job_of, jobs_of, left_by, length-append, length-map, list_any, map-append, now, or_cases, or_right, reverse-append, slice_get, slice_get_within, take_all, take_more, unreaped, untaken_at, waiting_in, with_end_of, with_taken_in, world}
+use Rattle.uring_threads.proofs.Common.{AreItems, AreSettled, AreTogether, BeginsCalls, ClosesOnlyAllTaken, Completions, Cqe, DeliversReaped, Event, FinishesAll, HasOneClose, HaveLooked, HaveSeenAll, History, IsItem, IsKernel, IsLawful, IsSameKernel, Item, Job, JobResult, Kept, Kernel, LeavesCompletions, LeavesItems, LeavesRunning, OnlyPosts, PublishesItems, Report, Setup, Sizes, TakesAll, WorkLanes, Worker, World, all_published_as, all_untaken, all_waiting, calls_left, closes_ring, finish_of, flat_map-append, get_or_from_slice_get, has_job, history, history_of_cons, is_running, items_of_calls, job_of, jobs_of, left_by, lengths_of, length-append, length-map, list_any, map-append, now, or_cases, or_right, reverse-append, slice_get, slice_get_within, take_all, take_more, unreaped, untaken_at, waiting_in, with_end_of, with_taken_in, world}
 use Rattle.uring_core.specs.declared.answer.Answer.TheVariants as answer
 use Rattle.uring_laws.specs.Laws.{ReapedBeginPosted, in_ring, in_overflow}
 use Rattle.std.proofs.lemmas.List.Folds.{fold-map, fold_stays, list_any-append}
 use Rattle.uring_threads.proofs.CallsMade.{none_left}
+use Rattle.uring_threads.proofs.CallLengths.{lengths_append}
 use Rattle.uring_threads.proofs.Tying.{closes_append, all_first}
 use Rattle.uring_threads.proofs.Posting.{posts_then, posts_only}
 use Rattle.uring_threads.proofs.SameEnds.{together_same}
@@ -132,13 +133,13 @@ tells_ends app kernel same workers kept lanes unsent undelivered r t s is keeps 
     let tied = is.ties.tied in
     let no_close = fold-map (λ (n : ℕ) (e : Event). n + cond (closes_ring e) 1 0) finish_of 0 results ∙ fold_stays (λ (n : ℕ) (r : JobResult). n + 0) 0 (λ r. refl) results in
     let more = calls_left same.kept.setup (now same.kept).submission in
-    let later = flat_map (calls_of same.kept.setup) left.rest in
+    let later = lengths_of same.kept.setup left.rest in
     let whole : all_published_as (items_of_calls app.submitted.calls) ≡ all_published_as (items_of_calls same.pulled.calls) ++ all_published_as (items_of_calls left.rest) =
     rw (← left.calls) (simp (flat_map-append, map-append)) in
     record {
       running = subst (λ ls. LeavesRunning ls workers r) (these ∙ ap (λ (k : Kernel). k.lanes) s.others) running;
       items = rw (posts.submission, left.items, tied.published (all_first (IsItem same.kept.setup.sq) _ _ (rw (size, whole) at good)), whole);
-      calls = (more ++ later, rw (posts.submission, of, ← left.calls, flat_map-append, ← tied.calls) (sym (append_assoc (now same.kept).submission.calls more later)));
+      calls = (more ++ later, rw (posts.submission, of, ← left.calls, lengths_append, ← tied.calls) (sym (append_assoc (now same.kept).submission.calls more later)));
       once = rw (posts.is_closed, tied.closed, ← tied.shut, goes_on, closes_append, no_close, add-zero) is.ties.once;
       closed = λ closed.
           let pulled_closed : same.pulled.closed ≡ true = sym tied.closed ∙ sym posts.is_closed ∙ closed in

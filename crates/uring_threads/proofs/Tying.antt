@@ -3,6 +3,7 @@ use Rattle.std.proofs.Common.{◌≡◌, ℕ, ◌+◌, ◌<◌, ◌≤◌, true,
 use Rattle.uring_threads.proofs.Common.{Adds, All, Answer, ClosesOnce, Event, Grows, HasBegun, Intake, IsItem, IsUnmoved, Item, Kept, None, Published, Pulls, Put, Setup, Stands, Submission, TakesIn, Tally, Tied, World, all_published_as, awaits_memory, close_answer, closes_ring, closing, flat_map-append, if◌then◌else◌, is_close, is_shut, is_some, items_of_calls, items_published, length-map, map-append, now, published_as, sum_by-append, tail_publishes, with_call, with_close, with_items_published}
 use Rattle.uring_ports.specs.declared.pulled.Pulled.{Pulled}
 use Rattle.uring_threads.proofs.CallsMade.{none_left, published_left, calls_add_up, kept_after}
+use Rattle.uring_threads.proofs.CallLengths.{lengths_more}
 use Rattle.uring_core.specs.declared.step.Step.TheVariants as step
 use Rattle.uring_core.specs.declared.answer.Answer.TheVariants as answer
 use Rattle.uring_threads.proofs.ItemSteps.{items_stand}
@@ -26,9 +27,9 @@ all_first P xs ys all = rw (take_at xs ys (length xs) refl) at (All-take P (leng
 
 -- a call was pulled and published, and waits to be begun
 pub tied_published : (g : Setup) (w : World) (put : Put) (items : List Item)
-    → Tied g w put intake.Ready → put.closed ≡ false → length items ≤ g.sq
+    → Tied g w put intake.Ready → put.closed ≡ false → 0 < length items → length items ≤ g.sq
     → Tied g (with_items_published g.sq w (all_published_as items)) (with_call put items) (intake.Waiting (length items))
-tied_published g w put items t not_closed few =
+tied_published g w put items t not_closed some few =
     let l : Submission = w.submission in
     let shown : List Published = all_published_as items in
     let stand = items_stand l [] 0 items t.stands in
@@ -39,7 +40,7 @@ tied_published g w put items t not_closed few =
           let before : List Published = all_published_as (items_of_calls put.calls) in
           let all = rw whole at good in
           rw (whole, items_published l g.sq shown t.stands.fresh (omega (arith, few, length-map items published_as)) (rw (drop_at before shown (length before) refl) at (All-drop (IsItem g.sq) (length before) (before ++ shown) all)), t.published (all_first (IsItem g.sq) before shown all));
-      calls = rw (published_left g l items t.stands.fresh t.stands few, stand.2, before_is, flat_map-append, append-nil);
+      calls = rw (published_left g l items t.stands.fresh t.stands few, stand.2, before_is) (sym (lengths_more g put.calls items some));
       stands = rw (stand.1, zero-add) at (tail_publishes g _ _ stand.0);
       spent = tt;
       closed = t.closed;
@@ -105,7 +106,7 @@ pub tied_taken : (a p b : Kept) (before after : Put) (items : List Item) (i x : 
     × (after ≡ with_call before items)
     → Tied a.setup (now b) after x
 tied_taken a p b before after items i x ready same at h t pulled =
-    let published = tied_published a.setup (now a) before items (rw ready at t) pulled.2 pulled.1 in
+    let published = tied_published a.setup (now a) before items (rw ready at t) pulled.2 pulled.0 pulled.1 in
     rw pulled.3 (rw same at (tied_begun p b (with_call before items) (length items) x (rw (at, same) published) h))
 
 -- the close mark, of a ring that is in no call

@@ -1,5 +1,5 @@
 -- The calls by which the dispatcher takes in what was submitted at once: our own rule. By the manual pages' rules it is one call. By Linux's a call ends after a word that names no slot, and the next takes what is left.
-use Rattle.std.specs.Prelude.{◌≡◌, ℕ, zero, suc, ◌+◌, Bool, true, false, ◌&&◌, nat_le, List, [], ◌∷◌, ◌++◌, map, drop, sum, Some, replicate}
+use Rattle.std.specs.Prelude.{◌≡◌, ℕ, zero, suc, ◌+◌, ◌<◌, Bool, true, false, ◌&&◌, nat_le, List, [], ◌∷◌, ◌++◌, length, map, flat_map, drop, sum, Some, replicate, if◌then◌else◌}
 use Rattle.uring_entry.specs.Setup.{Setup}
 use Rattle.uring_entry.specs.Submission.{Submission, Place, taken}
 use Rattle.uring_core.specs.Stops.{stops_at_word}
@@ -25,6 +25,15 @@ ends_after_item g (item.Bad word) = nat_le g.sq word && stops_at_word g
 -- the lengths of the calls that take these items
 abbrev pub calls_of : Setup → List Item → List ℕ
 calls_of g items = calls_after (map (ends_after_item g) items) 0
+
+-- By the manual pages' rules one call takes in all the items of a call, unless it has none: it is as long as that was submitted.
+abbrev pub KeepsLengths : Setup → Type 0
+KeepsLengths g = g.linux ≡ false → (items : List Item) → 0 < length items
+    → calls_of g items ≡ length items ∷ []
+
+-- the lengths of the calls that take in calls that were submitted: by the manual pages' rules as they were submitted, by Linux's each cut after a word that names no slot
+abbrev pub lengths_of : Setup → List (List Item) → List ℕ
+lengths_of g calls = if g.linux then flat_map (calls_of g) calls else map length calls
 
 -- whether a call ends after each of these positions
 abbrev pub ends_of : Setup → List Place → List Bool

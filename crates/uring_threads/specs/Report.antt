@@ -1,5 +1,5 @@
 -- Settling all ends of a set-up: which ends can be settled, and what is reported of them. All of it is our own rule.
-use Rattle.std.specs.Prelude.{◌≡◌, ◌↔◌, ℕ, ◌==◌, Bool, true, List, [], ◌∷◌, ◌++◌, length, map, flat_map, drop, count_by, All, if◌then◌else◌}
+use Rattle.std.specs.Prelude.{◌≡◌, ◌↔◌, ℕ, ◌==◌, Bool, true, List, [], ◌∷◌, ◌++◌, length, map, drop, count_by, All, if◌then◌else◌}
 use Rattle.std.specs.List.{list_any}
 use mathlib.Core.List.{IsPrefix}
 use Rattle.uring_entry.specs.Layout.{Cqe}
@@ -15,7 +15,7 @@ use Rattle.uring_ports.specs.declared.item.Item.{Item}
 use Rattle.uring_workers.specs.Work.{results_of}
 use Rattle.uring_workers.specs.declared.job.JobResult.{JobResult}
 use Rattle.uring_workers.specs.WorkLanes.{jobs_sent, results_received, numbers_of_lanes}
-use Rattle.uring_threads.specs.Calls.{calls_of}
+use Rattle.uring_threads.specs.Calls.{lengths_of}
 use Rattle.uring_threads.specs.Kept.{IsUnmoved}
 use Rattle.uring_threads.specs.Kernel.{Kernel}
 use Rattle.uring_threads.specs.Settled.{finish_of}
@@ -81,7 +81,7 @@ PublishesItems submitted r = published_items (left_by r).submission ++ all_publi
 -- The calls begin the calls that were submitted, each as long as it was submitted, by Linux's rules cut after each word that names no slot.
 abbrev pub BeginsCalls : Put → Report → Type 0
 BeginsCalls submitted r =
-    IsPrefix (left_by r).submission.calls (flat_map (calls_of r.setup) submitted.calls)
+    IsPrefix (left_by r).submission.calls (lengths_of r.setup submitted.calls)
 
 -- A Close stands in the trace once if the ring is closed, and else not at all.
 abbrev pub HasOneClose : Report → Type 0
@@ -91,7 +91,7 @@ HasOneClose r = count_by closes_ring r.trace ≡ (if (left_by r).is_closed then 
 pub record WentThrough (submitted : Put) (r : Report) : Type 0 where
   pub closed : submitted.closed ≡ true
   pub unsent : r.unsent ≡ []
-  pub calls : (left_by r).submission.calls ≡ flat_map (calls_of r.setup) submitted.calls
+  pub calls : (left_by r).submission.calls ≡ lengths_of r.setup submitted.calls
   pub taken : taken (left_by r).submission ≡ length (left_by r).submission.published
 
 -- If the ring is closed, all of it went through.

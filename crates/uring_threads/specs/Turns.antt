@@ -1,5 +1,5 @@
 -- What ties the dispatcher's lists to its trace, and what a turn of it counts.
-use Rattle.std.specs.Prelude.{◌≡◌, ℕ, ◌+◌, Bool, true, false, List, [], ◌++◌, length, flat_map, count_by, if◌then◌else◌}
+use Rattle.std.specs.Prelude.{◌≡◌, ℕ, ◌+◌, Bool, true, false, List, [], ◌++◌, length, count_by, if◌then◌else◌}
 use Rattle.uring_entry.specs.Completions.{Completions}
 use Rattle.uring_entry.specs.Layout.{Cqe}
 use Rattle.uring_entry.specs.Setup.{Setup}
@@ -9,7 +9,7 @@ use Rattle.uring_core.specs.StepAnswers.{is_spent}
 use Rattle.uring_core.specs.World.{World}
 use Rattle.uring_ports.specs.Items.{all_published_as, AreItems}
 use Rattle.uring_ports.specs.Ports.{Put, items_of_calls}
-use Rattle.uring_threads.specs.Calls.{calls_of, calls_left}
+use Rattle.uring_threads.specs.Calls.{lengths_of, calls_left}
 use Rattle.uring_threads.specs.Dispatched.{HaveCarried}
 use Rattle.uring_threads.specs.Kept.{Kept, now}
 use Rattle.uring_threads.specs.Tallies.{Adds, closes_ring}
@@ -39,7 +39,7 @@ pub record Tied (g : Setup) (w : World) (pulled : Put) (i : Intake) : Type 0 whe
   pub published : AreItems g.sq (items_of_calls pulled.calls)
       → published_items w.submission ≡ all_published_as (items_of_calls pulled.calls)
   pub calls : w.submission.calls ++ calls_left g w.submission
-      ≡ flat_map (calls_of g) pulled.calls
+      ≡ lengths_of g pulled.calls
   pub stands : Stands w.submission [] (waiting_in i)
   pub spent : IsGivenUpAsSpent w i
   pub closed : w.is_closed ≡ pulled.closed

@@ -1,5 +1,6 @@
 //! What follows for workers that have files of their own, and for settling: laws of the definitions alone.
 ghost use Rattle.uring_entry.specs.Setup.{Setup};
+ghost use Rattle.uring_threads.specs.Calls.{KeepsLengths};
 ghost use Rattle.uring_threads.specs.Settled.{ResultsRun, NoneWaits, Settles};
 ghost use Rattle.uring_threads.specs.Dealt.{DealtByFile, WorkersJoin, FilesByWorker};
 
@@ -17,4 +18,9 @@ pub fn results_settle()
     ensures one { (g : Setup) → ResultsRun g }
     ensures none { (g : Setup) → NoneWaits g }
     ensures all { (g : Setup) → Settles g }
+{}
+
+/// By the manual pages' rules one call takes in all the items of a call that was submitted, and is as long. By Linux's a call ends after a word that names no slot, and the next takes what is left.
+pub fn calls_keep_their_lengths()
+    ensures { (g : Setup) → KeepsLengths g }
 {}

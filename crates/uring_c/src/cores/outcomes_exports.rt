@@ -19,7 +19,7 @@ use uring_crossing::state_words::{StateWords, state_words};
 use uring_crossing::whole_call_memory::EntryWords;
 use uring_entry::errno;
 
-/// Puts everything that calls may come to into a place, each once, and writes whether that is all: a walk takes at most so many paths, and what it has found by then is right. The entries of all calls are given one after another, with the length of each call. -22 (EINVAL) exactly if the set-up is refused, asks for a ring that stops after an entry with a fault, or a call has more entries than the submission ring; -12 (ENOMEM) if memory is refused. Then the place keeps what it had.
+/// Puts everything that calls may come to into a place, each once, and writes whether that is all: a walk takes at most so many paths, and what it has found by then is right. The entries of all calls are given one after another, with the length of each call. -22 (EINVAL) exactly if the set-up is refused, asks for a ring that stops after an entry with a fault or for Linux's rules, or a call has more entries than the submission ring; -12 (ENOMEM) if memory is refused. Then the place keeps what it had.
 #[unsafe(no_mangle)]
 pub extern "C" fn wulgach_outcomes_new(
     alloc: Global,

@@ -1,5 +1,5 @@
 //! The calls of a list of outcomes, made on the list in a place. Each takes the list out, and puts it back; its box doesn't move.
-ghost use Rattle.std.specs.Prelude.{◌≡◌, ℕ, ◌<◌, ◌^◌, None, IsSome, IsSomeAnd, IfOk, IsOk, MatchOption, map, slice_get, length};
+ghost use Rattle.std.specs.Prelude.{◌≡◌, ℕ, ◌<◌, ◌^◌, None, false, IsSome, IsSomeAnd, IfOk, IsOk, MatchOption, map, slice_get, length};
 ghost use Rattle.std.specs.Option.{option_and_then};
 ghost use Rattle.uring_files.specs.Operations.{state_of, byte_of};
 ghost use Rattle.uring_outcomes.specs.Faults.{entry_count};
@@ -105,7 +105,8 @@ pub fn found_in<M: MapMemory>(
     calls: &[Vec<Sqe>],
     most: u64,
 ) -> Result<OutcomeList, AllocError>
-    requires { entry_count (map (λ call. call.items) calls.now) < 2 ^ 63 }
+    requires few { entry_count (map (λ call. call.items) calls.now) < 2 ^ 63 }
+    requires manual { setup.now.linux ≡ false }
     ensures found { IfOk result (AreOf setup.now (map (λ call. call.items) calls.now)) }
     ensures granted { ((n : ℕ) → M.grants memory.now n) → IsOk result }
 {

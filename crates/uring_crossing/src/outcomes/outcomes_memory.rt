@@ -1,5 +1,5 @@
 //! The call of a list of outcomes that asks for memory, by any memory. What C calls is it at the program's own allocator.
-ghost use Rattle.std.specs.Prelude.{◌≡◌, ◌↔◌, ℕ, pos, neg_ℤ, IfOk, IsOk, IsSomeAnd, MatchOption, map};
+ghost use Rattle.std.specs.Prelude.{◌≡◌, ◌↔◌, ℕ, false, pos, neg_ℤ, IfOk, IsOk, IsSomeAnd, MatchOption, map};
 ghost use Rattle.uring_entry.specs.declared.errno.TheConstants.{EINVAL, ENOMEM};
 ghost use Rattle.uring_crossing.specs.CoreWords.Cuts as spec;
 ghost use Rattle.uring_crossing.specs.Outcomes.Outcomes.{IsNoWalk, TakesWhole, AreFound};
@@ -83,6 +83,7 @@ fn walk<M: MapMemory>(
     lens: &[u64],
     most: u64,
 ) -> Result<OutcomeList, AllocError>
+    requires { setup.now.linux ≡ false }
     ensures found { IfOk result (λ found. (w : SetupWords) → IsAskedFor w setup.now
         → AreFound w (spec.cut lens.now (map (λ e. e.words) entries.now)) found) }
     ensures granted { ((n : ℕ) → M.grants memory.now n) → IsOk result }

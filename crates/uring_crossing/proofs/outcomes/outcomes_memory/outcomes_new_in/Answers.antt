@@ -16,3 +16,6 @@ pub returns : goal.returns
 returns g c =
     let P : OutcomeList → Type 0 = λ found. AreFound c.args.setup.now (cut c.args.lens.now (map (λ e. e.words) c.args.entries.now)) found × (c.in-Ok.found.is_all ≡ found.is_all) in
     record { refused = (apart _ _ refl, λ none. absurd (is_walk _ _ _ c.in-Some.ensures.0 c.in-Some.ensures.1 none)); results = λ done. absurd (done refl); kept = λ done. absurd (done refl); found = λ _. at_some P _ _ c.put.ensures (subst P (sym c.in-Ok-boxed.ensures.value) (c.in-Ok.ensures.found _ c.in-Some.ensures.0, refl)); granted = λ _. apart _ _ refl }
+
+pub walk-requires : goal.walk-requires
+walk-requires g c = c.in-Some.ensures.1.1
