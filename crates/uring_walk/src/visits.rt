@@ -20,6 +20,18 @@ pub enum End {
     Limit,
 }
 
+impl End {
+    /// Whether each path was visited.
+    pub fn is_all(self) -> bool
+        ensures { IsTrue result ↔ (self ≡ End.All) }
+    {
+        match self {
+            End::All => true,
+            End::Found | End::Limit => false,
+        }
+    }
+}
+
 /// What a walk moves.
 pub trait Moves {
     /// One step of a path.
