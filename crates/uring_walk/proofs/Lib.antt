@@ -1,0 +1,3 @@
+pub mod PathLists
+pub mod Visiting
+pub mod Keeping
