@@ -4,6 +4,7 @@
 #include "turns.h"
 #include "../../layer/choices/turns.h"
 #include "dates.h"
+#include "notices.h"
 
 #include <stdio.h>
 #include <stdlib.h>
@@ -135,6 +136,7 @@ static bool wait_outside(uint64_t *waited, uint64_t moment)
         return false;
     kernel(SYS_nanosleep, &while_);
     *waited += slice;
+    hear_outside();
     change_world();
     return true;
 }

@@ -151,6 +151,17 @@ void note_raised(int thread, int signal)
         interrupt(taker, signal);
 }
 
+void hear_outside(void)
+{
+    uint64_t pending = 0;
+    kernel(SYS_rt_sigpending, &pending, sizeof pending);
+    for (int signal = 1; signal <= LAST_SIGNAL; signal++) {
+        struct thread *taker = pending & bit_of(signal) ? taker_of(signal) : NULL;
+        if (taker)
+            interrupt(taker, signal);
+    }
+}
+
 /* A signal that may end the program: the log is there first. */
 static bool may_end(int signal)
 {

@@ -9,6 +9,9 @@ serving serve_mask, serve_action, serve_signal_stack, serve_suspend, serve_pause
 /* A signal was raised, in the thread of this number, or (0) in the process: who waits and has it open goes on. */
 void note_raised(int thread, int signal);
 
+/* Signals for the process that another one has sent, while all threads wait: who has one open goes on. */
+void hear_outside(void);
+
 /* Whether a call that this thread's signal has interrupted is made again after the handler (SA_RESTART). */
 bool is_restarted(void);
 

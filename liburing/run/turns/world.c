@@ -111,19 +111,17 @@ static void end_restarts(void)
         kernel(SYS_rseq, thread + (uintptr_t)*offset, SIZE, UNREGISTER, MARK);
 }
 
-/* One processor, on which the threads take turns anyway: the first that the process may run on. How many it may have stays what is said. */
+/* One processor, on which the threads take turns anyway: the one on which this runs, so that runs side by side have others. How many it may have stays what is said. */
 static void take_one_processor(void)
 {
+    unsigned here = 0;
     cpu_set_t all, one;
     CPU_ZERO(&all);
     CPU_ZERO(&one);
-    if (kernel(SYS_sched_getaffinity, 0, sizeof all, &all) <= 0)
+    if (kernel(SYS_sched_getaffinity, 0, sizeof all, &all) <= 0 || kernel(SYS_getcpu, &here, 0, 0) < 0)
         return;
-    int last = CPU_SETSIZE - 1;
-    while (last > 0 && !CPU_ISSET(last, &all))
-        last--;
     world->processors = CPU_COUNT(&all);
-    CPU_SET(last, &one);
+    CPU_SET(here, &one);
     kernel(SYS_sched_setaffinity, 0, sizeof one, &one);
 }
 
