@@ -256,7 +256,7 @@ impl Ends {
             Value::Number(entry.user_data()),
             Value::Flags(entry),
             Value::Text(if has_letters(entry) { "" } else { "-" }),
-            Value::Member(" ", (!has_succeeded).then_some(NO_FILE as u64)),
+            Value::Text(if has_succeeded { "" } else { " 64" }),
         ];
         push_form(memory, text, "fill @ @ @ @@@", &values)?;
         Ok(true)
