@@ -62,10 +62,11 @@ int32_t wulgach_volume_count_images(struct wulgach_volume *volume, uint64_t *cou
  * many images there are, and *total how many bytes. -27 if there are more images than lens has room for; then nothing is written. */
 int32_t wulgach_volume_images(struct wulgach_volume *volume, uint8_t *bytes, size_t room, uint64_t *lens, size_t most, uint64_t *count, uint64_t *total);
 
-/* Gives memory back: a write becomes part of the first bytes, and is forgotten, if it is safe, no other one had ended when it began,
- * and it had ended when each other one of its bytes began. What a crash may leave stays as it was, whatever happens later. A write
- * that is forgotten was safe, but `is_safe` doesn't know its number any more, so ask before. -12 if memory was refused: then some
- * of this may be left for another call. */
+/* Gives memory back. A write that isn't safe is let go if all of its bytes lie under a safe one that began after it had ended.
+ * Then a write becomes part of the first bytes, and is forgotten, if it is safe, each one that had ended when it began is safe too,
+ * and it had ended when each other one of its bytes began. What a crash may leave stays as it was, whatever happens later. `is_safe`
+ * doesn't know the number of a write that is gone, so ask before. -12 if memory was refused: then some of this may be left for
+ * another call. */
 int32_t wulgach_volume_fold(struct wulgach_volume *volume);
 
 /* Frees the volume, and leaves the place empty. */

@@ -36,8 +36,14 @@ def first_end(changes):
     return min((it.end for it in changes if it.end is not None), default=math.inf)
 
 
+def in_order(changes, found):
+    """Those found of some changes that began before one that isn't found had ended. The volume folds others too, past one that is safe and stays; here they wait, since a length that shrinks is told in its order."""
+    waits = first_end(it for it in changes if it not in found)
+    return {it for it in found if it.begin <= waits}
+
+
 def settled(changes, folded):
-    """The changes that can be folded, by a call that says it of some. It's asked about a few at a time, with those that run beside them; what began once one had ended that can't be folded can't be either."""
+    """The changes that can be folded in their order, by a call that says it of some. It's asked about a few at a time, with those that run beside them; what began once one had ended that can't be folded can't be either."""
     found, left = set(), []
     for at in range(0, len(changes), FEW):
         if changes[at].begin > first_end(left):
@@ -45,6 +51,6 @@ def settled(changes, folded):
         own = [*left, *changes[at : at + FEW]]
         last = max((it.end for it in own if it.end is not None), default=-1)
         beside = itertools.takewhile(lambda it: it.begin <= last, itertools.islice(changes, at + FEW, None))
-        found |= folded([*own, *beside]).intersection(own)
+        found |= in_order(own, folded([*own, *beside]).intersection(own))
         left = [it for it in own if it not in found]
     return found

@@ -1,6 +1,8 @@
 -- The test tells which write can be folded.
-use Rattle.std.proofs.Common.{◌≡◌, ◌==◌, ℕ, max, true, false, not, ◌&&◌, ap, inl, inr, arith}
-use Rattle.uring_volume.proofs.Common.{History, IsFoldable, IsIn, IsLawful, Write, and_from, and_parts, both_ways, can_fold, eqb-false, false_from_ne_true, is_before, is_in_way, is_safe, is_under, issued, list_any, ne_eqb, not-true, not_from_false, or_cases, overlap, writes}
+use Rattle.std.specs.Prelude.{nat_le}
+use Rattle.std.proofs.Common.{◌≡◌, ◌==◌, ◌+◌, ℕ, max, length, true, false, not, ◌&&◌, ap, inl, inr, arith}
+use Rattle.uring_volume.proofs.Common.{History, IsFoldable, IsIn, IsLawful, Write, and_from, and_parts, both_ways, can_fold, eqb-false, false_from_ne_true, is_before, is_in_way, is_safe, is_under, issued, le-leb, list_any, ne_eqb, not-true, not_from_false, or_cases, overlap, writes}
+use Rattle.uring_volume.specs.Folds.{IsUnderSafe, can_let_go, lies_over}
 use Rattle.uring_volume.proofs.Chosen.{in_issued, of_issued, one_number}
 use Rattle.uring_volume.proofs.Puts.{any_is, is_any}
 
@@ -21,7 +23,7 @@ foldable_by h w l among can =
     record {
       issued = of_issued h w among;
       safe = parts.0;
-      oldest = grind (arith, (λ (m : Write). out_of_way h w m parts.1));
+      oldest = λ m among before. grind (arith, before, (out_of_way h w m parts.1 among));
       lowest = grind (arith, of_issued, one_number, ne_eqb, both_under, (λ (m : Write). out_of_way h w m parts.1));
     }
 
@@ -35,8 +37,10 @@ can_fold_it h w f =
     and_from _ _ f.safe (not_from_false (list_any (λ m. is_in_way h w m) (issued h)) (false_from_ne_true (list_any (λ m. is_in_way h w m) (issued h)) (λ is.
     let found = any_is (λ m. is_in_way h w m) (issued h) is in
     let among : IsIn found.0 (writes h) = of_issued h found.0 found.1 in
-    elim (or_cases (is_before h found.0.number w.number) (not (found.0.number == w.number) && (overlap found.0 w && not (is_before h w.number found.0.number))) found.2) [
-      | inl before ↦ both_ways (is_before h found.0.number w.number) (f.oldest found.0 among) before
+    elim (or_cases (is_before h found.0.number w.number && not (is_safe h found.0)) (not (found.0.number == w.number) && (overlap found.0 w && not (is_before h w.number found.0.number))) found.2) [
+      | inl before ↦
+          let both = and_parts (is_before h found.0.number w.number) (not (is_safe h found.0)) before in
+          both_ways (is_safe h found.0) (not-true (is_safe h found.0) both.1) (f.oldest found.0 among both.0)
       | inr rest ↦
           let one = and_parts (not (found.0.number == w.number)) (overlap found.0 w && not (is_before h w.number found.0.number)) rest in
           let two = and_parts (overlap found.0 w) (not (is_before h w.number found.0.number)) one.1 in
@@ -44,3 +48,34 @@ can_fold_it h w f =
           both_ways (is_before h w.number found.0.number) (not-true (is_before h w.number found.0.number) two.1)
           (f.lowest found.0 (max found.0.off w.off) among (λ same. eqb-false found.0.number w.number (not-true (found.0.number == w.number) one.0) (ap (λ x. x.number) same)) k.0 k.1)
     ])))
+
+-- And which lies under a safe one.
+
+pub under_by : (h : History) (w : Write) → IsIn w (issued h) → can_let_go h w ≡ true → IsUnderSafe h w
+under_by h w among can =
+    let both = and_parts (not (is_safe h w)) (list_any (λ m. lies_over h w m) (issued h)) can in
+    let found = any_is (λ m. lies_over h w m) (issued h) both.1 in
+    let x = found.0 in
+    let one = and_parts (is_safe h x) (is_before h w.number x.number && (nat_le x.off w.off && nat_le (w.off + length w.bytes) (x.off + length x.bytes))) found.2 in
+    let two = and_parts (is_before h w.number x.number) (nat_le x.off w.off && nat_le (w.off + length w.bytes) (x.off + length x.bytes)) one.1 in
+    let three = and_parts (nat_le x.off w.off) (nat_le (w.off + length w.bytes) (x.off + length x.bytes)) two.1 in
+    record {
+      issued = of_issued h w among;
+      over = x;
+      over_issued = of_issued h x found.1;
+      safe = one.0;
+      before = two.0;
+      from = grind (arith, three.0);
+      to = grind (arith, three.1);
+    }
+
+can_let_go_it : (h : History) (w : Write) → is_safe h w ≡ false → IsUnderSafe h w → can_let_go h w ≡ true
+can_let_go_it h w lost s =
+    and_from _ _ (not_from_false (is_safe h w) lost)
+    (is_any (λ m. lies_over h w m) s.over (issued h) (in_issued h s.over s.over_issued)
+    (and_from _ _ s.safe (and_from _ _ s.before (and_from _ _ (le-leb s.over.off w.off s.from) (le-leb (w.off + length w.bytes) (s.over.off + length s.over.bytes) s.to)))))
+
+pub none_under_by : (h : History) → list_any (λ w. can_let_go h w) (issued h) ≡ false
+    → (w : Write) → is_safe h w ≡ false → IsUnderSafe h w → ⊥
+none_under_by h none w lost s =
+    both_ways (list_any (λ x. can_let_go h x) (issued h)) none (is_any (λ x. can_let_go h x) w (issued h) (in_issued h w s.issued) (can_let_go_it h w lost s))

@@ -1,14 +1,16 @@
 -- What a volume keeps when a write is folded.
-use Rattle.std.proofs.Common.{◌≡◌, ◌==◌, ◌<◌, ◌≤◌, ℕ, zero, suc, Bool, true, false, not, List, [], ◌∷◌, ◌++◌, length, get_or, reverse, refl, sym, subst, ap, ◌∙◌, inl, inr, arith}
-use Rattle.uring_volume.proofs.Common.{Err, Event, History, IsFoldable, IsFoldedFrom, IsHeld, IsIn, IsLawful, IsOneFolded, IsOver, IsSound, Ok, Result, SyncEnded, SyncFailed, SyncIssued, Volume, Write, WriteEnded, WriteIssued, append-nil, append_assoc, both_ways, but, can_fold, cond-false, cond_both, eqb-false, eqb-true, false_from_ne_true, filter, has_ended, is_of_write, is_one_of, issued, list_any, reverse-append, running_syncs, running_writes, without_write, writes}
+use Rattle.std.proofs.Common.{◌≡◌, ◌==◌, ◌<◌, ◌≤◌, ℕ, zero, suc, Bool, true, false, not, List, [], ◌∷◌, ◌++◌, ◌⊎◌, length, get_or, reverse, refl, sym, subst, ap, ◌∙◌, inl, inr, arith}
+use Rattle.uring_volume.proofs.Common.{Err, Event, History, IsFoldable, IsFoldedFrom, IsHeld, IsIn, IsLawful, IsOneFolded, IsOver, IsSound, Ok, Result, SyncEnded, SyncFailed, SyncIssued, Volume, Write, WriteEnded, WriteIssued, append-nil, append_assoc, both_ways, but, can_fold, cases_Bool, cond-false, cond_both, eqb-false, eqb-true, false_from_ne_true, filter, has_ended, is_before, is_safe, is_of_write, is_one_of, issued, list_any, reverse-append, running_syncs, running_writes, without_write, writes}
 use Rattle.std.specs.declared.alloc.AllocError.{AllocError}
 use Rattle.std.proofs.lemmas.List.Elements.{filter-append}
 use Rattle.uring_volume.proofs.Chosen.{in_issued, of_issued, one_number}
 use Rattle.uring_volume.proofs.Numbers.{is_in_but, one_more}
 use Rattle.uring_volume.proofs.Puts.{is_any}
-use Rattle.uring_volume.proofs.Folding.{safe_ended, fold_changes_none}
+use Rattle.uring_volume.proofs.Folding.{safe_ended, fold_changes_none, letting_go_changes_none}
+use Rattle.uring_volume.proofs.Lengths.{before_ended}
+use Rattle.uring_volume.specs.Folds.{IsOneLetGo, IsUnderSafe}
 use Rattle.uring_volume.proofs.Without.{same_later, but_later}
-use Rattle.uring_volume.proofs.Foldable.{foldable_by, can_fold_it}
+use Rattle.uring_volume.proofs.Foldable.{foldable_by, can_fold_it, under_by}
 
 -- Lists of numbers.
 
@@ -92,45 +94,81 @@ lawful_later (WriteIssued v ∷ later) h w among l = (
 lawful_later (e ∷ later) h w among l = lawful_later later h w among l
 
 -- a volume with a write folded
-abbrev pub with_folded : Write → List ℕ → Volume → Volume
-with_folded w over v = record v { first = over; history = without_write w.number v.history }
+abbrev pub with_folded : ℕ → List ℕ → Volume → Volume
+with_folded n over v = record v { first = over; history = without_write n v.history }
 
-running_same : (v : Volume) (w : Write) → IsSound v → IsFoldable v.history w
-    → running_writes (without_write w.number v.history) ≡ running_writes v.history
-running_same v w sound f =
-    grind (arith, (running_without w.number v.history), (safe_ended v.history w f.safe), but_none, false_from_ne_true, both_ways, runs_still)
+running_same : (v : Volume) (n : ℕ) → IsSound v → has_ended v.history n ≡ true
+    → running_writes (without_write n v.history) ≡ running_writes v.history
+running_same v n sound ended =
+    grind (arith, (running_without n v.history), ended, but_none, false_from_ne_true, both_ways, runs_still)
 
-pub held_folded : (v : Volume) (w : Write) (over write_list sync_list : List ℕ)
-    → IsHeld v write_list sync_list → IsFoldable v.history w
-    → IsHeld (with_folded w over v) write_list sync_list
-held_folded v w over write_list sync_list held f = record {
+pub held_folded : (v : Volume) (n : ℕ) (over write_list sync_list : List ℕ)
+    → IsHeld v write_list sync_list → has_ended v.history n ≡ true
+    → IsHeld (with_folded n over v) write_list sync_list
+held_folded v n over write_list sync_list held gone = record {
   sound = record {
     unit = held.sound.unit;
-    lawful = lawful_without w.number v.history held.sound.lawful;
+    lawful = lawful_without n v.history held.sound.lawful;
     numbered = record {
       some = held.sound.numbered.some;
-      positive = λ x among. held.sound.numbered.positive x (writes_of w.number v.history x among);
-      issued = λ x among. held.sound.numbered.issued x (writes_of w.number v.history x among);
-      ended = λ n is. held.sound.numbered.ended n (ended_of w.number n v.history is);
-      running = λ n is. held.sound.numbered.running n (subst (λ ns. is_one_of n ns ≡ true) (running_same v w held.sound f) is);
+      positive = λ x among. held.sound.numbered.positive x (writes_of n v.history x among);
+      issued = λ x among. held.sound.numbered.issued x (writes_of n v.history x among);
+      ended = λ m is. held.sound.numbered.ended m (ended_of n m v.history is);
+      running = λ m is. held.sound.numbered.running m (subst (λ ns. is_one_of m ns ≡ true) (running_same v n held.sound gone) is);
     };
   };
-  writes = held.writes ∙ sym (running_same v w held.sound f);
-  syncs = held.syncs ∙ sym (syncs_without w.number v.history);
+  writes = held.writes ∙ sym (running_same v n held.sound gone);
+  syncs = held.syncs ∙ sym (syncs_without n v.history);
 }
 
+before_same : (v : Volume) (w m x : Write) → IsSound v → IsIn w (writes v.history)
+    → IsIn m (writes (without_write w.number v.history)) → IsIn x (writes (without_write w.number v.history))
+    → is_before (without_write w.number v.history) m.number x.number ≡ is_before v.history m.number x.number
+before_same v w m x sound issued am ax =
+    let but_it = but_later [] v.history w sound.lawful issued in
+    (same_later w.number [] v.history).before m.number x.number (but_it.of m am).1 (but_it.of x ax).1
+
+-- a write is gone, or it is the one that was left out
+gone_or_it : (v : Volume) (w x : Write) → IsSound v → IsIn w (writes v.history) → IsIn x (writes v.history)
+    → IsIn x (writes (without_write w.number v.history)) ⊎ (x ≡ w)
+gone_or_it v w x sound issued among = elim (cases_Bool (x.number == w.number)) [
+  | inl named ↦ inr (one_number v.history x w sound.lawful among issued (eqb-true x.number w.number named))
+  | inr other ↦ inl ((but_later [] v.history w sound.lawful issued).into x among (eqb-false x.number w.number other))
+]
+
 pub folded_one : (v : Volume) (w : Write) (over : List ℕ) → IsSound v → IsFoldable v.history w
-    → IsOver v.first w over → IsFoldedFrom v (with_folded w over v)
+    → IsOver v.first w over → IsFoldedFrom v (with_folded w.number over v)
 folded_one v w over sound f is = record {
   unit = refl;
   next = refl;
   images = λ later now l. fold_changes_none v.unit v.first over later v.history w now sound.unit l f is;
   safe = λ later x l among. (same_later w.number later v.history).safe x ((but_later later v.history w l f.issued).of x among).1;
   lawful = λ later l. lawful_later later v.history w f.issued l;
+  before = λ m x am ax. before_same v w m x sound f.issued am ax;
   none_new = λ x among. writes_of w.number v.history x among;
-  gone = λ x among.
-      grind (arith, (one_number v.history x w sound.lawful among f.issued), ((but_later [] v.history w sound.lawful f.issued).into x among), eqb-true, eqb-false);
-  writes_run = running_same v w sound f;
+  gone = λ x among. elim (gone_or_it v w x sound f.issued among) [
+    | inl there ↦ inl there
+    | inr it ↦ inr (inl (subst (λ y. is_safe v.history y ≡ true) (sym it) f.safe))
+  ];
+  writes_run = running_same v w.number sound (safe_ended v.history w f.safe);
+  syncs_run = syncs_without w.number v.history;
+}
+
+pub one_let_go : (v : Volume) (w : Write) → IsSound v → IsUnderSafe v.history w
+    → IsFoldedFrom v (with_folded w.number v.first v)
+one_let_go v w sound s = record {
+  unit = refl;
+  next = refl;
+  images = λ later now l. letting_go_changes_none v.unit v.first later v.history w now sound.unit l s;
+  safe = λ later x l among. (same_later w.number later v.history).safe x ((but_later later v.history w l s.issued).of x among).1;
+  lawful = λ later l. lawful_later later v.history w s.issued l;
+  before = λ m x am ax. before_same v w m x sound s.issued am ax;
+  none_new = λ x among. writes_of w.number v.history x among;
+  gone = λ x among. elim (gone_or_it v w x sound s.issued among) [
+    | inl there ↦ inl there
+    | inr it ↦ inr (inr (subst (λ y. IsUnderSafe v.history y) (sym it) s))
+  ];
+  writes_run = running_same v w.number sound (before_ended v.history w.number s.over.number s.before);
   syncs_run = syncs_without w.number v.history;
 }
 
@@ -141,6 +179,19 @@ kept_later : (later g h : History) → ((w : Write) → IsIn w (writes h) → Is
 kept_later [] g h f w among = f w among
 kept_later (WriteIssued v ∷ later) g h f w among = grind (arith, (kept_later later g h f w))
 kept_later (e ∷ later) g h f w among = kept_later later g h f w among
+
+-- what lies under a safe one of those that are there did so before
+pub under_back : (old new : Volume) (w : Write) → IsLawful old.history → IsFoldedFrom old new
+    → IsUnderSafe new.history w → IsUnderSafe old.history w
+under_back old new w l a s = record {
+  issued = a.none_new w s.issued;
+  over = s.over;
+  over_issued = a.none_new s.over s.over_issued;
+  safe = sym (a.safe [] s.over l s.over_issued) ∙ s.safe;
+  before = sym (a.before w s.over s.issued s.over_issued) ∙ s.before;
+  from = s.from;
+  to = s.to;
+}
 
 pub folded_more : (old mid new : Volume) → IsLawful old.history → IsFoldedFrom old mid
     → IsFoldedFrom mid new → IsFoldedFrom old new
@@ -155,52 +206,22 @@ folded_more old mid new l a b = record {
       b.safe later w (a.lawful later law) among ∙ a.safe later w law (kept_later later mid.history new.history b.none_new w among);
   lawful = λ later law. b.lawful later (a.lawful later law);
   none_new = λ w among. a.none_new w (b.none_new w among);
-  gone = λ w among. grind (arith, (a.gone w among), (b.gone w), (a.safe [] w l));
+  before = λ m w am aw. b.before m w am aw ∙ a.before m w (b.none_new m am) (b.none_new w aw);
+  gone = λ w among. elim (a.gone w among) [
+    | inl there ↦ elim (b.gone w there) as (λ _. IsIn w (writes new.history) ⊎ ((is_safe old.history w ≡ true) ⊎ IsUnderSafe old.history w)) [
+      | inl still ↦ inl still
+      | inr out ↦ elim out as (λ _. IsIn w (writes new.history) ⊎ ((is_safe old.history w ≡ true) ⊎ IsUnderSafe old.history w)) [
+        | inl safe ↦ inr (inl (sym (a.safe [] w l there) ∙ safe))
+        | inr under ↦ inr (inr (under_back old mid w l a under))
+      ]
+    ]
+    | inr out ↦ inr out
+  ];
   writes_run = b.writes_run ∙ a.writes_run;
   syncs_run = b.syncs_run ∙ a.syncs_run;
 }
 
--- Events in order, the oldest first.
-
-pub reverse_filter : (p : Event → Bool) (es : List Event) → reverse (filter p es) ≡ filter p (reverse es)
-reverse_filter p [] = refl
-reverse_filter p (e ∷ es) = grind (arith, (reverse-append (e ∷ [])), filter-append, append-nil, (reverse_filter p es))
-
-pub issued_after : (xs ys : History) → issued (xs ++ ys) ≡ issued ys ++ issued xs
-issued_after [] ys = sym (append-nil (issued ys))
-issued_after (WriteIssued w ∷ xs) ys = grind (arith, (issued_after xs ys), append_assoc)
-issued_after (e ∷ xs) ys = issued_after xs ys
-
-pub issued_first : (e : Event) (es : List Event)
-    → issued (reverse (e ∷ es)) ≡ issued (e ∷ []) ++ issued (reverse es)
-issued_first e es = ap issued (reverse-append (e ∷ []) es) ∙ issued_after (reverse es) (e ∷ [])
-
--- the write whose issue stands at index i
-pub issued_at : (es : List Event) (i : ℕ) (e : Event) (w : Write) → i < length es
-    → e ≡ get_or es i e → e ≡ WriteIssued w → IsIn w (issued (reverse es))
-issued_at [] i e w within at is = absurd (omega arith)
-issued_at (d ∷ es) zero e w within at is = grind (arith, issued_first)
-issued_at (d ∷ es) (suc i) e w within at is = grind (arith, issued_first, (issued_at es i e w (omega arith) at is))
-
 -- What a call that folds one write, or none, makes of a volume.
-
-filter_events_short : (p : Event → Bool) (es : List Event) → length (filter p es) ≤ length es
-filter_events_short p [] = omega arith
-filter_events_short p (e ∷ es) = grind (arith, (filter_events_short p es))
-
-later_shorter : (p : Event → Bool) (e : Event) (es : List Event) → length (filter p es) < length es
-    → length (filter p (e ∷ es)) < length (e ∷ es)
-later_shorter p e es less = grind arith
-
-shorter_without : (h : History) (w : Write) → IsIn w (writes h)
-    → length (without_write w.number h) < length h
-shorter_without [] w among = absurd among
-shorter_without (WriteIssued v ∷ earlier) w (inl same) = grind (arith, filter_events_short, cond-false)
-shorter_without (WriteIssued v ∷ earlier) w (inr more) = later_shorter (λ e. not (is_of_write w.number e)) (WriteIssued v) earlier (shorter_without earlier w more)
-shorter_without (WriteEnded k ∷ earlier) w among = later_shorter (λ e. not (is_of_write w.number e)) (WriteEnded k) earlier (shorter_without earlier w among)
-shorter_without (SyncIssued s range ∷ earlier) w among = later_shorter (λ e. not (is_of_write w.number e)) (SyncIssued s range) earlier (shorter_without earlier w among)
-shorter_without (SyncEnded s ∷ earlier) w among = later_shorter (λ e. not (is_of_write w.number e)) (SyncEnded s) earlier (shorter_without earlier w among)
-shorter_without (SyncFailed s ∷ earlier) w among = later_shorter (λ e. not (is_of_write w.number e)) (SyncFailed s) earlier (shorter_without earlier w among)
 
 -- the same volume with these first bytes and this history
 abbrev pub made_of : List ℕ → History → Volume → Volume
@@ -217,26 +238,44 @@ held_by : (v : Volume) (r : Result Bool AllocError) (first : List ℕ) (h : Hist
 held_by v (Ok true) first h write_list sync_list held is =
     let one = is.folded refl in
     let f = foldable_by v.history one.write held.sound.lawful one.issued one.can in (
-      subst (λ g. IsHeld (made_of first g v) write_list sync_list) (sym one.without) (held_folded v one.write first write_list sync_list held f),
+      subst (λ g. IsHeld (made_of first g v) write_list sync_list) (sym one.without) (held_folded v one.write.number first write_list sync_list held (safe_ended v.history one.write f.safe)),
       subst (λ g. IsFoldedFrom v (made_of first g v)) (sym one.without) (folded_one v one.write first held.sound f one.over),
     )
 held_by v (Ok false) first h write_list sync_list held is = grind arith
 held_by v (Err e) first h write_list sync_list held is = grind arith
-
-pub held_result : (v : Volume) (r : Result Bool AllocError) (first : List ℕ) (h : History)
-    (write_list sync_list : List ℕ) → IsHeld v write_list sync_list → IsResult v r first h
-    → IsHeld (made_of first h v) write_list sync_list
-held_result v r first h write_list sync_list held is = (held_by v r first h write_list sync_list held is).0
 
 pub folded_result : (v : Volume) (r : Result Bool AllocError) (first : List ℕ) (h : History)
     (write_list sync_list : List ℕ) → IsHeld v write_list sync_list → IsResult v r first h
     → IsFoldedFrom v (made_of first h v)
 folded_result v r first h write_list sync_list held is = (held_by v r first h write_list sync_list held is).1
 
-pub fewer_result : (v : Volume) (r : Result Bool AllocError) (first : List ℕ) (h : History)
-    → IsResult v r first h → r ≡ Ok true → length h < length v.history
-fewer_result v r first h is more = grind (arith, shorter_without, of_issued)
-
 pub none_result : (v : Volume) (r : Result Bool AllocError) (first : List ℕ) (h : History)
     → IsResult v r first h → r ≡ Ok false → (w : Write) → IsFoldable h w → ⊥
 none_result v r first h is none w foldable = grind (arith, both_ways, is_any, in_issued, can_fold_it)
+
+-- a volume is folded from itself
+folded_none : (v : Volume) → IsFoldedFrom v v
+folded_none v = record {
+  unit = refl;
+  next = refl;
+  images = λ later now l. (λ i. i, λ i. i);
+  safe = λ later w l among. refl;
+  lawful = λ later l. l;
+  before = λ m w am aw. refl;
+  none_new = λ w among. among;
+  gone = λ w among. inl among;
+  writes_run = refl;
+  syncs_run = refl;
+}
+
+-- What a call that lets one write go, or none, makes of a volume.
+pub let_go_by : (v : Volume) (b : Bool) (h : History) (next : ℕ) → IsSound v
+    → (b ≡ true → IsOneLetGo v.history h) → (b ≡ false → h ≡ v.history) → next ≡ v.next
+    → IsFoldedFrom v (record { unit = v.unit; first = v.first; history = h; next = next })
+let_go_by v true h next sound one none same =
+    let is = one refl in
+    subst (λ n. IsFoldedFrom v (record { unit = v.unit; first = v.first; history = h; next = n })) (sym same)
+    (subst (λ g. IsFoldedFrom v (record v { history = g })) (sym is.without) (one_let_go v is.write sound (under_by v.history is.write is.issued is.can)))
+let_go_by v false h next sound one none same =
+    subst (λ n. IsFoldedFrom v (record { unit = v.unit; first = v.first; history = h; next = n })) (sym same)
+    (subst (λ g. IsFoldedFrom v (record v { history = g })) (sym (none refl)) (folded_none v))

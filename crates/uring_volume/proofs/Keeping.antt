@@ -13,12 +13,13 @@ use Rattle.uring_volume.specs.Volume.{IsNumbered}
 use Rattle.uring_volume.specs.declared.event.SyncRange.{SyncRange}
 use Rattle.uring_volume.specs.declared.kept.Kept.{Kept}
 use Rattle.uring_volume.specs.declared.kept.Running.{Running}
-use Rattle.uring_volume.specs.Past.{AreIssued, AreWaysIssued, IsAscending, IsPast, Past, Stands, Touches, can_be_folded, end_list, ended_at, given_up_by, had_ended, settled, stands_in_way}
+use Rattle.uring_volume.specs.Past.{AreIssued, AreWaysIssued, IsAscending, IsPast, Past, Stands, Touches, can_be_folded, can_be_let_go, end_list, ended_at, given_up_by, had_ended, settled, stands_in_way, stands_over}
+use Rattle.uring_volume.specs.Folds.{IsOneLetGo, IsUnderSafe, can_let_go, lies_over}
 use Rattle.uring_volume.proofs.Chosen.{in_issued, not_before, of_issued, one_number}
 use Rattle.uring_volume.proofs.Puts.{any_is, is_any}
 use Rattle.uring_volume.proofs.Fitting.{in_either}
 use Rattle.uring_volume.proofs.Folded.{ended_of, runs_still, held_folded}
-use Rattle.uring_volume.proofs.Foldable.{foldable_by}
+use Rattle.uring_volume.proofs.Foldable.{foldable_by, under_by}
 use Rattle.uring_volume.proofs.Without.{but_without, same_later}
 use Rattle.uring_volume.proofs.Numbers.{is_in_but, one_more, held_sync, held_sync_end, held_sync_failure, held_write, held_write_end}
 
@@ -344,29 +345,6 @@ held_of p is = record {
   syncs = is.syncs_run;
 }
 
-pub past_none : IsPast (record { history = []; next = 1; kept = []; write_list = []; syncs = []; ends = [] })
-past_none = record {
-  lawful = tt;
-  numbered = record {
-    some = omega arith;
-    positive = λ w among. absurd among;
-    issued = λ w among. absurd among;
-    ended = λ n is. absurd (cc is);
-    running = λ n is. absurd (cc is);
-  };
-  pieces = refl;
-  stands = λ k among. absurd among;
-  touches = λ k s among there. absurd among;
-  writes_run = refl;
-  syncs_run = refl;
-  few = λ s among. absurd among;
-  ascending = tt;
-  ends_are = refl;
-  known = λ n is. absurd (cc is);
-  uncovered = λ s w past. refl;
-  unreached = λ s w past. refl;
-}
-
 in_issued' : (p : Past) (m : Kept) → IsPast p → IsIn m p.kept → m.piece.number < p.next
 in_issued' p m is among = is.numbered.issued m.piece (of_issued p.history m.piece (subst (λ ws. IsIn m.piece ws) is.pieces (in_map (λ (x : Kept). x.piece) m p.kept among)))
 
@@ -549,17 +527,17 @@ pub passes : {X : Type 0} (p : X → Bool) (x : X) (xs : List X) → IsIn x (fil
 passes p x [] among = absurd among
 passes p x (y ∷ xs) among = grind (arith, (passes p x xs))
 
-pub past_without : (p : Past) (w : Write) → IsPast p → IsFoldable p.history w
-    → IsPast (record { history = without_write w.number p.history; next = p.next; kept = filter (λ k. not (k.piece.number == w.number)) p.kept; write_list = p.write_list; syncs = p.syncs; ends = but w.number p.ends })
-past_without p w is f =
-    let held = held_folded (record { unit = 1; first = []; history = p.history; next = p.next }) w [] p.write_list (map (λ t. t.number) p.syncs) (held_of p is) f in
-    let same = same_later w.number [] p.history in
-    let from = λ (k : Kept) (among : IsIn k (filter (λ (x : Kept). not (x.piece.number == w.number)) p.kept)). of_filter (λ (x : Kept). not (x.piece.number == w.number)) k p.kept among in
-    let apart = λ (k : Kept) (among : IsIn k (filter (λ (x : Kept). not (x.piece.number == w.number)) p.kept)). eqb-false k.piece.number w.number (not-true (k.piece.number == w.number) (passes (λ (x : Kept). not (x.piece.number == w.number)) k p.kept among)) in
+pub past_without : (p : Past) (n : ℕ) → IsPast p → has_ended p.history n ≡ true
+    → IsPast (record { history = without_write n p.history; next = p.next; kept = filter (λ k. not (k.piece.number == n)) p.kept; write_list = p.write_list; syncs = p.syncs; ends = but n p.ends })
+past_without p n is gone =
+    let held = held_folded (record { unit = 1; first = []; history = p.history; next = p.next }) n [] p.write_list (map (λ t. t.number) p.syncs) (held_of p is) gone in
+    let same = same_later n [] p.history in
+    let from = λ (k : Kept) (among : IsIn k (filter (λ (x : Kept). not (x.piece.number == n)) p.kept)). of_filter (λ (x : Kept). not (x.piece.number == n)) k p.kept among in
+    let apart = λ (k : Kept) (among : IsIn k (filter (λ (x : Kept). not (x.piece.number == n)) p.kept)). eqb-false k.piece.number n (not-true (k.piece.number == n) (passes (λ (x : Kept). not (x.piece.number == n)) k p.kept among)) in
     record {
       lawful = held.sound.lawful;
       numbered = held.sound.numbered;
-      pieces = map_filter w.number p.kept ∙ ap (filter (λ v. not (v.number == w.number))) is.pieces ∙ sym (issued_without w.number p.history);
+      pieces = map_filter n p.kept ∙ ap (filter (λ v. not (v.number == n))) is.pieces ∙ sym (issued_without n p.history);
       stands = λ k among.
           let s = is.stands k (from k among) in
           let other = apart k among in
@@ -567,7 +545,7 @@ past_without p w is f =
             ended = same.ended k.piece.number other ∙ s.ended;
             bound = s.bound;
             before = λ v there.
-                let old = (but_without w.number p.history).of v there in
+                let old = (but_without n p.history).of v there in
                 same.before k.piece.number v.number other old.1 ∙ s.before v old.0;
             given_up = same.given_up k.piece other ∙ s.given_up;
             safe = same.safe k.piece other ∙ s.safe;
@@ -579,19 +557,19 @@ past_without p w is f =
       writes_run = held.writes;
       syncs_run = held.syncs;
       few = is.few;
-      ascending = asc_filter (λ k. not (k.piece.number == w.number)) p.kept is.ascending;
-      ends_are = ap (but w.number) is.ends_are ∙ sym (ends_without w.number p.history);
+      ascending = asc_filter (λ k. not (k.piece.number == n)) p.kept is.ascending;
+      ends_are = ap (but n) is.ends_are ∙ sym (ends_without n p.history);
       known = λ m ended.
-          let found = is.known m (ended_of w.number m p.history ended) in
-          let other : (found.0.number ≡ w.number → ⊥) = λ same. both_ways (has_ended (without_write w.number p.history) w.number) (no_end w.number p.history) (subst (λ i. has_ended (without_write w.number p.history) i ≡ true) (sym found.2 ∙ same) ended) in
-          (found.0, (but_without w.number p.history).into found.0 found.1 other, found.2);
-      uncovered = λ s v past. elim (cases_Bool (v.number == w.number)) [
-        | inl named ↦ (uncovered (without_write w.number p.history) s v (subst (λ m. has_ended (without_write w.number p.history) m ≡ false) (sym (eqb-true v.number w.number named)) (no_end w.number p.history))).0
-        | inr other ↦ same.covered s v (eqb-false v.number w.number other) ∙ is.uncovered s v past
+          let found = is.known m (ended_of n m p.history ended) in
+          let other : (found.0.number ≡ n → ⊥) = λ same. both_ways (has_ended (without_write n p.history) n) (no_end n p.history) (subst (λ i. has_ended (without_write n p.history) i ≡ true) (sym found.2 ∙ same) ended) in
+          (found.0, (but_without n p.history).into found.0 found.1 other, found.2);
+      uncovered = λ s v past. elim (cases_Bool (v.number == n)) [
+        | inl named ↦ (uncovered (without_write n p.history) s v (subst (λ m. has_ended (without_write n p.history) m ≡ false) (sym (eqb-true v.number n named)) (no_end n p.history))).0
+        | inr other ↦ same.covered s v (eqb-false v.number n other) ∙ is.uncovered s v past
       ];
-      unreached = λ s v past. elim (cases_Bool (v.number == w.number)) [
-        | inl named ↦ (uncovered (without_write w.number p.history) s v (subst (λ m. has_ended (without_write w.number p.history) m ≡ false) (sym (eqb-true v.number w.number named)) (no_end w.number p.history))).1
-        | inr other ↦ same.reached s v (eqb-false v.number w.number other) ∙ is.unreached s v past
+      unreached = λ s v past. elim (cases_Bool (v.number == n)) [
+        | inl named ↦ (uncovered (without_write n p.history) s v (subst (λ m. has_ended (without_write n p.history) m ≡ false) (sym (eqb-true v.number n named)) (no_end n p.history))).1
+        | inr other ↦ same.reached s v (eqb-false v.number n other) ∙ is.unreached s v past
       ];
     }
 
@@ -630,7 +608,8 @@ can_fold_kept p k is among =
     ∙ any_same (λ m. is_in_way p.history k.piece m.piece) (λ m. stands_in_way k m) p.kept (λ m there.
     let a = (is.stands m there).before k.piece (of_issued p.history k.piece (kept_issued p k is among)) in
     let b = here.before m.piece (of_issued p.history m.piece (kept_issued p m is there)) in
-    grind (arith, a, b))
+    let sm = (is.stands m there).safe in
+    grind (arith, a, b, sm))
     in
     let s = here.safe in
     grind (arith, ways, s)
@@ -642,6 +621,33 @@ none_fold_kept p is none =
     ∙ any_map (λ k. k.piece) (λ w. can_fold p.history w) p.kept
     ∙ any_same (λ k. can_fold p.history k.piece) (λ k. can_be_folded p.kept k) p.kept (λ k among. can_fold_kept p k is among)
     ∙ none
+
+pub can_let_go_kept : (p : Past) (k : Kept) → IsPast p → IsIn k p.kept
+    → can_let_go p.history k.piece ≡ can_be_let_go p.kept k
+can_let_go_kept p k is among =
+    let here = is.stands k among in
+    let over : list_any (λ m. lies_over p.history k.piece m) (issued p.history) ≡ list_any (λ m. stands_over k m) p.kept =
+    ap (λ ws. list_any (λ m. lies_over p.history k.piece m) ws) (sym is.pieces)
+    ∙ any_map (λ m. m.piece) (λ m. lies_over p.history k.piece m) p.kept
+    ∙ any_same (λ m. lies_over p.history k.piece m.piece) (λ m. stands_over k m) p.kept (λ m there.
+    let b = here.before m.piece (of_issued p.history m.piece (kept_issued p m is there)) in
+    let sm = (is.stands m there).safe in
+    grind (arith, b, sm))
+    in
+    let s = here.safe in
+    grind (arith, over, s)
+
+pub none_let_go_kept : (p : Past) → IsPast p → list_any (λ k. can_be_let_go p.kept k) p.kept ≡ false
+    → list_any (λ w. can_let_go p.history w) (issued p.history) ≡ false
+none_let_go_kept p is none =
+    ap (λ ws. list_any (λ w. can_let_go p.history w) ws) (sym is.pieces)
+    ∙ any_map (λ k. k.piece) (λ w. can_let_go p.history w) p.kept
+    ∙ any_same (λ k. can_let_go p.history k.piece) (λ k. can_be_let_go p.kept k) p.kept (λ k among. can_let_go_kept p k is among)
+    ∙ none
+
+pub under_kept : (p : Past) (k : Kept) → IsPast p → IsIn k p.kept → can_be_let_go p.kept k ≡ true
+    → IsUnderSafe p.history k.piece
+under_kept p k is among can = under_by p.history k.piece (kept_issued p k is among) (can_let_go_kept p k is among ∙ can)
 
 pub carried_past : (p : Past) (h : History) (next : ℕ) (kept : List Kept) (ws : List ℕ) (ss : List Running) (es : List ℕ)
     → IsPast p → h ≡ p.history → next ≡ p.next → kept ≡ p.kept → ws ≡ p.write_list → ss ≡ p.syncs → es ≡ p.ends
@@ -699,10 +705,6 @@ runs_there p s n is among named = subst (λ ns. is_one_of n ns ≡ true) is.sync
 pub over_kept : (p : Past) (k : Kept) → IsPast p → IsIn k p.kept → can_be_folded p.kept k ≡ true
     → IsFoldable p.history k.piece
 over_kept p k is among can = foldable_by p.history k.piece is.lawful (kept_issued p k is among) (can_fold_kept p k is among ∙ can)
-
-pub if_none : {X : Type 0} (o : Option X) (P : Type 0) → IfNone o P → ((x : X) → o ≡ Some x → ⊥) → P
-if_none None P is out = is
-if_none (Some x) P is out = absurd (out x refl)
 
 -- The writes that have ended, in the order of their ends.
 
@@ -845,9 +847,6 @@ fewer_issued h w among = rw (issued_without w.number h) (filter_shorter (λ v. n
 
 -- Ways.
 
-pub rest_issued : (h : History) (some more : List Write) → AreIssued h more → ((w : Write) → IsIn w some → IsIn w more) → AreIssued h some
-rest_issued h some more all from = record { each = λ w among. all.each w (from w among) }
-
 pub mapped_more : {X Y : Type 0} (f : X → Y) (xs : List X) (i : ℕ) (x : X) → i < length xs → x ≡ get_or xs i x
     → map f (take (i + 1) xs) ≡ map f (take i xs) ++ f x ∷ []
 mapped_more f xs i x within is = grind (arith, (take_more xs i x within), (map-append f (take i xs) (x ∷ [])))
@@ -902,12 +901,18 @@ held_volume v p is unit past number = record {
 pub fewer_of : (first made : List ℕ) (h now : History) → IsOneFolded first made h now → length (issued now) < length (issued h)
 fewer_of first made h now one = subst (λ g. length (issued g) < length (issued h)) (sym one.without) (fewer_issued h one.write one.issued)
 
+pub fewer_let_go : (h now : History) → IsOneLetGo h now → length (issued now) < length (issued h)
+fewer_let_go h now one = subst (λ g. length (issued g) < length (issued h)) (sym one.without) (fewer_issued h one.write one.issued)
+
 none_in_none : (w : Write) (ws : List Write) → length ws ≤ 0 → IsIn w ws → ⊥
 none_in_none w [] short among = among
 none_in_none w (v ∷ ws) short among = omega (arith, short)
 
 pub none_foldable : (h : History) (w : Write) → length (issued h) ≤ 0 → IsFoldable h w → ⊥
 none_foldable h w short f = none_in_none w (issued h) short (in_issued h w f.issued)
+
+pub none_under : (h : History) (w : Write) → length (issued h) ≤ 0 → IsUnderSafe h w → ⊥
+none_under h w short s = none_in_none w (issued h) short (in_issued h w s.issued)
 
 -- The images of a volume are those of one that it is folded to.
 pub images_folded : (old new : Volume) (all : List (List ℕ)) → IsSound old → IsFoldedFrom old new

@@ -1,7 +1,6 @@
 -- In the order in which they are best read.
 mod Common
 -- Lists of events, of references and of numbers:
-pub mod Steps
 pub mod Seeking
 pub mod Puts
 pub mod Counting

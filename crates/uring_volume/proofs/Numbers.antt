@@ -25,13 +25,6 @@ pub one_more : (n m : ℕ) (ns : List ℕ) → is_one_of m (ns ++ n ∷ []) ≡ 
     → (is_one_of m ns ≡ true) ⊎ (m ≡ n)
 one_more n m ns is = grind (arith, or_either, list_any-append)
 
--- the same volume, as other terms say it
-pub carried : (v : Volume) (write_list sync_list writes_now syncs_now : List ℕ) (h : History) (n : ℕ)
-    → IsHeld v write_list sync_list → h ≡ v.history → n ≡ v.next
-    → writes_now ≡ write_list → syncs_now ≡ sync_list
-    → IsHeld (record { unit = v.unit; first = v.first; history = h; next = n }) writes_now syncs_now
-carried v write_list sync_list writes_now syncs_now h n held past number ws ss = grind arith
-
 -- Each event.
 
 pub held_write : (v : Volume) (off : ℕ) (bytes write_list sync_list : List ℕ)

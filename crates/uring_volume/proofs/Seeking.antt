@@ -45,11 +45,6 @@ pub kept_more : {X : Type 0} (f : X → Write) (p : Write → Bool) (xs : List X
     → length_over next (filter p (map f (drop (i + 1) xs))) ≡ length_over len (filter p (map f (drop i xs)))
 kept_more f p xs i x len next b within at is made = grind (arith, drop_more)
 
--- none is left after the last one
-pub kept_all : {X : Type 0} (f : X → Write) (p : Write → Bool) (xs : List X) (i len : ℕ)
-    → length xs ≤ i → len ≡ length_over len (filter p (map f (drop i xs)))
-kept_all f p xs i len past = sym (ap (λ ys. length_over len (filter p (map f ys))) (drop_all i xs past))
-
 -- numbers that stop at a most
 pub times_most : (a b most : ℕ) → min (min a most * b) most ≡ min (a * b) most
 times_most a b most = elim (below_or_from most a) [

@@ -1,5 +1,5 @@
 -- What is kept of a file: the writes that aren't folded, each with how it stands, and the syncs that run. Our own structure.
-use Rattle.std.specs.Prelude.{◌≡◌, ℕ, zero, ◌+◌, ◌<◌, ◌≤◌, Bool, true, false, not, ◌&&◌, ◌||◌, ◌==◌, nat_le, nat_lt, List, [], ◌∷◌, ◌++◌, map, Option, Some, None, if◌then◌else◌}
+use Rattle.std.specs.Prelude.{◌≡◌, ℕ, zero, ◌+◌, ◌<◌, ◌≤◌, Bool, true, false, not, ◌&&◌, ◌||◌, ◌==◌, nat_le, nat_lt, List, [], ◌∷◌, ◌++◌, length, map, Option, Some, None, if◌then◌else◌}
 use Rattle.uring_volume.specs.Writes.{Write}
 use Rattle.uring_volume.specs.declared.event.Event.{Event}
 use Rattle.uring_volume.specs.declared.event.Event.TheVariants.{WriteIssued, WriteEnded}
@@ -84,11 +84,20 @@ pub record IsPast (p : Past) : Type 0 where
 -- whether one write that is kept keeps another from being folded, and whether it can be folded, as they stand
 abbrev pub stands_in_way : Kept → Kept → Bool
 stands_in_way k m =
-    had_ended m k.piece.number
+    had_ended m k.piece.number && not m.safe_yet
     || (not (m.piece.number == k.piece.number) && (overlap m.piece k.piece && not (had_ended k m.piece.number)))
 
 abbrev pub can_be_folded : List Kept → Kept → Bool
 can_be_folded all k = k.safe_yet && not (list_any (λ m. stands_in_way k m) all)
+
+-- whether one write that is kept is safe and lies over another that is before it, and whether one that isn't can be let go, as they stand
+abbrev pub stands_over : Kept → Kept → Bool
+stands_over k m =
+    m.safe_yet
+    && (had_ended k m.piece.number && (nat_le m.piece.off k.piece.off && nat_le (k.piece.off + length k.piece.bytes) (m.piece.off + length m.piece.bytes)))
+
+abbrev pub can_be_let_go : List Kept → Kept → Bool
+can_be_let_go all k = not k.safe_yet && list_any (λ m. stands_over k m) all
 
 -- Each of these writes was issued.
 pub record AreIssued (h : History) (ws : List Write) : Type 0 where

@@ -4,7 +4,7 @@ ghost use Rattle.std.specs.Prelude.{take, drop, ◌≡◌, ℕ, ◌<◌, ◌≤�
 ghost use Rattle.std.specs.List.{list_any};
 ghost use Rattle.uring_volume.specs.Images.{IsIn};
 ghost use Rattle.uring_volume.specs.Past as spec;
-ghost use Rattle.uring_volume.specs.Past.{IsAscending, ended_at, settled, given_up_by, can_be_folded};
+ghost use Rattle.uring_volume.specs.Past.{IsAscending, ended_at, settled, given_up_by, can_be_folded, can_be_let_go};
 ghost use Rattle.uring_volume.specs.declared.kept.Kept.{Kept};
 
 use crate::event::{Piece, SyncRange};
@@ -178,11 +178,11 @@ pub fn has_safe(kept: &[Kept], n: u64) -> bool
     false
 }
 
-/// Whether another write keeps this one from being folded: it is before it, or it writes the same byte and isn't after it.
+/// Whether another write keeps this one from being folded: it is before it and isn't safe, or it writes the same byte and isn't after it.
 fn stands_in_way(k: &Kept, m: &Kept) -> bool
     ensures { result ≡ spec.stands_in_way k.now m.now }
 {
-    m.had_ended(k.piece.number())
+    m.had_ended(k.piece.number()) && !m.safe_yet
         || (m.piece.number() != k.piece.number()
             && (overlap(&m.piece, &k.piece) && !k.had_ended(m.piece.number())))
 }
@@ -206,6 +206,40 @@ pub fn first_foldable(kept: &[Kept]) -> Option<&Kept>
 {
     for k in kept {
         if k.safe_yet && !has_one_in_way(kept, k) {
+            return Some(k);
+        }
+    }
+    None
+}
+
+/// Whether another write is safe and lies over this one, which is before it.
+fn stands_over(k: &Kept, m: &Kept) -> bool
+    ensures { result ≡ spec.stands_over k.now m.now }
+{
+    m.safe_yet
+        && (k.had_ended(m.piece.number())
+            && (m.piece.off() <= k.piece.off() && k.piece.end() <= m.piece.end()))
+}
+
+/// Whether one of these is safe and lies over this write, which is before it.
+fn has_one_over(kept: &[Kept], k: &Kept) -> bool
+    ensures { result ≡ list_any (λ m. spec.stands_over k.now m) kept.now }
+{
+    for m in kept {
+        if stands_over(k, m) {
+            return true;
+        }
+    }
+    false
+}
+
+/// The oldest of these that isn't safe, and lies under one that is.
+pub fn first_under(kept: &[Kept]) -> Option<&Kept>
+    ensures found { IfSome result (λ k. IsIn k.now kept.now × (can_be_let_go kept.now k.now ≡ true)) }
+    ensures none { IfNone result (list_any (λ k. can_be_let_go kept.now k) kept.now ≡ false) }
+{
+    for k in kept {
+        if !k.safe_yet && has_one_over(kept, k) {
             return Some(k);
         }
     }

@@ -5,7 +5,7 @@ ghost use Rattle.uring_volume.specs.declared.event.SyncRange.{SyncRange};
 ghost use Rattle.uring_volume.specs.declared.event.Event.TheVariants.{WriteEnded, SyncIssued, SyncFailed};
 ghost use Rattle.uring_volume.specs.Laws.{SafeIsReadBack, SyncAddsNone, ChangesNone, FailedIsNeverSafe, SmallerUnitsAllowIt, RestHasOneImage, ChosenIsImage, ImageIsChosen};
 ghost use Rattle.uring_volume.specs.Listing.{ListsAreAsLong};
-ghost use Rattle.uring_volume.specs.Folds.{FoldChangesNone};
+ghost use Rattle.uring_volume.specs.Folds.{FoldChangesNone, LettingGoChangesNone};
 
 /// A safe write is read back after each crash, if each other write that overlaps it had ended when it was issued.
 pub fn safe_is_read_back()
@@ -50,7 +50,12 @@ pub fn lists_are_as_long()
     ensures { ListsAreAsLong }
 {}
 
-/// A write that is safe, that no other is before, and that is before each other write of a byte of it, can be folded into the first bytes: the same images may be left, whatever happens later.
+/// A write that is safe, before which each one is safe too, and that is before each other write of a byte of it, can be folded into the first bytes: the same images may be left, whatever happens later.
 pub fn fold_changes_none()
     ensures { FoldChangesNone }
+{}
+
+/// A write all of whose bytes lie under a safe one that it is before can be let go: the same images may be left, whatever happens later.
+pub fn letting_go_changes_none()
+    ensures { LettingGoChangesNone }
 {}

@@ -12,8 +12,8 @@ use crate::event::{Event, Piece, SyncRange};
 use crate::fold::write_under;
 use crate::growth::copied_items;
 use crate::kept::{
-    Kept, Running, copied_kept, end_all, find, first_foldable, give_all_up, has_number, has_safe,
-    settle_all,
+    Kept, Running, copied_kept, end_all, find, first_foldable, first_under, give_all_up,
+    has_number, has_safe, settle_all,
 };
 use crate::told::{Told, again, leave_out, nothing, tell, tell_write};
 use crate::volume::{put, take_out};
@@ -82,7 +82,7 @@ impl Past {
     ghost use Rattle.uring_volume.specs.Choices.{issued, named};
     ghost use Rattle.uring_volume.specs.Choices as choices;
     ghost use Rattle.uring_volume.specs.Events as events;
-    ghost use Rattle.uring_volume.specs.Folds.{can_fold, IsOneFolded};
+    ghost use Rattle.uring_volume.specs.Folds.{can_fold, can_let_go, without_write, IsOneFolded, IsOneLetGo};
     ghost use Rattle.uring_volume.specs.Volume.{running_writes, running_syncs};
     ghost use Rattle.uring_volume.specs.declared.event.Event.TheVariants.{WriteIssued, WriteEnded, SyncIssued, SyncEnded, SyncFailed};
 
@@ -289,9 +289,34 @@ impl Past {
         };
         write_under(memory, first, &k.piece)?;
         let n = k.piece.number();
+        self.forget(n);
+        Ok(true)
+    }
+
+    /// Lets the oldest write go that isn't safe and lies under one that is, if there is one, and answers whether there was.
+    pub fn let_go_first(&mut self) -> bool
+        ensures gone { result ≡ true → IsOneLetGo self.old.history self.new.history }
+        ensures none { result ≡ false
+            → list_any (λ w. can_let_go self.old.history w) (issued self.old.history) ≡ false }
+        ensures kept { result ≡ false → self.new.history ≡ self.old.history }
+        ensures next { self.new.next ≡ self.old.next }
+    {
+        let Some(k) = first_under(&self.kept) else {
+            return false;
+        };
+        let n = k.piece.number();
+        self.forget(n);
+        true
+    }
+
+    /// Forgets a write that has ended.
+    fn forget(&mut self, n: u64)
+        requires { events.has_ended self.old.history n ≡ true }
+        ensures history { self.new.history ≡ without_write n self.old.history }
+        ensures next { self.new.next ≡ self.old.next }
+    {
         self.kept.retain(|m| m.piece.number() != n);
         self.ends.retain(|m| *m != n);
         leave_out(&mut self.told, n);
-        Ok(true)
     }
 }

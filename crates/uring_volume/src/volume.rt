@@ -78,7 +78,8 @@ impl Volume {
     ghost use Rattle.uring_volume.specs.Volume.{with_event, with_write, with_sync, is_one_of, running_writes, running_syncs, elements_to_begin};
     ghost use Rattle.uring_volume.specs.Writes.{Write};
     ghost use Rattle.uring_volume.specs.Choices.{issued};
-    ghost use Rattle.uring_volume.specs.Folds.{IsFoldable, IsFoldedFrom};
+    ghost use Rattle.uring_volume.specs.Folds.{IsFoldable, IsUnderSafe, IsFoldedFrom};
+    ghost use Rattle.uring_volume.specs.Events.{is_safe};
 
     /// A file with units of so many bytes and these first bytes, of which each is safe.
     ///
@@ -206,10 +207,35 @@ impl Volume {
         self.past.fold_first(memory, &mut self.first)
     }
 
-    /// Gives memory back: folds into the first bytes each write that is safe, that no other is before, and that is before each other write of a byte of it. What a crash may leave stays as it was, whatever happens later, and so does what reads show; the writes that are folded are safe, and have no number any more. Out of memory, some of them may be left. For each one that it folds it looks at the pairs of writes that are kept, until it finds it: so it is quick if it is called after each sync.
+    /// Lets one write go, if one that isn't safe lies under one that is, and answers whether one did.
+    fn let_one_go(&mut self) -> bool
+        ensures folded { IsFoldedFrom self.old self.new }
+        ensures fewer { result ≡ true → length (issued self.new.history) < length (issued self.old.history) }
+        ensures none { result ≡ false → (w : Write) → is_safe self.new.history w ≡ false → IsUnderSafe self.new.history w → ⊥ }
+    {
+        self.past.is_past();
+        self.past.let_go_first()
+    }
+
+    /// Lets each write go that isn't safe and lies under one that is.
+    fn let_go(&mut self)
+        ensures folded { IsFoldedFrom self.old self.new }
+        ensures none { (w : Write) → is_safe self.new.history w ≡ false → IsUnderSafe self.new.history w → ⊥ }
+    {
+        self.past.is_past();
+        let count = self.past.kept().len();
+        for step in 0..count {
+            if !self.let_one_go() {
+                return;
+            }
+        }
+    }
+
+    /// Gives memory back: folds into the first bytes each write that is safe, before which each one is safe too, and that is before each other write of a byte of it. Before that it lets each write go that isn't safe, but is before a safe one that writes all of its bytes. What a crash may leave stays as it was, whatever happens later, and so does what reads show; the writes that are gone have no number any more. Out of memory, some of them may be left. For each one that it folds it looks at the pairs of writes that are kept, until it finds it: so it is quick if it is called after each sync.
     pub fn fold(&mut self) -> Result<(), AllocError>
         ensures folded { IsFoldedFrom self.old self.new }
         ensures none_left { OnOk result ((w : Write) → IsFoldable self.new.history w → ⊥) }
+        ensures none_under { OnOk result ((w : Write) → is_safe self.new.history w ≡ false → IsUnderSafe self.new.history w → ⊥) }
     {
         let memory = *self.first.allocator();
         self.fold_in(&memory)
@@ -219,8 +245,11 @@ impl Volume {
     pub fn fold_in<M: Memory>(&mut self, memory: &M) -> Result<(), AllocError>
         ensures folded { IsFoldedFrom self.old self.new }
         ensures none_left { OnOk result ((w : Write) → IsFoldable self.new.history w → ⊥) }
+        ensures none_under { OnOk result ((w : Write) → is_safe self.new.history w ≡ false → IsUnderSafe self.new.history w → ⊥) }
         ensures granted { ((n : ℕ) → M.grants memory.now n) → IsOk result }
     {
+        self.is_sound();
+        self.let_go();
         self.past.is_past();
         let count = self.past.kept().len();
         for step in 0..count {

@@ -245,7 +245,7 @@ impl Volume {
         .map(Some)
     }
 
-    /// Gives memory back: a write becomes part of the first bytes, and is forgotten, if it is safe, no other one had ended when it began, and it had ended when each other one of its bytes began. What a crash may leave stays as it was, whatever happens later. A write that is forgotten was safe, but `is_safe` doesn't know its number any more, so ask before.
+    /// Gives memory back. A write that isn't safe is let go if all of its bytes lie under a safe one that began after it had ended. Then a write becomes part of the first bytes, and is forgotten, if it is safe, each one that had ended when it began is safe too, and it had ended when each other one of its bytes began. What a crash may leave stays as it was, whatever happens later. `is_safe` doesn't know the number of a write that is gone, so ask before.
     ///
     /// ```
     /// # use wulgach::Volume;
