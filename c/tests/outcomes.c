@@ -167,6 +167,7 @@ static void numbers(void)
         {{.sq = 2, .files = 1}, {2, 1}, 0},
         {{.sq = 2, .files = 1}, {1, 3}, -22},
         {{.sq = 4, .files = 1, .stops = true}, {2, 1}, -22},
+        {{.sq = 4, .files = 1, .linux_rules = true}, {2, 1}, -22},
         {{.sq = 0, .files = 1}, {0, 0}, -22},
         {{.sq = 4, .files = 65}, {0, 0}, -22},
     };

@@ -9,3 +9,4 @@ pub mod Listed
 pub mod Among
 pub mod OrderCounts
 pub mod Verdicts
+pub mod CrashLines

@@ -5,3 +5,4 @@ pub mod Listings
 pub mod Wanted
 pub mod Claims
 pub mod Choices
+pub mod Crashes

@@ -1,6 +1,12 @@
 //! What a power failure may show of calls, as text: line by line, and claims about the lines.
 
-ghost use Rattle.std.specs.Prelude.{◌≡◌, false};
+ghost use Rattle.std.specs.Prelude.{◌≡◌, ◌++◌, ◌∷◌, ℕ, List, max, false, IfOk, OnOk, MatchOption, Contains, map, string_bytes};
+ghost use Rattle.uring_entry.specs.Layout.{Sqe};
+ghost use Rattle.uring_power.specs.Found.{MayBeMany};
+ghost use Rattle.uring_litmus.specs.Claims.{lines_in};
+ghost use Rattle.uring_litmus.specs.Crashes.{AreCrashLines, IsCrashVerdict, IsSoOfLine, IsNotSoOfLine, ReadsEntries, crash_line, crash_parts, left_text, left_texts};
+ghost use Rattle.uring_litmus.specs.Lines.{IsSortedOnce};
+ghost use Rattle.uring_litmus.specs.Parts.{texts_of};
 
 use crate::calls::entries_in;
 use crate::claims::{Claim, shows_some, so_by};
@@ -86,6 +92,9 @@ pub fn judge_crashes<R: Read>(
     most: u64,
 ) -> Result<CrashesJudged, PlayFault>
     requires { setup.now.linux ≡ false }
+    ensures { IfOk result (λ judged. (calls : List (List Sqe))
+        × ReadsEntries setup.now calls (R.remaining reader.old) (R.remaining reader.new)
+        × IsCrashVerdict (max unit 1) setup.now calls claim (lines_in lines.now) judged) }
 {
     let Some((shown, is_all)) = crash_lines(alloc, reader, setup, unit, most)? else {
         return Ok(CrashesJudged::TooMany);
@@ -93,11 +102,14 @@ pub fn judge_crashes<R: Read>(
     let against = first_against(alloc, shown.as_slice(), claim, lines);
     let count = shown.len();
     drop(shown);
-    Ok(match against? {
-        Some(line) => CrashesJudged::Fails { line },
-        None if is_all => CrashesJudged::Holds { count },
-        None => CrashesJudged::Unknown { count },
-    })
+    let Some(line) = against? else {
+        return Ok(if is_all {
+            CrashesJudged::Holds { count }
+        } else {
+            CrashesJudged::Unknown { count }
+        });
+    };
+    Ok(CrashesJudged::Fails { line })
 }
 
 /// The lines of what a power failure may show of the calls that are read, sorted by their bytes, each once, and whether they are all; none if too many images may be left of a file.
@@ -109,6 +121,10 @@ fn crash_lines<R: Read>(
     most: u64,
 ) -> Result<Option<(Vec<String>, bool)>, PlayFault>
     requires { setup.now.linux ≡ false }
+    ensures { IfOk result (λ found. (calls : List (List Sqe))
+        × ReadsEntries setup.now calls (R.remaining reader.old) (R.remaining reader.new)
+        × MatchOption found (MayBeMany (max unit 1) setup.now calls 1000)
+        (λ lines. AreCrashLines (max unit 1) setup.now calls lines.1 (texts_of lines.0.items))) }
 {
     let items = read_calls(alloc, reader, setup)?;
     let calls = entries_in(alloc, items.as_slice());
@@ -119,10 +135,9 @@ fn crash_lines<R: Read>(
     drop(calls);
     match found {
         Ok(FoundCrashes { crashes, is_all }) => {
-            let each = each_line(alloc, crashes.as_slice());
+            let lines = sorted_lines(alloc, crashes.as_slice());
             drop(crashes);
-            let mut lines = each?;
-            sort_once(&mut lines);
+            let lines = lines?;
             Ok(Some((lines, is_all)))
         }
         Err(CrashFault::Images) => Ok(None),
@@ -130,29 +145,68 @@ fn crash_lines<R: Read>(
     }
 }
 
+/// The lines of what power failures show, sorted by their bytes, each once.
+fn sorted_lines(alloc: Global, crashes: &[Crash]) -> Result<Vec<String>, AllocError>
+    ensures { IfOk result
+        (λ lines. IsSortedOnce (map crash_line crashes.now) (texts_of lines.items)) }
+{
+    let mut lines = each_line(alloc, crashes)?;
+    sort_once(&mut lines);
+    Ok(lines)
+}
+
 /// The line of what each power failure shows.
-fn each_line(alloc: Global, crashes: &[Crash]) -> Result<Vec<String>, AllocError> {
+fn each_line(alloc: Global, crashes: &[Crash]) -> Result<Vec<String>, AllocError>
+    ensures { IfOk result (λ lines. texts_of lines.items ≡ map crash_line crashes.now) }
+{
     let mut lines = Vec::new(alloc);
     for crash in crashes {
-        let parts = parts_of_crash(alloc, crash)?;
-        let line = join(alloc, parts.as_slice());
-        drop(parts);
-        lines.push(line?)?;
+        let line = line_of_crash(alloc, crash)?;
+        lines.push(line)?;
     }
     Ok(lines)
 }
 
+/// The line of what a power failure shows.
+fn line_of_crash(alloc: Global, crash: &Crash) -> Result<String, AllocError>
+    ensures { IfOk result (λ line. string_bytes line ≡ crash_line crash.now) }
+{
+    let parts = parts_of_crash(alloc, crash)?;
+    let line = join(alloc, parts.as_slice());
+    drop(parts);
+    line
+}
+
 /// The parts of what a power failure shows, in order: the completions, and what is left of each file.
-fn parts_of_crash(alloc: Global, crash: &Crash) -> Result<Vec<String>, AllocError> {
+fn parts_of_crash(alloc: Global, crash: &Crash) -> Result<Vec<String>, AllocError>
+    ensures { IfOk result (λ parts. texts_of parts.items ≡ crash_parts crash.now) }
+{
     let mut parts = Vec::new(alloc);
     add_completions(alloc, &mut parts, crash.posted())?;
-    for (fd, bytes) in crash.left().iter().enumerate() {
-        let len = bytes.len();
-        let mut text = format!(in alloc; "file {fd} len {len} data ")?;
-        push_hex(alloc, &mut text, bytes.as_slice())?;
+    add_left(alloc, &mut parts, crash.left())?;
+    Ok(parts)
+}
+
+/// Adds the text of each file of which these bytes are left, from descriptor 0 on.
+fn add_left(alloc: Global, parts: &mut Vec<String>, left: &[Vec<u8>]) -> Result<(), AllocError>
+    ensures { OnOk result (texts_of parts.new.items
+        ≡ texts_of parts.old.items ++ left_texts 0 (map (λ bytes. bytes.items) left.now)) }
+{
+    for (fd, bytes) in left.iter().enumerate() {
+        let text = text_of_left(alloc, fd, bytes.as_slice())?;
         parts.push(text)?;
     }
-    Ok(parts)
+    Ok(())
+}
+
+/// The text of a file of which these bytes are left.
+fn text_of_left(alloc: Global, fd: usize, bytes: &[u8]) -> Result<String, AllocError>
+    ensures { IfOk result (λ text. string_bytes text ≡ left_text fd bytes.now) }
+{
+    let len = bytes.len();
+    let mut text = format!(in alloc; "file {fd} len {len} data ")?;
+    push_hex(alloc, &mut text, bytes)?;
+    Ok(text)
 }
 
 /// The first of these lines of which the claim isn't so, if there is one.
@@ -161,13 +215,20 @@ fn first_against(
     shown: &[String],
     claim: Claim,
     lines: &[Vec<String>],
-) -> Result<Option<String>, AllocError> {
+) -> Result<Option<String>, AllocError>
+    ensures { IfOk result (λ found. MatchOption found
+        ((line : List ℕ) → Contains (texts_of shown.now) line → IsSoOfLine claim (lines_in lines.now) line)
+        (λ text. Contains (texts_of shown.now) (string_bytes text)
+        × IsNotSoOfLine claim (lines_in lines.now) (string_bytes text))) }
+{
     for line in shown {
         let parts = split_parts(alloc, line.as_str())?;
         let is_shown = shows_some(parts.as_slice(), lines);
         drop(parts);
-        if !so_by(claim, is_shown) {
-            return Ok(Some(String::from_str(alloc, line.as_str())?));
+        let so = so_by(claim, is_shown);
+        if !so {
+            let copy = String::from_str(alloc, line.as_str())?;
+            return Ok(Some(copy));
         }
     }
     Ok(None)

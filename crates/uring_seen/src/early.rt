@@ -1,6 +1,6 @@
 //! Whether a recorded trace is that of a history that is lawful by early effects.
 
-ghost use Rattle.std.specs.Prelude.{◌≡◌, IfOk, map, reverse};
+ghost use Rattle.std.specs.Prelude.{◌≡◌, ◌+◌, ◌-◌, ◌^◌, ◌<◌, IfOk, map, reverse};
 ghost use Rattle.uring_seen.specs.Written.{IsEarlyOf, IsEarlyText};
 ghost use Rattle.uring_seen.specs.Written as spec;
 
@@ -79,8 +79,10 @@ fn check_lines(
     }
 }
 
-/// The number of the line of this place.
-fn number_of(place: usize) -> u64 {
+/// The number of the line of this place: places are counted from 0, lines from 1.
+fn number_of(place: usize) -> u64
+    ensures { place < 2 ^ 64 - 1 → result ≡ place + 1 }
+{
     (place as u64).saturating_add(1)
 }
 

@@ -1,6 +1,6 @@
 //! A history that shows what was seen, from text to text.
 
-ghost use Rattle.std.specs.Prelude.{◌≡◌, [], ◌<◌, ◌+◌, ◌^◌, IfOk, map, reverse};
+ghost use Rattle.std.specs.Prelude.{◌≡◌, [], ◌<◌, ◌+◌, ◌^◌, IfOk, MatchOption, map, reverse, slice_get};
 ghost use Rattle.uring_core.specs.Histories.{history_of};
 ghost use Rattle.uring_text.specs.KeptLine.{kept_of};
 ghost use Rattle.uring_fill.specs.Filling.{Begins, seen_in};
@@ -218,8 +218,11 @@ fn told_wrong(
     })
 }
 
-/// The line of this place.
-fn line_at<'a>(lines: &[&'a [u8]], place: usize) -> &'a [u8] {
+/// The line of this place, or nothing past the last.
+fn line_at<'a>(lines: &[&'a [u8]], place: usize) -> &'a [u8]
+    ensures { MatchOption (slice_get lines.now place) (result.now ≡ [])
+        (λ line. result.now ≡ line.now) }
+{
     match lines.get(place) {
         Some(line) => *line,
         None => b"".as_slice(),

@@ -22,6 +22,9 @@ whole_after g manual (i ∷ items) before some =
 pub keeps_lengths : (g : Setup) → KeepsLengths g
 keeps_lengths g manual items some = whole_after g manual items 0 (omega arith) ∙ ap (λ n. n ∷ []) (omega arith)
 
+pub lengths_none : (g : Setup) → lengths_of g [] ≡ []
+lengths_none g = grind (arith, cases_Bool g.linux)
+
 pub lengths_append : (g : Setup) (xs ys : List (List Item))
     → lengths_of g (xs ++ ys) ≡ lengths_of g xs ++ lengths_of g ys
 lengths_append g xs ys = grind (arith, cases_Bool g.linux, flat_map-append, map-append)

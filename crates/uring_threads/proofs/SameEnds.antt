@@ -2,6 +2,7 @@
 use Rattle.std.proofs.Common.{◌≡◌, ℕ, suc, ◌<◌, ◌≤◌, List, [], ◌∷◌, length, map, get_or, refl, sym, subst, ap, ap₂, ◌∙◌, arith}
 use Rattle.uring_ports.specs.AppEnd.{AppEnd}
 use Rattle.uring_threads.proofs.Common.{AreLanesOf, AreSameLanes, AreTogether, HaveCarried, HaveCarriedNone, HaveFiles, HaveLooked, HoldJobs, HoldResults, IsKernel, IsSameKernel, Kept, Kernel, Setup, WorkLanes, Worker, calls_after, get_or-map, get_or_default, length-map, length-set, nothing_put, numbers_of_lanes, sizes_of, slice_set}
+use Rattle.uring_threads.proofs.CallLengths.{lengths_none}
 use Rattle.uring_workers.specs.Pairings.{pairing_of}
 use Rattle.uring_threads.specs.Opening.{kernel_at_first}
 use Rattle.uring_threads.specs.declared.intake.Intake.TheVariants as intake
@@ -52,7 +53,7 @@ pub is_at_first : (g : Setup) (numbers : List ℕ) (k : Kernel) → 0 < length k
     → length k.lanes ≤ 8 → HoldJobs k.lanes → HoldResults k.lanes → HaveCarriedNone k.lanes
     → IsKernel (kernel_at_first g numbers k)
 unfolding calls_after
-is_at_first g numbers k some few hold short none = grind arith
+is_at_first g numbers k some few hold short none = grind (arith, lengths_none g)
 
 -- A worker that does something goes on to be of the same ends.
 

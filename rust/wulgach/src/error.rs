@@ -53,7 +53,7 @@ impl fmt::Display for Error {
             Error::FileTooLong => "a file above 65,536 bytes",
             Error::NoFile => "no such file",
             Error::Lost => "a machine that is lost, since memory was refused to it",
-            Error::NotTakenWhole => "a call that the ring doesn't take whole",
+            Error::NotTakenWhole => "a ring that stops, keeps Linux's rules, or is too small for a call",
         })
     }
 }
