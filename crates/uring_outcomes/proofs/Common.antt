@@ -32,13 +32,13 @@ pub use Rattle.uring_files.specs.Contents.{FileContents, empty_file, empty_files
 pub use Rattle.uring_files.specs.Operations.{IsForFiles, IsOutcome, after, byte_of, file_of, result_of, state_of}
 pub use Rattle.uring_outcomes.specs.CallOutcomes.{CallsOutcome, ComesTo, IsOver, RefusesNone, bad_in, entries_in, entry_in, is_bad, items_in}
 pub use Rattle.uring_outcomes.specs.Direct.{AreDirect, AreUnnamed, DirectMovesLead, IsDirect, IsNextUnnamed}
-pub use Rattle.uring_outcomes.specs.Faults.{IsReason, entry_count}
+pub use Rattle.uring_outcomes.specs.Faults.{IsReason, StoppedWith, TookPaths, entry_count}
 pub use Rattle.uring_outcomes.specs.Index.{HasPlace, IsIndexed, NotesPlace, mark_of}
 pub use Rattle.uring_outcomes.specs.Moments.{Moment, accepted, after_moves, ended_at_once, finished, is_finishable, issued, moved, posted_with, started, starting}
-pub use Rattle.uring_outcomes.specs.Outcomes.{AreAllEndings, AreEndings, AreOnce, CanEnd, Ending}
+pub use Rattle.uring_outcomes.specs.Outcomes.{AreAllEndings, AreEndings, AreOnce, CanEnd, Ending, ending_of}
 pub use Rattle.uring_outcomes.specs.Prompt.{AreNamed, ArePrompt, IsPrompt, NamesAll, PromptMovesLead, is_named}
 pub use Rattle.uring_outcomes.specs.Recorded.{moves_in, with_event}
-pub use Rattle.uring_outcomes.specs.Runs.{HasBelow, HasNext, IsQuiet, IsReached, LedTo, MadeAs, Stands, StandsAt, among, entries_of}
-pub use Rattle.uring_outcomes.specs.Walks.{AddsOnce, BeginsIn, Goes, HasLonger, HasNoted, IsCovered, IsWalk, TakesPath, ending_of, longer_by, paths_of, waiting}
+pub use Rattle.uring_outcomes.specs.Runs.{AreRanked, CanAll, HasBelow, HasNext, IsQuiet, IsReached, LedTo, MadeAs, Stands, StandsAt, among, entries_of, rank}
+pub use Rattle.uring_outcomes.specs.Walks.{AddsOnce, BeginsIn, CanCome, HasFound, HasNoted, IsDue, IsSpot, IsStage, paths_of}
 pub use Rattle.uring_outcomes.specs.declared.move_of_calls.Move.{Move}
 pub use Rattle.uring_outcomes.specs.declared.run.Run.{Run}

@@ -26,7 +26,7 @@ pub mod Replaying
 pub mod NextCalls
 -- Paths, and what was found:
 pub mod Covering
-pub mod Walking
+pub mod Naming
 -- Endings that are the same:
 pub mod SameEndings
 -- Places that are noted for marks:

@@ -1,8 +1,10 @@
 -- What the dispatcher answers, and the moves that it makes: `issue_moves`, `accept_moves` and `finish_moves`.
 -- What the run stands at after them.
 use Rattle.std.proofs.Common.{◌≡◌, ℕ, suc, ◌+◌, ◌<◌, ◌≤◌, neg_ℤ, Bool, true, false, ◌&&◌, nat_le, if◌then◌else◌, List, [], ◌∷◌, length, drop, get_or, Option, Some, None, refl, sym, subst, ap, ◌∙◌, arith}
+use Rattle.std.specs.Prelude.{IsSome}
 use Rattle.uring_entry.specs.declared.errno.TheConstants.{ENOMEM}
-use Rattle.uring_outcomes.proofs.Common.{FileContents, Global, IsOutcome, IsReached, MadeAs, Moment, Move, Op, Outcome, Requests, Sqe, Vec, accepted, drop-cons, drop_all, ended_at_once, entries_of, entry_of, entry_outstanding, false_from_ne_true, finished, get_or-map, is_finishable, is_issuable, is_outstanding, is_running, issued, le-leb, least_below_some, leb-true, length-map, moved, operation_of, operation_running, result_of, started, starting, with_call}
+use Rattle.uring_outcomes.proofs.Common.{and_parts, FileContents, Global, IsOutcome, IsOver, IsReached, MadeAs, Moment, Move, Op, Outcome, Requests, Sqe, Vec, accepted, drop-cons, drop_all, ended_at_once, entries_of, entry_of, entry_outstanding, false_from_ne_true, finished, get_or-map, is_finishable, is_issuable, is_outstanding, is_running, issued, le-leb, least_below_some, least_below_tells, leb-true, length-map, moved, operation_of, operation_running, result_of, started, starting, with_call}
+use Rattle.uring_dispatch.proofs.Counting.{count_below_some}
 use Rattle.uring_dispatch.specs.Issuable.{issuable_from}
 use Rattle.uring_dispatch.specs.IssueAndFinish as asked
 use Rattle.uring_dispatch.specs.declared.answers.Issued.{Issued}
@@ -117,6 +119,11 @@ issuable_first r n can =
       le_itself : (k : ℕ) → nat_le k k ≡ true
       le_itself k = le-leb k k (omega arith)
 
+-- and what is the least from its number on can be
+pub first_issuable : (r : Requests) (n : ℕ) → issuable_from r n ≡ Some n → is_issuable r n ≡ true
+first_issuable r n is =
+    (and_parts (nat_le n n) (is_issuable r n) (least_below_tells (λ k. nat_le n k && is_issuable r k) (length r.accepted) n is).holds).1
+
 -- a move that can be made, by cases
 can_of : (can : Bool) (m next : Moment) → (if can then Some m else None) ≡ Some next → can ≡ true
 can_of can m next e = grind arith
@@ -138,3 +145,34 @@ finishable_tells r n e = grind arith
 pub called_for : (files : List FileContents) (op : Op) (o : Outcome) → IsOutcome files op o
     → (o.res ≡ neg_ℤ ENOMEM → ⊥) → o ≡ result_of files op
 called_for files op o allowed granted = grind arith
+
+-- what can be made
+
+pub issue_some : (m : Moment) (n : ℕ) → is_issuable m.requests n ≡ true → IsSome (moved m (move.Issue n))
+issue_some m n can = subst (λ b. IsSome (if b then Some (issued m n) else None)) (sym can) refl
+
+pub finish_some : (calls : List (List Sqe)) (m : Moment) (n : ℕ) → IsReached calls m → is_running m.requests n ≡ true
+    → IsSome (moved m (move.Finish n))
+finish_some calls m n r runs = subst IsSome (sym (finish_moves m n (sound_at calls m r) runs)) refl
+
+pub accept_some : (m : Moment) (call : List Sqe) (later : List (List Sqe)) → m.left ≡ call ∷ later
+    → IsSome (moved m move.Accept)
+accept_some m call later left = subst (λ calls. IsSome (accepted m calls)) (sym left) refl
+
+pub accept_can : (calls : List (Vec Sqe Global)) (m : Moment) (k : ℕ) → m.left ≡ drop k (entries_of calls)
+    → k < length calls → IsSome (moved m move.Accept)
+accept_can calls m k left low =
+    let all : List (List Sqe) = entries_of calls in
+    let within : k < length all = omega (arith, length-map calls (λ (v : Vec Sqe Global). v.items)) in
+    accept_some m (get_or all k []) (drop (suc k) all) (left ∙ drop-cons all k [] within)
+
+-- Nothing can be made after an end.
+
+none_outstanding : (m : Moment) (n : ℕ) → n < length m.requests.accepted → IsOver m
+    → is_outstanding m.requests n ≡ true → ⊥
+none_outstanding m n low over out =
+    grind (arith, (count_below_some (is_outstanding m.requests) (length m.requests.accepted) n low out))
+
+-- an over moment has no moves
+pub over_stays : (m next : Moment) (x : Move) → IsOver m → moved m x ≡ Some next → ⊥
+over_stays m next x over is = grind (arith, over, issue_can, none_outstanding)

@@ -1,8 +1,9 @@
 -- Glue. A run of calls, and the moments that it may stand at.
-use Rattle.std.specs.Prelude.{◌≡◌, ℕ, Bool, true, false, List, drop, map, Option, Some, None, Contains, ◌<◌, ◌≤◌, nat_eq}
+use Rattle.std.specs.Prelude.{◌≡◌, ℕ, ◌+◌, ◌*◌, Bool, true, false, List, drop, map, Option, Some, None, IsSome, Contains, ◌<◌, ◌≤◌, nat_eq}
 use Rattle.std.specs.List.{list_any}
 use Rattle.std.specs.declared.vec.Vec.{Vec}
 use Rattle.std.specs.declared.alloc.Global.{Global}
+use Rattle.uring_walk.specs.Paths.{AreOnce}
 use Rattle.uring_entry.specs.Setup.{Setup}
 use Rattle.uring_entry.specs.Layout.{Sqe}
 use Rattle.uring_entry.specs.Preparation.{operation_of}
@@ -61,10 +62,27 @@ pub record LedTo (calls : List (List Sqe)) (from : Moment) (moves : List Move) (
 abbrev pub among : List ℕ → ℕ → Bool
 among names u = list_any (λ name. nat_eq name u) names
 
--- each direct move that can be made next is among these, if cancels name these user data
-abbrev pub HasNext : List ℕ → Moment → List Move → Type 0
-HasNext names m xs = (x : Move) (next : Moment) → moved m x ≡ Some next
-    → IsDirect (among names) m x → Contains xs x
+-- each of these moves can be made
+abbrev pub CanAll : Moment → List Move → Type 0
+CanAll m xs = (x : Move) → Contains xs x → IsSome (moved m x)
+
+-- the order in which moves are tried
+abbrev pub rank : Move → ℕ
+rank move.Accept = 0
+rank (move.Issue n) = n * 2 + 1
+rank (move.Finish n) = n * 2 + 2
+
+-- these moves are each there once, and come before this rank
+pub record AreRanked (below : ℕ) (xs : List Move) : Type 0 where
+  pub low : (x : Move) → Contains xs x → rank x < below
+  pub once : AreOnce xs
+
+-- the direct moves that can be made next are among these, each of which can be made, and none is there twice, if cancels name these user data
+pub record HasNext (names : List ℕ) (m : Moment) (xs : List Move) : Type 0 where
+  pub all : (x : Move) (next : Moment) → moved m x ≡ Some next → IsDirect (among names) m x
+      → Contains xs x
+  pub right : CanAll m xs
+  pub once : AreOnce xs
 
 -- a request that runs, and has none of these user data
 pub record IsQuiet (names : List ℕ) (m : Moment) (n : ℕ) : Type 0 where

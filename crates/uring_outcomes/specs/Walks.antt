@@ -1,26 +1,22 @@
--- Glue. A walk over all lists of moves: the paths that are still to be taken, and what was found.
-use Rattle.std.specs.Prelude.{◌≡◌, ◌⊎◌, ℕ, true, List, [], ◌∷◌, ◌++◌, map, Option, Some, Contains, if◌then◌else◌}
-use Rattle.std.specs.Option.{option_to_list}
+-- Glue. A walk over all lists of moves: what comes next after a path, and what was found.
+use Rattle.std.specs.Prelude.{◌≡◌, ◌⊎◌, ℕ, List, [], ◌∷◌, ◌++◌, map, Option, Some, IsSome, Contains}
 use Rattle.std.specs.declared.vec.Vec.{Vec}
 use Rattle.std.specs.declared.alloc.Global.{Global}
 use Rattle.uring_entry.specs.Setup.{Setup}
 use Rattle.uring_entry.specs.Layout.{Sqe}
-use Rattle.uring_outcomes.specs.Moments.{Moment, starting, after_moves}
+use Rattle.uring_outcomes.specs.Moments.{Moment, starting, moved, after_moves}
 use Rattle.uring_outcomes.specs.CallOutcomes.{IsOver}
-use Rattle.uring_outcomes.specs.Direct.{AreDirect}
+use Rattle.uring_outcomes.specs.Direct.{IsDirect}
 use Rattle.uring_outcomes.specs.declared.move_of_calls.Move.{Move}
-use Rattle.uring_outcomes.specs.Outcomes.{Ending, AreEndings, AreOnce}
-use Rattle.uring_outcomes.specs.Runs.{among, HasNext, LedTo}
+use Rattle.uring_outcomes.specs.Outcomes.{Ending, AreEndings, AreOnce, ending_of}
+use Rattle.uring_outcomes.specs.Runs.{among, LedTo}
 use Rattle.uring_outcomes.specs.Index.{IsIndexed}
-use Rattle.uring_outcomes.specs.declared.walk.Walk.{Walk}
+use Rattle.uring_outcomes.specs.declared.endings.Endings.{Endings}
+use Rattle.uring_outcomes.specs.declared.stage.Stage.{Stage}
 
 -- the lists of moves that vectors hold
 abbrev pub paths_of : List (Vec Move Global) → List (List Move)
 paths_of todo = map (λ path. path.items) todo
-
--- what calls came to at this moment
-abbrev pub ending_of : Moment → Ending
-ending_of m = record { posted = m.posted; files = m.files }
 
 -- the list begins with one of these paths
 pub record BeginsIn (todo : List (List Move)) (moves : List Move) : Type 0 where
@@ -29,12 +25,29 @@ pub record BeginsIn (todo : List (List Move)) (moves : List Move) : Type 0 where
   pub there : Contains todo path
   pub is : moves ≡ path ++ rest
 
--- Each list of moves that leads to an end has its ending among those found, or begins with a path that is still to be taken. Only direct ones are asked for, where cancels name these user data.
-abbrev pub IsCovered : Setup → List (List Sqe) → List ℕ → List (List Move) → List Ending → Type 0
-IsCovered g calls names todo found = (moves : List Move) (last : Moment)
-    → AreDirect (among names) (starting g calls) moves
-    → after_moves (starting g calls) moves ≡ Some last → IsOver last
-    → Contains found (ending_of last) ⊎ BeginsIn todo moves
+-- after this path the move can be made
+pub record CanCome (g : Setup) (calls : List (List Sqe)) (path : List Move) (x : Move) : Type 0 where
+  pub here : Moment
+  pub leads : after_moves (starting g calls) path ≡ Some here
+  pub can : IsSome (moved here x)
+
+-- after this path the move is direct, where cancels name these user data, and can be made
+pub record IsDue (g : Setup) (calls : List (List Sqe)) (names : List ℕ) (path : List Move) (x : Move) : Type 0 where
+  pub here : Moment
+  pub next : Moment
+  pub leads : after_moves (starting g calls) path ≡ Some here
+  pub made : moved here x ≡ Some next
+  pub direct : IsDirect (among names) here x
+
+-- the run has made the moves of this path
+pub record IsStage (g : Setup) (calls : List (List Sqe)) (stage : Stage) (path : List Move) : Type 0 where
+  pub is : stage.path.items ≡ path
+  pub led : LedTo calls (starting g calls) path stage.run
+
+-- a path that is kept, and can be made
+pub record IsSpot (g : Setup) (calls : List (List Sqe)) (kept path : List Move) : Type 0 where
+  pub is : kept ≡ path
+  pub can : IsSome (after_moves (starting g calls) path)
 
 -- One more ending may have been noted, that of this moment if it is over.
 pub record HasNoted (m : Moment) (old new : List Ending) : Type 0 where
@@ -47,36 +60,11 @@ pub record HasNoted (m : Moment) (old new : List Ending) : Type 0 where
 abbrev pub AddsOnce : Ending → List Ending → List Ending → Type 0
 AddsOnce e old new = ((new ≡ old) × Contains old e) ⊎ ((new ≡ old ++ e ∷ []) × (Contains old e → ⊥))
 
--- how the walk stands: all lists of moves are covered, each ending found is one, and none is there twice
-pub record IsWalk (g : Setup) (calls : List (List Sqe)) (names : List ℕ) (todo : List (List Move)) (found : List Ending) : Type 0 where
-  pub covered : IsCovered g calls names todo found
-  pub right : AreEndings g calls found
-  pub once : AreOnce found
-
--- this path with this move after it, if there is one
-abbrev pub longer_by : List Move → Option Move → List (List Move)
-longer_by path next = map (λ x. path ++ x ∷ []) (option_to_list next)
-
--- A path was taken: with it the walk stood, and stands without it.
-abbrev pub TakesPath : Setup → List (List Sqe) → List ℕ → List Move → List (List Move) → List Ending
-    → List (List Move) → List Ending → Type 0
-TakesPath g calls names path todo found todo_after found_after =
-    IsWalk g calls names (todo ++ path ∷ []) found → IsWalk g calls names todo_after found_after
-
--- paths were put after those that are still to be taken: among them this one with each move after it that can be made next
-pub record HasLonger (names : List ℕ) (m : Moment) (path : List Move) (old new : List (List Move)) : Type 0 where
-  pub moves : List Move
-  pub next : HasNext names m moves
-  pub is : new ≡ old ++ map (λ x. path ++ x ∷ []) moves
-
--- How the walk's function stands.
-
--- the paths that are still to be taken, with that which the walk is on
-abbrev pub waiting : Walk → List (List Move)
-waiting w = paths_of w.todo.items ++ (if w.is_on_path then w.path.items ∷ [] else [])
-
--- between two paths: if it is on one, its run has made the moves
-pub record Goes (g : Setup) (calls : List (List Sqe)) (names : List ℕ) (w : Walk) : Type 0 where
-  pub walk : IsWalk g calls names (waiting w) w.found.list.items
-  pub indexed : IsIndexed w.found
-  pub there : w.is_on_path ≡ true → LedTo calls (starting g calls) w.path.items w.run
+-- what was found once these paths were visited: the ending of each that leads to an end, each once, and nothing that isn't one
+pub record HasFound (g : Setup) (calls : List (List Sqe)) (found : Endings) (seen : List (List Move)) : Type 0 where
+  pub all : (path : List Move) (last : Moment) → Contains seen path
+      → after_moves (starting g calls) path ≡ Some last → IsOver last
+      → Contains found.list.items (ending_of last)
+  pub right : AreEndings g calls found.list.items
+  pub once : AreOnce found.list.items
+  pub indexed : IsIndexed found

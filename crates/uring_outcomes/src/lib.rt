@@ -15,6 +15,7 @@ mod names;
 mod next;
 mod paths;
 mod run;
+mod stage;
 mod walk;
 
 pub use ending::Ending;
@@ -22,7 +23,7 @@ pub use fault::WalkFault;
 pub use map_memory::MapMemory;
 pub use move_of_calls::Move;
 pub use next::all_next;
-pub use paths::push_longer;
+pub use paths::{longer, push_longer};
 pub use run::Run;
 pub use uring_entry::{Cqe, Setup, Sqe};
 pub use uring_files::Files;

@@ -1,13 +1,14 @@
 //! The moves that can be made next.
 
-ghost use Rattle.std.specs.Prelude.{◌≡◌, ◌↔◌, ◌∷◌, ◌++◌, [], true, ℕ, List, IfOk, IsOk, IsTrue, OnOk, MatchOption, Contains, Some};
+ghost use Rattle.std.specs.Prelude.{◌≡◌, ◌↔◌, ◌+◌, ◌*◌, ◌∷◌, ◌++◌, [], true, ℕ, List, IfOk, IsOk, IsTrue, OnOk, MatchOption, Contains, Some};
 ghost use Rattle.uring_entry.specs.Layout.{Sqe};
 ghost use Rattle.uring_entry.specs.Requests.{is_issuable, is_running};
 ghost use Rattle.uring_outcomes.specs.Moments.{Moment, moved, is_finishable};
 ghost use Rattle.uring_outcomes.specs.Direct.{AreUnnamed, IsNextUnnamed};
 ghost use Rattle.uring_outcomes.specs.declared.move_of_calls.Move.TheVariants as move;
 ghost use Rattle.uring_outcomes.specs.declared.move_of_calls.Move.{Move};
-ghost use Rattle.uring_outcomes.specs.Runs.{among, entries_of, Stands, StandsAt, HasNext, IsQuiet};
+ghost use Rattle.uring_outcomes.specs.Runs.{among, entries_of, Stands, StandsAt, HasNext, CanAll, AreRanked, IsQuiet};
+ghost use Rattle.uring_walk.specs.Paths.{AreOnce};
 
 use crate::move_of_calls::Move;
 use crate::run::Run;
@@ -47,6 +48,9 @@ pub fn all_next<M: Memory>(
     ensures all { (m : Moment) → StandsAt (entries_of calls.now) run.now m
         → IfOk result (λ moves.
         (x : Move) (next : Moment) → moved m x ≡ Some next → Contains moves.items x) }
+    ensures right { (m : Moment) → StandsAt (entries_of calls.now) run.now m
+        → IfOk result (λ moves. CanAll m moves.items) }
+    ensures once { IfOk result (λ moves. AreOnce moves.items) }
     ensures granted { ((n : ℕ) → M.grants memory.now n) → IsOk result }
 {
     let mut moves = Vec::new(alloc);
@@ -139,10 +143,14 @@ fn add_all<M: Memory>(
     calls: &[Vec<Sqe>],
     moves: &mut Vec<Move>,
 ) -> Result<(), AllocError>
-    requires { Stands (entries_of calls.now) run.now }
+    requires stands { Stands (entries_of calls.now) run.now }
+    requires none { moves.old.items ≡ [] }
     ensures all { (m : Moment) → StandsAt (entries_of calls.now) run.now m
         → OnOk result
         ((x : Move) (next : Moment) → moved m x ≡ Some next → Contains moves.new.items x) }
+    ensures right { (m : Moment) → StandsAt (entries_of calls.now) run.now m
+        → OnOk result (CanAll m moves.new.items) }
+    ensures once { OnOk result (AreOnce moves.new.items) }
     ensures granted { ((n : ℕ) → M.grants memory.now n) → IsOk result }
 {
     if run.next_call < calls.len() {
@@ -170,6 +178,10 @@ fn add_of<M: Memory>(
     ensures finish { (calls : List (List Sqe)) (m : Moment) → StandsAt calls run.now m
         → OnOk result
         (is_finishable m.requests number ≡ true → Contains moves.new.items (move.Finish number)) }
+    ensures right { (calls : List (List Sqe)) (m : Moment) → StandsAt calls run.now m
+        → CanAll m moves.old.items → OnOk result (CanAll m moves.new.items) }
+    ensures ranks { AreRanked (number * 2 + 1) moves.old.items
+        → OnOk result (AreRanked (number * 2 + 3) moves.new.items) }
     ensures granted { ((n : ℕ) → M.grants memory.now n) → IsOk result }
 {
     if can_issue(run, number) {
@@ -185,7 +197,7 @@ fn add_of<M: Memory>(
 fn can_issue(run: &Run, number: u64) -> bool
     requires { (calls : List (List Sqe)) × Stands calls run.now }
     ensures { (calls : List (List Sqe)) (m : Moment) → StandsAt calls run.now m
-        → is_issuable m.requests number ≡ true → result ≡ true }
+        → IsTrue result ↔ (is_issuable m.requests number ≡ true) }
 {
     match run.dispatch.next_issuable(number) {
         Some(next) => next == number,

@@ -1,27 +1,22 @@
 //! The walk over all lists of moves.
 
-ghost use Rattle.std.specs.Prelude.{◌≡◌, ◌↔◌, ◌≤◌, ◌^◌, [], ℕ, List, Some, Err, true, false, IfOk, IfErr, IsOk, OnOk, IsTrue};
-ghost use Rattle.uring_entry.specs.Setup.{Setup};
-ghost use Rattle.uring_entry.specs.Layout.{Sqe};
+ghost use Rattle.std.specs.Prelude.{◌≡◌, ◌↔◌, ◌≤◌, ◌-◌, ◌^◌, Err, true, false, IfOk, IfErr, IsTrue};
 ghost use Rattle.uring_outcomes.specs.Moments.{Moment};
 ghost use Rattle.uring_outcomes.specs.CallOutcomes.{IsOver};
 ghost use Rattle.uring_outcomes.specs.Outcomes.{AreAllEndings, AreEndings, AreOnce};
-ghost use Rattle.uring_outcomes.specs.Faults.{entry_count, IsReason};
+ghost use Rattle.uring_outcomes.specs.Faults.{entry_count, IsReason, TookPaths, StoppedWith};
 ghost use Rattle.uring_outcomes.specs.Runs.{entries_of, Stands, StandsAt};
-ghost use Rattle.uring_outcomes.specs.Walks.{waiting, Goes};
 
-use crate::ending::{Ending, note};
+use crate::ending::Ending;
 use crate::endings::Endings;
 use crate::fault::WalkFault;
 use crate::map_memory::MapMemory;
-use crate::move_of_calls::Move;
 use crate::names::add_names;
-use crate::paths::fork;
 use crate::run::Run;
-use std::alloc::{AllocError, Global};
-use std::mem;
+use crate::stage::CallMoves;
+use std::alloc::Global;
 use uring_entry::{Setup, Sqe};
-use uring_memory::Memory;
+use uring_walk::walk;
 
 /// What was found of all that calls may come to.
 #[derive(Drop)]
@@ -43,6 +38,8 @@ pub fn outcomes(alloc: Global, setup: &Setup, calls: &[Vec<Sqe>]) -> Result<Vec<
     ensures all { IfOk result
         (λ found. AreAllEndings setup.now (entries_of calls.now) found.items) }
     ensures once { IfOk result (λ found. AreOnce found.items) }
+    ensures paths { result ≡ Err WalkFault.Paths
+        → TookPaths setup.now (entries_of calls.now) (2 ^ 64 - 1) }
     ensures spent { result ≡ Err WalkFault.Spent → 2 ^ 63 ≤ entry_count (entries_of calls.now) }
 {
     outcomes_in(&alloc, alloc, setup, calls)
@@ -61,6 +58,8 @@ pub fn outcomes_in<M: MapMemory>(
     ensures once { IfOk result (λ found. AreOnce found.items) }
     ensures fault { IfErr result
         (λ fault. (fault ≡ WalkFault.Paths → ⊥) → IsReason (M.grants memory.now) (entries_of calls.now) fault) }
+    ensures paths { result ≡ Err WalkFault.Paths
+        → TookPaths setup.now (entries_of calls.now) (2 ^ 64 - 1) }
 {
     let found = outcomes_within_in(memory, alloc, setup, calls, u64::MAX)?;
     let Found { endings, is_all } = found;
@@ -86,6 +85,8 @@ pub fn outcomes_within(
     ensures all { IfOk result
         (λ found. found.is_all ≡ true → AreAllEndings setup.now (entries_of calls.now) found.endings.items) }
     ensures once { IfOk result (λ found. AreOnce found.endings.items) }
+    ensures limit { IfOk result
+        (λ found. found.is_all ≡ false → StoppedWith setup.now (entries_of calls.now) most found.endings.items) }
     ensures spent { result ≡ Err WalkFault.Spent → 2 ^ 63 ≤ entry_count (entries_of calls.now) }
     ensures paths { result ≡ Err WalkFault.Paths → ⊥ }
 {
@@ -106,154 +107,38 @@ pub fn outcomes_within_in<M: MapMemory>(
     ensures all { IfOk result
         (λ found. found.is_all ≡ true → AreAllEndings setup.now (entries_of calls.now) found.endings.items) }
     ensures once { IfOk result (λ found. AreOnce found.endings.items) }
+    ensures limit { IfOk result
+        (λ found. found.is_all ≡ false → StoppedWith setup.now (entries_of calls.now) most found.endings.items) }
     ensures fault { IfErr result (IsReason (M.grants memory.now) (entries_of calls.now)) }
 {
     let mut names = Vec::new(alloc);
     add_names(memory, calls, &mut names)?;
-    let mut walk = Walk::new(memory, alloc, setup.files())?;
-    let names = names.as_slice();
-    let is_all = take_paths(memory, alloc, setup, calls, names, most, &mut walk)?;
+    let moves = CallMoves {
+        memory,
+        alloc,
+        setup,
+        calls,
+        names: names.as_slice(),
+    };
+    let mut found = Endings::new(alloc);
+    let end = walk(alloc, &moves, &mut found, most)?;
     Ok(Found {
-        endings: walk.into_endings(),
-        is_all,
+        endings: list_of(found),
+        is_all: end.is_all(),
     })
 }
 
-/// How a walk stands: the path that it is on, if it is on one, the paths that are still to be taken, and what it has found.
-#[derive(Drop)]
-pub(crate) struct Walk {
-    pub run: Run,
-
-    /// The moves that the run has made, if the walk is on a path.
-    pub path: Vec<Move>,
-    pub is_on_path: bool,
-
-    /// The paths that are still to be taken.
-    pub todo: Vec<Vec<Move>>,
-    pub found: Endings,
-}
-
-impl Walk {
-    ghost use Rattle.uring_outcomes.specs.Walks.{Goes, waiting};
-
-    /// At the beginning: on the path of no move, with nothing found.
-    fn new<M: MapMemory>(memory: &M, alloc: Global, files: u32) -> Result<Walk, AllocError>
-        ensures goes { IfOk result
-            (λ walk. (g : Setup) (calls : List (List Sqe)) (names : List ℕ) → g.files ≡ files → files ≤ 64 → Goes g calls names walk) }
-        ensures granted { ((n : ℕ) → M.grants memory.now n) → IsOk result }
-    {
-        Ok(Walk {
-            run: Run::new(memory, alloc, files)?,
-            path: Vec::new(alloc),
-            is_on_path: true,
-            todo: Vec::new(alloc),
-            found: Endings::new(alloc),
-        })
-    }
-
-    /// What was found.
-    fn into_endings(self) -> Vec<Ending>
-        ensures { result.items ≡ self.found.list.items }
-    {
-        let Walk {
-            run,
-            path,
-            todo,
-            found,
-            ..
-        } = self;
-        let Endings { list, places } = found;
-        drop(run);
-        drop(path);
-        drop(todo);
-        drop(places);
-        list
-    }
-
-    /// Goes back to a path that is still to be taken, unless it is on one, and makes its moves on a new run; it is on the path if all can be made. Tells whether there was one.
-    fn resume<M: MapMemory>(
-        &mut self,
-        memory: &M,
-        alloc: Global,
-        setup: &Setup,
-        calls: &[Vec<Sqe>],
-    ) -> Result<bool, WalkFault>
-        ensures goes { (names : List ℕ) → Goes setup.now (entries_of calls.now) names self.old
-            → OnOk result (Goes setup.now (entries_of calls.now) names self.new) }
-        ensures over { IfOk result (λ taken. taken ≡ false → waiting self.new ≡ []) }
-        ensures fault { IfErr result (IsReason (M.grants memory.now) (entries_of calls.now)) }
-    {
-        if self.is_on_path {
-            return Ok(true);
-        }
-        let Some(path) = self.todo.pop() else {
-            return Ok(false);
-        };
-        self.path = path;
-        let run = Run::new(memory, alloc, setup.files())?;
-        drop(mem::replace(&mut self.run, run));
-        self.is_on_path = self.run.replay(memory, calls, self.path.as_slice())?;
-        Ok(true)
-    }
-
-    /// Goes on from where it is, if it is on a path: notes what the calls came to if all is over, and else takes one of the next moves, if there is one and it can be made, and leaves the others to be taken.
-    fn go_on<M: MapMemory>(
-        &mut self,
-        memory: &M,
-        alloc: Global,
-        calls: &[Vec<Sqe>],
-        names: &[u64],
-    ) -> Result<(), WalkFault>
-        requires { (g : Setup) × Goes g (entries_of calls.now) names.now self.old }
-        ensures goes { (g : Setup) → Goes g (entries_of calls.now) names.now self.old
-            → OnOk result (Goes g (entries_of calls.now) names.now self.new) }
-        ensures fault { IfErr result (IsReason (M.grants memory.now) (entries_of calls.now)) }
-    {
-        if !self.is_on_path {
-            return Ok(());
-        }
-        if is_over(&self.run, calls) {
-            self.is_on_path = false;
-            return Ok(note(memory, alloc, &mut self.run, &mut self.found)?);
-        }
-        let path = self.path.as_slice();
-        let Some(next) = fork(memory, alloc, &self.run, calls, path, names, &mut self.todo)? else {
-            self.is_on_path = false;
-            return Ok(());
-        };
-        self.is_on_path = self.run.make(memory, calls, next)?;
-        memory.reserve(&mut self.path, 1)?;
-        self.path.push_reserved(next);
-        Ok(())
-    }
-}
-
-/// Takes at most so many paths, each the one that it is on or one of those that are still to be taken, and tells whether none is left.
-fn take_paths<M: MapMemory>(
-    memory: &M,
-    alloc: Global,
-    setup: &Setup,
-    calls: &[Vec<Sqe>],
-    names: &[u64],
-    most: u64,
-    walk: &mut Walk,
-) -> Result<bool, WalkFault>
-    requires { Goes setup.now (entries_of calls.now) names.now walk.old }
-    ensures goes { OnOk result (Goes setup.now (entries_of calls.now) names.now walk.new) }
-    ensures over { IfOk result (λ is_all. is_all ≡ true → waiting walk.new ≡ []) }
-    ensures fault { IfErr result (IsReason (M.grants memory.now) (entries_of calls.now)) }
+/// The endings that were found.
+fn list_of(found: Endings) -> Vec<Ending>
+    ensures { result.items ≡ found.list.items }
 {
-    'paths: for _ in 0..most {
-        if !walk.resume(memory, alloc, setup, calls)? {
-            return Ok(true);
-        }
-        walk.go_on(memory, alloc, calls, names)?;
-    }
-    Ok(!walk.is_on_path && walk.todo.is_empty())
+    let Endings { list, places } = found;
+    drop(places);
+    list
 }
 
 /// Whether each call was accepted and no request is outstanding.
-fn is_over(run: &Run, calls: &[Vec<Sqe>]) -> bool
+pub(crate) fn is_over(run: &Run, calls: &[Vec<Sqe>]) -> bool
     requires { Stands (entries_of calls.now) run.now }
     ensures { (m : Moment) → StandsAt (entries_of calls.now) run.now m → IsTrue result ↔ IsOver m }
 {

@@ -1,6 +1,6 @@
 use Rattle.std.proofs.Common.{◌≡◌, ◌+◌, ℕ, List, false, true, [], ◌∷◌, ◌++◌, length, take, sym, subst, ap, ◌∙◌, arith}
 use Rattle.uring_outcomes.proofs.Common.{Global, NamesAll, Vec, addr_of, among, both_ways, false≢true, is_cancel, ne_eqb, take_all}
-use Rattle.uring_outcomes.proofs.Walking.{among_kept, among_pushed, names_kept, names_more}
+use Rattle.uring_outcomes.proofs.Naming.{among_kept, among_pushed, names_kept, names_more}
 use Rattle.uring_outcomes.proofs.names.add_named.Goals as goal
 use Rattle.uring_outcomes.proofs.names.add_named.Goals.{then-opcode-eq-ASYNC_CANCEL+in_ok-reserve, else-opcode-eq-ASYNC_CANCEL}
 

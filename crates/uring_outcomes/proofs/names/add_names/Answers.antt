@@ -1,6 +1,6 @@
 use Rattle.std.proofs.Common.{subst, arith, take}
 use Rattle.uring_outcomes.proofs.Common.{AreNamed, NamesAll, among, entries_of, take_all}
-use Rattle.uring_outcomes.proofs.Walking.{named_kept, named_more}
+use Rattle.uring_outcomes.proofs.Naming.{named_kept, named_more}
 use Rattle.uring_outcomes.proofs.names.add_names.Goals as goal
 
 pub loop-call-preserved : goal.loop-call-preserved

@@ -8,5 +8,5 @@ returns-then-is_next_unnamed c = λ m at.
 
 pub returns-in-Some : goal.returns-in-Some
 returns-in-Some c = λ m at.
-    next_finish c.args.names.now m c.in-Some.number (c.in-Some.ensures (entries_of c.args.calls.now) m at)
+    next_finish c.args.names.now (entries_of c.args.calls.now) m c.in-Some.number at.reached (c.in-Some.ensures (entries_of c.args.calls.now) m at)
     (λ e. both_ways c.is_next_unnamed.result c.if-is_next_unnamed.false ((c.is_next_unnamed.ensures m at).1 e))
