@@ -50,7 +50,25 @@ impl CrashMachine {
         ensures fits { IfOk result
             (λ machine. FitsRun machine (begun_on (empty_files setup.now.files)) []) }
     {
-        CrashMachine::on(alloc, setup, unit, &[])
+        CrashMachine::new_in(&alloc, alloc, setup, unit)
+    }
+
+    /// As `new`, by this memory. If it grants whatever is asked for, there is no error.
+    pub fn new_in<M: Memory>(
+        memory: &M,
+        alloc: Global,
+        setup: &Setup,
+        unit: u64,
+    ) -> Result<CrashMachine, AllocError>
+        requires { 0 < unit }
+        ensures setup { IfOk result (λ machine. machine.core.setup ≡ setup.now) }
+        ensures unit { IfOk result (λ machine. machine.unit ≡ unit) }
+        ensures ready { IfOk result (λ machine. machine.is_lost ≡ false) }
+        ensures fits { IfOk result
+            (λ machine. FitsRun machine (begun_on (empty_files setup.now.files)) []) }
+        ensures granted { ((n : ℕ) → M.grants memory.now n) → IsOk result }
+    {
+        CrashMachine::on_in(memory, alloc, setup, unit, &[])
     }
 
     /// A machine of this set-up whose first files have these bytes, and whose others are empty. `AllocError`: memory was refused.
