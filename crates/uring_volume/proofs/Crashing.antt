@@ -1,5 +1,5 @@
 -- What a crash of a sound volume leaves.
-use Rattle.std.proofs.Common.{◌≡◌, ◌↔◌, ◌<◌, ℕ, suc, min, List, length, reverse, sym, subst, arith}
+use Rattle.std.proofs.Common.{◌≡◌, ◌↔◌, ◌<◌, ℕ, suc, min, List, length, sym, subst, arith}
 use Rattle.uring_volume.proofs.Common.{AreBelow, AreTheImages, History, IsImage, IsKept, IsLeftBy, IsReadBack, IsSound, Volume, Write, images_of, part}
 use Rattle.uring_volume.proofs.ReadBack.{read_back}
 use Rattle.uring_volume.proofs.Chosen.{chosen_is_image}

@@ -1,9 +1,9 @@
 -- What a volume keeps when a write is folded.
-use Rattle.std.proofs.Common.{◌≡◌, ◌==◌, ◌<◌, ◌≤◌, ℕ, zero, suc, Bool, true, false, not, List, [], ◌∷◌, ◌++◌, ◌⊎◌, length, get_or, reverse, refl, sym, subst, ap, ◌∙◌, inl, inr, arith}
-use Rattle.uring_volume.proofs.Common.{Err, Event, History, IsFoldable, IsFoldedFrom, IsHeld, IsIn, IsLawful, IsOneFolded, IsOver, IsSound, Ok, Result, SyncEnded, SyncFailed, SyncIssued, Volume, Write, WriteEnded, WriteIssued, append-nil, append_assoc, both_ways, but, can_fold, cases_Bool, cond-false, cond_both, eqb-false, eqb-true, false_from_ne_true, filter, has_ended, is_before, is_safe, is_of_write, is_one_of, issued, list_any, reverse-append, running_syncs, running_writes, without_write, writes}
+use Rattle.std.proofs.Common.{◌≡◌, ◌==◌, ℕ, Bool, true, false, not, List, [], ◌∷◌, ◌++◌, ◌⊎◌, refl, sym, subst, ◌∙◌, inl, inr, arith}
+use Rattle.uring_volume.proofs.Common.{Err, History, IsFoldable, IsFoldedFrom, IsHeld, IsIn, IsLawful, IsOneFolded, IsOver, IsSound, Ok, Result, Volume, Write, WriteEnded, WriteIssued, append-nil, both_ways, but, can_fold, cases_Bool, cond_both, eqb-false, eqb-true, false_from_ne_true, filter, has_ended, is_before, is_safe, is_one_of, issued, list_any, running_syncs, running_writes, without_write, writes}
 use Rattle.std.specs.declared.alloc.AllocError.{AllocError}
 use Rattle.std.proofs.lemmas.List.Elements.{filter-append}
-use Rattle.uring_volume.proofs.Chosen.{in_issued, of_issued, one_number}
+use Rattle.uring_volume.proofs.Chosen.{in_issued, one_number}
 use Rattle.uring_volume.proofs.Numbers.{is_in_but, one_more}
 use Rattle.uring_volume.proofs.Puts.{is_any}
 use Rattle.uring_volume.proofs.Folding.{safe_ended, fold_changes_none, letting_go_changes_none}

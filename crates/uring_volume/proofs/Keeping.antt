@@ -1,14 +1,14 @@
 -- What is kept of a file stands as its history says, after each event.
-use Rattle.std.proofs.Common.{◌≡◌, ◌==◌, ◌<◌, ◌≤◌, ◌+◌, ◌-◌, ℕ, zero, suc, Bool, true, false, not, ◌||◌, List, [], ◌∷◌, ◌++◌, ◌⊎◌, length, map, min, take, drop, get_or, refl, sym, subst, ap, ◌∙◌, inl, inr, rules, arith}
+use Rattle.std.proofs.Common.{◌≡◌, ◌==◌, ◌<◌, ◌≤◌, ◌+◌, ◌-◌, ℕ, zero, suc, Bool, true, false, not, ◌||◌, List, [], ◌∷◌, ◌++◌, ◌⊎◌, length, map, min, take, drop, get_or, refl, sym, subst, ap, ◌∙◌, inl, inr, arith}
 use Rattle.std.proofs.Math.ListN.{set}
 use Rattle.std.proofs.lemmas.List.Elements.{filter-append}
-use Rattle.std.specs.Prelude.{nat_le, nat_lt, IfNone, IsOk, None, Option, Some}
+use Rattle.std.specs.Prelude.{nat_le, IsOk}
 use Rattle.std.specs.Result.{is_err}
 use borrow.Rule.Slice.PartMut.{put_mid}
 use Rattle.uring_volume.proofs.Sorting.{after_first}
 use Rattle.uring_volume.proofs.Taking.{others_of}
 use Rattle.uring_volume.proofs.Walking.{of_next}
-use Rattle.uring_volume.proofs.Common.{AreTheImages, cond_both, take-append-drop, Err, IsFoldedFrom, IsOneFolded, IsSound, Ok, Result, Way, next_ways, length-drop, length-take-le, without, append_assoc, ended, length-append, IsFoldable, append-nil, eq-eqb, list_any-append, take_more, length-map, can_fold, drop_all, has_safe, is_in_way, named, take_all, History, IsHeld, IsIn, IsLawful, SyncEnded, SyncFailed, SyncIssued, Volume, Write, WriteEnded, WriteIssued, but, both_ways, eqb-false, eqb-true, false_from_ne_true, filter, has_ended, is_before, is_covered, is_given_up, is_one_of, is_reached, is_safe, issued, le-leb, list_any, lt-ltb, ltb-true, map-append, ne_eqb, not-true, running_syncs, running_writes, with_event, with_sync, with_write, without_write, writes, ◌&&◌, cases_Bool}
+use Rattle.uring_volume.proofs.Common.{AreTheImages, cond_both, take-append-drop, Err, IsFoldedFrom, IsOneFolded, IsSound, Ok, Result, Way, next_ways, length-drop, length-take-le, without, append_assoc, ended, length-append, IsFoldable, append-nil, eq-eqb, list_any-append, take_more, length-map, can_fold, drop_all, has_safe, is_in_way, named, take_all, History, IsHeld, IsIn, IsLawful, SyncEnded, SyncFailed, SyncIssued, Volume, Write, WriteEnded, WriteIssued, but, both_ways, eqb-false, eqb-true, false_from_ne_true, filter, has_ended, is_before, is_covered, is_given_up, is_one_of, is_reached, is_safe, issued, le-leb, list_any, lt-ltb, ltb-true, map-append, ne_eqb, not-true, running_syncs, running_writes, without_write, writes, ◌&&◌, cases_Bool}
 use Rattle.uring_volume.specs.Volume.{IsNumbered}
 use Rattle.uring_volume.specs.declared.event.SyncRange.{SyncRange}
 use Rattle.uring_volume.specs.declared.kept.Kept.{Kept}

@@ -1,6 +1,6 @@
 -- What a volume's calls keep: each write has a number of its own, and the lists of what runs are those of the history.
 use Rattle.std.proofs.Common.{◌≡◌, ◌<◌, ◌≤◌, ℕ, Bool, true, ◌||◌, List, [], ◌∷◌, ◌++◌, ◌⊎◌, length, ap, arith}
-use Rattle.uring_volume.proofs.Common.{History, IsHeld, SyncEnded, SyncFailed, Volume, WriteEnded, but, cond-true, false_from_ne_true, has_ended, is_one_of, list_any-append, with_event, with_sync, with_write}
+use Rattle.uring_volume.proofs.Common.{IsHeld, SyncEnded, SyncFailed, Volume, WriteEnded, but, cond-true, false_from_ne_true, has_ended, is_one_of, list_any-append, with_event, with_sync, with_write}
 use Rattle.uring_volume.specs.declared.event.SyncRange.{SyncRange}
 
 pub or_either : (x y : Bool) → (x || y) ≡ true → (x ≡ true) ⊎ (y ≡ true)

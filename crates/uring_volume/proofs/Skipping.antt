@@ -1,11 +1,10 @@
 -- The units that no write touches: each is left in one way, and a count passes over them.
-use Rattle.std.proofs.Common.{◌≡◌, ◌<◌, ◌≤◌, ◌+◌, ◌-◌, ◌*◌, ℕ, zero, suc, min, max, false, true, Bool, List, [], ◌∷◌, ◌++◌, ◌⊎◌, length, map, get_or, take, refl, sym, subst, ap, ◌∙◌, inl, inr, arith}
+use Rattle.std.proofs.Common.{◌≡◌, ◌<◌, ◌≤◌, ◌+◌, ◌-◌, ◌*◌, ℕ, zero, suc, min, max, false, Bool, List, [], ◌∷◌, ◌⊎◌, length, map, get_or, take, refl, sym, subst, ap, ◌∙◌, inl, inr, arith}
 use Rattle.std.specs.Prelude.{nat_lt}
 use Rattle.uring_volume.proofs.Common.{History, IsIn, Write, bytes_from, contents_of, false_from_ne_true, filter, fronts, is_on, issued, ltb-true, mul-le-mul_left, take_more, unit_contents}
 use Rattle.uring_volume.specs.declared.kept.Kept.{Kept}
 use Rattle.uring_volume.specs.Past.{IsPast, Past}
 use Rattle.uring_volume.proofs.Fitting.{in_either}
-use Rattle.uring_volume.proofs.Painting.{below_or_from}
 use Rattle.uring_volume.proofs.Files.{length_joined}
 
 pub of_take_more : {X : Type 0} (xs : List X) (i : ℕ) (k x : X) → i < length xs → x ≡ get_or xs i x

@@ -1,8 +1,7 @@
 -- What is kept of a file: the writes that aren't folded, each with how it stands, and the syncs that run. Our own structure.
-use Rattle.std.specs.Prelude.{◌≡◌, ℕ, zero, ◌+◌, ◌<◌, ◌≤◌, Bool, true, false, not, ◌&&◌, ◌||◌, ◌==◌, nat_le, nat_lt, List, [], ◌∷◌, ◌++◌, length, map, Option, Some, None, if◌then◌else◌}
+use Rattle.std.specs.Prelude.{◌≡◌, ℕ, ◌+◌, ◌<◌, ◌≤◌, Bool, true, false, not, ◌&&◌, ◌||◌, ◌==◌, nat_le, nat_lt, List, [], ◌∷◌, ◌++◌, length, map, if◌then◌else◌}
 use Rattle.uring_volume.specs.Writes.{Write}
-use Rattle.uring_volume.specs.declared.event.Event.{Event}
-use Rattle.uring_volume.specs.declared.event.Event.TheVariants.{WriteIssued, WriteEnded}
+use Rattle.uring_volume.specs.declared.event.Event.TheVariants.{WriteEnded}
 use Rattle.uring_volume.specs.declared.kept.Kept.{Kept}
 use Rattle.uring_volume.specs.declared.kept.Running.{Running}
 use Rattle.uring_volume.specs.Events.{History, writes, has_ended, is_before, lies_in, meets, is_covered, is_reached, is_given_up, is_safe}

@@ -1,5 +1,5 @@
 -- A list of all that happened, as proofs alone see it. Our own structure.
-use Rattle.std.specs.Prelude.{ℕ, zero, ◌+◌, [], ◌∷◌, Option, Some, None}
+use Rattle.std.specs.Prelude.{ℕ, ◌+◌, [], ◌∷◌, Option, Some, None}
 use Rattle.uring_volume.specs.Writes.{Write}
 use Rattle.uring_volume.specs.declared.event.Event.{Event}
 use Rattle.uring_volume.specs.declared.event.Event.TheVariants.{WriteIssued}

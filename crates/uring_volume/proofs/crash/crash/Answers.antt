@@ -1,4 +1,4 @@
-use Rattle.std.proofs.Common.{rules, length, reverse, sym, subst, ap, ◌∙◌, arith}
+use Rattle.std.proofs.Common.{rules, length, sym, subst, ap, ◌∙◌, arith}
 use Rattle.uring_volume.specs.Choices.{issued, chosen, IsLeftBy}
 use Rattle.uring_volume.proofs.ReadBack.{len_grows}
 use Rattle.uring_volume.proofs.Painting.{written_back}

@@ -1,4 +1,4 @@
-use Rattle.std.proofs.Common.{◌≡◌, ◌<◌, ◌≤◌, ◌+◌, ◌/◌, ℕ, length, reverse, get_or}
+use Rattle.std.proofs.Common.{◌≡◌, ◌<◌, ◌≤◌, ◌+◌, ◌/◌, ℕ, length, get_or}
 use Rattle.uring_volume.proofs.Common.{byte_over, chosen, filter, is_on, issued, part}
 use Rattle.uring_volume.proofs.crash.leave_units.Given as goal
 

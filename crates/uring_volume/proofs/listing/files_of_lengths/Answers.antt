@@ -1,4 +1,4 @@
-use Rattle.std.proofs.Common.{◌≡◌, rules, ◌+◌, ◌++◌, map, drop, reverse, append_assoc, sym, ap, ◌∙◌}
+use Rattle.std.proofs.Common.{◌≡◌, rules, ◌+◌, ◌++◌, map, drop, append_assoc, sym, ap, ◌∙◌}
 use Rattle.uring_volume.proofs.Common.{append-nil, drop_all, drop_more, files_of, map-append, false≢true}
 use Rattle.uring_volume.proofs.listing.files_of_lengths.Goals as goal
 

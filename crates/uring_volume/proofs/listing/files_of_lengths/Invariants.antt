@@ -1,4 +1,4 @@
-use Rattle.std.proofs.Common.{◌≡◌, ◌++◌, map, drop, reverse}
+use Rattle.std.proofs.Common.{◌≡◌, ◌++◌, map, drop}
 use Rattle.uring_volume.specs.Ways.{files_of}
 use Rattle.uring_volume.proofs.listing.files_of_lengths.Given as goal
 

@@ -1,4 +1,4 @@
-use Rattle.std.proofs.Common.{◌≡◌, ◌+◌, suc, map, reverse, ap, ◌∙◌, arith}
+use Rattle.std.proofs.Common.{◌≡◌, ◌+◌, suc, map, ap, ◌∙◌, arith}
 use Rattle.uring_volume.proofs.Common.{false≢true}
 use Rattle.uring_volume.specs.Ways.{joined, fronts}
 use Rattle.uring_volume.proofs.listing.fronts.Goals as goal

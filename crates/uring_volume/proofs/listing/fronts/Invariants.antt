@@ -1,4 +1,4 @@
-use Rattle.std.proofs.Common.{◌≡◌, map, reverse}
+use Rattle.std.proofs.Common.{◌≡◌, map}
 use Rattle.uring_volume.specs.Ways.{fronts}
 use Rattle.uring_volume.proofs.listing.fronts.Given as goal
 

@@ -1,4 +1,4 @@
-use Rattle.std.proofs.Common.{◌&&◌, ap, reverse, sym, ◌∙◌}
+use Rattle.std.proofs.Common.{◌&&◌, ap, sym, ◌∙◌}
 use Rattle.uring_volume.proofs.Common.{and_from, and_left, and_right, goes_with, is_safe}
 use Rattle.uring_volume.proofs.Seeking.{one_is, none_more}
 use Rattle.uring_volume.proofs.Keeping.{ref_issued}

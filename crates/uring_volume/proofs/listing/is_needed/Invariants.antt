@@ -1,4 +1,4 @@
-use Rattle.std.proofs.Common.{◌≡◌, false, map, take, reverse}
+use Rattle.std.proofs.Common.{◌≡◌, false, map, take}
 use Rattle.uring_volume.proofs.Common.{goes_with, is_safe, list_any, ◌&&◌}
 use Rattle.uring_volume.proofs.listing.is_needed.Given as goal
 

@@ -1,4 +1,4 @@
-use Rattle.std.proofs.Common.{◌≡◌, map, drop, reverse}
+use Rattle.std.proofs.Common.{◌≡◌, map, drop}
 use Rattle.uring_volume.proofs.Common.{filter, is_needed, length_over}
 use Rattle.uring_volume.proofs.listing.least_length.Given as goal
 

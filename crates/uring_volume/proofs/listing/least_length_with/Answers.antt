@@ -1,6 +1,5 @@
-use Rattle.std.proofs.Common.{◌≡◌, ◌||◌, ◌+◌, Bool, length, map, drop, sym, ap, ◌∙◌, refl, arith}
+use Rattle.std.proofs.Common.{◌≡◌, ◌||◌, map, sym, ap, ◌∙◌}
 use Rattle.uring_volume.specs.Ways.{goes_with, is_needed}
-use Rattle.uring_volume.specs.Writes.{Write}
 use Rattle.uring_volume.proofs.Common.{or_left}
 use Rattle.uring_volume.proofs.Seeking.{flag_is, kept_more}
 use Rattle.uring_volume.proofs.listing.least_length_with.Goals as goal

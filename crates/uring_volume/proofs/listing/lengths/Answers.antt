@@ -1,4 +1,4 @@
-use Rattle.std.proofs.Common.{◌+◌, map, drop, reverse, sym, ap, ◌∙◌}
+use Rattle.std.proofs.Common.{◌+◌, map, drop, sym, ap, ◌∙◌}
 use Rattle.uring_volume.proofs.Common.{fewest_with, length_over, lengths_by, nat_eq, put_by, false≢true, drop_all}
 use Rattle.uring_volume.proofs.Seeking.{dropped}
 use Rattle.uring_volume.proofs.listing.lengths.Goals as goal

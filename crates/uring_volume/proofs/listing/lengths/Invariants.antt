@@ -1,4 +1,4 @@
-use Rattle.std.proofs.Common.{◌≡◌, ◌∷◌, [], map, drop, reverse}
+use Rattle.std.proofs.Common.{◌≡◌, ◌∷◌, [], map, drop}
 use Rattle.uring_volume.proofs.Common.{fewest, length_over, lengths_by}
 use Rattle.uring_volume.proofs.listing.lengths.Given as goal
 

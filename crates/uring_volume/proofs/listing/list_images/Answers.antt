@@ -1,4 +1,4 @@
-use Rattle.std.proofs.Common.{◌≡◌, ◌∷◌, [], length, map, reverse, subst, ap, ◌∙◌}
+use Rattle.std.proofs.Common.{◌≡◌, ◌∷◌, [], length, map, subst, ap, ◌∙◌}
 use Rattle.uring_volume.proofs.Common.{false≢true, IfOk, fewest, files_of, length_over, lengths_by}
 use Rattle.uring_volume.proofs.listing.list_images.Goals as goal
 

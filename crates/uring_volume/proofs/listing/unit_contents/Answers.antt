@@ -1,4 +1,4 @@
-use Rattle.std.proofs.Common.{◌≡◌, ◌*◌, map, reverse, subst, ap, ◌∙◌}
+use Rattle.std.proofs.Common.{◌≡◌, ◌*◌, map, subst, ap, ◌∙◌}
 use Rattle.uring_volume.proofs.Common.{false≢true, IfOk, bytes_from, contents_of, filter, is_on, issued}
 use Rattle.uring_volume.specs.Images.{is_on}
 use Rattle.uring_volume.proofs.Keeping.{filter_issued}

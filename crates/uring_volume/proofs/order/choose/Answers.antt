@@ -1,4 +1,4 @@
-use Rattle.std.proofs.Common.{◌+◌, ◌-◌, ◌++◌, length, map, take, drop, get_or, reverse, sym, subst, ap, ◌∙◌, arith}
+use Rattle.std.proofs.Common.{◌+◌, ◌-◌, ◌++◌, length, map, take, drop, get_or, sym, subst, ap, ◌∙◌, arith}
 use Rattle.uring_volume.proofs.Common.{chosen, drop_more, length-drop}
 use borrow.Rule.Slice.PartMut.{same_len_mid}
 use Rattle.uring_volume.proofs.Taking.{others_of, one_chosen, none_chosen, all_chosen}

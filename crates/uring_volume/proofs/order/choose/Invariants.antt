@@ -1,4 +1,4 @@
-use Rattle.std.proofs.Common.{◌≡◌, ◌≤◌, ◌++◌, length, map, take, drop, reverse}
+use Rattle.std.proofs.Common.{◌≡◌, ◌≤◌, ◌++◌, length, map, take, drop}
 use Rattle.uring_volume.specs.Choices.{chosen}
 use Rattle.uring_volume.specs.Past.{AreIssued}
 use Rattle.uring_volume.proofs.order.choose.Given as goal

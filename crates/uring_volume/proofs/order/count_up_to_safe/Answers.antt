@@ -1,4 +1,4 @@
-use Rattle.std.proofs.Common.{◌≡◌, ◌-◌, suc, arith, sym, ◌∙◌, subst, false, map, drop, reverse}
+use Rattle.std.proofs.Common.{◌≡◌, ◌-◌, suc, arith, sym, ◌∙◌, subst, false, map, drop}
 use Rattle.uring_volume.proofs.Common.{has_safe, is_safe}
 use Rattle.uring_volume.proofs.Taking.{last_safe, one_less, none_safe}
 use Rattle.uring_volume.proofs.Keeping.{ref_issued}

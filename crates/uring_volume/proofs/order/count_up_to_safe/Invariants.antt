@@ -1,4 +1,4 @@
-use Rattle.std.proofs.Common.{◌≡◌, ◌≤◌, false, length, map, drop, reverse}
+use Rattle.std.proofs.Common.{◌≡◌, ◌≤◌, false, length, map, drop}
 use Rattle.uring_volume.specs.Choices.{has_safe}
 use Rattle.uring_volume.proofs.order.count_up_to_safe.Given as goal
 

@@ -1,4 +1,4 @@
-use Rattle.std.proofs.Common.{arith, ◌<◌, length, sym, ◌∙◌, ap, reverse}
+use Rattle.std.proofs.Common.{arith, ◌<◌, length, sym, ◌∙◌, ap}
 use Rattle.uring_volume.specs.Events.{is_before}
 use Rattle.uring_volume.proofs.Taking.{one_found}
 use Rattle.uring_volume.proofs.order.has_one_before.Goals as goal

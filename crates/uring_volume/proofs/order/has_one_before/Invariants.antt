@@ -1,4 +1,4 @@
-use Rattle.std.proofs.Common.{◌≡◌, false, map, take, reverse}
+use Rattle.std.proofs.Common.{◌≡◌, false, map, take}
 use Rattle.uring_volume.specs.Choices.{waits_for_one}
 use Rattle.uring_volume.proofs.order.has_one_before.Given as goal
 

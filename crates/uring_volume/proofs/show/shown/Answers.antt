@@ -1,4 +1,4 @@
-use Rattle.std.proofs.Common.{rules, ◌≡◌, length, map, reverse, sym, subst, ap, ◌∙◌, arith}
+use Rattle.std.proofs.Common.{rules, ◌≡◌, length, map, sym, subst, ap, ◌∙◌, arith}
 use Rattle.uring_volume.proofs.Common.{IsShown, length_over}
 use Rattle.uring_volume.proofs.ReadBack.{len_grows}
 use Rattle.uring_volume.proofs.Painting.{written_back}

@@ -1,4 +1,4 @@
-use Rattle.std.proofs.Common.{◌≡◌, ◌+◌, ℕ, map, reverse}
+use Rattle.std.proofs.Common.{◌≡◌, ◌+◌, ℕ, map}
 use Rattle.uring_volume.specs.Ways.{way, found_by, contents_of}
 use Rattle.uring_volume.specs.Past.{AreWaysIssued}
 use Rattle.uring_volume.proofs.ways.contents.Given as goal

@@ -1,4 +1,4 @@
-use Rattle.std.proofs.Common.{arith, ◌<◌, length, sym, ◌∙◌, reverse}
+use Rattle.std.proofs.Common.{arith, ◌<◌, length, sym, ◌∙◌}
 use Rattle.uring_volume.specs.Events.{is_safe}
 use Rattle.uring_volume.proofs.Seeking.{one_is}
 use Rattle.uring_volume.proofs.Keeping.{ref_issued}

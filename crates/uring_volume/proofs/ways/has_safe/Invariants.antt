@@ -1,4 +1,4 @@
-use Rattle.std.proofs.Common.{◌≡◌, false, map, take, reverse}
+use Rattle.std.proofs.Common.{◌≡◌, false, map, take}
 use Rattle.uring_volume.specs.Choices.{has_safe}
 use Rattle.uring_volume.proofs.ways.has_safe.Given as goal
 

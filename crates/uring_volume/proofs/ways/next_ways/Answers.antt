@@ -1,4 +1,4 @@
-use Rattle.std.proofs.Common.{◌+◌, map, drop, reverse, sym, ap, ◌∙◌}
+use Rattle.std.proofs.Common.{◌+◌, map, drop, sym, ap, ◌∙◌}
 use Rattle.uring_volume.proofs.Common.{false≢true, next_ways, steps_of, way, drop_all}
 use Rattle.uring_volume.proofs.Seeking.{dropped}
 use Rattle.uring_volume.proofs.ways.next_ways.Goals as goal

@@ -1,4 +1,4 @@
-use Rattle.std.proofs.Common.{◌≡◌, [], map, drop, reverse}
+use Rattle.std.proofs.Common.{◌≡◌, [], map, drop}
 use Rattle.uring_volume.specs.Ways.{way, next_ways}
 use Rattle.uring_volume.proofs.ways.next_ways.Given as goal
 

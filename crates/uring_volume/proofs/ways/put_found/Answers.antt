@@ -1,4 +1,4 @@
-use Rattle.std.proofs.Common.{◌+◌, ◌≡◌, cond, map, drop, reverse, sym, subst, ap, ◌∙◌}
+use Rattle.std.proofs.Common.{◌+◌, ◌≡◌, cond, map, drop, sym, subst, ap, ◌∙◌}
 use Rattle.uring_volume.proofs.Common.{cond-false, cond-true, found_at, has_safe, nat_eq, pointwise, put_by, way, false≢true, drop_all}
 use Rattle.uring_volume.proofs.Seeking.{dropped}
 use Rattle.uring_volume.specs.Past.{AreIssued}

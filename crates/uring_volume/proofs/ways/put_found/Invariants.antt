@@ -1,4 +1,4 @@
-use Rattle.std.proofs.Common.{◌≡◌, map, drop, reverse}
+use Rattle.std.proofs.Common.{◌≡◌, map, drop}
 use Rattle.uring_volume.specs.Ways.{way, found_at}
 use Rattle.uring_volume.proofs.ways.put_found.Given as goal
 

@@ -1,4 +1,4 @@
-use Rattle.std.proofs.Common.{◌≡◌, ◌+◌, ◌++◌, cond, length, map, take, drop, reverse, sym, ap, ◌∙◌, rules}
+use Rattle.std.proofs.Common.{◌≡◌, ◌+◌, ◌++◌, cond, length, map, take, drop, sym, ap, ◌∙◌, rules}
 use Rattle.uring_volume.proofs.Common.{bytes_over, cond-false, cond-true, put_by, same_way, stepped, steps_of, waits_for_one, way, without, false≢true, drop_all}
 use Rattle.uring_volume.proofs.Painting.{written_back}
 use Rattle.uring_volume.proofs.Seeking.{dropped}

@@ -1,4 +1,4 @@
-use Rattle.std.proofs.Common.{◌≡◌, map, drop, reverse}
+use Rattle.std.proofs.Common.{◌≡◌, map, drop}
 use Rattle.uring_volume.specs.Ways.{way, steps_of}
 use Rattle.uring_volume.proofs.ways.put_steps.Given as goal
 

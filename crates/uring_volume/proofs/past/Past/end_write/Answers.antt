@@ -1,4 +1,4 @@
-use Rattle.std.proofs.Common.{◌∷◌, ◌++◌, [], arith, rules, refl, map, ap, ◌∙◌, sym, subst, ◌≡◌, true}
+use Rattle.std.proofs.Common.{◌∷◌, ◌++◌, [], arith, rules, refl, map, ap, ◌∙◌, sym, ◌≡◌, true}
 use Rattle.uring_volume.proofs.Common.{WriteEnded, but, cond-true, is_one_of}
 use Rattle.uring_volume.specs.Past.{Past, ended_at}
 use Rattle.uring_volume.proofs.Keeping.{carried_past, changed_whole, past_end}

@@ -1,4 +1,4 @@
-use Rattle.std.proofs.Common.{arith, rules, refl, ◌≡◌, ◌==◌, true, false, not, map, ap, ◌∙◌, sym, subst}
+use Rattle.std.proofs.Common.{arith, rules, refl, ◌≡◌, ◌==◌, true, not, ap, sym, subst}
 use Rattle.std.proofs.lemmas.Fn.{filter_same}
 use Rattle.uring_volume.proofs.Common.{but, filter, has_ended, without_write}
 use Rattle.uring_volume.specs.Past.{Past}

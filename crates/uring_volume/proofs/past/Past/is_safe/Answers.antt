@@ -1,4 +1,4 @@
-use Rattle.std.proofs.Common.{rules, ◌≡◌, ◌==◌, true, false, ap, sym, ◌∙◌, subst, arith}
+use Rattle.std.proofs.Common.{rules, ◌≡◌, ◌==◌, false, ap, sym, ◌∙◌, subst, arith}
 use Rattle.uring_volume.proofs.Common.{IsIn, is_safe, issued, list_any}
 use Rattle.uring_volume.specs.Past.{Past}
 use Rattle.uring_volume.proofs.Keeping.{safe_by_number, safe_is_kept}

@@ -1,4 +1,4 @@
-use Rattle.std.proofs.Common.{◌-◌, ◌^◌, reverse, subst, refl}
+use Rattle.std.proofs.Common.{◌-◌, ◌^◌, subst, refl}
 use Rattle.uring_volume.specs.Volume.{IsSound}
 use Rattle.uring_volume.proofs.Results.{on_value}
 use Rattle.uring_volume.proofs.Crashing.{counted}

@@ -1,4 +1,4 @@
-use Rattle.std.proofs.Common.{◌≡◌, ◌^◌, reverse, subst, ap, sym, refl, arith}
+use Rattle.std.proofs.Common.{◌≡◌, ◌^◌, subst, ap, sym, refl, arith}
 use Rattle.uring_volume.specs.Volume.{IsSound}
 use Rattle.uring_volume.proofs.Results.{on_value}
 use Rattle.uring_volume.proofs.Crashing.{left_seen, left_is_image, left_alone, left_keeps, each_is_left}

@@ -1,4 +1,4 @@
-use Rattle.std.proofs.Common.{[], sym, subst, ap, ◌∙◌, arith}
+use Rattle.std.proofs.Common.{[], sym, ap, ◌∙◌, arith}
 use Rattle.uring_volume.proofs.Common.{IsSound, Ok}
 use Rattle.uring_volume.proofs.Folded.{folded_more, under_back}
 use Rattle.uring_volume.proofs.Keeping.{none_foldable}

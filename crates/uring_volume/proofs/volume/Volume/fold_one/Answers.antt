@@ -1,6 +1,6 @@
-use Rattle.std.proofs.Common.{◌<◌, length, map, refl, sym, subst, arith}
+use Rattle.std.proofs.Common.{◌<◌, length, map, refl, sym, subst}
 use Rattle.uring_volume.proofs.Common.{IsFoldedFrom, Volume, issued}
-use Rattle.uring_volume.proofs.Folded.{IsResult, made_of, folded_result, none_result}
+use Rattle.uring_volume.proofs.Folded.{IsResult, folded_result, none_result}
 use Rattle.uring_volume.proofs.Keeping.{fewer_of, held_volume}
 use Rattle.uring_volume.proofs.volume.Volume.fold_one.Goals as goal
 

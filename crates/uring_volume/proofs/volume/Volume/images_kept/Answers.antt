@@ -1,4 +1,4 @@
-use Rattle.std.proofs.Common.{◌-◌, ◌^◌, map, reverse, subst, refl, arith}
+use Rattle.std.proofs.Common.{◌-◌, ◌^◌, map, subst, refl, arith}
 use Rattle.uring_volume.specs.Volume.{IsSound}
 use Rattle.uring_volume.proofs.Crashing.{counted, listed, listed_seen}
 use Rattle.uring_volume.proofs.volume.Volume.images_kept.Goals as goal

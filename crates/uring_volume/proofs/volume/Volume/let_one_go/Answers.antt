@@ -1,4 +1,4 @@
-use Rattle.std.proofs.Common.{◌≡◌, false, ◌<◌, length, refl, sym, subst}
+use Rattle.std.proofs.Common.{◌≡◌, false, ◌<◌, length, subst}
 use Rattle.uring_volume.proofs.Common.{IsFoldedFrom, IsSound, Volume, is_safe, issued}
 use Rattle.uring_volume.specs.Folds.{IsUnderSafe}
 use Rattle.uring_volume.proofs.Folded.{let_go_by}
