@@ -1,6 +1,6 @@
 -- What calls that are made one after the other leave: which are left, how the ring stands, what they append, and which rows of steps they are.
-use Rattle.std.proofs.Common.{◌≡◌, ℕ, suc, ◌+◌, ◌-◌, ◌≤◌, Bool, true, List, [], ◌∷◌, ◌++◌, length, map, sum, refl, sym, ap, ◌∙◌, arith, append_assoc, append-nil, length-drop, ◌<◌, drop_at}
-use Rattle.uring_threads.proofs.Common.{Appends, AreBegun, AreTaken, HasBegun, HaveMade, Intake, IsFirst, IsUnmoved, Item, Kept, Published, Setup, Sqe, Stands, Step, Submission, World, after_call, after_calls, all_published_as, call_row, calls_after, calls_left, calls_of, calls_row, drop_of_length-le, ends_after_item, ends_of, is_spent, items_fresh, items_keep, items_row, length-map, lt-ltb, now, refused_row, sum_by-cons, taken, with_items, with_items_published, with_published, words_of}
+use Rattle.std.proofs.Common.{◌≡◌, ℕ, suc, ◌+◌, ◌-◌, ◌≤◌, Bool, true, List, [], ◌∷◌, ◌++◌, length, map, sum, refl, sym, ap, ◌∙◌, subst, inr, arith, append_assoc, append-nil, length-drop, ◌<◌, drop_at}
+use Rattle.uring_threads.proofs.Common.{Appends, AreBegun, AreTaken, BeginsAgain, HasBegun, HaveMade, Intake, IsFirst, IsUnmoved, Item, Kept, Published, Setup, Sqe, Stands, Step, Submission, World, after_call, after_calls, all_published_as, call_row, calls_after, calls_left, calls_of, calls_row, drop_of_length-le, ends_after_item, ends_of, is_spent, items_fresh, items_keep, items_row, length-map, lt-ltb, now, refused_row, sum_by-cons, taken, waiting_in, with_items, with_items_published, with_published, words_of}
 use Rattle.uring_entry.specs.Submission.{place_of}
 use Rattle.uring_threads.specs.declared.calls.CallMade.TheVariants as made
 use Rattle.uring_threads.proofs.TraceSteps.{appends_none, appends_then, still}
@@ -118,10 +118,29 @@ pub begun_all : (a b : Kept) (done : List ℕ) (rest : ℕ) → rest ≡ 0 → H
 unfolding refused_row
 begun_all a b done rest none h p = grind (arith, append-nil, none_left)
 
+-- all that waited was made
+all_made : (r b : Kept) (x : Intake) → x ≡ intake.Ready → (h : HasBegun r b x)
+    → calls_row h.made (calls_left r.setup (now b).submission)
+    ++ refused_row (calls_left r.setup (now b).submission)
+    ≡ calls_row (calls_left r.setup (now r).submission) []
+unfolding refused_row
+all_made r b x ready h =
+    let none = none_left r.setup (now b).submission (subst (λ (i : Intake). Stands (now b).submission [] (waiting_in i)) ready h.have.stands) in
+    let made : h.made ≡ calls_left r.setup (now r).submission = sym (append-nil h.made) ∙ ap (λ left. h.made ++ left) (sym none) ∙ h.have.calls in
+    ap (λ left. calls_row h.made left ++ refused_row left) none ∙ append-nil (calls_row h.made []) ∙ ap (λ calls. calls_row calls []) made
+
 -- what waited was begun again
-pub row_begun : (a r b : Kept) (x : Intake) → IsUnmoved a r → HasBegun r b x
-    → (steps : List Step) × AreBegun (calls_left a.setup (now a).submission) steps × Appends a b steps
-row_begun a r b x u h = grind (arith, (appends_then (appends_none a r u) h.row))
+pub row_begun : (a r b : Kept) (count : ℕ) (x : Intake) → IsUnmoved a r → HasBegun r b x
+    → BeginsAgain a b (intake.Waiting count) x
+row_begun a r b count x u h =
+    let left = calls_left r.setup (now b).submission in
+    let same : calls_left r.setup (now r).submission ≡ calls_left a.setup (now a).submission = grind arith in
+    record {
+      steps = calls_row h.made left ++ refused_row left;
+      is = inr (record { made = h.made; left = left; all = h.have.calls ∙ same; row = refl });
+      all = λ ready. all_made r b x ready h ∙ ap (λ calls. calls_row calls []) same;
+      row = appends_then (appends_none a r u) h.row;
+    }
 
 -- items were published, and calls begun that take them
 pub row_taken : (a p b : Kept) (items : List Item) (x : Intake) → Stands (now a).submission [] 0

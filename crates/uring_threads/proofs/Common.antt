@@ -43,7 +43,7 @@ pub use Rattle.uring_threads.specs.Collected.{CanBeTaken, Collects, CollectsSeen
 pub use Rattle.uring_threads.specs.Dealt.{DealtByFile, FilesByWorker, IsDealtByFile, WorkersJoin, done_by_worker, job_by, job_in, jobs_at, jobs_in, jobs_to}
 pub use Rattle.uring_threads.specs.Delivered.{KeepsAllBut, OnlyPosts, on_completions, with_reaped_all}
 pub use Rattle.uring_threads.specs.Dispatched.{AreTakenIn, HasCarried, HaveCarried}
-pub use Rattle.uring_threads.specs.EventRows.{AreTaken, IsAgain, IsPulled, IsTaken, RecordsIntake, RecordsTurn, Repeats, call_row, delivery_row, item_row, items_row}
+pub use Rattle.uring_threads.specs.EventRows.{AreTaken, BeginsAgain, IsAgain, IsPulled, IsTaken, MayPull, RecordsIntake, RecordsTurn, Repeats, call_row, delivery_row, item_row, items_row}
 pub use Rattle.uring_threads.specs.Kept.{Grows, IsUnmoved, Kept, history, next_in, now}
 pub use Rattle.uring_threads.specs.Kernel.{IsKernel, Kernel}
 pub use Rattle.uring_threads.specs.Report.{AreTogether, BeginsCalls, ClosesOnlyAllTaken, DeliversReaped, FinishesAll, HasOneClose, IsSameKernel, LeavesRunning, PublishesItems, Report, all_untaken, all_waiting, has_job, left_by, untaken_at, waiting_at}

@@ -1,6 +1,6 @@
 -- Which rows of steps are appended.
-use Rattle.std.proofs.Common.{◌≡◌, ℕ, ◌+◌, ◌<◌, List, [], ◌∷◌, ◌++◌, take, length, get_or, replicate, sum, zero, suc, refl, ap, ◌∙◌, arith, append_assoc, append-nil}
-use Rattle.uring_threads.proofs.Common.{Answer, Appends, Grows, Intake, IsAgain, IsPulled, IsTaken, IsUnmoved, Item, Kept, Pulls, Put, RecordsIntake, Setup, Step, Submission, call_row, calls_row, delivery_row, item_row, items_row, length-take-le, now, refused_row, sum_by-cons, sum_by_push, take_more}
+use Rattle.std.proofs.Common.{◌≡◌, ℕ, ◌+◌, ◌<◌, ◌⊎◌, inl, List, [], ◌∷◌, ◌++◌, take, length, get_or, replicate, sum, zero, suc, refl, ap, ◌∙◌, arith, append_assoc, append-nil}
+use Rattle.uring_threads.proofs.Common.{Answer, Appends, BeginsAgain, Grows, Intake, IsAgain, IsPulled, IsTaken, IsUnmoved, Item, Kept, MayPull, Pulls, Put, RecordsIntake, Setup, Step, Submission, call_row, calls_row, delivery_row, item_row, items_row, length-take-le, now, refused_row, sum_by-cons, sum_by_push, take_more}
 use Rattle.uring_core.specs.declared.step.Step.TheVariants as step
 use Rattle.uring_ports.specs.declared.pulled.Pulled.{Pulled}
 use Rattle.uring_ports.specs.declared.pulled.Pulled.TheVariants as pulled
@@ -62,15 +62,14 @@ pulled_as from g before after what items taken steps sizes same p t = grind arit
 
 -- what waited, and what was pulled after it
 pub intake_recorded : (a b c : Kept) (i : Intake) (before after : Put) (xs ys : List Step)
-    → IsAgain a.setup (now a).submission i xs → IsPulled a.setup before after ys → Appends a b xs
-    → Appends b c ys
-    → RecordsIntake a c i before after
-intake_recorded a b c i before after xs ys again pulled p q =
-    record { again = xs; pulled = ys; is_again = again; is_pulled = pulled; row = appends_then p q }
+    → IsAgain a.setup (now a).submission i xs
+    → (after ≡ before) ⊎ MayPull a.setup (now a).submission i xs → IsPulled a.setup before after ys
+    → Appends a b xs → Appends b c ys → RecordsIntake a c i before after
+intake_recorded a b c i before after xs ys again may pulled p q =
+    record { again = xs; pulled = ys; is_again = again; may_pull = may; is_pulled = pulled; row = appends_then p q }
 
 -- what waited, and nothing after it
-pub again_recorded : (a b : Kept) (i : Intake) (put : Put)
-    → (steps : List Step) × IsAgain a.setup (now a).submission i steps × Appends a b steps
+pub again_recorded : (a b : Kept) (i j : Intake) (put : Put) → BeginsAgain a b i j
     → RecordsIntake a b i put put
-again_recorded a b i put r =
-    record { again = r.0; pulled = []; is_again = r.1; is_pulled = none_pulled a.setup put; row = rw append-nil r.2 }
+again_recorded a b i j put r =
+    record { again = r.steps; pulled = []; is_again = r.is; may_pull = inl refl; is_pulled = none_pulled a.setup put; row = rw append-nil r.row }

@@ -84,6 +84,7 @@ module _ {old : Kernel} {b c : Kept} {pulled : Put} {i : Intake} {ms : List Work
             issued = q.repeats.numbers;
             delivered = k;
             is_again = t.row.is_again;
+            may_pull = t.row.may_pull;
             is_pulled = t.row.is_pulled;
             row = simp append_assoc (rw append_assoc at (appends_then t.row.row (appends_then p.repeats.row (appends_then q.repeats.row r.row))));
             told = IfOk-weaker answer _ _ (λ made is. rw is (record { finishes = p.repeats.many; issues = q.repeats.many; reaps = refl })) told;

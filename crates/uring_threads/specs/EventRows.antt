@@ -9,7 +9,7 @@ use Rattle.uring_ports.specs.declared.item.Item.TheVariants as item
 use Rattle.uring_ports.specs.declared.pulled.Pulled.{Pulled}
 use Rattle.uring_ports.specs.declared.pulled.Pulled.TheVariants as pulled
 use Rattle.uring_ports.specs.Ports.{Put, Pulls}
-use Rattle.uring_threads.specs.Calls.{AreBegun, calls_of, calls_left}
+use Rattle.uring_threads.specs.Calls.{AreBegun, calls_of, calls_left, calls_row}
 use Rattle.uring_threads.specs.Delivered.{OnlyPosts}
 use Rattle.uring_threads.specs.Kept.{Kept, now}
 use Rattle.uring_threads.specs.Tallies.{Appends}
@@ -53,6 +53,19 @@ abbrev pub IsAgain : Setup → Submission → Intake → List Step → Type 0
 IsAgain g l (intake.Waiting count) steps = (steps ≡ []) ⊎ AreBegun (calls_left g l) steps
 IsAgain g l _ steps = steps ≡ []
 
+-- The next may be pulled after these steps for what waited: all of that is taken. Nothing may be while a call waits, nor once one was given up since the numbers of requests are spent, nor after the close mark.
+abbrev pub MayPull : Setup → Submission → Intake → List Step → Type 0
+MayPull g l intake.Ready steps = Unit {0}
+MayPull g l (intake.Waiting count) steps = steps ≡ calls_row (calls_left g l) []
+MayPull g l _ steps = ⊥
+
+-- Glue. What waited, if something did, is begun once more, or nothing is; so the intake stands then.
+pub record BeginsAgain (old new : Kept) (before after : Intake) : Type 0 where
+  pub steps : List Step
+  pub is : IsAgain old.setup (now old).submission before steps
+  pub all : after ≡ intake.Ready → MayPull old.setup (now old).submission before steps
+  pub row : Appends old new steps
+
 -- What was pulled is taken: a call is put and begun, or the ring is closed, or nothing is done.
 abbrev pub IsTaken : Setup → Pulled → List Item → List Step → Type 0
 IsTaken g pulled.Call items steps = AreTaken g items steps
@@ -70,6 +83,7 @@ pub record RecordsIntake (old new : Kept) (i : Intake) (before after : Put) : Ty
   pub again : List Step
   pub pulled : List Step
   pub is_again : IsAgain old.setup (now old).submission i again
+  pub may_pull : (after ≡ before) ⊎ MayPull old.setup (now old).submission i again
   pub is_pulled : IsPulled old.setup before after pulled
   pub row : Appends old new (again ++ pulled)
 
@@ -94,6 +108,8 @@ pub record RecordsTurn {E : Type 0} (old new : Kept) (i : Intake) (before after 
   pub issued : List ℕ
   pub delivered : ℕ
   pub is_again : IsAgain old.setup (now old).submission i again
+  -- nothing was pulled, or all that waited was taken before
+  pub may_pull : (after ≡ before) ⊎ MayPull old.setup (now old).submission i again
   pub is_pulled : IsPulled old.setup before after pulled
   pub row : Appends old new
       (again ++ pulled ++ map step.Finish finished ++ map step.Issue issued

@@ -2,7 +2,7 @@
 ghost use Rattle.std.specs.Prelude.{◌≡◌, ℕ, ◌+◌, ◌*◌, ◌≤◌, false, List, length, IsOk, IfOk, OnErr, vec_capacity};
 ghost use Rattle.uring_ports.specs.Ports.{Put, Pulls};
 ghost use Rattle.uring_core.specs.declared.step.Step.{Step};
-ghost use Rattle.uring_threads.specs.EventRows.{RecordsIntake, IsAgain, IsTaken};
+ghost use Rattle.uring_threads.specs.EventRows.{BeginsAgain, RecordsIntake, IsTaken};
 ghost use Rattle.uring_threads.specs.Kept.{now};
 ghost use Rattle.uring_threads.specs.Served.{PullsMost};
 ghost use Rattle.uring_threads.specs.Taking.{TakesIn};
@@ -41,8 +41,7 @@ fn retry<M: Memory>(memory: &M, kept: &mut Kept, intake: &mut Intake) -> Result<
         → Tied kept.old.setup (now kept.new) put intake.new }
     ensures completions { (now kept.new).completions ≡ (now kept.old).completions }
     ensures taken { TakesIn kept.old kept.new 0 }
-    ensures row { (steps : List Step) × IsAgain kept.old.setup (now kept.old).submission intake.old steps
-        × Appends kept.old kept.new steps }
+    ensures row { BeginsAgain kept.old kept.new intake.old intake.new }
     ensures once { ClosesOnce kept.old intake.old → ClosesOnce kept.new intake.new }
     ensures granted { ((n : ℕ) → M.grants memory.now n) → IsOk result }
     ensures begun { ((n : ℕ) → M.grants memory.now n) → turns.awaits_memory intake.new ≡ false }

@@ -1,5 +1,5 @@
 use Rattle.uring_threads.proofs.Common.{IsTaken, Setup, Tied, false≢true, is_shut, now}
-use Rattle.std.proofs.Common.{[], ◌∙◌, sym, subst, ap, refl, arith, length, ◌+◌, ◌*◌}
+use Rattle.std.proofs.Common.{[], inl, inr, ◌∙◌, sym, subst, ap, refl, arith, length, ◌+◌, ◌*◌}
 use Rattle.uring_threads.proofs.Collecting.{on_err}
 use Rattle.uring_threads.proofs.Recording.{again_recorded, intake_recorded, none_pulled, pulled_as}
 use Rattle.uring_threads.proofs.Tying.{completions_after, once_unmoved, pulled_at, takes_after, takes_nothing, takes_then}
@@ -16,7 +16,7 @@ pub returns-in_err-retry-clause-once : goal.returns-in_err-retry-clause-once
 returns-in_err-retry-clause-once g c = c.retry.ensures.once
 
 pub returns-in_err-retry-clause-row : goal.returns-in_err-retry-clause-row
-returns-in_err-retry-clause-row g c = again_recorded c.args.kept.now c.retry.new.kept c.args.intake.now (g.P.KernelPort.pulled c.args.port.now) c.retry.ensures.row
+returns-in_err-retry-clause-row g c = again_recorded c.args.kept.now c.retry.new.kept c.args.intake.now c.retry.new.intake (g.P.KernelPort.pulled c.args.port.now) c.retry.ensures.row
 
 pub returns-in_err-retry-clause-granted : goal.returns-in_err-retry-clause-granted
 returns-in_err-retry-clause-granted g c = λ all. absurd (false≢true (c.in_err-retry.ensures.granted all))
@@ -27,7 +27,7 @@ returns-in_err-retry-clause-begun g c = λ all. absurd (false≢true (c.in_err-r
 -- Nothing is to be pulled.
 
 pub returns-in_default-clause-row : goal.returns-in_default-clause-row
-returns-in_default-clause-row g c = again_recorded c.args.kept.now c.retry.new.kept c.args.intake.now (g.P.KernelPort.pulled c.args.port.now) c.retry.ensures.row
+returns-in_default-clause-row g c = again_recorded c.args.kept.now c.retry.new.kept c.args.intake.now c.retry.new.intake (g.P.KernelPort.pulled c.args.port.now) c.retry.ensures.row
 
 -- There is no room for what is pulled.
 
@@ -46,7 +46,7 @@ pub returns-in_err-reserve-clause-row : goal.returns-in_err-reserve-clause-row
 returns-in_err-reserve-clause-row g c =
     let r = c.retry.ensures.row in
     let before = g.P.KernelPort.pulled c.args.port.now in
-    intake_recorded c.args.kept.now c.retry.new.kept c.reserve.new.self c.args.intake.now before before r.0 [] r.1 (none_pulled c.args.kept.now.setup before) r.2 (appends_none c.retry.new.kept c.reserve.new.self c.reserve.ensures.unmoved)
+    intake_recorded c.args.kept.now c.retry.new.kept c.reserve.new.self c.args.intake.now before before r.steps [] r.is (inl refl) (none_pulled c.args.kept.now.setup before) r.row (appends_none c.retry.new.kept c.reserve.new.self c.reserve.ensures.unmoved)
 
 pub returns-in_err-reserve-clause-once : goal.returns-in_err-reserve-clause-once
 returns-in_err-reserve-clause-once g c = λ once.
@@ -89,9 +89,9 @@ returns-clause-row g c =
     let after = g.P.KernelPort.pulled c.pull-pulled.new.self in
     let again = c.retry.ensures.row in
     let taken = c.take_pulled.ensures.row in
-    intake_recorded c.args.kept.now c.retry.new.kept c.take_pulled.new.kept c.args.intake.now before after again.0 taken.0 again.1
+    intake_recorded c.args.kept.now c.retry.new.kept c.take_pulled.new.kept c.args.intake.now before after again.steps taken.0 again.is (inr (again.all c.in-Ready.is))
     (pulled_as _ c.args.kept.now.setup before after c.pull-pulled.result c.pull-pulled.new.items.items c.deref.result.now taken.0 c.requires.sizes c.deref.ensures.value c.pull-pulled.ensures.pulled (subst (λ (s : Setup). IsTaken s c.pull-pulled.result c.deref.result.now taken.0) (c.reserve.ensures.unmoved.setup ∙ c.retry.ensures.taken.adds.appends.setup) taken.1))
-    again.2 (appends_then (appends_none c.retry.new.kept c.reserve.new.self c.reserve.ensures.unmoved) taken.2)
+    again.row (appends_then (appends_none c.retry.new.kept c.reserve.new.self c.reserve.ensures.unmoved) taken.2)
 
 pub returns-clause-once : goal.returns-clause-once
 returns-clause-once g c = λ once. c.take_pulled.ensures.once (once_unmoved c.retry.new.kept c.reserve.new.self c.retry.new.intake c.reserve.ensures.unmoved (c.retry.ensures.once once))
