@@ -47,7 +47,7 @@ pub same_here : (g : Setup) (calls : List (List Sqe)) (path : List Move) (m n : 
     → after_moves (starting g calls) path ≡ Some m → after_moves (starting g calls) path ≡ Some n → m ≡ n
 same_here g calls path m n one other = same_some m n (sym one ∙ other)
 
-one_further : (g : Setup) (calls : List (List Sqe)) (path : List Move) (x : Move) (m next : Moment)
+pub one_further : (g : Setup) (calls : List (List Sqe)) (path : List Move) (x : Move) (m next : Moment)
     → after_moves (starting g calls) path ≡ Some m → moved m x ≡ Some next
     → after_moves (starting g calls) (path ++ x ∷ []) ≡ Some next
 one_further g calls path x m next leads is =
