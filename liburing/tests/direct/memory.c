@@ -290,7 +290,7 @@ static void test_refused_readiness(void)
 /* Calls of one no-op each, of which none is reaped: tables grow by doubling, or each call would move all that waits. */
 static void test_growing(void)
 {
-    enum { CALLS = 2048, MOST_GROWTHS = 20 };
+    enum { CALLS = 2048, MOST_GROWTHS = 100 };
     struct ring ring;
     make_ring(&ring, 8, 0, 0);
     unsigned before = reallocations;
