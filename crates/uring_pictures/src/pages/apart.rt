@@ -44,22 +44,16 @@ pub fn made_steps_in<M: TextMemory>(
 /// A descriptor that no file has.
 const NO_FILE: i32 = 64;
 
-/// A line that fills an entry in.
-#[derive(Clone, Copy)]
-struct Filled {
-    slot: u32,
-    entry: Sqe,
-    // Whether its request has succeeded, if that was recorded as its end.
-    succeeded: Option<bool>,
-}
-
 /// What became of the entries that the lines of a trace fill in.
 #[derive(Drop)]
 pub(crate) struct Ends {
     alloc: Global,
     submission: Submission,
-    // What each line fills in, if it does, and of each request which line filled it in.
-    filled: Vec<Option<Filled>>,
+    // The entry that each line fills in, if it does, its slot, and whether its request has succeeded, if that was recorded as its end.
+    entries: Vec<Option<Sqe>>,
+    slots: Vec<u32>,
+    ended: Vec<Option<bool>>,
+    // Of each request which line filled it in.
     requests: Vec<usize>,
     /// How many lines a machine goes along with: an entry that was taken twice, and ended in two ways, is at the next.
     pub(crate) lines: usize,
@@ -78,7 +72,9 @@ impl Ends {
         let mut ends = Ends {
             alloc,
             submission: Submission::new(memory, alloc, setup.sq())?,
-            filled: Vec::new(alloc),
+            entries: Vec::new(alloc),
+            slots: Vec::new(alloc),
+            ended: Vec::new(alloc),
             requests: Vec::new(alloc),
             lines: usize::MAX,
         };
@@ -122,25 +118,47 @@ impl Ends {
     ) -> Result<(), AllocError>
         ensures { ((n : ℕ) → M.grants memory.now n) → IsOk result }
     {
-        let step = step_of(memory, self.alloc, line)?;
-        let here = self.filled.len();
-        let filled = match step {
-            Some(Step::Fill { slot, entry }) => Some(Filled {
-                slot,
-                entry,
-                succeeded: None,
-            }),
-            _ => None,
-        };
-        push_value(memory, &mut self.filled, filled)?;
+        match step_of(memory, self.alloc, line)? {
+            Some(step) => self.take_step(memory, &step, answer),
+            None => self.note(memory, 0, None),
+        }
+    }
+
+    /// Takes in what a line tells, if it is a step.
+    fn take_step<M: TextMemory>(
+        &mut self,
+        memory: &M,
+        step: &Step,
+        answer: &[u8],
+    ) -> Result<(), AllocError>
+        ensures { ((n : ℕ) → M.grants memory.now n) → IsOk result }
+    {
+        let here = self.entries.len();
         match step {
-            Some(Step::Finish { number }) if answer.starts_with(b"ended ") => {
-                self.end(here, number, result_of(answer));
+            Step::Fill { slot, entry } => self.note(memory, *slot, Some(*entry))?,
+            _ => self.note(memory, 0, None)?,
+        }
+        match step {
+            Step::Finish { number } if answer.starts_with(b"ended ") => {
+                self.end(here, *number, result_of(answer));
                 Ok(())
             }
-            Some(step) => self.submit(memory, here, &step, answer),
-            None => Ok(()),
+            _ => self.submit(memory, here, step, answer),
         }
+    }
+
+    /// Notes what the next line fills in.
+    fn note<M: TextMemory>(
+        &mut self,
+        memory: &M,
+        slot: u32,
+        entry: Option<Sqe>,
+    ) -> Result<(), AllocError>
+        ensures { ((n : ℕ) → M.grants memory.now n) → IsOk result }
+    {
+        push_value(memory, &mut self.entries, entry)?;
+        push_value(memory, &mut self.slots, slot)?;
+        push_value(memory, &mut self.ended, None)
     }
 
     /// Notes that a request has ended with a result, at this line.
@@ -148,12 +166,16 @@ impl Ends {
         let Some(line) = self.requests.get(number as usize) else {
             return;
         };
-        if let Some(Some(filled)) = self.filled.get_mut(*line) {
-            let has_succeeded = succeeded(&filled.entry, res);
-            if filled.succeeded.unwrap_or(has_succeeded) != has_succeeded {
+        let line = *line;
+        let Some(Some(entry)) = self.entries.get(line) else {
+            return;
+        };
+        let has_succeeded = succeeded(entry, res);
+        if let Some(ended) = self.ended.get_mut(line) {
+            if ended.unwrap_or(has_succeeded) != has_succeeded {
                 self.lines = self.lines.min(here);
             }
-            filled.succeeded = Some(has_succeeded);
+            *ended = Some(has_succeeded);
         }
     }
 
@@ -241,25 +263,35 @@ impl Ends {
     ) -> Result<bool, AllocError>
         ensures { ((n : ℕ) → M.grants memory.now n) → IsOk result }
     {
-        let Some(Some(filled)) = self.filled.get(line) else {
+        let Some(Some(entry)) = self.entries.get(line) else {
             return Ok(false);
         };
-        let Some(has_succeeded) = filled.succeeded else {
+        let Some(Some(has_succeeded)) = self.ended.get(line) else {
             return Ok(false);
         };
-        let entry = &filled.entry;
-        let made = Sqe::nop(entry.user_data(), entry.flags());
-        let failed = Sqe::fsync(entry.user_data(), entry.flags(), NO_FILE);
+        let Some(slot) = self.slots.get(line) else {
+            return Ok(false);
+        };
+        let made = stand_in(entry, *has_succeeded);
         let values = [
-            Value::Number(u64::from(filled.slot)),
-            Value::Operation(if has_succeeded { &made } else { &failed }),
-            Value::Number(entry.user_data()),
-            Value::Flags(entry),
-            Value::Text(if has_letters(entry) { "" } else { "-" }),
-            Value::Text(if has_succeeded { "" } else { " 64" }),
+            Value::Number(u64::from(*slot)),
+            Value::Operation(&made),
+            Value::Number(made.user_data()),
+            Value::Flags(&made),
+            Value::Text(if has_letters(&made) { "" } else { "-" }),
+            Value::Text(if *has_succeeded { "" } else { " 64" }),
         ];
         push_form(memory, text, "fill @ @ @ @@@", &values)?;
         Ok(true)
+    }
+}
+
+/// What stands for an operation that has succeeded, or failed: as it, without what it asks of a file.
+fn stand_in(entry: &Sqe, has_succeeded: bool) -> Sqe {
+    if has_succeeded {
+        Sqe::nop(entry.user_data(), entry.flags())
+    } else {
+        Sqe::fsync(entry.user_data(), entry.flags(), NO_FILE)
     }
 }
 
