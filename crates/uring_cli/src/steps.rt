@@ -172,7 +172,7 @@ pub(crate) fn is_remark(line: &[u8]) -> bool {
 /// Whether a line is a step with an answer.
 fn is_record(alloc: Global, line: &[u8]) -> Result<bool, AllocError> {
     match split_record(line) {
-        Some((step, _)) => Ok(read_step(alloc, step)?.is_some()),
-        None => Ok(false),
+        Some((step, _)) if step.len() < LONGEST => Ok(read_step(alloc, step)?.is_some()),
+        _ => Ok(false),
     }
 }
