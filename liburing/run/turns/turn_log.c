@@ -61,12 +61,41 @@ static void tell_difference(const char *line, int size)
     recorded = NULL;
 }
 
+/* Past a word that is an address, if one begins here: where memory lies rests on the environment too, and isn't compared. */
+static const char *past_address(const char *text, const char *end)
+{
+    enum { PREFIX = 2, SMALL = 8 };
+    if (end - text < PREFIX || text[0] != '0' || text[1] != 'x')
+        return text;
+    const char *at = text + PREFIX;
+    while (at < end && ((*at >= '0' && *at <= '9') || (*at >= 'a' && *at <= 'f')))
+        at++;
+    return at - text > PREFIX + SMALL ? at : text;
+}
+
+/* Where the recorded log goes on after a line like this one; NULL if it has another there. */
+static const char *after_alike(const char *line, int size)
+{
+    const char *at = recorded, *end = line + size;
+    while (line < end) {
+        const char *past = past_address(line, end), *other = past_address(at, recorded_end);
+        if ((past == line) != (other == at))
+            return NULL;
+        if (past == line && (at == recorded_end || *at != *line))
+            return NULL;
+        at = past == line ? at + 1 : other;
+        line = past == line ? line + 1 : past;
+    }
+    return at;
+}
+
 static void compare_line(const char *line, int size)
 {
-    if (recorded_end - recorded < size || memcmp(recorded, line, (size_t)size) != 0)
-        tell_difference(line, size);
+    const char *after = after_alike(line, size);
+    if (after)
+        recorded = after;
     else
-        recorded += size;
+        tell_difference(line, size);
 }
 
 void compare_end(void)
