@@ -13,7 +13,7 @@ pub use Rattle.uring_crash.specs.Questions.{Asks, Replies, count_text, image_lin
 pub use Rattle.uring_crash.specs.Watches.{Watches, Watching}
 pub use Rattle.uring_crash.specs.declared.watch.Watch.{Watch}
 pub use Rattle.uring_entry.specs.Setup.{Setup}
-pub use Rattle.uring_epochs.specs.Logs.{Log, finished_as, issued_as, log_of, logged}
+pub use Rattle.uring_crash_machine.specs.Logs.{Log, finished_as, issued_as, log_of, logged}
 pub use Rattle.uring_trace.specs.Exchanges.{Exchange, events_of, lines_of}
 pub use Rattle.uring_volume.specs.Choices.{issued}
 pub use Rattle.uring_volume.specs.Images.{IsImage, IsIn, IsInOrder, UnitIsLeft, byte_over, end_of, is_on, is_under}

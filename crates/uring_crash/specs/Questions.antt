@@ -12,7 +12,7 @@ use Rattle.uring_core.specs.CalledFor.{IsLawful}
 use Rattle.uring_text.specs.Lines.{ended}
 use Rattle.uring_text.specs.Tokens.{hex_or_dash}
 use Rattle.uring_trace.specs.Exchanges.{Exchange, IsReadAs, lines_of, events_of}
-use Rattle.uring_epochs.specs.Logs.{log_of}
+use Rattle.uring_crash_machine.specs.Logs.{log_of}
 use Rattle.uring_crash.specs.FirstLines.{AreFirstLines}
 use Rattle.uring_crash.specs.Crashes.{is_bad, image_text}
 use Rattle.uring_crash.specs.Keeping.{Holds, IsPlain}

@@ -3,7 +3,7 @@ use Rattle.std.specs.Prelude.{◌≡◌, ℕ, ℤ, []}
 use Rattle.uring_entry.specs.Setup.{Setup}
 use Rattle.uring_core.specs.Histories.{History}
 use Rattle.uring_machine.specs.Machine.{Machine, Fits}
-use Rattle.uring_epochs.specs.Logs.{Log, log_of}
+use Rattle.uring_crash_machine.specs.Logs.{Log, log_of}
 use Rattle.uring_crash.specs.declared.watch.Watch.{Watch}
 
 -- The machine fits a history, and the log is that of the file.

@@ -1,7 +1,7 @@
 //! The choices that leave an image: the least one, one by a seed, and one that shows a write.
 
 use std::alloc::{AllocError, Global};
-use uring_epochs::FileLog;
+use uring_crash_machine::FileLog;
 use uring_volume::{Event, Piece, is_before, is_safe};
 
 /// How many parts a choice has for a file to which this has happened: one for its length, and one for each unit.

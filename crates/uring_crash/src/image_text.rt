@@ -6,7 +6,7 @@ ghost use Rattle.uring_crash.specs.Crashes.{image_text};
 
 use std::alloc::{AllocError, Global};
 use std::fmt::Write;
-use uring_epochs::FileLog;
+use uring_crash_machine::FileLog;
 use uring_text::{push_number, push_text};
 use uring_volume::{Event, Piece};
 

@@ -3,7 +3,7 @@
 ghost use Rattle.std.specs.Prelude.{◌≡◌, ◌<◌, ◌++◌, [], ℕ, ℤ, map, IfOk, OnOk, string_bytes};
 ghost use Rattle.uring_entry.specs.Setup.{Setup};
 ghost use Rattle.uring_core.specs.Histories.{History};
-ghost use Rattle.uring_epochs.specs.Logs.{log_of};
+ghost use Rattle.uring_crash_machine.specs.Logs.{log_of};
 ghost use Rattle.uring_crash.specs.Watches.{Watches};
 ghost use Rattle.uring_crash.specs.Following.{Follows};
 ghost use Rattle.uring_crash.specs.Questions.{Asks, Replies, AreKept, count_text, images_text, kept_text};

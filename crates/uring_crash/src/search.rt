@@ -5,7 +5,7 @@ ghost use Rattle.uring_entry.specs.Setup.{Setup};
 ghost use Rattle.uring_volume.specs.Events as volume;
 ghost use Rattle.uring_volume.specs.Listing.{AreTheImages};
 ghost use Rattle.uring_core.specs.Histories.{History};
-ghost use Rattle.uring_epochs.specs.Logs.{log_of};
+ghost use Rattle.uring_crash_machine.specs.Logs.{log_of};
 ghost use Rattle.uring_crash.specs.Watches.{Watches};
 ghost use Rattle.uring_crash.specs.Keeping.{Holds, IsPlain};
 ghost use Rattle.uring_crash.specs.Searching.{IsFound, IsWithout};

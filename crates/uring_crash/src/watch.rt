@@ -6,11 +6,11 @@ ghost use Rattle.uring_volume.specs.Images.{IsImage};
 ghost use Rattle.uring_volume.specs.Listing.{AreTheImages};
 ghost use Rattle.uring_volume.specs.declared.volume.ImagesError.TheVariants.{TooMany};
 ghost use Rattle.uring_core.specs.Histories.{History};
-ghost use Rattle.uring_epochs.specs.Logs.{log_of};
+ghost use Rattle.uring_crash_machine.specs.Logs.{log_of};
 ghost use Rattle.uring_crash.specs.Watches.{Watches};
 
 use std::alloc::{AllocError, Global};
-use uring_epochs::FileLog;
+use uring_crash_machine::FileLog;
 use uring_machine::{Answer, Machine, Setup, Step};
 use uring_volume::ImagesError;
 

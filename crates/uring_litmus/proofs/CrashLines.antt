@@ -4,8 +4,8 @@ use Rattle.uring_litmus.proofs.Common.{Contains, Contains-push_cases, Global, Is
 use Rattle.uring_entry.specs.Setup.{Setup}
 use Rattle.uring_entry.specs.Layout.{Sqe}
 use Rattle.uring_ports.specs.declared.item.Item.{Item}
-use Rattle.uring_power.specs.Shown.{Crash}
-use Rattle.uring_power.specs.Found.{AreCrashes, AreAllCrashes}
+use Rattle.uring_crash_outcomes.specs.Shown.{Crash}
+use Rattle.uring_crash_outcomes.specs.Found.{AreCrashes, AreAllCrashes}
 use Rattle.uring_litmus.specs.declared.claims.Claim.{Claim}
 use Rattle.uring_litmus.specs.Crashes.{AreCrashLines, FailsOfLine, HoldsOfLines, IsSoOfParts, IsSoOfLine, IsNotSoOfLine, ReadsEntries, crash_line, left_text, left_texts}
 use Rattle.uring_litmus.specs.Wanted.{IsCut}

@@ -10,9 +10,9 @@ use Rattle.uring_entry.specs.Layout.{Sqe}
 use Rattle.uring_text.specs.Tokens.{hex_or_dash}
 use Rattle.uring_ports.specs.declared.item.Item.{Item}
 use Rattle.uring_play_text.specs.Inputs.{IsTold}
-use Rattle.uring_power.specs.Shown.{Crash}
-use Rattle.uring_power.specs.Moves.{CanShow}
-use Rattle.uring_power.specs.Found.{MayBeMany}
+use Rattle.uring_crash_outcomes.specs.Shown.{Crash}
+use Rattle.uring_crash_outcomes.specs.Moves.{CanShow}
+use Rattle.uring_crash_outcomes.specs.Found.{MayBeMany}
 use Rattle.uring_litmus.specs.declared.claims.Claim.{Claim}
 use Rattle.uring_litmus.specs.declared.claims.Claim.TheVariants as claims
 use Rattle.uring_litmus.specs.declared.crashes.CrashesJudged.{CrashesJudged}

@@ -2,7 +2,7 @@
 
 ghost use Rattle.std.specs.Prelude.{◌≡◌, ◌++◌, ◌∷◌, ℕ, List, max, false, IfOk, OnOk, MatchOption, Contains, map, string_bytes};
 ghost use Rattle.uring_entry.specs.Layout.{Sqe};
-ghost use Rattle.uring_power.specs.Found.{MayBeMany};
+ghost use Rattle.uring_crash_outcomes.specs.Found.{MayBeMany};
 ghost use Rattle.uring_litmus.specs.Claims.{lines_in};
 ghost use Rattle.uring_litmus.specs.Crashes.{AreCrashLines, IsCrashVerdict, IsSoOfLine, IsNotSoOfLine, ReadsEntries, crash_line, crash_parts, left_text, left_texts};
 ghost use Rattle.uring_litmus.specs.Lines.{IsSortedOnce};
@@ -18,7 +18,7 @@ use std::alloc::{AllocError, Global};
 use std::io::{Read, Write};
 use uring_entry::Setup;
 use uring_play_text::{PlayFault, read_calls};
-use uring_power::{Crash, CrashFault, FoundCrashes, crashes_within};
+use uring_crash_outcomes::{Crash, CrashFault, FoundCrashes, crashes_within};
 
 /// The most images that may be left of one file at one moment.
 pub const MOST_IMAGES: u32 = 1_000;

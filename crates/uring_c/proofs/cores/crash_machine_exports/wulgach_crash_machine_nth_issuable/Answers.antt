@@ -1,6 +1,0 @@
-use Rattle.std.proofs.Common.{refl}
-use Rattle.uring_c.proofs.Found.{said_of_found}
-use Rattle.uring_c.proofs.cores.crash_machine_exports.wulgach_crash_machine_nth_issuable.Goals as goal
-
-pub returns-clause-nth : goal.returns-clause-nth
-returns-clause-nth c = said_of_found _ _ _ _ _ _ _ c.nth_issuable.ensures.nth c.in-Some.is (refl, refl)

@@ -1,8 +1,0 @@
-use Rattle.std.proofs.Common.{w32, rules}
-use Rattle.std.proofs.lemmas.Int.{to_z-of_z}
-use Rattle.uring_c.proofs.cores.machine_exports.wulgach_machine_new.Goals as goal
-
-pub returns : goal.returns
-returns c =
-    let e = c.machine_new_in.ensures in
-    rw (to_z-of_z w32 c.machine_new_in.result (search rules)) (record { refused = e.refused; results = e.results; kept = e.kept; made = e.made })

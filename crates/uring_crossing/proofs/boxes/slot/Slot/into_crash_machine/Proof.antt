@@ -1,9 +1,0 @@
--- `into_crash_machine` moves a pointer and its allocator.
-use Rattle.uring_crossing.proofs.HeldKinds.{crash_machines}
-use Rattle.uring_crossing.proofs.Moving.{into_meets}
-use Rattle.uring_crossing.specs.contracts.boxes.slot.Slot.into_crash_machine.Key.{name as #self}
-use Rattle.uring_crossing.proofs.boxes.slot.Slot.into_crash_machine.Statement as stated
-use Rattle.uring_crossing.proofs.boxes.slot.Slot.into_crash_machine.Code as code
-
-pub into_crash_machine_spec : {M : Type 1} → stated.statement M
-into_crash_machine_spec 𝓤 𝓛 𝓜 𝓡 wired = into_meets crash_machines 𝓤 𝓛 𝓜 𝓡 #self (code.unfolded 𝓤 𝓛.H 𝓜 𝓡 wired)

@@ -1,9 +1,0 @@
--- `of_core` moves a pointer and its allocator.
-use Rattle.uring_crossing.proofs.HeldKinds.{cores}
-use Rattle.uring_crossing.proofs.Moving.{of_meets}
-use Rattle.uring_crossing.specs.contracts.boxes.slot.Slot.of_core.Key.{name as #self}
-use Rattle.uring_crossing.proofs.boxes.slot.Slot.of_core.Statement as stated
-use Rattle.uring_crossing.proofs.boxes.slot.Slot.of_core.Code as code
-
-pub of_core_spec : {M : Type 1} → stated.statement M
-of_core_spec 𝓤 𝓛 𝓜 𝓡 wired = of_meets cores 𝓤 𝓛 𝓜 𝓡 #self (code.unfolded 𝓤 𝓛.H 𝓜 𝓡 wired)

@@ -1,7 +1,0 @@
-use Rattle.std.proofs.Common.{◌≡◌, ◌++◌, map, drop}
-use Rattle.uring_crossing.specs.Volumes.VolumeForms.{laid_out}
-use Rattle.uring_crossing.proofs.volumes.volume_memory.laid_out.Given as goal
-
-abbrev pub invariant-loop-list : goal.invariant-loop-list
-invariant-loop-list g l =
-    l.all.items ++ laid_out (map (λ b. b.items) (drop l.list-index l.lists)) ≡ laid_out (map (λ b. b.items) l.lists)

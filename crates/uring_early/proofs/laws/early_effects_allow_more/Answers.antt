@@ -1,5 +1,0 @@
-use Rattle.uring_early.proofs.AtFinishes.{early_effects_allow_more}
-use Rattle.uring_early.proofs.laws.early_effects_allow_more.Goals as goal
-
-pub returns : goal.returns
-returns c = early_effects_allow_more

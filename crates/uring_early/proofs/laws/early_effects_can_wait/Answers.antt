@@ -1,5 +1,0 @@
-use Rattle.uring_early.proofs.Waiting.{early_effects_can_wait}
-use Rattle.uring_early.proofs.laws.early_effects_can_wait.Goals as goal
-
-pub returns : goal.returns
-returns c = early_effects_can_wait

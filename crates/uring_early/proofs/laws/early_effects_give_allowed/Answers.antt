@@ -1,5 +1,0 @@
-use Rattle.uring_early.proofs.EarlyResults.{early_effects_give_allowed}
-use Rattle.uring_early.proofs.laws.early_effects_give_allowed.Goals as goal
-
-pub returns : goal.returns
-returns c = early_effects_give_allowed

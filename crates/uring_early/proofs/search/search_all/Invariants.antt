@@ -1,5 +1,0 @@
-use Rattle.uring_early.specs.Search.{IsSearch, seats_of}
-use Rattle.uring_early.proofs.search.search_all.Given as goal
-
-abbrev pub invariant-moves : goal.invariant-moves
-invariant-moves l = IsSearch l.count l.marks (seats_of l.todo.items)

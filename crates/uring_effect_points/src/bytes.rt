@@ -1,0 +1,70 @@
+//! Whether a history is lawful by early effects with some bytes at its finishes.
+
+ghost use Rattle.std.specs.Prelude.{◌≡◌, [], List, map, IfOk};
+ghost use Rattle.uring_core.specs.Histories.{Event, history_of};
+ghost use Rattle.uring_effect_points.specs.Bare as bare;
+ghost use Rattle.uring_effect_points.specs.Bare.{IsFoundBare, blank};
+
+use crate::decision::{Found, found_by};
+use crate::known::{add_known, blanks_of, bytes_told};
+use crate::mark::Mark;
+use crate::search::explain;
+use std::alloc::{AllocError, Global};
+use uring_core::{Answer, Core, Setup, Step};
+
+/// Whether the history of these steps with their answers, the oldest first, on new rings of this set-up is lawful by early effects if its finishes have some bytes or other: those that they have count for nothing, as the text of a trace tells none of them. The bytes of the completions that are reaped count. It makes so many moves at most, one for each event and for each effect that it tries, and gives up if some are left to be tried then.
+///
+/// - `Lawful`: with some bytes it is.
+/// - `Unlawful`: with none is it lawful apart from what operations gave.
+/// - `Unexplained`: with none is it lawful by early effects.
+/// - `GaveUp`: nothing is claimed.
+///
+/// `AllocError`: memory was refused.
+pub fn find_bytes(
+    alloc: Global,
+    setup: &Setup,
+    events: &[(Step, Answer)],
+    most: u64,
+) -> Result<Found, AllocError>
+    ensures { IfOk result (IsFoundBare setup.now (history_of events.now)) }
+{
+    let blanks = blanks_of(alloc, events)?;
+    let told = bytes_told(alloc, events)?;
+    let mut marks = Vec::new(alloc);
+    let found = find_known(
+        alloc,
+        setup,
+        blanks.as_slice(),
+        told.as_slice(),
+        most,
+        &mut marks,
+    );
+    drop(marks);
+    drop(told);
+    drop(blanks);
+    found
+}
+
+/// The same, by the events without their bytes and the bytes that are reaped. No mark is there yet.
+fn find_known(
+    alloc: Global,
+    setup: &Setup,
+    blanks: &[(Step, Answer)],
+    told: &[[u8; 64]],
+    most: u64,
+    marks: &mut Vec<Mark>,
+) -> Result<Found, AllocError>
+    requires { marks.old.items ≡ [] }
+    ensures { IfOk result
+        (λ found. (events : List Event) → map blank events ≡ blanks.now → bare.bytes_told events ≡ told.now
+        → IsFoundBare setup.now (history_of events) found) }
+{
+    let mut core = Core::new(alloc, setup)?;
+    let lawful = add_known(&mut core, blanks, told, marks);
+    drop(core);
+    if !lawful? {
+        return Ok(Found::Unlawful);
+    }
+    let fate = explain(alloc, setup.files(), marks.as_slice(), most)?;
+    Ok(found_by(fate))
+}

@@ -1,0 +1,60 @@
+//! Whether a history is lawful by early effects.
+
+ghost use Rattle.std.specs.Prelude.{◌≡◌, IfOk};
+ghost use Rattle.uring_core.specs.Histories.{history_of};
+ghost use Rattle.uring_effect_points.specs.Decided as decided;
+ghost use Rattle.uring_effect_points.specs.Decided.{IsFound};
+
+use crate::marks::add_marks;
+use crate::search::{Fate, explain};
+use std::alloc::{AllocError, Global};
+use uring_core::{Answer, Core, Setup, Step};
+
+/// What was found of a history.
+#[derive(Clone, Copy)]
+pub enum Found {
+    /// It is lawful by early effects.
+    Lawful,
+
+    /// It isn't lawful apart from what operations gave, and so not by early effects.
+    Unlawful,
+
+    /// It is lawful apart from what operations gave, but not by early effects: at no moments between issue and finish do its operations give what it has.
+    Unexplained,
+
+    /// The search gave up. It is lawful apart from what operations gave, and more isn't claimed.
+    GaveUp,
+}
+
+/// Whether the history of these steps with their answers, the oldest first, on new rings of this set-up is lawful by early effects, its results and bytes as the answers have them. It makes so many moves at most, one for each event and for each effect that it tries, and gives up if some are left to be tried then.
+///
+/// `AllocError`: memory was refused.
+pub fn find_effects(
+    alloc: Global,
+    setup: &Setup,
+    events: &[(Step, Answer)],
+    most: u64,
+) -> Result<Found, AllocError>
+    ensures { IfOk result (IsFound setup.now (history_of events.now)) }
+{
+    let mut core = Core::new(alloc, setup)?;
+    let mut marks = Vec::new(alloc);
+    let lawful = add_marks(&mut core, events, &mut marks);
+    drop(core);
+    if !lawful? {
+        return Ok(Found::Unlawful);
+    }
+    let fate = explain(alloc, setup.files(), marks.as_slice(), most)?;
+    Ok(found_by(fate))
+}
+
+/// What was found, by where the search was.
+pub(crate) fn found_by(fate: Fate) -> Found
+    ensures { result ≡ decided.found_by fate }
+{
+    match fate {
+        Fate::Explained => Found::Lawful,
+        Fate::Over => Found::Unexplained,
+        Fate::Open => Found::GaveUp,
+    }
+}

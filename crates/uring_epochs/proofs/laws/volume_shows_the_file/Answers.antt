@@ -1,5 +1,0 @@
-use Rattle.uring_epochs.proofs.LogLaws.{volume_shows_the_file}
-use Rattle.uring_epochs.proofs.laws.volume_shows_the_file.Goals as goal
-
-pub returns : goal.returns
-returns c = volume_shows_the_file c.write_changes_what_lies_under_it.ensures

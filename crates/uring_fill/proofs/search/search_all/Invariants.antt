@@ -1,5 +1,0 @@
-use Rattle.uring_fill.specs.Parts.{paths_of, IsSearch}
-use Rattle.uring_fill.proofs.search.search_all.Given as goal
-
-abbrev pub invariant-paths : goal.invariant-paths
-invariant-paths l = IsSearch l.setup l.seen (paths_of l.todo.items) l.reach.events.items l.reach.place

@@ -1,6 +1,0 @@
-use Rattle.std.proofs.Common.{◌≡◌, take}
-use Rattle.uring_fill.specs.Filling.{completions_in}
-use Rattle.uring_fill.proofs.seen.completions.Given as goal
-
-abbrev pub invariant-loop-event : goal.invariant-loop-event
-invariant-loop-event l = l.told.items ≡ completions_in (take l.event-index l.seen)

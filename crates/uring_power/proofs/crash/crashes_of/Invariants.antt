@@ -1,6 +1,0 @@
-use Rattle.std.proofs.Common.{take}
-use Rattle.uring_power.specs.Trials.{AreShown}
-use Rattle.uring_power.proofs.crash.crashes_of.Given as goal
-
-abbrev pub invariant-loop-log : goal.invariant-loop-log
-invariant-loop-log l = AreShown l.posted (take l.log-index l.logs) l.crashes.items

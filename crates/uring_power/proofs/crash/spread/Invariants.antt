@@ -1,6 +1,0 @@
-use Rattle.std.proofs.Common.{◌≡◌, take, map}
-use Rattle.uring_power.specs.Trials.{spread_over}
-use Rattle.uring_power.proofs.crash.spread.Given as goal
-
-abbrev pub invariant-loop-crash : goal.invariant-loop-crash
-invariant-loop-crash l = l.wider.items ≡ spread_over (take l.crash-index l.crashes) (map (λ b. b.items) l.images)

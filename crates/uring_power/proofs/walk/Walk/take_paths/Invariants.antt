@@ -1,5 +1,0 @@
-use Rattle.uring_power.proofs.Common.{IsWalk, entries_of, paths_of}
-use Rattle.uring_power.proofs.walk.Walk.take_paths.Given as goal
-
-abbrev pub invariant-paths : goal.invariant-paths
-invariant-paths l = IsWalk l.unit l.setup (entries_of l.calls) (paths_of l.self.todo.items) l.self.found.items

@@ -1,7 +1,0 @@
-use Rattle.std.proofs.Common.{◌≡◌, take}
-use Rattle.uring_text.specs.KeptLine.{kept_of}
-use Rattle.uring_seen.proofs.filling.kept.Given as goal
-
--- the bytes so far are kept
-abbrev pub invariant-loop-byte : goal.invariant-loop-byte
-invariant-loop-byte l = l.kept ≡ kept_of (take l.byte-index l.line)
