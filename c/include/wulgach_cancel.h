@@ -89,7 +89,7 @@ enum wulgach_sought_file {
     WULGACH_SEEKS_NUMBER = 2    /* by the descriptor `fd` */
 };
 
-uint32_t wulgach_sought_file(const struct wulgach_sought *sought);
+uint32_t wulgach_file_sought(const struct wulgach_sought *sought);
 
 /* What is done with a request that a cancel has found, in this order. */
 enum wulgach_cancelling {

@@ -215,7 +215,7 @@ enum wulgach_sought_after {
 /* Returns what it looks for next (enum wulgach_sought_after), which ends with this: the requests that run, if the core has found one; then, unless it has
  * cancelled one, the request that could start. By Linux's rules the core finds only what has started, and the kernel starts in the call that takes
  * it what can start. */
-uint32_t wulgach_sought_after(const struct wulgach_ended_cancel *cancel, int32_t res);
+uint32_t wulgach_next_sought(const struct wulgach_ended_cancel *cancel, int32_t res);
 
 /* Whether a cancel looks for a request that hasn't started and could before the core ends it: after its end others could start, which it doesn't find. */
 bool wulgach_looks_ahead(bool is_cancel, bool linux_rules);

@@ -23,7 +23,7 @@ enum wulgach_operation_flag {
     WULGACH_CANCEL_ALL = 1
 };
 
-static inline void wulgach_entry(uint64_t entry[16], uint8_t code, uint64_t user_data, uint8_t flags, int32_t fd)
+static inline void wulgach_entry_of(uint64_t entry[16], uint8_t code, uint64_t user_data, uint8_t flags, int32_t fd)
 {
     for (int i = 0; i < 16; i++)
         entry[i] = 0;
@@ -33,13 +33,13 @@ static inline void wulgach_entry(uint64_t entry[16], uint8_t code, uint64_t user
 
 static inline void wulgach_nop(uint64_t entry[16], uint64_t user_data, uint8_t flags)
 {
-    wulgach_entry(entry, WULGACH_OP_NOP, user_data, flags, 0);
+    wulgach_entry_of(entry, WULGACH_OP_NOP, user_data, flags, 0);
 }
 
 /* Reads len bytes from offset off on: at most 64, else the entry is faulty. */
 static inline void wulgach_read(uint64_t entry[16], uint64_t user_data, uint8_t flags, int32_t fd, uint64_t off, uint32_t len)
 {
-    wulgach_entry(entry, WULGACH_OP_READ, user_data, flags, fd);
+    wulgach_entry_of(entry, WULGACH_OP_READ, user_data, flags, fd);
     entry[1] = off;
     entry[3] = len;
 }
@@ -47,7 +47,7 @@ static inline void wulgach_read(uint64_t entry[16], uint64_t user_data, uint8_t 
 /* Writes the first len of these bytes, at most 64, at offset off. */
 static inline void wulgach_write(uint64_t entry[16], uint64_t user_data, uint8_t flags, int32_t fd, uint64_t off, const uint8_t *bytes, uint32_t len)
 {
-    wulgach_entry(entry, WULGACH_OP_WRITE, user_data, flags, fd);
+    wulgach_entry_of(entry, WULGACH_OP_WRITE, user_data, flags, fd);
     entry[1] = off;
     entry[3] = len;
     for (uint32_t i = 0; i < len && i < 64; i++)
@@ -56,13 +56,13 @@ static inline void wulgach_write(uint64_t entry[16], uint64_t user_data, uint8_t
 
 static inline void wulgach_fsync(uint64_t entry[16], uint64_t user_data, uint8_t flags, int32_t fd)
 {
-    wulgach_entry(entry, WULGACH_OP_FSYNC, user_data, flags, fd);
+    wulgach_entry_of(entry, WULGACH_OP_FSYNC, user_data, flags, fd);
 }
 
 /* Cancels the request of user data target. */
 static inline void wulgach_cancel(uint64_t entry[16], uint64_t user_data, uint8_t flags, uint64_t target)
 {
-    wulgach_entry(entry, WULGACH_OP_CANCEL, user_data, flags, 0);
+    wulgach_entry_of(entry, WULGACH_OP_CANCEL, user_data, flags, 0);
     entry[2] = target;
 }
 

@@ -76,7 +76,7 @@ bool wulgach_syncs_itself(const struct wulgach_writing *writing);
 
 /* Writes the bytes that the sync of an entry is of. False, and nothing is written: it is of the whole file, since it has neither an offset nor a
  * length. One with an offset alone is of no byte. io_uring_prep_fsync(3). */
-bool wulgach_synced_bytes(const struct wulgach_submission *entry, struct wulgach_synced_bytes *bytes);
+bool wulgach_synced_bytes_of(const struct wulgach_submission *entry, struct wulgach_synced_bytes *bytes);
 
 /* Whether a path is of the folder that counts as the disk, or below, by whether it begins with the folder's and the letter after that, or 0. */
 bool wulgach_is_on_disk(bool begins_with_folder, uint8_t after);
@@ -164,7 +164,7 @@ struct wulgach_file_part {
 };
 
 /* Returns what the system call of this number (<asm/unistd_64.h>) is logged as: enum wulgach_logged_call. */
-uint32_t wulgach_logged_call(uint64_t number);
+uint32_t wulgach_logged_call_of(uint64_t number);
 
 /* Writes which bits of an argument it has some of, where it is logged only then: O_CREAT, O_TRUNC or O_TMPFILE of open and openat, and MAP_SHARED of
  * mmap. False, and nothing is written: it is logged whatever its arguments, or never. */
@@ -213,7 +213,7 @@ bool wulgach_logs_names(uint64_t number, bool is_on_disk, bool is_second_on_disk
 
 /* Writes where the last part of a path stands: up to where only slashes are left, from after the last slash before that. What stands in front is the path of its
  * folder, if anything does. path_resolution(7). */
-void wulgach_last_part(const uint8_t *path, size_t length, struct wulgach_last_part *part);
+void wulgach_last_part_of(const uint8_t *path, size_t length, struct wulgach_last_part *part);
 
 /* Whether it is a name in that: it isn't empty, `.` or `..`. path_resolution(7). */
 bool wulgach_is_entry_name(const uint8_t *part, size_t length);

@@ -74,7 +74,7 @@ struct wulgach_waited {
 };
 
 /* Returns what came of a wait, as the reply to a call that wants to sleep (enum wulgach_reply_kind). */
-uint32_t wulgach_waited(const struct wulgach_waited *waited);
+uint32_t wulgach_reply_of_wait(const struct wulgach_waited *waited);
 
 /* What a sleep does for a request that runs. */
 struct wulgach_slept_for {
@@ -87,7 +87,7 @@ struct wulgach_slept_for {
  * (`asks_broken`), or does. It polls the descriptor of each that may have to wait for it, and naps beside that if `asks_broken`. For one it naps
  * alone: it has no descriptor, as the open of a named pipe; or it was carried out twice or more in vain, once right after the other though its
  * descriptor showed ready, and shows ready still. What was in vain counts no more once it doesn't. */
-void wulgach_slept_for(const struct wulgach_standing *standing, const struct wulgach_needs *needs, uint32_t vain, bool is_ready, bool asks_broken, struct wulgach_slept_for *slept);
+void wulgach_sleep_effect(const struct wulgach_standing *standing, const struct wulgach_needs *needs, uint32_t vain, bool is_ready, bool asks_broken, struct wulgach_slept_for *slept);
 
 /* Whether it matters to that whether its descriptor shows ready. */
 bool wulgach_asks_before_nap(const struct wulgach_needs *needs, uint32_t vain);

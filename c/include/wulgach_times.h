@@ -225,7 +225,7 @@ enum wulgach_sleep_call {
 /* Returns that (enum wulgach_sleep_call) of a sleep that may last so long, where there is an instance or none, which makes this of all that it is to tell of (enum
  * wulgach_enlisted, wulgach_shown.h); and writes how long it lasts then: for a moment at least, of a nanosecond, since no signal is looked for in no time,
  * unless one is ready. Our own rule. */
-uint32_t wulgach_sleep_call(bool has_instance, uint32_t all, const struct wulgach_limit *limit, struct wulgach_limit *lasts);
+uint32_t wulgach_sleep_call_of(bool has_instance, uint32_t all, const struct wulgach_limit *limit, struct wulgach_limit *lasts);
 
 /* What a sleep came to that was begun so (enum wulgach_sleep_call), where its system call came to this: an error is one; else 1, if one is ready of which the
  * instance doesn't tell. */

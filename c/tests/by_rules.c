@@ -128,7 +128,7 @@ static void call(struct wulgach_core *core, const struct put *puts)
     struct wulgach_answer answer;
     uint32_t count = 0;
     for (; count < 3 && puts[count].user_data != 0; count++) {
-        wulgach_entry(entries[count].words, puts[count].code, puts[count].user_data, puts[count].flags, 0);
+        wulgach_entry_of(entries[count].words, puts[count].code, puts[count].user_data, puts[count].flags, 0);
         entries[count].words[2] = puts[count].target;
     }
     check(wulgach_core_submit(core, entries, count, &answer) == 0 && answer.kind == WULGACH_TAKEN && answer.word == count, "a call");

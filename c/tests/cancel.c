@@ -37,7 +37,7 @@ static void seek(void)
     wulgach_sought_of(&(struct wulgach_submission){.opcode = CANCEL, .fd = 3, .op_flags = 11}, &sought);
     demand(sought.fd == 3 && sought.is_by_fd && sought.is_fixed && sought.is_all && !sought.is_any && !sought.is_of_operation && !wulgach_goes_by_user_data(&sought), "all by a slot");
     demand(wulgach_seeking_fault(&sought, false) == -9 && wulgach_seeking_fault(&sought, true) == 0, "an empty slot");
-    demand(wulgach_sought_file(&sought) == WULGACH_SEEKS_SLOT && wulgach_sought_file(&(struct wulgach_sought){.is_by_fd = true, .is_any = true}) == WULGACH_SEEKS_NUMBER && wulgach_sought_file(&(struct wulgach_sought){.is_fixed = true}) == WULGACH_SEEKS_NO_FILE, "where a file is looked for");
+    demand(wulgach_file_sought(&sought) == WULGACH_SEEKS_SLOT && wulgach_file_sought(&(struct wulgach_sought){.is_by_fd = true, .is_any = true}) == WULGACH_SEEKS_NUMBER && wulgach_file_sought(&(struct wulgach_sought){.is_fixed = true}) == WULGACH_SEEKS_NO_FILE, "where a file is looked for");
     wulgach_sought_of(&(struct wulgach_submission){.opcode = CANCEL, .op_flags = 4}, &sought);
     demand(wulgach_seeking_fault(&sought, false) == 0 && !wulgach_goes_by_user_data(&sought), "any needs no slot");
     wulgach_sought_by_call(&(struct wulgach_cancel_form){.addr = 5, .fd = 3, .flags = 11, .seconds = 4}, &sought);

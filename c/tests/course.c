@@ -152,14 +152,14 @@ static void judge_results(void)
 static void look_after_cancels(void)
 {
     struct wulgach_ended_cancel cancel = {.is_cancel = true, .has_next = true, .linux_rules = true}, other = {.has_next = true, .linux_rules = true};
-    demand(wulgach_sought_after(&cancel, -114) == WULGACH_SEEKS_RUNNING && wulgach_sought_after(&other, -114) == WULGACH_SEEKS_NO_MORE, "what runs");
-    demand(wulgach_sought_after(&cancel, -2) == WULGACH_SEEKS_NEXT && wulgach_sought_after(&other, -2) == WULGACH_SEEKS_NO_MORE, "what could start");
+    demand(wulgach_next_sought(&cancel, -114) == WULGACH_SEEKS_RUNNING && wulgach_next_sought(&other, -114) == WULGACH_SEEKS_NO_MORE, "what runs");
+    demand(wulgach_next_sought(&cancel, -2) == WULGACH_SEEKS_NEXT && wulgach_next_sought(&other, -2) == WULGACH_SEEKS_NO_MORE, "what could start");
     cancel.has_looked = true;
-    demand(wulgach_sought_after(&cancel, -114) == WULGACH_SEEKS_NO_MORE && wulgach_sought_after(&cancel, -2) == WULGACH_SEEKS_NEXT, "what comes after those that run");
+    demand(wulgach_next_sought(&cancel, -114) == WULGACH_SEEKS_NO_MORE && wulgach_next_sought(&cancel, -2) == WULGACH_SEEKS_NEXT, "what comes after those that run");
     cancel.linux_rules = false;
-    demand(wulgach_sought_after(&cancel, -2) == WULGACH_SEEKS_NO_MORE, "by the manual pages' rules");
+    demand(wulgach_next_sought(&cancel, -2) == WULGACH_SEEKS_NO_MORE, "by the manual pages' rules");
     cancel.linux_rules = cancel.has_cancelled = true;
-    demand(wulgach_sought_after(&cancel, -2) == WULGACH_SEEKS_NO_MORE, "one is cancelled");
+    demand(wulgach_next_sought(&cancel, -2) == WULGACH_SEEKS_NO_MORE, "one is cancelled");
 }
 
 static void link_requests(void)

@@ -108,7 +108,7 @@ static void flags_and_operations(void)
         bool runs = issue(&core, &entry, &res) == WULGACH_RUN;
         check(runs == ((byte & (1 | 32 | 128)) == 0) && (runs || res == -22), "flags", byte);
         flags += runs;
-        wulgach_entry(entry.words, (uint8_t)byte, 7, 0, 0);
+        wulgach_entry_of(entry.words, (uint8_t)byte, 7, 0, 0);
         operations += issue(&core, &entry, &res) == WULGACH_RUN || res != -22;
     }
     check(flags == 32, "how many flag bytes are served", flags);
@@ -139,7 +139,7 @@ static void successes(void)
         struct wulgach_counts counts;
         uint32_t kind;
         int32_t res;
-        wulgach_entry(entry.words, rows[i].code, 7, WULGACH_CQE_SKIP_SUCCESS, 0);
+        wulgach_entry_of(entry.words, rows[i].code, 7, WULGACH_CQE_SKIP_SUCCESS, 0);
         entry.words[3] = rows[i].len;
         check(issue(&core, &entry, &res) == WULGACH_RUN, "it runs", i);
         check(wulgach_core_end(&core, 0, rows[i].res, &kind, &res) == 0 && kind == WULGACH_ENDED && res == rows[i].res, "it ends", i);

@@ -31,10 +31,10 @@ static void look_at_calls(void)
     enum { ROWS = sizeof rows / sizeof *rows };
     size_t heard = 0;
     for (uint64_t call = 0; call < 1024; call++)
-        heard += wulgach_logged_call(call) != WULGACH_CALL_NOTHING;
+        heard += wulgach_logged_call_of(call) != WULGACH_CALL_NOTHING;
     demand(heard == ROWS, "no other call is logged");
     for (size_t i = 0; i < ROWS; i++)
-        demand(wulgach_logged_call((uint64_t)rows[i].call) == rows[i].kind, "a call");
+        demand(wulgach_logged_call_of((uint64_t)rows[i].call) == rows[i].kind, "a call");
     for (size_t i = 0; i < ROWS; i++)
         demand(wulgach_is_made((uint64_t)rows[i].call) == (rows[i].kind != WULGACH_CALL_SYNC && rows[i].kind != WULGACH_CALL_SYNC_ALL), "which are made");
 }
@@ -119,7 +119,7 @@ static void look_at_bytes(void)
 static bool has_part(const char *path, uint64_t begin, uint64_t end)
 {
     struct wulgach_last_part part = {7, 7};
-    wulgach_last_part((const uint8_t *)path, strlen(path), &part);
+    wulgach_last_part_of((const uint8_t *)path, strlen(path), &part);
     return part.begin == begin && part.end == end;
 }
 
@@ -191,9 +191,9 @@ static void look_at_logs(void)
     for (size_t i = 0; i < sizeof rows / sizeof *rows; i++)
         demand(wulgach_write_begins(&rows[i].writing) == rows[i].begins && wulgach_syncs_itself(&rows[i].writing) == rows[i].syncs, "a write");
     struct wulgach_synced_bytes synced = {7, 7};
-    demand(!wulgach_synced_bytes(&(struct wulgach_submission){.opcode = 3}, &synced) && synced.begin == 7 && synced.length == 7, "a sync of all");
-    demand(wulgach_synced_bytes(&(struct wulgach_submission){.opcode = 3, .len = 4096}, &synced) && synced.begin == 0 && synced.length == 4096, "of the first bytes");
-    demand(wulgach_synced_bytes(&(struct wulgach_submission){.opcode = 3, .off = 4096}, &synced) && synced.begin == 4096 && synced.length == 0, "of none");
+    demand(!wulgach_synced_bytes_of(&(struct wulgach_submission){.opcode = 3}, &synced) && synced.begin == 7 && synced.length == 7, "a sync of all");
+    demand(wulgach_synced_bytes_of(&(struct wulgach_submission){.opcode = 3, .len = 4096}, &synced) && synced.begin == 0 && synced.length == 4096, "of the first bytes");
+    demand(wulgach_synced_bytes_of(&(struct wulgach_submission){.opcode = 3, .off = 4096}, &synced) && synced.begin == 4096 && synced.length == 0, "of none");
 }
 
 int main(void)

@@ -88,7 +88,7 @@ static void faults(void)
     for (uint32_t i = 0; i < 5; i++)
         wulgach_nop(entries[i], i, 0);
     entries[0][0] |= (uint64_t)1 << 8; /* IOSQE_FIXED_FILE */
-    wulgach_entry(entries[1], 99, 1, 0, 0);
+    wulgach_entry_of(entries[1], 99, 1, 0, 0);
     entries[2][0] |= (uint64_t)1 << 16;
     entries[3][3] = (uint64_t)1 << 32;
     entries[4][7] = 1;
@@ -107,7 +107,7 @@ static void dooms(void)
 {
     uint64_t entries[6][16];
     wulgach_nop(entries[0], 0, WULGACH_IO_LINK);
-    wulgach_entry(entries[1], 99, 1, 0, 0);
+    wulgach_entry_of(entries[1], 99, 1, 0, 0);
     wulgach_read(entries[2], 2, WULGACH_IO_LINK, 0, 0, 8);
     wulgach_nop(entries[3], 3, WULGACH_IO_HARDLINK);
     wulgach_nop(entries[4], 4, 0);
@@ -155,7 +155,7 @@ static void make_entry(uint64_t entry[16], int which)
     memset(bytes, 0x3c, sizeof bytes);
     switch (which) {
     case 0:
-        wulgach_entry(entry, 99, 0, 0, 0);
+        wulgach_entry_of(entry, 99, 0, 0, 0);
         break;
     case 1:
         wulgach_nop(entry, 7, WULGACH_IO_LINK);

@@ -7,7 +7,7 @@
 
 static uint32_t waited(struct wulgach_waited waited)
 {
-    return wulgach_waited(&waited);
+    return wulgach_reply_of_wait(&waited);
 }
 
 static struct wulgach_slept_for slept_for(bool is_stream, bool needs_file, uint32_t vain, bool is_ready, bool asks_broken)
@@ -15,7 +15,7 @@ static struct wulgach_slept_for slept_for(bool is_stream, bool needs_file, uint3
     struct wulgach_standing standing = {.is_stream = is_stream};
     struct wulgach_needs needs = {.needs_file = needs_file};
     struct wulgach_slept_for slept;
-    wulgach_slept_for(&standing, &needs, vain, is_ready, asks_broken, &slept);
+    wulgach_sleep_effect(&standing, &needs, vain, is_ready, asks_broken, &slept);
     return slept;
 }
 
@@ -45,10 +45,10 @@ static void sleep_or_not(void)
     demand(wulgach_sleep_came_to(2, false) == 2 && wulgach_sleep_came_to(-12, false) == -12 && wulgach_sleep_came_to(2, true) == -4, "a child leaves a sleep");
     demand(wulgach_sleeps_by_poll(-38) && wulgach_sleeps_by_poll(-1) && !wulgach_sleeps_by_poll(-4) && !wulgach_sleeps_by_poll(0), "which sleep is by poll(2)");
     struct wulgach_limit none = {0}, now = {0, true}, later = {7, true}, lasts;
-    demand(wulgach_sleep_call(false, WULGACH_INSTANCE_TELLS, &later, &lasts) == WULGACH_SLEEPS_BY_POLL && wulgach_sleep_call(true, WULGACH_INSTANCE_CANT_TELL, &later, &lasts) == WULGACH_SLEEPS_BY_POLL, "one without an instance");
-    demand(wulgach_sleep_call(true, WULGACH_INSTANCE_TELLS, &later, &lasts) == WULGACH_SLEEPS_BY_INSTANCE && lasts.is_set && lasts.at == 7 && wulgach_sleep_call(true, WULGACH_INSTANCE_TELLS, &none, &lasts) == WULGACH_SLEEPS_BY_INSTANCE && !lasts.is_set, "one by an instance");
-    demand(wulgach_sleep_call(true, WULGACH_INSTANCE_TELLS, &now, &lasts) == WULGACH_SLEEPS_BY_INSTANCE && lasts.is_set && lasts.at == 1, "one of no time");
-    demand(wulgach_sleep_call(true, WULGACH_IS_READY_AT_ONCE, &none, &lasts) == WULGACH_LOOKS_BY_INSTANCE && lasts.is_set && lasts.at == 0, "one beside a descriptor that is ready");
+    demand(wulgach_sleep_call_of(false, WULGACH_INSTANCE_TELLS, &later, &lasts) == WULGACH_SLEEPS_BY_POLL && wulgach_sleep_call_of(true, WULGACH_INSTANCE_CANT_TELL, &later, &lasts) == WULGACH_SLEEPS_BY_POLL, "one without an instance");
+    demand(wulgach_sleep_call_of(true, WULGACH_INSTANCE_TELLS, &later, &lasts) == WULGACH_SLEEPS_BY_INSTANCE && lasts.is_set && lasts.at == 7 && wulgach_sleep_call_of(true, WULGACH_INSTANCE_TELLS, &none, &lasts) == WULGACH_SLEEPS_BY_INSTANCE && !lasts.is_set, "one by an instance");
+    demand(wulgach_sleep_call_of(true, WULGACH_INSTANCE_TELLS, &now, &lasts) == WULGACH_SLEEPS_BY_INSTANCE && lasts.is_set && lasts.at == 1, "one of no time");
+    demand(wulgach_sleep_call_of(true, WULGACH_IS_READY_AT_ONCE, &none, &lasts) == WULGACH_LOOKS_BY_INSTANCE && lasts.is_set && lasts.at == 0, "one beside a descriptor that is ready");
     demand(wulgach_sleep_came(WULGACH_LOOKS_BY_INSTANCE, 0) == 1 && wulgach_sleep_came(WULGACH_LOOKS_BY_INSTANCE, -4) == -4 && wulgach_sleep_came(WULGACH_SLEEPS_BY_INSTANCE, 0) == 0, "and what it came to");
     demand(wulgach_asks_select(-22) && !wulgach_asks_select(-4) && !wulgach_asks_select(1), "in the place of which poll select(2) is asked");
     demand(wulgach_left_of(7, 7) == 0 && wulgach_left_of(7, 8) == 63, "a child leaves its parent's ring");

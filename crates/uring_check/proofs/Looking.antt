@@ -10,7 +10,7 @@ use Rattle.uring_text.specs.Remarks.{is_remark}
 use Rattle.uring_check.specs.Findings as finding
 use Rattle.uring_text.specs.Visible.{visible_line}
 use Rattle.uring_check.specs.declared.answer_text.AnswerText.{AnswerText}
-use Rattle.uring_check.specs.declared.standing.Standing.{Standing}
+use Rattle.uring_check.specs.declared.standing.StepStanding.{StepStanding}
 use Rattle.uring_check.specs.declared.verdict.Verdict.TheVariants as verdict
 use Rattle.uring_check.proofs.Posting.{knows_resumed, knows_step}
 
@@ -58,7 +58,7 @@ looked_right old m t p steps before after s text line notes counted same over ju
     }
 
 -- a wrong line was found, and told
-pub looked_wrong : (old new : Checker) (m : Follower) (t : AnswerText) (p : Vec ℕ Global) (before after : ℕ) (s : Step) (text line : List ℕ) (wanted : Wanted) (x : Standing)
+pub looked_wrong : (old new : Checker) (m : Follower) (t : AnswerText) (p : Vec ℕ Global) (before after : ℕ) (s : Step) (text line : List ℕ) (wanted : Wanted) (x : StepStanding)
     → Notes old m p s before after → rules_of m ≡ rules_of old.follower
     → ((h : History) → Knows old h → IsStanding (rules_of old.follower) h s x)
     → Judges old.follower m s text (Some wanted)

@@ -32,7 +32,7 @@ use Rattle.uring_check.specs.declared.checker.Checker.{Checker}
 use Rattle.uring_check.specs.declared.follower.Follower.{Follower}
 use Rattle.uring_check.specs.declared.follower.Follower.TheVariants.{Whole, Apart, Allowed}
 use Rattle.uring_check.specs.declared.reading.Reading.{Reading}
-use Rattle.uring_check.specs.declared.standing.Standing.{Standing}
+use Rattle.uring_check.specs.declared.standing.StepStanding.{StepStanding}
 use Rattle.uring_check.specs.declared.verdict.Verdict.{Verdict}
 use Rattle.uring_check.specs.declared.verdict.Verdict.TheVariants as verdict
 
@@ -94,7 +94,7 @@ pub record IsEither (wanted : Wanted) (one other : Answer) : Type 0 where
   pub nothing : (s : Step) (h : History) → resumed s (refusal.Wrong wanted) h ≡ h
 
 -- What is asked before a step: how its request stands, whom a cancel chooses, whose completion is reaped next, how much is posted, and of which entry a result is to be one.
-pub record IsStanding (g : Rules) (h : History) (s : Step) (x : Standing) : Type 0 where
+pub record IsStanding (g : Rules) (h : History) (s : Step) (x : StepStanding) : Type 0 where
   pub why : x.why ≡ why_asked g.setup.linux (requests_of (world g.setup h)) s
   pub chosen : option_map (λ text. string_bytes text) x.chosen ≡ chosen_told g.setup.linux (requests_of (world g.setup h)) s
   pub found : x.found ≡ found_asked g.setup.linux (requests_of (world g.setup h)) s
@@ -103,7 +103,7 @@ pub record IsStanding (g : Rules) (h : History) (s : Step) (x : Standing) : Type
   pub asked : x.asked ≡ entry_asked g h s
 
 -- what is told of a wrong answer by what was asked, where a completion of this user data is wanted, or none
-abbrev pub reasons_by : Standing → Option ℕ → List ℕ
+abbrev pub reasons_by : StepStanding → Option ℕ → List ℕ
 reasons_by x completion =
     why_told x.why ++ whom_told (option_map (λ text. string_bytes text) x.chosen) ++ whom_told (option_map found_text x.found) ++ whose_told completion x.poster
 

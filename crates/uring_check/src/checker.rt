@@ -14,7 +14,7 @@ use crate::follower::Follower;
 use crate::judging::judge;
 use crate::record_line::split_record;
 use crate::setup_line::{Said, said_by_in};
-use crate::standing::{Standing, note_poster};
+use crate::standing::{StepStanding, note_poster};
 use crate::telling::{tell_bad, tell_end, tell_wrong};
 use crate::verdict::Verdict;
 use std::alloc::{AllocError, Global};
@@ -213,7 +213,7 @@ impl Checker {
             → FitsBy self.old.follower h → IsOk result }
     {
         let numbers = self.posters.as_slice();
-        let standing = Standing::before(memory, self.alloc, &self.follower, numbers, step)?;
+        let standing = StepStanding::before(memory, self.alloc, &self.follower, numbers, step)?;
         let judged = judge(memory, &mut self.told, &mut self.follower, step, text)?;
         let after = self.follower.posted();
         note_poster(memory, &mut self.posters, step, standing.posted(), after)?;

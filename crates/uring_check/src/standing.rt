@@ -13,20 +13,20 @@ ghost use Rattle.uring_check.specs.Reports.{why_asked, why_told, whom_told, whos
 use crate::follower::Follower;
 use std::alloc::{AllocError, Global};
 use uring_entry::Sqe;
-use uring_machine::{Core, Found, Step, Why};
+use uring_machine::{CancelFound, Core, Step, Why};
 use uring_memory::Memory;
 use uring_text::{TextMemory, push_named, push_text};
 use uring_trace::{chosen_text, push_found_in, push_why_in};
 
 /// What is asked before a step.
 #[derive(Drop)]
-pub(crate) struct Standing {
+pub(crate) struct StepStanding {
     // The request that the step issues or finishes, and why that stands as it does.
     why: Option<(u64, Why)>,
     // Whom the cancel of all chooses that the step issues.
     chosen: Option<String>,
     // What the cancel of one request finds that the step issues.
-    found: Option<Found>,
+    found: Option<CancelFound>,
     // The request whose completion is reaped next.
     poster: Option<u64>,
     // How many completions were posted.
@@ -35,7 +35,7 @@ pub(crate) struct Standing {
     asked: Option<Sqe>,
 }
 
-impl Standing {
+impl StepStanding {
     /// Asks a follower. These are the numbers of the requests whose completions were posted. Here and below: if the memory grants whatever is asked for, there is no error.
     pub(crate) fn before<M: TextMemory>(
         memory: &M,
@@ -43,7 +43,7 @@ impl Standing {
         follower: &Follower,
         numbers: &[u64],
         step: &Step,
-    ) -> Result<Standing, AllocError>
+    ) -> Result<StepStanding, AllocError>
         ensures standing { IfOk result
             (λ standing. (h : History) → FitsBy follower.now h
             → numbers.now ≡ posters (rules_of follower.now).setup h
@@ -52,7 +52,7 @@ impl Standing {
     {
         let core = follower.core();
         let counts = core.counts();
-        Ok(Standing {
+        Ok(StepStanding {
             why: why(core, step),
             found: found(core, step),
             poster: poster_at(numbers, counts.reaped),
@@ -107,7 +107,7 @@ fn why(core: &Core, step: &Step) -> Option<(u64, Why)>
 }
 
 /// What the cancel of one request finds that a step issues, if it may start.
-fn found(core: &Core, step: &Step) -> Option<Found>
+fn found(core: &Core, step: &Step) -> Option<CancelFound>
     ensures { (h : History) → FitsApart core.now h
         → result ≡ found_asked core.now.setup.linux (requests_of (world core.now.setup h)) step.now }
 {
@@ -170,7 +170,7 @@ fn push_chosen<M: TextMemory>(
 fn push_finding<M: TextMemory>(
     memory: &M,
     text: &mut String,
-    found: Option<Found>,
+    found: Option<CancelFound>,
 ) -> Result<(), AllocError>
     ensures told { OnOk result
         (string_bytes text.new ≡ string_bytes text.old ++ whom_told (option_map found_text found)) }

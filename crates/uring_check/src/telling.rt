@@ -8,7 +8,7 @@ ghost use Rattle.uring_check.specs.Checking.{reasons_by};
 ghost use Rattle.uring_text.specs.KeptLine.{kept_of};
 ghost use Rattle.uring_text.specs.Visible.{visible_line};
 
-use crate::standing::Standing;
+use crate::standing::StepStanding;
 use crate::verdict::Verdict;
 use std::alloc::{AllocError, Global};
 use uring_entry::Sqe;
@@ -25,7 +25,7 @@ pub(crate) fn tell_wrong<M: TextMemory>(
     number: u64,
     line: &[u8],
     wanted: &Wanted,
-    standing: &Standing,
+    standing: &StepStanding,
 ) -> Result<(), AllocError>
     ensures told { OnOk result
         (string_bytes report.new

@@ -16,7 +16,7 @@ const DEFAULT_MOST: u32 = 1_000;
 
 /// What is asked of the images that a crash may leave.
 #[derive(Clone, Copy, Drop)]
-pub(crate) enum Kind {
+pub(crate) enum CrashQuestion {
     /// One of them.
     One,
 
@@ -31,15 +31,15 @@ pub(crate) enum Kind {
 }
 
 /// What is asked of them: first how many they are.
-pub(crate) fn kind_of(is_count: bool, is_all: bool, is_holds: bool) -> Kind {
+pub(crate) fn question_of(is_count: bool, is_all: bool, is_holds: bool) -> CrashQuestion {
     if is_count {
-        Kind::Count
+        CrashQuestion::Count
     } else if is_all {
-        Kind::All
+        CrashQuestion::All
     } else if is_holds {
-        Kind::Holds
+        CrashQuestion::Holds
     } else {
-        Kind::One
+        CrashQuestion::One
     }
 }
 
@@ -67,7 +67,7 @@ pub(crate) fn run_crash(
     setup: &Setup,
     file: u32,
     asked: &Asked,
-    kind: Kind,
+    kind: CrashQuestion,
     most: Option<u32>,
     is_each: bool,
     words: &[&str],
@@ -110,15 +110,15 @@ fn run_lines(
 /// The question of all images that is asked, if one is.
 fn question_of(
     alloc: Global,
-    kind: Kind,
+    kind: CrashQuestion,
     most: u32,
     words: &[&str],
 ) -> Result<Option<Question>, Fault> {
     Ok(match kind {
-        Kind::One => None,
-        Kind::Count => Some(Question::Count),
-        Kind::All => Some(Question::All { most }),
-        Kind::Holds => Some(wanted(alloc, words, most)?),
+        CrashQuestion::One => None,
+        CrashQuestion::Count => Some(Question::Count),
+        CrashQuestion::All => Some(Question::All { most }),
+        CrashQuestion::Holds => Some(wanted(alloc, words, most)?),
     })
 }
 

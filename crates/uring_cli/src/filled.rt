@@ -3,8 +3,8 @@
 use crate::fault::Fault;
 use crate::streams::{read_in, write_error, write_out};
 use crate::{BAD_LINE, DONE, most_of};
-use uring_options::Setup;
 use uring_observed_text::{Told, Verdict, fill_text};
+use uring_options::Setup;
 
 /// The exit status if there is no history.
 const NOTHING: u8 = 1;

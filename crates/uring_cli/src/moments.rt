@@ -6,8 +6,8 @@ use crate::streams::{read_in, write_out};
 use crate::{BAD_LINE, DONE, WRONG, most_of};
 use std::alloc::{AllocError, Global};
 use std::fmt::Write;
-use uring_options::Setup;
 use uring_observed_text::{Early, check_early};
+use uring_options::Setup;
 use uring_text::push_visible_line;
 use uring_trace::Language;
 

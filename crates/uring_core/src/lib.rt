@@ -13,6 +13,6 @@ pub use answer::{Answer, same_answer};
 pub use cores::{Core, Counts, NotSubmitted};
 pub use follow::compared;
 pub use step::{Step, StepWords, same_step};
-pub use uring_dispatch::Found;
+pub use uring_dispatch::CancelFound;
 pub use uring_entry::{BadSetup, Cqe, Doom, Fault, Op, Outcome, Setup, Since, Sqe, SqeFlags, Why};
 pub use wanted::{Refusal, Wanted};

@@ -11,7 +11,7 @@ ghost use Rattle.uring_crash.specs.Questions.{Asks, Replies, AreKept, count_text
 use crate::crash_run::{Asked, reads_bad_line};
 use crate::follower::Follower;
 use crate::image_text::{push_bytes, push_image, told_writes};
-use crate::search::{Found, find};
+use crate::search::{ImageFound, find};
 use crate::watch::Watch;
 use std::alloc::{AllocError, Global};
 use std::io::{Read, Write};
@@ -146,12 +146,12 @@ fn kept(
         → AreKept off bytes.now most unit (log_of unit setup fd h).volume.history r.0 (string_bytes r.1)) }
 {
     match find(alloc, watch, unit, off, bytes, most)? {
-        Found::Nowhere => {
+        ImageFound::Nowhere => {
             let mut text = String::new(alloc);
             push_wanted(alloc, &mut text, off, bytes)?;
             Ok((Reply::Answered, text))
         }
-        Found::Without(image) => {
+        ImageFound::Without(image) => {
             let words = told_writes(alloc, watch.log(), &image)?;
             let mut text = String::new(alloc);
             push_text(&alloc, &mut text, "not ")?;
@@ -160,7 +160,7 @@ fn kept(
             push_text(&alloc, &mut text, words.as_str())?;
             Ok((Reply::NotKept, text))
         }
-        Found::TooMany => Ok((Reply::TooMany, String::new(alloc))),
+        ImageFound::TooMany => Ok((Reply::TooMany, String::new(alloc))),
     }
 }
 

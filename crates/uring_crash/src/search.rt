@@ -18,7 +18,7 @@ use uring_volume::{Event, ImagesError, Piece};
 
 /// What a search for an image without some bytes has found.
 #[derive(Drop)]
-pub(crate) enum Found {
+pub(crate) enum ImageFound {
     /// Nothing: each image has them.
     Nowhere,
 
@@ -63,25 +63,25 @@ pub(crate) fn find(
     off: u64,
     bytes: &[u8],
     most: u32,
-) -> Result<Found, AllocError>
+) -> Result<ImageFound, AllocError>
     ensures found { IfOk result (λ found. (unit : ℕ) (setup : Setup) (fd : ℤ) (h : History)
         → Watches unit setup fd watch.now h
         → IsFound off bytes.now most unit (log_of unit setup fd h).volume.history found) }
-    ensures not_plain { IfOk result (λ found. found ≡ Found.TooMany → off + length bytes.now < 2 ^ 64
+    ensures not_plain { IfOk result (λ found. found ≡ ImageFound.TooMany → off + length bytes.now < 2 ^ 64
         → (unit : ℕ) (setup : Setup) (fd : ℤ) (h : History) → Watches unit setup fd watch.now h
         → IsPlain (log_of unit setup fd h).volume.history off bytes.now → ⊥) }
 {
     let log = watch.log();
     log.volume().is_sound();
     if keeps(log.events()?, off, bytes) {
-        return Ok(Found::Nowhere);
+        return Ok(ImageFound::Nowhere);
     }
     if let Some(image) = try_choices(alloc, watch, unit, off, bytes)? {
-        return Ok(Found::Without(image));
+        return Ok(ImageFound::Without(image));
     }
     match watch.images(alloc, most) {
         Ok(images) => find_in(alloc, &images, off, bytes),
-        Err(ImagesError::TooMany) => Ok(Found::TooMany),
+        Err(ImagesError::TooMany) => Ok(ImageFound::TooMany),
         Err(ImagesError::OutOfMemory) => Err(AllocError),
     }
 }
@@ -150,15 +150,20 @@ fn try_choices(
 }
 
 /// The first of these images that hasn't these bytes.
-fn find_in(alloc: Global, images: &[Vec<u8>], off: u64, bytes: &[u8]) -> Result<Found, AllocError>
+fn find_in(
+    alloc: Global,
+    images: &[Vec<u8>],
+    off: u64,
+    bytes: &[u8],
+) -> Result<ImageFound, AllocError>
     ensures { IfOk result (λ found. (most unit : ℕ) (h : volume.History)
         → AreTheImages unit [] h (map (λ b. b.items) images.now)
         → IsFound off bytes.now most unit h found) }
 {
     for image in images {
         if !holds(image, off, bytes) {
-            return Ok(Found::Without(Vec::from_slice(alloc, image)?));
+            return Ok(ImageFound::Without(Vec::from_slice(alloc, image)?));
         }
     }
-    Ok(Found::Nowhere)
+    Ok(ImageFound::Nowhere)
 }

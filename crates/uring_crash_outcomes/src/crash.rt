@@ -9,8 +9,8 @@ use crate::fault::CrashFault;
 use std::alloc::{AllocError, Global};
 use std::marker::Model;
 use std::mem;
-use uring_entry::Cqe;
 use uring_crash_machine::FileLog;
+use uring_entry::Cqe;
 
 /// What a power failure shows of calls: the completions posted by then, in order, and the bytes that are left of each file.
 #[derive(Drop)]

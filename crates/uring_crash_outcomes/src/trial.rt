@@ -10,8 +10,8 @@ ghost use Rattle.uring_crash_outcomes.specs.Trials.{HasMade, HasTried};
 ghost use Rattle.uring_crash_outcomes.specs.Faults.{IsSpent};
 
 use std::alloc::{AllocError, Global};
-use uring_entry::Sqe;
 use uring_crash_machine::{Answer, FileLog, Setup, make_logs, note_finish, note_issue};
+use uring_entry::Sqe;
 use uring_outcomes::{Move, Run, WalkFault};
 
 /// A run of calls, and what has happened to each file.

@@ -11,8 +11,8 @@ use crate::crash::{Crash, crashes_of};
 use crate::fault::CrashFault;
 use crate::trial::Trial;
 use std::alloc::{AllocError, Global};
-use uring_entry::Sqe;
 use uring_crash_machine::Setup;
+use uring_entry::Sqe;
 use uring_outcomes::{Move, all_next, push_longer};
 
 /// What was found of all that a power failure may show.

@@ -4,11 +4,11 @@ use Rattle.uring_entry.specs.declared.operation.Op.{Op}
 use Rattle.uring_entry.specs.declared.operation.Op.TheVariants.{Cancel}
 use Rattle.uring_entry.specs.Preparation.{is_faulty, operation_of}
 use Rattle.uring_entry.specs.Requests.{Requests, entry_of, is_outstanding, is_running, target_of}
-use Rattle.uring_dispatch.specs.declared.answers.Found.{Found}
-use Rattle.uring_dispatch.specs.declared.answers.Found.TheVariants.{Nobody, Running, Chosen}
+use Rattle.uring_dispatch.specs.declared.answers.CancelFound.{CancelFound}
+use Rattle.uring_dispatch.specs.declared.answers.CancelFound.TheVariants.{Nobody, Running, Chosen}
 
 -- what is found, if this is the request that it may choose
-abbrev pub found_as : Requests → Option ℕ → Found
+abbrev pub found_as : Requests → Option ℕ → CancelFound
 found_as r None = Nobody
 found_as r (Some m) = if is_running r m then Running m else Chosen m
 
@@ -19,10 +19,10 @@ operation_outstanding r n =
     None
 
 -- what n finds, if this is what it is to do
-abbrev pub found_for : Requests → ℕ → Option Op → Option Found
+abbrev pub found_for : Requests → ℕ → Option Op → Option CancelFound
 found_for r n (Some (Cancel target false)) = Some (found_as r (target_of r n))
 found_for r n _ = None
 
 -- what n finds, if it is an outstanding cancel of one request, without a fault
-abbrev pub found_by : Requests → ℕ → Option Found
+abbrev pub found_by : Requests → ℕ → Option CancelFound
 found_by r n = found_for r n (operation_outstanding r n)

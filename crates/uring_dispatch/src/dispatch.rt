@@ -7,7 +7,7 @@ ghost use Rattle.uring_dispatch.specs.Cancels.{found_by};
 ghost use Rattle.uring_dispatch.specs.Issuable.{issuables_of, issuable_from};
 ghost use Rattle.uring_dispatch.specs.IssueAndFinish.{issued, after_issue, issued_posting, without_posts, finished, after_finish, posted_by, after_end};
 
-use crate::answers::{Finished, Found, Issued, IssuedPosting, Posts};
+use crate::answers::{CancelFound, Finished, Issued, IssuedPosting, Posts};
 use crate::errors::ReserveError;
 use crate::outstanding::Outstanding;
 use std::alloc::Global;
@@ -253,7 +253,7 @@ impl Dispatch {
     }
 
     /// What request `n`, any number, would find if it were carried out now: `Some` exactly if it is an outstanding cancel of one request, without a fault. Our own rule.
-    pub fn would_find(&self, n: u64) -> Option<Found>
+    pub fn would_find(&self, n: u64) -> Option<CancelFound>
         requires { IsTrue self.now.is_between_calls }
         ensures { (r : Requests) → ShowsRequests self.now r → result ≡ found_by r n }
     {

@@ -6,14 +6,14 @@ ghost use Rattle.uring_entry.specs.Requests.{Requests, entry_of, target_of};
 ghost use Rattle.uring_dispatch.specs.Cancels.{found_as, found_by};
 ghost use Rattle.uring_dispatch.specs.Grouped.{Shows};
 
-use crate::answers::Found;
+use crate::answers::CancelFound;
 use crate::by_user_data::Span;
 use crate::grouped::Grouped;
 use uring_entry::Op;
 
 impl Grouped {
     /// What request `n`, any number, finds, if it is an outstanding cancel of one request, without a fault.
-    pub(crate) fn would_find(&self, n: u64) -> Option<Found>
+    pub(crate) fn would_find(&self, n: u64) -> Option<CancelFound>
         ensures { (r : Requests) → Shows self.now r → result ≡ found_by r n }
     {
         let Some(request) = self.window.get(n) else {
@@ -32,7 +32,7 @@ impl Grouped {
     }
 
     /// What the cancel `n` of one request with these user data finds.
-    fn find(&self, n: u64, user_data: u64) -> Found
+    fn find(&self, n: u64, user_data: u64) -> CancelFound
         ensures { (r : Requests) → Shows self.now r → user_data ≡ addr_of (entry_of r n)
             → result ≡ found_as r (target_of r n) }
     {
@@ -41,12 +41,12 @@ impl Grouped {
             to: self.window.end(),
         };
         let Some(m) = self.target(n, user_data, all) else {
-            return Found::Nobody;
+            return CancelFound::Nobody;
         };
         if self.window.is_running(m) {
-            Found::Running(m)
+            CancelFound::Running(m)
         } else {
-            Found::Chosen(m)
+            CancelFound::Chosen(m)
         }
     }
 }

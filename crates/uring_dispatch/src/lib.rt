@@ -28,7 +28,7 @@ mod events;
 // laws of the definitions alone
 pub mod laws;
 
-pub use answers::{Finished, Found, Issued, IssuedPosting, Posts};
+pub use answers::{CancelFound, Finished, Issued, IssuedPosting, Posts};
 pub use dispatch::Dispatch;
 pub use errors::ReserveError;
 pub use uring_entry::{BadSetup, Cqe, Doom, Fault, Op, Outcome, Setup, Since, Sqe, SqeFlags, Why};

@@ -22,7 +22,7 @@ pub(crate) struct Waiting {
 
 /// How a request stands that was not started.
 #[derive(Clone, Copy)]
-struct Standing {
+struct UnstartedStanding {
     is_head: bool,
     is_doomed: bool,
 }
@@ -160,29 +160,29 @@ fn first_told(groups: &Groups, n: u64, key: usize) -> u64
 }
 
 /// How request `n` stands.
-fn standing_of(grouped: &Grouped, n: u64) -> Standing
+fn standing_of(grouped: &Grouped, n: u64) -> UnstartedStanding
     ensures head { result.is_head ≡ waits_at_head grouped.now.groups (at grouped.now.window n) n }
     ensures doomed { result.is_doomed ≡ waits_doomed grouped.now.groups (at grouped.now.window n) n }
 {
     let Some(request) = grouped.window.get(n) else {
-        return Standing {
+        return UnstartedStanding {
             is_head: false,
             is_doomed: false,
         };
     };
     if request.is_running {
-        return Standing {
+        return UnstartedStanding {
             is_head: false,
             is_doomed: false,
         };
     }
     let Some(group) = grouped.groups.get(request.group) else {
-        return Standing {
+        return UnstartedStanding {
             is_head: false,
             is_doomed: request.is_cancelled,
         };
     };
-    Standing {
+    UnstartedStanding {
         is_head: group.least == n,
         is_doomed: group.fault.is_some() || is_before(group.broken, n) || request.is_cancelled,
     }

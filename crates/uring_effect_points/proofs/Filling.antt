@@ -3,7 +3,7 @@ use Rattle.std.proofs.Common.{◌≡◌, ℕ, ℤ, Bool, true, false, List, [], 
 use Rattle.uring_effect_points.proofs.Common.{Answer, AreSameButBytes, CalledForApart, End, EndsAsTaken, EndsBy, Event, Goes, History, IsFoundBare, IsLawfulApart, IsTimely, IsWalk, IssueMeets, IssuesMeet, Makes, Mark, Move, Op, Outcome, Pass, Passes, Requests, Running, Setup, Standing, Step, Take, Takes, TakesEffect, Timeline, World, at_first, bare, blank, blank_answer, bytes_at, bytes_reaped, bytes_told, effect_of, end_told_by, entry_of, history_of, is_running, known_by, known_mark, known_marks, length-map, made_in, mark_by, operation_at, operation_of, operation_running, passed, posted_in, requests_in, start_mark, taken_of, took, world}
 use Rattle.uring_core.specs.declared.step.Step.TheVariants as step
 use Rattle.uring_core.specs.declared.answer.Answer.TheVariants as answer
-use Rattle.uring_effect_points.specs.declared.decision.Found.TheVariants as found
+use Rattle.uring_effect_points.specs.declared.decision.EffectsFound.TheVariants as found
 use Rattle.uring_effect_points.proofs.Agreeing.{Agree, EndMeets, agree_after, agree_none, next_has, payloads, posted_bytes, reaped_after}
 use Rattle.uring_effect_points.proofs.BlankRequests.{blank_requests, running_same}
 use Rattle.uring_effect_points.proofs.BlankWorlds.{ReapMeets, called_back, world_same}

@@ -14,8 +14,8 @@ use Rattle.uring_effect_points.specs.Moves.{MeetsBytes}
 use Rattle.uring_effect_points.specs.declared.mark.Mark.{Mark}
 use Rattle.uring_effect_points.specs.declared.mark.Mark.TheVariants.{Ends}
 use Rattle.uring_effect_points.specs.Marks.{mark_by}
-use Rattle.uring_effect_points.specs.declared.decision.Found.{Found}
-use Rattle.uring_effect_points.specs.declared.decision.Found.TheVariants.{Lawful, Unlawful, Unexplained, GaveUp}
+use Rattle.uring_effect_points.specs.declared.decision.EffectsFound.{EffectsFound}
+use Rattle.uring_effect_points.specs.declared.decision.EffectsFound.TheVariants.{Lawful, Unlawful, Unexplained, GaveUp}
 
 -- a finish without the bytes that it gave, and any other event as it is
 abbrev pub bare : Event → Event
@@ -27,7 +27,7 @@ abbrev pub AreSameButBytes : List Event → List Event → Type 0
 AreSameButBytes h k = map bare h ≡ map bare k
 
 -- With some bytes at its finishes the history is lawful by early effects; with none is it lawful apart from what operations gave; with none is it lawful by early effects; or nothing is claimed.
-abbrev pub IsFoundBare : Setup → History → Found → Type 0
+abbrev pub IsFoundBare : Setup → History → EffectsFound → Type 0
 IsFoundBare g h Lawful = (k : History) × IsLawfulEarly g k × AreSameButBytes k h
 IsFoundBare g h Unlawful = (k : History) → AreSameButBytes k h → IsLawfulApart g k → ⊥
 IsFoundBare g h Unexplained = (k : History) → AreSameButBytes k h → IsLawfulEarly g k → ⊥

@@ -5,7 +5,7 @@ ghost use Rattle.uring_core.specs.Histories.{Event, history_of};
 ghost use Rattle.uring_effect_points.specs.Bare as bare;
 ghost use Rattle.uring_effect_points.specs.Bare.{IsFoundBare, blank};
 
-use crate::decision::{Found, found_by};
+use crate::decision::{EffectsFound, found_by};
 use crate::known::{add_known, blanks_of, bytes_told};
 use crate::mark::Mark;
 use crate::search::explain;
@@ -25,7 +25,7 @@ pub fn find_bytes(
     setup: &Setup,
     events: &[(Step, Answer)],
     most: u64,
-) -> Result<Found, AllocError>
+) -> Result<EffectsFound, AllocError>
     ensures { IfOk result (IsFoundBare setup.now (history_of events.now)) }
 {
     let blanks = blanks_of(alloc, events)?;
@@ -53,7 +53,7 @@ fn find_known(
     told: &[[u8; 64]],
     most: u64,
     marks: &mut Vec<Mark>,
-) -> Result<Found, AllocError>
+) -> Result<EffectsFound, AllocError>
     requires { marks.old.items ≡ [] }
     ensures { IfOk result
         (λ found. (events : List Event) → map blank events ≡ blanks.now → bare.bytes_told events ≡ told.now
@@ -63,7 +63,7 @@ fn find_known(
     let lawful = add_known(&mut core, blanks, told, marks);
     drop(core);
     if !lawful? {
-        return Ok(Found::Unlawful);
+        return Ok(EffectsFound::Unlawful);
     }
     let fate = explain(alloc, setup.files(), marks.as_slice(), most)?;
     Ok(found_by(fate))

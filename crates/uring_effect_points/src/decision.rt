@@ -12,7 +12,7 @@ use uring_core::{Answer, Core, Setup, Step};
 
 /// What was found of a history.
 #[derive(Clone, Copy)]
-pub enum Found {
+pub enum EffectsFound {
     /// It is lawful by early effects.
     Lawful,
 
@@ -34,7 +34,7 @@ pub fn find_effects(
     setup: &Setup,
     events: &[(Step, Answer)],
     most: u64,
-) -> Result<Found, AllocError>
+) -> Result<EffectsFound, AllocError>
     ensures { IfOk result (IsFound setup.now (history_of events.now)) }
 {
     let mut core = Core::new(alloc, setup)?;
@@ -42,19 +42,19 @@ pub fn find_effects(
     let lawful = add_marks(&mut core, events, &mut marks);
     drop(core);
     if !lawful? {
-        return Ok(Found::Unlawful);
+        return Ok(EffectsFound::Unlawful);
     }
     let fate = explain(alloc, setup.files(), marks.as_slice(), most)?;
     Ok(found_by(fate))
 }
 
 /// What was found, by where the search was.
-pub(crate) fn found_by(fate: Fate) -> Found
+pub(crate) fn found_by(fate: Fate) -> EffectsFound
     ensures { result ≡ decided.found_by fate }
 {
     match fate {
-        Fate::Explained => Found::Lawful,
-        Fate::Over => Found::Unexplained,
-        Fate::Open => Found::GaveUp,
+        Fate::Explained => EffectsFound::Lawful,
+        Fate::Over => EffectsFound::Unexplained,
+        Fate::Open => EffectsFound::GaveUp,
     }
 }

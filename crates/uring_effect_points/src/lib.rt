@@ -20,7 +20,7 @@ mod known;
 mod marks;
 
 pub use bytes::find_bytes;
-pub use decision::{Found, find_effects};
+pub use decision::{EffectsFound, find_effects};
 pub use mark::{End, Mark};
 pub use running::Running;
 pub use search::{Fate, explain};

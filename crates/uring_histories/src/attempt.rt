@@ -9,7 +9,7 @@ use uring_outcomes::{Ending, Move};
 
 /// How an attempt stands.
 #[derive(Clone, Copy)]
-pub(crate) enum Standing {
+pub(crate) enum AttemptStanding {
     /// What it has posted isn't the beginning of what is wanted, or a move can't be made.
     Strays,
 
@@ -56,10 +56,10 @@ impl Attempt {
         calls: &[Vec<Step>],
         path: &[Move],
         wanted: &Ending,
-    ) -> Result<Standing, AllocError> {
+    ) -> Result<AttemptStanding, AllocError> {
         for next in path {
             if !self.make(calls, *next)? || !self.posts_of(wanted) {
-                return Ok(Standing::Strays);
+                return Ok(AttemptStanding::Strays);
             }
         }
         Ok(self.judged(calls, wanted))
@@ -153,19 +153,19 @@ impl Attempt {
     }
 
     /// How it stands, if what it posted is the beginning of what is wanted.
-    fn judged(&self, calls: &[Vec<Step>], wanted: &Ending) -> Standing {
+    fn judged(&self, calls: &[Vec<Step>], wanted: &Ending) -> AttemptStanding {
         if self.next_call < calls.len() {
-            return Standing::GoesOn;
+            return AttemptStanding::GoesOn;
         }
         for standing in &self.standing {
             if *standing < 2 {
-                return Standing::GoesOn;
+                return AttemptStanding::GoesOn;
             }
         }
         if self.posted == wanted.posted().len() as u64 && has_files(&self.machine, wanted.files()) {
-            Standing::Arrives
+            AttemptStanding::Arrives
         } else {
-            Standing::Strays
+            AttemptStanding::Strays
         }
     }
 }

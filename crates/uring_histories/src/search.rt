@@ -1,6 +1,6 @@
 //! The search for moves that come to an outcome. Nothing is promised of it: what it finds is tried on a machine.
 
-use crate::attempt::{Attempt, Standing};
+use crate::attempt::{Attempt, AttemptStanding};
 use crate::steps::steps_of;
 use std::alloc::{AllocError, Global};
 use std::collections::BTreeSet;
@@ -65,9 +65,9 @@ fn tries(
 ) -> Result<bool, AllocError> {
     let mut attempt = Attempt::new(alloc, setup)?;
     let arrives = match attempt.follow(calls, path, wanted) {
-        Ok(Standing::Arrives) => Ok(true),
-        Ok(Standing::Strays) => Ok(false),
-        Ok(Standing::GoesOn) => go_on(alloc, &attempt, calls, search, path),
+        Ok(AttemptStanding::Arrives) => Ok(true),
+        Ok(AttemptStanding::Strays) => Ok(false),
+        Ok(AttemptStanding::GoesOn) => go_on(alloc, &attempt, calls, search, path),
         Err(error) => Err(error),
     };
     drop(attempt);

@@ -4,8 +4,8 @@ use Rattle.uring_laws.proofs.Common.{Cancel, Op, Requests, entry_of, if◌then�
 use Rattle.uring_laws.proofs.ReasonLaws.{least_of}
 use Rattle.uring_entry.proofs.Preparations.{asks_cancel, cancel_asked}
 use Rattle.uring_dispatch.specs.Cancels.{found_as, found_for, found_by}
-use Rattle.uring_dispatch.specs.declared.answers.Found.{Found}
-use Rattle.uring_dispatch.specs.declared.answers.Found.TheVariants.{Nobody, Running, Chosen}
+use Rattle.uring_dispatch.specs.declared.answers.CancelFound.{CancelFound}
+use Rattle.uring_dispatch.specs.declared.answers.CancelFound.TheVariants.{Nobody, Running, Chosen}
 use Rattle.uring_laws.specs.Reasons.{IsFound, Finds, ends_with}
 
 -- what is found, and what the cancel ends with
@@ -14,7 +14,7 @@ target_found : (r : Requests) (n : ℕ) (o : Option ℕ) → target_of r n ≡ o
 unfolding target_of
 target_found r n o e = grind (arith, (least_below_out (is_candidate r n) (length r.accepted)), (least_of (is_candidate r n) (length r.accepted)))
 
-pub found_said : (r : Requests) (n : ℕ) (f : Found) → found_by r n ≡ Some f → Finds r n f
+pub found_said : (r : Requests) (n : ℕ) (f : CancelFound) → found_by r n ≡ Some f → Finds r n f
 found_said r n f e = by_standing (is_outstanding r n) (is_faulty (entry_of r n)) refl refl e
   where
     by_operation : is_outstanding r n ≡ true → is_faulty (entry_of r n) ≡ false → (op : Op) → operation_of (entry_of r n) ≡ op → found_for r n (Some op) ≡ Some f → Finds r n f
@@ -29,11 +29,11 @@ found_said r n f e = by_standing (is_outstanding r n) (is_faulty (entry_of r n))
 
 -- what is found is told
 
-found_is : (r : Requests) (n : ℕ) (f : Found) → IsFound r n f → found_as r (target_of r n) ≡ f
+found_is : (r : Requests) (n : ℕ) (f : CancelFound) → IsFound r n f → found_as r (target_of r n) ≡ f
 unfolding target_of
 found_is r n Nobody none = rw (least_below_none (is_candidate r n) (length r.accepted) none)
 found_is r n (Running m) x = rw (least_below_some (is_candidate r n) (length r.accepted) m x.0.below x.0.holds x.0.least, x.1)
 found_is r n (Chosen m) x = rw (least_below_some (is_candidate r n) (length r.accepted) m x.0.below x.0.holds x.0.least, x.1)
 
-pub said_found : (r : Requests) (n : ℕ) (f : Found) → Finds r n f → found_by r n ≡ Some f
+pub said_found : (r : Requests) (n : ℕ) (f : CancelFound) → Finds r n f → found_by r n ≡ Some f
 said_found r n f h = rw (h.outstanding, h.right, asks_cancel (entry_of r n) h.cancels, h.one, found_is r n f h.found)

@@ -5,8 +5,8 @@ use Rattle.uring_entry.specs.Preparation.{fault_of, is_faulty, is_cancel, is_can
 use Rattle.uring_entry.specs.declared.errno.TheConstants.{ENOENT, EALREADY}
 use Rattle.uring_entry.specs.Why.{is_faulty_member, is_failure_before, why_of}
 use Rattle.uring_dispatch.specs.Cancels.{found_by}
-use Rattle.uring_dispatch.specs.declared.answers.Found.{Found}
-use Rattle.uring_dispatch.specs.declared.answers.Found.TheVariants as found
+use Rattle.uring_dispatch.specs.declared.answers.CancelFound.{CancelFound}
+use Rattle.uring_dispatch.specs.declared.answers.CancelFound.TheVariants as found
 use Rattle.uring_entry.specs.Setup.{Setup}
 use Rattle.uring_rules.specs.Rules as by_rules
 use Rattle.uring_core.specs.World.{World, requests_of}
@@ -121,7 +121,7 @@ AnswerAgrees = (g : Setup) (w : World) (n : ℕ) → issue_answer g w n
 -- What a cancel of one request finds.
 
 -- the cancel n finds this: the least request that it may choose, running or not, or that there is none
-abbrev pub IsFound : Requests → ℕ → Found → Type 0
+abbrev pub IsFound : Requests → ℕ → CancelFound → Type 0
 IsFound r n found.Nobody = (m : ℕ) → m < length r.accepted → is_candidate r n m ≡ false
 IsFound r n (found.Running m) =
     IsLeastOf (is_candidate r n) (length r.accepted) m × (is_running r m ≡ true)
@@ -129,13 +129,13 @@ IsFound r n (found.Chosen m) =
     IsLeastOf (is_candidate r n) (length r.accepted) m × (is_running r m ≡ false)
 
 -- what a cancel that finds this ends with, if it is carried out. io_uring_enter(2), IORING_OP_ASYNC_CANCEL
-abbrev pub ends_with : Found → ℤ
+abbrev pub ends_with : CancelFound → ℤ
 ends_with found.Nobody = neg_ℤ ENOENT
 ends_with (found.Running m) = neg_ℤ EALREADY
 ends_with (found.Chosen m) = pos 0
 
 -- n is an outstanding cancel of one request, without a fault, and finds this.
-pub record Finds (r : Requests) (n : ℕ) (f : Found) : Type 0 where
+pub record Finds (r : Requests) (n : ℕ) (f : CancelFound) : Type 0 where
   pub outstanding : is_outstanding r n ≡ true
   pub right : is_faulty (entry_of r n) ≡ false
   pub cancels : is_cancel (entry_of r n) ≡ true
@@ -144,4 +144,4 @@ pub record Finds (r : Requests) (n : ℕ) (f : Found) : Type 0 where
   pub result : cancel_result r n ≡ ends_with f
 
 abbrev pub FoundIsSaid : Type 0
-FoundIsSaid = (r : Requests) (n : ℕ) (f : Found) → (found_by r n ≡ Some f) ↔ Finds r n f
+FoundIsSaid = (r : Requests) (n : ℕ) (f : CancelFound) → (found_by r n ≡ Some f) ↔ Finds r n f

@@ -11,12 +11,12 @@ ghost use Rattle.uring_linux.specs.Window.{Shows};
 use crate::dispatch::LinuxDispatch;
 use crate::request::Test;
 use crate::window::Window;
-use uring_dispatch::Found;
+use uring_dispatch::CancelFound;
 use uring_entry::{Op, prepare};
 
 impl LinuxDispatch {
-    /// What request `n`, any number, would find if it were carried out now: `Some` exactly if it is an outstanding cancel of one request, without a fault of its own; never `Found::Chosen`. It looks at one after the other. Our own rule.
-    pub fn would_find(&self, n: u64) -> Option<Found>
+    /// What request `n`, any number, would find if it were carried out now: `Some` exactly if it is an outstanding cancel of one request, without a fault of its own; never `CancelFound::Chosen`. It looks at one after the other. Our own rule.
+    pub fn would_find(&self, n: u64) -> Option<CancelFound>
         requires { IsTrue self.now.is_between_calls }
         ensures { (l : LinuxRequests) → ShowsRequests self.now l → result ≡ told_of l.requests n }
     {
@@ -26,7 +26,7 @@ impl LinuxDispatch {
 
 impl Window {
     /// What request `n`, any number, finds, if it is an outstanding cancel of one request, without a fault of its own.
-    fn would_find(&self, n: u64) -> Option<Found>
+    fn would_find(&self, n: u64) -> Option<CancelFound>
         ensures { (r : Requests) → Shows self.now r → result ≡ told_of r n }
     {
         let Some(request) = self.get(n) else {
@@ -45,8 +45,8 @@ impl Window {
             return None;
         }
         match self.found(n, request.entry.addr()) {
-            Some(m) => Some(Found::Running(m)),
-            None => Some(Found::Nobody),
+            Some(m) => Some(CancelFound::Running(m)),
+            None => Some(CancelFound::Nobody),
         }
     }
 

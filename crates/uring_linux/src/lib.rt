@@ -26,4 +26,4 @@ pub mod laws;
 
 pub use dispatch::LinuxDispatch;
 pub use entries::{asks_to_drain, asks_to_skip};
-pub use uring_dispatch::{Found, IssuedPosting, Posts, ReserveError};
+pub use uring_dispatch::{CancelFound, IssuedPosting, Posts, ReserveError};

@@ -16,9 +16,9 @@ use crate::parts::{add_completions, push_hex};
 use crate::wanted::split_parts;
 use std::alloc::{AllocError, Global};
 use std::io::{Read, Write};
+use uring_crash_outcomes::{Crash, CrashFault, FoundCrashes, crashes_within};
 use uring_entry::Setup;
 use uring_play_text::{PlayFault, read_calls};
-use uring_crash_outcomes::{Crash, CrashFault, FoundCrashes, crashes_within};
 
 /// The most images that may be left of one file at one moment.
 pub const MOST_IMAGES: u32 = 1_000;

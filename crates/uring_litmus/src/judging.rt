@@ -13,7 +13,7 @@ use crate::listing::endings_in;
 use std::alloc::{AllocError, Global};
 use std::io::Read;
 use uring_entry::Setup;
-use uring_outcomes::{Ending, Found};
+use uring_outcomes::{Ending, EndingsFound};
 use uring_play_text::PlayFault;
 
 /// What became of a claim.
@@ -55,7 +55,7 @@ pub fn judge<R: Read>(
         (λ judged. Judges setup.now claim (lines_in lines.now) judged (R.remaining reader.old) (R.remaining reader.new)) }
 {
     let found = endings_in(alloc, reader, setup, most)?;
-    let Found { endings, is_all } = found;
+    let EndingsFound { endings, is_all } = found;
     let against = first_against(alloc, endings.as_slice(), claim, lines);
     let count = endings.len();
     match against {
@@ -104,7 +104,7 @@ pub fn choose<R: Read>(
         (λ chosen. Chooses form setup.now number chosen (R.remaining reader.old) (R.remaining reader.new)) }
 {
     let found = endings_in(alloc, reader, setup, most)?;
-    let Found { endings, is_all } = found;
+    let EndingsFound { endings, is_all } = found;
     let place = place_of(alloc, endings.as_slice(), form, number);
     match place {
         Ok(Ok(at)) => Ok(Chosen::Outcome {

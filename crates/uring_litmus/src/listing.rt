@@ -13,7 +13,7 @@ use std::alloc::{AllocError, Global};
 use std::fmt::Write as _;
 use std::io::{Read, Write};
 use uring_entry::Setup;
-use uring_outcomes::{Ending, Found, WalkFault, outcomes_within};
+use uring_outcomes::{Ending, EndingsFound, WalkFault, outcomes_within};
 use uring_play_text::{PlayFault, read_calls};
 use uring_text::{Calls, write_all};
 
@@ -35,7 +35,7 @@ pub fn list<R: Read, W: Write>(
         (λ is_all. Lists form setup.now most is_all (R.remaining reader.old) (R.remaining reader.new) (W.contents writer.old) (W.contents writer.new)) }
 {
     let found = endings_in(alloc, reader, setup, most)?;
-    let Found { endings, is_all } = found;
+    let EndingsFound { endings, is_all } = found;
     let text = text_of(alloc, endings.as_slice(), form, is_all, most);
     drop(endings);
     let text = text?;
@@ -59,7 +59,7 @@ pub(crate) fn endings_in<R: Read>(
     reader: &mut R,
     setup: &Setup,
     most: u64,
-) -> Result<Found, PlayFault>
+) -> Result<EndingsFound, PlayFault>
     requires { setup.now.linux ≡ false }
     ensures { IfOk result
         (λ found. Finds setup.now found.endings.items found.is_all (R.remaining reader.old) (R.remaining reader.new)) }

@@ -9,7 +9,7 @@ pub use checks::{check, check_apart};
 pub use machine::Machine;
 pub use runs::run;
 pub use uring_core::{
-    Answer, BadSetup, Core, Counts, Cqe, Doom, Fault, Found, NotSubmitted, Op, Outcome, Refusal,
-    Setup, Since, Sqe, SqeFlags, Step, Wanted, Why, same_answer,
+    Answer, BadSetup, CancelFound, Core, Counts, Cqe, Doom, Fault, NotSubmitted, Op, Outcome,
+    Refusal, Setup, Since, Sqe, SqeFlags, Step, Wanted, Why, same_answer,
 };
 pub use uring_files::FileState;

@@ -5,8 +5,8 @@ use Rattle.uring_observed_text.proofs.Common.{Answer, AreWritten, CalledForApart
 use Rattle.uring_core.specs.declared.answer.Answer.TheVariants as answer
 use Rattle.uring_core.specs.declared.step.Step.TheVariants as step
 use Rattle.uring_text.specs.Remarks.{is_remark}
-use Rattle.uring_effect_points.specs.declared.decision.Found.{Found}
-use Rattle.uring_effect_points.specs.declared.decision.Found.TheVariants as found
+use Rattle.uring_effect_points.specs.declared.decision.EffectsFound.{EffectsFound}
+use Rattle.uring_effect_points.specs.declared.decision.EffectsFound.TheVariants as found
 use Rattle.uring_effect_points.proofs.BlankWorlds.{called_blank, world_same}
 use Rattle.uring_effect_points.proofs.Loosening.{blanks_bare}
 use Rattle.uring_check.specs.declared.setup_line.Said.{Said}
@@ -227,7 +227,7 @@ written_same (line ∷ lines) h (f ∷ k) same (inr event) =
     let e : bare event.0 ∷ map bare event.1 ≡ bare f ∷ map bare k = sym (ap (map bare) event.2) ∙ same in
     inr (f, k, refl, written_bare line event.0 f (head-eq_of_cons-eq e) event.3, written_same lines event.1 k (tail-eq_of_cons-eq e) event.4)
 
-pub early_found : (g : Setup) (lines : List (List ℕ)) (events : List Event) (x : Found) (steps : ℕ)
+pub early_found : (g : Setup) (lines : List (List ℕ)) (events : List Event) (x : EffectsFound) (steps : ℕ)
     → ReadsWritten g lines (history_of events) → IsFoundBare g (history_of events) x
     → IsEarlyOf g lines (early_of x steps)
 early_found g lines events found.Lawful steps r (k, lawful, same) =

@@ -21,8 +21,8 @@ use Rattle.uring_check.specs.SetupLines.{IsSaid}
 use Rattle.uring_check.specs.declared.setup_line.Said.{Said}
 use Rattle.uring_check.specs.declared.setup_line.Said.TheVariants.{Nothing, Says, Misses}
 use Rattle.uring_effect_points.specs.Bare.{bare, blank, blank_answer, blank_completion}
-use Rattle.uring_effect_points.specs.declared.decision.Found.{Found}
-use Rattle.uring_effect_points.specs.declared.decision.Found.TheVariants as found
+use Rattle.uring_effect_points.specs.declared.decision.EffectsFound.{EffectsFound}
+use Rattle.uring_effect_points.specs.declared.decision.EffectsFound.TheVariants as found
 use Rattle.uring_observed_text.specs.Told.{lines_in}
 use Rattle.uring_observed_text.specs.declared.early.Early.{Early}
 use Rattle.uring_observed_text.specs.declared.early.Early.TheVariants as early
@@ -156,7 +156,7 @@ IsReadWritten g lines events (done.Hidden place) = ⊥
 IsReadWritten g lines events (done.Bad place) = (k : History) → AreWritten (reverse lines) k → ⊥
 
 -- what is found of a trace of so many steps, by what is found of its events
-abbrev pub early_of : Found → ℕ → Early
+abbrev pub early_of : EffectsFound → ℕ → Early
 early_of found.Lawful steps = early.Lawful steps
 early_of found.Unlawful steps = early.Unlawful
 early_of found.Unexplained steps = early.Unexplained

@@ -11,7 +11,7 @@ use crate::written_reading::read_written;
 use std::alloc::{AllocError, Global};
 use uring_check::Said;
 use uring_core::{Core, Setup};
-use uring_effect_points::{Found, find_bytes};
+use uring_effect_points::{EffectsFound, find_bytes};
 
 /// What was found of a recorded trace.
 #[derive(Clone, Copy)]
@@ -87,13 +87,13 @@ fn number_of(place: usize) -> u64
 }
 
 /// What that is of a trace of so many steps.
-fn early_of(found: Found, steps: u64) -> Early
+fn early_of(found: EffectsFound, steps: u64) -> Early
     ensures { result ≡ spec.early_of found steps }
 {
     match found {
-        Found::Lawful => Early::Lawful(steps),
-        Found::Unlawful => Early::Unlawful,
-        Found::Unexplained => Early::Unexplained,
-        Found::GaveUp => Early::GaveUp,
+        EffectsFound::Lawful => Early::Lawful(steps),
+        EffectsFound::Unlawful => Early::Unlawful,
+        EffectsFound::Unexplained => Early::Unexplained,
+        EffectsFound::GaveUp => Early::GaveUp,
     }
 }

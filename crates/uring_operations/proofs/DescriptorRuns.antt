@@ -4,8 +4,8 @@ use Rattle.std.proofs.lemmas.Bool.{false≢true, true≢false}
 use Rattle.uring_operations.specs.declared.entries.submission.Submission.{Submission}
 use Rattle.uring_operations.specs.declared.files.descriptor.Known.{Known}
 use Rattle.uring_operations.specs.declared.files.descriptor.Trial.{Trial}
-use Rattle.uring_operations.specs.declared.files.descriptor.Kind.{Kind}
-use Rattle.uring_operations.specs.declared.files.descriptor.Kind.TheVariants.{Never, AtOnce, Tried, Stream, Wrong}
+use Rattle.uring_operations.specs.declared.files.descriptor.DescriptorKind.{DescriptorKind}
+use Rattle.uring_operations.specs.declared.files.descriptor.DescriptorKind.TheVariants.{Never, AtOnce, Tried, Stream, Wrong}
 use Rattle.uring_operations.specs.declared.files.descriptor.Question.{Question}
 use Rattle.uring_operations.specs.declared.files.descriptor.Question.TheVariants.{Status, Offsets, Access}
 use Rattle.uring_operations.specs.declared.files.descriptor.Finding.{Finding}
@@ -13,7 +13,7 @@ use Rattle.uring_operations.specs.declared.files.descriptor.Finding.TheVariants.
 use Rattle.uring_operations.specs.Entries.Needs.{is_read, is_transfer, is_of_sockets, is_splice, is_poll}
 use Rattle.uring_operations.specs.Files.Descriptors.{has_no_place, may_be_tried, is_tried_at_once, is_tried_unasked, is_open_for, asks_after_status, next_of, FindsTheKind, AsksUnlessSaid, AsksOnce}
 
-abbrev kind_in : Finding → Kind
+abbrev kind_in : Finding → DescriptorKind
 kind_in (Is kind) = kind
 kind_in (Asks _) = Never
 
@@ -26,7 +26,7 @@ question_in (Asks question) = question
 question_in (Is _) = Status
 
 -- what is told, by the answers: `k` of offsets and `ka` of access say that these were asked
-abbrev by_access : Bool → Bool → Kind → Finding
+abbrev by_access : Bool → Bool → DescriptorKind → Finding
 by_access ka w opened = if not ka then Asks Access else if w then Is opened else Is Wrong
 
 abbrev by_offsets : Bool → Bool → Bool → Bool → Bool → Bool → Bool → Bool → Finding
@@ -35,7 +35,7 @@ by_offsets i m v ko h p ka w =
     if not v && not ko then Asks Offsets else
     if not v && h && not p then Is Never else by_access ka w (if not v && h then Never else Stream)
 
-abbrev whole_of : Bool → Bool → Bool → Bool → Bool → Bool → Kind
+abbrev whole_of : Bool → Bool → Bool → Bool → Bool → Bool → DescriptorKind
 whole_of i m v h p w =
     if i && m then Tried else
     if not v && h && not p then Never else
@@ -50,7 +50,7 @@ by_entry a b u c s later =
     if a then Is Stream else if b then Is AtOnce else if u then Is Tried else
     if not c then Is Never else if not s then Asks Status else later
 
-by_access_is : (ka w w' : Bool) (opened kind : Kind) → (ka ≡ true → w ≡ w') → by_access ka w opened ≡ Is kind
+by_access_is : (ka w w' : Bool) (opened kind : DescriptorKind) → (ka ≡ true → w ≡ w') → by_access ka w opened ≡ Is kind
     → kind ≡ (if w' then opened else Wrong)
 by_access_is false w w' opened kind agree is = absurd (false≢true (ap has_kind is))
 by_access_is true true true opened kind agree is = sym (ap kind_in is)
@@ -58,7 +58,7 @@ by_access_is true false false opened kind agree is = sym (ap kind_in is)
 by_access_is true true false opened kind agree is = absurd (true≢false (agree refl))
 by_access_is true false true opened kind agree is = absurd (false≢true (agree refl))
 
-by_offsets_is : (i m v ko h h' p ka w w' : Bool) (kind : Kind) → (ko ≡ true → h ≡ h') → (ka ≡ true → w ≡ w')
+by_offsets_is : (i m v ko h h' p ka w w' : Bool) (kind : DescriptorKind) → (ko ≡ true → h ≡ h') → (ka ≡ true → w ≡ w')
     → by_offsets i m v ko h p ka w ≡ Is kind → kind ≡ whole_of i m v h' p w'
 by_offsets_is true true v ko h h' p ka w w' kind one two is = sym (ap kind_in is)
 by_offsets_is true false true ko h h' p ka w w' kind one two is = by_access_is ka w w' Stream kind two is
@@ -74,7 +74,7 @@ by_offsets_is false m false true false false p ka w w' kind one two is = by_acce
 by_offsets_is i m false true true false p ka w w' kind one two is = absurd (true≢false (one refl))
 by_offsets_is i m false true false true p ka w w' kind one two is = absurd (false≢true (one refl))
 
-by_status_is : (o x z i m v ko h h' p ka w w' : Bool) (kind : Kind) → (ko ≡ true → h ≡ h') → (ka ≡ true → w ≡ w')
+by_status_is : (o x z i m v ko h h' p ka w w' : Bool) (kind : DescriptorKind) → (ko ≡ true → h ≡ h') → (ka ≡ true → w ≡ w')
     → by_status o x z (by_offsets i m v ko h p ka w) ≡ Is kind
     → kind ≡ (if not o then Never else if x then whole_of i m v h' p w' else if z then Stream else Never)
 by_status_is false x z i m v ko h h' p ka w w' kind one two is = sym (ap kind_in is)
@@ -84,7 +84,7 @@ by_status_is true false true i m v ko h h' p ka w w' kind one two is = sym (ap k
 by_status_is true false false i m v ko h h' p ka w w' kind one two is = sym (ap kind_in is)
 
 -- `later` is what it is once it was asked what it is
-by_entry_is : (a b u c s : Bool) (later : Finding) (kind whole : Kind) → (s ≡ true → later ≡ Is kind → kind ≡ whole)
+by_entry_is : (a b u c s : Bool) (later : Finding) (kind whole : DescriptorKind) → (s ≡ true → later ≡ Is kind → kind ≡ whole)
     → by_entry a b u c s later ≡ Is kind
     → kind ≡ (if a then Stream else if b then AtOnce else if u then Tried else if c then whole else Never)
 by_entry_is true b u c s later kind whole after is = sym (ap kind_in is)
@@ -113,7 +113,7 @@ was Status s ko ka = s
 was Offsets s ko ka = ko
 was Access s ko ka = ka
 
-access_asks : (s ko ka w : Bool) (opened : Kind) (question : Question) → by_access ka w opened ≡ Asks question → was question s ko ka ≡ false
+access_asks : (s ko ka w : Bool) (opened : DescriptorKind) (question : Question) → by_access ka w opened ≡ Asks question → was question s ko ka ≡ false
 access_asks s ko false w opened question is = sym (ap (λ told. was (question_in told) s ko false) is)
 access_asks s ko true true opened question is = absurd (true≢false (ap has_kind is))
 access_asks s ko true false opened question is = absurd (true≢false (ap has_kind is))

@@ -27,4 +27,4 @@ pub use paths::{longer, push_longer};
 pub use run::Run;
 pub use uring_entry::{Cqe, Setup, Sqe};
 pub use uring_files::Files;
-pub use walk::{Found, outcomes, outcomes_in, outcomes_within, outcomes_within_in};
+pub use walk::{EndingsFound, outcomes, outcomes_in, outcomes_within, outcomes_within_in};

@@ -20,7 +20,7 @@ use uring_walk::walk;
 
 /// What was found of all that calls may come to.
 #[derive(Drop)]
-pub struct Found {
+pub struct EndingsFound {
     /// What moves lead to, each once.
     pub endings: Vec<Ending>,
 
@@ -62,7 +62,7 @@ pub fn outcomes_in<M: MapMemory>(
         → TookPaths setup.now (entries_of calls.now) (2 ^ 64 - 1) }
 {
     let found = outcomes_within_in(memory, alloc, setup, calls, u64::MAX)?;
-    let Found { endings, is_all } = found;
+    let EndingsFound { endings, is_all } = found;
     if is_all {
         Ok(endings)
     } else {
@@ -78,7 +78,7 @@ pub fn outcomes_within(
     setup: &Setup,
     calls: &[Vec<Sqe>],
     most: u64,
-) -> Result<Found, WalkFault>
+) -> Result<EndingsFound, WalkFault>
     requires { setup.now.linux ≡ false }
     ensures right { IfOk result
         (λ found. AreEndings setup.now (entries_of calls.now) found.endings.items) }
@@ -100,7 +100,7 @@ pub fn outcomes_within_in<M: MapMemory>(
     setup: &Setup,
     calls: &[Vec<Sqe>],
     most: u64,
-) -> Result<Found, WalkFault>
+) -> Result<EndingsFound, WalkFault>
     requires { setup.now.linux ≡ false }
     ensures right { IfOk result
         (λ found. AreEndings setup.now (entries_of calls.now) found.endings.items) }
@@ -122,7 +122,7 @@ pub fn outcomes_within_in<M: MapMemory>(
     };
     let mut found = Endings::new(alloc);
     let end = walk(alloc, &moves, &mut found, most)?;
-    Ok(Found {
+    Ok(EndingsFound {
         endings: list_of(found),
         is_all: end.is_all(),
     })

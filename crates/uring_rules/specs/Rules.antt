@@ -8,7 +8,7 @@ use Rattle.uring_entry.specs.Success.{posts_completion}
 use Rattle.uring_entry.specs.Why as manual_why
 use Rattle.uring_entry.specs.declared.why.Why.{Why}
 use Rattle.uring_dispatch.specs.Cancels as manual_cancels
-use Rattle.uring_dispatch.specs.declared.answers.Found.{Found}
+use Rattle.uring_dispatch.specs.declared.answers.CancelFound.{CancelFound}
 use Rattle.uring_linux.specs.Drains.{Drains}
 use Rattle.uring_linux.specs.LinuxRequests as linux
 use Rattle.uring_linux.specs.LinuxRequests.{LinuxRequests, is_in_turn, is_deferred, posts_after, breaker_of, with_cut}
@@ -64,7 +64,7 @@ abbrev pub why_of : (is_linux : Bool) → LinuxRequests → ℕ → Why
 why_of is_linux l n = if is_linux then linux_why.why_of l n else manual_why.why_of l.requests n
 
 -- what n finds, if it is an outstanding cancel of one request, without a fault
-abbrev pub found_by : (is_linux : Bool) → Requests → ℕ → Option Found
+abbrev pub found_by : (is_linux : Bool) → Requests → ℕ → Option CancelFound
 found_by is_linux r n =
     if is_linux then linux_cancels.told_of r n else manual_cancels.found_by r n
 

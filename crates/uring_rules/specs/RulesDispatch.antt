@@ -5,8 +5,8 @@ use Rattle.uring_dispatch.specs.Dispatch as manual
 use Rattle.uring_dispatch.specs.declared.answers.Posts.{Posts}
 use Rattle.uring_linux.specs.LinuxDispatch as linux
 use Rattle.uring_linux.specs.LinuxRequests.{LinuxRequests}
-use Rattle.uring_rules.specs.declared.kind.Kind.{Kind}
-use Rattle.uring_rules.specs.declared.kind.Kind.TheVariants.{Manual, Linux}
+use Rattle.uring_rules.specs.declared.kind.DispatcherKind.{DispatcherKind}
+use Rattle.uring_rules.specs.declared.kind.DispatcherKind.TheVariants.{Manual, Linux}
 use Rattle.uring_dispatch.specs.declared.answers.IssuedPosting.{IssuedPosting}
 use Rattle.uring_dispatch.specs.declared.answers.IssuedPosting.TheVariants.{Run, Ended}
 
@@ -25,10 +25,10 @@ pub record Rules : Type 0 where
   -- whether the last call's end was told since the last request was accepted, or none was accepted yet
   pub is_between_calls : Bool
   -- what it keeps of the requests. Only `ShowsRequests` says what it means
-  pub held : Kind
+  pub held : DispatcherKind
 
 -- the dispatcher over one of the two
-abbrev pub rules_of : Kind → Rules
+abbrev pub rules_of : DispatcherKind → Rules
 rules_of (Manual d) = record {
   linux = false;
   accepted = d.accepted;
@@ -49,7 +49,7 @@ rules_of (Linux d) = record {
 }
 
 -- what is kept stands for these requests. By the manual pages' rules nothing is deferred, so that it tells nothing of drains
-unfoldable pub StandsFor : Kind → LinuxRequests → Type 0
+unfoldable pub StandsFor : DispatcherKind → LinuxRequests → Type 0
 StandsFor (Manual d) l = manual.ShowsRequests d l.requests
 StandsFor (Linux d) l = linux.ShowsRequests d l
 

@@ -5,7 +5,7 @@ use uring_linux::LinuxDispatch;
 
 /// A dispatcher by one of the two rules.
 #[derive(Drop)]
-pub(crate) enum Kind {
+pub(crate) enum DispatcherKind {
     /// By the manual pages'.
     Manual(Dispatch),
 

@@ -7,4 +7,4 @@ mod posting;
 mod rules;
 
 pub use rules::Rules;
-pub use uring_dispatch::{Found, IssuedPosting, Posts, ReserveError};
+pub use uring_dispatch::{CancelFound, IssuedPosting, Posts, ReserveError};

@@ -8,11 +8,11 @@ ghost use Rattle.uring_rules.specs.Posting.{would_post};
 ghost use Rattle.uring_rules.specs.RulesCalls.{accepted_by, cut_by, called_by};
 ghost use Rattle.uring_rules.specs.RulesIssues.{issued, after_issue, posted_by, after_end};
 
-use crate::kind::Kind;
+use crate::kind::DispatcherKind;
 use crate::posting::would_post_manual;
 use std::alloc::Global;
 use std::marker::Model;
-use uring_dispatch::{Dispatch, Found, IssuedPosting, Posts, ReserveError};
+use uring_dispatch::{CancelFound, Dispatch, IssuedPosting, Posts, ReserveError};
 use uring_entry::{Op, Sqe, Why};
 use uring_linux::LinuxDispatch;
 use uring_memory::Memory;
@@ -22,7 +22,7 @@ use uring_memory::Memory;
 /// A submission call gives its entries one by one to `accept` and ends with `end_call`, or all at once to `accept_call`; every other call is made between submission calls.
 #[derive(Drop)]
 pub struct Rules {
-    kind: Kind,
+    kind: DispatcherKind,
 }
 
 impl Model for Rules {
@@ -44,11 +44,11 @@ impl Rules {
     {
         if is_linux {
             Rules {
-                kind: Kind::Linux(LinuxDispatch::new(alloc)),
+                kind: DispatcherKind::Linux(LinuxDispatch::new(alloc)),
             }
         } else {
             Rules {
-                kind: Kind::Manual(Dispatch::new(alloc)),
+                kind: DispatcherKind::Manual(Dispatch::new(alloc)),
             }
         }
     }
@@ -58,8 +58,8 @@ impl Rules {
         ensures { result ≡ self.now.linux }
     {
         match &self.kind {
-            Kind::Manual(_) => false,
-            Kind::Linux(_) => true,
+            DispatcherKind::Manual(_) => false,
+            DispatcherKind::Linux(_) => true,
         }
     }
 
@@ -78,8 +78,8 @@ impl Rules {
         ensures shows { (l : LinuxRequests) → ShowsRequests self.old l → ShowsRequests self.new l }
     {
         match &mut self.kind {
-            Kind::Manual(dispatch) => dispatch.reserve(count),
-            Kind::Linux(dispatch) => dispatch.reserve(count),
+            DispatcherKind::Manual(dispatch) => dispatch.reserve(count),
+            DispatcherKind::Linux(dispatch) => dispatch.reserve(count),
         }
     }
 
@@ -99,8 +99,8 @@ impl Rules {
             → IsErrOf result ReserveError.NoMemory → ⊥ }
     {
         match &mut self.kind {
-            Kind::Manual(dispatch) => dispatch.reserve_in(memory, count),
-            Kind::Linux(dispatch) => dispatch.reserve_in(memory, count),
+            DispatcherKind::Manual(dispatch) => dispatch.reserve_in(memory, count),
+            DispatcherKind::Linux(dispatch) => dispatch.reserve_in(memory, count),
         }
     }
 
@@ -115,8 +115,8 @@ impl Rules {
         ensures between { self.new.is_between_calls ≡ false }
     {
         match &mut self.kind {
-            Kind::Manual(dispatch) => dispatch.accept(entry),
-            Kind::Linux(dispatch) => dispatch.accept(entry),
+            DispatcherKind::Manual(dispatch) => dispatch.accept(entry),
+            DispatcherKind::Linux(dispatch) => dispatch.accept(entry),
         }
     }
 
@@ -128,8 +128,8 @@ impl Rules {
         ensures between { self.new.is_between_calls ≡ true }
     {
         match &mut self.kind {
-            Kind::Manual(dispatch) => dispatch.end_call(),
-            Kind::Linux(dispatch) => dispatch.end_call(),
+            DispatcherKind::Manual(dispatch) => dispatch.end_call(),
+            DispatcherKind::Linux(dispatch) => dispatch.end_call(),
         }
     }
 
@@ -162,8 +162,8 @@ impl Rules {
         ensures counts { IssueCounts result self.old self.new }
     {
         match &mut self.kind {
-            Kind::Manual(dispatch) => dispatch.issue_posting(n),
-            Kind::Linux(dispatch) => dispatch.issue(n),
+            DispatcherKind::Manual(dispatch) => dispatch.issue_posting(n),
+            DispatcherKind::Linux(dispatch) => dispatch.issue(n),
         }
     }
 
@@ -178,8 +178,8 @@ impl Rules {
         ensures counts { EndCounts result self.old self.new }
     {
         match &mut self.kind {
-            Kind::Manual(dispatch) => dispatch.end_running(n, res),
-            Kind::Linux(dispatch) => dispatch.end_running(n, res),
+            DispatcherKind::Manual(dispatch) => dispatch.end_running(n, res),
+            DispatcherKind::Linux(dispatch) => dispatch.end_running(n, res),
         }
     }
 
@@ -190,8 +190,8 @@ impl Rules {
             → result ≡ operation_running l.requests n }
     {
         match &self.kind {
-            Kind::Manual(dispatch) => dispatch.running_op(n),
-            Kind::Linux(dispatch) => dispatch.running_op(n),
+            DispatcherKind::Manual(dispatch) => dispatch.running_op(n),
+            DispatcherKind::Linux(dispatch) => dispatch.running_op(n),
         }
     }
 
@@ -202,8 +202,8 @@ impl Rules {
             → result ≡ entry_outstanding l.requests n }
     {
         match &self.kind {
-            Kind::Manual(dispatch) => dispatch.entry(n),
-            Kind::Linux(dispatch) => dispatch.entry(n),
+            DispatcherKind::Manual(dispatch) => dispatch.entry(n),
+            DispatcherKind::Linux(dispatch) => dispatch.entry(n),
         }
     }
 
@@ -213,8 +213,8 @@ impl Rules {
         ensures { (l : LinuxRequests) → ShowsRequests self.now l → result ≡ least_of l.requests }
     {
         match &self.kind {
-            Kind::Manual(dispatch) => dispatch.least(),
-            Kind::Linux(dispatch) => dispatch.least(),
+            DispatcherKind::Manual(dispatch) => dispatch.least(),
+            DispatcherKind::Linux(dispatch) => dispatch.least(),
         }
     }
 
@@ -225,8 +225,8 @@ impl Rules {
             → result ≡ next_of self.now.linux l }
     {
         match &self.kind {
-            Kind::Manual(dispatch) => dispatch.next(),
-            Kind::Linux(dispatch) => dispatch.next(),
+            DispatcherKind::Manual(dispatch) => dispatch.next(),
+            DispatcherKind::Linux(dispatch) => dispatch.next(),
         }
     }
 
@@ -237,8 +237,8 @@ impl Rules {
             → result ≡ issuable_from self.now.linux l n }
     {
         match &self.kind {
-            Kind::Manual(dispatch) => dispatch.next_issuable(n),
-            Kind::Linux(dispatch) => dispatch.next_issuable(n),
+            DispatcherKind::Manual(dispatch) => dispatch.next_issuable(n),
+            DispatcherKind::Linux(dispatch) => dispatch.next_issuable(n),
         }
     }
 
@@ -249,8 +249,8 @@ impl Rules {
             → result ≡ length (issuables_of self.now.linux l) }
     {
         match &self.kind {
-            Kind::Manual(dispatch) => dispatch.issuable(),
-            Kind::Linux(dispatch) => dispatch.issuable(),
+            DispatcherKind::Manual(dispatch) => dispatch.issuable(),
+            DispatcherKind::Linux(dispatch) => dispatch.issuable(),
         }
     }
 
@@ -261,8 +261,8 @@ impl Rules {
             → result ≡ slice_get (issuables_of self.now.linux l) k }
     {
         match &self.kind {
-            Kind::Manual(dispatch) => dispatch.nth_issuable(k),
-            Kind::Linux(dispatch) => dispatch.nth_issuable(k),
+            DispatcherKind::Manual(dispatch) => dispatch.nth_issuable(k),
+            DispatcherKind::Linux(dispatch) => dispatch.nth_issuable(k),
         }
     }
 
@@ -273,20 +273,20 @@ impl Rules {
             → result ≡ why_of self.now.linux l n }
     {
         match &self.kind {
-            Kind::Manual(dispatch) => dispatch.why(n),
-            Kind::Linux(dispatch) => dispatch.why(n),
+            DispatcherKind::Manual(dispatch) => dispatch.why(n),
+            DispatcherKind::Linux(dispatch) => dispatch.why(n),
         }
     }
 
     /// What request `n`, any number, would find if it were carried out now: `Some` exactly if it is an outstanding cancel of one request, without a fault of its own. Our own rule.
-    pub fn would_find(&self, n: u64) -> Option<Found>
+    pub fn would_find(&self, n: u64) -> Option<CancelFound>
         requires { IsTrue self.now.is_between_calls }
         ensures { (l : LinuxRequests) → ShowsRequests self.now l
             → result ≡ found_by self.now.linux l.requests n }
     {
         match &self.kind {
-            Kind::Manual(dispatch) => dispatch.would_find(n),
-            Kind::Linux(dispatch) => dispatch.would_find(n),
+            DispatcherKind::Manual(dispatch) => dispatch.would_find(n),
+            DispatcherKind::Linux(dispatch) => dispatch.would_find(n),
         }
     }
 
@@ -297,8 +297,8 @@ impl Rules {
             → result ≡ would_post self.now.linux l.requests n res }
     {
         match &self.kind {
-            Kind::Manual(dispatch) => would_post_manual(dispatch, n, res),
-            Kind::Linux(dispatch) => dispatch.would_post(n, res),
+            DispatcherKind::Manual(dispatch) => would_post_manual(dispatch, n, res),
+            DispatcherKind::Linux(dispatch) => dispatch.would_post(n, res),
         }
     }
 
@@ -308,8 +308,8 @@ impl Rules {
         ensures limit { result ≤ 2 ^ 63 - 1 }
     {
         match &self.kind {
-            Kind::Manual(dispatch) => dispatch.accepted(),
-            Kind::Linux(dispatch) => dispatch.accepted(),
+            DispatcherKind::Manual(dispatch) => dispatch.accepted(),
+            DispatcherKind::Linux(dispatch) => dispatch.accepted(),
         }
     }
 
@@ -321,8 +321,8 @@ impl Rules {
             → result ≡ outstanding_in l.requests }
     {
         match &self.kind {
-            Kind::Manual(dispatch) => dispatch.outstanding(),
-            Kind::Linux(dispatch) => dispatch.outstanding(),
+            DispatcherKind::Manual(dispatch) => dispatch.outstanding(),
+            DispatcherKind::Linux(dispatch) => dispatch.outstanding(),
         }
     }
 
@@ -334,8 +334,8 @@ impl Rules {
             → result ≡ running_in l.requests }
     {
         match &self.kind {
-            Kind::Manual(dispatch) => dispatch.running(),
-            Kind::Linux(dispatch) => dispatch.running(),
+            DispatcherKind::Manual(dispatch) => dispatch.running(),
+            DispatcherKind::Linux(dispatch) => dispatch.running(),
         }
     }
 }

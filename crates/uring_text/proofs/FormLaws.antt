@@ -2,8 +2,8 @@
 use Rattle.std.proofs.Common.{◌≡◌, ℕ, ◌^◌, List, [], ◌∷◌, Option, Some, refl, sym, ap, arith}
 use Rattle.uring_text.proofs.Common.{Form, Name, Parts, SayParts, SaysPart, SpellsForm, bytes_eq-Decides, form_of, kinds_of, name_of, name_text, option_map, part_of, parts_of}
 use Rattle.uring_text.specs.Reading.{form_named}
-use Rattle.uring_text.specs.declared.place.Kind.{Kind}
-use Rattle.uring_text.specs.declared.place.Kind.TheVariants as kind
+use Rattle.uring_text.specs.declared.place.TokenKind.{TokenKind}
+use Rattle.uring_text.specs.declared.place.TokenKind.TheVariants as kind
 use Rattle.uring_text.proofs.Options.{bind_some, mapped}
 use Rattle.uring_text.proofs.NumberLaws.{number_found, number_again, file_found, file_again}
 use Rattle.uring_text.proofs.FlagLaws.{flags_found, flags_again}
@@ -11,7 +11,7 @@ use Rattle.uring_text.proofs.HexLaws.{hex_found, hex_again, data_found, data_aga
 
 -- One part: what is read is said, and the other way round.
 
-pub part_found : (k : Kind) (token : List ℕ) (p q : Parts) → part_of k token p ≡ Some q
+pub part_found : (k : TokenKind) (token : List ℕ) (p q : Parts) → part_of k token p ≡ Some q
     → SaysPart k token p q
 unfolding part_of
 part_found kind.Code token p q e = mapped _ _ _ q (λ n. number_found 256 token n (omega arith)) e
@@ -25,7 +25,7 @@ part_found kind.Data token p q e = let m = mapped _ _ _ q (data_found token) e i
 part_found kind.Bytes token p q e = let m = mapped _ _ _ q (hex_found 128 token) e in (m.0, m.1.0, m.1.1, m.2)
 part_found _ token p q e = absurd cc
 
-pub part_again : (k : Kind) (token : List ℕ) (p q : Parts) → SaysPart k token p q
+pub part_again : (k : TokenKind) (token : List ℕ) (p q : Parts) → SaysPart k token p q
     → part_of k token p ≡ Some q
 unfolding part_of
 part_again kind.Flags token p q h = rw (flags_again token h.0 h.1, h.2) refl
@@ -33,14 +33,14 @@ part_again _ token p q h = grind (arith, number_again, file_again, data_again, h
 
 -- All parts.
 
-pub parts_found : (kinds : List Kind) (tokens : List (List ℕ)) (q : Parts)
+pub parts_found : (kinds : List TokenKind) (tokens : List (List ℕ)) (q : Parts)
     → parts_of kinds tokens ≡ Some q → SayParts kinds tokens q
 parts_found [] tokens q e = grind arith
 parts_found kinds [] q e = grind arith
 parts_found (k ∷ kinds) (token ∷ tokens) q e =
     grind (arith, bind_some, (parts_found kinds tokens), part_found)
 
-pub parts_again : (kinds : List Kind) (tokens : List (List ℕ)) (q : Parts)
+pub parts_again : (kinds : List TokenKind) (tokens : List (List ℕ)) (q : Parts)
     → SayParts kinds tokens q → parts_of kinds tokens ≡ Some q
 parts_again [] [] q h = ap (λ (p : Parts). Some p) (sym h)
 parts_again (k ∷ kinds) (token ∷ tokens) q h = grind (arith, (parts_again kinds tokens h.0 h.1), part_again)

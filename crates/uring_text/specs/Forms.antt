@@ -10,8 +10,8 @@ use Rattle.uring_text.specs.Tokens.{AreFlags, hex_or_dash}
 use Rattle.uring_text.specs.Spelling.{SpellsNumber, IsFile, AreBytes}
 use Rattle.uring_text.specs.declared.forms.Name.{Name}
 use Rattle.uring_text.specs.declared.forms.Name.TheVariants as name
-use Rattle.uring_text.specs.declared.place.Kind.{Kind}
-use Rattle.uring_text.specs.declared.place.Kind.TheVariants as kind
+use Rattle.uring_text.specs.declared.place.TokenKind.{TokenKind}
+use Rattle.uring_text.specs.declared.place.TokenKind.TheVariants as kind
 
 -- What the tokens of an entry say. A part that none of them says is 0, or of no bytes.
 pub record Parts : Type 0 where
@@ -63,7 +63,7 @@ deed_named name.Read = codes "a read"
 deed_named name.Write = codes "a write"
 deed_named other = codes "a no-op"
 
-abbrev pub kinds_of : Name → List Kind
+abbrev pub kinds_of : Name → List TokenKind
 kinds_of name.Nop = kind.UserData ∷ kind.Flags ∷ []
 kinds_of name.Fsync = kind.UserData ∷ kind.Flags ∷ kind.File ∷ []
 kinds_of name.Read = kind.UserData ∷ kind.Flags ∷ kind.File ∷ kind.Offset ∷ kind.Length ∷ []
@@ -119,7 +119,7 @@ abbrev pub deed_text : ℕ → List ℕ
 deed_text code = option_map_or deed_named (name_of_code code) (codes "a no-op")
 
 -- What tokens say, the parts before it being p: a token sets the part of its kind. The kinds that are no part of an entry say nothing.
-abbrev pub SaysPart : Kind → List ℕ → Parts → Parts → Type 0
+abbrev pub SaysPart : TokenKind → List ℕ → Parts → Parts → Type 0
 SaysPart kind.Code token p q =
     (n : ℕ) × SpellsNumber 256 token n × (q ≡ record p { code = n })
 SaysPart kind.UserData token p q =
@@ -141,7 +141,7 @@ SaysPart kind.Bytes token p q =
 SaysPart other token p q = ⊥
 
 -- what tokens say, one of each of these kinds
-abbrev pub SayParts : List Kind → List (List ℕ) → Parts → Type 0
+abbrev pub SayParts : List TokenKind → List (List ℕ) → Parts → Type 0
 SayParts [] [] q = q ≡ no_parts
 SayParts (kind ∷ kinds) (token ∷ tokens) q =
     (p : Parts) × SayParts kinds tokens p × SaysPart kind token p q

@@ -3,13 +3,13 @@ use Rattle.std.specs.Prelude.{ℕ, ◌^◌, Bool, List, codes}
 use Rattle.std.specs.Option.{is_some}
 use Rattle.uring_text.specs.Forms.{names_text}
 use Rattle.uring_text.specs.Reading.{number_of, file_of, flags_of, data_of, hex_of}
-use Rattle.uring_text.specs.declared.place.Kind.{Kind}
-use Rattle.uring_text.specs.declared.place.Kind.TheVariants as kind
+use Rattle.uring_text.specs.declared.place.TokenKind.{TokenKind}
+use Rattle.uring_text.specs.declared.place.TokenKind.TheVariants as kind
 use Rattle.uring_text.specs.declared.place.Place.{Place}
 use Rattle.uring_text.specs.declared.place.Place.TheVariants as place
 
 -- whether a token is of a kind
-unfoldable pub is_of_kind : Kind → List ℕ → Bool
+unfoldable pub is_of_kind : TokenKind → List ℕ → Bool
 is_of_kind kind.Slot token = is_some (number_of (2 ^ 32) token)
 is_of_kind kind.Word token = is_some (number_of (2 ^ 32) token)
 is_of_kind kind.Count token = is_some (number_of (2 ^ 32) token)
@@ -25,7 +25,7 @@ is_of_kind kind.Data token = is_some (data_of token)
 is_of_kind kind.Bytes token = is_some (hex_of 128 token)
 
 -- the words for a kind of token
-abbrev pub kind_text : Kind → List ℕ
+abbrev pub kind_text : TokenKind → List ℕ
 kind_text kind.Slot = codes "SLOT, a number up to 4294967295"
 kind_text kind.Word = codes "WORD, a number up to 4294967295"
 kind_text kind.Count = codes "COUNT, a number up to 4294967295"

@@ -5,7 +5,7 @@ use Rattle.std.specs.Option.{option_map}
 use Rattle.uring_text.specs.Forms.{kinds_of}
 use Rattle.uring_text.specs.Reading.{name_of}
 use Rattle.uring_text.specs.Places.{is_of_kind}
-use Rattle.uring_text.specs.declared.place.Kind.{Kind}
+use Rattle.uring_text.specs.declared.place.TokenKind.{TokenKind}
 use Rattle.uring_text.specs.declared.place.Place.{Place}
 use Rattle.uring_text.specs.declared.place.Place.TheVariants as place
 use Rattle.uring_text.specs.declared.reach.Reach.{Reach}
@@ -24,14 +24,14 @@ ending [] = place.End
 ending (token ∷ tokens) = if bytes_eq token (codes "=") then place.NoAnswer else place.End
 
 -- how far tokens fit these kinds, one each, with nothing after them
-abbrev pub kinds_reach : List Kind → List (List ℕ) → Reach
+abbrev pub kinds_reach : List TokenKind → List (List ℕ) → Reach
 kinds_reach [] tokens = reach_at (ending tokens)
 kinds_reach (kind ∷ kinds) [] = reach_at (place.Token kind)
 kinds_reach (kind ∷ kinds) (token ∷ tokens) =
     if is_of_kind kind token then further (kinds_reach kinds tokens) else reach_at (place.Token kind)
 
 -- how far tokens fit after a name, if it is the name of something with tokens of these kinds
-abbrev pub named_reach : Place → Option (List Kind) → List (List ℕ) → Reach
+abbrev pub named_reach : Place → Option (List TokenKind) → List (List ℕ) → Reach
 named_reach p None tokens = reach_at p
 named_reach p (Some kinds) tokens = further (kinds_reach kinds tokens)
 

@@ -13,8 +13,8 @@ use Rattle.uring_entry.specs.Layout.{Sqe}
 use Rattle.uring_text.specs.Forms.{Form, Parts, no_parts, names, name_text, kinds_of, IsEntryOf}
 use Rattle.uring_text.specs.declared.forms.Name.{Name}
 use Rattle.uring_text.specs.declared.forms.Name.TheVariants as name
-use Rattle.uring_text.specs.declared.place.Kind.{Kind}
-use Rattle.uring_text.specs.declared.place.Kind.TheVariants as kind
+use Rattle.uring_text.specs.declared.place.TokenKind.{TokenKind}
+use Rattle.uring_text.specs.declared.place.TokenKind.TheVariants as kind
 
 infixl 10 ◌>>=◌
 abbrev pub ◌>>=◌ : {A B : Type 0} → Option A → (A → Option B) → Option B
@@ -75,7 +75,7 @@ data_of token =
 -- The forms, by what their tokens say.
 
 -- parts in which the part of this kind is as the token says
-unfoldable pub part_of : Kind → List ℕ → Parts → Option Parts
+unfoldable pub part_of : TokenKind → List ℕ → Parts → Option Parts
 part_of kind.Code token p = option_map (λ n. record p { code = n }) (number_of 256 token)
 part_of kind.UserData token p =
     option_map (λ n. record p { user_data = n }) (number_of (2 ^ 64) token)
@@ -89,7 +89,7 @@ part_of kind.Bytes token p = option_map (λ bytes. record p { bytes = bytes }) (
 part_of other token p = None
 
 -- the parts that tokens say, one of each of these kinds
-abbrev pub parts_of : List Kind → List (List ℕ) → Option Parts
+abbrev pub parts_of : List TokenKind → List (List ℕ) → Option Parts
 parts_of [] [] = Some no_parts
 parts_of (kind ∷ kinds) (token ∷ tokens) = parts_of kinds tokens >>= part_of kind token
 parts_of _ _ = None

@@ -9,7 +9,7 @@ ghost use Rattle.uring_text.specs.Reading.{Fits};
 use crate::growth::{TextMemory, push_named, push_text};
 use crate::hex_tokens::entry_of_bytes;
 use crate::parts::Parts;
-use crate::place::Kind;
+use crate::place::TokenKind;
 use crate::tokens::is_name;
 use std::alloc::AllocError;
 use uring_entry::{Sqe, opcode};
@@ -111,30 +111,30 @@ impl Name {
     }
 
     /// What the tokens after it say, one each.
-    pub fn kinds(self) -> &'static [Kind]
+    pub fn kinds(self) -> &'static [TokenKind]
         ensures { result.now ≡ spec.kinds_of self }
     {
         match self {
-            Name::Nop => &[Kind::UserData, Kind::Flags],
-            Name::Fsync => &[Kind::UserData, Kind::Flags, Kind::File],
+            Name::Nop => &[TokenKind::UserData, TokenKind::Flags],
+            Name::Fsync => &[TokenKind::UserData, TokenKind::Flags, TokenKind::File],
             Name::Read => &[
-                Kind::UserData,
-                Kind::Flags,
-                Kind::File,
-                Kind::Offset,
-                Kind::Length,
+                TokenKind::UserData,
+                TokenKind::Flags,
+                TokenKind::File,
+                TokenKind::Offset,
+                TokenKind::Length,
             ],
             Name::Write => &[
-                Kind::UserData,
-                Kind::Flags,
-                Kind::File,
-                Kind::Offset,
-                Kind::Data,
+                TokenKind::UserData,
+                TokenKind::Flags,
+                TokenKind::File,
+                TokenKind::Offset,
+                TokenKind::Data,
             ],
-            Name::Cancel => &[Kind::UserData, Kind::Flags, Kind::Target],
-            Name::CancelAll => &[Kind::UserData, Kind::Flags, Kind::Target],
-            Name::Op => &[Kind::Code, Kind::UserData, Kind::Flags],
-            Name::Raw => &[Kind::Bytes],
+            Name::Cancel => &[TokenKind::UserData, TokenKind::Flags, TokenKind::Target],
+            Name::CancelAll => &[TokenKind::UserData, TokenKind::Flags, TokenKind::Target],
+            Name::Op => &[TokenKind::Code, TokenKind::UserData, TokenKind::Flags],
+            Name::Raw => &[TokenKind::Bytes],
         }
     }
 

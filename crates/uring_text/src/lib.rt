@@ -39,7 +39,7 @@ pub use growth::{
 };
 pub use kept_line::KeptLine;
 pub use number_tokens::{spelled_long, spelled_number, spelled_signed};
-pub use place::{Kind, Place, is_of_kind};
+pub use place::{Place, TokenKind, is_of_kind};
 pub use reach::{Reach, entry_reach, kinds_reach};
 pub use streams::{Calls, read_once, write_all};
 pub use terms::{Term, push_terms};

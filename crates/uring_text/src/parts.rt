@@ -8,7 +8,7 @@ ghost use Rattle.uring_text.specs.Reading.{part_of, parts_of};
 use crate::data_tokens::{Bytes, data, entry_bytes};
 use crate::flag_tokens::flag_bits;
 use crate::number_tokens::{file, number, operation, small_number};
-use crate::place::Kind;
+use crate::place::TokenKind;
 use std::marker::Model;
 
 /// What the tokens of an entry say. A part that none of them says is 0, or of no bytes.
@@ -57,7 +57,7 @@ impl Parts {
     }
 
     /// What tokens say, one of each of these kinds.
-    pub(crate) fn of(kinds: &[Kind], tokens: &[&[u8]]) -> Option<Parts>
+    pub(crate) fn of(kinds: &[TokenKind], tokens: &[&[u8]]) -> Option<Parts>
         ensures { result ≡ parts_of kinds.now (map (λ token. token.now) tokens.now) }
     {
         match (kinds.split_first(), tokens.split_first()) {
@@ -71,21 +71,21 @@ impl Parts {
 
     /// These parts, that of this kind as the token says.
     #[tactic(auto, unfolding(crate::specs::Reading::part_of))]
-    fn with(self, kind: Kind, token: &[u8]) -> Option<Parts>
+    fn with(self, kind: TokenKind, token: &[u8]) -> Option<Parts>
         ensures { result ≡ part_of kind token.now self }
     {
         let mut parts = self;
         match kind {
-            Kind::Code => parts.code = operation(token)?,
-            Kind::UserData => parts.user_data = number(token)?,
-            Kind::Flags => parts.flags = flag_bits(token)?,
-            Kind::File => parts.fd = file(token)?,
-            Kind::Offset => parts.off = number(token)?,
-            Kind::Length => parts.len = small_number(token)?,
-            Kind::Target => parts.target = number(token)?,
-            Kind::Data => parts.bytes = data(token)?,
-            Kind::Bytes => parts.bytes = entry_bytes(token)?,
-            Kind::Slot | Kind::Word | Kind::Count | Kind::Number => return None,
+            TokenKind::Code => parts.code = operation(token)?,
+            TokenKind::UserData => parts.user_data = number(token)?,
+            TokenKind::Flags => parts.flags = flag_bits(token)?,
+            TokenKind::File => parts.fd = file(token)?,
+            TokenKind::Offset => parts.off = number(token)?,
+            TokenKind::Length => parts.len = small_number(token)?,
+            TokenKind::Target => parts.target = number(token)?,
+            TokenKind::Data => parts.bytes = data(token)?,
+            TokenKind::Bytes => parts.bytes = entry_bytes(token)?,
+            TokenKind::Slot | TokenKind::Word | TokenKind::Count | TokenKind::Number => return None,
         }
         Some(parts)
     }

@@ -10,7 +10,7 @@ use crate::number_tokens::{file, number, operation, small_number};
 
 /// A kind of token that stands for a value.
 #[derive(Clone, Copy)]
-pub enum Kind {
+pub enum TokenKind {
     /// A slot's number.
     Slot,
 
@@ -64,7 +64,7 @@ pub enum Place {
     Shown,
 
     /// A token of this kind.
-    Token(Kind),
+    Token(TokenKind),
 
     /// ` = ` and an answer, after a step.
     Answer,
@@ -78,38 +78,42 @@ pub enum Place {
 
 /// Whether a token is of a kind.
 #[tactic(auto, unfolding(crate::specs::Places::is_of_kind))]
-pub fn is_of_kind(kind: Kind, token: &[u8]) -> bool
+pub fn is_of_kind(kind: TokenKind, token: &[u8]) -> bool
     ensures { result ≡ is_of_kind kind token.now }
 {
     match kind {
-        Kind::Slot | Kind::Word | Kind::Count | Kind::Length => small_number(token).is_some(),
-        Kind::Number | Kind::UserData | Kind::Target | Kind::Offset => number(token).is_some(),
-        Kind::Code => operation(token).is_some(),
-        Kind::Flags => flag_bits(token).is_some(),
-        Kind::File => file(token).is_some(),
-        Kind::Data => data(token).is_some(),
-        Kind::Bytes => entry_bytes(token).is_some(),
+        TokenKind::Slot | TokenKind::Word | TokenKind::Count | TokenKind::Length => small_number(
+            token,
+        ).is_some(),
+        TokenKind::Number | TokenKind::UserData | TokenKind::Target | TokenKind::Offset => number(
+            token,
+        ).is_some(),
+        TokenKind::Code => operation(token).is_some(),
+        TokenKind::Flags => flag_bits(token).is_some(),
+        TokenKind::File => file(token).is_some(),
+        TokenKind::Data => data(token).is_some(),
+        TokenKind::Bytes => entry_bytes(token).is_some(),
     }
 }
 
 /// The words for a kind of token.
-pub(crate) fn kind_text(kind: Kind) -> &'static str
+pub(crate) fn kind_text(kind: TokenKind) -> &'static str
     ensures { result.now ≡ kind_text kind }
 {
     match kind {
-        Kind::Slot => "SLOT, a number up to 4294967295",
-        Kind::Word => "WORD, a number up to 4294967295",
-        Kind::Count => "COUNT, a number up to 4294967295",
-        Kind::Number => "NUM, a number up to 18446744073709551615",
-        Kind::UserData => "UD, a number up to 18446744073709551615",
-        Kind::Target => "TARGET, a number up to 18446744073709551615",
-        Kind::Code => "CODE, a number up to 255",
-        Kind::Flags => "FLAGS, - or letters of DLHAS, each at most once",
-        Kind::File => "FD, a number from -2147483648 to 2147483647",
-        Kind::Offset => "OFF, a number up to 18446744073709551615",
-        Kind::Length => "LEN, a number up to 4294967295",
-        Kind::Data => "HEX, - or 1 to 64 bytes as two lower case hexadecimal digits each",
-        Kind::Bytes => "RAW, 256 lower case hexadecimal digits",
+        TokenKind::Slot => "SLOT, a number up to 4294967295",
+        TokenKind::Word => "WORD, a number up to 4294967295",
+        TokenKind::Count => "COUNT, a number up to 4294967295",
+        TokenKind::Number => "NUM, a number up to 18446744073709551615",
+        TokenKind::UserData => "UD, a number up to 18446744073709551615",
+        TokenKind::Target => "TARGET, a number up to 18446744073709551615",
+        TokenKind::Code => "CODE, a number up to 255",
+        TokenKind::Flags => "FLAGS, - or letters of DLHAS, each at most once",
+        TokenKind::File => "FD, a number from -2147483648 to 2147483647",
+        TokenKind::Offset => "OFF, a number up to 18446744073709551615",
+        TokenKind::Length => "LEN, a number up to 4294967295",
+        TokenKind::Data => "HEX, - or 1 to 64 bytes as two lower case hexadecimal digits each",
+        TokenKind::Bytes => "RAW, 256 lower case hexadecimal digits",
     }
 }
 

@@ -4,7 +4,7 @@ ghost use Rattle.std.specs.Prelude.{◌≡◌, ◌+◌, ◌<◌, ◌≤◌, ◌^
 ghost use Rattle.uring_text.specs.Reaches.{reach_at, further, ending, kinds_reach, entry_reach};
 
 use crate::forms::Name;
-use crate::place::{Kind, Place, is_of_kind};
+use crate::place::{Place, TokenKind, is_of_kind};
 use crate::tokens::is_name;
 
 /// How many tokens of a line fit, from the first on, and what may stand after them.
@@ -38,7 +38,7 @@ impl Reach {
 }
 
 /// How far tokens fit these kinds, one each, with nothing after them.
-pub fn kinds_reach(kinds: &[Kind], tokens: &[&[u8]]) -> Reach
+pub fn kinds_reach(kinds: &[TokenKind], tokens: &[&[u8]]) -> Reach
     ensures reach { result ≡ kinds_reach kinds.now (map (λ token. token.now) tokens.now) }
     ensures few { result.tokens ≤ length tokens.now }
 {

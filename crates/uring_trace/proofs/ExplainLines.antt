@@ -6,7 +6,7 @@ use Rattle.std.specs.List.{list_any}
 use Rattle.uring_entry.specs.Setup.{Setup}
 use Rattle.uring_machine.specs.Settling.{AreUnrefused}
 use Rattle.uring_core.specs.declared.answer.Answer.{Answer}
-use Rattle.uring_dispatch.specs.declared.answers.Found.{Found}
+use Rattle.uring_dispatch.specs.declared.answers.CancelFound.{CancelFound}
 use Rattle.uring_trace.specs.Reasons.{kept_reason, reason_text}
 use Rattle.uring_trace.specs.Text.{text_of}
 use Rattle.uring_trace.specs.declared.reason_text.Reason.{Reason}
@@ -22,7 +22,7 @@ pub if_ok_both : {T E : Type 0} (r : Result T E) (P Q R : T → Type 0) → ((x 
     → IfOk r P → IfOk r Q → IfOk r R
 if_ok_both r P Q R f a b = grind arith
 
-pub line_reasoned : (before one two three four : List ℕ) (answer : Answer) (why w : Option Why) (found f : Option Found) (kept : Option Reason) (chosen c : Option (List ℕ))
+pub line_reasoned : (before one two three four : List ℕ) (answer : Answer) (why w : Option Why) (found f : Option CancelFound) (kept : Option Reason) (chosen c : Option (List ℕ))
     → one ≡ before ++ text_of answer → two ≡ one ++ reason_text kept
     → three ≡ two ++ after_text chosen → four ≡ ended three
     → kept ≡ kept_reason answer why found → why ≡ w → found ≡ f → chosen ≡ c

@@ -6,8 +6,8 @@ use Rattle.uring_text.specs.Tokens.{tokens_of}
 use Rattle.uring_text.specs.Places.{is_of_kind}
 use Rattle.uring_text.specs.Reaches.{reach_at, further, named_reach, entry_reach}
 use Rattle.uring_text.specs.Flaws.{flaw_text}
-use Rattle.uring_text.specs.declared.place.Kind.{Kind}
-use Rattle.uring_text.specs.declared.place.Kind.TheVariants as kind
+use Rattle.uring_text.specs.declared.place.TokenKind.{TokenKind}
+use Rattle.uring_text.specs.declared.place.TokenKind.TheVariants as kind
 use Rattle.uring_text.specs.declared.place.Place.{Place}
 use Rattle.uring_text.specs.declared.place.Place.TheVariants as place
 use Rattle.uring_text.specs.declared.reach.Reach.{Reach}
@@ -30,7 +30,7 @@ step_reach (name ∷ tokens) =
     named_reach place.Step (option_map kinds_of (step_named name)) tokens
 
 -- the kinds of the tokens after the name of what is to be shown
-abbrev pub shown_kinds : List ℕ → Option (List Kind)
+abbrev pub shown_kinds : List ℕ → Option (List TokenKind)
 shown_kinds name =
     if bytes_eq name (codes "counts") || bytes_eq name (codes "sizes") || bytes_eq name (codes "overflow") || bytes_eq name (codes "requests") then Some [] else
     if bytes_eq name (codes "why") then Some (kind.Number ∷ []) else

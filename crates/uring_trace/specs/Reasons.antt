@@ -12,8 +12,8 @@ use Rattle.uring_entry.specs.declared.why.Doom.{Doom}
 use Rattle.uring_entry.specs.declared.why.Doom.TheVariants.{OwnFault, FaultOf, FailureOf, Cancel, RefusedDrain}
 use Rattle.uring_entry.specs.declared.why.Since.{Since}
 use Rattle.uring_entry.specs.declared.why.Since.TheVariants.{SameGroup, ItDrains, OwnDrains, Deferred}
-use Rattle.uring_dispatch.specs.declared.answers.Found.{Found}
-use Rattle.uring_dispatch.specs.declared.answers.Found.TheVariants.{Nobody, Running, Chosen}
+use Rattle.uring_dispatch.specs.declared.answers.CancelFound.{CancelFound}
+use Rattle.uring_dispatch.specs.declared.answers.CancelFound.TheVariants.{Nobody, Running, Chosen}
 use Rattle.uring_core.specs.World.{World, requests_of}
 use Rattle.uring_core.specs.declared.step.Step.{Step}
 use Rattle.uring_core.specs.declared.step.Step.TheVariants as step
@@ -30,7 +30,7 @@ asked is_linux l (step.Finish n) = Some (why_of is_linux l n)
 asked is_linux l _ = None
 
 -- what the request that a step issues would find
-abbrev pub sought : (is_linux : Bool) → Requests → Step → Option Found
+abbrev pub sought : (is_linux : Bool) → Requests → Step → Option CancelFound
 sought is_linux r (step.Issue n) = found_by is_linux r n
 sought is_linux r _ = None
 
@@ -38,17 +38,17 @@ abbrev pub standing : Option Why → Option Reason
 standing (Some why) = Some (Stands why)
 standing None = None
 
-abbrev pub finding : Option Found → Option Reason
+abbrev pub finding : Option CancelFound → Option Reason
 finding (Some found) = Some (Finds found)
 finding None = None
 
 -- what is told of an end: what doomed the request, or else what the cancel of one request found
-abbrev pub end_reason : Option Why → Option Found → Option Reason
+abbrev pub end_reason : Option Why → Option CancelFound → Option Reason
 end_reason (Some (IsDoomed doom)) found = Some (Stands (IsDoomed doom))
 end_reason _ found = finding found
 
 -- what of these is told after this answer: of one that runs already nothing
-abbrev pub kept_reason : Answer → Option Why → Option Found → Option Reason
+abbrev pub kept_reason : Answer → Option Why → Option CancelFound → Option Reason
 kept_reason (answer.Ended res bytes) why found = end_reason why found
 kept_reason answer.Running why found = None
 kept_reason _ why found = standing why
@@ -85,7 +85,7 @@ why_text (IsDoomed doom) = codes "doomed: " ++ doom_text doom
 why_text (Waits m since) = codes "waits for " ++ decimal m ++ codes ": " ++ since_text m since
 why_text MayStart = codes "waits for nobody"
 
-abbrev pub found_text : Found → List ℕ
+abbrev pub found_text : CancelFound → List ℕ
 found_text Nobody = codes "found none"
 found_text (Running m) = numbered m (codes " is running")
 found_text (Chosen m) = codes "chose " ++ decimal m

@@ -5,8 +5,8 @@ use Rattle.uring_core.specs.declared.step.Step.{Step}
 use Rattle.uring_core.specs.declared.step.Step.TheVariants as step
 use Rattle.uring_text.specs.Tokens.{tokens_of}
 use Rattle.uring_text.specs.Forms.{SpellsEntry}
-use Rattle.uring_text.specs.declared.place.Kind.{Kind}
-use Rattle.uring_text.specs.declared.place.Kind.TheVariants as kind
+use Rattle.uring_text.specs.declared.place.TokenKind.{TokenKind}
+use Rattle.uring_text.specs.declared.place.TokenKind.TheVariants as kind
 
 -- what a step is called
 abbrev pub name_of : Step → List ℕ
@@ -32,7 +32,7 @@ steps =
     step.Index 0 ∷ step.StoreTail ∷ step.LoadHead ∷ step.Begin 0 ∷ step.Take ∷ step.End ∷ step.Issue 0 ∷ step.Finish 0 ∷ step.Flush ∷ step.LoadCqTail ∷ step.Reap ∷ step.StoreCqHead ∷ step.Close ∷ step.Next ∷ []
 
 -- the kinds of the tokens after the name of a step, but for those of an entry
-abbrev pub kinds_of : Step → List Kind
+abbrev pub kinds_of : Step → List TokenKind
 kinds_of (step.Fill slot entry) = kind.Slot ∷ []
 kinds_of (step.Index word) = kind.Word ∷ []
 kinds_of (step.Begin count) = kind.Count ∷ []

@@ -7,7 +7,7 @@ ghost use Rattle.uring_trace.specs.Flaws.{fill_reach, step_reach, shown_kinds, s
 use crate::step_lines::{kinds_of, step_named};
 use std::alloc::{AllocError, Global};
 use uring_text::{
-    KeptLine, Kind, Place, Reach, TextMemory, entry_reach, is_name, is_of_kind, kinds_reach,
+    KeptLine, Place, Reach, TextMemory, TokenKind, entry_reach, is_name, is_of_kind, kinds_reach,
     push_flaw_in, push_text, split_tokens_in,
 };
 
@@ -104,8 +104,8 @@ fn fill_reach(tokens: &[&[u8]]) -> Reach
     ensures few { result.tokens ≤ length tokens.now }
 {
     match tokens.split_first() {
-        Some((slot, tokens)) if is_of_kind(Kind::Slot, slot) => entry_reach(tokens).further(),
-        _ => Reach::at(Place::Token(Kind::Slot)),
+        Some((slot, tokens)) if is_of_kind(TokenKind::Slot, slot) => entry_reach(tokens).further(),
+        _ => Reach::at(Place::Token(TokenKind::Slot)),
     }
 }
 
@@ -135,7 +135,7 @@ fn shown_reach(tokens: &[&[u8]]) -> Reach
 }
 
 /// The kinds of the tokens after the name of what is to be shown.
-fn shown_kinds(name: &[u8]) -> Option<&'static [Kind]>
+fn shown_kinds(name: &[u8]) -> Option<&'static [TokenKind]>
     ensures { option_map (λ kinds. kinds.now) result ≡ shown_kinds name.now }
 {
     match name {
@@ -144,8 +144,8 @@ fn shown_kinds(name: &[u8]) -> Option<&'static [Kind]>
                 || is_name(name, "sizes")
                 || is_name(name, "overflow")
                 || is_name(name, "requests") => { Some(&[]) }
-        _ if is_name(name, "why") => Some(&[Kind::Number]),
-        _ if is_name(name, "file") => Some(&[Kind::File]),
+        _ if is_name(name, "why") => Some(&[TokenKind::Number]),
+        _ if is_name(name, "file") => Some(&[TokenKind::File]),
         _ => None,
     }
 }

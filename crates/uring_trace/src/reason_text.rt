@@ -8,7 +8,7 @@ ghost use Rattle.uring_machine.specs.Machine.{Fits};
 ghost use Rattle.uring_trace.specs.Reasons.{asked, sought, kept_reason, reason_text, why_text, found_text, doom_text, since_text};
 
 use std::alloc::AllocError;
-use uring_machine::{Answer, Doom, Fault, Found, Machine, Since, Step, Why};
+use uring_machine::{Answer, CancelFound, Doom, Fault, Machine, Since, Step, Why};
 use uring_text::Term::{Named, Number, Text};
 use uring_text::{TextMemory, push_named, push_terms, push_text};
 
@@ -19,7 +19,7 @@ pub enum Reason {
     Stands(Why),
 
     /// What the cancel that was carried out found.
-    Finds(Found),
+    Finds(CancelFound),
 }
 
 /// Why the request that a step issues or finishes stands as it does, asked before the step.
@@ -34,7 +34,7 @@ pub(crate) fn ask(machine: &Machine, step: &Step) -> Option<Why>
 }
 
 /// What the request that a step issues would find, asked before the step.
-pub(crate) fn seek(machine: &Machine, step: &Step) -> Option<Found>
+pub(crate) fn seek(machine: &Machine, step: &Step) -> Option<CancelFound>
     ensures { (h : History) → Fits machine.now h
         → result ≡ sought machine.now.core.setup.linux (world machine.now.core.setup h).requests step.now }
 {
@@ -45,7 +45,7 @@ pub(crate) fn seek(machine: &Machine, step: &Step) -> Option<Found>
 }
 
 /// What of these is told after an answer: of an end what doomed the request, or else what the cancel found.
-pub(crate) fn keep(answer: &Answer, why: Option<Why>, found: Option<Found>) -> Option<Reason>
+pub(crate) fn keep(answer: &Answer, why: Option<Why>, found: Option<CancelFound>) -> Option<Reason>
     ensures { result ≡ kept_reason answer.now why found }
 {
     match answer {
@@ -82,7 +82,7 @@ pub(crate) fn push_reason<M: TextMemory>(
 }
 
 /// Appends what a cancel of one request found, as after an answer of `explain`.
-pub fn push_found(text: &mut String, found: Found) -> Result<(), AllocError>
+pub fn push_found(text: &mut String, found: CancelFound) -> Result<(), AllocError>
     ensures { OnOk result (string_bytes text.new ≡ string_bytes text.old ++ found_text found) }
 {
     let memory = *text.allocator();
@@ -93,15 +93,15 @@ pub fn push_found(text: &mut String, found: Found) -> Result<(), AllocError>
 pub fn push_found_in<M: TextMemory>(
     memory: &M,
     text: &mut String,
-    found: Found,
+    found: CancelFound,
 ) -> Result<(), AllocError>
     ensures bytes { OnOk result (string_bytes text.new ≡ string_bytes text.old ++ found_text found) }
     ensures granted { ((n : ℕ) → M.grants memory.now n) → IsOk result }
 {
     match found {
-        Found::Nobody => push_text(memory, text, "found none"),
-        Found::Running(m) => push_terms(memory, text, &[Number(m), Text(" is running")]),
-        Found::Chosen(m) => push_named(memory, text, "chose ", m),
+        CancelFound::Nobody => push_text(memory, text, "found none"),
+        CancelFound::Running(m) => push_terms(memory, text, &[Number(m), Text(" is running")]),
+        CancelFound::Chosen(m) => push_named(memory, text, "chose ", m),
     }
 }
 

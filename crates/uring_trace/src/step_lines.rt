@@ -13,7 +13,7 @@ use uring_core::same_step;
 use uring_machine::Step;
 use uring_memory::Memory;
 use uring_text::{
-    KeptLine, Kind, is_name, spelled_entry, spelled_long, spelled_number, split_tokens_in,
+    KeptLine, TokenKind, is_name, spelled_entry, spelled_long, spelled_number, split_tokens_in,
 };
 
 /// The step that a line is, if it is one, by this memory. A line of more than 300 bytes is none. If the memory grants whatever is asked for, there is no error.
@@ -156,14 +156,14 @@ pub(crate) fn step_named(name: &[u8]) -> Option<Step>
 }
 
 /// The kinds of the tokens after the name of a step, but for those of an entry.
-pub(crate) fn kinds_of(step: &Step) -> &'static [Kind]
+pub(crate) fn kinds_of(step: &Step) -> &'static [TokenKind]
     ensures { result.now ≡ spelling.kinds_of step.now }
 {
     match step {
-        Step::Fill { .. } => &[Kind::Slot],
-        Step::Index { .. } => &[Kind::Word],
-        Step::Begin { .. } => &[Kind::Count],
-        Step::Issue { .. } | Step::Finish { .. } => &[Kind::Number],
+        Step::Fill { .. } => &[TokenKind::Slot],
+        Step::Index { .. } => &[TokenKind::Word],
+        Step::Begin { .. } => &[TokenKind::Count],
+        Step::Issue { .. } | Step::Finish { .. } => &[TokenKind::Number],
         _ => &[],
     }
 }

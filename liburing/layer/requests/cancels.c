@@ -141,7 +141,7 @@ bool cancel_running(struct ring *ring, const struct request *cancel, int32_t *fo
 
 int32_t cancel_sought(struct ring *ring, const struct request *canceller, const struct wulgach_sought *sought)
 {
-    uint32_t where = wulgach_sought_file(sought);
+    uint32_t where = wulgach_file_sought(sought);
     struct file *file = where == WULGACH_SEEKS_SLOT ? use_file(ring, sought->fd) : NULL;
     bool is_there = file || (where == WULGACH_SEEKS_NUMBER && counts_as_open((int)sought->fd, false));
     int on = file ? file->fd : (int)sought->fd;

@@ -157,7 +157,7 @@ static bool cancel_after(struct ring *ring, const struct request *cancel, struct
 {
     struct wulgach_ended_cancel ended = {.is_cancel = cancel->mapping == CANCEL, .has_next = next, .linux_rules = ring->is_linux};
     for (;;)
-        switch ((enum wulgach_sought_after)wulgach_sought_after(&ended, *res)) {
+        switch ((enum wulgach_sought_after)wulgach_next_sought(&ended, *res)) {
         case WULGACH_SEEKS_RUNNING:
             ended.has_cancelled = cancel_running(ring, cancel, res);
             ended.has_looked = true;

@@ -35,7 +35,7 @@ static void log_sync(struct event *event, const char *path, const struct io_urin
     compare_memory();
     event->kind = EVENT_SYNC;
     event->flags = entry->fsync_flags & IORING_FSYNC_DATASYNC ? IS_OF_DATA : 0;
-    if (wulgach_synced_bytes(submission_of(entry), &bytes)) {
+    if (wulgach_synced_bytes_of(submission_of(entry), &bytes)) {
         event->flags |= IS_OF_RANGE;
         event->offset = (int64_t)bytes.begin;
         event->length = bytes.length;

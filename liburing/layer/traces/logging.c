@@ -51,7 +51,7 @@ void wulgach_seen_words_of_call(const struct wulgach_system_call *call, struct w
 
 void wulgach_seen_last_part(const uint8_t *path, size_t length, struct wulgach_last_part *part)
 {
-    wulgach_last_part(path, length, part);
+    wulgach_last_part_of(path, length, part);
 }
 
 bool wulgach_is_open_number(int fd)

@@ -49,7 +49,7 @@ static struct wulgach_slept_for find_slept_for(struct request *request)
 {
     struct wulgach_slept_for slept;
     bool shows = wulgach_asks_before_nap(&request->needs, request->vain) && is_ready(request);
-    wulgach_slept_for(&request->standing, &request->needs, request->vain, shows, asks_broken(request), &slept);
+    wulgach_sleep_effect(&request->standing, &request->needs, request->vain, shows, asks_broken(request), &slept);
     request->vain = slept.vain;
     return slept;
 }
@@ -100,7 +100,7 @@ static int sleep_on(struct sleeper *self, nfds_t count, const struct wulgach_lim
     struct epoll_event told;
     struct wulgach_limit lasts;
     bool has_instance = self->instance >= 0;
-    uint32_t call = wulgach_sleep_call(has_instance, has_instance ? enlist(self, count) : WULGACH_INSTANCE_TELLS, limit, &lasts);
+    uint32_t call = wulgach_sleep_call_of(has_instance, has_instance ? enlist(self, count) : WULGACH_INSTANCE_TELLS, limit, &lasts);
     if (call != WULGACH_SLEEPS_BY_POLL) {
         int came = epoll_pwait2(self->instance, &told, 1, time_of(&lasts, &time), signals);
         came = came < 0 ? -errno : came;

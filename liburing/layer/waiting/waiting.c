@@ -105,7 +105,7 @@ enum wulgach_reply_kind wait_for_any(struct ring *ring, const struct wulgach_lim
         waited.is_least = is_least;
     }
     *error = -waited.result;
-    return (enum wulgach_reply_kind)wulgach_waited(&waited);
+    return (enum wulgach_reply_kind)wulgach_reply_of_wait(&waited);
 }
 
 /* The timeout that ends if time passes at once. */

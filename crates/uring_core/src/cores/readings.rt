@@ -15,7 +15,7 @@ ghost use Rattle.uring_core.specs.StepAnswers.{begin_answer};
 
 use super::{Core, Counts};
 use crate::answer::Answer;
-use uring_dispatch::{Dispatch, Found};
+use uring_dispatch::{CancelFound, Dispatch};
 use uring_entry::{Cqe, Op, Setup, Sqe, Why};
 
 impl Core {
@@ -103,7 +103,7 @@ impl Core {
     }
 
     /// What the request of this number, any number, would find if it were carried out now: `Some` exactly if it is an outstanding cancel of one request, without a fault. It is no step, and so not part of a history.
-    pub fn would_find(&self, number: u64) -> Option<Found>
+    pub fn would_find(&self, number: u64) -> Option<CancelFound>
         ensures { (h : History) → FitsApart self.now h
             → result ≡ found_by self.now.setup.linux (world self.now.setup h).requests number }
     {

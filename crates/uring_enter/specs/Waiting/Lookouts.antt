@@ -1,7 +1,7 @@
 -- What a ring looks out for, by what has happened to it, the newest first: which of the requests that run are looked at again, whether what was written to pipes may be its own, and whether threads that sleep on it are woken. Our own rules: a request is looked at again once something has happened that can let it be finished. Requests that run stand by rising number, from place 0.
 use Rattle.std.specs.Prelude.{◌≡◌, ℕ, ◌+◌, ◌-◌, ◌<◌, min, Bool, true, false, not, ◌&&◌, ◌||◌, ◌==◌, nat_lt, ◌⊎◌, List, [], ◌∷◌, ◌++◌, if◌then◌else◌}
 use Rattle.uring_operations.specs.declared.entries.needs.Needs.{Needs}
-use Rattle.uring_operations.specs.declared.requests.ready.Standing.{Standing}
+use Rattle.uring_operations.specs.declared.requests.ready.RequestStanding.{RequestStanding}
 use Rattle.uring_operations.specs.declared.requests.ready.Moment.{Moment}
 use Rattle.uring_enter.specs.declared.waiting.lookout.EndOfOne.{EndOfOne}
 use Rattle.uring_enter.specs.declared.waiting.lookout.Lookout.{Lookout}
@@ -144,7 +144,7 @@ pub record KeepsLookout (log : List Happening) (l : Lookout) : Type 0 where
 
 -- what becomes of a request that runs and of the moment, where another ends, which drains or doesn't, in a ring by Linux's rules or by the manual pages': which descriptors are ready is as before, since an end changes none; who has found a buffer has found one still; a completion may be posted as drains say, and whether there is memory for it is as before; and a count is reached that was before, or that this end has reached
 pub record IsAfterEnd (log : List Happening) (drainages : List Drainage) (staged : ℕ) (linux has_memory is_draining : Bool) (end : EndOfOne)
-    (had_to_wait : Bool) (before after : Standing) (m l : Moment) : Type 0 where
+    (had_to_wait : Bool) (before after : RequestStanding) (m l : Moment) : Type 0 where
   pub told : end.has_drains ≡ not (drains.outstanding drainages == 0)
   pub waits : had_to_wait ≡ true → have_to_wait log ≡ true
   pub stream : after.is_stream ≡ before.is_stream
@@ -157,7 +157,7 @@ pub record IsAfterEnd (log : List Happening) (drainages : List Drainage) (staged
 -- an end that isn't told to let others be finished lets none: who couldn't be finished before can't be after it. So no request is passed over that could go on
 abbrev pub EndLetsNone : Type 0
 EndLetsNone = (log : List Happening) (drainages : List Drainage) (staged : ℕ) (linux has_memory is_draining : Bool) (end : EndOfOne)
-    (had_to_wait has_to_wait : Bool) (before after : Standing) (n : Needs) (is_cancelled : Bool) (m l : Moment)
+    (had_to_wait has_to_wait : Bool) (before after : RequestStanding) (n : Needs) (is_cancelled : Bool) (m l : Moment)
     → IsAfterEnd log drainages staged linux has_memory is_draining end had_to_wait before after m l
     → lets_others log end ≡ false
     → can_finish before n had_to_wait is_cancelled m ≡ false

@@ -3,7 +3,7 @@ use Rattle.std.specs.Prelude.{◌≡◌, ℕ, ℤ, pos, negsuc, Bool, true, fals
 use Rattle.std.specs.Ordering.{int_eq}
 use Rattle.uring_entry.specs.Errors.{error}
 use Rattle.uring_operations.specs.declared.entries.needs.Needs.{Needs}
-use Rattle.uring_operations.specs.declared.requests.ready.Standing.{Standing}
+use Rattle.uring_operations.specs.declared.requests.ready.RequestStanding.{RequestStanding}
 use Rattle.uring_enter.specs.declared.waiting.sleeping.Beginning.{Beginning}
 use Rattle.uring_enter.specs.declared.waiting.sleeping.Beginning.TheVariants.{Fails, Wakes, Sleeps}
 use Rattle.uring_enter.specs.declared.waiting.sleeping.SleptFor.{SleptFor}
@@ -55,7 +55,7 @@ abbrev pub vain_after : Needs → (vain : ℕ) (is_ready : Bool) → ℕ
 vain_after n vain is_ready = if asks_before_nap n vain && not is_ready then 0 else vain
 
 -- a sleep polls the descriptor of each request that may have to wait for it, but for whom it naps; and it naps beside the poll for one of whose socket poll(2) doesn't tell that it was shut down for writing. Others it is without. Our own rule
-abbrev pub slept_for : Standing → Needs → (vain : ℕ) (is_ready asks_broken : Bool) → SleptFor
+abbrev pub slept_for : RequestStanding → Needs → (vain : ℕ) (is_ready asks_broken : Bool) → SleptFor
 slept_for s n vain is_ready asks_broken = record {
   vain = vain_after n vain is_ready;
   is_polled = polls s && not (naps_for n vain is_ready);
@@ -64,7 +64,7 @@ slept_for s n vain is_ready asks_broken = record {
 
 -- where it isn't asked whether a descriptor shows ready, the sleep is the same
 abbrev pub NapsAlikeUnasked : Type 0
-NapsAlikeUnasked = (s : Standing) (n : Needs) (vain : ℕ) (asks_broken : Bool) → asks_before_nap n vain ≡ false
+NapsAlikeUnasked = (s : RequestStanding) (n : Needs) (vain : ℕ) (asks_broken : Bool) → asks_before_nap n vain ≡ false
     → slept_for s n vain true asks_broken ≡ slept_for s n vain false asks_broken
 
 -- a sleep is woken by whatever it waits for if it naps for no request, and has a descriptor by which another thread wakes it. Our own rule

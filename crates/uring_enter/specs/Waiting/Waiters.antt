@@ -5,7 +5,7 @@ use Rattle.uring_enter.specs.declared.waiting.pipe_poll.PipePoll.{PipePoll}
 use Rattle.uring_operations.specs.declared.requests.ready.Look.{Look}
 use Rattle.uring_operations.specs.declared.requests.ready.Look.TheVariants as look
 use Rattle.uring_operations.specs.declared.requests.ready.Moment.{Moment}
-use Rattle.uring_operations.specs.declared.requests.ready.Standing.{Standing}
+use Rattle.uring_operations.specs.declared.requests.ready.RequestStanding.{RequestStanding}
 use Rattle.uring_enter.specs.declared.waiting.sighting.Sighting.{Sighting}
 use Rattle.uring_enter.specs.declared.waiting.sighting.Sighting.TheVariants.{Ready, Unready, Unseen}
 use Rattle.uring_enter.specs.declared.waiting.waiter.Waiter.{Waiter}
@@ -61,7 +61,7 @@ is_known (Around h ∷ earlier) = not (renews (around earlier) h) && is_known ea
 is_known (_ ∷ earlier) = is_known earlier
 
 -- what is asked of it next, or whether it can be finished, by what it is and whether a cancel has found it. One that is known to wait isn't asked
-abbrev pub look_of : List Encounter → Standing → Needs → (is_cancelled : Bool) → Moment → Look
+abbrev pub look_of : List Encounter → RequestStanding → Needs → (is_cancelled : Bool) → Moment → Look
 look_of log s n is_cancelled m =
     if is_known log then look.Waits else ready.look_of s n (has_to_wait log) is_cancelled m
 

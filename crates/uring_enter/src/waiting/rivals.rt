@@ -4,10 +4,10 @@ ghost use Rattle.std.specs.Prelude.{◌≡◌};
 ghost use Rattle.uring_enter.specs.Waiting.Rivals as spec;
 ghost use Rattle.uring_enter.specs.Waiting.Rivals.{AsksWhereItMatters};
 
-use uring_operations::{Needs, Standing};
+use uring_operations::{Needs, RequestStanding};
 
 /// Whether an operation may take what polls wait for: it may have to wait for its descriptor until there is something to be read, or room to be written to, and is no poll.
-pub fn may_take(standing: &Standing, needs: &Needs) -> bool
+pub fn may_take(standing: &RequestStanding, needs: &Needs) -> bool
     ensures { result ≡ spec.may_take standing.now needs.now }
 {
     standing.is_stream && !needs.is_poll && needs.events & 5 != 0

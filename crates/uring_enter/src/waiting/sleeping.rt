@@ -4,7 +4,7 @@ ghost use Rattle.std.specs.Prelude.{◌≡◌};
 ghost use Rattle.uring_enter.specs.Waiting.Sleeping as spec;
 ghost use Rattle.uring_enter.specs.Waiting.Sleeping.{NapsAlikeUnasked};
 
-use uring_operations::{Needs, Standing, polls};
+use uring_operations::{Needs, RequestStanding, polls};
 
 /// Whether a sleep begins.
 #[derive(Clone, Copy, Drop)]
@@ -134,7 +134,7 @@ pub fn asks_before_nap(needs: &Needs, vain: u32) -> bool
 
 /// What a sleep does for a request that runs, was carried out so often in vain, whose descriptor shows ready or doesn't, and of whose socket a poll(2) doesn't tell that it was shut down for writing, or does.
 pub fn slept_for(
-    standing: &Standing,
+    standing: &RequestStanding,
     needs: &Needs,
     vain: u32,
     is_ready: bool,

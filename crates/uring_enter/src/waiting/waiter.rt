@@ -8,7 +8,7 @@ ghost use Rattle.uring_enter.specs.Waiting.Waiters.{Encounter, WouldWait, WasCan
 ghost use Rattle.uring_enter.specs.Waiting.Waiters as spec;
 
 use crate::waiting::lookout::Lookout;
-use uring_operations::{Course, Look, Moment, Needs, Standing, next_look};
+use uring_operations::{Course, Look, Moment, Needs, RequestStanding, next_look};
 
 /// What is known of a request that runs.
 #[repr(C)]
@@ -68,7 +68,7 @@ impl Waiter {
     pub fn look(
         &mut self,
         lookout: &Lookout,
-        standing: &Standing,
+        standing: &RequestStanding,
         needs: &Needs,
         course: &Course,
         known: &Moment,

@@ -19,6 +19,7 @@ ghost use Rattle.uring_ffi_values.specs.Cores.Stepping.{TellsStepApart, TellsFin
 
 use std::alloc::Global;
 use uring_core::StepWords;
+use uring_entry::errno;
 use uring_ffi_values::answer_words::{AnswerWords, answer_words};
 use uring_ffi_values::completion_words::{CompletionWords, OutcomeBytes, completion_words};
 use uring_ffi_values::core_memory::{core_new_in, core_step_in};
@@ -27,7 +28,6 @@ use uring_ffi_values::count_words::{CountWords, count_words};
 use uring_ffi_values::operation_words::{OperationWords, operation_words};
 use uring_ffi_values::set_up_words::SetupWords;
 use uring_ffi_values::why_words::{WhyWords, why_words};
-use uring_entry::errno;
 use uring_machine::Outcome;
 
 /// Puts a new core into a place; what was there is freed. How many files the set-up asks for doesn't count. -22 (EINVAL) exactly if the rest of it is refused; -12 (ENOMEM) if memory is. Then the place keeps what it had.

@@ -6,9 +6,9 @@ ghost use Rattle.uring_ffi_values.specs.Boxes.Places.{core_in};
 ghost use Rattle.uring_ffi_values.specs.Cores.Stepping.{TellsKind, TellsEnd, no_bytes};
 
 use std::alloc::Global;
+use uring_entry::errno;
 use uring_ffi_values::answer_words::{kind as kind_of, res as res_of};
 use uring_ffi_values::core_place::CorePlace;
-use uring_entry::errno;
 use uring_machine::{Outcome, Step};
 
 /// Has the core let the request of this number start, or end it, and writes the kind of the answer, and its result, or 0. -9 exactly at an empty place; then nothing is written.

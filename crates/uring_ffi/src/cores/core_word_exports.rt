@@ -6,9 +6,9 @@ ghost use Rattle.uring_ffi_values.specs.Boxes.Places.{core_in};
 ghost use Rattle.uring_ffi_values.specs.Cores.Stepping.{TellsWord, TellsNumber};
 
 use std::alloc::Global;
+use uring_entry::errno;
 use uring_ffi_values::answer_words::{kind as kind_of, number as number_of, word as word_of};
 use uring_ffi_values::core_place::CorePlace;
-use uring_entry::errno;
 use uring_machine::Step;
 
 /// Has the application load the completion ring's tail, and writes the kind of the answer, and its word, or 0. -9 exactly at an empty place; then nothing is written.

@@ -22,6 +22,7 @@ ghost use Rattle.uring_ffi_values.specs.Cores.Stepping.{TellsStep};
 
 use std::alloc::Global;
 use uring_core::StepWords;
+use uring_entry::errno;
 use uring_ffi_values::answer_words::AnswerWords;
 use uring_ffi_values::completion_words::{CompletionWords, completion_words};
 use uring_ffi_values::count_words::{CountWords, count_words};
@@ -31,7 +32,6 @@ use uring_ffi_values::operation_words::{OperationWords, operation_words};
 use uring_ffi_values::set_up_words::SetupWords;
 use uring_ffi_values::state_words::{StateWords, state_words};
 use uring_ffi_values::why_words::{WhyWords, why_words};
-use uring_entry::errno;
 
 /// Puts a new machine into a place; what was there is freed. -22 (EINVAL) exactly if the set-up is refused; -12 (ENOMEM) if memory is. Then the place keeps what it had.
 #[unsafe(no_mangle)]

@@ -11,13 +11,13 @@ ghost use Rattle.uring_ffi_values.specs.Boxes.Places.{outcomes_in};
 ghost use Rattle.uring_ffi_values.specs.CoreWords.ReadingForms.{words_of_state};
 
 use std::alloc::Global;
+use uring_entry::errno;
 use uring_ffi_values::completion_words::CompletionWords;
 use uring_ffi_values::outcomes_memory::outcomes_new_in;
 use uring_ffi_values::outcomes_place::OutcomesPlace;
 use uring_ffi_values::set_up_words::SetupWords;
 use uring_ffi_values::state_words::{StateWords, state_words};
 use uring_ffi_values::whole_call_memory::EntryWords;
-use uring_entry::errno;
 
 /// Puts everything that calls may come to into a place, each once, and writes whether that is all: a walk takes at most so many paths, and what it has found by then is right. The entries of all calls are given one after another, with the length of each call. -22 (EINVAL) exactly if the set-up is refused, asks for a ring that stops after an entry with a fault or for Linux's rules, or a call has more entries than the submission ring; -12 (ENOMEM) if memory is refused. Then the place keeps what it had.
 #[unsafe(no_mangle)]

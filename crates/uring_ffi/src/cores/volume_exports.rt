@@ -13,12 +13,12 @@ ghost use Rattle.uring_volume.specs.Writes.{Write};
 ghost use Rattle.uring_volume.specs.Folds.{IsFoldable, IsFoldedFrom};
 
 use std::alloc::Global;
+use uring_entry::errno;
 use uring_ffi_values::volume_memory::{
     volume_begin_sync_in, volume_begin_write_in, volume_contents_in, volume_count_images_in,
     volume_crash_in, volume_fold_in, volume_images_in, volume_new_in,
 };
 use uring_ffi_values::volume_place::VolumePlace;
-use uring_entry::errno;
 use uring_volume::SyncRange;
 
 /// Puts a new volume into a place, with units of so many bytes and these first bytes; what was there is freed. -22 (EINVAL) exactly if a unit has no byte; -12 (ENOMEM) if memory is refused. Then the place keeps what it had.

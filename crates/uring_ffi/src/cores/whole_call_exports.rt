@@ -5,12 +5,12 @@ ghost use Rattle.uring_ffi_values.specs.Boxes.Places.{core_in};
 ghost use Rattle.uring_ffi_values.specs.Cores.Whole.{TellsSubmit, TellsTaken, TellsReaped};
 
 use std::alloc::Global;
+use uring_entry::{Sqe, errno};
 use uring_ffi_values::answer_words::AnswerWords;
 use uring_ffi_values::completion_words::CompletionWords;
 use uring_ffi_values::core_place::CorePlace;
 use uring_ffi_values::taken_words::{TakenWords, taken_words};
 use uring_ffi_values::whole_call_memory::{EntryWords, core_reap_all_in, core_submit_in};
-use uring_entry::{Sqe, errno};
 
 /// Makes all steps of a submission call of these entries, and writes the answer. -12 (ENOMEM) if memory for a copy of the entries is refused, which a single one doesn't need; then nothing changes.
 #[unsafe(no_mangle)]

@@ -1,6 +1,6 @@
 -- Whether a request has to wait, and what becomes of a try, in words that C can read.
 use Rattle.std.specs.Prelude.{ℕ, ℤ, ◌==◌, Option, Some, None, List, ◌∷◌, if◌then◌else◌}
-use Rattle.uring_operations.specs.declared.files.descriptor.Kind.TheVariants.{Never, AtOnce, Tried, Stream, Wrong}
+use Rattle.uring_operations.specs.declared.files.descriptor.DescriptorKind.TheVariants.{Never, AtOnce, Tried, Stream, Wrong}
 use Rattle.uring_operations.specs.declared.files.descriptor.Question.TheVariants.{Status, Offsets, Access}
 use Rattle.uring_operations.specs.declared.files.descriptor.Finding.{Finding}
 use Rattle.uring_operations.specs.declared.files.descriptor.Finding.TheVariants as finding
@@ -20,7 +20,7 @@ use Rattle.uring_operations.specs.declared.calls.waiting_call.Doing.TheVariants 
 use Rattle.uring_operations.specs.declared.calls.waiting_call.Turn.{Turn}
 use Rattle.uring_operations.specs.declared.calls.waiting_call.Turn.TheVariants as turn
 
--- kinds count in the order of `Kind`, from 0, and questions in the order of `Question` after them. Our own rule
+-- kinds count in the order of `DescriptorKind`, from 0, and questions in the order of `Question` after them. Our own rule
 abbrev pub word_of_finding : Finding → ℕ
 word_of_finding (finding.Is Never) = 0
 word_of_finding (finding.Is AtOnce) = 1

@@ -3,18 +3,20 @@ ghost use Rattle.std.specs.Prelude.{◌≡◌};
 ghost use Rattle.uring_ffi_values.specs.LayerWords.WaitForm as spec;
 
 use uring_enter::Sighting;
-use uring_operations::{Doing, Finding, How, Kind, Look, Question, Step, Task, Turn, Wanted};
+use uring_operations::{
+    DescriptorKind, Doing, Finding, How, Look, Question, Step, Task, Turn, Wanted,
+};
 
 /// The word of what is to be asked of a descriptor, or of what the request is on it.
 pub fn finding_word(finding: Finding) -> u32
     ensures { result ≡ spec.word_of_finding finding }
 {
     match finding {
-        Finding::Is(Kind::Never) => 0,
-        Finding::Is(Kind::AtOnce) => 1,
-        Finding::Is(Kind::Tried) => 2,
-        Finding::Is(Kind::Stream) => 3,
-        Finding::Is(Kind::Wrong) => 4,
+        Finding::Is(DescriptorKind::Never) => 0,
+        Finding::Is(DescriptorKind::AtOnce) => 1,
+        Finding::Is(DescriptorKind::Tried) => 2,
+        Finding::Is(DescriptorKind::Stream) => 3,
+        Finding::Is(DescriptorKind::Wrong) => 4,
         Finding::Asks(Question::Status) => 5,
         Finding::Asks(Question::Offsets) => 6,
         Finding::Asks(Question::Access) => 7,

@@ -19,8 +19,8 @@ use crate::machines::crash_machine_place::CrashMachinePlace;
 use crate::volumes::volume_memory::{tell_count, tell_crash, tell_images};
 use std::alloc::Global;
 use uring_core::StepWords;
-use uring_entry::errno;
 use uring_crash_machine::CrashMachine;
+use uring_entry::errno;
 use uring_machine::Setup;
 use uring_memory::Memory;
 

@@ -12,7 +12,7 @@ use crate::outcomes::outcome_list::OutcomeList;
 use crate::outcomes::outcomes_place::OutcomesPlace;
 use std::alloc::{AllocError, Global};
 use uring_machine::{FileState, Setup, Sqe};
-use uring_outcomes::{Found, MapMemory, WalkFault, outcomes_within_in};
+use uring_outcomes::{EndingsFound, MapMemory, WalkFault, outcomes_within_in};
 
 impl OutcomesPlace {
     /// How many outcomes there are.
@@ -111,7 +111,7 @@ pub fn found_in<M: MapMemory>(
     ensures granted { ((n : ℕ) → M.grants memory.now n) → IsOk result }
 {
     match outcomes_within_in(memory, alloc, setup, calls, most) {
-        Ok(Found { endings, is_all }) => Ok(OutcomeList { endings, is_all }),
+        Ok(EndingsFound { endings, is_all }) => Ok(OutcomeList { endings, is_all }),
         Err(WalkFault::Memory) => Err(AllocError),
         Err(WalkFault::Spent) => unreachable!(),
         Err(WalkFault::Paths) => unreachable!(),

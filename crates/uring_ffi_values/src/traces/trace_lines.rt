@@ -11,7 +11,7 @@ use uring_core::StepWords;
 use uring_entry::{Sqe, errno};
 use uring_machine::{Answer, Step};
 use uring_text::Term::{Named, Operation, Signed, Text};
-use uring_text::{Kind, Name, TextMemory, push_hex, push_named, push_terms, push_text};
+use uring_text::{Name, TextMemory, TokenKind, push_hex, push_named, push_terms, push_text};
 use uring_trace::{push_answer_in, spells_in, step_name};
 
 /// What `wulgach_trace_line` does, by this memory. If it grants whatever is asked for, -12 isn't returned.
@@ -125,11 +125,11 @@ fn push_fields<M: TextMemory>(memory: &M, text: &mut String, entry: &Sqe) -> Res
     let kinds = name.kinds();
     for i in 0..kinds.len() {
         let pushed = match kinds[i] {
-            Kind::File => push_terms(memory, text, &[Text(" "), Signed(entry.fd())]),
-            Kind::Offset => push_named(memory, text, " ", entry.off()),
-            Kind::Length => push_named(memory, text, " ", u64::from(entry.len())),
-            Kind::Target => push_named(memory, text, " ", entry.addr()),
-            Kind::Data => push_data(memory, text, entry),
+            TokenKind::File => push_terms(memory, text, &[Text(" "), Signed(entry.fd())]),
+            TokenKind::Offset => push_named(memory, text, " ", entry.off()),
+            TokenKind::Length => push_named(memory, text, " ", u64::from(entry.len())),
+            TokenKind::Target => push_named(memory, text, " ", entry.addr()),
+            TokenKind::Data => push_data(memory, text, entry),
             _ => Ok(()),
         };
         if let Err(error) = pushed {

@@ -13,7 +13,7 @@ ghost use Rattle.uring_core.specs.World.{requests_of};
 ghost use Rattle.uring_core.specs.StepAnswers.{begin_answer};
 
 use super::Machine;
-use uring_core::{Answer, Core, Counts, Cqe, Found, Op, Setup, Why};
+use uring_core::{Answer, CancelFound, Core, Counts, Cqe, Op, Setup, Why};
 use uring_files::FileState;
 
 impl Machine {
@@ -127,7 +127,7 @@ impl Machine {
     }
 
     /// What the request of this number, any number, would find if it were carried out now: `Some` exactly if it is an outstanding cancel of one request, without a fault. It is no step, and so not part of a history.
-    pub fn would_find(&self, number: u64) -> Option<Found>
+    pub fn would_find(&self, number: u64) -> Option<CancelFound>
         ensures { (h : History) → Fits self.now h
             → result ≡ found_by self.now.core.setup.linux (world self.now.core.setup h).requests number }
     {

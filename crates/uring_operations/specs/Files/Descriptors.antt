@@ -7,8 +7,8 @@ use Rattle.uring_operations.specs.declared.files.descriptor.Nature.{Nature}
 use Rattle.uring_operations.specs.declared.files.descriptor.Directions.{Directions}
 use Rattle.uring_operations.specs.declared.files.descriptor.Known.{Known}
 use Rattle.uring_operations.specs.declared.files.descriptor.Trial.{Trial}
-use Rattle.uring_operations.specs.declared.files.descriptor.Kind.{Kind}
-use Rattle.uring_operations.specs.declared.files.descriptor.Kind.TheVariants.{Never, AtOnce, Tried, Stream, Wrong}
+use Rattle.uring_operations.specs.declared.files.descriptor.DescriptorKind.{DescriptorKind}
+use Rattle.uring_operations.specs.declared.files.descriptor.DescriptorKind.TheVariants.{Never, AtOnce, Tried, Stream, Wrong}
 use Rattle.uring_operations.specs.declared.files.descriptor.Question.{Question}
 use Rattle.uring_operations.specs.declared.files.descriptor.Question.TheVariants.{Status, Offsets, Access}
 use Rattle.uring_operations.specs.declared.files.descriptor.Finding.{Finding}
@@ -63,21 +63,21 @@ abbrev pub is_open_for : ℕ → Nature → Bool
 is_open_for code d = if is_read code then d.can_read else d.can_write
 
 -- a transfer waits on what has no offsets, as a pipe, and on a device; what isn't open for it never gets ready, and so it fails. A file never waits; but where it has no place there, its call would say that before it says that it isn't open for it
-abbrev pub transfer_on : Submission → Trial → Nature → Kind
+abbrev pub transfer_on : Submission → Trial → Nature → DescriptorKind
 transfer_on e t d =
     if d.is_file && may_be_tried e t then Tried else
     if not d.is_device && d.has_offsets && not (has_no_place e) then Never else
     if is_open_for e.opcode d then (if not d.is_device && d.has_offsets then Never else Stream) else Wrong
 
 -- an operation of sockets waits on a socket; on anything else it fails at once. What isn't open fails too
-abbrev pub kind_on : Submission → Trial → Nature → Kind
+abbrev pub kind_on : Submission → Trial → Nature → DescriptorKind
 kind_on e t d =
     if not d.is_open then Never else
     if is_transfer e.opcode then transfer_on e t d else
     if d.is_socket then Stream else Never
 
 -- whether an operation may have to wait, on a descriptor that is this: a poll and a splice may, whatever it is, and others never do
-abbrev pub kind_of : Submission → Trial → Nature → Kind
+abbrev pub kind_of : Submission → Trial → Nature → DescriptorKind
 kind_of e t d =
     if is_poll e.opcode || is_splice e.opcode then Stream else
     if is_tried_at_once e t then AtOnce else
@@ -121,7 +121,7 @@ pub record Fits (k : Known) (d : Nature) : Type 0 where
 
 -- whatever was asked before, what is told is what the request is by all that its descriptor is
 abbrev pub FindsTheKind : Type 0
-FindsTheKind = (e : Submission) (t : Trial) (k : Known) (d : Nature) (kind : Kind) → Fits k d
+FindsTheKind = (e : Submission) (t : Trial) (k : Known) (d : Nature) (kind : DescriptorKind) → Fits k d
     → next_of e t k ≡ Is kind → kind ≡ kind_of e t d
 
 -- what is made before its descriptor was asked what it is, and isn't asked not to wait, is made so because the user says that no device is read

@@ -2,7 +2,7 @@
 use Rattle.std.specs.Prelude.{◌≡◌, ℕ, ℤ, Bool, true, false, not, ◌&&◌, ◌||◌, ◌==◌, nat_lt, Option, Some, None}
 use Rattle.std.specs.Ordering.{int_eq}
 use Rattle.std.specs.Int.RustNames.{bit_and}
-use Rattle.uring_operations.specs.declared.requests.ready.Standing.{Standing}
+use Rattle.uring_operations.specs.declared.requests.ready.RequestStanding.{RequestStanding}
 use Rattle.uring_operations.specs.Entries.Clocks.{has_some}
 use Rattle.uring_operations.specs.Files.Descriptors.{directions_of}
 
@@ -11,7 +11,7 @@ abbrev pub keeps_before_close : (number : ℕ) → (fd : ℤ) → (closing : ℕ
 keeps_before_close number fd closing closed = nat_lt number closing && int_eq fd closed
 
 -- whether a request is given the copy of its file that was made for another right before: that one's was copied, and by the same number, which is one file's while copies are made one right after the other; and it hasn't to wait for its descriptor. Who waits has a copy of his own, by which an epoll instance tells of him alone
-abbrev pub shares_copy : Standing → (fd : ℤ) → (copied : Option ℤ) → Bool
+abbrev pub shares_copy : RequestStanding → (fd : ℤ) → (copied : Option ℤ) → Bool
 shares_copy s fd None = false
 shares_copy s fd (Some other) = int_eq other fd && not s.is_stream
 

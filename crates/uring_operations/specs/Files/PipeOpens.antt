@@ -7,7 +7,7 @@ use Rattle.uring_operations.specs.declared.files.pipe_open.Opening.TheVariants.{
 use Rattle.uring_operations.specs.declared.files.pipe_open.OpenHow.{OpenHow}
 use Rattle.uring_operations.specs.declared.files.pipe_open.OpeningStep.{OpeningStep}
 use Rattle.uring_operations.specs.declared.files.pipe_open.OpeningStep.TheVariants.{Ends, Waits, ByPath, ByLink, AsksWriter}
-use Rattle.uring_operations.specs.declared.requests.ready.Standing.{Standing}
+use Rattle.uring_operations.specs.declared.requests.ready.RequestStanding.{RequestStanding}
 use Rattle.uring_operations.specs.declared.entries.submission.Submission.{Submission}
 use Rattle.uring_operations.specs.Entries.Clocks.{has_some}
 use Rattle.uring_entry.specs.Errors.{error, is_below}
@@ -51,7 +51,7 @@ abbrev pub found_how : Submission → OpenHow → OpenHow
 found_how e how = record { flags = found_flags e how.flags; mode = how.mode; resolve = 0 }
 
 -- and one that names a pipe counts as a request that may have to wait for its descriptor, though it has none: so it runs, and is carried out again, until the other end is open. Our own rule
-abbrev pub standing_after_path : Standing → (names_pipe : Bool) → Standing
+abbrev pub standing_after_path : RequestStanding → (names_pipe : Bool) → RequestStanding
 standing_after_path s names_pipe = record s { is_stream = s.is_stream || names_pipe }
 
 -- none is polled for it: what its path begins at tells nothing of the pipe's other end, nor does any other descriptor

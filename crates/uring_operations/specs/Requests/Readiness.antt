@@ -3,7 +3,7 @@ use Rattle.std.specs.Prelude.{◌≡◌, ℕ, ℤ, pos, negsuc, Bool, true, fals
 use Rattle.std.specs.Ordering.{int_eq}
 use Rattle.uring_operations.specs.declared.entries.submission.Submission.{Submission}
 use Rattle.uring_operations.specs.declared.entries.needs.Needs.{Needs}
-use Rattle.uring_operations.specs.declared.requests.ready.Standing.{Standing}
+use Rattle.uring_operations.specs.declared.requests.ready.RequestStanding.{RequestStanding}
 use Rattle.uring_operations.specs.declared.requests.ready.Moment.{Moment}
 use Rattle.uring_operations.specs.declared.requests.ready.Patience.{Patience}
 use Rattle.uring_operations.specs.declared.requests.ready.SplicePoll.{SplicePoll}
@@ -19,11 +19,11 @@ use Rattle.uring_operations.specs.Entries.Clocks.{has_some}
 use Rattle.uring_operations.specs.Entries.Needs.{is_transfer, is_read, is_write, is_send, is_receive, is_of_sockets, is_splice, takes_urgent, takes_errors}
 
 -- one that is to take a provided buffer, and has found none since it started, ends so, whatever its descriptor has; but for one that is to be polled first, which counts as one that has found one. One that has found one waits for its descriptor, whatever becomes of that buffer: it takes what its group has then. So Linux 6.18 was seen to do
-abbrev pub finds_what_it_wants : Standing → Needs → Moment → Bool
+abbrev pub finds_what_it_wants : RequestStanding → Needs → Moment → Bool
 finds_what_it_wants s n m = n.selects && not s.has_found_buffer && not m.has_buffer || m.is_ready
 
 -- whether a request that runs, which has to wait or hasn't, and which a cancel has found or not, can be finished: one that a cancel has found can, whatever else is so; one that has to wait, since it would have waited, can't, which is our own rule; a timeout until its count is reached, since its time ends it by itself; any other, until its completion may be posted if it goes on, and its descriptor is ready if it may have to wait for that
-abbrev pub can_finish : Standing → Needs → (has_to_wait is_cancelled : Bool) → Moment → Bool
+abbrev pub can_finish : RequestStanding → Needs → (has_to_wait is_cancelled : Bool) → Moment → Bool
 can_finish s n has_to_wait is_cancelled m =
     if is_cancelled then true else
     if has_to_wait then false else
@@ -48,7 +48,7 @@ is_shut (negsuc below) events = false
 is_shut (pos n) events = not (n == 0) && has_some events 8192
 
 -- whether a call that sleeps polls the descriptor of a request that runs: it may have to wait for that
-abbrev pub polls : Standing → Bool
+abbrev pub polls : RequestStanding → Bool
 polls s = s.is_stream
 
 -- whether a request has found a file by a descriptor's number: it was looked for, nothing was amiss, and it needs one that is no slot's
@@ -56,11 +56,11 @@ abbrev pub has_found : Needs → (is_sought : Bool) → (fault : ℤ) → Bool
 has_found n is_sought fault = n.needs_file && not n.is_registered && is_sought && int_eq fault (pos 0)
 
 -- whether a request is to be given a descriptor of its own, since the application may close its: a kernel's request has its file from the moment in which it finds that. One that may have to wait has found it, and so has another as above; but who has a file that is kept for it, as that of a slot is, needs no other. Our own rule
-abbrev pub keeps_open : Standing → Needs → (is_sought : Bool) → (fault : ℤ) → (has_file : Bool) → Bool
+abbrev pub keeps_open : RequestStanding → Needs → (is_sought : Bool) → (fault : ℤ) → (has_file : Bool) → Bool
 keeps_open s n is_sought fault has_file = not has_file && (s.is_stream || has_found n is_sought fault)
 
 -- the same of its second descriptor, if it has one, as a splice has: the end that it waits for is either. `has_file`: a file is kept for that one
-abbrev pub keeps_second_open : Standing → Needs → (is_sought : Bool) → (fault : ℤ) → (has_file : Bool) → Bool
+abbrev pub keeps_second_open : RequestStanding → Needs → (is_sought : Bool) → (fault : ℤ) → (has_file : Bool) → Bool
 keeps_second_open s n is_sought fault has_file = n.needs_second && keeps_open s n is_sought fault has_file
 
 -- the same moment, where its descriptor is ready or isn't
@@ -78,12 +78,12 @@ with_descriptor m is_ready = record {
 
 -- a request that isn't polled is finished or not whatever its descriptor is: so a sleep misses none that its descriptor would let go on
 abbrev pub PollsWhatMatters : Type 0
-PollsWhatMatters = (s : Standing) (n : Needs) (has_to_wait is_cancelled : Bool) (m : Moment) → polls s ≡ false
+PollsWhatMatters = (s : RequestStanding) (n : Needs) (has_to_wait is_cancelled : Bool) (m : Moment) → polls s ≡ false
     → can_finish s n has_to_wait is_cancelled (with_descriptor m true)
     ≡ can_finish s n has_to_wait is_cancelled (with_descriptor m false)
 
 -- whether a request that runs, which a cancel has found or not, waits for its descriptor alone: it may have to wait for that one, is no timeout, and is to take no provided buffer, or has found one
-abbrev pub waits_for_descriptor_alone : Standing → Needs → (is_cancelled : Bool) → Bool
+abbrev pub waits_for_descriptor_alone : RequestStanding → Needs → (is_cancelled : Bool) → Bool
 waits_for_descriptor_alone s n is_cancelled =
     if is_cancelled then false else
     if n.is_timeout then false else
@@ -91,13 +91,13 @@ waits_for_descriptor_alone s n is_cancelled =
     if n.selects && not s.has_found_buffer then false else s.is_stream
 
 -- whether it becomes dormant, so that an epoll instance tells of it in the place of a look in each call: its descriptor was looked at and isn't ready, and the instance takes it. Our own rule
-abbrev pub lies_down : Standing → Needs → (is_cancelled is_unready is_refused : Bool) → Bool
+abbrev pub lies_down : RequestStanding → Needs → (is_cancelled is_unready is_refused : Bool) → Bool
 lies_down s n is_cancelled is_unready is_refused =
     is_unready && not is_refused && waits_for_descriptor_alone s n is_cancelled
 
 -- one that does can't be finished while its descriptor isn't ready, whatever else is so: it needn't be looked at until the kernel tells that it is
 abbrev pub NeedsNoLook : Type 0
-NeedsNoLook = (s : Standing) (n : Needs) (has_to_wait is_cancelled : Bool) (m : Moment)
+NeedsNoLook = (s : RequestStanding) (n : Needs) (has_to_wait is_cancelled : Bool) (m : Moment)
     → waits_for_descriptor_alone s n is_cancelled ≡ true
     → can_finish s n has_to_wait is_cancelled (with_descriptor m false) ≡ false
 
@@ -114,14 +114,14 @@ told finishes = if finishes then Finishes else Waits
 abbrev pub look_at_count : Moment → Look
 look_at_count m = if m.knows_count then told m.has_counted else Asks Count
 
-abbrev pub look_at_descriptor : Standing → Needs → Moment → Look
+abbrev pub look_at_descriptor : RequestStanding → Needs → Moment → Look
 look_at_descriptor s n m =
     if n.selects && not s.has_found_buffer && not m.knows_buffer then Asks Buffer else
     if n.selects && not s.has_found_buffer && not m.has_buffer then Finishes else
     if not m.knows_readiness then Asks Readiness else told m.is_ready
 
 -- what is asked next, or whether it can be finished: nothing is asked that doesn't matter. Our own rule
-abbrev pub look_of : Standing → Needs → (has_to_wait is_cancelled : Bool) → Moment → Look
+abbrev pub look_of : RequestStanding → Needs → (has_to_wait is_cancelled : Bool) → Moment → Look
 look_of s n has_to_wait is_cancelled m =
     if is_cancelled then Finishes else
     if has_to_wait then Waits else
@@ -139,13 +139,13 @@ pub record Fits (known m : Moment) : Type 0 where
 
 -- whatever was asked before, what is told is whether the request can be finished by all that is so
 abbrev pub FinishesWhatCan : Type 0
-FinishesWhatCan = (s : Standing) (n : Needs) (has_to_wait is_cancelled : Bool) (known m : Moment) → Fits known m
+FinishesWhatCan = (s : RequestStanding) (n : Needs) (has_to_wait is_cancelled : Bool) (known m : Moment) → Fits known m
     → (look_of s n has_to_wait is_cancelled known ≡ Finishes → can_finish s n has_to_wait is_cancelled m ≡ true)
     × (look_of s n has_to_wait is_cancelled known ≡ Waits → can_finish s n has_to_wait is_cancelled m ≡ false)
 
 -- nothing is asked twice
 abbrev pub LooksOnce : Type 0
-LooksOnce = (s : Standing) (n : Needs) (has_to_wait is_cancelled : Bool) (known : Moment) (wanted : Wanted)
+LooksOnce = (s : RequestStanding) (n : Needs) (has_to_wait is_cancelled : Bool) (known : Moment) (wanted : Wanted)
     → look_of s n has_to_wait is_cancelled known ≡ Asks wanted → was_asked wanted known ≡ false
 
 -- what has flags of a message: an operation of sockets, but ACCEPT (13) and CONNECT (16)

@@ -2,7 +2,7 @@
 use Rattle.std.specs.Prelude.{◌≡◌, ℕ, ℤ, pos, Bool, true, false, not, ◌&&◌, ◌||◌, ◌==◌, nat_lt}
 use Rattle.std.specs.Ordering.{int_eq}
 use Rattle.uring_operations.specs.declared.entries.needs.Needs.{Needs}
-use Rattle.uring_operations.specs.declared.requests.ready.Standing.{Standing}
+use Rattle.uring_operations.specs.declared.requests.ready.RequestStanding.{RequestStanding}
 use Rattle.uring_operations.specs.declared.requests.starting.Starting.{Starting}
 use Rattle.uring_operations.specs.declared.entries.submission.Submission.{Submission}
 use Rattle.uring_operations.specs.Files.PipeOpens.{looks_at_path}
@@ -62,11 +62,11 @@ abbrev pub starts_poll : Needs → ℤ → Bool
 starts_poll n fault = n.is_poll && int_eq fault (pos 0)
 
 -- whether a provided buffer is looked for as a request starts: it is to take one, and may have to wait for its descriptor. Another looks for one as it is carried out. What Linux 6.18 was seen to do
-abbrev pub seeks_buffer_at_start : Standing → Needs → Bool
+abbrev pub seeks_buffer_at_start : RequestStanding → Needs → Bool
 seeks_buffer_at_start s n = n.selects && s.is_stream
 
 -- after that, with the fault of its files, or 0: a poll asks for its events; the descriptor of one that may have to wait is looked at, so that what is there is known to have been there; and its buffer is looked for
-abbrev pub after_files : Standing → Needs → (fault : ℤ) → Starting
+abbrev pub after_files : RequestStanding → Needs → (fault : ℤ) → Starting
 after_files s n fault = record nothing {
   asks_events = starts_poll n fault;
   looks = polls s;
@@ -75,7 +75,7 @@ after_files s n fault = record nothing {
 
 -- what is done as it starts comes before what is asked then, which rests on its files
 abbrev pub AsksAfterItsFiles : Type 0
-AsksAfterItsFiles = (e : Submission) (how : ℕ) (is_sought : Bool) (s : Standing) (n : Needs) (fault : ℤ) (first second : Step)
+AsksAfterItsFiles = (e : Submission) (how : ℕ) (is_sought : Bool) (s : RequestStanding) (n : Needs) (fault : ℤ) (first second : Step)
     → is_due (at_start e how is_sought) first ≡ true → is_due (after_files s n fault) second ≡ true
     → nat_lt (place first) (place second) ≡ true
 

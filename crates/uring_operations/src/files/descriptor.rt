@@ -93,7 +93,7 @@ pub struct Trial {
 
 /// What a request is on its descriptor.
 #[derive(Clone, Copy, Drop)]
-pub enum Kind {
+pub enum DescriptorKind {
     /// It never has to wait.
     Never,
 
@@ -128,7 +128,7 @@ pub enum Question {
 pub enum Finding {
     Asks(Question),
 
-    Is(Kind),
+    Is(DescriptorKind),
 }
 
 /// Whether a descriptor of which fstat(2) says this, its mode and how many blocks it has on a disk, is asked whether it can be polled: a regular file that has none. inode(7)
@@ -174,16 +174,16 @@ pub fn next_finding(entry: &Submission, trial: &Trial, known: &Known) -> Finding
     ensures { result ≡ spec.next_of entry.now trial.now known.now }
 {
     if entry.opcode == 6 || is_splice(entry.opcode) {
-        return Finding::Is(Kind::Stream);
+        return Finding::Is(DescriptorKind::Stream);
     }
     if is_tried_at_once(entry, trial) {
-        return Finding::Is(Kind::AtOnce);
+        return Finding::Is(DescriptorKind::AtOnce);
     }
     if is_tried_unasked(entry, trial) {
-        return Finding::Is(Kind::Tried);
+        return Finding::Is(DescriptorKind::Tried);
     }
     if !is_transfer(entry.opcode) && !is_of_sockets(entry.opcode) {
-        return Finding::Is(Kind::Never);
+        return Finding::Is(DescriptorKind::Never);
     }
     if known.status {
         after_status(entry, trial, known)
@@ -228,13 +228,13 @@ fn after_status(entry: &Submission, trial: &Trial, known: &Known) -> Finding
     ensures { result ≡ spec.asks_after_status entry.now trial.now known.now }
 {
     if !known.nature.is_open {
-        Finding::Is(Kind::Never)
+        Finding::Is(DescriptorKind::Never)
     } else if is_transfer(entry.opcode) {
         of_transfer(entry, trial, known)
     } else if known.nature.is_socket {
-        Finding::Is(Kind::Stream)
+        Finding::Is(DescriptorKind::Stream)
     } else {
-        Finding::Is(Kind::Never)
+        Finding::Is(DescriptorKind::Never)
     }
 }
 
@@ -245,19 +245,19 @@ fn of_transfer(entry: &Submission, trial: &Trial, known: &Known) -> Finding
     let nature = known.nature;
     let never_waits = !nature.is_device && nature.has_offsets;
     if nature.is_file && may_be_tried(entry, trial) {
-        Finding::Is(Kind::Tried)
+        Finding::Is(DescriptorKind::Tried)
     } else if !nature.is_device && !known.offsets {
         Finding::Asks(Question::Offsets)
     } else if never_waits && !has_no_place(entry) {
-        Finding::Is(Kind::Never)
+        Finding::Is(DescriptorKind::Never)
     } else if !known.access {
         Finding::Asks(Question::Access)
     } else if !is_open_for(entry.opcode, &nature) {
-        Finding::Is(Kind::Wrong)
+        Finding::Is(DescriptorKind::Wrong)
     } else if never_waits {
-        Finding::Is(Kind::Never)
+        Finding::Is(DescriptorKind::Never)
     } else {
-        Finding::Is(Kind::Stream)
+        Finding::Is(DescriptorKind::Stream)
     }
 }
 

@@ -5,7 +5,7 @@ ghost use Rattle.uring_operations.specs.Files.Keeping as spec;
 ghost use Rattle.uring_operations.specs.Files.Keeping.{AsksWhereItMatters};
 
 use crate::files::descriptor::directions_of;
-use crate::requests::ready::Standing;
+use crate::requests::ready::RequestStanding;
 
 /// Whether the request of this number, on this descriptor, keeps its file before a close is carried out, which has a number too and closes another descriptor or the same.
 pub fn keeps_before_close(number: u64, fd: i32, closing: u64, closed: i32) -> bool
@@ -15,7 +15,7 @@ pub fn keeps_before_close(number: u64, fd: i32, closing: u64, closed: i32) -> bo
 }
 
 /// Whether a request on this descriptor is given the copy that was made just before it for another, on that one; or for nobody, where none was made. Our own rule.
-pub fn shares_copy(standing: &Standing, fd: i32, copied: Option<i32>) -> bool
+pub fn shares_copy(standing: &RequestStanding, fd: i32, copied: Option<i32>) -> bool
     ensures { result ≡ spec.shares_copy standing.now fd copied }
 {
     match copied {

@@ -5,7 +5,7 @@ ghost use Rattle.uring_operations.specs.Files.PipeOpens as spec;
 ghost use Rattle.uring_operations.specs.Files.PipeOpens.{EndsWithItsFault, WaitsForItsWriter};
 
 use crate::entries::submission::Submission;
-use crate::requests::ready::Standing;
+use crate::requests::ready::RequestStanding;
 
 /// How the call of an operation is made that may open a path.
 #[derive(Clone, Copy, Drop)]
@@ -132,10 +132,10 @@ pub fn polled_after_path(fd: i32, names_pipe: bool) -> i32
 }
 
 /// How a request stands whose path was looked up as it starts, and names a pipe or doesn't. Our own rule.
-pub fn standing_after_path(standing: &Standing, names_pipe: bool) -> Standing
+pub fn standing_after_path(standing: &RequestStanding, names_pipe: bool) -> RequestStanding
     ensures { result ≡ spec.standing_after_path standing.now names_pipe }
 {
-    Standing {
+    RequestStanding {
         is_stream: standing.is_stream || names_pipe,
         has_found_buffer: standing.has_found_buffer,
     }

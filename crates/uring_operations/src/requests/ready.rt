@@ -18,7 +18,7 @@ use crate::requests::course::Course;
 /// What a request that runs is.
 #[repr(C)]
 #[derive(Clone, Copy, Drop)]
-pub struct Standing {
+pub struct RequestStanding {
     /// It may have to wait for its descriptor.
     pub is_stream: bool,
 
@@ -126,7 +126,7 @@ pub struct Patience {
 
 /// What is to be asked next of a request that runs, and has to wait or hasn't, or whether it can be finished.
 pub fn next_look(
-    standing: &Standing,
+    standing: &RequestStanding,
     needs: &Needs,
     has_to_wait: bool,
     course: &Course,
@@ -153,7 +153,7 @@ pub fn next_look(
 }
 
 /// Whether a request that runs waits for its descriptor, so that a call which sleeps polls that.
-pub fn polls(standing: &Standing) -> bool
+pub fn polls(standing: &RequestStanding) -> bool
     ensures { result ≡ spec.polls standing.now }
 {
     standing.is_stream
@@ -161,7 +161,7 @@ pub fn polls(standing: &Standing) -> bool
 
 /// Whether a request is to be given a descriptor of its own, so that it keeps its file whatever the application closes: from the end of a call on, or before a close. Its file was looked for or wasn't, with this error or 0, and one is kept for it already or isn't. Our own rule.
 pub fn keeps_open(
-    standing: &Standing,
+    standing: &RequestStanding,
     needs: &Needs,
     is_sought: bool,
     fault: i32,
@@ -174,7 +174,7 @@ pub fn keeps_open(
 
 /// Whether the same is so of its second descriptor, where a splice reads.
 pub fn keeps_second_open(
-    standing: &Standing,
+    standing: &RequestStanding,
     needs: &Needs,
     is_sought: bool,
     fault: i32,
@@ -193,7 +193,7 @@ fn has_found(needs: &Needs, is_sought: bool, fault: i32) -> bool
 }
 
 /// Whether a request that runs waits for its descriptor alone, so that it needn't be looked at until that is ready.
-fn waits_for_descriptor_alone(standing: &Standing, needs: &Needs, course: &Course) -> bool
+fn waits_for_descriptor_alone(standing: &RequestStanding, needs: &Needs, course: &Course) -> bool
     ensures { (log : List Fact) → KeepsCourse log course.now
         → result ≡ spec.waits_for_descriptor_alone standing.now needs.now (is_cancelled log) }
 {
@@ -208,7 +208,7 @@ fn waits_for_descriptor_alone(standing: &Standing, needs: &Needs, course: &Cours
 
 /// Whether a request that runs becomes dormant, so that an epoll instance tells of it in the place of a look at it in each call: its descriptor was found unready, and the instance hasn't refused it. Our own rule.
 pub fn lies_down(
-    standing: &Standing,
+    standing: &RequestStanding,
     needs: &Needs,
     course: &Course,
     is_unready: bool,
@@ -240,7 +240,7 @@ fn look_at_count(known: &Moment) -> Look
     }
 }
 
-fn look_at_descriptor(standing: &Standing, needs: &Needs, known: &Moment) -> Look
+fn look_at_descriptor(standing: &RequestStanding, needs: &Needs, known: &Moment) -> Look
     ensures { result ≡ spec.look_at_descriptor standing.now needs.now known.now }
 {
     let seeks_buffer = needs.selects && !standing.has_found_buffer;

@@ -7,7 +7,7 @@ ghost use Rattle.uring_operations.specs.Requests.Starts.{AsksAfterItsFiles};
 use crate::entries::needs::Needs;
 use crate::entries::submission::Submission;
 use crate::files::pipe_open::looks_at_path;
-use crate::requests::ready::{Standing, polls};
+use crate::requests::ready::{RequestStanding, polls};
 
 /// What is to be done as a request starts, in the order in which it stands here.
 #[derive(Clone, Copy, Drop)]
@@ -58,7 +58,7 @@ pub fn steps_at_start(entry: &Submission, how: u64, is_sought: bool) -> Starting
 }
 
 /// After that, where its files were found without a fault, 0, or with this one.
-pub fn steps_after_files(standing: &Standing, needs: &Needs, fault: i32) -> Starting
+pub fn steps_after_files(standing: &RequestStanding, needs: &Needs, fault: i32) -> Starting
     ensures { result ≡ spec.after_files standing.now needs.now fault }
 {
     Starting {

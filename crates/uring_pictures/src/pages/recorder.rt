@@ -11,7 +11,7 @@ use crate::pages::submission::Submission;
 use crate::watching::{Told, Watcher};
 use std::alloc::{AllocError, Global};
 use uring_entry::opcode;
-use uring_machine::{Found, Machine, Setup, Step};
+use uring_machine::{CancelFound, Machine, Setup, Step};
 use uring_text::{KeptLine, TextMemory, push_text};
 
 /// What stands between a step and its answer in a recorded trace; a line without it is all step.
@@ -244,8 +244,8 @@ impl Watcher for Recorder {
         self.step = step_of(memory, self.alloc, &self.line)?;
         self.found = match self.step {
             Some(Step::Issue { number }) => match machine.would_find(number) {
-                Some(Found::Running(found)) => Some(found),
-                Some(Found::Chosen(found)) => Some(found),
+                Some(CancelFound::Running(found)) => Some(found),
+                Some(CancelFound::Chosen(found)) => Some(found),
                 _ => None,
             },
             _ => None,

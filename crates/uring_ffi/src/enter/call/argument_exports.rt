@@ -5,11 +5,11 @@ ghost use Rattle.uring_enter.specs.TakingUp.Rounds.{KeepsRounds, returned};
 ghost use Rattle.uring_ffi.specs.Enter.Call.RoundForm.{goes_on, submitted_of};
 ghost use Rattle.uring_ffi_values.specs.LayerWords.TimeForm.{limit_of, words_of_limit};
 
-use uring_ffi_values::time_words::{LimitWords, limit_words};
 use uring_enter::{
     Argument, Extended, Given, Round, Rounds, argument_fault, given_by, mask_fault, reads_argument,
     sleeps_to, slept_with, with_fault,
 };
+use uring_ffi_values::time_words::{LimitWords, limit_words};
 
 /// Whether a call reads its last argument that is asked to submit so many entries, and whose submission came to this.
 #[unsafe(no_mangle)]

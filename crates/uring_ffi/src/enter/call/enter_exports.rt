@@ -5,10 +5,10 @@ ghost use Rattle.uring_enter.specs.declared.call.reply.Reply.{Reply};
 ghost use Rattle.uring_enter.specs.Call.Due.{due, is_reply_to};
 ghost use Rattle.uring_ffi_values.specs.LayerWords.EnterForm.{on_ring_of, reply_of, words_of_command, AreAfter};
 
+use uring_enter::Enter;
 use uring_ffi_values::enter_words::{
     AskedWords, CommandWords, EnterWords, ReplyWords, command_words, enter_words,
 };
-use uring_enter::Enter;
 
 /// Begins a call, and writes what it wants first. Returns 0, or -22 if there is no such policy; then nothing is written.
 #[unsafe(no_mangle)]

@@ -3,8 +3,8 @@ ghost use Rattle.std.specs.Prelude.{◌≡◌};
 ghost use Rattle.uring_enter.specs.Call.Reaching as spec;
 ghost use Rattle.uring_ffi.specs.Enter.TakingUp.DecisionForm.{is_one_choice_of};
 
-use uring_ffi_values::enter_words::policy;
 use uring_enter::{looks_in_vain, no_ring_fault};
+use uring_ffi_values::enter_words::policy;
 
 /// The error of a call whose descriptor is no ring's, which is open or not.
 #[unsafe(no_mangle)]

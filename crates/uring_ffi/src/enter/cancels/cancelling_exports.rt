@@ -12,7 +12,7 @@ use uring_operations::Course;
 
 /// Where the file is looked for that a cancel names.
 #[unsafe(no_mangle)]
-pub extern "C" fn wulgach_sought_file(sought: &Sought) -> u32
+pub extern "C" fn wulgach_file_sought(sought: &Sought) -> u32
     ensures { result ≡ word_of_sought_file (seeking.file_of sought.now) }
 {
     file_of(sought) as u32

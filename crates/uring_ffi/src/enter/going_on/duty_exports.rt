@@ -5,13 +5,13 @@ ghost use Rattle.uring_register.specs.Calls.Calling.{may_post as posts};
 ghost use Rattle.uring_ffi.specs.Enter.GoingOn.DutyForm.{duties_at_reply_of, word_of_duties};
 ghost use Rattle.uring_ffi_values.specs.LayerWords.EnterForm.{reply_of};
 
-use uring_ffi_values::enter_words::ReplyWords;
 use uring_enter::{
     Duties, Resting, duties_after_posting, duties_after_storing, duties_at_begin,
     duties_at_register_begin, duties_at_register_return, duties_at_reply, duties_at_rest,
     duties_at_return, duties_before, duties_before_posting, duties_before_sleep, duties_when_stuck,
     polls_instance, polls_writes,
 };
+use uring_ffi_values::enter_words::ReplyWords;
 use uring_register::may_post;
 
 /// What a call does as it begins, or has slept, as a set of duties.

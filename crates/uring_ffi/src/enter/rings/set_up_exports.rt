@@ -7,12 +7,12 @@ ghost use Rattle.uring_enter.specs.Rings.SettingUp.{has_thread as has_one};
 ghost use Rattle.uring_enter.specs.Rings.SettingUp as spec;
 ghost use Rattle.uring_ffi_values.specs.CoreWords.SetUps.{IsRefused, HasBadSq, HasBadCq, HasBadFiles, words_of_setup};
 
-use uring_ffi_values::set_up_words::SetupWords;
 use uring_enter::{
     AskedRing, asks_processor, asks_shared, completion_cells, entry_cells, features, has_thread,
     set_up,
 };
 use uring_entry::BadSetup;
+use uring_ffi_values::set_up_words::SetupWords;
 
 /// Returns which field of a machine's set-up is out of its range: 1 for `sq`, else 2 for `cq`, else 3 for `files`, or 0 if none is. A core's `files` don't count.
 #[unsafe(no_mangle)]

@@ -15,10 +15,10 @@ ghost use Rattle.uring_operations.specs.Entries.Clocks.{clock_of, count_of, last
 ghost use Rattle.uring_enter.specs.Waiting.Sleeps.{lasts_at_most, comes_to};
 ghost use Rattle.uring_ffi_values.specs.LayerWords.TimeForm.{limit_of, word_of_clock, words_of_limit, words_of_wait, words_of_woken};
 
+use uring_enter::{Held, Times, WakeSources, is_at_once};
 use uring_ffi_values::time_words::{
     LimitWords, WaitWords, WokenWords, clock_word, limit_words, wait_words, woken_words,
 };
-use uring_enter::{Held, Times, WakeSources, is_at_once};
 use uring_operations::{
     Course, Start, Submission, Timeout, clock_of, count_of, lasts, left_until, linked_outcome,
     nanoseconds_of,

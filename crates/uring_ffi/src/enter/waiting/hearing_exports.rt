@@ -9,7 +9,7 @@ use uring_enter::{
     Hearing, Occasion, PipePoll, asks_overflow, has_event_first, may_take, next_at_begin,
     next_at_rest, telling_of,
 };
-use uring_operations::{Needs, Standing};
+use uring_operations::{Needs, RequestStanding};
 
 /// Returns what is next so that writes to pipes are heard, after this, as a call begins, or has slept, where so many pipes are watched.
 #[unsafe(no_mangle)]
@@ -60,7 +60,7 @@ pub extern "C" fn wulgach_telling_of(poll: &PipePoll, watch: u32, is_known: bool
 
 /// Whether an operation may take what polls wait for.
 #[unsafe(no_mangle)]
-pub extern "C" fn wulgach_may_take(standing: &Standing, needs: &Needs) -> bool
+pub extern "C" fn wulgach_may_take(standing: &RequestStanding, needs: &Needs) -> bool
     ensures { result ≡ rivals.may_take standing.now needs.now }
 {
     may_take(standing, needs)

@@ -9,13 +9,13 @@ ghost use Rattle.uring_enter.specs.Waiting.Joining as joining;
 ghost use Rattle.uring_enter.specs.Waiting.Sleeps.{after_sleep, passes, IsSpan};
 ghost use Rattle.uring_ffi_values.specs.LayerWords.TimeForm.{limit_of};
 
-use uring_ffi_values::time_words::LimitWords;
 use uring_enter::{PollRow, Span, Times, join, span_of};
-use uring_operations::{Needs, Standing, keeps_open, keeps_second_open, looks_ahead, polls};
+use uring_ffi_values::time_words::LimitWords;
+use uring_operations::{Needs, RequestStanding, keeps_open, keeps_second_open, looks_ahead, polls};
 
 /// Whether a call that sleeps polls the descriptor of a request that runs.
 #[unsafe(no_mangle)]
-pub extern "C" fn wulgach_polls(standing: &Standing) -> bool
+pub extern "C" fn wulgach_polls(standing: &RequestStanding) -> bool
     ensures { result ≡ ready.polls standing.now }
 {
     polls(standing)
@@ -59,7 +59,7 @@ pub extern "C" fn wulgach_times_slept(
 /// Whether a request is to be given a descriptor of its own, whose file was looked for or wasn't, with this error or 0, and is kept for it already or isn't.
 #[unsafe(no_mangle)]
 pub extern "C" fn wulgach_keeps_open(
-    standing: &Standing,
+    standing: &RequestStanding,
     needs: &Needs,
     is_sought: bool,
     fault: i32,
@@ -73,7 +73,7 @@ pub extern "C" fn wulgach_keeps_open(
 /// Whether a request is to be given a second descriptor of its own.
 #[unsafe(no_mangle)]
 pub extern "C" fn wulgach_keeps_second_open(
-    standing: &Standing,
+    standing: &RequestStanding,
     needs: &Needs,
     is_sought: bool,
     fault: i32,

@@ -9,13 +9,13 @@ ghost use Rattle.uring_ffi.specs.Enter.Rings.MessageForm.{enlisted_of};
 ghost use Rattle.uring_ffi.specs.Enter.Waiting.SleepForm.{word_of_outcome, word_of_sleep_call};
 
 use crate::enter::waiting::watched_exports::enlisted;
-use uring_ffi_values::time_words::{LimitWords, limit_words};
 use uring_enter::{
     Outcome, PipePoll, Sets, SleptFor, Waited, asks_before_nap, asks_select, came_to, can_be_woken,
     fires_after, outcome_of, select_sets, sleep_call, sleep_came, sleeps_by_poll, slept_for,
     told_by_select,
 };
-use uring_operations::{Needs, Standing};
+use uring_ffi_values::time_words::{LimitWords, limit_words};
+use uring_operations::{Needs, RequestStanding};
 
 /// Whether a request is to be told of writes to its pipe.
 #[unsafe(no_mangle)]
@@ -35,7 +35,7 @@ pub extern "C" fn wulgach_sleep_came_to(res: i32, is_child: bool) -> i32
 
 /// Returns how a sleep is begun that may last so long, where there is an instance or none, which makes this of all that it is to tell of; and writes how long it lasts at most.
 #[unsafe(no_mangle)]
-pub extern "C" fn wulgach_sleep_call(
+pub extern "C" fn wulgach_sleep_call_of(
     has_instance: bool,
     all: u32,
     limit: &LimitWords,
@@ -99,7 +99,7 @@ pub extern "C" fn wulgach_told_by_select(events: u16, is_open: bool, found: &Set
 
 /// Returns what came of a wait, as the reply to a call that wants to sleep.
 #[unsafe(no_mangle)]
-pub extern "C" fn wulgach_waited(waited: &Waited) -> u32
+pub extern "C" fn wulgach_reply_of_wait(waited: &Waited) -> u32
     ensures { result ≡ word_of_outcome (sleeping.outcome_of waited.now) }
 {
     match outcome_of(waited) {
@@ -122,8 +122,8 @@ pub extern "C" fn wulgach_asks_before_nap(needs: &Needs, vain: u32) -> bool
 
 /// Writes what a sleep does for a request that runs, was carried out so often in vain, and whose descriptor shows ready or not.
 #[unsafe(no_mangle)]
-pub extern "C" fn wulgach_slept_for(
-    standing: &Standing,
+pub extern "C" fn wulgach_sleep_effect(
+    standing: &RequestStanding,
     needs: &Needs,
     vain: u32,
     is_ready: bool,

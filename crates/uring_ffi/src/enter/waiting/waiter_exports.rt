@@ -8,9 +8,9 @@ ghost use Rattle.uring_enter.specs.Waiting.Waiters.{Encounter, WouldWait, WasCan
 ghost use Rattle.uring_enter.specs.Waiting.Waiters as waiters;
 ghost use Rattle.uring_ffi_values.specs.LayerWords.WaitForm.{word_of_look, word_of_sighting, after_look};
 
-use uring_ffi_values::wait_words::{look_word, sighting_word};
 use uring_enter::{Lookout, PipePoll, Waiter};
-use uring_operations::{Course, Moment, Needs, Standing, lies_down};
+use uring_ffi_values::wait_words::{look_word, sighting_word};
+use uring_operations::{Course, Moment, Needs, RequestStanding, lies_down};
 
 /// Begins a request that has started just now.
 #[unsafe(no_mangle)]
@@ -25,7 +25,7 @@ pub extern "C" fn wulgach_waiter_begin(waiter: &mut Waiter)
 pub extern "C" fn wulgach_can_finish(
     waiter: &mut Waiter,
     lookout: &Lookout,
-    standing: &Standing,
+    standing: &RequestStanding,
     needs: &Needs,
     course: &Course,
     known: &Moment,
@@ -138,7 +138,7 @@ pub extern "C" fn wulgach_waiter_sighting(waiter: &Waiter, lookout: &Lookout) ->
 /// Whether a request that runs becomes dormant, whose descriptor was found unready or not, and which an epoll instance has refused or not.
 #[unsafe(no_mangle)]
 pub extern "C" fn wulgach_lies_down(
-    standing: &Standing,
+    standing: &RequestStanding,
     needs: &Needs,
     course: &Course,
     is_unready: bool,

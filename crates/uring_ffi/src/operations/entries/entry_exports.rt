@@ -8,10 +8,10 @@ ghost use Rattle.uring_ffi.specs.Enter.Rings.RingForm.{form_of_word};
 
 use crate::operations::entries::form_exports::form_word;
 use crate::written::write_found;
-use uring_ffi_values::whole_call_memory::EntryWords;
 use uring_enter::{
     Beside, CoreEntry, beside_of, core_entry_between, extra_of, is_one_chain, slot_of, told_of_end,
 };
+use uring_ffi_values::whole_call_memory::EntryWords;
 use uring_operations::{Form, Layout, Member, Submission, layout_of, no_op_result};
 
 /// Whether an index word names a slot of a table of so many entries: the one of that number.

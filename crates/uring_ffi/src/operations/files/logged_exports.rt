@@ -20,7 +20,7 @@ use uring_operations::{
 
 /// Returns what the system call of this number is logged as.
 #[unsafe(no_mangle)]
-pub extern "C" fn wulgach_logged_call(number: u64) -> u32
+pub extern "C" fn wulgach_logged_call_of(number: u64) -> u32
     ensures { result ≡ word_of_logged_call (calls.logged_call number) }
 {
     logged_call(number) as u32
@@ -142,7 +142,7 @@ pub extern "C" fn wulgach_logs_names(number: u64, is_on_disk: bool, is_second_on
 
 /// Writes where the last part of a path stands.
 #[unsafe(no_mangle)]
-pub extern "C" fn wulgach_last_part(path: &[u8], part: &mut LastPart)
+pub extern "C" fn wulgach_last_part_of(path: &[u8], part: &mut LastPart)
     ensures { IsLastPart path.now part.new }
 {
     *part = last_part(path);

@@ -45,7 +45,7 @@ pub extern "C" fn wulgach_syncs_itself(writing: &Writing) -> bool
 
 /// Writes the bytes that the sync of an entry is of. False, and nothing is written: it is of the whole file.
 #[unsafe(no_mangle)]
-pub extern "C" fn wulgach_synced_bytes(entry: &Submission, bytes: &mut SyncedBytes) -> bool
+pub extern "C" fn wulgach_synced_bytes_of(entry: &Submission, bytes: &mut SyncedBytes) -> bool
     ensures { MatchOption (spec.synced_bytes entry.now) ((result ≡ false) × (bytes.new ≡ bytes.old))
         (λ part. (result ≡ true) × (bytes.new ≡ part)) }
 {

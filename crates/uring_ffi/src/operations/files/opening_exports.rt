@@ -5,8 +5,8 @@ ghost use Rattle.uring_ffi.specs.Operations.Files.OpeningForm.{word_of_opening, 
 ghost use Rattle.uring_ffi.specs.Registered.PinningForm.{known_of};
 
 use uring_operations::{
-    OpenHow, OpeningStep, Standing, Submission, found_how, has_writer, looking_how, opening_next,
-    opening_of, opens_again, polled_after_path, standing_after_path, unwilling_flags,
+    OpenHow, OpeningStep, RequestStanding, Submission, found_how, has_writer, looking_how,
+    opening_next, opening_of, opens_again, polled_after_path, standing_after_path, unwilling_flags,
 };
 
 /// Writes how the path of an entry is looked up as its request starts.
@@ -36,7 +36,7 @@ pub extern "C" fn wulgach_unwilling_flags(flags: u64) -> u64
 /// A request stands so whose path was looked up as it starts, and names a pipe or doesn't. Returns the descriptor that is polled for it, where this is its entry's.
 #[unsafe(no_mangle)]
 pub extern "C" fn wulgach_standing_after_path(
-    standing: &mut Standing,
+    standing: &mut RequestStanding,
     fd: i32,
     names_pipe: bool,
 ) -> i32

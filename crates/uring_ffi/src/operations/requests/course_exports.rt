@@ -18,11 +18,11 @@ ghost use Rattle.uring_ffi_values.specs.LayerWords.CourseForm.{fact_of, word_of_
 ghost use Rattle.uring_ffi.specs.Enter.Completions.ShownForm.{word_of_part, word_of_sought};
 
 use crate::written::write_found;
-use uring_ffi_values::completion_words::CompletionWords;
-use uring_ffi_values::course_words::{act_res, act_word, fact, last, part};
 use uring_enter::{
     Posted, Shown, completion_flags, end_of_send, notifies_unsent, part_unsent, untold_after,
 };
+use uring_ffi_values::completion_words::CompletionWords;
+use uring_ffi_values::course_words::{act_res, act_word, fact, last, part};
 use uring_operations::{
     Carried, Course, EndedCancel, EndedEarly, Entry, Fact, Member, Submission, has_succeeded,
     notice_of, shown_of, sought_after,
@@ -190,7 +190,7 @@ pub extern "C" fn wulgach_part_unsent(is_linked: bool) -> u32
 
 /// What a cancel looks for next that the core has ended, and which ends with this.
 #[unsafe(no_mangle)]
-pub extern "C" fn wulgach_sought_after(cancel: &EndedCancel, res: i32) -> u32
+pub extern "C" fn wulgach_next_sought(cancel: &EndedCancel, res: i32) -> u32
     ensures { result ≡ word_of_sought (sought_after cancel.now res) }
 {
     sought_after(*cancel, res) as u32

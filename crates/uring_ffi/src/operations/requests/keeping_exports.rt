@@ -4,7 +4,7 @@ ghost use Rattle.uring_operations.specs.Files.Keeping as keeping;
 ghost use Rattle.uring_ffi.specs.Enter.Call.PassageForm.{copied_if};
 
 use uring_operations::{
-    Standing, asks_locks, counts_as_written, heard_events, is_heard, keeps_before_close,
+    RequestStanding, asks_locks, counts_as_written, heard_events, is_heard, keeps_before_close,
     left_events, may_begin_to_wait, may_close_last, may_hand_on, may_wait_for_edges, shares_copy,
     stays_open, tells_anew,
 };
@@ -25,7 +25,7 @@ pub extern "C" fn wulgach_keeps_before_close(
 /// Whether a request on this descriptor is given the copy that was made just before for another, on that one (`copied`), if any was.
 #[unsafe(no_mangle)]
 pub extern "C" fn wulgach_shares_copy(
-    standing: &Standing,
+    standing: &RequestStanding,
     fd: i32,
     has_copy: bool,
     copied: i32,

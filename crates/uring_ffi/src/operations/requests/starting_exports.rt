@@ -5,7 +5,7 @@ ghost use Rattle.uring_ffi.specs.Operations.Requests.StartForm.{word_of_starting
 
 use crate::enter::going_on::duty_exports::bit;
 use uring_operations::{
-    Needs, Standing, Starting, Submission, lets_start, steps_after_files, steps_at_start,
+    Needs, RequestStanding, Starting, Submission, lets_start, steps_after_files, steps_at_start,
 };
 
 /// What is done as the core has let the request of an entry start, whose files were looked for before or weren't, as a set of steps.
@@ -18,7 +18,11 @@ pub extern "C" fn wulgach_steps_at_start(entry: &Submission, how: u64, is_sought
 
 /// What is done after that, where its files were found without a fault, 0, or with this one.
 #[unsafe(no_mangle)]
-pub extern "C" fn wulgach_steps_after_files(standing: &Standing, needs: &Needs, fault: i32) -> u32
+pub extern "C" fn wulgach_steps_after_files(
+    standing: &RequestStanding,
+    needs: &Needs,
+    fault: i32,
+) -> u32
     ensures { result ≡ word_of_starting (starts.after_files standing.now needs.now fault) }
 {
     starting_word(steps_after_files(standing, needs, fault))

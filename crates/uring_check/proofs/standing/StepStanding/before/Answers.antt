@@ -1,4 +1,4 @@
-use Rattle.uring_check.proofs.standing.Standing.before.Goals as goal
+use Rattle.uring_check.proofs.standing.StepStanding.before.Goals as goal
 
 pub returns-clause-standing : goal.returns-clause-standing
 returns-clause-standing g c = λ h fits known.
