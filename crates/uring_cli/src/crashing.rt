@@ -16,7 +16,7 @@ const DEFAULT_MOST: u32 = 1_000;
 
 /// What is asked of the images that a crash may leave.
 #[derive(Clone, Copy, Drop)]
-pub(crate) enum CrashQuestion {
+pub(crate) enum CrashKind {
     /// One of them.
     One,
 
@@ -31,15 +31,15 @@ pub(crate) enum CrashQuestion {
 }
 
 /// What is asked of them: first how many they are.
-pub(crate) fn question_of(is_count: bool, is_all: bool, is_holds: bool) -> CrashQuestion {
+pub(crate) fn crash_kind(is_count: bool, is_all: bool, is_holds: bool) -> CrashKind {
     if is_count {
-        CrashQuestion::Count
+        CrashKind::Count
     } else if is_all {
-        CrashQuestion::All
+        CrashKind::All
     } else if is_holds {
-        CrashQuestion::Holds
+        CrashKind::Holds
     } else {
-        CrashQuestion::One
+        CrashKind::One
     }
 }
 
@@ -67,7 +67,7 @@ pub(crate) fn run_crash(
     setup: &Setup,
     file: u32,
     asked: &Asked,
-    kind: CrashQuestion,
+    kind: CrashKind,
     most: Option<u32>,
     is_each: bool,
     words: &[&str],
@@ -110,15 +110,15 @@ fn run_lines(
 /// The question of all images that is asked, if one is.
 fn question_of(
     alloc: Global,
-    kind: CrashQuestion,
+    kind: CrashKind,
     most: u32,
     words: &[&str],
 ) -> Result<Option<Question>, Fault> {
     Ok(match kind {
-        CrashQuestion::One => None,
-        CrashQuestion::Count => Some(Question::Count),
-        CrashQuestion::All => Some(Question::All { most }),
-        CrashQuestion::Holds => Some(wanted(alloc, words, most)?),
+        CrashKind::One => None,
+        CrashKind::Count => Some(Question::Count),
+        CrashKind::All => Some(Question::All { most }),
+        CrashKind::Holds => Some(wanted(alloc, words, most)?),
     })
 }
 

@@ -22,7 +22,7 @@ mod fault;
 mod telling;
 
 use crate::bare::bare_of;
-use crate::crashing::{asked_of, question_of, run_crash};
+use crate::crashing::{asked_of, crash_kind, run_crash};
 use crate::fault::Fault;
 use crate::filled::run_fill;
 use crate::listing::{Wanted, claim_of, run_outcomes};
@@ -163,7 +163,7 @@ fn run_words<R: Threads + Wait + Copy + Send + 'static>(
             is_each,
         } => {
             let asked = asked_of(file, unit, at, seed);
-            let kind = question_of(is_count, is_all, is_holds);
+            let kind = crash_kind(is_count, is_all, is_holds);
             run_crash(rt, &setup, file, &asked, kind, most, is_each, lines)
         }
         Options::Fill { setup, most } => run_fill(rt, &setup, most),
