@@ -1,6 +1,7 @@
-/* The measures of `measures/` that cost least a step, through the library for C: the full path of a no-op, and each kind of
- * step after 16 requests that run. Each line is a measure: its name, how many steps were timed, the nanoseconds that they
- * took, and a digest of their answers, made as `measures/` makes it. */
+/* The measures of `measures/` that cost least a step, through the library for C: the full path of a
+ * no-op, and each kind of step after 16 requests that run. Each line is a measure: its name, how
+ * many steps were timed, the nanoseconds that they took, and a digest of their answers, made as
+ * `measures/` makes it. */
 #define _POSIX_C_SOURCE 200809L
 #include "wulgach.h"
 
@@ -15,8 +16,11 @@ struct measure {
     uint64_t steps, nanoseconds, digest;
 };
 
-static const uint32_t path_kinds[KINDS] = {WULGACH_FILL, WULGACH_INDEX, WULGACH_STORE_TAIL, WULGACH_BEGIN, WULGACH_TAKE, WULGACH_END, WULGACH_LOAD_HEAD, WULGACH_ISSUE, WULGACH_FINISH, WULGACH_LOAD_CQ_TAIL, WULGACH_REAP, WULGACH_STORE_CQ_HEAD, WULGACH_FLUSH};
-static const char *const names[KINDS] = {"fill", "index", "tail", "begin", "take", "end", "head", "issue", "finish", "cqtail", "reap", "cqhead", "flush"};
+static const uint32_t path_kinds[KINDS] = {WULGACH_FILL, WULGACH_INDEX, WULGACH_STORE_TAIL,
+    WULGACH_BEGIN, WULGACH_TAKE, WULGACH_END, WULGACH_LOAD_HEAD, WULGACH_ISSUE, WULGACH_FINISH,
+    WULGACH_LOAD_CQ_TAIL, WULGACH_REAP, WULGACH_STORE_CQ_HEAD, WULGACH_FLUSH};
+static const char *const names[KINDS] = {"fill", "index", "tail", "begin", "take", "end", "head",
+    "issue", "finish", "cqtail", "reap", "cqhead", "flush"};
 
 static uint64_t value(const struct wulgach_answer *a)
 {
@@ -59,7 +63,8 @@ static uint64_t now(void)
     return (uint64_t)at.tv_sec * 1000000000 + (uint64_t)at.tv_nsec;
 }
 
-static void make_steps(struct wulgach_machine *machine, struct measure *measure, const struct wulgach_step *steps, size_t count)
+static void make_steps(struct wulgach_machine *machine, struct measure *measure,
+    const struct wulgach_step *steps, size_t count)
 {
     static struct wulgach_answer answers[BATCH];
     for (size_t from = 0; from < count; from += BATCH) {
@@ -74,13 +79,17 @@ static void make_steps(struct wulgach_machine *machine, struct measure *measure,
     }
 }
 
-/* Writes the steps of a kind in a round of `size` requests, numbered from `first` on, and returns how many they are. */
+/* Writes the steps of a kind in a round of `size` requests, numbered from `first` on, and returns
+ * how many they are. */
 static size_t put_kind(struct wulgach_step *steps, uint32_t kind, uint64_t first, uint32_t size)
 {
-    bool is_repeated = kind == WULGACH_FILL || kind == WULGACH_INDEX || kind == WULGACH_TAKE || kind == WULGACH_ISSUE || kind == WULGACH_FINISH || kind == WULGACH_REAP;
+    bool is_repeated = kind == WULGACH_FILL || kind == WULGACH_INDEX || kind == WULGACH_TAKE ||
+                       kind == WULGACH_ISSUE || kind == WULGACH_FINISH || kind == WULGACH_REAP;
     uint32_t count = is_repeated ? size : 1;
     for (uint32_t slot = 0; slot < count; slot++) {
-        steps[slot] = (struct wulgach_step){.kind = kind, .word = kind == WULGACH_BEGIN ? UINT32_MAX : slot, .number = first + slot};
+        steps[slot] = (struct wulgach_step){.kind = kind,
+            .word = kind == WULGACH_BEGIN ? UINT32_MAX : slot,
+            .number = first + slot};
         wulgach_nop(steps[slot].entry, first + slot, 0);
     }
     return count;
@@ -96,7 +105,8 @@ static size_t put_round(struct wulgach_step *steps, uint64_t first, uint32_t siz
 
 static void print(const struct measure *m, const char *name, uint32_t point, const char *part)
 {
-    printf("%s_%" PRIu32 "_%s %" PRIu64 " %" PRIu64 " %" PRIu64 "\n", name, point, part, m->steps, m->nanoseconds, m->digest);
+    printf("%s_%" PRIu32 "_%s %" PRIu64 " %" PRIu64 " %" PRIu64 "\n", name, point, part, m->steps,
+        m->nanoseconds, m->digest);
 }
 
 static struct wulgach_machine machine_of(uint32_t size)

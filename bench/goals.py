@@ -47,13 +47,22 @@ class Goal:
 def table(goals):
     """The goals as lines of a table."""
     met = sum(goal.is_met() for goal in goals)
-    heads = ["", f"Goals: {met} of {len(goals)} are met.", "", "| what | goal | measured | |", "|---|---|---:|---|"]
+    heads = [
+        "",
+        f"Goals: {met} of {len(goals)} are met.",
+        "",
+        "| what | goal | measured | |",
+        "|---|---|---:|---|",
+    ]
     return [*heads, *[goal.row() for goal in goals]]
 
 
 def of_steps(ratio):
     """The goals of the steps, by the ratio of a measure in the proved and the unproved program."""
-    paths = [Goal(f"the full path, ring of {size:,}", ratio(f"path_{size}_all"), 1.1, "path") for size in (1, 8, 64, 4096)]
+    paths = [
+        Goal(f"the full path, ring of {size:,}", ratio(f"path_{size}_all"), 1.1, "path")
+        for size in (1, 8, 64, 4096)
+    ]
     steps = [Goal(f"`{kind}`", ratio(f"accepted_1024_{kind}"), 1.2, kind) for kind in STEPS]
     return [*paths, *steps, Goal("`end`", ratio("accepted_1024_end"), 1.3, "end")]
 

@@ -1,4 +1,5 @@
-/* No-ops through a ring of the kernel, in batches of the ring's size: ring ENTRIES REQUESTS. Writes the seconds that they took. */
+/* No-ops through a ring of the kernel, in batches of the ring's size: ring ENTRIES REQUESTS. Writes
+ * the seconds that they took. */
 #define _GNU_SOURCE
 #include <linux/io_uring.h>
 #include <stdio.h>
@@ -30,11 +31,16 @@ int main(int argc, char **argv)
         perror("io_uring_setup");
         return 1;
     }
-    char *sq = map(ring, params.sq_off.array + params.sq_entries * sizeof(unsigned), IORING_OFF_SQ_RING);
-    char *cq = map(ring, params.cq_off.cqes + params.cq_entries * sizeof(struct io_uring_cqe), IORING_OFF_CQ_RING);
-    struct io_uring_sqe *slots = map(ring, params.sq_entries * sizeof(struct io_uring_sqe), IORING_OFF_SQES);
-    unsigned *tail = (unsigned *)(sq + params.sq_off.tail), *array = (unsigned *)(sq + params.sq_off.array);
-    unsigned *head = (unsigned *)(cq + params.cq_off.head), *cq_tail = (unsigned *)(cq + params.cq_off.tail);
+    char *sq = map(
+        ring, params.sq_off.array + params.sq_entries * sizeof(unsigned), IORING_OFF_SQ_RING);
+    char *cq = map(ring, params.cq_off.cqes + params.cq_entries * sizeof(struct io_uring_cqe),
+        IORING_OFF_CQ_RING);
+    struct io_uring_sqe *slots = map(
+        ring, params.sq_entries * sizeof(struct io_uring_sqe), IORING_OFF_SQES);
+    unsigned *tail = (unsigned *)(sq + params.sq_off.tail),
+             *array = (unsigned *)(sq + params.sq_off.array);
+    unsigned *head = (unsigned *)(cq + params.cq_off.head),
+             *cq_tail = (unsigned *)(cq + params.cq_off.tail);
     struct io_uring_cqe *completions = (struct io_uring_cqe *)(cq + params.cq_off.cqes);
     unsigned sq_mask = params.sq_entries - 1, cq_mask = params.cq_entries - 1;
     unsigned long sum = 0, reaped = 0;
@@ -50,7 +56,8 @@ int main(int argc, char **argv)
             array[slot] = slot;
         }
         __atomic_store_n(tail, first + entries, __ATOMIC_RELEASE);
-        if (syscall(SYS_io_uring_enter, ring, entries, entries, IORING_ENTER_GETEVENTS, NULL, 0) != (long)entries) {
+        if (syscall(SYS_io_uring_enter, ring, entries, entries, IORING_ENTER_GETEVENTS, NULL, 0) !=
+            (long)entries) {
             perror("io_uring_enter");
             return 1;
         }

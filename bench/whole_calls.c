@@ -1,5 +1,5 @@
-/* No-ops through the library for C, in batches of the ring's size: whole_calls ENTRIES REQUESTS steps|whole. Writes the seconds
- * that they took, and the sum of the user data reaped. */
+/* No-ops through the library for C, in batches of the ring's size: whole_calls ENTRIES REQUESTS
+ * steps|whole. Writes the seconds that they took, and the sum of the user data reaped. */
 #include "wulgach.h"
 
 #include <inttypes.h>
@@ -83,7 +83,8 @@ int main(int argc, char **argv)
         for (uint32_t i = 0; i < size; i++)
             wulgach_nop(entries[i].words, number + i, 0);
         if (is_whole)
-            demand(wulgach_core_submit(&core, entries, size, &answer) == 0 && answer.kind == WULGACH_TAKEN && answer.word == size);
+            demand(wulgach_core_submit(&core, entries, size, &answer) == 0 &&
+                   answer.kind == WULGACH_TAKEN && answer.word == size);
         else
             submit_by_steps(size);
         for (uint32_t i = 0; i < size; i++)
@@ -95,6 +96,7 @@ int main(int argc, char **argv)
         step(WULGACH_FLUSH, 0, 0);
     }
     clock_gettime(CLOCK_MONOTONIC, &end);
-    printf("%f %" PRIu64 "\n", (double)(end.tv_sec - start.tv_sec) + (double)(end.tv_nsec - start.tv_nsec) / 1e9, sum);
+    printf("%f %" PRIu64 "\n",
+        (double)(end.tv_sec - start.tv_sec) + (double)(end.tv_nsec - start.tv_nsec) / 1e9, sum);
     return 0;
 }

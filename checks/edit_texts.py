@@ -62,4 +62,10 @@ def edits_of(crate, ways=WAYS):
 
 def crates_with(ways=WAYS):
     """The crates that have edits of these ways."""
-    return sorted({os.path.relpath(it, f"{TOP}/crates").split("/")[0] for way in ways for it in glob.glob(f"{TOP}/crates/*/{way}")})
+    return sorted(
+        {
+            os.path.relpath(it, f"{TOP}/crates").split("/")[0]
+            for way in ways
+            for it in glob.glob(f"{TOP}/crates/*/{way}")
+        }
+    )

@@ -20,7 +20,13 @@ class Claim:
 
     def holds_of(self, outcomes):
         shown = [self.is_shown_by(outcome) for outcome in outcomes]
-        return any(shown) if self.kind == "may" else all(shown) if self.kind == "always" else not any(shown)
+        return (
+            any(shown)
+            if self.kind == "may"
+            else all(shown)
+            if self.kind == "always"
+            else not any(shown)
+        )
 
 
 def shows(outcome, line):
@@ -35,15 +41,28 @@ class Test:
         lines = text.splitlines()
         first = lines[0].split() if lines else []
         self.options = first[2:] if first[:2] == ["#", "setup"] else []
-        self.files = int(self.options[self.options.index("--files") + 1]) if "--files" in self.options else 2
+        self.files = (
+            int(self.options[self.options.index("--files") + 1]) if "--files" in self.options else 2
+        )
         units = [line.split()[2] for line in lines if line.startswith("# unit ")]
         self.unit = int(units[0]) if units else 1
-        self.remarks = [line[2:] for line in lines if line.startswith("# ") and not line.startswith(("# setup ", "# unit "))]
-        claims = [Claim(line) for line in lines if line.removeprefix("crash ").startswith(tuple(f"{kind} " for kind in KINDS))]
+        self.remarks = [
+            line[2:]
+            for line in lines
+            if line.startswith("# ") and not line.startswith(("# setup ", "# unit "))
+        ]
+        claims = [
+            Claim(line)
+            for line in lines
+            if line.removeprefix("crash ").startswith(tuple(f"{kind} " for kind in KINDS))
+        ]
         self.claims = [claim for claim in claims if not claim.is_crash]
         self.crash_claims = [claim for claim in claims if claim.is_crash]
         counts = [line for line in lines if line.startswith(("outcomes ", "crashes "))]
-        self.count, self.crash_count = (next((int(line.split()[1]) for line in counts if line.startswith(word)), None) for word in ("outcomes ", "crashes "))
+        self.count, self.crash_count = (
+            next((int(line.split()[1]) for line in counts if line.startswith(word)), None)
+            for word in ("outcomes ", "crashes ")
+        )
         said = {claim.text for claim in claims} | set(counts)
         calls = [line for line in lines if not line.startswith("#") and line not in said]
         self.calls = "\n".join(calls).strip("\n") + "\n"

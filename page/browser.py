@@ -27,8 +27,19 @@ class Browser:
         self.home = tempfile.mkdtemp(prefix="uring-page-")
         to_read, self.to = os.pipe()
         self.back, to_write = os.pipe()
-        words = [found(), "--headless=new", "--no-sandbox", "--disable-gpu", "--hide-scrollbars", "--no-first-run", "--disable-dev-shm-usage",
-                 "--remote-debugging-pipe", f"--user-data-dir={self.home}", f"--window-size={size[0]},{size[1]}", "about:blank"]
+        words = [
+            found(),
+            "--headless=new",
+            "--no-sandbox",
+            "--disable-gpu",
+            "--hide-scrollbars",
+            "--no-first-run",
+            "--disable-dev-shm-usage",
+            "--remote-debugging-pipe",
+            f"--user-data-dir={self.home}",
+            f"--window-size={size[0]},{size[1]}",
+            "about:blank",
+        ]
 
         def wire():
             os.dup2(to_read, 3)
@@ -36,17 +47,35 @@ class Browser:
 
         # The ends may have these very numbers: they are moved out of the way first.
         to_read, to_write = high(to_read), high(to_write)
-        self.process = subprocess.Popen(words, preexec_fn=wire, close_fds=False, stdin=subprocess.DEVNULL, stdout=subprocess.DEVNULL, stderr=subprocess.DEVNULL)
+        self.process = subprocess.Popen(
+            words,
+            preexec_fn=wire,
+            close_fds=False,
+            stdin=subprocess.DEVNULL,
+            stdout=subprocess.DEVNULL,
+            stderr=subprocess.DEVNULL,
+        )
         os.close(to_read)
         os.close(to_write)
         target = self.call("Target.createTarget", url="about:blank")["targetId"]
         self.session = None
-        self.session = self.call("Target.attachToTarget", targetId=target, flatten=True)["sessionId"]
+        self.session = self.call("Target.attachToTarget", targetId=target, flatten=True)[
+            "sessionId"
+        ]
         for domain in ("Page", "Runtime", "Log"):
             self.call(f"{domain}.enable")
-        self.call("Emulation.setDeviceMetricsOverride", width=size[0], height=size[1], deviceScaleFactor=1, mobile=False)
+        self.call(
+            "Emulation.setDeviceMetricsOverride",
+            width=size[0],
+            height=size[1],
+            deviceScaleFactor=1,
+            mobile=False,
+        )
         if dark:
-            self.call("Emulation.setEmulatedMedia", features=[{"name": "prefers-color-scheme", "value": "dark"}])
+            self.call(
+                "Emulation.setEmulatedMedia",
+                features=[{"name": "prefers-color-scheme", "value": "dark"}],
+            )
 
     def call(self, method, **params):
         """The answer to a call."""
@@ -98,14 +127,18 @@ class Browser:
 
     def eval(self, script):
         """The value of an expression of the page."""
-        answer = self.call("Runtime.evaluate", expression=script, returnByValue=True, awaitPromise=True)
+        answer = self.call(
+            "Runtime.evaluate", expression=script, returnByValue=True, awaitPromise=True
+        )
         if "exceptionDetails" in answer:
             raise RuntimeError(f"{script}: {answer['exceptionDetails']}")
         return answer["result"].get("value")
 
     def key(self, key):
         """Presses a key."""
-        code = {"ArrowLeft": 37, "ArrowRight": 39, "Home": 36, "End": 35, "Escape": 27}.get(key, ord(key[0].upper()))
+        code = {"ArrowLeft": 37, "ArrowRight": 39, "Home": 36, "End": 35, "Escape": 27}.get(
+            key, ord(key[0].upper())
+        )
         marks = {"key": key, "windowsVirtualKeyCode": code}
         if len(key) == 1:
             marks["text"] = key
@@ -125,7 +158,11 @@ class Browser:
     def print(self, path):
         """Prints to a file."""
         with open(path, "wb") as out:
-            out.write(base64.b64decode(self.call("Page.printToPDF", landscape=True, printBackground=True)["data"]))
+            out.write(
+                base64.b64decode(
+                    self.call("Page.printToPDF", landscape=True, printBackground=True)["data"]
+                )
+            )
 
     def close(self):
         """Ends the browser."""

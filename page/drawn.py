@@ -47,7 +47,12 @@ def arrows_of(run):
 
 def marks_of(run):
     """The marks by the data, as `REQUEST MARK`."""
-    return sorted(f"{change['request']} {change['is']}" for line in run["lines"] for change in line.get("changes", []) if change["is"] in MARKS)
+    return sorted(
+        f"{change['request']} {change['is']}"
+        for line in run["lines"]
+        for change in line.get("changes", [])
+        if change["is"] in MARKS
+    )
 
 
 def words_of(run):
@@ -55,7 +60,9 @@ def words_of(run):
     words = dict.fromkeys(("sq_head", "sq_tail", "cq_head", "cq_tail"), run["setup"]["start"])
     for line in run["lines"]:
         words.update({name: line[name] for name in words if name in line})
-        yield [f"head {words[f'{ring}_head']}, tail {words[f'{ring}_tail']}" for ring in ("sq", "cq")]
+        yield [
+            f"head {words[f'{ring}_head']}, tail {words[f'{ring}_tail']}" for ring in ("sq", "cq")
+        ]
 
 
 SPANS = "[...document.querySelectorAll('#lanes .lane')].flatMap(lane => [...lane.querySelectorAll('.state')].map(one => `${lane.dataset.request} ${one.dataset.is} ${one.dataset.from}-${one.dataset.until}`)).sort()"

@@ -16,7 +16,9 @@ def halves():
     page = part("page.html").replace("/*STYLE*/\n", part("page.css"))
     script = part("model.js") + part("draw.js") + part("page.js")
     before, after = page.split("/*DATA*/\n")
-    script = "".join(line for line in script.splitlines(keepends=True) if not line.lstrip().startswith("//"))
+    script = "".join(
+        line for line in script.splitlines(keepends=True) if not line.lstrip().startswith("//")
+    )
     return before, after.replace("/*SCRIPT*/\n", script)
 
 

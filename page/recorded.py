@@ -21,7 +21,14 @@ def disguised(steps, failed):
         words = step.split()
         if words[0] == "fill":
             if words[2] not in NOT_CARRIED_OUT:
-                step = " ".join([*words[:2], "fsync" if fills in failed else "nop", *words[3:5], *(["-1"] if fills in failed else [])])
+                step = " ".join(
+                    [
+                        *words[:2],
+                        "fsync" if fills in failed else "nop",
+                        *words[3:5],
+                        *(["-1"] if fills in failed else []),
+                    ]
+                )
             fills += 1
         told.append(step)
     return told
@@ -35,13 +42,20 @@ def shape(answer):
 def explained(uring, options, lines, failed):
     """The data of recorded lines (step, answer). `failed` has the numbers of the requests that ran and failed. An answer that isn't the one that the rules give raises Differs."""
     steps = disguised([step for step, _ in lines], failed)
-    done = subprocess.run([*uring, "explain", "--json", *options], input="".join(it + "\n" for it in steps), capture_output=True, text=True)
+    done = subprocess.run(
+        [*uring, "explain", "--json", *options],
+        input="".join(it + "\n" for it in steps),
+        capture_output=True,
+        text=True,
+    )
     if done.returncode:
         raise Differs(done.stderr.strip())
     run = json.loads(done.stdout)
     for line, (step, answer) in zip(run["lines"], lines, strict=True):
         if shape(line["answer"]) != shape(answer):
-            raise Differs(f"line {line['line']}: {step}: {answer} here, {line['answer']} by the rules")
+            raise Differs(
+                f"line {line['line']}: {step}: {answer} here, {line['answer']} by the rules"
+            )
         line.update(text=step, answer=answer)
         line.pop("file", None)
         for change in line.get("changes", []):
@@ -83,7 +97,14 @@ def put_beside(run, other):
         if key in places:
             line["beside"], places[key]["beside"] = places[key]["line"], line["line"]
     pairs = zip(run["lines"], other["lines"])
-    common = next((at for at, (one, two) in enumerate(pairs) if (one["text"], one["answer"]) != (two["text"], two["answer"])), None)
+    common = next(
+        (
+            at
+            for at, (one, two) in enumerate(pairs)
+            if (one["text"], one["answer"]) != (two["text"], two["answer"])
+        ),
+        None,
+    )
     if common is None and len(run["lines"]) != len(other["lines"]):
         common = min(len(run["lines"]), len(other["lines"])) - 1
     if common is not None:

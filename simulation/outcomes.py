@@ -16,9 +16,18 @@ LARGEST = 65536
 class Entry:
     """An entry: its operation, its user data, its flags, and what the operation takes."""
 
-    def __init__(self, op, user_data, flags, fd=0, off=0, length=0, data=b"", target=0, is_all=False):
+    def __init__(
+        self, op, user_data, flags, fd=0, off=0, length=0, data=b"", target=0, is_all=False
+    ):
         self.op, self.user_data, self.flags = op, user_data, "" if flags == "-" else flags
-        self.fd, self.off, self.length, self.data, self.target, self.is_all = fd, off, length, data, target, is_all
+        self.fd, self.off, self.length, self.data, self.target, self.is_all = (
+            fd,
+            off,
+            length,
+            data,
+            target,
+            is_all,
+        )
 
     def has_fault(self):
         if self.op not in (NOP, FSYNC, CANCEL, READ, WRITE) or self.length > 64:
@@ -89,14 +98,22 @@ class Run:
             if entries and entries[-1].links():
                 group += 1
             self.ends.append(len(self.entries))
-        self.drains = {self.group_of[n] for n, entry in enumerate(self.entries) if DRAIN in entry.flags}
-        self.faulty = {self.group_of[n] for n, entry in enumerate(self.entries) if entry.has_fault()}
+        self.drains = {
+            self.group_of[n] for n, entry in enumerate(self.entries) if DRAIN in entry.flags
+        }
+        self.faulty = {
+            self.group_of[n] for n, entry in enumerate(self.entries) if entry.has_fault()
+        }
 
     def is_doomed(self, state, n):
         _, standing, chosen, _ = state
         if self.group_of[n] in self.faulty or n in chosen:
             return True
-        return any(standing[m] == "failed" and self.entries[m].is_soft() for m in range(n) if self.group_of[m] == self.group_of[n])
+        return any(
+            standing[m] == "failed" and self.entries[m].is_soft()
+            for m in range(n)
+            if self.group_of[m] == self.group_of[n]
+        )
 
     def may_start(self, state, n):
         """Whether n waits for nobody."""
@@ -105,7 +122,12 @@ class Run:
             if standing[m] in ("done", "failed"):
                 continue
             other = self.group_of[m]
-            if other == own and m < n or other < own and (own in self.drains or other in self.drains):
+            if (
+                other == own
+                and m < n
+                or other < own
+                and (own in self.drains or other in self.drains)
+            ):
                 return False
         return True
 
@@ -113,7 +135,14 @@ class Run:
         """What a cancel ends with, and whom it chooses."""
         _, standing, _, _ = state
         entry = self.entries[n]
-        named = [m for m in range(len(standing)) if m != n and standing[m] in ("waits", "runs") and self.entries[m].user_data == entry.target and not self.is_doomed(state, m)]
+        named = [
+            m
+            for m in range(len(standing))
+            if m != n
+            and standing[m] in ("waits", "runs")
+            and self.entries[m].user_data == entry.target
+            and not self.is_doomed(state, m)
+        ]
         if entry.is_all:
             targets = [m for m in named if standing[m] == "waits"]
             return len(targets), targets
@@ -196,10 +225,17 @@ def completion_text(completion):
 
 
 def line_of(completions, files, is_sorted, has_files):
-    shown = sorted(completions, key=lambda c: (c[0], c[1], c[2].ljust(64, b"\0"))) if is_sorted else completions
+    shown = (
+        sorted(completions, key=lambda c: (c[0], c[1], c[2].ljust(64, b"\0")))
+        if is_sorted
+        else completions
+    )
     parts = [completion_text(completion) for completion in shown] or ["none"]
     if has_files:
-        parts += [f"file {fd} len {len(data)} writes {writes} synced {synced} data {data.hex() or '-'}" for fd, (data, writes, synced) in enumerate(files)]
+        parts += [
+            f"file {fd} len {len(data)} writes {writes} synced {synced} data {data.hex() or '-'}"
+            for fd, (data, writes, synced) in enumerate(files)
+        ]
     return ", ".join(parts)
 
 
@@ -208,7 +244,9 @@ def lines_of(text, files=2, is_sorted=False, has_files=False):
     orders = {}
     for completions, left in outcomes(calls_of(text), files):
         orders.setdefault(line_of(completions, left, is_sorted, has_files), set()).add(completions)
-    lines = [line + (f"  # orders {len(orders[line])}" if is_sorted else "") for line in sorted(orders)]
+    lines = [
+        line + (f"  # orders {len(orders[line])}" if is_sorted else "") for line in sorted(orders)
+    ]
     return lines + [f"outcomes {len(lines)}"]
 
 

@@ -40,9 +40,16 @@ class Volume:
         never = len(log)
         self.writes = [n for kind, n in log if kind == "w"]
         self.entries = run.entries
-        self.before = {(m, n) for m in self.writes for n in self.writes if at.get(("e", m), never) < at[("w", n)]}
+        self.before = {
+            (m, n)
+            for m in self.writes
+            for n in self.writes
+            if at.get(("e", m), never) < at[("w", n)]
+        }
         syncs = [n for kind, n in log if kind == "S"]
-        self.safe = {w for w in self.writes if any(at.get(("e", w), never) < at[("s", s)] for s in syncs)}
+        self.safe = {
+            w for w in self.writes if any(at.get(("e", w), never) < at[("s", s)] for s in syncs)
+        }
 
     def lists(self, writes):
         """Each list of some of these writes that may be left."""
@@ -51,7 +58,12 @@ class Volume:
                 place = {n: k for k, n in enumerate(some)}
                 if any(n in self.safe and n not in place for n in writes):
                     continue
-                if all(m in place and place[m] < place[n] for n in some for m in writes if (m, n) in self.before):
+                if all(
+                    m in place and place[m] < place[n]
+                    for n in some
+                    for m in writes
+                    if (m, n) in self.before
+                ):
                     yield some
 
     def end_of(self, n):
@@ -72,7 +84,10 @@ class Volume:
     def images(self, unit):
         lengths = {max([0] + [self.end_of(n) for n in some]) for some in self.lists(self.writes)}
         for length in lengths:
-            units = [{left[: length - begin] for left in self.contents(begin, begin + unit)} for begin in range(0, length, unit)]
+            units = [
+                {left[: length - begin] for left in self.contents(begin, begin + unit)}
+                for begin in range(0, length, unit)
+            ]
             for left in itertools.product(*units):
                 yield b"".join(left)
 
@@ -93,7 +108,15 @@ def lines_of(text, files=2, unit=1):
         state, logs, posted = todo.pop()
         completions = [completion_text(completion) for completion in posted] or ["none"]
         for images in itertools.product(*(left(log) for log in logs)):
-            lines.add(", ".join(completions + [f"file {fd} len {len(data)} data {data.hex() or '-'}" for fd, data in enumerate(images)]))
+            lines.add(
+                ", ".join(
+                    completions
+                    + [
+                        f"file {fd} len {len(data)} data {data.hex() or '-'}"
+                        for fd, data in enumerate(images)
+                    ]
+                )
+            )
         for after, more in run.moves(state):
             reached = (after, logged(run, state[1], after[1], logs), posted + more)
             if reached not in seen:

@@ -2,7 +2,18 @@
 
 FLAGS = ["-"] * 6 + ["L", "H", "D", "S", "A", "LH", "DL", "LS", "HS", "DS", "SDA", "LDHAS"]
 ODD_FLAGS = ["LL", "X", "", "l", "-L", "L-"]
-ODD_NUMBERS = ["00", "01", "-1", "+1", "1a", "", "4294967295", "4294967296", "18446744073709551615", "18446744073709551616"]
+ODD_NUMBERS = [
+    "00",
+    "01",
+    "-1",
+    "+1",
+    "1a",
+    "",
+    "4294967295",
+    "4294967296",
+    "18446744073709551615",
+    "18446744073709551616",
+]
 
 
 def is_faulty(entry):
@@ -16,7 +27,12 @@ def is_faulty(entry):
         return words[3] == str(2**64 - 1)
     if kind == "raw":
         raw = bytes.fromhex(words[0])
-        return raw[0] not in (0, 3, 14, 22, 23) or bool(raw[1] & 0xA1) or raw[24] > 64 or any(raw[40:64])
+        return (
+            raw[0] not in (0, 3, 14, 22, 23)
+            or bool(raw[1] & 0xA1)
+            or raw[24] > 64
+            or any(raw[40:64])
+        )
     return False
 
 
@@ -42,7 +58,10 @@ class Trace:
         if rng.random() < 0.5:
             words += ["--files", str(rng.choice([1, 2, 3, 64]))]
         if rng.random() < 0.5:
-            words += ["--start", str(rng.choice([1, 2**31 - 2, 2**32 - 1, 2**32 - 3, rng.randrange(2**32)]))]
+            words += [
+                "--start",
+                str(rng.choice([1, 2**31 - 2, 2**32 - 1, 2**32 - 3, rng.randrange(2**32)])),
+            ]
         if self.stops:
             words.insert(2 * rng.randint(0, len(words) // 2), "--stop")
         return words
@@ -57,7 +76,13 @@ class Trace:
         return str(self.rng.choice([0] * 8 + [1] * 4 + [2, -1, 63, 2**31 - 1, -(2**31)]))
 
     def offset(self):
-        return str(self.rng.choice([0] * 8 + [1, 3, 8, 60, 64, 100] * 2 + [65472, 65535, 65536, 65537, 2**63, 2**64 - 2, 2**64 - 1]))
+        return str(
+            self.rng.choice(
+                [0] * 8
+                + [1, 3, 8, 60, 64, 100] * 2
+                + [65472, 65535, 65536, 65537, 2**63, 2**64 - 2, 2**64 - 1]
+            )
+        )
 
     def data(self):
         count = self.rng.choice([0, 1, 1, 2, 2, 4, 4, 8, 8, 63, 64, 65])
@@ -79,7 +104,10 @@ class Trace:
 
     def entry(self):
         rng, user_data, flags = self.rng, self.user_data(), self.flags()
-        kind = rng.choices(["nop", "read", "write", "fsync", "cancel", "cancelall", "op", "raw"], [8, 3, 3, 1, 4, 3, 0.5, 0.5])[0]
+        kind = rng.choices(
+            ["nop", "read", "write", "fsync", "cancel", "cancelall", "op", "raw"],
+            [8, 3, 3, 1, 4, 3, 0.5, 0.5],
+        )[0]
         if kind == "nop":
             return f"nop {user_data} {flags}"
         if kind == "read":
@@ -101,7 +129,11 @@ class Trace:
             (self.faulty.add if is_faulty(entry) else self.faulty.discard)(slot)
 
     def index(self):
-        word = self.rng.randrange(self.size) if self.rng.random() < 0.9 else self.rng.choice([self.size, 2**32 - 1])
+        word = (
+            self.rng.randrange(self.size)
+            if self.rng.random() < 0.9
+            else self.rng.choice([self.size, 2**32 - 1])
+        )
         self.lines.append(f"index {word}")
         if len(self.staged) + len(self.published) < self.size:
             self.staged.append(word)
@@ -124,7 +156,10 @@ class Trace:
         self.lines += ["take"] * self.rng.choice([0, 1, len(self.call or [])])
         self.lines.append("end")
         if self.call is not None:
-            count = next((at + 1 for at, (_, faulty) in enumerate(self.call) if faulty and self.stops), len(self.call))
+            count = next(
+                (at + 1 for at, (_, faulty) in enumerate(self.call) if faulty and self.stops),
+                len(self.call),
+            )
             self.accepted += sum(word < self.size for word, _ in self.call[:count])
             self.published = self.published[count:]
             self.call = None
@@ -145,7 +180,14 @@ class Trace:
 
     def number(self):
         rng, most = self.rng, self.accepted
-        return str(max(0, rng.choice([rng.randint(0, most), most - rng.randint(0, 6), most - rng.randint(0, 2)])))
+        return str(
+            max(
+                0,
+                rng.choice(
+                    [rng.randint(0, most), most - rng.randint(0, 6), most - rng.randint(0, 2)]
+                ),
+            )
+        )
 
     def work(self):
         """Issues and finishes some of the last requests, mostly in order."""
@@ -153,7 +195,14 @@ class Trace:
         if self.rng.random() < 0.5:
             self.rng.shuffle(numbers)
         for number in numbers:
-            self.lines += self.rng.choice([[f"issue {number}"], [f"issue {number}", f"finish {number}"], [f"finish {number}"], ["next"]])
+            self.lines += self.rng.choice(
+                [
+                    [f"issue {number}"],
+                    [f"issue {number}", f"finish {number}"],
+                    [f"finish {number}"],
+                    ["next"],
+                ]
+            )
 
     def settle(self):
         """Ends all requests, or nearly all."""
@@ -163,7 +212,15 @@ class Trace:
         self.over = max(self.over, last)
 
     def reap(self):
-        self.lines += self.rng.choice([["cqtail", *["reap"] * self.rng.randint(1, 2 * self.size), "cqhead"], ["reap"], ["cqtail"], ["cqhead", "flush"], ["flush", "cqtail"]])
+        self.lines += self.rng.choice(
+            [
+                ["cqtail", *["reap"] * self.rng.randint(1, 2 * self.size), "cqhead"],
+                ["reap"],
+                ["cqtail"],
+                ["cqhead", "flush"],
+                ["flush", "cqtail"],
+            ]
+        )
 
     def odd(self):
         """A line that is mostly none."""
@@ -177,7 +234,9 @@ class Trace:
                 [
                     "",
                     " ".join(words),
-                    line[:at] + rng.choice([" ", "\r", "0", "-", "A", "\xff", "\t", "é"]) + line[at:],
+                    line[:at]
+                    + rng.choice([" ", "\r", "0", "-", "A", "\xff", "\t", "é"])
+                    + line[at:],
                     line[:at],
                     line + " " + line,
                     line.upper(),
@@ -188,14 +247,30 @@ class Trace:
         )
 
     def make(self, count):
-        moves = [self.fill, self.index, self.tail, self.begin, self.take, self.end, self.submit, self.work, self.settle, self.reap, self.odd]
+        moves = [
+            self.fill,
+            self.index,
+            self.tail,
+            self.begin,
+            self.take,
+            self.end,
+            self.submit,
+            self.work,
+            self.settle,
+            self.reap,
+            self.odd,
+        ]
         weights = [3, 3, 2, 2, 2, 2, 6, 8, 3, 6, 2]
         # How often the ring is still to be closed: near the end, and once more after that.
         closing = 2 if self.rng.random() < 0.2 else 0
         while len(self.lines) < count:
             self.rng.choices(moves, weights)[0]()
             if self.rng.random() < 0.2:
-                self.lines.append(self.rng.choice(["head", "next", f"issue {self.number()}", f"finish {self.number()}"]))
+                self.lines.append(
+                    self.rng.choice(
+                        ["head", "next", f"issue {self.number()}", f"finish {self.number()}"]
+                    )
+                )
             if closing and len(self.lines) > (1 - 0.1 * closing) * count:
                 self.lines.append("close")
                 closing -= 1

@@ -1,11 +1,13 @@
-/* An engine with storage of its own, whose log is a trace: a core of wulgach over a disk in memory that isn't empty at first.
+/* An engine with storage of its own, whose log is a trace: a core of wulgach over a disk in memory
+ * that isn't empty at first.
  *
- * A core's own entries have up to 64 bytes, which it copies. Pages of 4,096 bytes are kept outside of it: the entry of one is an fsync of
- * no file, whose user data names a row, and the row names the page's buffer by a number, not by an address. The buffers may move
- * between submission and end, as they do here: nothing in the core points to them.
+ * A core's own entries have up to 64 bytes, which it copies. Pages of 4,096 bytes are kept outside
+ * of it: the entry of one is an fsync of no file, whose user data names a row, and the row names
+ * the page's buffer by a number, not by an address. The buffers may move between submission and
+ * end, as they do here: nothing in the core points to them.
  *
- * Each round writes a page, links a header of 16 bytes to it, and reads an older header beside both. Some writes fail. Requests go on
- * in an order that a seed chooses.
+ * Each round writes a page, links a header of 16 bytes to it, and reads an older header beside
+ * both. Some writes fail. Requests go on in an order that a seed chooses.
  *
  *   cc engine.c $(pkg-config --cflags --libs wulgach) && ./a.out 150 | uring check --results
  */
@@ -78,12 +80,14 @@ static void move_buffers(struct engine *engine)
     engine->buffers = moved;
 }
 
-/* Submits a page, its header, and a read of an older header. User data is the row, with the place in the round below it. */
+/* Submits a page, its header, and a read of an older header. User data is the row, with the place
+ * in the round below it. */
 static void submit(struct engine *engine, uint32_t round)
 {
     uint32_t page = round % PAGES;
     uint64_t user_data = (uint64_t)round * A_ROUND;
-    struct wulgach_step fills[A_ROUND] = {{.kind = WULGACH_FILL}, {.kind = WULGACH_FILL, .word = 1}, {.kind = WULGACH_FILL, .word = 2}};
+    struct wulgach_step fills[A_ROUND] = {{.kind = WULGACH_FILL}, {.kind = WULGACH_FILL, .word = 1},
+        {.kind = WULGACH_FILL, .word = 2}};
     uint8_t header[HEADER];
     memset(header, 'a' + (int)(round % 26), HEADER);
     memset(engine->buffers + (size_t)page * PAGE, 'A' + (int)(round % 26), PAGE);
@@ -104,11 +108,13 @@ static void submit(struct engine *engine, uint32_t round)
 }
 
 /* Carries a running request out, and returns its result, with the bytes that a read gives. */
-static int32_t carry_out(struct engine *engine, uint64_t number, const struct wulgach_operation *op, struct wulgach_bytes *bytes)
+static int32_t carry_out(struct engine *engine, uint64_t number, const struct wulgach_operation *op,
+    struct wulgach_bytes *bytes)
 {
     struct row *row = &engine->rows[number / A_ROUND];
     if (op->code == WULGACH_OP_READ) {
-        uint64_t end = op->off + op->len < sizeof engine->headers ? op->off + op->len : sizeof engine->headers;
+        uint64_t end = op->off + op->len < sizeof engine->headers ? op->off + op->len
+                                                                  : sizeof engine->headers;
         memcpy(bytes->bytes, engine->headers + op->off, end - op->off);
         return (int32_t)(end - op->off);
     }
@@ -119,7 +125,8 @@ static int32_t carry_out(struct engine *engine, uint64_t number, const struct wu
         return has_failed ? FAILED : (int32_t)op->len;
     }
     if (!has_failed)
-        memcpy(engine->disk + (size_t)row->page * PAGE, engine->buffers + (size_t)row->buffer * PAGE, PAGE);
+        memcpy(engine->disk + (size_t)row->page * PAGE,
+            engine->buffers + (size_t)row->buffer * PAGE, PAGE);
     row->told = has_failed ? FAILED : PAGE;
     return has_failed ? FAILED : 0;
 }
@@ -135,7 +142,8 @@ static bool go_on(struct engine *engine, uint64_t first)
     }
     struct wulgach_bytes bytes = {{0}};
     struct wulgach_answer answer;
-    must(wulgach_core_finish(&engine->core, number, carry_out(engine, number, &op, &bytes), &bytes, &answer));
+    must(wulgach_core_finish(
+        &engine->core, number, carry_out(engine, number, &op, &bytes), &bytes, &answer));
     log_step(&(struct wulgach_step){.kind = WULGACH_FINISH, .number = number}, &answer);
     return true;
 }
@@ -144,7 +152,8 @@ static bool go_on(struct engine *engine, uint64_t first)
 static void reap(struct engine *engine)
 {
     simple(engine, WULGACH_LOAD_CQ_TAIL, 0);
-    for (struct wulgach_answer a = simple(engine, WULGACH_REAP, 0); a.kind == WULGACH_REAPED; a = simple(engine, WULGACH_REAP, 0)) {
+    for (struct wulgach_answer a = simple(engine, WULGACH_REAP, 0); a.kind == WULGACH_REAPED;
+         a = simple(engine, WULGACH_REAP, 0)) {
         bool is_page = a.number % A_ROUND == 0;
         int32_t told = is_page ? engine->rows[a.number / A_ROUND].told : a.res;
         engine->written += is_page && told == PAGE;
@@ -178,7 +187,9 @@ int main(int count, char **words)
             ended += go_on(&engine, (uint64_t)round * A_ROUND);
         reap(&engine);
     }
-    printf("# %u rounds: %u pages written, %u headers read, %u writes failed, %u were cancelled\n", rounds, (unsigned)engine.written, (unsigned)engine.read, (unsigned)engine.failed, (unsigned)engine.cancelled);
+    printf("# %u rounds: %u pages written, %u headers read, %u writes failed, %u were cancelled\n",
+        rounds, (unsigned)engine.written, (unsigned)engine.read, (unsigned)engine.failed,
+        (unsigned)engine.cancelled);
     must(wulgach_core_free(&engine.core));
     free(engine.buffers);
     free(engine.rows);

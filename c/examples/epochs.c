@@ -1,8 +1,11 @@
-/* A store with a log that recovers, on a crash machine: epoch after epoch, each begins on what a crash left of the one before.
+/* A store with a log that recovers, on a crash machine: epoch after epoch, each begins on what a
+ * crash left of the one before.
  *
- * The log has a record a byte. An epoch reads how far the log is whole, appends one record, and links an fsync to the write; the store
- * acknowledges the record when the fsync's completion has come. Then the power fails. A record that was acknowledged must be found in
- * each epoch after. With `planted` the fsync isn't linked: it may be issued before its write has ended, and then covers nothing of it.
+ * The log has a record a byte. An epoch reads how far the log is whole, appends one record, and
+ * links an fsync to the write; the store acknowledges the record when the fsync's completion has
+ * come. Then the power fails. A record that was acknowledged must be found in each epoch after.
+ * With `planted` the fsync isn't linked: it may be issued before its write has ended, and then
+ * covers nothing of it.
  *
  *   cc epochs.c $(pkg-config --cflags --libs wulgach) && ./a.out
  */
@@ -32,7 +35,8 @@ static struct wulgach_answer make(struct wulgach_crash_machine *machine, struct 
 /* Submits the write of a record and its fsync, as requests 0 and 1 of the epoch. */
 static void submit(struct wulgach_crash_machine *machine, uint64_t end, bool is_planted)
 {
-    struct wulgach_step fills[2] = {{.kind = WULGACH_FILL, .word = 0}, {.kind = WULGACH_FILL, .word = 1}};
+    struct wulgach_step fills[2] = {
+        {.kind = WULGACH_FILL, .word = 0}, {.kind = WULGACH_FILL, .word = 1}};
     uint8_t record = (uint8_t)('a' + end);
     wulgach_write(fills[0].entry, 0, is_planted ? 0 : WULGACH_IO_LINK, 0, end, &record, 1);
     wulgach_fsync(fills[1].entry, 1, 0, 0);
@@ -47,13 +51,15 @@ static void submit(struct wulgach_crash_machine *machine, uint64_t end, bool is_
     make(machine, (struct wulgach_step){.kind = WULGACH_END});
 }
 
-/* Issues all that can be issued, and then finishes the requests in their order: so a loose fsync begins while its write runs. */
+/* Issues all that can be issued, and then finishes the requests in their order: so a loose fsync
+ * begins while its write runs. */
 static void settle(struct wulgach_crash_machine *machine)
 {
     struct wulgach_counts counts;
     do {
         struct wulgach_answer next;
-        while ((next = make(machine, (struct wulgach_step){.kind = WULGACH_NEXT})).kind == WULGACH_NEXT_IS)
+        while ((next = make(machine, (struct wulgach_step){.kind = WULGACH_NEXT})).kind ==
+               WULGACH_NEXT_IS)
             make(machine, (struct wulgach_step){.kind = WULGACH_ISSUE, .number = next.number});
         for (uint64_t number = 0; number < 2; number++)
             make(machine, (struct wulgach_step){.kind = WULGACH_FINISH, .number = number});
@@ -101,6 +107,7 @@ int main(void)
         right += !play(seed, false);
         planted += !play(seed, true);
     }
-    printf("the right store lost a record in %u of %d runs, the planted one in %s\n", right, RUNS, planted > 0 ? "some" : "none");
+    printf("the right store lost a record in %u of %d runs, the planted one in %s\n", right, RUNS,
+        planted > 0 ? "some" : "none");
     return right == 0 && planted > 0 ? 0 : 1;
 }

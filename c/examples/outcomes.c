@@ -1,7 +1,9 @@
-/* Everything that three calls may come to: which orders of a write of data, of a commit record and an fsync may be seen.
+/* Everything that three calls may come to: which orders of a write of data, of a commit record and
+ * an fsync may be seen.
  *
- * The fsync drains, so it covers both writes in each order. Loose, the commit record may be there before its data: that is the bug, if
- * a crash comes between. With a link on the first write it never is.
+ * The fsync drains, so it covers both writes in each order. Loose, the commit record may be there
+ * before its data: that is the bug, if a crash comes between. With a link on the first write it
+ * never is.
  *
  *   cc outcomes.c $(pkg-config --cflags --libs wulgach) && ./a.out
  */
@@ -19,7 +21,8 @@ static void must(int32_t result)
     }
 }
 
-/* Prints each outcome: its completions by user data and result, in the order in which they come, and the file that it leaves. */
+/* Prints each outcome: its completions by user data and result, in the order in which they come,
+ * and the file that it leaves. */
 static void show(struct wulgach_outcomes *outcomes)
 {
     struct wulgach_completion seen[3];
@@ -48,7 +51,8 @@ static void ask(const char *name, uint8_t flags)
     struct wulgach_outcomes outcomes = {0};
     uint64_t count;
     bool is_all;
-    must(wulgach_outcomes_new(&outcomes, &(struct wulgach_setup){.sq = 4, .files = 1}, entries, 3, (uint64_t[]){3}, 1, UINT64_MAX, &is_all));
+    must(wulgach_outcomes_new(&outcomes, &(struct wulgach_setup){.sq = 4, .files = 1}, entries, 3,
+        (uint64_t[]){3}, 1, UINT64_MAX, &is_all));
     must(wulgach_outcomes_count(&outcomes, &count, &is_all));
     printf("%s: %s%" PRIu64 "\n", name, is_all ? "" : "at least ", count);
     show(&outcomes);

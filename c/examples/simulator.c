@@ -1,12 +1,16 @@
-/* A simulator to start from: a core of wulgach over storage of its own, a volume that a power failure may tear.
+/* A simulator to start from: a core of wulgach over storage of its own, a volume that a power
+ * failure may tear.
  *
- * On it runs a store with a log. A commit is a write of its record and an fsync, and the store acknowledges it when both
- * completions have come, the write's first. The store submits both at once. In the right store the fsync is linked to the write, so
- * that it is issued when that has ended. In the planted one it isn't: it may be issued while the write runs, and covers nothing of it.
+ * On it runs a store with a log. A commit is a write of its record and an fsync, and the store
+ * acknowledges it when both completions have come, the write's first. The store submits both at
+ * once. In the right store the fsync is linked to the write, so that it is issued when that has
+ * ended. In the planted one it isn't: it may be issued while the write runs, and covers nothing of
+ * it.
  *
- * The simulator is the dispatcher: it issues and finishes requests in an order that a seed chooses, among those that the core allows.
- * At some point the power fails. Of what may then be left, some images are tried: each acknowledged record must be in all of them.
- * Beside it stands the generous rule, by which a write is safe if it had ended when the fsync ended: it finds nothing.
+ * The simulator is the dispatcher: it issues and finishes requests in an order that a seed chooses,
+ * among those that the core allows. At some point the power fails. Of what may then be left, some
+ * images are tried: each acknowledged record must be in all of them. Beside it stands the generous
+ * rule, by which a write is safe if it had ended when the fsync ended: it finds nothing.
  *
  *   cc simulator.c $(pkg-config --cflags --libs wulgach) && ./a.out
  */
@@ -16,10 +20,18 @@
 
 #include "wulgach.h"
 
-enum { RECORD = 8, COMMITS = 4, REQUESTS = 2 * COMMITS, LOG = RECORD * COMMITS, RUNS = 1000, CRASHES = 8, CHOICE = 128 };
+enum {
+    RECORD = 8,
+    COMMITS = 4,
+    REQUESTS = 2 * COMMITS,
+    LOG = RECORD * COMMITS,
+    RUNS = 1000,
+    CRASHES = 8,
+    CHOICE = 128
+};
 
-/* The log on its volume. The number that the volume gave to each request that was issued, 0 if none; and what the generous rule
- * takes for safe. */
+/* The log on its volume. The number that the volume gave to each request that was issued, 0 if
+ * none; and what the generous rule takes for safe. */
 struct disk {
     struct wulgach_volume volume;
     uint64_t numbers[REQUESTS];
@@ -62,7 +74,8 @@ static struct wulgach_answer simple(struct wulgach_core *core, uint32_t kind, ui
     return make(core, &(struct wulgach_step){.kind = kind, .word = word});
 }
 
-/* The store's side: the write of commit i is request 2i and its fsync 2i + 1, by their user data too. */
+/* The store's side: the write of commit i is request 2i and its fsync 2i + 1, by their user data
+ * too. */
 static void submit(struct wulgach_core *core, bool is_planted)
 {
     for (uint32_t i = 0; i < REQUESTS; i++) {
@@ -70,7 +83,8 @@ static void submit(struct wulgach_core *core, bool is_planted)
         uint8_t record[RECORD];
         memset(record, 'a' + (int)(i / 2), RECORD);
         if (i % 2 == 0)
-            wulgach_write(fill.entry, i, is_planted ? 0 : WULGACH_IO_LINK, 0, i / 2 * RECORD, record, RECORD);
+            wulgach_write(
+                fill.entry, i, is_planted ? 0 : WULGACH_IO_LINK, 0, i / 2 * RECORD, record, RECORD);
         else
             wulgach_fsync(fill.entry, i, 0, 0);
         make(core, &fill);
@@ -87,12 +101,14 @@ static void submit(struct wulgach_core *core, bool is_planted)
 static bool issue(struct wulgach_core *core, struct disk *disk, uint64_t number)
 {
     struct wulgach_operation op;
-    struct wulgach_answer answer = make(core, &(struct wulgach_step){.kind = WULGACH_ISSUE, .number = number});
+    struct wulgach_answer answer = make(
+        core, &(struct wulgach_step){.kind = WULGACH_ISSUE, .number = number});
     if (answer.kind == WULGACH_RUN && wulgach_core_running_op(core, number, &op) == 0) {
         if (op.code == WULGACH_OP_FSYNC)
             must(wulgach_volume_begin_sync(&disk->volume, &disk->numbers[number]));
         else
-            must(wulgach_volume_begin_write(&disk->volume, op.off, op.bytes, op.len, &disk->numbers[number]));
+            must(wulgach_volume_begin_write(
+                &disk->volume, op.off, op.bytes, op.len, &disk->numbers[number]));
     }
     return answer.kind == WULGACH_ENDED;
 }
@@ -110,8 +126,8 @@ static int32_t carry_out(struct disk *disk, uint64_t number, const struct wulgac
     return (int32_t)op->len;
 }
 
-/* The dispatcher's side: lets a request go on that the seed chooses. Returns whether one ended. The write of a bad commit fails, and
- * is left running on the volume: any part of it may be found. */
+/* The dispatcher's side: lets a request go on that the seed chooses. Returns whether one ended. The
+ * write of a bad commit fails, and is left running on the volume: any part of it may be found. */
 static bool go_on(struct wulgach_core *core, struct disk *disk, uint64_t bad)
 {
     uint64_t number = below(REQUESTS);
@@ -126,11 +142,13 @@ static bool go_on(struct wulgach_core *core, struct disk *disk, uint64_t bad)
 }
 
 /* Reaps all completions, and marks which commits the store has acknowledged. */
-static void acknowledge(struct wulgach_core *core, bool acknowledged[COMMITS], struct findings *found)
+static void acknowledge(
+    struct wulgach_core *core, bool acknowledged[COMMITS], struct findings *found)
 {
     bool is_written[COMMITS] = {false};
     simple(core, WULGACH_LOAD_CQ_TAIL, 0);
-    for (struct wulgach_answer a = simple(core, WULGACH_REAP, 0); a.kind == WULGACH_REAPED; a = simple(core, WULGACH_REAP, 0)) {
+    for (struct wulgach_answer a = simple(core, WULGACH_REAP, 0); a.kind == WULGACH_REAPED;
+         a = simple(core, WULGACH_REAP, 0)) {
         uint64_t commit = a.number / 2;
         found->cancelled += a.res == -125;
         if (a.number % 2 == 0)
@@ -152,8 +170,10 @@ static bool holds(const uint8_t log[LOG], uint64_t len, unsigned commit)
     return true;
 }
 
-/* The power fails: tries some images that may be left, and looks for the acknowledged records in each. */
-static void crash(struct disk *disk, const bool acknowledged[COMMITS], unsigned run, struct findings *found)
+/* The power fails: tries some images that may be left, and looks for the acknowledged records in
+ * each. */
+static void crash(
+    struct disk *disk, const bool acknowledged[COMMITS], unsigned run, struct findings *found)
 {
     for (unsigned i = 1; i <= CRASHES; i++) {
         uint64_t choice[CHOICE], len;
@@ -203,12 +223,14 @@ static struct findings play_all(const char *name, bool is_planted)
     struct findings found = {0};
     for (unsigned run = 1; run <= RUNS; run++)
         play(run, is_planted, &found);
-    printf("%s: %d runs, %u commits acknowledged, %u fsyncs cancelled, %u crashes tried\n", name, RUNS, found.acknowledged, found.cancelled, found.crashes);
+    printf("%s: %d runs, %u commits acknowledged, %u fsyncs cancelled, %u crashes tried\n", name,
+        RUNS, found.acknowledged, found.cancelled, found.crashes);
     printf("  the generous rule would lose %u of them\n", found.lost_generously);
     if (found.lost == 0)
         printf("  none was lost in any crash\n");
     else
-        printf("  lost, the first time in crash %u of run %u\n", found.first_crash, found.first_run);
+        printf(
+            "  lost, the first time in crash %u of run %u\n", found.first_crash, found.first_run);
     return found;
 }
 

@@ -5,13 +5,23 @@
 #include <utility>
 #include <vector>
 
-class Core {
-public:
-    explicit Core(const wulgach_setup &setup) { result = wulgach_core_new(&place, &setup); }
+class Core
+{
+  public:
+    explicit Core(const wulgach_setup &setup)
+    {
+        result = wulgach_core_new(&place, &setup);
+    }
     Core(const Core &) = delete;
     Core &operator=(const Core &) = delete;
-    Core(Core &&other) noexcept : result(other.result), place(std::exchange(other.place, wulgach_core{})) {}
-    ~Core() { wulgach_core_free(&place); }
+    Core(Core &&other) noexcept
+        : result(other.result), place(std::exchange(other.place, wulgach_core{}))
+    {
+    }
+    ~Core()
+    {
+        wulgach_core_free(&place);
+    }
 
     wulgach_answer step(wulgach_step step)
     {
@@ -22,7 +32,7 @@ public:
 
     int32_t result;
 
-private:
+  private:
     wulgach_core place{};
 };
 
@@ -38,7 +48,8 @@ int main()
     index.kind = WULGACH_INDEX;
     for (Core &core : cores)
         for (int i = 0; i < 5; i++)
-            if (core.step(index).kind != (i < 4 ? WULGACH_STAGED : WULGACH_FULL) || core.result != 0)
+            if (core.step(index).kind != (i < 4 ? WULGACH_STAGED : WULGACH_FULL) ||
+                core.result != 0)
                 return 1;
     std::puts("in_cpp: as it should be");
 }

@@ -1,4 +1,5 @@
-/* For side_by_side.c: answers as text, and what they say, compared with what a machine and a core tell of themselves. */
+/* For side_by_side.c: answers as text, and what they say, compared with what a machine and a core
+ * tell of themselves. */
 #ifndef MODEL_H
 #define MODEL_H
 
@@ -19,7 +20,10 @@ static void print_data(FILE *out, const uint8_t bytes[64])
 
 static void print_answer(FILE *out, const struct wulgach_answer *a)
 {
-    static const char *const texts[29] = {"ok", "no slot", "busy", "ok", "full", "tail", "head", "call", "closed", "in call", "spent", "again", "entry", "dropped", "no more", "no call", "taken", "not all", "run", "ended", "not ready", "running", "unknown", "not running", "moved", "cqe", "none", "ok", "next"};
+    static const char *const texts[29] = {"ok", "no slot", "busy", "ok", "full", "tail", "head",
+        "call", "closed", "in call", "spent", "again", "entry", "dropped", "no more", "no call",
+        "taken", "not all", "run", "ended", "not ready", "running", "unknown", "not running",
+        "moved", "cqe", "none", "ok", "next"};
     check(a->kind < 29, "an answer of no kind");
     fputs(texts[a->kind], out);
     switch (a->kind) {
@@ -32,7 +36,8 @@ static void print_answer(FILE *out, const struct wulgach_answer *a)
         fprintf(out, " %" PRIu64, a->entry[4]);
         break;
     case WULGACH_TAKEN:
-        fprintf(out, " %" PRIu32 " dropped %" PRIu32 " head %" PRIu32, a->word, a->dropped, a->head);
+        fprintf(
+            out, " %" PRIu32 " dropped %" PRIu32 " head %" PRIu32, a->word, a->dropped, a->head);
         break;
     case WULGACH_ENDED:
         fprintf(out, " %" PRId32, a->res);
@@ -53,7 +58,10 @@ static void print_answer(FILE *out, const struct wulgach_answer *a)
 
 static bool is_same(const struct wulgach_answer *a, const struct wulgach_answer *b)
 {
-    return a->kind == b->kind && a->word == b->word && a->dropped == b->dropped && a->head == b->head && a->number == b->number && memcmp(a->entry, b->entry, sizeof a->entry) == 0 && a->res == b->res && memcmp(a->bytes, b->bytes, sizeof a->bytes) == 0;
+    return a->kind == b->kind && a->word == b->word && a->dropped == b->dropped &&
+           a->head == b->head && a->number == b->number &&
+           memcmp(a->entry, b->entry, sizeof a->entry) == 0 && a->res == b->res &&
+           memcmp(a->bytes, b->bytes, sizeof a->bytes) == 0;
 }
 
 /* Fields that a kind doesn't use are 0. */
@@ -133,7 +141,8 @@ static void end_request(struct model *m, uint64_t number, const struct wulgach_a
         if (code_of(r->entry) == WULGACH_OP_WRITE && a->res >= 0) {
             struct wulgach_file *file = &m->files[fd];
             for (uint32_t i = 0; i < (uint32_t)a->res; i++)
-                m->bytes[(uint64_t)fd * FILE_SIZE + r->entry[1] + i] = (uint8_t)(r->entry[8 + i / 8] >> i % 8 * 8);
+                m->bytes[(uint64_t)fd * FILE_SIZE + r->entry[1] + i] =
+                    (uint8_t)(r->entry[8 + i / 8] >> i % 8 * 8);
             if (a->res > 0 && r->entry[1] + (uint32_t)a->res > file->len)
                 file->len = (uint32_t)(r->entry[1] + (uint32_t)a->res);
             file->writes++;
@@ -175,7 +184,9 @@ static void note(struct model *m, const struct wulgach_step *step, const struct 
     case WULGACH_REAPED: {
         check(m->reaped < m->posted_count, "a completion that wasn't posted");
         struct wulgach_completion *c = &m->posted[m->reaped++];
-        check(c->user_data == a->number && c->res == a->res && memcmp(c->bytes, a->bytes, sizeof c->bytes) == 0, "another completion is reaped");
+        check(c->user_data == a->number && c->res == a->res &&
+                  memcmp(c->bytes, a->bytes, sizeof c->bytes) == 0,
+            "another completion is reaped");
         break;
     }
     default:
@@ -183,7 +194,8 @@ static void note(struct model *m, const struct wulgach_step *step, const struct 
     }
 }
 
-static void check_operation(const struct request *r, int32_t result, const struct wulgach_operation *op)
+static void check_operation(
+    const struct request *r, int32_t result, const struct wulgach_operation *op)
 {
     check(result == (r->state == RUNS ? 0 : -2), "whether a request runs");
     if (result != 0)
@@ -198,12 +210,17 @@ static void check_operation(const struct request *r, int32_t result, const struc
     if (right.code == WULGACH_OP_WRITE)
         for (int i = 0; i < 64; i++)
             right.bytes[i] = (uint8_t)(r->entry[8 + i / 8] >> i % 8 * 8);
-    check(op->code == right.code && op->fd == right.fd && op->off == right.off && op->target == right.target && op->len == right.len && op->all == right.all && memcmp(op->bytes, right.bytes, sizeof op->bytes) == 0, "what a request asks for");
+    check(op->code == right.code && op->fd == right.fd && op->off == right.off &&
+              op->target == right.target && op->len == right.len && op->all == right.all &&
+              memcmp(op->bytes, right.bytes, sizeof op->bytes) == 0,
+        "what a request asks for");
 }
 
 static void check_counts(const struct model *m, int32_t result, const struct wulgach_counts *c)
 {
-    check(result == 0 && c->accepted == m->accepted && c->outstanding == m->accepted - m->ended && c->running == m->running && c->posted == m->posted_count && c->reaped == m->reaped, "counts");
+    check(result == 0 && c->accepted == m->accepted && c->outstanding == m->accepted - m->ended &&
+              c->running == m->running && c->posted == m->posted_count && c->reaped == m->reaped,
+        "counts");
 }
 
 static void check_least(const struct model *m, int32_t result, const uint64_t *number)
@@ -211,20 +228,25 @@ static void check_least(const struct model *m, int32_t result, const uint64_t *n
     uint64_t least = 0;
     while (least < m->accepted && m->requests[least].state == ENDED)
         least++;
-    check(result == (least < m->accepted ? 0 : -2) && (result != 0 || *number == least), "the least outstanding request");
+    check(result == (least < m->accepted ? 0 : -2) && (result != 0 || *number == least),
+        "the least outstanding request");
 }
 
-static void check_rest(const struct model *m, uint64_t index, int32_t result, const struct wulgach_completion *c)
+static void check_rest(
+    const struct model *m, uint64_t index, int32_t result, const struct wulgach_completion *c)
 {
     if (m->reaped + index >= m->posted_count) {
         check(result == -2, "a completion that waits past the last");
         return;
     }
     const struct wulgach_completion *right = &m->posted[m->reaped + index];
-    check(result == 0 && c->user_data == right->user_data && c->res == right->res && memcmp(c->bytes, right->bytes, sizeof c->bytes) == 0, "a completion that waits");
+    check(result == 0 && c->user_data == right->user_data && c->res == right->res &&
+              memcmp(c->bytes, right->bytes, sizeof c->bytes) == 0,
+        "a completion that waits");
 }
 
-static void check_file(struct wulgach_machine *machine, const struct model *m, const struct wulgach_setup *setup)
+static void check_file(
+    struct wulgach_machine *machine, const struct model *m, const struct wulgach_setup *setup)
 {
     int32_t fd = is_one_in(20) ? -1 : (int32_t)below(setup->files + 1);
     bool is_file = fd >= 0 && (uint32_t)fd < setup->files;
@@ -234,7 +256,8 @@ static void check_file(struct wulgach_machine *machine, const struct model *m, c
     struct wulgach_file right = {1, 2, 3};
     if (is_file)
         right = m->files[fd];
-    check(file.writes == right.writes && file.synced == right.synced && file.len == right.len, "how a file stands");
+    check(file.writes == right.writes && file.synced == right.synced && file.len == right.len,
+        "how a file stands");
     uint64_t at = is_one_in(20) ? roll() : below(220);
     uint8_t byte = 77;
     result = wulgach_machine_byte(machine, fd, at, &byte);
@@ -243,8 +266,10 @@ static void check_file(struct wulgach_machine *machine, const struct model *m, c
     check(byte == (is_byte ? m->bytes[(uint64_t)fd * FILE_SIZE + at] : 77), "a byte");
 }
 
-/* Why a request stands as it does agrees with what became of it, and names an earlier request that hasn't ended if it waits. */
-static void check_why(const struct model *m, uint64_t number, int32_t result, const struct wulgach_why *why)
+/* Why a request stands as it does agrees with what became of it, and names an earlier request that
+ * hasn't ended if it waits. */
+static void check_why(
+    const struct model *m, uint64_t number, int32_t result, const struct wulgach_why *why)
 {
     check(result == 0, "why");
     if (number >= m->accepted) {
@@ -254,14 +279,18 @@ static void check_why(const struct model *m, uint64_t number, int32_t result, co
     } else if (m->requests[number].state == RUNS) {
         check(why->kind == WULGACH_RUNS, "why of a running request");
     } else if (why->kind == WULGACH_WAITS) {
-        check(why->number < number && m->requests[why->number].state != ENDED, "why of a waiting request");
+        check(why->number < number && m->requests[why->number].state != ENDED,
+            "why of a waiting request");
     } else {
-        check(why->kind == WULGACH_DOOMED || why->kind == WULGACH_MAY_START, "why of a request to be issued");
+        check(why->kind == WULGACH_DOOMED || why->kind == WULGACH_MAY_START,
+            "why of a request to be issued");
     }
 }
 
-/* The requests that can be issued are those of which why says so: all of them, in order, from any number on and at each place. */
-static void check_issuable(struct wulgach_machine *machine, struct wulgach_core *core, const struct model *m)
+/* The requests that can be issued are those of which why says so: all of them, in order, from any
+ * number on and at each place. */
+static void check_issuable(
+    struct wulgach_machine *machine, struct wulgach_core *core, const struct model *m)
 {
     uint64_t count = 0;
     uint64_t next = 0;
@@ -272,32 +301,42 @@ static void check_issuable(struct wulgach_machine *machine, struct wulgach_core 
             continue;
         for (; next <= n; next++) {
             uint64_t by_core = UINT64_MAX, by_machine = UINT64_MAX;
-            check(wulgach_core_next_issuable(core, next, &by_core) == 0 && by_core == n, "the next that a core can issue");
-            check(wulgach_machine_next_issuable(machine, next, &by_machine) == 0 && by_machine == n, "the next that a machine can issue");
+            check(wulgach_core_next_issuable(core, next, &by_core) == 0 && by_core == n,
+                "the next that a core can issue");
+            check(wulgach_machine_next_issuable(machine, next, &by_machine) == 0 && by_machine == n,
+                "the next that a machine can issue");
         }
         uint64_t by_core = UINT64_MAX, by_machine = UINT64_MAX;
-        check(wulgach_core_nth_issuable(core, count, &by_core) == 0 && by_core == n, "the one at a place that a core can issue");
-        check(wulgach_machine_nth_issuable(machine, count, &by_machine) == 0 && by_machine == n, "the one at a place that a machine can issue");
+        check(wulgach_core_nth_issuable(core, count, &by_core) == 0 && by_core == n,
+            "the one at a place that a core can issue");
+        check(wulgach_machine_nth_issuable(machine, count, &by_machine) == 0 && by_machine == n,
+            "the one at a place that a machine can issue");
         count++;
     }
     uint64_t told = UINT64_MAX;
     check(wulgach_core_issuable(core, &told) == 0 && told == count, "how many a core can issue");
-    check(wulgach_machine_issuable(machine, &told) == 0 && told == count, "how many a machine can issue");
+    check(wulgach_machine_issuable(machine, &told) == 0 && told == count,
+        "how many a machine can issue");
     const uint64_t past[] = {next, m->accepted, UINT64_MAX};
     for (int i = 0; i < 3; i++) {
         uint64_t number = 99;
-        check(wulgach_core_next_issuable(core, past[i], &number) == -2 && number == 99, "none after the last of a core");
-        check(wulgach_machine_next_issuable(machine, past[i], &number) == -2 && number == 99, "none after the last of a machine");
+        check(wulgach_core_next_issuable(core, past[i], &number) == -2 && number == 99,
+            "none after the last of a core");
+        check(wulgach_machine_next_issuable(machine, past[i], &number) == -2 && number == 99,
+            "none after the last of a machine");
     }
     const uint64_t places[] = {count, count + 1, UINT64_MAX};
     for (int i = 0; i < 3; i++) {
         uint64_t number = 99;
-        check(wulgach_core_nth_issuable(core, places[i], &number) == -2 && number == 99, "none at a place past the last of a core");
-        check(wulgach_machine_nth_issuable(machine, places[i], &number) == -2 && number == 99, "none at a place past the last of a machine");
+        check(wulgach_core_nth_issuable(core, places[i], &number) == -2 && number == 99,
+            "none at a place past the last of a core");
+        check(wulgach_machine_nth_issuable(machine, places[i], &number) == -2 && number == 99,
+            "none at a place past the last of a machine");
     }
 }
 
-static void check_readers(struct wulgach_machine *machine, struct wulgach_core *core, const struct model *m, const struct wulgach_setup *setup)
+static void check_readers(struct wulgach_machine *machine, struct wulgach_core *core,
+    const struct model *m, const struct wulgach_setup *setup)
 {
     struct wulgach_counts counts = {9, 9, 9, 9, 9};
     check_counts(m, wulgach_machine_counts(machine, &counts), &counts);

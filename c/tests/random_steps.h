@@ -1,4 +1,5 @@
-/* For side_by_side.c: what the answers so far say, random steps, and their lines in the trace language. */
+/* For side_by_side.c: what the answers so far say, random steps, and their lines in the trace
+ * language. */
 #ifndef RANDOM_STEPS_H
 #define RANDOM_STEPS_H
 
@@ -159,7 +160,8 @@ static void fill_cancel(FILE *lines, uint64_t *entry, const struct drawn *drawn)
 {
     uint64_t target = below(8);
     int is_of_all = is_one_in(2);
-    (is_of_all ? wulgach_cancel_all : wulgach_cancel)(entry, drawn->user_data, drawn->flags, target);
+    (is_of_all ? wulgach_cancel_all : wulgach_cancel)(
+        entry, drawn->user_data, drawn->flags, target);
     print_drawn(lines, is_of_all ? "cancelall" : "cancel", drawn);
     fprintf(lines, " %" PRIu64, target);
 }
@@ -224,7 +226,8 @@ static uint64_t random_number(const struct model *m)
     return m->accepted - 1 - below((uint32_t)back);
 }
 
-static const char *const words[15] = {"", "index", "tail", "head", "begin", "take", "end", "issue", "finish", "flush", "cqtail", "reap", "cqhead", "close", "next"};
+static const char *const words[15] = {"", "index", "tail", "head", "begin", "take", "end", "issue",
+    "finish", "flush", "cqtail", "reap", "cqhead", "close", "next"};
 
 /* How often each kind comes. */
 static const uint8_t weights[15] = {20, 22, 12, 6, 10, 28, 12, 26, 24, 5, 10, 14, 8, 0, 5};
@@ -244,7 +247,8 @@ static uint32_t random_kind(void)
     }
 }
 
-static struct wulgach_step random_step(FILE *lines, const struct model *m, const struct wulgach_setup *setup)
+static struct wulgach_step random_step(
+    FILE *lines, const struct model *m, const struct wulgach_setup *setup)
 {
     struct wulgach_step step = {.kind = random_kind(), .word = (uint32_t)roll(), .number = roll()};
     for (int i = 0; i < 16; i++)

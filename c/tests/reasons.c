@@ -1,6 +1,7 @@
-/* Why requests stand as they do: each case, each doom and each reason to wait that the manual pages' rules have, and each fault, by
- * its name in the header, of a core and of a machine. And that a function that makes an entry leaves nothing of what the words
- * held before, and that a write has its bytes. */
+/* Why requests stand as they do: each case, each doom and each reason to wait that the manual
+ * pages' rules have, and each fault, by its name in the header, of a core and of a machine. And
+ * that a function that makes an entry leaves nothing of what the words held before, and that a
+ * write has its bytes. */
 #include "wulgach.h"
 
 #include <stdio.h>
@@ -26,7 +27,9 @@ struct both {
 static struct both both_new(void)
 {
     struct both both = {{0}, {0}};
-    check(wulgach_core_new(&both.core, &setup) == 0 && wulgach_machine_new(&both.machine, &setup) == 0, "new");
+    check(wulgach_core_new(&both.core, &setup) == 0 &&
+              wulgach_machine_new(&both.machine, &setup) == 0,
+        "new");
     return both;
 }
 
@@ -39,11 +42,14 @@ static void both_free(struct both *both)
 static void make(struct both *both, const struct wulgach_step *step, uint32_t kind)
 {
     struct wulgach_answer answer;
-    check(wulgach_core_step(&both->core, step, &answer) == 0 && answer.kind == kind, "a core's step");
-    check(wulgach_machine_step(&both->machine, step, &answer) == 0 && answer.kind == kind, "a machine's step");
+    check(
+        wulgach_core_step(&both->core, step, &answer) == 0 && answer.kind == kind, "a core's step");
+    check(wulgach_machine_step(&both->machine, step, &answer) == 0 && answer.kind == kind,
+        "a machine's step");
 }
 
-static void make_simple(struct both *both, uint32_t kind, uint32_t word, uint64_t number, uint32_t wanted)
+static void make_simple(
+    struct both *both, uint32_t kind, uint32_t word, uint64_t number, uint32_t wanted)
 {
     struct wulgach_step step = {.kind = kind, .word = word, .number = number};
     make(both, &step, wanted);
@@ -66,19 +72,26 @@ static void submit(struct both *both, uint64_t (*entries)[16], uint32_t count)
     make_simple(both, WULGACH_LOAD_HEAD, 0, 0, WULGACH_HEAD);
 }
 
-static bool is_why(const struct wulgach_why *why, uint32_t kind, uint32_t reason, uint32_t fault, uint64_t number)
+static bool is_why(
+    const struct wulgach_why *why, uint32_t kind, uint32_t reason, uint32_t fault, uint64_t number)
 {
-    return why->kind == kind && why->reason == reason && why->fault == fault && why->number == number;
+    return why->kind == kind && why->reason == reason && why->fault == fault &&
+           why->number == number;
 }
 
 /* A request stands so. */
-static void stands(struct both *both, uint64_t request, uint32_t kind, uint32_t reason, uint32_t fault, uint64_t number, const char *what)
+static void stands(struct both *both, uint64_t request, uint32_t kind, uint32_t reason,
+    uint32_t fault, uint64_t number, const char *what)
 {
     struct wulgach_why why;
     memset(&why, 0xa5, sizeof why);
-    check(wulgach_core_why(&both->core, request, &why) == 0 && is_why(&why, kind, reason, fault, number), what);
+    check(wulgach_core_why(&both->core, request, &why) == 0 &&
+              is_why(&why, kind, reason, fault, number),
+        what);
     memset(&why, 0x5a, sizeof why);
-    check(wulgach_machine_why(&both->machine, request, &why) == 0 && is_why(&why, kind, reason, fault, number), what);
+    check(wulgach_machine_why(&both->machine, request, &why) == 0 &&
+              is_why(&why, kind, reason, fault, number),
+        what);
 }
 
 /* Each fault of an entry, each in a group of its own. */
@@ -96,7 +109,9 @@ static void faults(void)
     wulgach_read(entries[6], 6, 0, 0, UINT64_MAX, 8);
     struct both both = both_new();
     submit(&both, entries, 7);
-    static const uint32_t faults[7] = {WULGACH_FAULT_FLAGS, WULGACH_FAULT_OPCODE, WULGACH_FAULT_IOPRIO, WULGACH_FAULT_OP_FLAGS, WULGACH_FAULT_RESERVED, WULGACH_FAULT_LEN, WULGACH_FAULT_OFF};
+    static const uint32_t faults[7] = {WULGACH_FAULT_FLAGS, WULGACH_FAULT_OPCODE,
+        WULGACH_FAULT_IOPRIO, WULGACH_FAULT_OP_FLAGS, WULGACH_FAULT_RESERVED, WULGACH_FAULT_LEN,
+        WULGACH_FAULT_OFF};
     for (uint32_t i = 0; i < 7; i++)
         stands(&both, i, WULGACH_DOOMED, WULGACH_OWN_FAULT, faults[i], 0, "a fault");
     both_free(&both);
@@ -128,8 +143,12 @@ static void dooms(void)
     struct wulgach_answer answer;
     struct wulgach_bytes bytes = {{0}};
     struct wulgach_step finish = {.kind = WULGACH_FINISH, .number = 2};
-    check(wulgach_core_finish(&both.core, 2, 0, &bytes, &answer) == 0 && answer.kind == WULGACH_ENDED, "a core's finish");
-    check(wulgach_machine_step(&both.machine, &finish, &answer) == 0 && answer.kind == WULGACH_ENDED && answer.res == 0, "a machine's finish");
+    check(
+        wulgach_core_finish(&both.core, 2, 0, &bytes, &answer) == 0 && answer.kind == WULGACH_ENDED,
+        "a core's finish");
+    check(wulgach_machine_step(&both.machine, &finish, &answer) == 0 &&
+              answer.kind == WULGACH_ENDED && answer.res == 0,
+        "a machine's finish");
     stands(&both, 4, WULGACH_DOOMED, WULGACH_FAILURE_OF, 0, 2, "a failure of another");
     both_free(&both);
 }
@@ -180,7 +199,8 @@ static void make_entry(uint64_t entry[16], int which)
     }
 }
 
-/* An entry that is made over other words, of all ones or of another entry, is the one that is made over zeros. */
+/* An entry that is made over other words, of all ones or of another entry, is the one that is made
+ * over zeros. */
 static void made_over(void)
 {
     for (int which = 0; which < 8; which++) {
@@ -198,7 +218,8 @@ static void made_over(void)
     }
 }
 
-/* The bytes of a write stand in its last eight words, eight in each, the first in the lowest byte of the first; after them are zeros. */
+/* The bytes of a write stand in its last eight words, eight in each, the first in the lowest byte
+ * of the first; after them are zeros. */
 static void bytes_of_writes(void)
 {
     uint8_t bytes[64];
@@ -208,7 +229,8 @@ static void bytes_of_writes(void)
         uint64_t entry[16];
         wulgach_write(entry, 7, 0, 1, 100, bytes, len);
         for (uint32_t i = 0; i < 64; i++)
-            check((uint8_t)(entry[8 + i / 8] >> i % 8 * 8) == (i < len ? bytes[i] : 0), "a byte of a write");
+            check((uint8_t)(entry[8 + i / 8] >> i % 8 * 8) == (i < len ? bytes[i] : 0),
+                "a byte of a write");
     }
 }
 

@@ -1,4 +1,5 @@
-/* What is refused: empty places, words that give no step, set-ups, and memory. Memory is refused as refusing.h says. */
+/* What is refused: empty places, words that give no step, set-ups, and memory. Memory is refused as
+ * refusing.h says. */
 #define TEST "refusals"
 
 #include "refusing.h"
@@ -26,29 +27,42 @@ static void empty_places(void)
     check(wulgach_core_finish(&core, 0, 0, &bytes, &answer) == -9, "finish of an empty place");
     check(wulgach_core_counts(&core, &counts) == -9, "counts of an empty place");
     check(wulgach_core_rest(&core, 0, &completion) == -9, "rest of an empty place");
-    check(wulgach_core_running_op(&core, 0, &operation) == -9, "running operation of an empty place");
+    check(
+        wulgach_core_running_op(&core, 0, &operation) == -9, "running operation of an empty place");
     uint64_t number = 99;
     check(wulgach_core_least(&core, &number) == -9 && number == 99, "least of an empty place");
-    check(wulgach_core_next_issuable(&core, 0, &number) == -9 && number == 99, "next request of an empty place");
+    check(wulgach_core_next_issuable(&core, 0, &number) == -9 && number == 99,
+        "next request of an empty place");
     check(wulgach_core_issuable(&core, &number) == -9 && number == 99, "count of an empty place");
-    check(wulgach_core_nth_issuable(&core, 0, &number) == -9 && number == 99, "request at a place of an empty place");
+    check(wulgach_core_nth_issuable(&core, 0, &number) == -9 && number == 99,
+        "request at a place of an empty place");
     struct wulgach_why why = {.number = 99};
     check(wulgach_core_why(&core, 0, &why) == -9 && why.number == 99, "why of an empty place");
     check(wulgach_core_free(&core) == -9, "free of an empty place");
     check(wulgach_machine_step(&machine, &step, &answer) == -9, "step of an empty machine");
     check(wulgach_machine_counts(&machine, &counts) == -9, "counts of an empty machine");
     check(wulgach_machine_rest(&machine, 0, &completion) == -9, "rest of an empty machine");
-    check(wulgach_machine_running_op(&machine, 0, &operation) == -9, "running operation of an empty machine");
-    check(wulgach_machine_least(&machine, &number) == -9 && number == 99, "least of an empty machine");
-    check(wulgach_machine_next_issuable(&machine, 0, &number) == -9 && number == 99, "next request of an empty machine");
-    check(wulgach_machine_issuable(&machine, &number) == -9 && number == 99, "count of an empty machine");
-    check(wulgach_machine_nth_issuable(&machine, 0, &number) == -9 && number == 99, "request at a place of an empty machine");
-    check(wulgach_machine_why(&machine, 0, &why) == -9 && why.number == 99, "why of an empty machine");
+    check(wulgach_machine_running_op(&machine, 0, &operation) == -9,
+        "running operation of an empty machine");
+    check(wulgach_machine_least(&machine, &number) == -9 && number == 99,
+        "least of an empty machine");
+    check(wulgach_machine_next_issuable(&machine, 0, &number) == -9 && number == 99,
+        "next request of an empty machine");
+    check(wulgach_machine_issuable(&machine, &number) == -9 && number == 99,
+        "count of an empty machine");
+    check(wulgach_machine_nth_issuable(&machine, 0, &number) == -9 && number == 99,
+        "request at a place of an empty machine");
+    check(wulgach_machine_why(&machine, 0, &why) == -9 && why.number == 99,
+        "why of an empty machine");
     check(wulgach_machine_state(&machine, 0, &file) == -9, "state of an empty machine");
     check(wulgach_machine_byte(&machine, 0, 0, &byte) == -9, "byte of an empty machine");
     check(wulgach_machine_free(&machine) == -9, "free of an empty machine");
-    check(answer.kind == 99 && counts.accepted == 99 && completion.user_data == 99 && operation.code == 99 && file.len == 99 && byte == 99, "a refusal writes");
-    check(wulgach_core_new(&core, &small) == 0 && wulgach_core_free(&core) == 0 && wulgach_core_free(&core) == -9, "a second free");
+    check(answer.kind == 99 && counts.accepted == 99 && completion.user_data == 99 &&
+              operation.code == 99 && file.len == 99 && byte == 99,
+        "a refusal writes");
+    check(wulgach_core_new(&core, &small) == 0 && wulgach_core_free(&core) == 0 &&
+              wulgach_core_free(&core) == -9,
+        "a second free");
 }
 
 /* Words that give no step return -22, and the core is as it was. */
@@ -56,7 +70,8 @@ static void no_steps(void)
 {
     struct wulgach_core core = {0};
     struct wulgach_machine machine = {0};
-    check(wulgach_core_new(&core, &small) == 0 && wulgach_machine_new(&machine, &small) == 0, "new");
+    check(
+        wulgach_core_new(&core, &small) == 0 && wulgach_machine_new(&machine, &small) == 0, "new");
     for (uint32_t kind = 0; kind < 70; kind++) {
         struct wulgach_step step = {.kind = kind == 69 ? UINT32_MAX : kind};
         struct wulgach_answer answer = {.kind = 99};
@@ -65,14 +80,16 @@ static void no_steps(void)
         check((answer.kind == 99) == (result != 0), "an answer comes exactly with a step");
         answer.kind = 99;
         result = wulgach_core_step(&core, &step, &answer);
-        check(result == (kind < 15 && kind != 8 ? 0 : -22), "a core's steps are of the kinds 0 to 14 but 8");
+        check(result == (kind < 15 && kind != 8 ? 0 : -22),
+            "a core's steps are of the kinds 0 to 14 but 8");
         check((answer.kind == 99) == (result != 0), "an answer comes exactly with a step");
     }
     wulgach_core_free(&core);
     wulgach_machine_free(&machine);
 }
 
-/* Numbers of set-ups at and past their limits, and which is told to be out of its range. A core has no files. */
+/* Numbers of set-ups at and past their limits, and which is told to be out of its range. A core has
+ * no files. */
 static void set_ups(void)
 {
     static const struct {
@@ -107,13 +124,16 @@ static void set_ups(void)
         struct wulgach_machine machine = {0};
         check(wulgach_setup_fault(&cases[i].setup) == fault, "what is wrong with a set-up");
         check(wulgach_core_new(&core, &cases[i].setup) == of_core, "the set-up of a core");
-        check(wulgach_machine_new(&machine, &cases[i].setup) == of_machine, "the set-up of a machine");
+        check(wulgach_machine_new(&machine, &cases[i].setup) == of_machine,
+            "the set-up of a machine");
         check(wulgach_core_free(&core) == (of_core == 0 ? 0 : -9), "a core's place after a set-up");
-        check(wulgach_machine_free(&machine) == (of_machine == 0 ? 0 : -9), "a machine's place after a set-up");
+        check(wulgach_machine_free(&machine) == (of_machine == 0 ? 0 : -9),
+            "a machine's place after a set-up");
     }
 }
 
-static struct wulgach_answer make(struct wulgach_machine *machine, uint32_t kind, uint32_t word, uint64_t number)
+static struct wulgach_answer make(
+    struct wulgach_machine *machine, uint32_t kind, uint32_t word, uint64_t number)
 {
     struct wulgach_step step = {.kind = kind, .word = word, .number = number};
     struct wulgach_answer answer;
@@ -121,12 +141,14 @@ static struct wulgach_answer make(struct wulgach_machine *machine, uint32_t kind
     return answer;
 }
 
-/* A full place that is made anew, or isn't since memory is refused: what it had is freed, or kept. */
+/* A full place that is made anew, or isn't since memory is refused: what it had is freed, or kept.
+ */
 static void made_anew(void)
 {
     struct wulgach_machine machine = {0};
     struct wulgach_core core = {0};
-    check(wulgach_core_new(&core, &small) == 0 && wulgach_core_new(&core, &small) == 0, "a core made anew");
+    check(wulgach_core_new(&core, &small) == 0 && wulgach_core_new(&core, &small) == 0,
+        "a core made anew");
     check(wulgach_machine_new(&machine, &small) == 0, "new");
     make(&machine, WULGACH_CLOSE, 0, 0);
     long refusals = 0;
@@ -137,7 +159,8 @@ static void made_anew(void)
         served = -1;
         check(result == (is_made ? 0 : -12), "-12 exactly if memory was refused");
         uint32_t kind = make(&machine, WULGACH_BEGIN, 0, 0).kind;
-        check(kind == (is_made ? WULGACH_CALL : WULGACH_CLOSED), "a place keeps its machine until another is made");
+        check(kind == (is_made ? WULGACH_CALL : WULGACH_CLOSED),
+            "a place keeps its machine until another is made");
         if (is_made)
             break;
     }
@@ -156,7 +179,8 @@ static void refused_steps(void)
     struct wulgach_step fill = {.kind = WULGACH_FILL};
     struct wulgach_answer answer;
     wulgach_write(fill.entry, 7, 0, 0, 0, (const uint8_t *)"abc", 3);
-    check(wulgach_machine_step(&machine, &fill, &answer) == 0 && answer.kind == WULGACH_FILLED, "fill");
+    check(wulgach_machine_step(&machine, &fill, &answer) == 0 && answer.kind == WULGACH_FILLED,
+        "fill");
     check(make(&machine, WULGACH_INDEX, 0, 0).kind == WULGACH_STAGED, "index");
     check(make(&machine, WULGACH_STORE_TAIL, 0, 0).kind == WULGACH_TAIL, "tail");
     served = 0;
@@ -169,10 +193,12 @@ static void refused_steps(void)
     check(make(&machine, WULGACH_ISSUE, 0, 0).kind == WULGACH_RUN, "issue");
     served = 0;
     answer = make(&machine, WULGACH_FINISH, 0, 0);
-    check(answer.kind == WULGACH_ENDED && answer.res == -12 && served < 0, "a write without memory");
+    check(
+        answer.kind == WULGACH_ENDED && answer.res == -12 && served < 0, "a write without memory");
     served = -1;
     struct wulgach_file file;
-    check(wulgach_machine_state(&machine, 0, &file) == 0 && file.len == 0 && file.writes == 0, "the file is as it was");
+    check(wulgach_machine_state(&machine, 0, &file) == 0 && file.len == 0 && file.writes == 0,
+        "the file is as it was");
     check(wulgach_machine_free(&machine) == 0, "free");
 }
 

@@ -1,5 +1,5 @@
-/* What tests say that is wrong, and memory that is refused when they ask for it: the linker hands malloc and realloc to the functions
- * below. TEST is the test's name. */
+/* What tests say that is wrong, and memory that is refused when they ask for it: the linker hands
+ * malloc and realloc to the functions below. TEST is the test's name. */
 #ifndef REFUSING_H
 #define REFUSING_H
 

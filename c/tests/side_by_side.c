@@ -1,12 +1,15 @@
-/* Plays random steps on a machine and on a core of the library, and writes them as lines of the trace language. Compares
+/* Plays random steps on a machine and on a core of the library, and writes them as lines of the
+ * trace language. Compares
  *   - the answers of machine and core, field by field;
  *   - both answers, as text, with those of a program that has the trace language;
- *   - counts, completions that wait, running operations, files and bytes with what the answers so far say.
- * At the end every kind of step and of answer must have come, but for those that need memory to be refused or 2^63 requests.
+ *   - counts, completions that wait, running operations, files and bytes with what the answers so
+ * far say. At the end every kind of step and of answer must have come, but for those that need
+ * memory to be refused or 2^63 requests.
  *
  *   side_by_side TRACE FIRST_SEED SEEDS STEPS
  *
- * If TRACE is a folder, nothing is run: each trace, its options and its answers are written there, as `rt try --cases` takes them.
+ * If TRACE is a folder, nothing is run: each trace, its options and its answers are written there,
+ * as `rt try --cases` takes them.
  */
 #define _POSIX_C_SOURCE 200809L
 #include "model.h"
@@ -14,7 +17,8 @@
 #include <sys/stat.h>
 #include <unistd.h>
 
-static int32_t core_step(struct wulgach_core *core, const struct wulgach_step *step, const struct wulgach_answer *by_machine, struct wulgach_answer *answer)
+static int32_t core_step(struct wulgach_core *core, const struct wulgach_step *step,
+    const struct wulgach_answer *by_machine, struct wulgach_answer *answer)
 {
     if (step->kind != WULGACH_FINISH)
         return wulgach_core_step(core, step, answer);
@@ -26,7 +30,8 @@ static int32_t core_step(struct wulgach_core *core, const struct wulgach_step *s
 
 static struct wulgach_setup random_setup(void)
 {
-    struct wulgach_setup setup = {.sq = 1u << below(4), .files = 1 + below(3), .has_cq = is_one_in(2), .stops = is_one_in(3)};
+    struct wulgach_setup setup = {
+        .sq = 1u << below(4), .files = 1 + below(3), .has_cq = is_one_in(2), .stops = is_one_in(3)};
     setup.cq = setup.has_cq ? setup.sq << below(3) : (uint32_t)roll();
     setup.start = is_one_in(2) ? below(5) : UINT32_MAX - below(20);
     return setup;
@@ -41,11 +46,13 @@ static void print_options(char *out, size_t size, const struct wulgach_setup *se
     char stop[32] = "";
     if (setup->stops)
         snprintf(stop, sizeof stop, "--stop%c", between);
-    snprintf(out, size, "--sq%c%" PRIu32 "%c%s%s--files%c%" PRIu32 "%c--start%c%" PRIu32, between, setup->sq, between, cq, stop, between, setup->files, between, between, setup->start);
+    snprintf(out, size, "--sq%c%" PRIu32 "%c%s%s--files%c%" PRIu32 "%c--start%c%" PRIu32, between,
+        setup->sq, between, cq, stop, between, setup->files, between, between, setup->start);
 }
 
 /* The answers of the program to these lines are this text. */
-static void compare(const char *trace, const char *lines, const struct wulgach_setup *setup, const char *text)
+static void compare(
+    const char *trace, const char *lines, const struct wulgach_setup *setup, const char *text)
 {
     char command[1024], options[128];
     print_options(options, sizeof options, setup, ' ');
@@ -68,7 +75,8 @@ static void write_file(const char *path, const char *end, const char *head, cons
     char name[1024];
     snprintf(name, sizeof name, "%s%s", path, end);
     FILE *file = fopen(name, "w");
-    check(file && fprintf(file, "%s%s", head, text) >= 0 && fclose(file) == 0, "a file can't be written");
+    check(file && fprintf(file, "%s%s", head, text) >= 0 && fclose(file) == 0,
+        "a file can't be written");
 }
 
 /* Writes what the program is to be given and is to answer beside these lines. */
@@ -85,9 +93,13 @@ static void play(const char *trace, bool is_folder, const char *path, uint32_t s
     struct wulgach_setup setup = random_setup();
     struct wulgach_machine machine = {0};
     struct wulgach_core core = {0};
-    check(wulgach_machine_new(&machine, &setup) == 0 && wulgach_core_new(&core, &setup) == 0, "a set-up is refused");
+    check(wulgach_machine_new(&machine, &setup) == 0 && wulgach_core_new(&core, &setup) == 0,
+        "a set-up is refused");
     uint64_t most = (uint64_t)steps * 8 + 8;
-    struct model m = {.requests = room(most, sizeof *m.requests), .taken = room(4096, sizeof *m.taken), .posted = room(most, sizeof *m.posted), .bytes = room(MAX_FILES, FILE_SIZE)};
+    struct model m = {.requests = room(most, sizeof *m.requests),
+        .taken = room(4096, sizeof *m.taken),
+        .posted = room(most, sizeof *m.posted),
+        .bytes = room(MAX_FILES, FILE_SIZE)};
     char *text = NULL;
     size_t size = 0;
     FILE *answers = open_memstream(&text, &size), *lines = fopen(path, "w");
@@ -152,6 +164,7 @@ int main(int argc, char **argv)
             fprintf(stderr, "side_by_side: no answer of kind %d\n", kind);
             return 1;
         }
-    printf("%" PRIu64 " traces of %" PRIu32 " steps: %s\n", seeds, steps, is_folder ? "written" : "the same answers");
+    printf("%" PRIu64 " traces of %" PRIu32 " steps: %s\n", seeds, steps,
+        is_folder ? "written" : "the same answers");
     return 0;
 }

@@ -1,4 +1,5 @@
-/* The time of a ring and its timeouts: each call once, with what the manual page and the header call for, written by hand. */
+/* The time of a ring and its timeouts: each call once, with what the manual page and the header
+ * call for, written by hand. */
 #include "demand.h"
 #include "wulgach_course.h"
 #include "wulgach_form.h"
@@ -23,11 +24,23 @@ static void check_sums(void)
     struct wulgach_span span, longest;
     wulgach_span_of(3 * (uint64_t)SECOND + 7, &span);
     wulgach_span_of(UINT64_MAX, &longest);
-    demand(span.seconds == 3 && span.nanoseconds == 7 && longest.seconds == 18446744073 && longest.nanoseconds == 709551615, "a time as ppoll(2) takes it");
-    demand(wulgach_timeout_count(&(struct wulgach_submission){.off = (1ull << 32) + 3}) == 3 && wulgach_timeout_count(&(struct wulgach_submission){.off = 1ull << 63}) == 0, "how many completions are counted");
-    demand(wulgach_time_of(-1, 5) == 0 && wulgach_time_of(0, -5) == 0 && wulgach_time_of(-1, -5) == 0 && wulgach_time_of(INT64_MIN, INT64_MAX) == 0, "a negative time is none");
-    demand(wulgach_time_of(-5, 5050000000) == 50000000 && wulgach_time_of(1, -950000000) == 50000000 && wulgach_time_of(-1, INT64_MAX) == INT64_MAX - SECOND, "a time is a sum");
-    demand(wulgach_time_of(9223372035, -1) == 9223372034999999999 && wulgach_time_of(9223372036, INT64_MIN) == INT64_MAX && wulgach_time_of(INT64_MAX, INT64_MIN) == INT64_MAX, "from so many seconds on it is the largest");
+    demand(span.seconds == 3 && span.nanoseconds == 7 && longest.seconds == 18446744073 &&
+               longest.nanoseconds == 709551615,
+        "a time as ppoll(2) takes it");
+    demand(wulgach_timeout_count(&(struct wulgach_submission){.off = (1ull << 32) + 3}) == 3 &&
+               wulgach_timeout_count(&(struct wulgach_submission){.off = 1ull << 63}) == 0,
+        "how many completions are counted");
+    demand(wulgach_time_of(-1, 5) == 0 && wulgach_time_of(0, -5) == 0 &&
+               wulgach_time_of(-1, -5) == 0 && wulgach_time_of(INT64_MIN, INT64_MAX) == 0,
+        "a negative time is none");
+    demand(wulgach_time_of(-5, 5050000000) == 50000000 &&
+               wulgach_time_of(1, -950000000) == 50000000 &&
+               wulgach_time_of(-1, INT64_MAX) == INT64_MAX - SECOND,
+        "a time is a sum");
+    demand(wulgach_time_of(9223372035, -1) == 9223372034999999999 &&
+               wulgach_time_of(9223372036, INT64_MIN) == INT64_MAX &&
+               wulgach_time_of(INT64_MAX, INT64_MIN) == INT64_MAX,
+        "from so many seconds on it is the largest");
     demand(wulgach_time_of(INT64_MAX, 0) == INT64_MAX, "a time past the largest is the largest");
     demand(wulgach_time_left(5, 3) == 2 && wulgach_time_left(3, 5) == 0, "what is left");
 }
@@ -40,21 +53,32 @@ static void check_order(void)
     int32_t res = 1;
     wulgach_times_begin(&times);
     demand(wulgach_times_passing(&times, rows, ROOM, &sources, &next) == -2, "no timeout runs");
-    demand(start(7, 20, 0, false) == 0 && start(4, 20, 0, false) == 0 && start(9, 10, 0, false) == 0, "three start");
+    demand(
+        start(7, 20, 0, false) == 0 && start(4, 20, 0, false) == 0 && start(9, 10, 0, false) == 0,
+        "three start");
     demand(start(11, 1, 0, false) == -12, "there is no room for a fourth");
-    demand(wulgach_times_nth(&times, rows, ROOM, 2, &next) == 0 && next.number == 9 && wulgach_times_nth(&times, rows, ROOM, 3, &next) == -2, "they run");
-    demand(wulgach_times_due(&times, rows, ROOM, &next) == -2 && wulgach_times_end(&times, rows, ROOM, 9, &res) == -2 && res == 1, "none is over");
+    demand(wulgach_times_nth(&times, rows, ROOM, 2, &next) == 0 && next.number == 9 &&
+               wulgach_times_nth(&times, rows, ROOM, 3, &next) == -2,
+        "they run");
+    demand(wulgach_times_due(&times, rows, ROOM, &next) == -2 &&
+               wulgach_times_end(&times, rows, ROOM, 9, &res) == -2 && res == 1,
+        "none is over");
     for (uint64_t i = 0; i < ROOM; i++) {
         static const uint64_t order[ROOM] = {9, 4, 7};
-        demand(wulgach_times_passing(&times, rows, ROOM, &sources, &next) == 0 && next.number == order[i], "who ends next");
+        demand(wulgach_times_passing(&times, rows, ROOM, &sources, &next) == 0 &&
+                   next.number == order[i],
+            "who ends next");
         wulgach_times_pass(&times, &next);
         demand(times.time == (i == 0 ? 10 : 20), "time has passed");
-        demand(wulgach_times_end(&times, rows, ROOM, next.number, &res) == 0 && res == -62 && times.expired == i + 1, "it ends");
+        demand(wulgach_times_end(&times, rows, ROOM, next.number, &res) == 0 && res == -62 &&
+                   times.expired == i + 1,
+            "it ends");
     }
     demand(times.count == 0, "none runs any more");
 }
 
-/* A timeout counts what its own submission's requests have ended with before it started, unless it is issued late. */
+/* A timeout counts what its own submission's requests have ended with before it started, unless it
+ * is issued late. */
 static void check_held(void)
 {
     struct wulgach_held_back held;
@@ -63,13 +87,22 @@ static void check_held(void)
     wulgach_held_posts(&held, 5, false);
     wulgach_held_posts(&held, 6, true);
     wulgach_held_posts(&held, 7, false);
-    demand(wulgach_held_for(&held, 8, false) == 2 && wulgach_held_for(&held, 8, true) == 0 && wulgach_held_for(&held, 4, false) == 0, "what is held back");
-    demand(wulgach_is_at_once(27) && wulgach_is_at_once(40) && !wulgach_is_at_once(6) && !wulgach_is_at_once(47) && !wulgach_is_at_once(48), "what is posted at once");
+    demand(wulgach_held_for(&held, 8, false) == 2 && wulgach_held_for(&held, 8, true) == 0 &&
+               wulgach_held_for(&held, 4, false) == 0,
+        "what is held back");
+    demand(wulgach_is_at_once(27) && wulgach_is_at_once(40) && !wulgach_is_at_once(6) &&
+               !wulgach_is_at_once(47) && !wulgach_is_at_once(48),
+        "what is posted at once");
     wulgach_times_begin(&times);
     times.posted = 4;
-    struct wulgach_start begun = {.number = 1, .more = 100, .count = 2}, other = {.number = 2, .more = 100};
-    demand(wulgach_times_start(&times, rows, ROOM, &begun, 2) == 0 && wulgach_times_start(&times, rows, ROOM, &other, 2) == 0, "two start");
-    demand(wulgach_times_has_counted(&times, rows, ROOM, 1) && !wulgach_times_has_counted(&times, rows, ROOM, 2), "one has counted enough");
+    struct wulgach_start begun = {.number = 1, .more = 100, .count = 2},
+                         other = {.number = 2, .more = 100};
+    demand(wulgach_times_start(&times, rows, ROOM, &begun, 2) == 0 &&
+               wulgach_times_start(&times, rows, ROOM, &other, 2) == 0,
+        "two start");
+    demand(wulgach_times_has_counted(&times, rows, ROOM, 1) &&
+               !wulgach_times_has_counted(&times, rows, ROOM, 2),
+        "one has counted enough");
 }
 
 static void check_counts_and_changes(void)
@@ -79,8 +112,11 @@ static void check_counts_and_changes(void)
     wulgach_times_begin(&times);
     demand(start(1, 100, 2, false) == 0 && start(2, 100, 0, false) == 0, "two start");
     struct wulgach_timeout running;
-    demand(wulgach_times_nth(&times, rows, ROOM, 0, &running) == 0 && running.number == 1 && wulgach_times_nth(&times, rows, ROOM, 1, &running) == 0 && running.number == 2, "in that order");
-    demand(wulgach_times_nth(&times, rows, ROOM, 2, &running) == -2 && running.number == 2, "and no others");
+    demand(wulgach_times_nth(&times, rows, ROOM, 0, &running) == 0 && running.number == 1 &&
+               wulgach_times_nth(&times, rows, ROOM, 1, &running) == 0 && running.number == 2,
+        "in that order");
+    demand(wulgach_times_nth(&times, rows, ROOM, 2, &running) == -2 && running.number == 2,
+        "and no others");
     struct wulgach_course course;
     wulgach_course_begin(&course);
     demand(wulgach_times_count_end(&times, &course, false, true), "an end counts");
@@ -88,13 +124,17 @@ static void check_counts_and_changes(void)
     demand(!wulgach_times_count_end(&times, &course, true, true), "one doesn't");
     demand(times.posted == 1, "a timeout that its time has ended doesn't count");
     demand(!wulgach_times_has_counted(&times, rows, ROOM, 1), "one completion isn't two");
-    demand(wulgach_times_reached(&times, rows, ROOM, &reached) == -2 && reached.number == 7, "no count is reached");
+    demand(wulgach_times_reached(&times, rows, ROOM, &reached) == -2 && reached.number == 7,
+        "no count is reached");
     wulgach_course_note(&course, WULGACH_FACT_CANCELLED, 0);
     wulgach_times_count_end(&times, &course, true, false);
     demand(times.posted == 1, "what is skipped doesn't count");
     wulgach_times_count_end(&times, &course, true, true);
-    demand(wulgach_times_has_counted(&times, rows, ROOM, 1) && !wulgach_times_has_counted(&times, rows, ROOM, 2), "two are");
-    demand(wulgach_times_reached(&times, rows, ROOM, &reached) == 0 && reached.number == 1, "the first one's count is reached");
+    demand(wulgach_times_has_counted(&times, rows, ROOM, 1) &&
+               !wulgach_times_has_counted(&times, rows, ROOM, 2),
+        "two are");
+    demand(wulgach_times_reached(&times, rows, ROOM, &reached) == 0 && reached.number == 1,
+        "the first one's count is reached");
     demand(wulgach_times_end(&times, rows, ROOM, 1, &res) == 0 && res == 0, "it ends by its count");
     wulgach_times_move_to(&times, 50);
     wulgach_times_change(&times, rows, ROOM, 2, 7);
@@ -114,29 +154,40 @@ static void check_counts_and_changes(void)
 
 static void check_waits(void)
 {
-    struct wulgach_wake_sources none = {0}, stream = {.has_streams = true}, thread = {.has_threads = true}, real = {.is_real = true}, signal = {.has_signal = true};
+    struct wulgach_wake_sources none = {0}, stream = {.has_streams = true},
+                                thread = {.has_threads = true}, real = {.is_real = true},
+                                signal = {.has_signal = true};
     struct wulgach_limit never = {0, false}, soon = {5, true};
     struct wulgach_wait wait;
-    demand(wulgach_asks_signals(true, false) && !wulgach_asks_signals(true, true) && !wulgach_asks_signals(false, false), "whether signals are asked about");
+    demand(wulgach_asks_signals(true, false) && !wulgach_asks_signals(true, true) &&
+               !wulgach_asks_signals(false, false),
+        "whether signals are asked about");
     wulgach_times_begin(&times);
     wulgach_times_wait(&times, rows, ROOM, &none, &never, &wait);
     demand(wait.kind == WULGACH_WAIT_NEVER, "there is nothing to wait for");
     wulgach_times_wait(&times, rows, ROOM, &thread, &never, &wait);
     demand(wait.kind == WULGACH_WAIT_SLEEP && !wait.until.is_set, "another thread may call");
     wulgach_times_wait(&times, rows, ROOM, &real, &never, &wait);
-    demand(wait.kind == WULGACH_WAIT_SLEEP && !wait.until.is_set, "time passes by itself, though it brings nothing");
+    demand(wait.kind == WULGACH_WAIT_SLEEP && !wait.until.is_set,
+        "time passes by itself, though it brings nothing");
     wulgach_times_wait(&times, rows, ROOM, &signal, &never, &wait);
-    demand(wait.kind == WULGACH_WAIT_SLEEP && wait.until.is_set && wait.until.at == times.time, "a signal waits");
-    demand(wulgach_times_asks_threads(&times, false) && !wulgach_times_asks_threads(&times, true), "then it matters whether one may");
-    demand(wulgach_may_have_others(false, 3) && wulgach_may_have_others(true, 4) && !wulgach_may_have_others(true, 3), "whether one may");
+    demand(wait.kind == WULGACH_WAIT_SLEEP && wait.until.is_set && wait.until.at == times.time,
+        "a signal waits");
+    demand(wulgach_times_asks_threads(&times, false) && !wulgach_times_asks_threads(&times, true),
+        "then it matters whether one may");
+    demand(wulgach_may_have_others(false, 3) && wulgach_may_have_others(true, 4) &&
+               !wulgach_may_have_others(true, 3),
+        "whether one may");
     demand(start(3, 10, 0, true) == 0, "a linked timeout starts");
     demand(!wulgach_times_asks_threads(&times, false), "beside a timeout it doesn't matter");
     wulgach_times_wait(&times, rows, ROOM, &stream, &soon, &wait);
-    demand(wait.kind == WULGACH_WAIT_SLEEP && wait.until.is_set && wait.until.at == 5, "it sleeps to its limit");
+    demand(wait.kind == WULGACH_WAIT_SLEEP && wait.until.is_set && wait.until.at == 5,
+        "it sleeps to its limit");
     wulgach_times_wait(&times, rows, ROOM, &none, &never, &wait);
     demand(wait.kind == WULGACH_WAIT_MOVE && wait.until.at == 10, "time moves on to a timeout");
     wulgach_times_wait(&times, rows, ROOM, &signal, &never, &wait);
-    demand(wait.kind == WULGACH_WAIT_SLEEP && wait.until.is_set && wait.until.at == 0, "but not before a signal that waits");
+    demand(wait.kind == WULGACH_WAIT_SLEEP && wait.until.is_set && wait.until.at == 0,
+        "but not before a signal that waits");
 }
 
 /* What has come of a wait: of a limit at 5, and of the linked timeout at 10. */
@@ -153,11 +204,19 @@ static void check_woken(void)
     wulgach_times_move_to(&times, 10);
     wulgach_times_woken(&times, rows, ROOM, &soon, &woken);
     demand(woken.kind == WULGACH_WOKEN_OVER && woken.timeout.number == 3, "the timeout is");
-    demand(wulgach_timeout_cancels(&woken.timeout, &limited) == 0 && limited == 2, "it cancels the request before it");
-    demand(wulgach_timeout_fires(&woken.timeout, true, true) && !wulgach_timeout_fires(&woken.timeout, true, false) && !wulgach_timeout_fires(&woken.timeout, false, true), "if that runs, and can be cancelled");
-    demand(wulgach_timeout_linked_outcome(true) == -62 && wulgach_timeout_linked_outcome(false) == -125, "how a linked one ends");
+    demand(wulgach_timeout_cancels(&woken.timeout, &limited) == 0 && limited == 2,
+        "it cancels the request before it");
+    demand(wulgach_timeout_fires(&woken.timeout, true, true) &&
+               !wulgach_timeout_fires(&woken.timeout, true, false) &&
+               !wulgach_timeout_fires(&woken.timeout, false, true),
+        "if that runs, and can be cancelled");
+    demand(wulgach_timeout_linked_outcome(true) == -62 &&
+               wulgach_timeout_linked_outcome(false) == -125,
+        "how a linked one ends");
     woken.timeout.is_linked = false;
-    demand(wulgach_timeout_cancels(&woken.timeout, &limited) == -2 && !wulgach_timeout_fires(&woken.timeout, true, true), "one that isn't linked cancels none");
+    demand(wulgach_timeout_cancels(&woken.timeout, &limited) == -2 &&
+               !wulgach_timeout_fires(&woken.timeout, true, true),
+        "one that isn't linked cancels none");
 }
 
 static void check_sleeps(void)

@@ -16,22 +16,51 @@ from conforming.scenarios import Scenario, scenarios
 from conforming.shrinking import shortened
 
 NO_RING = 77
-AS_FORESEEN, DIFFERS, UNFORESEEN, UNEXPLAINED, APART, REFUSED, GAVE_UP, NOT_TRIED = "as foreseen", "differs as told", "no longer differs", "UNEXPLAINED", "THE SEARCHES DIFFER", "REFUSED BY THE CHECK", "gave up", "not tried"
+AS_FORESEEN, DIFFERS, UNFORESEEN, UNEXPLAINED, APART, REFUSED, GAVE_UP, NOT_TRIED = (
+    "as foreseen",
+    "differs as told",
+    "no longer differs",
+    "UNEXPLAINED",
+    "THE SEARCHES DIFFER",
+    "REFUSED BY THE CHECK",
+    "gave up",
+    "not tried",
+)
 MOST_TRIES = 10
 
 
 def build():
     """Builds the recorder. Where it is installed there is no source."""
     sources = glob.glob(f"{TOP}/conform/recording/*.[ch]")
-    if not sources or os.path.exists(RECORDER) and os.path.getmtime(RECORDER) >= max(map(os.path.getmtime, sources)):
+    if (
+        not sources
+        or os.path.exists(RECORDER)
+        and os.path.getmtime(RECORDER) >= max(map(os.path.getmtime, sources))
+    ):
         return
     os.makedirs(os.path.dirname(RECORDER), exist_ok=True)
-    subprocess.run(["cc", "-O2", "-Wall", "-Wextra", "-Wno-unused-result", "-o", RECORDER, *(it for it in sources if it.endswith(".c"))], check=True)
+    subprocess.run(
+        [
+            "cc",
+            "-O2",
+            "-Wall",
+            "-Wextra",
+            "-Wno-unused-result",
+            "-o",
+            RECORDER,
+            *(it for it in sources if it.endswith(".c")),
+        ],
+        check=True,
+    )
 
 
 def program():
     """The words that run the proved program: that of URING, the one that was built here, or that which is installed beside this. None: it isn't built."""
-    for path in (os.environ.get("URING"), f"{TOP}/crates/uring_cli/out/uring_cli", None if os.path.isdir(f"{TOP}/crates") else f"{TOP}/uring"):
+    for path in (
+        os.environ.get("URING"),
+        f"{TOP}/crates/uring_cli/out/uring_cli",
+        None if os.path.isdir(f"{TOP}/crates") else f"{TOP}/uring",
+    ):
         if path and os.path.exists(path):
             return [path]
     return None
@@ -41,7 +70,14 @@ class Outcome:
     """What became of one run of a scenario: the kind, why (of one that differs as told the name of the difference), what was seen, the trace that explains it or comes furthest, and the place of the first completion that no history reaches."""
 
     def __init__(self, scenario, kind, why="", seen="", trace="", first=None):
-        self.scenario, self.kind, self.why, self.seen, self.trace, self.first = scenario, kind, why, seen, trace, first
+        self.scenario, self.kind, self.why, self.seen, self.trace, self.first = (
+            scenario,
+            kind,
+            why,
+            seen,
+            trace,
+            first,
+        )
 
     def is_bad(self):
         return self.kind in (UNEXPLAINED, APART, REFUSED, UNFORESEEN)
@@ -53,7 +89,16 @@ class Outcome:
         """The whole of it, as it is printed."""
         parts = [f"{self.kind}: {self.scenario.name}: {self.why}", indented(self.scenario.text)]
         parts += ["  seen:", indented(self.seen)] if self.seen else []
-        parts += ["  the history that comes furthest:" if self.kind == UNEXPLAINED else "  its trace:", indented(self.trace)] if self.trace else []
+        parts += (
+            [
+                "  the history that comes furthest:"
+                if self.kind == UNEXPLAINED
+                else "  its trace:",
+                indented(self.trace),
+            ]
+            if self.trace
+            else []
+        )
         return "\n".join(parts)
 
 
@@ -63,7 +108,13 @@ def indented(text):
 
 class Report:
     def __init__(self, words):
-        self.words, self.counts, self.rules, self.bad, self.kept = words, Counter(), Counter(), [], []
+        self.words, self.counts, self.rules, self.bad, self.kept = (
+            words,
+            Counter(),
+            Counter(),
+            [],
+            [],
+        )
 
     def say(self, text):
         print(text, flush=True)
@@ -81,28 +132,42 @@ class Report:
         elif self.words.page or self.words.json:
             self.kept.append(outcome)
         if self.words.lines or self.words.scenario:
-            self.say(f"{outcome.kind}: {outcome.scenario.name}" + (f" ({outcome.why})" if outcome.why else ""))
+            self.say(
+                f"{outcome.kind}: {outcome.scenario.name}"
+                + (f" ({outcome.why})" if outcome.why else "")
+            )
         if self.words.keep:
             self.keep(outcome)
 
     def keep(self, outcome):
-        at = os.path.join(self.words.keep, outcome.scenario.name.replace("/", "-").replace(" ", "_"))
+        at = os.path.join(
+            self.words.keep, outcome.scenario.name.replace("/", "-").replace(" ", "_")
+        )
         os.makedirs(self.words.keep, exist_ok=True)
-        for kind, text in (("scenario", outcome.scenario.text), ("seen", outcome.seen), ("trace", outcome.trace)):
+        for kind, text in (
+            ("scenario", outcome.scenario.text),
+            ("seen", outcome.seen),
+            ("trace", outcome.trace),
+        ):
             if text:
                 with open(f"{at}.{kind}", "w", encoding="utf-8") as it:
                     it.write(text)
 
     def end(self):
         """Prints the table of what differs, what is bad, and the totals. Returns the status."""
-        self.bad = [shorter(it, self.words.linux) if it.kind == UNEXPLAINED else it for it in self.bad]
+        self.bad = [
+            shorter(it, self.words.linux) if it.kind == UNEXPLAINED else it for it in self.bad
+        ]
         if self.words.page or self.words.json:
             self.draw()
         for rule, count in sorted(self.rules.items()):
             self.say(f"differs as told, {count} times: {rule}\n    {DIFFERENCES[rule]}")
         for outcome in self.bad:
             self.say(outcome.text())
-        self.say(f"Linux {platform.release()}: " + ", ".join(f"{count} {kind}" for kind, count in sorted(self.counts.items())))
+        self.say(
+            f"Linux {platform.release()}: "
+            + ", ".join(f"{count} {kind}" for kind, count in sorted(self.counts.items()))
+        )
         self.say("features: " + " ".join(named(features())))
         return 1 if self.bad else 0
 
@@ -145,14 +210,19 @@ def run_all(them, words, report):
 def is_unexplained(text, is_linux):
     """Whether a scenario's run is unexplained, of three tries at least once."""
     try:
-        return any(explain(text, record(text), program(), is_linux).kind == "unexplained" for _ in range(3))
+        return any(
+            explain(text, record(text), program(), is_linux).kind == "unexplained" for _ in range(3)
+        )
     except NoTrace:
         return False
 
 
 def shorter(outcome, is_linux):
     """An unexplained outcome of as short a scenario as is unexplained too. The same one, if it isn't again, which is said."""
-    short = Scenario(outcome.scenario.name, shortened(outcome.scenario.text, lambda text: is_unexplained(text, is_linux)))
+    short = Scenario(
+        outcome.scenario.name,
+        shortened(outcome.scenario.text, lambda text: is_unexplained(text, is_linux)),
+    )
     for _ in range(MOST_TRIES):
         found = outcome_of(short, program(), is_linux)
         if found.kind == UNEXPLAINED:
@@ -165,7 +235,9 @@ def chosen(words):
     """The scenarios that are to run."""
     make = random_linux_scenario if words.linux else random_scenario
     if words.seed is not None:
-        return [Scenario(f"seed {it}", make(it)) for it in range(words.seed, words.seed + words.count)]
+        return [
+            Scenario(f"seed {it}", make(it)) for it in range(words.seed, words.seed + words.count)
+        ]
     them = [it for it in scenarios() if not words.scenario or words.scenario in it.name]
     if words.short:
         return them[::5] + [Scenario(f"seed {it}", make(it)) for it in range(1, 51)]
@@ -180,7 +252,14 @@ def how_to_get_one():
         return "Linux has rings from 5.1 on, if it was built with CONFIG_IO_URING; in a container its seccomp rules have to allow io_uring_setup, io_uring_enter and io_uring_register"
     if value == "0":
         return "The kernel would give one, so something about this process forbids it: in a container its seccomp rules have to allow io_uring_setup, io_uring_enter and io_uring_register"
-    return f"{path} has {value}: as root `sysctl kernel.io_uring_disabled=0` allows rings to all" + ("; with 1, those of the group of kernel.io_uring_group and of CAP_SYS_ADMIN have them" if value == "1" else "")
+    return (
+        f"{path} has {value}: as root `sysctl kernel.io_uring_disabled=0` allows rings to all"
+        + (
+            "; with 1, those of the group of kernel.io_uring_group and of CAP_SYS_ADMIN have them"
+            if value == "1"
+            else ""
+        )
+    )
 
 
 def is_told():
@@ -199,7 +278,10 @@ def conform(words):
     if not is_told():
         return 2
     if words.linux and (words.page or words.json or words.litmus):
-        print("conform: --page, --json and --litmus are of the profile's rules, and not of Linux's own", file=sys.stderr)
+        print(
+            "conform: --page, --json and --litmus are of the profile's rules, and not of Linux's own",
+            file=sys.stderr,
+        )
         return 2
     if not program() and (words.page or words.json):
         print("conform: a page takes the proved program: ./uring prove", file=sys.stderr)
@@ -209,7 +291,9 @@ def conform(words):
     try:
         features()
         if words.planted:
-            return planted.find(report, scenarios(), None if words.no_check else program(), words.linux)
+            return planted.find(
+                report, scenarios(), None if words.no_check else program(), words.linux
+            )
         if words.litmus:
             return litmus.run(words, report, program())
         them = chosen(words)
@@ -217,7 +301,10 @@ def conform(words):
             print(f"conform: no scenario has {words.scenario} in its name", file=sys.stderr)
             return 2
         if not program() and not words.no_check:
-            print("conform: the proved program isn't built, so all is judged by the quick search alone: ./uring prove", file=sys.stderr)
+            print(
+                "conform: the proved program isn't built, so all is judged by the quick search alone: ./uring prove",
+                file=sys.stderr,
+            )
         run_all(them, words, report)
         return report.end()
     except NoRing as why:

@@ -19,14 +19,22 @@ class Ring:
     """The completion ring beside the posted list. A value."""
 
     def __init__(self, size, tail=0, loaded=0, stored=0, overflow=0):
-        self.size, self.tail, self.loaded, self.stored, self.overflow = size, tail, loaded, stored, overflow
+        self.size, self.tail, self.loaded, self.stored, self.overflow = (
+            size,
+            tail,
+            loaded,
+            stored,
+            overflow,
+        )
 
     def key(self):
         return self.tail, self.loaded, self.stored, self.overflow
 
     def flushed(self):
         moved = min(self.overflow, self.size - (self.tail - self.stored))
-        return [f"flush = moved {moved}"], Ring(self.size, self.tail + moved, self.stored, self.stored, self.overflow - moved)
+        return [f"flush = moved {moved}"], Ring(
+            self.size, self.tail + moved, self.stored, self.stored, self.overflow - moved
+        )
 
     def posted(self):
         """The ring after a post, with the flush that stands before it, as a kernel reads the head as it is."""
@@ -45,8 +53,14 @@ class Fill:
     def __init__(self, setup, events):
         self.events, self.size, self.is_stop = events, setup.cq, setup.is_stop
         self.mask = setup.sq - 1
-        self.completions = [it for event in events if isinstance(event, Look) for it in event.completions]
-        self.named = {it.item.target for it in events if isinstance(it, Staged) and not isinstance(it.item, int) and it.item.is_cancel}
+        self.completions = [
+            it for event in events if isinstance(event, Look) for it in event.completions
+        ]
+        self.named = {
+            it.item.target
+            for it in events
+            if isinstance(it, Staged) and not isinstance(it.item, int) and it.item.is_cancel
+        }
         # (the most completions that a history posts, how many events it passes then, and its steps: each part with those before it)
         self.been, self.furthest, self.reached = set(), (-1, 0), None
         sys.setrecursionlimit(20_000)
@@ -69,7 +83,10 @@ class Fill:
         posted, at = self.furthest
         event = self.events[at] if at < len(self.events) else None
         if isinstance(event, Call):
-            return f"no history has a call that consumes {len(event.items)} positions and returns {event.returned}", None
+            return (
+                f"no history has a call that consumes {len(event.items)} positions and returns {event.returned}",
+                None,
+            )
         if posted == len(self.completions):
             return "no history ends so: a request is left without its end", None
         user_data, result = self.completions[posted]
@@ -109,30 +126,70 @@ class Fill:
             slot = event.position & self.mask
             if isinstance(event.item, int):
                 return [f"index {event.item} = ok"], requests, ring, dropped
-            return [f"fill {slot} {event.item.text} = ok", f"index {slot} = ok"], requests, ring, dropped
+            return (
+                [f"fill {slot} {event.item.text} = ok", f"index {slot} = ok"],
+                requests,
+                ring,
+                dropped,
+            )
         if isinstance(event, Call):
             return self.called(event, requests, ring)
         if isinstance(event, Events):
             steps, now = ring.flushed()
             return steps, requests, now, dropped
         if isinstance(event, Stored):
-            return [f"cqhead = head {event.head}"], requests, Ring(ring.size, ring.tail, ring.loaded, event.head, ring.overflow), dropped
+            return (
+                [f"cqhead = head {event.head}"],
+                requests,
+                Ring(ring.size, ring.tail, ring.loaded, event.head, ring.overflow),
+                dropped,
+            )
         if ring.tail != event.tail:
             return None
-        return [f"cqtail = tail {event.tail}", *(f"reap = cqe {user_data} {result} -" for user_data, result in event.completions)], requests, ring, dropped
+        return (
+            [
+                f"cqtail = tail {event.tail}",
+                *(f"reap = cqe {user_data} {result} -" for user_data, result in event.completions),
+            ],
+            requests,
+            ring,
+            dropped,
+        )
 
     def called(self, event, requests, ring):
         if event.returned != len(event.entries()) and event.items:
             return None
-        if self.is_stop and any(not isinstance(it, int) and it.is_faulty for it in event.items[:-1]):
+        if self.is_stop and any(
+            not isinstance(it, int) and it.is_faulty for it in event.items[:-1]
+        ):
             return None
-        staged = max((it.position for it in self.events[: self.events.index(event)] if isinstance(it, Staged)), default=-1) + 1
+        staged = (
+            max(
+                (
+                    it.position
+                    for it in self.events[: self.events.index(event)]
+                    if isinstance(it, Staged)
+                ),
+                default=-1,
+            )
+            + 1
+        )
         steps = [f"tail = tail {staged}"]
         if event.items:
             steps += [f"begin {len(event.items)} = call {len(event.items)}"]
-            steps += ["take = dropped" if isinstance(it, int) else f"take = entry {it.user_data}" for it in event.items]
-            steps += [f"end = taken {len(event.entries())} dropped {event.dropped} head {event.head}"]
-        return [*steps, f"head = head {event.head}"], requests.accepted(event.entries()), ring, event.dropped
+            steps += [
+                "take = dropped" if isinstance(it, int) else f"take = entry {it.user_data}"
+                for it in event.items
+            ]
+            steps += [
+                f"end = taken {len(event.entries())} dropped {event.dropped} head {event.head}"
+            ]
+        return (
+            [*steps, f"head = head {event.head}"],
+            requests.accepted(event.entries()),
+            ring,
+            event.dropped,
+        )
 
     def hidden(self, at, posted, requests, ring, dropped, path):
         for steps, more, after, now in self.moves(at, posted, requests, ring):
@@ -157,16 +214,26 @@ class Fill:
             if entry.is_skipping() and requests.is_outstanding(number):
                 yield from self.silent_ends(requests, number, ring)
         for number, entry in enumerate(requests.entries):
-            if entry.user_data in self.named and requests.standing[number] == WAITS and not entry.is_cancel and not requests.is_doomed(number) and requests.may_start(number):
+            if (
+                entry.user_data in self.named
+                and requests.standing[number] == WAITS
+                and not entry.is_cancel
+                and not requests.is_doomed(number)
+                and requests.may_start(number)
+            ):
                 yield [f"issue {number} = run"], 0, requests.stands(number, "runs"), ring
 
     def ends(self, requests, number, result, ring):
         for steps, given, after in requests.ends_of(number):
-            if not (given == result or given is None and requests.entries[number].may_end_with(result)) or not requests.posts(number, result):
+            if not (
+                given == result or given is None and requests.entries[number].may_end_with(result)
+            ) or not requests.posts(number, result):
                 continue
             before, now = ring.posted()
             if given is None:
-                steps, after = [*steps, f"finish {number} = ended {result}"], after.stands(number, result)
+                steps, after = [*steps, f"finish {number} = ended {result}"], after.stands(
+                    number, result
+                )
             yield [*before, *steps], 1, after, now
 
     def silent_ends(self, requests, number, ring):
@@ -175,9 +242,13 @@ class Fill:
             if requests.posts(number, result):
                 continue
             if given is None:
-                steps, after = [*steps, f"finish {number} = ended {result}"], after.stands(number, result)
+                steps, after = [*steps, f"finish {number} = ended {result}"], after.stands(
+                    number, result
+                )
             yield steps, 0, after, ring
 
     def rest(self, requests):
         """Nothing, if each request has ended; None, if one is outstanding."""
-        return None if any(requests.is_outstanding(it) for it in range(len(requests.entries))) else []
+        return (
+            None if any(requests.is_outstanding(it) for it in range(len(requests.entries))) else []
+        )

@@ -15,7 +15,9 @@ class Submissions:
 
     def may_be(self):
         """Whether the call consumed these positions, and returned their number."""
-        return self.event.items == sum(self.groups, []) and self.event.returned == len(self.event.entries())
+        return self.event.items == sum(self.groups, []) and self.event.returned == len(
+            self.event.entries()
+        )
 
     def entries(self, number):
         return [it for it in self.groups[number] if not isinstance(it, int)] if self.groups else []
@@ -34,7 +36,10 @@ class Written:
         if isinstance(event, Call):
             return sum(self.call(event).lines, [])
         if isinstance(event, Look):
-            return [f"cqtail = tail {event.tail}", *(f"reap = cqe {user_data} {result} -" for user_data, result in event.completions)]
+            return [
+                f"cqtail = tail {event.tail}",
+                *(f"reap = cqe {user_data} {result} -" for user_data, result in event.completions),
+            ]
         return [f"cqhead = head {event.head}"] if isinstance(event, Stored) else []
 
     def staged(self, event):
@@ -46,7 +51,11 @@ class Written:
 
     def call(self, event):
         groups = self.groups(event)
-        lines = self.submissions(event, groups) if groups or event.items or self.is_linux and event.returned else [[]]
+        lines = (
+            self.submissions(event, groups)
+            if groups or event.items or self.is_linux and event.returned
+            else [[]]
+        )
         # (each line more is one more before which the search may put what can't be seen)
         if self.published != self.tail:
             lines[0].insert(0, f"tail = tail {self.tail}")
@@ -68,9 +77,20 @@ class Written:
         for group in groups[:-1]:
             items = event.items[taken : taken + len(group)]
             taken += len(items)
-            lines.append([*opened(len(group), items), f"end = taken {len(items)} dropped {self.dropped} head {self.head + taken}"])
+            lines.append(
+                [
+                    *opened(len(group), items),
+                    f"end = taken {len(items)} dropped {self.dropped} head {self.head + taken}",
+                ]
+            )
         asked = len(event.offered) - taken if self.is_linux else sum(map(len, groups[-1:]))
-        return [*lines, [*opened(asked, event.items[taken:]), f"end = taken {event.returned - taken} dropped {event.dropped} head {event.head}"]]
+        return [
+            *lines,
+            [
+                *opened(asked, event.items[taken:]),
+                f"end = taken {event.returned - taken} dropped {event.dropped} head {event.head}",
+            ],
+        ]
 
 
 def opened(asked, items):

@@ -60,8 +60,24 @@ class LinuxRequests:
     `standing` has for each request WAITS, RUNS or its result; `deferred` the groups that a drain defers, in order; `chosen` whom a cancel chose, and `doomed` those of them that it certainly ends. `beyond` says what cancels do beyond the rules.
     """
 
-    def __init__(self, entries=(), groups=(), standing=(), chosen=frozenset(), doomed=frozenset(), deferred=(), rules=Rules(), beyond=()):
-        self.entries, self.groups, self.standing, self.deferred, self.rules = entries, groups, standing, deferred, rules
+    def __init__(
+        self,
+        entries=(),
+        groups=(),
+        standing=(),
+        chosen=frozenset(),
+        doomed=frozenset(),
+        deferred=(),
+        rules=Rules(),
+        beyond=(),
+    ):
+        self.entries, self.groups, self.standing, self.deferred, self.rules = (
+            entries,
+            groups,
+            standing,
+            deferred,
+            rules,
+        )
         self.chosen, self.doomed, self.beyond = chosen, doomed, beyond
 
     def key(self):
@@ -91,7 +107,11 @@ class LinuxRequests:
     def accepted(self, entries):
         """After the acceptance of a group of these entries."""
         taken, rules = all_taken(entries, self.rules)
-        drains, at, is_workers = taken.drains, len(self.groups), rules.drains or entries[-1].is_linked()
+        drains, at, is_workers = (
+            taken.drains,
+            len(self.groups),
+            rules.drains or entries[-1].is_linked(),
+        )
         after = self.changed(
             entries=self.entries + taken.entries,
             groups=self.groups + (Group(len(self.entries), taken.faults, drains, is_workers),),
@@ -121,10 +141,16 @@ class LinuxRequests:
 
     def may_start(self, number):
         at = self.group_of(number)
-        return self.standing[number] == WAITS and at not in self.deferred and not any(self.is_outstanding(it) for it in self.groups[at].members() if it < number)
+        return (
+            self.standing[number] == WAITS
+            and at not in self.deferred
+            and not any(self.is_outstanding(it) for it in self.groups[at].members() if it < number)
+        )
 
     def stands(self, number, standing):
-        return self.changed(standing=self.standing[:number] + (standing,) + self.standing[number + 1 :])
+        return self.changed(
+            standing=self.standing[:number] + (standing,) + self.standing[number + 1 :]
+        )
 
     def ended(self, number, result):
         return self.stands(number, result).released()
@@ -134,7 +160,14 @@ class LinuxRequests:
         group = self.groups[self.group_of(number)]
         if group.has_fault():
             return group.first
-        failed = [it for it in group.members() if it < number and not self.is_outstanding(it) and self.entries[it].is_soft() and not self.is_success(it)]
+        failed = [
+            it
+            for it in group.members()
+            if it < number
+            and not self.is_outstanding(it)
+            and self.entries[it].is_soft()
+            and not self.is_success(it)
+        ]
         return failed[0] if failed else None
 
     def is_success(self, number):
@@ -162,15 +195,29 @@ class LinuxRequests:
 
     def has_cancel_to_carry_out(self):
         """Whether a cancel is still to choose that no worker carries out: the kernel's does so before its call takes more."""
-        return self.takes_back() and any(entry.is_cancel and self.may_start(number) and self.doom_of(number) is None and not self.is_workers(number) for number, entry in enumerate(self.entries))
+        return self.takes_back() and any(
+            entry.is_cancel
+            and self.may_start(number)
+            and self.doom_of(number) is None
+            and not self.is_workers(number)
+            for number, entry in enumerate(self.entries)
+        )
 
     def finds_itself(self, number):
-        return FINDS_ITSELF in self.beyond and self.is_workers(number) and self.entries[number].target == self.entries[number].user_data
+        return (
+            FINDS_ITSELF in self.beyond
+            and self.is_workers(number)
+            and self.entries[number].target == self.entries[number].user_data
+        )
 
     def found(self, number):
         """Whom a cancel may choose."""
         named = self.entries[number].target
-        return [it for it in range(len(self.entries)) if it != number and self.entries[it].user_data == named and self.runs(it)]
+        return [
+            it
+            for it in range(len(self.entries))
+            if it != number and self.entries[it].user_data == named and self.runs(it)
+        ]
 
     def is_workers(self, number):
         """Whether a worker may have it: not if it certainly went on within its own call."""
@@ -186,7 +233,13 @@ class LinuxRequests:
         if self.takes_back():
             yield from self.cancels_beyond(number)
             return
-        result = 0 if self.entries[number].name == "cancelall" else ALREADY if self.found(number) else NO_ENTRY
+        result = (
+            0
+            if self.entries[number].name == "cancelall"
+            else ALREADY
+            if self.found(number)
+            else NO_ENTRY
+        )
         yield result, self.ended(number, result)
 
     def cancels_beyond(self, number):
@@ -204,7 +257,9 @@ class LinuxRequests:
         if not certain:
             yield NO_ENTRY, self.ended(number, NO_ENTRY)
         for it in found:
-            yield 0, self.changed(chosen=self.chosen | {it}, doomed=self.doomed | {it}).ended(number, 0)
+            yield 0, self.changed(chosen=self.chosen | {it}, doomed=self.doomed | {it}).ended(
+                number, 0
+            )
             if not self.is_polled(it):
                 yield ALREADY, self.ended(number, ALREADY)
 
@@ -240,9 +295,15 @@ def taken(group, rules, entry):
     is_let_in, is_drain = not entry.is_refused and fault != UNSUPPORTED, asks_to_drain and not skips
     takes_owed = rules.next_drains and not group.entries and is_let_in
     drains = is_drain or takes_owed
-    is_owed = rules.next_drains or is_drain if group.entries else rules.next_drains and not is_let_in
+    is_owed = (
+        rules.next_drains or is_drain if group.entries else rules.next_drains and not is_let_in
+    )
     rules = Rules(rules.drains or drains, is_owed, skips)
-    return Taken(group.entries + (entry,), group.faults + (fault,), group.drains or drains), rules, fault is not None and not entry.is_linked()
+    return (
+        Taken(group.entries + (entry,), group.faults + (fault,), group.drains or drains),
+        rules,
+        fault is not None and not entry.is_linked(),
+    )
 
 
 def all_taken(entries, rules):

@@ -13,7 +13,9 @@ class LinuxFill(Fill):
     def __init__(self, setup, events, beyond=()):
         super().__init__(setup, events)
         written = Written(setup, True)
-        self.beyond, self.calls = beyond, [written.call(it) if isinstance(it, Call) else written.event(it) for it in events]
+        self.beyond, self.calls = beyond, [
+            written.call(it) if isinstance(it, Call) else written.event(it) for it in events
+        ]
 
     def trace(self):
         steps = self.search((0, 0), 0, LinuxRequests(beyond=self.beyond), Ring(self.size), 0, None)
@@ -79,27 +81,40 @@ class LinuxFill(Fill):
         entry = requests.entries[number]
         if entry.user_data in self.named and not (entry.is_cancel and not requests.takes_back()):
             yield [f"issue {number} = run"], 0, requests.stands(number, RUNS), ring
-        if requests.takes_back() and entry.is_cancel and (requests.found(number) or not requests.is_workers(number)):
+        if (
+            requests.takes_back()
+            and entry.is_cancel
+            and (requests.found(number) or not requests.is_workers(number))
+        ):
             for result, after in requests.cancels(number):
                 yield [f"{number} cancels"], 0, after.stands(number, CarriedOut((result,))), ring
 
     def ends(self, requests, number, result, ring):
         entry = requests.entries[number]
         for given, after in requests.ends_of(number):
-            if not (given == result or given is None and entry.may_end_with(result)) or not requests.posts(number, result):
+            if not (
+                given == result or given is None and entry.may_end_with(result)
+            ) or not requests.posts(number, result):
                 continue
             before, now = ring.posted()
-            yield [*before, *ended(requests, number, result, given)], 1, after.ended(number, result) if given is None else after, now
+            yield [*before, *ended(requests, number, result, given)], 1, after.ended(
+                number, result
+            ) if given is None else after, now
 
     def silent_ends(self, requests, number, ring):
         for given, after in requests.ends_of(number):
             result = requests.entries[number].length if given is None else given
             if not requests.posts(number, result):
-                yield ended(requests, number, result, given), 0, after.ended(number, result) if given is None else after, ring
+                yield ended(requests, number, result, given), 0, after.ended(
+                    number, result
+                ) if given is None else after, ring
 
 
 def ended(requests, number, result, given):
     """The steps of an end: what has no result that is given starts before it, unless it runs."""
     if given is not None and requests.standing[number] == WAITS:
         return [f"issue {number} = ended {result}"]
-    return [*([f"issue {number} = run"] if requests.standing[number] == WAITS else []), f"finish {number} = ended {result}"]
+    return [
+        *([f"issue {number} = run"] if requests.standing[number] == WAITS else []),
+        f"finish {number} = ended {result}",
+    ]

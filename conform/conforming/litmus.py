@@ -24,7 +24,9 @@ def told(line):
 
 def that_may_be_seen(program, test):
     """What the rules allow of a test."""
-    done = subprocess.run([*program, "outcomes", *test.options], input=test.calls, capture_output=True, text=True)
+    done = subprocess.run(
+        [*program, "outcomes", *test.options], input=test.calls, capture_output=True, text=True
+    )
     if done.returncode:
         raise NoTrace(done.stderr.strip() or f"uring outcomes ended with status {done.returncode}")
     return {told(line) for line in done.stdout.splitlines()[:-1]}
@@ -32,8 +34,12 @@ def that_may_be_seen(program, test):
 
 def seen_of(test):
     """What a run of a test showed."""
-    scenario = ("# setup " + " ".join(test.options) + "\n" if test.options else "") + test.calls + "\n"
-    completions = [line.split() for line in record(scenario).splitlines() if line.startswith("cqe ")]
+    scenario = (
+        ("# setup " + " ".join(test.options) + "\n" if test.options else "") + test.calls + "\n"
+    )
+    completions = [
+        line.split() for line in record(scenario).splitlines() if line.startswith("cqe ")
+    ]
     return ", ".join(f"{words[1]} {words[2]}" for words in completions) or "none"
 
 
@@ -56,9 +62,16 @@ def is_bad(report, program, test, repeat):
     within = {outcome: count for outcome, count in seen.items() if outcome in may}
     beyond = {outcome: count for outcome, count in seen.items() if outcome not in may}
     most = sorted(within.items(), key=lambda it: (-it[1], it[0]))[:MOST_SHOWN]
-    report.say(f"{test.name}: seen {len(within)} of {len(may)}" + "".join(f"; {outcome} ({count} of {repeat})" for outcome, count in most) + ("; .." if len(within) > len(most) else ""))
+    report.say(
+        f"{test.name}: seen {len(within)} of {len(may)}"
+        + "".join(f"; {outcome} ({count} of {repeat})" for outcome, count in most)
+        + ("; .." if len(within) > len(most) else "")
+    )
     for outcome, count in sorted(beyond.items()):
-        report.say(f"    {'differs as told' if known else 'MAY NOT BE SEEN'}: {outcome} ({count} of {repeat})" + (f": {known}" if known else ""))
+        report.say(
+            f"    {'differs as told' if known else 'MAY NOT BE SEEN'}: {outcome} ({count} of {repeat})"
+            + (f": {known}" if known else "")
+        )
     return bool(beyond) and not known
 
 
@@ -82,5 +95,7 @@ def run(words, report, program):
         except NoTrace as fault:
             report.say(f"{test.name}: not tried: {fault}")
         report.progress(at, len(them))
-    report.say(f"litmus: {tried} of {len(them)} tests, {repeat} runs each, {bad} with what may not be seen")
+    report.say(
+        f"litmus: {tried} of {len(them)} tests, {repeat} runs each, {bad} with what may not be seen"
+    )
     return 1 if bad or not them else 0

@@ -12,7 +12,9 @@ def operation(rng, kind, user_data, flags):
     """A write, a read, an fsync or a no-op; the first three of a file that there is, or of none."""
     file = rng.choice([0, 0, 1, 9])
     if kind == "write":
-        return f"write {user_data} {flags} {file} {rng.randrange(8)} {rng.choice(['61', '6162', '-'])}"
+        return (
+            f"write {user_data} {flags} {file} {rng.randrange(8)} {rng.choice(['61', '6162', '-'])}"
+        )
     if kind == "read":
         return f"read {user_data} {flags} {file} {rng.randrange(8)} {rng.randrange(5)}"
     return f"fsync {user_data} {flags} {file}" if kind == "fsync" else f"nop {user_data} {flags}"
@@ -38,7 +40,20 @@ class Maker:
         if rng.random() < 0.15:
             flags += "A"
         flags = flags or "-"
-        kind = rng.choice(["nop", "nop", "nop", "write", "read", "fsync", "hold", "cancel", "cancelall", "op" if is_faulty_allowed else "nop"])
+        kind = rng.choice(
+            [
+                "nop",
+                "nop",
+                "nop",
+                "write",
+                "read",
+                "fsync",
+                "hold",
+                "cancel",
+                "cancelall",
+                "op" if is_faulty_allowed else "nop",
+            ]
+        )
         if kind in ("cancel", "cancelall"):
             is_plain = not is_linked and "A" not in flags
             name = rng.choice(self.free_holds + [999] if is_plain else [999])
@@ -107,7 +122,9 @@ class FreeMaker:
         self.next, self.held = 1, []
         self.sq = self.rng.choice([2, 4, 4, 8])
         self.flags = [it for it in "DSLHA" if self.rng.random() < 0.6]
-        self.has_faults, self.has_bad_words, self.has_cancels = (self.rng.random() < 0.5 for _ in range(3))
+        self.has_faults, self.has_bad_words, self.has_cancels = (
+            self.rng.random() < 0.5 for _ in range(3)
+        )
         # (how often an entry drains, skips or has a fault)
         self.share = 0.2
         self.kinds = ["nop", "nop", "write", "read", "fsync", "hold"]
@@ -132,7 +149,14 @@ class FreeMaker:
         if self.has_bad_words and rng.random() < 0.1:
             return f"bad {rng.choice([self.sq, 4096, 4294967295])}"
         user_data = self.name()
-        flags = "".join(it for it in self.flags if rng.random() < {"L": 0.35, "H": 0.15, "A": 0.2}.get(it, self.share)) or "-"
+        flags = (
+            "".join(
+                it
+                for it in self.flags
+                if rng.random() < {"L": 0.35, "H": 0.15, "A": 0.2}.get(it, self.share)
+            )
+            or "-"
+        )
         if self.has_faults and rng.random() < self.share:
             return f"{self.fault()} {user_data} {flags}"
         if self.has_cancels and rng.random() < 0.3:
@@ -147,11 +171,18 @@ class FreeMaker:
     def fault(self):
         """What an entry with a fault begins with: an operation that nobody serves, or a fault of one that is served."""
         rng = self.rng
-        return f"op {rng.choice([200, 255])}" if rng.random() < 0.3 else f"fault {rng.choice([*FAULTS])} {rng.choice([*OPERATIONS])}"
+        return (
+            f"op {rng.choice([200, 255])}"
+            if rng.random() < 0.3
+            else f"fault {rng.choice([*FAULTS])} {rng.choice([*OPERATIONS])}"
+        )
 
     def scenario(self):
         rng = self.rng
-        lines = [f"# setup --sq {self.sq} --cq {rng.choice([self.sq, 2 * self.sq])}" + (" --stop" if rng.random() < 0.4 else "")]
+        lines = [
+            f"# setup --sq {self.sq} --cq {rng.choice([self.sq, 2 * self.sq])}"
+            + (" --stop" if rng.random() < 0.4 else "")
+        ]
         for _ in range(rng.randrange(1, 5)):
             # (what an earlier call left is taken by the next)
             lines += [self.item() for _ in range(rng.randrange(self.sq // 2 + 1))]

@@ -19,7 +19,10 @@ def is_end(line):
 
 def later_tails(lines, at, by):
     """The lines with each tail and head of completions from there on moved by so many."""
-    return lines[:at] + [f"{it.split()[0]} {int(it.split()[1]) + by}" if it.split()[0] in ("tail", "head") else it for it in lines[at:]]
+    return lines[:at] + [
+        f"{it.split()[0]} {int(it.split()[1]) + by}" if it.split()[0] in ("tail", "head") else it
+        for it in lines[at:]
+    ]
 
 
 def tail_before(lines, at):
@@ -58,18 +61,34 @@ def result(name, number):
     """The completion of this name has another result."""
 
     def change(lines, at):
-        return [*lines[:at], f"cqe {name} {number}", *lines[at + 1 :]] if lines[at].startswith(f"cqe {name} ") else None
+        return (
+            [*lines[:at], f"cqe {name} {number}", *lines[at + 1 :]]
+            if lines[at].startswith(f"cqe {name} ")
+            else None
+        )
 
     return change
 
 
 def renamed(lines, at):
-    return [*lines[:at], f"cqe 77 {lines[at].split()[2]}", *lines[at + 1 :]] if is_end(lines[at]) else None
+    return (
+        [*lines[:at], f"cqe 77 {lines[at].split()[2]}", *lines[at + 1 :]]
+        if is_end(lines[at])
+        else None
+    )
 
 
 def returned(lines, at):
     words = lines[at].split()
-    return [*lines[:at], f"call {words[1]} {int(words[2]) + 1} {words[3]} {words[4]}", *lines[at + 1 :]] if words[0] == "call" else None
+    return (
+        [
+            *lines[:at],
+            f"call {words[1]} {int(words[2]) + 1} {words[3]} {words[4]}",
+            *lines[at + 1 :],
+        ]
+        if words[0] == "call"
+        else None
+    )
 
 
 def added(name, number):
@@ -122,13 +141,29 @@ MISTAKES = [
 LINUX_MISTAKES = [
     ("a cancel finds what is held back", "cancel/a held-back member", result("3", 0)),
     ("a cancel finds what stands after it", "cancel/one that stands after it", result("1", 0)),
-    ("a cancel of all counts what is held back", "cancel/all of a held-back member", result("3", 1)),
+    (
+        "a cancel of all counts what is held back",
+        "cancel/all of a held-back member",
+        result("3", 1),
+    ),
     ("a drain is served beside skipped success", "skip/a drain after it", result("2", 0)),
     ("a member is posted after a skipping failure", "skip/a failing head", added("2", -125)),
-    ("a fault is posted after a skipping head", "skip/a faulty member after a head", added("2", -22)),
+    (
+        "a fault is posted after a skipping head",
+        "skip/a faulty member after a head",
+        added("2", -22),
+    ),
     ("a call goes on after a bad word", "words/one at the start", calls((2, 1, 2), (0, 0, 2))),
-    ("a call ends after a linked fault", "faults/a ring that stops, a linked fault", calls((3, 1, 1), (2, 2, 3))),
-    ("a call goes on after a fault", "faults/a ring that stops, at the first", calls((3, 3, 3), (0, 0, 3))),
+    (
+        "a call ends after a linked fault",
+        "faults/a ring that stops, a linked fault",
+        calls((3, 1, 1), (2, 2, 3)),
+    ),
+    (
+        "a call goes on after a fault",
+        "faults/a ring that stops, at the first",
+        calls((3, 3, 3), (0, 0, 3)),
+    ),
 ]
 
 
@@ -139,7 +174,11 @@ def find(report, scenarios, uring, is_linux):
     for name, scenario, change in mistakes:
         seen = record(texts[scenario])
         wrong = changed(seen, change)
-        found = wrong is not None and explain(texts[scenario], seen, uring, is_linux).kind in ("lawful", "told") and explain(texts[scenario], wrong, uring, is_linux).kind == "unexplained"
+        found = (
+            wrong is not None
+            and explain(texts[scenario], seen, uring, is_linux).kind in ("lawful", "told")
+            and explain(texts[scenario], wrong, uring, is_linux).kind == "unexplained"
+        )
         missed += not found
         report.say(f"{'found' if found else 'NOT FOUND'}: {name} ({scenario})")
     report.say(f"{len(mistakes) - missed} of {len(mistakes)} mistakes were found")

@@ -23,13 +23,31 @@ class Entry:
         self.is_hold = self.name == "hold"
         self.is_cancel = self.name in ("cancel", "cancelall")
         self.target = int(words[3]) if self.is_cancel else None
-        self.text = f"read {words[1]} {words[2]} 0 0 1" if self.is_hold else self.raw(words) if self.name == "fault" else " ".join(words)
-        self.length = 1 if self.is_hold else int(words[5]) if self.name == "read" else len(words[5].replace("-", "")) // 2 if self.name == "write" else 0
+        self.text = (
+            f"read {words[1]} {words[2]} 0 0 1"
+            if self.is_hold
+            else self.raw(words)
+            if self.name == "fault"
+            else " ".join(words)
+        )
+        self.length = (
+            1
+            if self.is_hold
+            else int(words[5])
+            if self.name == "read"
+            else len(words[5].replace("-", "")) // 2
+            if self.name == "write"
+            else 0
+        )
 
     def raw(self, words):
         """An entry with a fault, as its bytes."""
         entry = bytearray(128)
-        entry[0], entry[1], entry[32:40] = OPERATIONS[words[2]], sum(FLAGS[it] for it in self.flags), self.user_data.to_bytes(8, "little")
+        entry[0], entry[1], entry[32:40] = (
+            OPERATIONS[words[2]],
+            sum(FLAGS[it] for it in self.flags),
+            self.user_data.to_bytes(8, "little"),
+        )
         at, fault = FAULTS[words[1]]
         entry[at] |= fault
         return f"raw {entry.hex()}"
@@ -77,10 +95,20 @@ class Requests:
                 group = []
         if group:
             groups.append(tuple(group))
-        return Requests(self.entries + tuple(entries), tuple(groups), self.standing + (WAITS,) * len(entries), self.chosen)
+        return Requests(
+            self.entries + tuple(entries),
+            tuple(groups),
+            self.standing + (WAITS,) * len(entries),
+            self.chosen,
+        )
 
     def stands(self, number, standing):
-        return Requests(self.entries, self.groups, self.standing[:number] + (standing,) + self.standing[number + 1 :], self.chosen)
+        return Requests(
+            self.entries,
+            self.groups,
+            self.standing[:number] + (standing,) + self.standing[number + 1 :],
+            self.chosen,
+        )
 
     def is_outstanding(self, number):
         return self.standing[number] in (WAITS, RUNS)
@@ -92,7 +120,9 @@ class Requests:
         return next(at for at, group in enumerate(self.groups) if number in group)
 
     def failed(self, number):
-        return not self.is_outstanding(number) and not self.entries[number].is_success(self.standing[number])
+        return not self.is_outstanding(number) and not self.entries[number].is_success(
+            self.standing[number]
+        )
 
     def is_doomed(self, number):
         if not self.is_outstanding(number) or self.runs(number):
@@ -112,7 +142,12 @@ class Requests:
         if any(self.is_outstanding(it) for it in self.groups[at] if it < number):
             return False
         earlier = range(at)
-        return not any(self.is_outstanding(it) for before in earlier if self.drains(at) or self.drains(before) for it in self.groups[before])
+        return not any(
+            self.is_outstanding(it)
+            for before in earlier
+            if self.drains(at) or self.drains(before)
+            for it in self.groups[before]
+        )
 
     def doom_of(self, number):
         return INVALID if self.entries[number].is_faulty else CANCELED
@@ -120,7 +155,14 @@ class Requests:
     def targets(self, number):
         """Those that a cancel may choose, from the least on."""
         named = self.entries[number].target
-        return [it for it in range(len(self.entries)) if it != number and self.entries[it].user_data == named and self.is_outstanding(it) and not self.is_doomed(it)]
+        return [
+            it
+            for it in range(len(self.entries))
+            if it != number
+            and self.entries[it].user_data == named
+            and self.is_outstanding(it)
+            and not self.is_doomed(it)
+        ]
 
     def cancelled(self, number):
         """What a cancel ends with, and how the requests stand after it."""
@@ -131,7 +173,9 @@ class Requests:
         else:
             chosen = [it for it in targets[:1] if not self.runs(it)]
             result = NO_ENTRY if not targets else 0 if chosen else ALREADY
-        return result, Requests(self.entries, self.groups, self.standing, self.chosen | set(chosen)).stands(number, result)
+        return result, Requests(
+            self.entries, self.groups, self.standing, self.chosen | set(chosen)
+        ).stands(number, result)
 
     def ends_of(self, number):
         """The ends that the rules allow now, each as steps of the trace language with their answers, the result (None: any that the operation may give), and how the requests stand then."""

@@ -13,7 +13,7 @@ from conforming.setup import Setup
 TOP = os.path.dirname(os.path.dirname(os.path.dirname(os.path.abspath(__file__))))
 RECORDER = f"{TOP}/conform/out/record"
 NO_RING = 77
-LIMIT = 600         # seconds of a recorder, which takes one or two where it doesn't hang
+LIMIT = 600  # seconds of a recorder, which takes one or two where it doesn't hang
 MOST_HISTORIES = 500_000
 KINDS = {0: "lawful", 1: "unexplained", 3: "gave up"}
 
@@ -29,7 +29,9 @@ class NoTrace(Exception):
 def record(scenario):
     """What the recorder saw of a scenario."""
     try:
-        ran = subprocess.run([RECORDER], input=scenario, capture_output=True, text=True, timeout=LIMIT)
+        ran = subprocess.run(
+            [RECORDER], input=scenario, capture_output=True, text=True, timeout=LIMIT
+        )
     except subprocess.TimeoutExpired as late:
         raise NoTrace(f"it took more than {LIMIT} s") from late
     if ran.returncode == NO_RING:
@@ -63,30 +65,52 @@ def quick(setup, fill, is_linux):
         return Verdict("gave up", why=f"after {len(fill.been)} states")
     if steps is None:
         why, first = fill.why()
-        return Verdict("unexplained", head + "\n".join([*fill.furthest_trace(), f"# {why}"]) + "\n", why, first)
+        return Verdict(
+            "unexplained", head + "\n".join([*fill.furthest_trace(), f"# {why}"]) + "\n", why, first
+        )
     return Verdict("lawful", head + "\n".join(steps) + "\n")
 
 
 def filled(uring, setup, events, is_linux):
     """The verdict of the proved search."""
-    ran = subprocess.run([*uring, "fill", "--most", str(MOST_HISTORIES)], input=gaps.text_of(setup, events, is_linux), capture_output=True, text=True)
+    ran = subprocess.run(
+        [*uring, "fill", "--most", str(MOST_HISTORIES)],
+        input=gaps.text_of(setup, events, is_linux),
+        capture_output=True,
+        text=True,
+    )
     if ran.returncode not in KINDS or ran.stderr:
         raise NoTrace(ran.stderr.strip() or f"uring fill ended with status {ran.returncode}")
     kind = KINDS[ran.returncode]
-    return Verdict(kind, ran.stdout, "" if kind == "lawful" else ran.stdout.splitlines()[-1].removeprefix("# "))
+    return Verdict(
+        kind, ran.stdout, "" if kind == "lawful" else ran.stdout.splitlines()[-1].removeprefix("# ")
+    )
 
 
 def told_of(setup, events):
     """The name of what cancels of the kernel do beyond Linux's rules, if the quick search finds a history with it, and else nothing. It differs from the search by the rules in nothing else."""
-    return next((names[-1] for names in BEYOND if quick(setup, LinuxFill(setup, events, names), True).kind == "lawful"), "")
+    return next(
+        (
+            names[-1]
+            for names in BEYOND
+            if quick(setup, LinuxFill(setup, events, names), True).kind == "lawful"
+        ),
+        "",
+    )
 
 
 def agreed(found, proved, told):
     """The verdict of the quick search and the proved one, and of what the kernel does beyond the rules. What no history explains is told by the quick search, which comes furthest by completions; where one gives up, the other decides, but for what differs as told."""
     if proved.kind == "gave up":
-        return Verdict("gave up", why=f"{proved.why}; by the quick search {told}") if told else found
+        return (
+            Verdict("gave up", why=f"{proved.why}; by the quick search {told}") if told else found
+        )
     if found.kind not in ("gave up", proved.kind):
-        return Verdict("differ", proved.trace, f"{proved.kind} by the proved search, {found.kind} by the quick one")
+        return Verdict(
+            "differ",
+            proved.trace,
+            f"{proved.kind} by the proved search, {found.kind} by the quick one",
+        )
     if proved.kind == "lawful" or found.kind == "gave up" and not told:
         return proved
     return Verdict("told", why=told) if told else found
@@ -103,5 +127,7 @@ def explain(scenario, recorded, uring=None, is_linux=False):
 
 def judged(uring, trace):
     """What the proved checker says of a trace: nothing if it is lawful."""
-    ran = subprocess.run([*uring, "check", "--results"], input=trace, capture_output=True, text=True)
+    ran = subprocess.run(
+        [*uring, "check", "--results"], input=trace, capture_output=True, text=True
+    )
     return "" if ran.returncode == 0 else ran.stdout + ran.stderr

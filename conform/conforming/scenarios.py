@@ -30,12 +30,20 @@ def scenario_of(behaviour, line):
     name, options, statements, differs = found.groups()
     if differs and differs not in DIFFERENCES:
         raise ValueError(f"{behaviour}: no such difference: {differs}")
-    return Scenario(f"{behaviour}/{name}", text_of(options, [it.strip() for it in statements.split(";")]), differs or "")
+    return Scenario(
+        f"{behaviour}/{name}",
+        text_of(options, [it.strip() for it in statements.split(";")]),
+        differs or "",
+    )
 
 
 def scenarios():
     found = []
     for file in sorted(os.listdir(FOLDER)):
         with open(os.path.join(FOLDER, file), encoding="utf-8") as it:
-            found += [scenario_of(file.removesuffix(".txt"), line) for line in it.read().splitlines() if line and not line.startswith("#")]
+            found += [
+                scenario_of(file.removesuffix(".txt"), line)
+                for line in it.read().splitlines()
+                if line and not line.startswith("#")
+            ]
     return found

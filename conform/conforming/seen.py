@@ -7,7 +7,13 @@ class Call:
     """A call that was asked for these items, entries or words that name no slot, and that consumed those."""
 
     def __init__(self, offered, items, returned, head, dropped):
-        self.offered, self.items, self.returned, self.head, self.dropped = offered, items, returned, head, dropped
+        self.offered, self.items, self.returned, self.head, self.dropped = (
+            offered,
+            items,
+            returned,
+            head,
+            dropped,
+        )
 
     def entries(self):
         return [it for it in self.items if isinstance(it, Entry)]
@@ -39,7 +45,18 @@ class Staged:
 
 
 def is_item(words):
-    return words[0] in ("nop", "fsync", "read", "write", "cancel", "cancelall", "op", "fault", "hold", "bad")
+    return words[0] in (
+        "nop",
+        "fsync",
+        "read",
+        "write",
+        "cancel",
+        "cancelall",
+        "op",
+        "fault",
+        "hold",
+        "bad",
+    )
 
 
 def item_of(words):
@@ -78,7 +95,9 @@ def events_of(scenario, recorded):
                 taken += 1
             asked, returned, now, dropped = map(int, words[1:])
             if now != head or returned >= 0:
-                offered, items = ([it for _, it in staged[head:end]] for end in (min(head + asked, taken), now))
+                offered, items = (
+                    [it for _, it in staged[head:end]] for end in (min(head + asked, taken), now)
+                )
                 events.append(Call(offered, items, returned, now, dropped))
             head = now
         elif words[0] == "tail":

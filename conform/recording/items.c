@@ -48,7 +48,12 @@ static unsigned char flags_of(const char *word)
 {
     unsigned flags = 0;
     for (; *word; word++)
-        flags |= *word == 'D' ? IOSQE_IO_DRAIN : *word == 'L' ? IOSQE_IO_LINK : *word == 'H' ? IOSQE_IO_HARDLINK : *word == 'A' ? IOSQE_ASYNC : *word == 'S' ? IOSQE_CQE_SKIP_SUCCESS : 0;
+        flags |= *word == 'D'   ? IOSQE_IO_DRAIN
+                 : *word == 'L' ? IOSQE_IO_LINK
+                 : *word == 'H' ? IOSQE_IO_HARDLINK
+                 : *word == 'A' ? IOSQE_ASYNC
+                 : *word == 'S' ? IOSQE_CQE_SKIP_SUCCESS
+                                : 0;
     return (unsigned char)flags;
 }
 
@@ -75,7 +80,11 @@ static void stage(struct io_uring_sqe *entry, unsigned word)
 /* The operation of this name that is served, or -1. */
 static int operation_of(const char *name)
 {
-    static const struct { const char *name; int code; } served[] = { { "nop", IORING_OP_NOP }, { "fsync", IORING_OP_FSYNC }, { "cancel", IORING_OP_ASYNC_CANCEL } };
+    static const struct {
+        const char *name;
+        int code;
+    } served[] = {
+        {"nop", IORING_OP_NOP}, {"fsync", IORING_OP_FSYNC}, {"cancel", IORING_OP_ASYNC_CANCEL}};
     for (unsigned at = 0; at < sizeof served / sizeof *served; at++)
         if (!strcmp(served[at].name, name))
             return served[at].code;
@@ -102,7 +111,9 @@ static bool spoil(struct io_uring_sqe *entry, const char *kind)
 static bool faulty_item(char **words)
 {
     int operation = operation_of(words[2]);
-    struct io_uring_sqe it = { .opcode = (unsigned char)operation, .user_data = strtoull(words[3], NULL, 10), .flags = flags_of(words[4]) };
+    struct io_uring_sqe it = {.opcode = (unsigned char)operation,
+        .user_data = strtoull(words[3], NULL, 10),
+        .flags = flags_of(words[4])};
     if (operation < 0 || !spoil(&it, words[1]))
         return false;
     stage(&it, 0);
@@ -169,7 +180,8 @@ bool item(int count, char **words)
     if (count < 3)
         return false;
     bool is_op = !strcmp(words[0], "op") && count == 4;
-    struct io_uring_sqe it = { .user_data = strtoull(words[is_op ? 2 : 1], NULL, 10), .flags = flags_of(words[is_op ? 3 : 2]) };
+    struct io_uring_sqe it = {.user_data = strtoull(words[is_op ? 2 : 1], NULL, 10),
+        .flags = flags_of(words[is_op ? 3 : 2])};
     if (is_op) {
         it.opcode = (unsigned char)atoi(words[1]);
         if (it.opcode < 100)

@@ -8,7 +8,8 @@
 /* Stages the item that these words are, or says that they are none. */
 bool item(int count, char **words);
 
-/* Writes the byte into the pipes of this name that have none yet; or into each in its turn, and waits for what comes. */
+/* Writes the byte into the pipes of this name that have none yet; or into each in its turn, and
+ * waits for what comes. */
 void release(uint64_t user_data);
 void release_all(void);
 

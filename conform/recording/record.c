@@ -2,29 +2,31 @@
  *
  * The scenario comes on standard input, a line each:
  *
- *   an item of the play language     stages it: nop, fsync, read, write, cancel, cancelall, op (of a code from 100 on), bad
- *   fault KIND OPERATION UD FLAGS    stages an operation with a fault: flag (the highest bit), priority, operation (its flag 2^31) or byte (42)
- *   hold UD FLAGS                    stages a read of an empty pipe, so that it waits until it is released
- *   (an empty line)                  a call that submits what is staged
- *   call N                           a call that submits N of it
- *   events                           a call that submits nothing and asks for events
- *   release UD                       writes a byte into that pipe
- *   head off, head on                from here on the head isn't stored after a look, or is
- *   wait N                           waits until N more completions are seen, or half a second has passed
+ *   an item of the play language     stages it: nop, fsync, read, write, cancel, cancelall, op (of
+ * a code from 100 on), bad fault KIND OPERATION UD FLAGS    stages an operation with a fault: flag
+ * (the highest bit), priority, operation (its flag 2^31) or byte (42) hold UD FLAGS stages a read
+ * of an empty pipe, so that it waits until it is released (an empty line)                  a call
+ * that submits what is staged call N                           a call that submits N of it events
+ * a call that submits nothing and asks for events release UD                       writes a byte
+ * into that pipe head off, head on                from here on the head isn't stored after a look,
+ * or is wait N                           waits until N more completions are seen, or half a second
+ * has passed
  *
- * With the word `features` it writes what the ring says that it can do, as a number, and reads nothing.
+ * With the word `features` it writes what the ring says that it can do, as a number, and reads
+ * nothing.
  *
- * A first line `# setup --sq N --cq N --files N --stop` has the options of `uring`. What is seen is written a line each:
+ * A first line `# setup --sq N --cq N --files N --stop` has the options of `uring`. What is seen is
+ * written a line each:
  *
- *   call ASKED RETURNED HEAD DROPPED     a call, what it returned, and the words head and dropped after it
- *   tail WORD                            a look at the completion ring, if something new is there
- *   cqe UD RES                           each completion that is new then
- *   head WORD                            the head was stored
- *   events                               the call just told, or to come, asked for events
+ *   call ASKED RETURNED HEAD DROPPED     a call, what it returned, and the words head and dropped
+ * after it tail WORD                            a look at the completion ring, if something new is
+ * there cqe UD RES                           each completion that is new then head WORD the head
+ * was stored events                               the call just told, or to come, asked for events
  *   released UD                          a byte was written
  *
- * After the last line each pipe gets its byte, and the ring is looked at until nothing comes any more. The files are temporary
- * ones without a name, and all ends with the process, also if it is killed.
+ * After the last line each pipe gets its byte, and the ring is looked at until nothing comes any
+ * more. The files are temporary ones without a name, and all ends with the process, also if it is
+ * killed.
  */
 #include "items.h"
 #include "ring.h"
@@ -54,7 +56,7 @@ static void obey(int count, char **words)
 
 static struct setup setup_of(int count, char **words)
 {
-    struct setup it = { .sq = 4, .files = 2 };
+    struct setup it = {.sq = 4, .files = 2};
     for (int at = 0; at < count; at++) {
         if (!strcmp(words[at], "--stop"))
             it.is_stop = true;

@@ -37,16 +37,21 @@ void must(bool is_well, const char *what)
 
 void open_ring(struct setup asked)
 {
-    struct io_uring_params parameters = { .flags = IORING_SETUP_CQSIZE | (asked.is_stop ? 0 : IORING_SETUP_SUBMIT_ALL), .cq_entries = asked.cq };
+    struct io_uring_params parameters = {
+        .flags = IORING_SETUP_CQSIZE | (asked.is_stop ? 0 : IORING_SETUP_SUBMIT_ALL),
+        .cq_entries = asked.cq};
     ring.descriptor = (int)syscall(__NR_io_uring_setup, asked.sq, &parameters);
     if (ring.descriptor < 0)
         stop(NO_RING, strerror(errno));
     ring.features = parameters.features;
     size_t sq_bytes = parameters.sq_off.array + parameters.sq_entries * sizeof(unsigned);
     size_t cq_bytes = parameters.cq_off.cqes + parameters.cq_entries * sizeof(struct io_uring_cqe);
-    char *sq = mmap(NULL, sq_bytes, PROT_READ | PROT_WRITE, MAP_SHARED | MAP_POPULATE, ring.descriptor, IORING_OFF_SQ_RING);
-    char *cq = mmap(NULL, cq_bytes, PROT_READ | PROT_WRITE, MAP_SHARED | MAP_POPULATE, ring.descriptor, IORING_OFF_CQ_RING);
-    ring.entries = mmap(NULL, parameters.sq_entries * sizeof(struct io_uring_sqe), PROT_READ | PROT_WRITE, MAP_SHARED | MAP_POPULATE, ring.descriptor, IORING_OFF_SQES);
+    char *sq = mmap(NULL, sq_bytes, PROT_READ | PROT_WRITE, MAP_SHARED | MAP_POPULATE,
+        ring.descriptor, IORING_OFF_SQ_RING);
+    char *cq = mmap(NULL, cq_bytes, PROT_READ | PROT_WRITE, MAP_SHARED | MAP_POPULATE,
+        ring.descriptor, IORING_OFF_CQ_RING);
+    ring.entries = mmap(NULL, parameters.sq_entries * sizeof(struct io_uring_sqe),
+        PROT_READ | PROT_WRITE, MAP_SHARED | MAP_POPULATE, ring.descriptor, IORING_OFF_SQES);
     must(sq != MAP_FAILED && cq != MAP_FAILED && (void *)ring.entries != MAP_FAILED, "mmap");
     ring.sq_head = (unsigned *)(sq + parameters.sq_off.head);
     ring.sq_tail = (unsigned *)(sq + parameters.sq_off.tail);
@@ -128,7 +133,9 @@ void call(unsigned asked, unsigned flags)
     if (flags)
         printf("events\n");
     if (asked || !flags)
-        printf("call %u %ld %u %u\n", asked, returned < 0 ? -(long)errno : returned, __atomic_load_n(ring.sq_head, __ATOMIC_ACQUIRE), __atomic_load_n(ring.sq_dropped, __ATOMIC_RELAXED));
+        printf("call %u %ld %u %u\n", asked, returned < 0 ? -(long)errno : returned,
+            __atomic_load_n(ring.sq_head, __ATOMIC_ACQUIRE),
+            __atomic_load_n(ring.sq_dropped, __ATOMIC_RELAXED));
     look();
 }
 
@@ -137,7 +144,7 @@ bool wait_for(unsigned count)
     unsigned until = ring.seen + count;
     while ((int)(until - ring.seen) > 0) {
         /* (what overflowed comes by a call for events) */
-        if (!poll(&(struct pollfd){ .fd = ring.descriptor, .events = POLLIN }, 1, 500))
+        if (!poll(&(struct pollfd){.fd = ring.descriptor, .events = POLLIN}, 1, 500))
             return false;
         unsigned before = ring.seen;
         look();
@@ -149,8 +156,8 @@ bool wait_for(unsigned count)
     return true;
 }
 
-/* Whether a thread of this process but its first one runs, or waits for a disk: the kernel's workers are its threads, and sleep
- * when they have nothing to do. */
+/* Whether a thread of this process but its first one runs, or waits for a disk: the kernel's
+ * workers are its threads, and sleep when they have nothing to do. */
 static bool has_busy_worker(void)
 {
     DIR *tasks = opendir("/proc/self/task");
@@ -171,18 +178,19 @@ static bool has_busy_worker(void)
     return is_busy;
 }
 
-/* Waits until the workers have nothing to do, and no longer than some 15 seconds: on a busy machine they may be late. */
+/* Waits until the workers have nothing to do, and no longer than some 15 seconds: on a busy machine
+ * they may be late. */
 static void wait_for_workers(void)
 {
     for (int turn = 0; turn < MOST_TURNS && has_busy_worker(); turn++)
-        nanosleep(&(struct timespec){ .tv_nsec = TURN }, NULL);
+        nanosleep(&(struct timespec){.tv_nsec = TURN}, NULL);
 }
 
 void wait_for_quiet(void)
 {
     for (int quiet = 0; quiet < 3;) {
         unsigned before = ring.seen;
-        nanosleep(&(struct timespec){ .tv_nsec = TURN }, NULL);
+        nanosleep(&(struct timespec){.tv_nsec = TURN}, NULL);
         wait_for_workers();
         call(0, IORING_ENTER_GETEVENTS);
         quiet = ring.seen == before ? quiet + 1 : 0;

@@ -1,4 +1,5 @@
-/* The ring of a recorder's scenario: its words, the calls on it, and what is seen of it, a line each. */
+/* The ring of a recorder's scenario: its words, the calls on it, and what is seen of it, a line
+ * each. */
 #ifndef RING_H
 #define RING_H
 
@@ -46,7 +47,8 @@ unsigned left_staged(void);
 /* A call that submits so many, after which it looks at the completion ring. */
 void call(unsigned asked, unsigned flags);
 
-/* Waits for so many completions, and no longer than half a second for each. Returns whether they came. */
+/* Waits for so many completions, and no longer than half a second for each. Returns whether they
+ * came. */
 bool wait_for(unsigned count);
 
 /* Waits until nothing new is seen. */

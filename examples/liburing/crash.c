@@ -1,8 +1,9 @@
-/* A crash test of the store: a process commits some batches and dies right after the last one, with whatever of its ring
- * is still on the way. Then the log is opened again: what was acknowledged has to be there.
+/* A crash test of the store: a process commits some batches and dies right after the last one, with
+ * whatever of its ring is still on the way. Then the log is opened again: what was acknowledged has
+ * to be there.
  *
- *   crash [COMMITS [RECORDS]]      4 commits of 3 records each, if they aren't given. Status 1: an acknowledged value is
- *                                  lost.
+ *   crash [COMMITS [RECORDS]]      4 commits of 3 records each, if they aren't given. Status 1: an
+ * acknowledged value is lost.
  */
 #include "store.h"
 
@@ -12,7 +13,7 @@
 #include <sys/wait.h>
 #include <unistd.h>
 
-static unsigned records = 3;    /* of a commit */
+static unsigned records = 3; /* of a commit */
 
 static void value_of(char value[STORE_VALUE], unsigned key)
 {
@@ -79,9 +80,11 @@ int main(int argc, char **argv)
 {
     if (argc > 2)
         records = number_of(argv[2], STORE_BATCH);
-    unsigned most = records ? STORE_KEYS / records : 0, commits = argc > 1 ? number_of(argv[1], most) : 4;
+    unsigned most = records ? STORE_KEYS / records : 0,
+             commits = argc > 1 ? number_of(argv[1], most) : 4;
     if (argc > 3 || commits == 0) {
-        fprintf(stderr, "crash: 1 to %d records, and as many commits as the store has keys for\n", STORE_BATCH);
+        fprintf(stderr, "crash: 1 to %d records, and as many commits as the store has keys for\n",
+            STORE_BATCH);
         return 2;
     }
     char path[] = "/tmp/store.XXXXXX";

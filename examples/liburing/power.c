@@ -1,8 +1,8 @@
 /* A test of the store for power failures, by `liburing/explore crash`:
  *
- *   power run [COMMITS [RECORDS]]   commits to `log` in the folder where it runs, and prints each commit that is acknowledged
- *   power check                     reads what was printed, and opens the log that a crash has left. Status 1: an acknowledged
- *                                   value is lost
+ *   power run [COMMITS [RECORDS]]   commits to `log` in the folder where it runs, and prints each
+ * commit that is acknowledged power check                     reads what was printed, and opens the
+ * log that a crash has left. Status 1: an acknowledged value is lost
  */
 #include "store.h"
 
@@ -21,7 +21,8 @@ static void value_of(char value[STORE_VALUE], unsigned key)
 /* The log's name is in its folder, and that is to be safe before the first commit is. */
 static int make_log(void)
 {
-    int log = open("log", O_RDWR | O_CREAT | O_CLOEXEC, 0600), folder = open(".", O_RDONLY | O_DIRECTORY | O_CLOEXEC);
+    int log = open("log", O_RDWR | O_CREAT | O_CLOEXEC, 0600),
+        folder = open(".", O_RDONLY | O_DIRECTORY | O_CLOEXEC);
     if (log < 0 || folder < 0)
         return -1;
 #if PLANTED != 5
@@ -75,11 +76,15 @@ static int check(void)
 
 int main(int argc, char **argv)
 {
-    unsigned commits = argc > 2 ? (unsigned)atoi(argv[2]) : 4, records = argc > 3 ? (unsigned)atoi(argv[3]) : 3;
+    unsigned commits = argc > 2 ? (unsigned)atoi(argv[2]) : 4,
+             records = argc > 3 ? (unsigned)atoi(argv[3]) : 3;
     if (argc == 2 && strcmp(argv[1], "check") == 0)
         return check();
-    if (argc < 2 || argc > 4 || strcmp(argv[1], "run") != 0 || commits < 1 || records < 1 || records > STORE_BATCH || commits > STORE_KEYS / records) {
-        fprintf(stderr, "power run [COMMITS [RECORDS]] | power check: 1 to %d records, and as many commits as the store has keys for\n", STORE_BATCH);
+    if (argc < 2 || argc > 4 || strcmp(argv[1], "run") != 0 || commits < 1 || records < 1 ||
+        records > STORE_BATCH || commits > STORE_KEYS / records) {
+        fprintf(stderr,
+            "power run [COMMITS [RECORDS]] | power check: 1 to %d records, and as many commits as the store has keys for\n",
+            STORE_BATCH);
         return 2;
     }
     return run(commits, records);

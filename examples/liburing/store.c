@@ -1,4 +1,5 @@
-/* The store. Compiled with -DPLANTED=1 to 4 it has a bug, which examples/liburing/README.md tells of. */
+/* The store. Compiled with -DPLANTED=1 to 4 it has a bug, which examples/liburing/README.md tells
+ * of. */
 #include "store.h"
 
 #ifndef PLANTED
@@ -32,8 +33,10 @@ static void remember(struct store *store, const struct record *record)
 static void recover(struct store *store)
 {
     struct record record;
-    while (pread(store->file, &record, sizeof record, (off_t)store->end) == (ssize_t)sizeof record) {
-        if (record.check != check_of(&record) || record.key >= STORE_KEYS || record.commit < store->commit)
+    while (
+        pread(store->file, &record, sizeof record, (off_t)store->end) == (ssize_t)sizeof record) {
+        if (record.check != check_of(&record) || record.key >= STORE_KEYS ||
+            record.commit < store->commit)
             return;
         remember(store, &record);
         store->commit = record.commit;
@@ -67,8 +70,8 @@ void store_put(struct store *store, uint32_t key, const char value[STORE_VALUE])
     record->check = check_of(record);
 }
 
-/* A chain: the writes one after the other, and the fsync after them. A write that succeeds says nothing; one that fails
- * breaks the chain, so that the fsync is cancelled. */
+/* A chain: the writes one after the other, and the fsync after them. A write that succeeds says
+ * nothing; one that fails breaks the chain, so that the fsync is cancelled. */
 static void prepare_commit(struct store *store)
 {
     for (unsigned i = 0; i < store->batch_count; i++) {
@@ -78,7 +81,8 @@ static void prepare_commit(struct store *store)
         if (PLANTED == 3 && i == store->batch_count - 1)
             flags = IOSQE_IO_LINK;
         struct io_uring_sqe *entry = io_uring_get_sqe(&store->ring);
-        io_uring_prep_write(entry, store->file, &store->batch[i], sizeof store->batch[i], store->end + i * sizeof store->batch[i]);
+        io_uring_prep_write(entry, store->file, &store->batch[i], sizeof store->batch[i],
+            store->end + i * sizeof store->batch[i]);
         io_uring_sqe_set_flags(entry, flags);
         entry->user_data = WRITE_TAG;
     }

@@ -1,5 +1,6 @@
-/* Put before a source of liburing, which is compiled unchanged: leaves out the system calls that are written inline for
- * the processor, and takes liburing's generic ones, whose syscall(), mmap() and close() are the layer's.
+/* Put before a source of liburing, which is compiled unchanged: leaves out the system calls that
+ * are written inline for the processor, and takes liburing's generic ones, whose syscall(), mmap()
+ * and close() are the layer's.
  */
 #define _GNU_SOURCE
 #define LIBURING_INTERNAL

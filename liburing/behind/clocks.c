@@ -1,5 +1,6 @@
-/* The clocks of a program that is linked with this: they go with the time that the layer moves on, as a timeout ends or a wait whose time is over. So what a program
- * measures is what it waited for. Clocks of processor time stay as they are.
+/* The clocks of a program that is linked with this: they go with the time that the layer moves on,
+ * as a timeout ends or a wait whose time is over. So what a program measures is what it waited for.
+ * Clocks of processor time stay as they are.
  */
 #define _GNU_SOURCE
 #include <stdint.h>

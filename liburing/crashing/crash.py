@@ -22,14 +22,19 @@ from exploring.runs import list_of, priorities, stop
 from exploring.serving import ROOM
 
 KINDS = ["least", "least", "single", "single", "single", "seed", "seed", "seed", "seed", "most"]
-EACH = 20           # crashes of a run, where runs differ
-CHUNK = 50          # crashes that are given away at once, where they don't
+EACH = 20  # crashes of a run, where runs differ
+CHUNK = 50  # crashes that are given away at once, where they don't
 DEPTHS = 3
 
 
 class Failure:
     def __init__(self, run, moment, losses, status, said):
-        self.policy, self.items, self.choices, self.moment = run.policy, run.items(), len(run.choices), moment
+        self.policy, self.items, self.choices, self.moment = (
+            run.policy,
+            run.items(),
+            len(run.choices),
+            moment,
+        )
         self.losses, self.status, self.said = losses, status, said
 
 
@@ -61,7 +66,11 @@ class Crasher:
             image = image_of(disk, chosen)
             status, said = self.verdict(image, run.printed(moment))
             if status != 0:
-                found.append(Failure(run, moment, pieces(image, image_of(disk, Chosen("most"))), status, said))
+                found.append(
+                    Failure(
+                        run, moment, pieces(image, image_of(disk, Chosen("most"))), status, said
+                    )
+                )
                 if not self.options.keep_going:
                     break
         return found
@@ -76,7 +85,11 @@ class Crasher:
             for image in images or []:
                 status, said = self.verdict(image, run.printed(moment))
                 if status != 0:
-                    found.append(Failure(run, moment, pieces(image, image_of(disk, Chosen("most"))), status, said))
+                    found.append(
+                        Failure(
+                            run, moment, pieces(image, image_of(disk, Chosen("most"))), status, said
+                        )
+                    )
                     if not self.options.keep_going:
                         return found, passed
         return found, passed
@@ -101,7 +114,10 @@ def plan(run, count, seed):
     """Crashes of a run: its moments in an order by chance, again and again, and of each a kind."""
     dice, moments = random.Random(seed), run.moments()
     dice.shuffle(moments)
-    return [(moments[at % len(moments)], dice.choice(KINDS), dice.getrandbits(32)) for at in range(count)]
+    return [
+        (moments[at % len(moments)], dice.choice(KINDS), dice.getrandbits(32))
+        for at in range(count)
+    ]
 
 
 crasher = shared = None
@@ -122,7 +138,13 @@ def work(task):
         found, passed = crasher.crash_all(run)
     else:
         found, passed = crasher.crash(run, specs or plan(run, count, seed)), 0
-    return found, crasher.crashes - before[0], len(crasher.known) - before[1], (policy, run.status, run.remarks), passed
+    return (
+        found,
+        crasher.crashes - before[0],
+        len(crasher.known) - before[1],
+        (policy, run.status, run.remarks),
+        passed,
+    )
 
 
 def tasks(options, run):
@@ -131,9 +153,20 @@ def tasks(options, run):
         if options.all:
             return [(None, None, 0, 0)]
         specs = sorted(plan(run, options.crashes, options.first))
-        return [(None, specs[at::-(-len(specs) // CHUNK)], 0, 0) for at in range(-(-len(specs) // CHUNK))]
+        return [
+            (None, specs[at :: -(-len(specs) // CHUNK)], 0, 0)
+            for at in range(-(-len(specs) // CHUNK))
+        ]
     each = options.each or EACH
-    return [(policy_of(options, seed, len(run.choices)), None, min(each, options.crashes - at * each), seed) for at, seed in enumerate(range(options.first, options.first + -(-options.crashes // each)))]
+    return [
+        (
+            policy_of(options, seed, len(run.choices)),
+            None,
+            min(each, options.crashes - at * each),
+            seed,
+        )
+        for at, seed in enumerate(range(options.first, options.first + -(-options.crashes // each)))
+    ]
 
 
 def policy_of(options, seed, choices):
@@ -166,7 +199,9 @@ def crash_in_place(options):
     if options.at is not None:
         return show(options, run, options.at, Chosen("lose", options.lose))
     failures, crashes, images, passed, remarks = [], 0, 0, 0, Remarks(run)
-    with contextlib.closing(answers(tasks(options, run), options.jobs, lambda: begin_worker(options), work)) as answered:
+    with contextlib.closing(
+        answers(tasks(options, run), options.jobs, lambda: begin_worker(options), work)
+    ) as answered:
         for found, count, different, ended, left in answered:
             remarks.add(*ended)
             crashes, images, passed = crashes + count, images + different, passed + left
@@ -176,7 +211,10 @@ def crash_in_place(options):
             if options.time and time.monotonic() - begun > options.time:
                 break
     seconds = time.monotonic() - begun
-    print(f"{crashes} crashes, {images} checked: {len(failures)} fail; {crashes / seconds:.0f} a second{f'; {passed} moments have more than {options.most} images' if passed else ''}{remarks.unlike()}", flush=True)
+    print(
+        f"{crashes} crashes, {images} checked: {len(failures)} fail; {crashes / seconds:.0f} a second{f'; {passed} moments have more than {options.most} images' if passed else ''}{remarks.unlike()}",
+        flush=True,
+    )
     if not failures:
         return 1 if remarks.others else 0
     return tell(options, failures[0]) if not options.keep_going else 1
@@ -222,29 +260,42 @@ def real(word):
 def look_at(options, run):
     if not run.log.operations:
         sys.stdout.buffer.write(run.said)
-        stop(f"{options.words[0]} did nothing to files below its disk (status {run.status}): it runs in that folder, which DISK names too")
+        stop(
+            f"{options.words[0]} did nothing to files below its disk (status {run.status}): it runs in that folder, which DISK names too"
+        )
     crasher, disk = Crasher(options), run.begin()
     disk.advance(run.log.count)
     status, said = crasher.verdict(image_of(disk, Chosen("most")), run.printed(run.log.count))
     crasher.room.close()
     if status != 0 and options.at is None:
         sys.stdout.buffer.write(run.said + said)
-        stop(f"the check fails (status {status}) where nothing is lost and the run has ended (status {run.status})")
+        stop(
+            f"the check fails (status {status}) where nothing is lost and the run has ended (status {run.status})"
+        )
 
 
 def tell(options, failure):
     """Makes a failure short and tells it: the fewest choices before, then the fewest losses, then the earliest moment. It takes so many seconds at most, and tells what it has by then."""
     how = {"list:": "in order"}.get(failure.policy, failure.policy)
-    print(f"a crash fails: run {how}, after event {failure.moment}, status {failure.status}", flush=True)
+    print(
+        f"a crash fails: run {how}, after event {failure.moment}, status {failure.status}",
+        flush=True,
+    )
     crasher = Crasher(options)
     crasher.deadline = time.monotonic() + options.shorten
     try:
         items, found = shortest(options, crasher, failure)
         if failure.items:
-            print(f"the run made {failure.choices} choices; {len(items)} {'is' if len(items) == 1 else 'are'} enough", flush=True)
+            print(
+                f"the run made {failure.choices} choices; {len(items)} {'is' if len(items) == 1 else 'are'} enough",
+                flush=True,
+            )
         run = shared if failure.policy == shared.policy else Run(options, list_of(items))
         if not crasher.fails(run, found[0], Chosen("lose", found[1])):
-            print("that isn't told by what is lost: two writes that ran at once are left in another order, or the program doesn't do the same in each run", flush=True)
+            print(
+                "that isn't told by what is lost: two writes that ran at once are left in another order, or the program doesn't do the same in each run",
+                flush=True,
+            )
             sys.stdout.buffer.write(failure.said)
             return 1
         moment, lost = shorten(crasher, run, *found)
@@ -259,7 +310,10 @@ def shorten(crasher, run, moment, lost):
     whole = sorted({it[:1] for it in lost})
     if crasher.fails(run, moment, Chosen("lose", whole)):
         lost = whole
-    lost = fewest(lambda some: not crasher.is_over() and crasher.fails(run, moment, Chosen("lose", some)), lost)
+    lost = fewest(
+        lambda some: not crasher.is_over() and crasher.fails(run, moment, Chosen("lose", some)),
+        lost,
+    )
     first = min((run.log.operations[it[0]].begin for it in lost), default=-1)
     for at in run.moments():
         if at >= moment or crasher.is_over():
@@ -280,7 +334,13 @@ def search(crasher, run):
                 lost = lost_by(kind, at, numbers)
                 if crasher.is_over():
                     return None
-                if lost and crasher.verdict(image_of(disk, Chosen("lose", lost)), run.printed(moment))[0] != 0:
+                if (
+                    lost
+                    and crasher.verdict(image_of(disk, Chosen("lose", lost)), run.printed(moment))[
+                        0
+                    ]
+                    != 0
+                ):
                     return moment, lost
     return None
 
@@ -360,7 +420,12 @@ def show(options, run, moment, chosen):
 
 def repeated(options, moment, chosen):
     words = [sys.argv[0], "crash"]
-    for name, value, usual in (("--disk", options.disk, None), ("--names", options.names, "any"), ("--unit", options.unit, 1), ("--fsync-fails", options.fsync_fails, None)):
+    for name, value, usual in (
+        ("--disk", options.disk, None),
+        ("--names", options.names, "any"),
+        ("--unit", options.unit, 1),
+        ("--fsync-fails", options.fsync_fails, None),
+    ):
         if value != usual:
             words += [name, str(value)]
     words += ["--apart"] if options.apart else []
@@ -383,5 +448,9 @@ def told_operations(disk, run, moment):
         what = NAMES[it.kind]
         if it.kind in (1, 2, 16):
             what = f"{what} {it.nth}, {it.length} bytes at {it.offset},"
-        end = f"ends in {it.end + 1}{f' with {it.result}' if it.result and it.result < 0 else ''}" if it.end is not None and it.end < moment else "hasn't ended"
+        end = (
+            f"ends in {it.end + 1}{f' with {it.result}' if it.result and it.result < 0 else ''}"
+            if it.end is not None and it.end < moment
+            else "hasn't ended"
+        )
         yield f"operation {it.number}: {what} of {path or 'the folder'} begins in event {it.begin + 1}, {end}"

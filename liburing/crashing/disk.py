@@ -7,7 +7,24 @@ import errno
 import os
 import stat
 
-from crashing.events import COPY, CREATE, IS_OF_DATA, IS_OF_RANGE, LENGTH, LINK, MAKE_FOLDER, MAKE_LINK, MAPPED, OF_NAMES, REMOVE, SPACE, SYNC, SYNC_ALL, SYNCS_ITS_RANGE, WRITE
+from crashing.events import (
+    COPY,
+    CREATE,
+    IS_OF_DATA,
+    IS_OF_RANGE,
+    LENGTH,
+    LINK,
+    MAKE_FOLDER,
+    MAKE_LINK,
+    MAPPED,
+    OF_NAMES,
+    REMOVE,
+    SPACE,
+    SYNC,
+    SYNC_ALL,
+    SYNCS_ITS_RANGE,
+    WRITE,
+)
 from crashing.labels import Bytes, Parts
 from crashing.order import settled
 
@@ -24,14 +41,26 @@ class Change:
     __slots__ = ("operation", "begin", "end", "first", "last", "data", "length", "is_exact")
 
     def __init__(self, operation, first, last, data, length, is_exact=False, ends=True):
-        self.operation, self.begin, self.end = operation, operation.begin, operation.end if ends else None
-        self.first, self.last, self.data, self.length, self.is_exact = first, last, data, length, is_exact
+        self.operation, self.begin, self.end = (
+            operation,
+            operation.begin,
+            operation.end if ends else None,
+        )
+        self.first, self.last, self.data, self.length, self.is_exact = (
+            first,
+            last,
+            data,
+            length,
+            is_exact,
+        )
 
     def paint(self, contents):
         if self.last > self.first:
             if len(contents) < self.last:
                 contents.extend(bytes(self.last - len(contents)))
-            contents[self.first : self.last] = self.data if self.data is not None else bytes(self.last - self.first)
+            contents[self.first : self.last] = (
+                self.data if self.data is not None else bytes(self.last - self.first)
+            )
 
     def lengthen(self, length):
         if self.length is None:
@@ -45,13 +74,29 @@ class Sync:
     __slots__ = ("operation", "begin", "end", "is_done", "range", "covers")
 
     def __init__(self, operation, begin, end, is_done, range=None, covers=None):
-        self.operation, self.begin, self.end, self.is_done, self.range, self.covers = operation, begin, end, is_done, range, covers
+        self.operation, self.begin, self.end, self.is_done, self.range, self.covers = (
+            operation,
+            begin,
+            end,
+            is_done,
+            range,
+            covers,
+        )
 
 
 class Naming:
     """What an operation does to names: each becomes another file's, or nobody's."""
 
-    __slots__ = ("operation", "begin", "end", "effects", "files", "folders", "replaced", "is_folded")
+    __slots__ = (
+        "operation",
+        "begin",
+        "end",
+        "effects",
+        "files",
+        "folders",
+        "replaced",
+        "is_folded",
+    )
 
     def __init__(self, operation, effects, files, replaced=None):
         self.operation, self.begin, self.end = operation, operation.begin, operation.end
@@ -76,7 +121,13 @@ class File:
         self.changes, self.syncs, self.all_syncs, self.writes = [], [], [], 0
 
     def extent(self):
-        return max([self.length, *(change.length or 0 for change in self.changes), *(change.last for change in self.changes)])
+        return max(
+            [
+                self.length,
+                *(change.length or 0 for change in self.changes),
+                *(change.last for change in self.changes),
+            ]
+        )
 
 
 class Disk:
@@ -144,15 +195,46 @@ class Disk:
         elif kind == SYNC_ALL:
             for number, file in enumerate(self.files):
                 self.begin_sync(number, operation, None)
-            self.name_syncs.append(Sync(operation, operation.begin, operation.end, not operation.fails(), covers=lambda naming: True))
+            self.name_syncs.append(
+                Sync(
+                    operation,
+                    operation.begin,
+                    operation.end,
+                    not operation.fails(),
+                    covers=lambda naming: True,
+                )
+            )
         elif kind == SYNC:
             number = self.file_of(operation)
-            self.begin_sync(number, operation, (operation.offset, operation.offset + operation.length) if operation.flags & IS_OF_RANGE else None)
+            self.begin_sync(
+                number,
+                operation,
+                (operation.offset, operation.offset + operation.length)
+                if operation.flags & IS_OF_RANGE
+                else None,
+            )
             if self.files[number].kind == "folder":
-                self.name_syncs.append(Sync(operation, operation.begin, operation.end, not operation.fails(), covers=lambda naming: number in naming.folders))
+                self.name_syncs.append(
+                    Sync(
+                        operation,
+                        operation.begin,
+                        operation.end,
+                        not operation.fails(),
+                        covers=lambda naming: number in naming.folders,
+                    )
+                )
             elif self.is_ordered:
                 grown = self.grown_at(self.files[number], operation)
-                self.name_syncs.append(Sync(operation, operation.begin, operation.end, not operation.fails(), covers=lambda naming: number in naming.files and is_met(operation, naming, grown)))
+                self.name_syncs.append(
+                    Sync(
+                        operation,
+                        operation.begin,
+                        operation.end,
+                        not operation.fails(),
+                        covers=lambda naming: number in naming.files
+                        and is_met(operation, naming, grown),
+                    )
+                )
         else:
             self.begin_change(operation)
 
@@ -180,10 +262,15 @@ class Disk:
             file.writes += 1
             operation.nth = file.writes
             for first, data, ends in written(operation):
-                self.put(file, Change(operation, first, first + len(data), data, first + len(data), ends=ends))
+                self.put(
+                    file,
+                    Change(operation, first, first + len(data), data, first + len(data), ends=ends),
+                )
         elif not operation.fails() and operation.kind == LENGTH:
             extent = max(file.extent(), operation.offset)
-            self.put(file, Change(operation, operation.offset, extent, None, operation.offset, True))
+            self.put(
+                file, Change(operation, operation.offset, extent, None, operation.offset, True)
+            )
         elif not operation.fails() and operation.kind == SPACE:
             self.begin_space(file, operation)
 
@@ -198,16 +285,30 @@ class Disk:
     def put(self, file, change):
         file.changes.append(change)
         operation = change.operation
-        if operation.flags & SYNCS_ITS_RANGE and operation.kind in (WRITE, COPY) and change.end is not None:
+        if (
+            operation.flags & SYNCS_ITS_RANGE
+            and operation.kind in (WRITE, COPY)
+            and change.end is not None
+        ):
             # (a sync of its range, begun once it has ended: RWF_DSYNC, O_DSYNC)
-            file.syncs.append(Sync(operation, change.end + 0.25, change.end + 0.5, True, (change.first, change.last)))
+            file.syncs.append(
+                Sync(
+                    operation,
+                    change.end + 0.25,
+                    change.end + 0.5,
+                    True,
+                    (change.first, change.last),
+                )
+            )
 
     def end(self, operation):
         if operation.kind == SYNC_ALL:
             for file in self.files:
                 self.fold(file)
             self.fold_names()
-        elif operation.kind == SYNC or (operation.flags & SYNCS_ITS_RANGE and operation.kind in (WRITE, COPY)):
+        elif operation.kind == SYNC or (
+            operation.flags & SYNCS_ITS_RANGE and operation.kind in (WRITE, COPY)
+        ):
             self.fold(self.files[self.by_inode[operation.file]])
             self.fold_names()
 
@@ -222,14 +323,27 @@ class Disk:
                 change.paint(file.contents)
                 file.length = change.lengthen(file.length)
         file.changes = [it for it in file.changes if it not in found]
-        last = max((it.end for it in file.changes if it.end is not None and it.end < self.now), default=None)
-        first = min((it.end for it in file.changes if it.end is not None and it.end < self.now), default=None)
-        file.syncs = [it for it in file.syncs if is_open(it, self.now) or (last is not None and it.begin > first)]
+        last = max(
+            (it.end for it in file.changes if it.end is not None and it.end < self.now),
+            default=None,
+        )
+        first = min(
+            (it.end for it in file.changes if it.end is not None and it.end < self.now),
+            default=None,
+        )
+        file.syncs = [
+            it
+            for it in file.syncs
+            if is_open(it, self.now) or (last is not None and it.begin > first)
+        ]
 
     def foldable(self, changes, syncs):
         """Those of some changes of a file that can be folded, their length and their bytes."""
         found = Parts(changes, syncs, self.now).folded()
-        return found and found & (Bytes(changes, syncs, self.now, self.unit).folded() | {it for it in found if it.last == it.first})
+        return found and found & (
+            Bytes(changes, syncs, self.now, self.unit).folded()
+            | {it for it in found if it.last == it.first}
+        )
 
     def name_groups(self):
         """The operations on names that a crash leaves together, in one order: all, or those that a chain of names joins."""
@@ -254,8 +368,15 @@ class Disk:
                     naming.apply(self.names)
                     naming.is_folded = True
         self.namings = [it for it in self.namings if not it.is_folded]
-        first = min((it.end for it in self.namings if it.end is not None and it.end < self.now), default=None)
-        self.name_syncs = [it for it in self.name_syncs if is_open(it, self.now) or (first is not None and it.begin > first)]
+        first = min(
+            (it.end for it in self.namings if it.end is not None and it.end < self.now),
+            default=None,
+        )
+        self.name_syncs = [
+            it
+            for it in self.name_syncs
+            if is_open(it, self.now) or (first is not None and it.begin > first)
+        ]
 
     def begin_naming(self, operation):
         folder, name = self.by_inode.get(operation.file), os.path.basename(operation.path)
@@ -263,13 +384,27 @@ class Disk:
         if kind == CREATE and not operation.path:
             self.add(File("file", ""), operation.made)
         elif kind == CREATE:
-            self.name(operation, [(folder, name, self.add(File("file", operation.path), operation.made))])
+            self.name(
+                operation, [(folder, name, self.add(File("file", operation.path), operation.made))]
+            )
         elif kind == MAKE_FOLDER:
             number = self.add(File("folder", operation.path, mode=0o755), operation.made)
             self.names[number] = {}
             self.name(operation, [(folder, name, number)])
         elif kind == MAKE_LINK:
-            self.name(operation, [(folder, name, self.add(File("link", operation.path, os.fsencode(operation.second_path)), operation.made))])
+            self.name(
+                operation,
+                [
+                    (
+                        folder,
+                        name,
+                        self.add(
+                            File("link", operation.path, os.fsencode(operation.second_path)),
+                            operation.made,
+                        ),
+                    )
+                ],
+            )
         elif kind == LINK:
             self.name(operation, [(folder, name, self.known(operation.second, operation.path))])
         elif kind == REMOVE:
@@ -278,7 +413,9 @@ class Disk:
             self.rename(operation, folder, name)
 
     def known(self, inode, path):
-        return self.by_inode[inode] if inode in self.by_inode else self.add(File("file", path), inode)
+        return (
+            self.by_inode[inode] if inode in self.by_inode else self.add(File("file", path), inode)
+        )
 
     def rename(self, operation, folder, name):
         other, second = self.by_inode.get(operation.second), os.path.basename(operation.second_path)
@@ -300,22 +437,36 @@ class Disk:
 
     def current(self, folder, name):
         """The file that has a name, as the program sees it."""
-        return self.seen[folder, name] if (folder, name) in self.seen else self.names.get(folder, {}).get(name)
+        return (
+            self.seen[folder, name]
+            if (folder, name) in self.seen
+            else self.names.get(folder, {}).get(name)
+        )
 
     def name(self, operation, effects, moved=None, replaced=None):
         effects = [it for it in effects if it[0] is not None]
         if effects:
-            files = {file for _, _, file in effects if file is not None} | ({moved} if moved is not None else set())
+            files = {file for _, _, file in effects if file is not None} | (
+                {moved} if moved is not None else set()
+            )
             self.namings.append(Naming(operation, effects, files, replaced))
             self.seen.update(((folder, name), file) for folder, name, file in effects)
 
     def short(self, file):
-        return os.path.relpath(file.path, self.folder) if file.path.startswith(self.folder) else file.path or "a file without a name"
+        return (
+            os.path.relpath(file.path, self.folder)
+            if file.path.startswith(self.folder)
+            else file.path or "a file without a name"
+        )
 
 
 def is_met(sync, naming, grown):
     """Whether a sync of a file reaches an operation on its names, where names are ordered (ext4's journal): one of the data only its creation, and what came before the file's length last changed (i_datasync_tid)."""
-    return not sync.flags & IS_OF_DATA or naming.operation.kind == CREATE or (naming.end is not None and naming.end < grown)
+    return (
+        not sync.flags & IS_OF_DATA
+        or naming.operation.kind == CREATE
+        or (naming.end is not None and naming.end < grown)
+    )
 
 
 def is_open(sync, now):

@@ -3,13 +3,44 @@
 import struct
 
 HEAD = struct.Struct("<IHHIIQQQqQqHHI")
-WRITE, COPY, SYNC, SYNC_ALL, LENGTH, SPACE, CREATE, MAKE_FOLDER, MAKE_LINK, LINK, RENAME, REMOVE, END, CARRY, PRINT, MAPPED = range(1, 17)
+(
+    WRITE,
+    COPY,
+    SYNC,
+    SYNC_ALL,
+    LENGTH,
+    SPACE,
+    CREATE,
+    MAKE_FOLDER,
+    MAKE_LINK,
+    LINK,
+    RENAME,
+    REMOVE,
+    END,
+    CARRY,
+    PRINT,
+    MAPPED,
+) = range(1, 17)
 SYNCS_ITS_RANGE, IS_OF_RANGE, IS_OF_DATA = 1, 2, 4
 OF_NAMES = {CREATE, MAKE_FOLDER, MAKE_LINK, LINK, RENAME, REMOVE}
 
 
 class Event:
-    __slots__ = ("kind", "flags", "process", "thread", "operation", "file", "second", "offset", "length", "result", "path", "second_path", "bytes")
+    __slots__ = (
+        "kind",
+        "flags",
+        "process",
+        "thread",
+        "operation",
+        "file",
+        "second",
+        "offset",
+        "length",
+        "result",
+        "path",
+        "second_path",
+        "bytes",
+    )
 
 
 def read_events(data):
@@ -17,12 +48,29 @@ def read_events(data):
     found, at = [], 0
     while at + HEAD.size <= len(data):
         event = Event()
-        size, event.kind, event.flags, event.process, event.thread, event.operation, event.file, event.second, event.offset, event.length, event.result, path, second, count = HEAD.unpack_from(data, at)
+        (
+            size,
+            event.kind,
+            event.flags,
+            event.process,
+            event.thread,
+            event.operation,
+            event.file,
+            event.second,
+            event.offset,
+            event.length,
+            event.result,
+            path,
+            second,
+            count,
+        ) = HEAD.unpack_from(data, at)
         if size < HEAD.size or at + size > len(data) or size != HEAD.size + path + second + count:
             return found, True
         after = at + HEAD.size
         event.path = data[after : after + path].decode(errors="surrogateescape")
-        event.second_path = data[after + path : after + path + second].decode(errors="surrogateescape")
+        event.second_path = data[after + path : after + path + second].decode(
+            errors="surrogateescape"
+        )
         event.bytes = data[after + path + second : at + size]
         found.append(event)
         at += size
@@ -32,13 +80,42 @@ def read_events(data):
 class Operation:
     """What begins in one event, and ends in another or not at all. Of a write: its bytes; of a copy they come with its end."""
 
-    __slots__ = ("kind", "flags", "begin", "end", "file", "second", "offset", "length", "result", "path", "second_path", "bytes", "made", "is_of_ring", "actual", "number", "nth")
+    __slots__ = (
+        "kind",
+        "flags",
+        "begin",
+        "end",
+        "file",
+        "second",
+        "offset",
+        "length",
+        "result",
+        "path",
+        "second_path",
+        "bytes",
+        "made",
+        "is_of_ring",
+        "actual",
+        "number",
+        "nth",
+    )
 
     def __init__(self, event, at):
         self.kind, self.flags, self.begin, self.end = event.kind, event.flags, at, None
-        self.file, self.second, self.offset, self.length = event.file, event.second, event.offset, event.length
+        self.file, self.second, self.offset, self.length = (
+            event.file,
+            event.second,
+            event.offset,
+            event.length,
+        )
         self.path, self.second_path, self.bytes = event.path, event.second_path, event.bytes
-        self.result, self.made, self.is_of_ring, self.actual, self.number = None, 0, event.operation != 0, None, 0
+        self.result, self.made, self.is_of_ring, self.actual, self.number = (
+            None,
+            0,
+            event.operation != 0,
+            None,
+            0,
+        )
         self.nth = 0
 
     def fails(self):
@@ -92,7 +169,11 @@ class Log:
             return
         self.operations.append(operation)
         if event.kind == MAPPED:
-            operation.begin, operation.end, operation.result = self.compared_at(event, at), at, event.length
+            operation.begin, operation.end, operation.result = (
+                self.compared_at(event, at),
+                at,
+                event.length,
+            )
             return
         if event.kind in (SYNC, SYNC_ALL) and not event.operation:
             self.compared[event.process, 0] = at
@@ -104,7 +185,10 @@ class Log:
     def compared_at(self, event, at):
         """Where a process has last compared a file with what is mapped of it: where it mapped it, or where a sync by a call of its own (0) began or ended. A child may have neither: its parent had mapped it."""
         keys = (event.process, event.file), (event.process, 0)
-        return max((self.compared[it] for it in keys if it in self.compared), default=self.mapped.get(event.file, at))
+        return max(
+            (self.compared[it] for it in keys if it in self.compared),
+            default=self.mapped.get(event.file, at),
+        )
 
     def end(self, at, event, thread):
         if event.operation:

@@ -5,7 +5,7 @@ import itertools
 from crashing.disk import Sync, is_open
 from crashing.labels import Bytes, Chosen, Parts, hides, merged
 
-BLOCK = 4096        # of ext4
+BLOCK = 4096  # of ext4
 
 
 class Image:
@@ -15,11 +15,22 @@ class Image:
         self.tree, self.links, self.shown, self.left = {}, {}, {}, []
 
     def key(self):
-        return hash((tuple(sorted((path, it if it is None else it[:2]) for path, it in self.tree.items())), tuple(sorted(self.links.items()))))
+        return hash(
+            (
+                tuple(
+                    sorted((path, it if it is None else it[:2]) for path, it in self.tree.items())
+                ),
+                tuple(sorted(self.links.items())),
+            )
+        )
 
 
 def image_of(disk, chosen):
-    return assemble(disk, [Parts(group, disk.name_syncs, disk.now).crash(chosen) for group in disk.name_groups()], lambda file, syncs: crash_file(disk, file, syncs, chosen))
+    return assemble(
+        disk,
+        [Parts(group, disk.name_syncs, disk.now).crash(chosen) for group in disk.name_groups()],
+        lambda file, syncs: crash_file(disk, file, syncs, chosen),
+    )
 
 
 def assemble(disk, groups, contents_of):
@@ -46,7 +57,9 @@ def assemble(disk, groups, contents_of):
             image.links[path] = made[number]
             image.tree[path] = image.tree[made[number]]
         else:
-            contents, image.shown[number] = contents_of(file, [*file.syncs, *synced.get(number, [])])
+            contents, image.shown[number] = contents_of(
+                file, [*file.syncs, *synced.get(number, [])]
+            )
             image.tree[path], made[number] = ("file", contents, file.mode), path
 
     put(disk.root, "")
@@ -59,7 +72,9 @@ def flushed(disk, left):
     for naming in left if disk.is_ordered else []:
         if naming.replaced is not None:
             for number in naming.files:
-                found.setdefault(number, []).append(Sync(naming.operation, naming.begin, naming.begin + 0.5, True))
+                found.setdefault(number, []).append(
+                    Sync(naming.operation, naming.begin, naming.begin + 0.5, True)
+                )
     return found
 
 
@@ -76,12 +91,29 @@ def with_length(disk, file, left, tears=()):
 
     A truncation changes bytes and length as one (our own rule; `apart`: not): if its length isn't left, neither are its zeros, nor what was written after it once it had ended. Where names are ordered, a file that grew beyond its last block has the bytes with which it grew (ext4's data=ordered). What is there for certain is said to the volume as a sync of its range.
     """
-    kept, lost = list(file.syncs), [] if disk.is_apart else [it for it in file.changes if it.is_exact and it not in left]
-    there = [*(grown(file, left) if disk.is_ordered else []), *(it for it in left if it.is_exact and not disk.is_apart)]
+    kept, lost = list(file.syncs), [] if disk.is_apart else [
+        it for it in file.changes if it.is_exact and it not in left
+    ]
+    there = [
+        *(grown(file, left) if disk.is_ordered else []),
+        *(it for it in left if it.is_exact and not disk.is_apart),
+    ]
     for change in there:
         if change.last > change.first and not is_open(change, disk.now):
-            kept.append(Sync(change.operation, change.end + 0.25, change.end + 0.5, True, (change.first, change.last)))
-    changes = [it for it in file.changes if not any(hides(cut, it, it.first - it.first % disk.unit + disk.unit) for cut in lost)]
+            kept.append(
+                Sync(
+                    change.operation,
+                    change.end + 0.25,
+                    change.end + 0.5,
+                    True,
+                    (change.first, change.last),
+                )
+            )
+    changes = [
+        it
+        for it in file.changes
+        if not any(hides(cut, it, it.first - it.first % disk.unit + disk.unit) for cut in lost)
+    ]
     return Bytes(changes, kept, disk.now, disk.unit, tears, lost)
 
 
@@ -89,7 +121,11 @@ def grown(file, left):
     """The changes by which a file ends beyond the block in which it ended before, of those that its length shows."""
     found, length = [], file.length
     for change in left:
-        if not change.is_exact and change.length is not None and change.last > -(-length // BLOCK) * BLOCK:
+        if (
+            not change.is_exact
+            and change.length is not None
+            and change.last > -(-length // BLOCK) * BLOCK
+        ):
             found.append(change)
         length = change.lengthen(length)
     return found
@@ -103,20 +139,28 @@ def tears_of(file, unit, chosen):
     for change in file.changes[-20:] if chosen.is_torn else []:
         units = (change.last - change.first) // unit
         if units > 1 and dice.random() < 0.7:
-            found += [change.first + dice.randrange(1, units) * unit for _ in range(dice.randrange(1, 4))]
+            found += [
+                change.first + dice.randrange(1, units) * unit for _ in range(dice.randrange(1, 4))
+            ]
     return found
 
 
 def paint(file, left, cells):
     length = file.length
-    for change in sorted(left, key=lambda it: (it.end if it.end is not None else float("inf"), it.begin)):
+    for change in sorted(
+        left, key=lambda it: (it.end if it.end is not None else float("inf"), it.begin)
+    ):
         length = change.lengthen(length)
     contents = bytearray(file.contents)
     for first, last, change in cells:
         if change is not None:
             if len(contents) < last:
                 contents.extend(bytes(last - len(contents)))
-            contents[first:last] = change.data[first - change.first : last - change.first] if change.data is not None else bytes(last - first)
+            contents[first:last] = (
+                change.data[first - change.first : last - change.first]
+                if change.data is not None
+                else bytes(last - first)
+            )
     return bytes(contents[:length]).ljust(length, b"\0"), (cells, length, left)
 
 
@@ -126,7 +170,9 @@ def unsettled(disk):
     for file in disk.files:
         if file.changes:
             safe = Parts(file.changes, file.syncs, disk.now).safe()
-            safe &= Bytes(file.changes, file.syncs, disk.now, disk.unit).safe() | {it for it in safe if it.last == it.first}
+            safe &= Bytes(file.changes, file.syncs, disk.now, disk.unit).safe() | {
+                it for it in safe if it.last == it.first
+            }
             found |= {it.operation.number for it in file.changes if it not in safe}
     for group in disk.name_groups():
         safe = Parts(group, disk.name_syncs, disk.now).safe()
@@ -151,7 +197,13 @@ def all_images(disk, most):
         numbers = sorted(kinds)
         for ways in itertools.product(*(kinds[number] for number in numbers)):
             chosen = dict(zip((id(disk.files[number]) for number in numbers), ways))
-            image = assemble(disk, left, lambda file, syncs: chosen[id(file)] if id(file) in chosen else crash_file(disk, file, syncs, Chosen("least")))
+            image = assemble(
+                disk,
+                left,
+                lambda file, syncs: chosen[id(file)]
+                if id(file) in chosen
+                else crash_file(disk, file, syncs, Chosen("least")),
+            )
             kept.setdefault(image.key(), image)
             if len(kept) > most:
                 return None
@@ -162,7 +214,9 @@ def ways_of(disk, file, syncs, most):
     """Each way in which a file may be left."""
     kept = {}
     for left in Parts(file.changes, syncs, disk.now).images(most) or [None]:
-        cells = left is not None and every_cell(disk, most, lambda tears: with_length(disk, file, left, tears))
+        cells = left is not None and every_cell(
+            disk, most, lambda tears: with_length(disk, file, left, tears)
+        )
         if not cells:
             return None
         for shown in cells:
@@ -190,15 +244,23 @@ def losses(disk, image, whole):
     found = []
     for naming in whole.left:
         if naming not in image.left:
-            found.append(f"{told_naming(disk, naming)} is lost: {why_lost(disk, naming, disk.name_syncs, 'its folder')}")
+            found.append(
+                f"{told_naming(disk, naming)} is lost: {why_lost(disk, naming, disk.name_syncs, 'its folder')}"
+            )
     for number in sorted(whole.shown):
         if number not in image.shown:
             continue
-        file, (cells, length, _), (shown, shorter, _) = disk.files[number], whole.shown[number], image.shown[number]
+        file, (cells, length, _), (shown, shorter, _) = (
+            disk.files[number],
+            whole.shown[number],
+            image.shown[number],
+        )
         name, lost = disk.short(file), lost_ranges(cells, shown)
         for change, ranges in lost.items():
             zeros = ", and read as zeros" if are_zeros(ranges, shown, file.length, shorter) else ""
-            found.append(f"{told_ranges(ranges)} of {name} are lost{zeros}: {why_lost(disk, change, file.all_syncs, name)}")
+            found.append(
+                f"{told_ranges(ranges)} of {name} are lost{zeros}: {why_lost(disk, change, file.all_syncs, name)}"
+            )
         if length != shorter and not are_lost(lost, shorter, length):
             found.append(f"the length of {name} is {shorter} and not {length}")
     return found
@@ -207,12 +269,19 @@ def losses(disk, image, whole):
 def are_zeros(ranges, shown, first, last):
     """Whether nothing shows in these ranges, which lie behind the bytes that are settled and before a file's end."""
     is_grown = all(first <= low and high <= last for low, high in ranges)
-    return is_grown and not any(change and one < high and low < other for one, other, change in shown for low, high in ranges)
+    return is_grown and not any(
+        change and one < high and low < other
+        for one, other, change in shown
+        for low, high in ranges
+    )
 
 
 def are_lost(lost, first, last):
     """Whether what is lost of changes says already that a file is shorter."""
-    return any(one <= first < last <= other for one, other in merged([it for ranges in lost.values() for it in ranges]))
+    return any(
+        one <= first < last <= other
+        for one, other in merged([it for ranges in lost.values() for it in ranges])
+    )
 
 
 def pieces(image, whole):
@@ -221,8 +290,14 @@ def pieces(image, whole):
     for number in sorted(whole.shown):
         if number in image.shown:
             (cells, _, left), (shown, _, shorter) = whole.shown[number], image.shown[number]
-            found += [(change.operation.number, first, last) for change, ranges in lost_ranges(cells, shown).items() for first, last in ranges]
-            found += [(change.operation.number, "length") for change in left if change not in shorter]
+            found += [
+                (change.operation.number, first, last)
+                for change, ranges in lost_ranges(cells, shown).items()
+                for first, last in ranges
+            ]
+            found += [
+                (change.operation.number, "length") for change in left if change not in shorter
+            ]
     return found
 
 
@@ -232,7 +307,9 @@ def lost_ranges(cells, shown):
     for first, last, change in cells:
         while at < len(shown) and shown[at][1] <= first:
             at += 1
-        for one, other, now in itertools.takewhile(lambda it: it[0] < last, itertools.islice(shown, at, None)):
+        for one, other, now in itertools.takewhile(
+            lambda it: it[0] < last, itertools.islice(shown, at, None)
+        ):
             if change is not None and now is not change:
                 put_range(found.setdefault(change, []), max(first, one), min(last, other))
     return found
@@ -250,7 +327,14 @@ def told_ranges(ranges):
 
 def told_naming(disk, naming):
     operation = naming.operation
-    words = {7: "the name {0}", 8: "the folder {0}", 9: "the link {0}", 10: "the name {0}", 11: "the rename of {0} to {1}", 12: "the removal of {0}"}[operation.kind]
+    words = {
+        7: "the name {0}",
+        8: "the folder {0}",
+        9: "the link {0}",
+        10: "the name {0}",
+        11: "the rename of {0} to {1}",
+        12: "the removal of {0}",
+    }[operation.kind]
     return words.format(relative(disk, operation.path), relative(disk, operation.second_path))
 
 
@@ -265,7 +349,14 @@ def why_lost(disk, change, syncs, name):
         return f"{what} hadn't ended"
     own = [it for it in syncs if it.covers is None or it.covers(change)]
     since = [it for it in own if it.begin > change.end and it.begin < disk.now]
-    across = [it for it in own if it.begin < change.end and not is_open(it, disk.now) and it.end > change.end and it.is_done]
+    across = [
+        it
+        for it in own
+        if it.begin < change.end
+        and not is_open(it, disk.now)
+        and it.end > change.end
+        and it.is_done
+    ]
     if any(not it.is_done and not is_open(it, disk.now) for it in own if it.begin > change.end):
         return f"an fsync of {name} that reached {what} failed"
     if any(not is_open(it, disk.now) for it in since):

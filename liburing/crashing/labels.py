@@ -13,7 +13,7 @@ import itertools
 from crashing.order import at_once, first_end, telling
 from crashing.volumes import Volume
 
-WHOLE = 1 << 40     # a unit that is larger than any volume here
+WHOLE = 1 << 40  # a unit that is larger than any volume here
 
 
 class Chosen:
@@ -36,20 +36,38 @@ class Chosen:
         """The changes of one list that aren't lost, in the order of their begins."""
         if self.kind == "seed":
             return sorted(self.some(changes), key=lambda it: it.begin)
-        return [] if self.kind == "least" else [it for it in changes if it.operation.number not in self.short]
+        return (
+            []
+            if self.kind == "least"
+            else [it for it in changes if it.operation.number not in self.short]
+        )
 
     def everywhere(self, changes):
         """What a seed leaves of a file where writes aren't torn: each with its place in the order."""
-        return {it: at for at, it in enumerate(self.some(changes))} if self.kind == "seed" and not self.is_torn else {}
+        return (
+            {it: at for at, it in enumerate(self.some(changes))}
+            if self.kind == "seed" and not self.is_torn
+            else {}
+        )
 
     def named_in(self, first, last, changes, same):
         """Those of the changes of a cell that aren't lost there."""
         if self.kind != "seed":
-            return [] if self.kind == "least" else [it for it in changes if not self.loses(it.operation.number, first, last)]
-        return self.some(changes) if self.is_torn else sorted((it for it in changes if it in same), key=same.get)
+            return (
+                []
+                if self.kind == "least"
+                else [it for it in changes if not self.loses(it.operation.number, first, last)]
+            )
+        return (
+            self.some(changes)
+            if self.is_torn
+            else sorted((it for it in changes if it in same), key=same.get)
+        )
 
     def loses(self, number, first, last):
-        return number in self.lost or any(one < last and first < other for one, other in self.torn.get(number, []))
+        return number in self.lost or any(
+            one < last and first < other for one, other in self.torn.get(number, [])
+        )
 
     def some(self, changes):
         """Some of these, as many as the dice say, now and then those that ran at once in another order."""
@@ -63,7 +81,9 @@ class History:
 
     def __init__(self, changes, syncs, now):
         self.changes, self.now = changes, now
-        self.syncs = list(telling(changes, (it for it in syncs if it.end is not None and it.end < now)))
+        self.syncs = list(
+            telling(changes, (it for it in syncs if it.end is not None and it.end < now))
+        )
         self.last_sync = max((it.begin for it in self.syncs if it.is_done), default=-1)
 
     def marks(self):
@@ -85,7 +105,10 @@ class History:
             elif rank == 2:
                 volume.end_write(self.numbers[it])
             elif rank == 0:
-                begun[it] = [volume.begin_sync() if range is None else volume.begin_range_sync(*range) for range in self.synced(it)]
+                begun[it] = [
+                    volume.begin_sync() if range is None else volume.begin_range_sync(*range)
+                    for range in self.synced(it)
+                ]
             else:
                 for number in begun[it]:
                     volume.end_sync(number, it.is_done)
@@ -133,7 +156,9 @@ class Parts(History):
     def synced(self, sync):
         if sync.covers is None and sync.range is None:
             return [None]
-        met = merged((at, at + 1) for change, at in self.places.items() if self.is_met(sync, change))
+        met = merged(
+            (at, at + 1) for change, at in self.places.items() if self.is_met(sync, change)
+        )
         return [(first, last - first) for first, last in met]
 
     @staticmethod
@@ -172,7 +197,13 @@ class Bytes(History):
     def __init__(self, changes, syncs, now, unit, tears=(), cuts=()):
         super().__init__([it for it in changes if it.last > it.first], syncs, now)
         self.unit, self.cuts = unit, cuts
-        self.lay_out(unit, [*tears, *(place for cut in self.cuts for place in (cut.length, cut.length + unit - 1))])
+        self.lay_out(
+            unit,
+            [
+                *tears,
+                *(place for cut in self.cuts for place in (cut.length, cut.length + unit - 1)),
+            ],
+        )
         self.width = 2 if len(self.changes) < 1 << 16 else 4
         self.labels = {change: at + 1 for at, change in enumerate(self.changes)}
 
@@ -194,13 +225,19 @@ class Bytes(History):
                 borders.update((first, first + unit))
                 inner.setdefault(first, []).append(cut)
         borders.update(it - it % unit for it in tears)
-        covered = merged([(it.first - it.first % unit, -(-it.last // unit) * unit) for it in self.changes])
+        covered = merged(
+            [(it.first - it.first % unit, -(-it.last // unit) * unit) for it in self.changes]
+        )
         borders = sorted(borders)
         self.cells = []
         for first, last in covered:
-            inside = borders[bisect.bisect_right(borders, first) : bisect.bisect_left(borders, last)]
+            inside = borders[
+                bisect.bisect_right(borders, first) : bisect.bisect_left(borders, last)
+            ]
             points = [first, *inside, last]
-            self.cells += [(one, other, inner.get(one, [])) for one, other in zip(points, points[1:])]
+            self.cells += [
+                (one, other, inner.get(one, [])) for one, other in zip(points, points[1:])
+            ]
         self.slots = 1 + max((len(it[2]) for it in self.cells), default=0)
         self.starts = [it[0] for it in self.cells]
 
@@ -217,7 +254,9 @@ class Bytes(History):
         index = bisect.bisect_left(inner, place)
         if is_last:
             # (of a range that isn't cut here: what lies in it whole)
-            return at * self.slots + (index + 1 if index < len(inner) and inner[index] == place else index)
+            return at * self.slots + (
+                index + 1 if index < len(inner) and inner[index] == place else index
+            )
         return at * self.slots + index + 1 if index < len(inner) else (at + 1) * self.slots
 
     def slot_at(self, place):
@@ -227,7 +266,9 @@ class Bytes(History):
 
     def written(self, change):
         first, last = self.slot(change.first, False), self.slot(change.last, True)
-        return first * self.width, self.labels[change].to_bytes(self.width, "little") * (last - first)
+        return first * self.width, self.labels[change].to_bytes(self.width, "little") * (
+            last - first
+        )
 
     def synced(self, sync):
         if sync.range is None:
@@ -240,7 +281,9 @@ class Bytes(History):
         met = [it for it in self.changes if first <= it.first and it.last <= last]
         if not met:
             return []
-        begin, end = min(self.slot(it.first, False) for it in met), max(self.slot(it.last, True) for it in met)
+        begin, end = min(self.slot(it.first, False) for it in met), max(
+            self.slot(it.last, True) for it in met
+        )
         return [(begin * self.width, (end - begin) * self.width)]
 
     def is_hidden(self, change, last):
@@ -251,7 +294,9 @@ class Bytes(History):
         """Which change shows where: ranges, each with its change or None. Each cell goes by itself, with the changes that touch it."""
         same, found = chosen.everywhere(self.changes), []
         for (first, last, inner), own in zip(self.cells, self.touching()):
-            named = chosen.named_in(first, last, [it for it in own if not self.is_hidden(it, last)], same)
+            named = chosen.named_in(
+                first, last, [it for it in own if not self.is_hidden(it, last)], same
+            )
             found += self.shown((first, last, inner), own, named)
         return found
 
@@ -283,7 +328,9 @@ class Bytes(History):
         file = self.of(own)
         at = bisect.bisect_right(file.starts, cell[0]) - 1
         volume = file.volume
-        image = volume.crash(array.array("Q", [*[0] * (at + 1), *(file.numbers[it] for it in named), 0]))
+        image = volume.crash(
+            array.array("Q", [*[0] * (at + 1), *(file.numbers[it] for it in named), 0])
+        )
         return [(one, other, file.label(image, file.slot_at(one))) for one, other in pairs(cell)]
 
     def label(self, image, slot):
@@ -292,15 +339,25 @@ class Bytes(History):
         return self.changes[label - 1] if label else None
 
     def read(self, image):
-        return [(one, other, self.label(image, at * self.slots + slot)) for at, cell in enumerate(self.cells) for slot, (one, other) in enumerate(pairs(cell))]
+        return [
+            (one, other, self.label(image, at * self.slots + slot))
+            for at, cell in enumerate(self.cells)
+            for slot, (one, other) in enumerate(pairs(cell))
+        ]
 
     def images(self, most):
         found = self.volume.images(most)
-        return None if found is None else [cells for cells in map(self.read, found) if not self.shows_hidden(cells)]
+        return (
+            None
+            if found is None
+            else [cells for cells in map(self.read, found) if not self.shows_hidden(cells)]
+        )
 
     def shows_hidden(self, cells):
         lasts = (last for _, last, inner in self.cells for _ in range(len(inner) + 1))
-        return bool(self.cuts) and any(change and self.is_hidden(change, last) for (_, _, change), last in zip(cells, lasts))
+        return bool(self.cuts) and any(
+            change and self.is_hidden(change, last) for (_, _, change), last in zip(cells, lasts)
+        )
 
 
 def hides(cut, change, last):
@@ -320,7 +377,10 @@ def painted(cell, changes):
     points = [first, *inner, last]
     found = [None] * (len(points) - 1)
     for it in changes:
-        for slot in range(bisect.bisect_left(points, max(it.first, first)), bisect.bisect_left(points, min(it.last, last))):
+        for slot in range(
+            bisect.bisect_left(points, max(it.first, first)),
+            bisect.bisect_left(points, min(it.last, last)),
+        ):
             found[slot] = it
     return [(one, other, it) for (one, other), it in zip(itertools.pairwise(points), found)]
 

@@ -4,7 +4,7 @@ import bisect
 import itertools
 import math
 
-FEW = 16            # changes that a volume is asked at once whether they can be folded
+FEW = 16  # changes that a volume is asked at once whether they can be folded
 
 
 def at_once(changes):
@@ -50,7 +50,9 @@ def settled(changes, folded):
             break
         own = [*left, *changes[at : at + FEW]]
         last = max((it.end for it in own if it.end is not None), default=-1)
-        beside = itertools.takewhile(lambda it: it.begin <= last, itertools.islice(changes, at + FEW, None))
+        beside = itertools.takewhile(
+            lambda it: it.begin <= last, itertools.islice(changes, at + FEW, None)
+        )
         found |= in_order(own, folded([*own, *beside]).intersection(own))
         left = [it for it in own if it not in found]
     return found

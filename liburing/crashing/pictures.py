@@ -3,7 +3,17 @@
 import os
 import sys
 
-from crashing.events import COPY, LENGTH, MAPPED, OF_NAMES, SPACE, SYNC, SYNC_ALL, SYNCS_ITS_RANGE, WRITE
+from crashing.events import (
+    COPY,
+    LENGTH,
+    MAPPED,
+    OF_NAMES,
+    SPACE,
+    SYNC,
+    SYNC_ALL,
+    SYNCS_ITS_RANGE,
+    WRITE,
+)
 from crashing.images import losses, pieces, relative, unsettled, why_lost
 
 HERE = os.path.dirname(os.path.dirname(os.path.realpath(__file__)))
@@ -12,7 +22,21 @@ sys.path[:0] = [f"{HERE}/page", f"{os.path.dirname(HERE)}/page"]
 from parts import write  # noqa: E402
 from recorded import printing  # noqa: E402
 
-NAMES = {1: "write", 2: "copy", 3: "fsync", 4: "sync", 5: "length", 6: "fallocate", 7: "creation", 8: "folder", 9: "symbolic link", 10: "link", 11: "rename", 12: "removal", 16: "write by shared memory"}
+NAMES = {
+    1: "write",
+    2: "copy",
+    3: "fsync",
+    4: "sync",
+    5: "length",
+    6: "fallocate",
+    7: "creation",
+    8: "folder",
+    9: "symbolic link",
+    10: "link",
+    11: "rename",
+    12: "removal",
+    16: "write by shared memory",
+}
 OF_BYTES = (WRITE, COPY, MAPPED)
 OF_FILES = (*OF_BYTES, LENGTH, SPACE)
 
@@ -20,24 +44,53 @@ OF_FILES = (*OF_BYTES, LENGTH, SPACE)
 def draw(options, run, moment, image, whole, status, said):
     """Writes the page of one crash, and its data."""
     last = printing(said.rstrip(b"\n").rsplit(b"\n", 1)[-1][-200:])
-    told = f"the power fails after event {moment}; the check ends with status {status}" + (f": {last}" if last else "")
-    data = {"group": "disk", "name": "the run, until the power fails", "told": told, "setup": {"sq": 0, "cq": 0, "start": 0, "stops": False}, "headings": ["operations"]}
+    told = f"the power fails after event {moment}; the check ends with status {status}" + (
+        f": {last}" if last else ""
+    )
+    data = {
+        "group": "disk",
+        "name": "the run, until the power fails",
+        "told": told,
+        "setup": {"sq": 0, "cq": 0, "start": 0, "stops": False},
+        "headings": ["operations"],
+    }
     data.update(of_run(run, moment, image, whole, status))
-    write({"form": 2, "title": "A crash", "told": " ".join(options.shown), "runs": [data]}, options.page, options.json)
+    write(
+        {"form": 2, "title": "A crash", "told": " ".join(options.shown), "runs": [data]},
+        options.page,
+        options.json,
+    )
 
 
 def of_run(run, moment, image, whole, status):
     """The lines and the operations of a run up to a moment, and the crash as the last line."""
     disk, lines, safe = run.begin(), [], set()
     begun = [it for it in run.log.operations if it.begin < moment]
-    begins, ends = by_event(begun, "begin"), by_event([it for it in begun if it.end is not None and it.end < moment], "end")
+    begins, ends = by_event(begun, "begin"), by_event(
+        [it for it in begun if it.end is not None and it.end < moment], "end"
+    )
     printed = {at: data for at, data in run.log.printed if at < moment}
     for at in sorted({*begins, *ends, *printed}):
         disk.advance(at + 1)
         for operation in begins.get(at, []):
-            lines.append(line_of(at, f"{NAMES[operation.kind]} of {path_of(disk, operation)} begins", [{"request": operation.number, "is": "accepted"}, {"request": operation.number, "is": "runs", "why": "runs"}]))
+            lines.append(
+                line_of(
+                    at,
+                    f"{NAMES[operation.kind]} of {path_of(disk, operation)} begins",
+                    [
+                        {"request": operation.number, "is": "accepted"},
+                        {"request": operation.number, "is": "runs", "why": "runs"},
+                    ],
+                )
+            )
         for operation in ends.get(at, []):
-            lines.append(line_of(at, f"operation {operation.number} ends", [{"request": operation.number, "is": "ended", "result": operation.result or 0}]))
+            lines.append(
+                line_of(
+                    at,
+                    f"operation {operation.number} ends",
+                    [{"request": operation.number, "is": "ended", "result": operation.result or 0}],
+                )
+            )
             lines[-1].update(answer=str(operation.result or 0), **state_of(disk, operation))
             if makes_safe(operation):
                 lines[-1]["changes"] += newly_safe(disk, begun, at, safe)
@@ -49,7 +102,14 @@ def of_run(run, moment, image, whole, status):
     lines[-1]["notes"] = [printing(it.encode()) for it in losses(disk, image, whole)]
     if status != 0:
         lines[-1]["wrong"] = f"the check ends with status {status}"
-    lines[0]["notes"] = [*(f"choice {at}: {printing(what.encode())}, way {way} of 0 to {count - 1}" for at, way, count, what in run.choices if way), *lines[0].get("notes", [])]
+    lines[0]["notes"] = [
+        *(
+            f"choice {at}: {printing(what.encode())}, way {way} of 0 to {count - 1}"
+            for at, way, count, what in run.choices
+            if way
+        ),
+        *lines[0].get("notes", []),
+    ]
     for number, line in enumerate(lines):
         line["line"] = number + 1
     return {"lines": lines, "requests": [request_of(disk, it) for it in begun]}
@@ -63,21 +123,43 @@ def by_event(operations, name):
 
 
 def line_of(at, text, changes):
-    return {"line": 0, "text": f"event {at + 1}: {text}" if text != "the power fails" else text, "changes": changes}
+    return {
+        "line": 0,
+        "text": f"event {at + 1}: {text}" if text != "the power fails" else text,
+        "changes": changes,
+    }
 
 
 def path_of(disk, operation):
-    return printing((relative(disk, operation.path) or "the folder").encode(errors="surrogateescape"))
+    return printing(
+        (relative(disk, operation.path) or "the folder").encode(errors="surrogateescape")
+    )
 
 
 def request_of(disk, operation):
     """An operation as a request of the page: its file stands for the user data."""
     path = path_of(disk, operation)
-    request = {"request": operation.number, "user_data": path, "operation": NAMES[operation.kind], "flags": "", "call": 0, "chain": operation.number}
+    request = {
+        "request": operation.number,
+        "user_data": path,
+        "operation": NAMES[operation.kind],
+        "flags": "",
+        "call": 0,
+        "chain": operation.number,
+    }
     if operation.kind in OF_BYTES:
-        return {**request, "operation": "write", "file": path, "offset": str(operation.offset), "length": operation.length, "told": f"{NAMES[operation.kind]} {operation.nth}, {operation.length} bytes at {operation.offset}"}
+        return {
+            **request,
+            "operation": "write",
+            "file": path,
+            "offset": str(operation.offset),
+            "length": operation.length,
+            "told": f"{NAMES[operation.kind]} {operation.nth}, {operation.length} bytes at {operation.offset}",
+        }
     if operation.second_path:
-        request["told"] = f"{NAMES[operation.kind]} to {printing(relative(disk, operation.second_path).encode(errors='surrogateescape'))}"
+        request[
+            "told"
+        ] = f"{NAMES[operation.kind]} to {printing(relative(disk, operation.second_path).encode(errors='surrogateescape'))}"
     return request
 
 
@@ -89,11 +171,22 @@ def state_of(disk, operation):
     if file.kind != "file":
         return {}
     length = file.length
-    for change in sorted((it for it in file.changes if it.end is not None and it.end < disk.now), key=lambda it: it.end):
+    for change in sorted(
+        (it for it in file.changes if it.end is not None and it.end < disk.now),
+        key=lambda it: it.end,
+    ):
         length = change.lengthen(length)
     waiting = {it.operation.number for it in file.changes}
     lost = {it for it in unsettled(disk) if it in waiting}
-    return {"file": {"file": path_of(disk, operation), "length": length, "writes": file.writes, "synced": file.writes - sum(1 for it in file.changes if it.operation.nth and it.operation.number in lost)}}
+    return {
+        "file": {
+            "file": path_of(disk, operation),
+            "length": length,
+            "writes": file.writes,
+            "synced": file.writes
+            - sum(1 for it in file.changes if it.operation.nth and it.operation.number in lost),
+        }
+    }
 
 
 def makes_safe(operation):
@@ -103,7 +196,16 @@ def makes_safe(operation):
 def newly_safe(disk, begun, at, safe):
     """What has become safe: it has ended, and a crash leaves it for certain."""
     waiting = set(unsettled(disk))
-    found = [it.number for it in begun if it.end is not None and it.end <= at and it.number not in waiting and it.number not in safe and (it.kind in OF_FILES or it.kind in OF_NAMES) and not it.fails()]
+    found = [
+        it.number
+        for it in begun
+        if it.end is not None
+        and it.end <= at
+        and it.number not in waiting
+        and it.number not in safe
+        and (it.kind in OF_FILES or it.kind in OF_NAMES)
+        and not it.fails()
+    ]
     safe.update(found)
     return [{"request": it, "is": "safe"} for it in found]
 
@@ -117,7 +219,9 @@ def left_of(disk, begun, safe, image, whole):
         if number in safe or number not in why:
             continue
         if number in lost:
-            found.append({"request": number, "is": "torn" if number in shown else "lost", "why": why[number]})
+            found.append(
+                {"request": number, "is": "torn" if number in shown else "lost", "why": why[number]}
+            )
         elif number in all_shown:
             found.append({"request": number, "is": "left", "why": why[number]})
     return found
@@ -125,7 +229,12 @@ def left_of(disk, begun, safe, image, whole):
 
 def shown_by(image):
     """The operations of which an image shows something."""
-    return {it.operation.number for it in image.left} | {change.operation.number for cells, _, left in image.shown.values() for change in [*(it[2] for it in cells), *left] if change is not None}
+    return {it.operation.number for it in image.left} | {
+        change.operation.number
+        for cells, _, left in image.shown.values()
+        for change in [*(it[2] for it in cells), *left]
+        if change is not None
+    }
 
 
 def reasons(disk):
@@ -133,7 +242,11 @@ def reasons(disk):
     found = {}
     for file in disk.files:
         for change in file.changes:
-            found[change.operation.number] = printing(why_lost(disk, change, file.all_syncs, disk.short(file)).encode(errors="surrogateescape"))
+            found[change.operation.number] = printing(
+                why_lost(disk, change, file.all_syncs, disk.short(file)).encode(
+                    errors="surrogateescape"
+                )
+            )
     for naming in disk.namings:
         found[naming.operation.number] = why_lost(disk, naming, disk.name_syncs, "its folder")
     return found

@@ -26,4 +26,8 @@ class Remarks:
             self.tell(remark, f" (in the run {policy})")
 
     def unlike(self):
-        return f"; {self.others} {'run ends' if self.others == 1 else 'runs end'} otherwise than the one in order" if self.others else ""
+        return (
+            f"; {self.others} {'run ends' if self.others == 1 else 'runs end'} otherwise than the one in order"
+            if self.others
+            else ""
+        )

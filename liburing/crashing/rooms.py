@@ -46,7 +46,12 @@ class Room:
                 whole = f"{at}/{name}"
                 it = image.tree.get(os.path.relpath(whole, self.folder), 0)
                 is_folder = os.path.isdir(whole) and not os.path.islink(whole)
-                if it == 0 or (it is None) != is_folder or (it and (it[0] == "link") != os.path.islink(whole)) or (not is_folder and os.lstat(whole).st_nlink > 1):
+                if (
+                    it == 0
+                    or (it is None) != is_folder
+                    or (it and (it[0] == "link") != os.path.islink(whole))
+                    or (not is_folder and os.lstat(whole).st_nlink > 1)
+                ):
                     self.drop(whole)
 
     def drop(self, whole):
@@ -70,9 +75,21 @@ class Room:
         """The check's status and what it said. Its standard input is what the program had printed."""
         with open(f"{self.place}/printed", "wb") as file:
             file.write(printed)
-        surroundings = {name: value for name, value in os.environ.items() if not name.startswith("WULGACH_") and name != "LD_PRELOAD"}
+        surroundings = {
+            name: value
+            for name, value in os.environ.items()
+            if not name.startswith("WULGACH_") and name != "LD_PRELOAD"
+        }
         with open(f"{self.place}/printed", "rb") as file, open(f"{self.place}/said", "w+b") as said:
-            status = run_and_end(self.check, self.seconds, cwd=self.folder, env={**surroundings, "DISK": self.folder}, stdin=file, stdout=said, stderr=said)
+            status = run_and_end(
+                self.check,
+                self.seconds,
+                cwd=self.folder,
+                env={**surroundings, "DISK": self.folder},
+                stdin=file,
+                stdout=said,
+                stderr=said,
+            )
             said.seek(0)
             return status, said.read()
 

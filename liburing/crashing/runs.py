@@ -14,7 +14,10 @@ from exploring.ending import children, end_adopted, run_to_end
 from exploring.runs import stop
 
 HERE = os.path.dirname(os.path.dirname(os.path.realpath(__file__)))
-PRELOADED = next((it for it in (f"{HERE}/out/uring-run.so", f"{HERE}/uring-run.so") if os.path.exists(it)), f"{HERE}/out/uring-run.so")
+PRELOADED = next(
+    (it for it in (f"{HERE}/out/uring-run.so", f"{HERE}/uring-run.so") if os.path.exists(it)),
+    f"{HERE}/out/uring-run.so",
+)
 
 
 def run_and_end(words, seconds, **how):
@@ -65,12 +68,29 @@ class Run:
 
     def call(self, options, place, folder):
         open(f"{place}/log", "wb").close()
-        own = dict(WULGACH_LOG=f"{place}/log", WULGACH_DISK=folder, WULGACH_OUTPUT=f"{place}/printed", WULGACH_POLICY=self.policy, WULGACH_CHOICES=f"{place}/choices", WULGACH_CHOOSE="ends" if options.ends else "events", WULGACH_SYNC="", DISK=folder)
+        own = dict(
+            WULGACH_LOG=f"{place}/log",
+            WULGACH_DISK=folder,
+            WULGACH_OUTPUT=f"{place}/printed",
+            WULGACH_POLICY=self.policy,
+            WULGACH_CHOICES=f"{place}/choices",
+            WULGACH_CHOOSE="ends" if options.ends else "events",
+            WULGACH_SYNC="",
+            DISK=folder,
+        )
         if options.fsync_fails:
             own["WULGACH_SYNC_FAILS"] = str(options.fsync_fails)
         own["LD_PRELOAD"] = ":".join([PRELOADED, *filter(None, [os.environ.get("LD_PRELOAD")])])
         with open(f"{place}/printed", "wb") as printed, open(f"{place}/said", "wb") as said:
-            status = run_and_end(options.words, options.seconds, cwd=folder, env={**os.environ, **own}, stdin=subprocess.DEVNULL, stdout=printed, stderr=said)
+            status = run_and_end(
+                options.words,
+                options.seconds,
+                cwd=folder,
+                env={**os.environ, **own},
+                stdin=subprocess.DEVNULL,
+                stdout=printed,
+                stderr=said,
+            )
         with open(f"{place}/said", "rb") as said:
             return status, said.read()
 
@@ -109,7 +129,9 @@ class Run:
         disk.advance(self.log.count)
         remarks = list(disk.remarks)
         if self.log.is_cut or self.is_ended:
-            remarks.append("the log couldn't be written to the run's end: what happened after it isn't crashed")
+            remarks.append(
+                "the log couldn't be written to the run's end: what happened after it isn't crashed"
+            )
         names = {folder: dict(inside) for folder, inside in disk.names.items()}
         for naming in sorted(disk.namings, key=ended):
             if naming.end is not None:
@@ -117,11 +139,16 @@ class Run:
         remarks += differences(disk, names, disk.root, disk.folder, "")
         return remarks
 
-
     def compare_output(self, path):
         """More was printed than the log has: nobody would look for what that acknowledges."""
         is_seen = os.path.getsize(path) <= sum(len(data) for _, data in self.log.printed)
-        return [] if is_seen else ["the standard output was written to in a way that wasn't seen, so a check isn't given all that was acknowledged"]
+        return (
+            []
+            if is_seen
+            else [
+                "the standard output was written to in a way that wasn't seen, so a check isn't given all that was acknowledged"
+            ]
+        )
 
 
 def ended(it):
@@ -134,7 +161,9 @@ def differences(disk, names, number, real, path):
         inside = names.get(number, {})
         there = set(os.listdir(real)) if os.path.isdir(real) else set()
         for name in sorted(there ^ set(inside)):
-            found.append(f"{path}{name}: {'was made' if name in there else 'was removed'} in a way that wasn't seen")
+            found.append(
+                f"{path}{name}: {'was made' if name in there else 'was removed'} in a way that wasn't seen"
+            )
         for name in sorted(there & set(inside)):
             found += differences(disk, names, inside[name], f"{real}/{name}", f"{path}{name}/")
     elif file.kind == "file" and os.path.isfile(real):

@@ -4,7 +4,10 @@ import ctypes
 import os
 
 HERE = os.path.dirname(os.path.dirname(os.path.realpath(__file__)))
-LIBRARY = next((it for it in (f"{HERE}/out/volumes.so", f"{HERE}/volumes.so") if os.path.exists(it)), f"{HERE}/out/volumes.so")
+LIBRARY = next(
+    (it for it in (f"{HERE}/out/volumes.so", f"{HERE}/volumes.so") if os.path.exists(it)),
+    f"{HERE}/out/volumes.so",
+)
 
 
 class Place(ctypes.Structure):
@@ -88,7 +91,14 @@ class Volume:
     def crash(self, choice):
         """What a choice leaves: a volume whose writes all lie in its first bytes is as long as these."""
         room = ctypes.create_string_buffer(self.size)
-        self.call("crash", bytes(memoryview(choice)), len(choice), room, self.size, ctypes.byref(self.number))
+        self.call(
+            "crash",
+            bytes(memoryview(choice)),
+            len(choice),
+            room,
+            self.size,
+            ctypes.byref(self.number),
+        )
         return room.raw
 
     def images(self, most):
@@ -99,7 +109,15 @@ class Volume:
             return None
         room, lengths = ctypes.create_string_buffer(count * self.size), (ctypes.c_uint64 * count)()
         total = ctypes.c_uint64()
-        self.call("images", room, count * self.size, lengths, count, ctypes.byref(self.number), ctypes.byref(total))
+        self.call(
+            "images",
+            room,
+            count * self.size,
+            lengths,
+            count,
+            ctypes.byref(self.number),
+            ctypes.byref(total),
+        )
         return [room.raw[at * self.size : (at + 1) * self.size] for at in range(count)]
 
     def __del__(self):

@@ -15,7 +15,9 @@ class Worker:
 
     def __init__(self, begin, work, others):
         self.pipe, far = FORK.Pipe()
-        self.process = FORK.Process(target=serve, args=(far, begin, work, [self.pipe, *others]), daemon=True)
+        self.process = FORK.Process(
+            target=serve, args=(far, begin, work, [self.pipe, *others]), daemon=True
+        )
         self.process.start()
         far.close()
 

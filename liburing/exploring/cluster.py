@@ -20,9 +20,23 @@ def distributed():
         return dask.distributed
     except ImportError:
         pass
-    if os.path.exists(DEBIAN) and os.path.realpath(sys.executable) != os.path.realpath(DEBIAN) and os.spawnl(os.P_WAIT, DEBIAN, DEBIAN, "-c", "import importlib.util, sys; sys.exit(importlib.util.find_spec('distributed') is None)") == 0:
+    if (
+        os.path.exists(DEBIAN)
+        and os.path.realpath(sys.executable) != os.path.realpath(DEBIAN)
+        and os.spawnl(
+            os.P_WAIT,
+            DEBIAN,
+            DEBIAN,
+            "-c",
+            "import importlib.util, sys; sys.exit(importlib.util.find_spec('distributed') is None)",
+        )
+        == 0
+    ):
         os.execv(DEBIAN, [DEBIAN, *sys.argv])
-    print("explore: --cluster wants Dask's distributed scheduler, which neither this python3 nor Debian's has: apt-get install python3-distributed", file=sys.stderr)
+    print(
+        "explore: --cluster wants Dask's distributed scheduler, which neither this python3 nor Debian's has: apt-get install python3-distributed",
+        file=sys.stderr,
+    )
     sys.exit(2)
 
 
@@ -53,7 +67,9 @@ class Cluster:
             self.client.upload_file(path)
 
     def submit(self, policies, **how):
-        return self.client.submit(work_there, self.program.told(), policies, how, pure=False, retries=10)
+        return self.client.submit(
+            work_there, self.program.told(), policies, how, pure=False, retries=10
+        )
 
     def any_of(self, futures):
         return self.distributed.wait(list(futures), return_when="FIRST_COMPLETED").done
@@ -61,7 +77,9 @@ class Cluster:
     def taken(self, future):
         runs, rules, seconds = future.result()
         future.release()
-        self.rules = {name: self.rules.get(name, 0) + rules.get(name, 0) for name in {**self.rules, **rules}}
+        self.rules = {
+            name: self.rules.get(name, 0) + rules.get(name, 0) for name in {**self.rules, **rules}
+        }
         return runs, seconds
 
     def close(self):

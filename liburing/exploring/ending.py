@@ -8,7 +8,7 @@ import signal
 import subprocess
 import time
 
-SUBREAPER = 36      # PR_SET_CHILD_SUBREAPER
+SUBREAPER = 36  # PR_SET_CHILD_SUBREAPER
 running = set()
 
 

@@ -36,7 +36,9 @@ def write_replay(path, folder, program, run, traced):
     else:
         place = f"cd {shlex.quote(os.getcwd())} 2> /dev/null || true    # (where it ran; it may run elsewhere)"
     with open(path, "w") as file:
-        file.write(f'#!/bin/sh\n# Replays a run of the layer: {run.policy}, status {run.status}.\nhere=$(cd "$(dirname "$0")" && pwd)\n{place}\nexec env {" ".join(words)} {shlex.join(program.words[1:])}\n')
+        file.write(
+            f'#!/bin/sh\n# Replays a run of the layer: {run.policy}, status {run.status}.\nhere=$(cd "$(dirname "$0")" && pwd)\n{place}\nexec env {" ".join(words)} {shlex.join(program.words[1:])}\n'
+        )
     os.chmod(path, os.stat(path).st_mode | stat.S_IXUSR | stat.S_IXGRP | stat.S_IXOTH)
 
 
@@ -54,7 +56,10 @@ def kept_program(folder, name):
 def keep_libraries(folder):
     """Copies the layer that LD_LIBRARY_PATH finds. That variable, or nothing if it finds none."""
     paths = os.environ.get("LD_LIBRARY_PATH", "")
-    found = next((path for path in paths.split(":") if path and os.path.exists(f"{path}/liburing.so.2")), None)
+    found = next(
+        (path for path in paths.split(":") if path and os.path.exists(f"{path}/liburing.so.2")),
+        None,
+    )
     if not found:
         return ""
     os.makedirs(f"{folder}/libraries", exist_ok=True)

@@ -7,7 +7,9 @@ import shutil
 import subprocess
 
 # What lies between the program and the layer: liburing's functions, the C library's, and what uring-run preloads.
-BETWEEN = re.compile(r"(__|_)?(sys_)?io_uring_\w+|__sys_io_uring\w*|syscall|wulgach_\w+|answer|__restore_rt")
+BETWEEN = re.compile(
+    r"(__|_)?(sys_)?io_uring_\w+|__sys_io_uring\w*|syscall|wulgach_\w+|answer|__restore_rt"
+)
 LAST = re.compile(r"_start|__libc_start\w*|__libc_start_call_main")
 MOST = 3
 
@@ -18,10 +20,17 @@ def place_of(file, offset):
     if not shutil.which("addr2line"):
         return None, None
     # (the call stands before where it returns to)
-    done = subprocess.run(["addr2line", "-f", "-C", "-e", file, hex(offset - 1)], stdout=subprocess.PIPE, stderr=subprocess.DEVNULL, text=True)
+    done = subprocess.run(
+        ["addr2line", "-f", "-C", "-e", file, hex(offset - 1)],
+        stdout=subprocess.PIPE,
+        stderr=subprocess.DEVNULL,
+        text=True,
+    )
     function, line = (done.stdout.splitlines() + ["??", "??:0"])[:2]
     line = line.split(" (discriminator")[0]
-    return (None if function == "??" else function), (None if line.startswith("??") or line.endswith((":0", ":?")) else line)
+    return (None if function == "??" else function), (
+        None if line.startswith("??") or line.endswith((":0", ":?")) else line
+    )
 
 
 def places_of(note):
@@ -29,7 +38,9 @@ def places_of(note):
     found = []
     for item in note.split(", "):
         file, _, offset = item.rpartition("+0x")
-        if file.endswith(("/uring-run.so", "/uring-threads.so")) or not re.fullmatch("[0-9a-f]+", offset):
+        if file.endswith(("/uring-run.so", "/uring-threads.so")) or not re.fullmatch(
+            "[0-9a-f]+", offset
+        ):
             continue
         function, line = place_of(file, int(offset, 16))
         if function and LAST.fullmatch(function):

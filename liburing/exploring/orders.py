@@ -52,13 +52,20 @@ class Orders:
 
     def may_take(self, choices):
         """Whether the last of these choices may be another way than 0."""
-        return self.turns is None or not is_turn(choices[-1]) or sum(is_turn(it) and it[1] > 0 for it in choices[:-1]) < self.turns
+        return (
+            self.turns is None
+            or not is_turn(choices[-1])
+            or sum(is_turn(it) and it[1] > 0 for it in choices[:-1]) < self.turns
+        )
 
     def stray(self, ways):
         """A run that didn't make the choices of its list. Whatever would have come after them is missed."""
         self.strayed += 1
         if self.strayed == 1:
-            print(f"explore: with {list_of_ways(ways)} the program made other choices: it doesn't do the same in each run, so orders are missed (--fresh gives each a folder of its own, --jobs 1 runs one at a time)", file=sys.stderr)
+            print(
+                f"explore: with {list_of_ways(ways)} the program made other choices: it doesn't do the same in each run, so orders are missed (--fresh gives each a folder of its own, --jobs 1 runs one at a time)",
+                file=sys.stderr,
+            )
 
     def take(self, count):
         """The lists that are to be run next."""
@@ -70,20 +77,45 @@ class Orders:
         with open(path) as file:
             found = json.load(file)
         if found.get("of") != what_is_run(program):
-            stop(f"{path} is left by a call of another program, or of another build of it, or with other words, variables or --ends")
+            stop(
+                f"{path} is left by a call of another program, or of another build of it, or with other words, variables or --ends"
+            )
         if found.get("turns") != self.turns:
             stop(f"{path} is left by a call with other --turns")
         if found["reduced"] != self.is_reduced:
             stop(f"{path} is left by a call {'with' if self.is_reduced else 'without'} --whole")
-        self.runs, self.failed, self.repeated, self.strayed = found["runs"], found["failed"], found["repeated"], found["strayed"]
-        self.outputs = {output.encode("latin-1"): count for output, count in found["outputs"].items()}
-        self.left = [(ways, [Way(*way[:3], Request(*way[3]) if way[3] else None, way[4]) for way in asleep]) for ways, asleep in found["left"]]
+        self.runs, self.failed, self.repeated, self.strayed = (
+            found["runs"],
+            found["failed"],
+            found["repeated"],
+            found["strayed"],
+        )
+        self.outputs = {
+            output.encode("latin-1"): count for output, count in found["outputs"].items()
+        }
+        self.left = [
+            (ways, [Way(*way[:3], Request(*way[3]) if way[3] else None, way[4]) for way in asleep])
+            for ways, asleep in found["left"]
+        ]
 
     def write(self, path, program):
         """(what was there stays until the whole is written)"""
         with open(f"{path}.new", "w") as file:
             outputs = {output.decode("latin-1"): count for output, count in self.outputs.items()}
-            json.dump({"of": what_is_run(program), "reduced": self.is_reduced, "turns": self.turns, "runs": self.runs, "failed": self.failed, "repeated": self.repeated, "strayed": self.strayed, "outputs": outputs, "left": self.left}, file)
+            json.dump(
+                {
+                    "of": what_is_run(program),
+                    "reduced": self.is_reduced,
+                    "turns": self.turns,
+                    "runs": self.runs,
+                    "failed": self.failed,
+                    "repeated": self.repeated,
+                    "strayed": self.strayed,
+                    "outputs": outputs,
+                    "left": self.left,
+                },
+                file,
+            )
             file.write("\n")
         os.replace(f"{path}.new", path)
 
@@ -91,9 +123,19 @@ class Orders:
 def what_is_run(program):
     """What lists are left of: the words, with what stands in those that are programs; how choices are made; and the variables of the layer."""
     paths = [shutil.which(program.words[0]), *program.words[1:]]
-    contents = {path: digest(path) for path in paths if path and os.path.isfile(path) and os.access(path, os.X_OK)}
+    contents = {
+        path: digest(path)
+        for path in paths
+        if path and os.path.isfile(path) and os.access(path, os.X_OK)
+    }
     variables = {name: value for name, value in os.environ.items() if name.startswith("WULGACH_")}
-    return {"program": program.words, "contents": contents, "grain": program.grain, "fresh": program.is_fresh, "variables": variables}
+    return {
+        "program": program.words,
+        "contents": contents,
+        "grain": program.grain,
+        "fresh": program.is_fresh,
+        "variables": variables,
+    }
 
 
 def digest(path):
@@ -103,7 +145,11 @@ def digest(path):
 
 def every_order(options, program):
     program.first_run("list:")
-    orders, pool, progress = Orders(not options.whole, options.turns), pool_of(options, program), Progress(options)
+    orders, pool, progress = (
+        Orders(not options.whole, options.turns),
+        pool_of(options, program),
+        Progress(options),
+    )
     if options.left and os.path.exists(options.left):
         orders.read(options.left, program)
     try:
@@ -114,15 +160,33 @@ def every_order(options, program):
         if options.left:
             orders.write(options.left, program)
     rest = f", not all there are: {len(orders.left)} lists are left" if orders.left else ""
-    rest += f", not all there are: {orders.strayed} made other choices than their lists" if orders.strayed else ""
+    rest += (
+        f", not all there are: {orders.strayed} made other choices than their lists"
+        if orders.strayed
+        else ""
+    )
     rest += f", {orders.repeated} of them repeat others" if orders.repeated else ""
-    print(f"{orders.runs} runs{rest}, {len(orders.outputs)} different outputs, {orders.failed} fail")
+    print(
+        f"{orders.runs} runs{rest}, {len(orders.outputs)} different outputs, {orders.failed} fail"
+    )
     if options.outputs:
         sys.stdout.flush()
         for output in sorted(orders.outputs):
             sys.stdout.buffer.write(output)
         sys.stdout.flush()
-    write_summary(options, {"start": program.start, **progress.summary(), "outputs": len(orders.outputs), "left": len(orders.left), "repeated": orders.repeated, "strayed": orders.strayed, "failed": orders.failed, "rules": pool.rules})
+    write_summary(
+        options,
+        {
+            "start": program.start,
+            **progress.summary(),
+            "outputs": len(orders.outputs),
+            "left": len(orders.left),
+            "repeated": orders.repeated,
+            "strayed": orders.strayed,
+            "failed": orders.failed,
+            "rules": pool.rules,
+        },
+    )
     if options.coverage:
         print_rules(pool.rules)
     pool.close()
@@ -144,10 +208,23 @@ def run_all(options, pool, orders, progress):
 def run_begun(options, pool, orders, progress, begun):
     count = 0
     while orders.left or begun:
-        while orders.left and len(begun) < 2 * pool.jobs and orders.runs + count < options.most and not progress.is_over():
-            some = orders.take(min(MOST_AT_ONCE, options.most - orders.runs - count, 1 + len(orders.left) // (2 * pool.jobs)))
+        while (
+            orders.left
+            and len(begun) < 2 * pool.jobs
+            and orders.runs + count < options.most
+            and not progress.is_over()
+        ):
+            some = orders.take(
+                min(
+                    MOST_AT_ONCE,
+                    options.most - orders.runs - count,
+                    1 + len(orders.left) // (2 * pool.jobs),
+                )
+            )
             count += len(some)
-            future = pool.submit([list_of_ways(ways) for ways, _ in some], is_recorded=True, more=orders.variables())
+            future = pool.submit(
+                [list_of_ways(ways) for ways, _ in some], is_recorded=True, more=orders.variables()
+            )
             begun[future] = some
         if not begun:
             return

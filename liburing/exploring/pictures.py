@@ -25,7 +25,13 @@ class Lines:
 
     def __init__(self, trace):
         head, *rest = trace.splitlines() or ["setup"]
-        self.options, self.steps, self.told, self.results, self.asked = head.split()[1:], [], [], {}, {}
+        self.options, self.steps, self.told, self.results, self.asked = (
+            head.split()[1:],
+            [],
+            [],
+            {},
+            {},
+        )
         coming = {}
         for line in rest:
             if line.startswith("# "):
@@ -36,12 +42,25 @@ class Lines:
                 coming = {}
         if self.told:
             # (what the last choices led to isn't a step)
-            self.told[-1].update({name: self.told[-1].get(name, []) + some for name, some in coming.items()})
+            self.told[-1].update(
+                {name: self.told[-1].get(name, []) + some for name, some in coming.items()}
+            )
 
     def note(self, text, coming):
-        choice, request, ends = CHOICE.fullmatch(text), REQUEST.fullmatch(text), ENDS.fullmatch(text)
+        choice, request, ends = (
+            CHOICE.fullmatch(text),
+            REQUEST.fullmatch(text),
+            ENDS.fullmatch(text),
+        )
         if choice:
-            coming.setdefault("choices", []).append({"choice": int(choice[1]), "way": int(choice[2]), "of": int(choice[3]), "what": printing(choice[4].encode())})
+            coming.setdefault("choices", []).append(
+                {
+                    "choice": int(choice[1]),
+                    "way": int(choice[2]),
+                    "of": int(choice[3]),
+                    "what": printing(choice[4].encode()),
+                }
+            )
         elif request:
             self.asked[int(request[1])] = request
         elif ends and self.told:
@@ -51,7 +70,11 @@ class Lines:
             coming.setdefault("notes", []).append(printing(text.encode()))
 
     def failed(self):
-        return {int(step.split()[1]) for step, answer in self.steps if step.startswith("finish ") and answer.startswith("ended -")}
+        return {
+            int(step.split()[1])
+            for step, answer in self.steps
+            if step.startswith("finish ") and answer.startswith("ended -")
+        }
 
 
 def data_of(trace):
@@ -77,7 +100,12 @@ def name_request(request, asked):
     request["operation"] = words.split()[0]
     transfer = TRANSFER.fullmatch(words)
     if transfer:
-        request.update(operation=transfer[1], length=int(transfer[2]), offset=transfer[3], file=int(transfer[4]))
+        request.update(
+            operation=transfer[1],
+            length=int(transfer[2]),
+            offset=transfer[3],
+            file=int(transfer[4]),
+        )
     else:
         request["told"] = printing(words.encode())
 
@@ -92,7 +120,10 @@ def one_that_passes(program, items):
     """A run that passes, and what it is called: the same choices without the last one, else the run in order, else that of a seed. Or nothing."""
     found = [(list_of(items[:-1]), "the same without the last choice")] if items else []
     found += [("list:", "in order")] if len(items) > 1 else []
-    found += [("lazy", "the lazy order"), *((f"seed:{it}", f"seed {it}") for it in range(1, MOST_SEEDS + 1))]
+    found += [
+        ("lazy", "the lazy order"),
+        *((f"seed:{it}", f"seed {it}") for it in range(1, MOST_SEEDS + 1)),
+    ]
     for policy, name in found:
         run = program.run(policy, is_tracing=True)
         if not run.fails():
@@ -103,20 +134,43 @@ def one_that_passes(program, items):
 
 def draw(options, program, run, title):
     """Writes the page of a run, with the data of each of its rings beside those of a run that passes."""
-    other, name = one_that_passes(program, run.items()) if run.fails() or run.items() else (None, "")
-    pairs = [(trace, other.traces[at] if other and at < len(other.traces) else None) for at, trace in enumerate(run.traces)]
+    other, name = (
+        one_that_passes(program, run.items()) if run.fails() or run.items() else (None, "")
+    )
+    pairs = [
+        (trace, other.traces[at] if other and at < len(other.traces) else None)
+        for at, trace in enumerate(run.traces)
+    ]
     try:
-        runs = [it for index, (trace, passing) in enumerate(pairs) for it in pair_of(index, trace, passing, run, other, name)]
+        runs = [
+            it
+            for index, (trace, passing) in enumerate(pairs)
+            for it in pair_of(index, trace, passing, run, other, name)
+        ]
     except (Differs, OSError) as why:
         stop(f"no page: {why}")
-    write({"form": 2, "title": title, "told": os.path.basename(program.words[0]), "runs": runs}, options.page, options.json)
+    write(
+        {"form": 2, "title": title, "told": os.path.basename(program.words[0]), "runs": runs},
+        options.page,
+        options.json,
+    )
 
 
 def pair_of(index, trace, passing, run, other, name):
     """The data of one ring in both runs."""
-    first = {"group": f"ring {index}", "name": "the run that fails" if run.fails() else "the run", "told": told_of(run), **data_of(trace)}
+    first = {
+        "group": f"ring {index}",
+        "name": "the run that fails" if run.fails() else "the run",
+        "told": told_of(run),
+        **data_of(trace),
+    }
     yield first
     if passing is not None:
-        second = {"group": f"ring {index}", "name": f"one that passes: {name}", "told": told_of(other), **data_of(passing)}
+        second = {
+            "group": f"ring {index}",
+            "name": f"one that passes: {name}",
+            "told": told_of(other),
+            **data_of(passing),
+        }
         put_beside(first, second)
         yield second

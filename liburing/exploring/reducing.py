@@ -35,7 +35,12 @@ class Outlook:
             elif words[0] == "break":
                 self.nodes.append(None)
             elif words[0] == "ways":
-                self.nodes.append(Node(None if words[1] == "-" else int(words[1]), [self.way(words[2], word) for word in words[3:]]))
+                self.nodes.append(
+                    Node(
+                        None if words[1] == "-" else int(words[1]),
+                        [self.way(words[2], word) for word in words[3:]],
+                    )
+                )
                 by_choice[self.nodes[-1].at] = self.nodes[-1]
             elif int(words[0]) in by_choice:
                 by_choice[int(words[0])].chosen = int(words[1])
@@ -56,7 +61,9 @@ class Outlook:
         """What went on at a node, with what it turned out to be. An end that may have a fault isn't silent with that."""
         way = node.ways[node.chosen]
         of = way.ring, way.number
-        return way._replace(is_silent=way.letter in "fb" and of in self.silent and of not in self.faulty)
+        return way._replace(
+            is_silent=way.letter in "fb" and of in self.silent and of not in self.faulty
+        )
 
 
 def overlap(one, length, other, other_length):
@@ -67,7 +74,11 @@ def shares_memory(one, other):
     """Whether a read fills bytes that the other reads or fills. Of vectors nobody says where they lie."""
     if one.code not in READS and other.code not in READS:
         return False
-    return not one.address or not other.address or overlap(one.address, one.length, other.address, other.length)
+    return (
+        not one.address
+        or not other.address
+        or overlap(one.address, one.length, other.address, other.length)
+    )
 
 
 def shares_bytes(one, other):
@@ -117,7 +128,11 @@ def commute(one, other):
         return False
     if "i" in (one.letter, other.letter):
         return commute_starts(one, other)
-    return not are_told(one, other) and are_plain(one, other) and commute_effects(one.request, other.request)
+    return (
+        not are_told(one, other)
+        and are_plain(one, other)
+        and commute_effects(one.request, other.request)
+    )
 
 
 def key_of(way):

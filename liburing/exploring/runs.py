@@ -28,15 +28,32 @@ class Program:
         self.grain = "ends" if options.ends else "events"
         self.start, self.wanted = None, options.start
         self.folder, self.surroundings = None, {}
-        self.own, self.lock, self.hands, self.is_closed = threading.local(), threading.Lock(), [], False
+        self.own, self.lock, self.hands, self.is_closed = (
+            threading.local(),
+            threading.Lock(),
+            [],
+            False,
+        )
         if self.is_fresh and self.words:
             # (the folder is another one then)
             self.words = [absolute(self.words[0]), *self.words[1:]]
 
     def told(self):
         """What a worker on another machine is told of it."""
-        kept = {name: value for name, value in os.environ.items() if name.startswith("WULGACH_") or name in ("LD_LIBRARY_PATH", "LD_PRELOAD")}
-        return dict(words=[absolute(self.words[0]), *self.words[1:]], seconds=self.seconds, fresh=self.is_fresh, ends=self.grain == "ends", start=self.wanted, folder=os.getcwd(), surroundings=kept)
+        kept = {
+            name: value
+            for name, value in os.environ.items()
+            if name.startswith("WULGACH_") or name in ("LD_LIBRARY_PATH", "LD_PRELOAD")
+        }
+        return dict(
+            words=[absolute(self.words[0]), *self.words[1:]],
+            seconds=self.seconds,
+            fresh=self.is_fresh,
+            ends=self.grain == "ends",
+            start=self.wanted,
+            folder=os.getcwd(),
+            surroundings=kept,
+        )
 
     @staticmethod
     def of(told):
@@ -79,7 +96,9 @@ class Program:
         run = self.run(policy)
         if not run.has_ring:
             sys.stdout.buffer.write(run.output)
-            stop(f"{self.words[0]} set no ring up on the layer (status {run.status}): is it linked with it, or run by uring-run?")
+            stop(
+                f"{self.words[0]} set no ring up on the layer (status {run.status}): is it linked with it, or run by uring-run?"
+            )
         return run
 
 
@@ -110,13 +129,20 @@ class Hand:
 
     def serve(self, when):
         try:
-            return Server(self.program, when, {**self.program.surroundings, "WULGACH_ACCOUNT": self.account})
+            return Server(
+                self.program, when, {**self.program.surroundings, "WULGACH_ACCOUNT": self.account}
+            )
         except OSError as error:
             stop(f"{self.program.words[0]}: {error.strerror}")
 
     def settle_start(self):
         """Where runs begin: at the first set-up where each has a folder of its own and nothing else stands against it, else before main, else by a new process."""
-        wanted = {"auto": ["ring", "main"] if self.program.is_fresh else ["main"], "ring": ["ring", "main"], "main": ["main"], "new": []}[self.program.wanted]
+        wanted = {
+            "auto": ["ring", "main"] if self.program.is_fresh else ["main"],
+            "ring": ["ring", "main"],
+            "main": ["main"],
+            "new": [],
+        }[self.program.wanted]
         for when in wanted:
             server = self.serve(when)
             if not server.reason:
@@ -124,7 +150,9 @@ class Hand:
                 return when
             if when == "ring" or self.program.wanted != "auto":
                 where = "at the first set-up of a ring" if when == "ring" else "before main"
-                print(f"explore: runs don't begin by a fork {where}: {server.reason}", file=sys.stderr)
+                print(
+                    f"explore: runs don't begin by a fork {where}: {server.reason}", file=sys.stderr
+                )
         return "new"
 
     def close(self):
@@ -137,7 +165,12 @@ class Hand:
             return dict(read_rules(file.read()))
 
     def variables(self, index, policy, is_tracing, is_recorded, more):
-        variables = dict(WULGACH_POLICY=policy, WULGACH_CHOOSE=self.program.grain, WULGACH_SYNC=os.environ.get("WULGACH_SYNC", "skip"), **more)
+        variables = dict(
+            WULGACH_POLICY=policy,
+            WULGACH_CHOOSE=self.program.grain,
+            WULGACH_SYNC=os.environ.get("WULGACH_SYNC", "skip"),
+            **more,
+        )
         if is_recorded:
             variables["WULGACH_CHOICES"] = f"{self.room}/{index}-choices"
         if is_tracing:
@@ -145,14 +178,19 @@ class Hand:
         return variables
 
     def run_all(self, policies, is_tracing, is_recorded, more):
-        asked = [self.variables(index, policy, is_tracing, is_recorded, more) for index, policy in enumerate(policies)]
+        asked = [
+            self.variables(index, policy, is_tracing, is_recorded, more)
+            for index, policy in enumerate(policies)
+        ]
         if self.server:
             try:
                 told = list(self.server.run_all(asked))
             except Lost:
                 if self.program.is_closed:
                     sys.exit(1)
-                stop(f"{self.program.words[0]}: the process that forks runs has ended (--start new begins each by a new process)")
+                stop(
+                    f"{self.program.words[0]}: the process that forks runs has ended (--start new begins each by a new process)"
+                )
         else:
             told = [self.run_new(variables) for variables in asked]
         runs = [Run(variables, *it) for variables, it in zip(asked, told)]
@@ -165,10 +203,23 @@ class Hand:
         with open(self.account, "r+b") as file:
             file.write(bytes(OF_RUN.size))
         place = tempfile.mkdtemp(dir=ROOM) if self.program.is_fresh else None
-        surroundings = {**os.environ, **self.program.surroundings, **variables, "WULGACH_ACCOUNT": self.account}
+        surroundings = {
+            **os.environ,
+            **self.program.surroundings,
+            **variables,
+            "WULGACH_ACCOUNT": self.account,
+        }
         try:
             with tempfile.TemporaryFile(dir=ROOM) as printed:
-                status, is_late = run_to_end(self.program.words, self.program.seconds, cwd=place or self.program.folder, env=surroundings, stdin=subprocess.DEVNULL, stdout=printed, stderr=printed)
+                status, is_late = run_to_end(
+                    self.program.words,
+                    self.program.seconds,
+                    cwd=place or self.program.folder,
+                    env=surroundings,
+                    stdin=subprocess.DEVNULL,
+                    stdout=printed,
+                    stderr=printed,
+                )
                 printed.seek(0)
                 output = printed.read()
         except OSError as error:
@@ -182,7 +233,9 @@ class Hand:
     def read_records(self, runs, is_recorded):
         """Gives each run its choices and traces, which lie in files that its number begins."""
         names = [name for name in os.listdir(self.room) if name != "account"]
-        for name in sorted(names, key=lambda name: [int(it) for it in name.split("-")[1].split(".")[1:]]):
+        for name in sorted(
+            names, key=lambda name: [int(it) for it in name.split("-")[1].split(".")[1:]]
+        ):
             index, kind = name.split("-")
             run, path = runs[int(index)], f"{self.room}/{name}"
             if kind.startswith("trace."):
@@ -193,7 +246,9 @@ class Hand:
             os.unlink(path)
         for run in runs:
             if not run.fails() and is_recorded and len(run.choices) != run.choice_count:
-                stop(f"{run.policy}: of {run.choice_count} choices {len(run.choices)} could be recorded: is the disk of {self.room} full?")
+                stop(
+                    f"{run.policy}: of {run.choice_count} choices {len(run.choices)} could be recorded: is the disk of {self.room} full?"
+                )
 
 
 def read_rules(account):
@@ -209,7 +264,11 @@ class Run:
 
     def __init__(self, environment, told, output):
         status, is_late, rings, choosers, self.choice_count, self.order = told
-        self.environment, self.policy, self.output = environment, environment["WULGACH_POLICY"], output
+        self.environment, self.policy, self.output = (
+            environment,
+            environment["WULGACH_POLICY"],
+            output,
+        )
         self.status = "none: it took too long" if is_late else status
         self.has_ring = rings > 0
         self.choices, self.record, self.traces = [], [], []
@@ -221,7 +280,9 @@ class Run:
             self.record = [line.rstrip("\n") for line in lines if line.endswith("\n")]
         found = [line.split(" ", 3) for line in self.record if line[0].isdecimal()]
         # (a fault is chosen amid the end of its request, and recorded before that)
-        self.choices = sorted((int(words[0]), int(words[1]), int(words[2]), words[3]) for words in found)
+        self.choices = sorted(
+            (int(words[0]), int(words[1]), int(words[2]), words[3]) for words in found
+        )
 
     def outlook(self):
         """What could go on at each choice, if that was recorded."""

@@ -23,13 +23,25 @@ def seeds(options, program):
         if progress.is_over():
             break
     progress.end()
-    write_summary(options, {"policy": policies.name, "start": program.start, "first": options.first, **progress.summary(), "failed": failed, "rules": pool.rules})
+    write_summary(
+        options,
+        {
+            "policy": policies.name,
+            "start": program.start,
+            "first": options.first,
+            **progress.summary(),
+            "failed": failed,
+            "rules": pool.rules,
+        },
+    )
     if failed and not options.keep_going:
         sys.stdout.flush()
         sys.stdout.buffer.write(run.output)
         sys.stdout.flush()
     else:
-        print(f"{progress.runs} seeds from {options.first} on: {len(failed)} fail{', and then the time was up' if progress.runs < options.count else ''}")
+        print(
+            f"{progress.runs} seeds from {options.first} on: {len(failed)} fail{', and then the time was up' if progress.runs < options.count else ''}"
+        )
     if options.coverage:
         print_rules(pool.rules)
     pool.close()
@@ -40,7 +52,9 @@ def told(options, program, seed, run):
     """Tells of a run that failed, and keeps it if that is asked for."""
     print(f"seed {seed} fails: status {run.status}, {run.choice_count} choices")
     if (options.jobs > 1 or options.keep) and not program.run(run.policy).fails():
-        print(f"seed {seed} passes if it is run again: the program doesn't do the same in each run, or runs side by side disturb one another (--fresh gives each a folder of its own, --jobs 1 runs one at a time)")
+        print(
+            f"seed {seed} passes if it is run again: the program doesn't do the same in each run, or runs side by side disturb one another (--fresh gives each a folder of its own, --jobs 1 runs one at a time)"
+        )
     sys.stdout.flush()
     if options.keep:
         keep(f"{options.keep}/seed-{seed}", program, run)
@@ -61,9 +75,13 @@ def merged(options, program):
         with open(path) as file:
             parts.append(json.load(file))
     counted = {}
-    others = next((part["program"] for part in parts if part["program"] != parts[0]["program"]), None)
+    others = next(
+        (part["program"] for part in parts if part["program"] != parts[0]["program"]), None
+    )
     if others:
-        sys.exit(f"explore: the summaries are of different programs: {shlex.join(parts[0]['program'])}, and {shlex.join(others)}")
+        sys.exit(
+            f"explore: the summaries are of different programs: {shlex.join(parts[0]['program'])}, and {shlex.join(others)}"
+        )
     for part in parts:
         for seed in range(part["first"], part["first"] + part["runs"]):
             if (part["policy"], seed) in counted:

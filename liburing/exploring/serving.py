@@ -9,7 +9,11 @@ import subprocess
 import tempfile
 
 # Where the folders of runs lie: where TMPDIR says, else in memory, if there is such a place.
-ROOM = os.path.abspath(os.environ["TMPDIR"]) if os.environ.get("TMPDIR") else ("/dev/shm" if os.access("/dev/shm", os.W_OK) else None)
+ROOM = (
+    os.path.abspath(os.environ["TMPDIR"])
+    if os.environ.get("TMPDIR")
+    else ("/dev/shm" if os.access("/dev/shm", os.W_OK) else None)
+)
 # status, too late, rings, processes that chose, choices, order, bytes printed
 TOLD = struct.Struct("<iI5Q")
 ACCOUNT_SIZE = 4096
@@ -32,7 +36,15 @@ class Server:
         with there:
             variables = {**os.environ, **surroundings, "WULGACH_SERVER": words}
             try:
-                self.process = subprocess.Popen(program.words, cwd=self.place or program.folder, env=variables, stdin=subprocess.DEVNULL, stdout=self.output, stderr=self.output, pass_fds=[there.fileno(), self.output])
+                self.process = subprocess.Popen(
+                    program.words,
+                    cwd=self.place or program.folder,
+                    env=variables,
+                    stdin=subprocess.DEVNULL,
+                    stdout=self.output,
+                    stderr=self.output,
+                    pass_fds=[there.fileno(), self.output],
+                )
             except OSError:
                 self.remove_places()
                 raise
@@ -50,7 +62,11 @@ class Server:
             if int(hello[1]) != self.process.pid or not self.is_own_program(program):
                 self.reason = "it is started by another program"
         else:
-            self.reason = hello[1].rstrip("\n") if len(hello) == 2 else "it sets no ring up, or its layer serves no runs"
+            self.reason = (
+                hello[1].rstrip("\n")
+                if len(hello) == 2
+                else "it sets no ring up, or its layer serves no runs"
+            )
         if self.reason:
             self.close()
 
@@ -63,7 +79,9 @@ class Server:
     def run_all(self, requests):
         """Asks for a run with each of these variables, and gives what is told of it, and what it printed."""
         for variables in requests:
-            request = f"{self.seconds}\0" + "".join(f"{name}={value}\0" for name, value in variables.items())
+            request = f"{self.seconds}\0" + "".join(
+                f"{name}={value}\0" for name, value in variables.items()
+            )
             request = os.fsencode(request)
             try:
                 self.socket.sendall(struct.pack("<I", len(request)) + request)

@@ -48,7 +48,10 @@ def need_uring(options):
 def shrink(options, program):
     need_uring(options)
     if options.seed.isdecimal():
-        policy, name = Policies(program, options.policy).of(int(options.seed)), f"seed {options.seed}"
+        policy, name = (
+            Policies(program, options.policy).of(int(options.seed)),
+            f"seed {options.seed}",
+        )
     elif POLICY.fullmatch(options.seed):
         policy = name = options.seed
     else:
@@ -59,7 +62,9 @@ def shrink(options, program):
         return 2
     items = run.items()
     if not program.run(list_of(items)).fails():
-        print(f"{name} fails, and its list of choices doesn't: the program doesn't do the same in each run")
+        print(
+            f"{name} fails, and its list of choices doesn't: the program doesn't do the same in each run"
+        )
         return 2
     before, items = len(run.choices), without_times(program, run)
     while True:
@@ -68,16 +73,24 @@ def shrink(options, program):
             break
         items = fewer
     if not program.run(list_of(items)).fails():
-        print(f"{name} fails, and the list that is left passes when it is run again: the program doesn't do the same in each run")
+        print(
+            f"{name} fails, and the list that is left passes when it is run again: the program doesn't do the same in each run"
+        )
         return 2
-    enough = f"{name} made {before} choices; {len(items)} {'is' if len(items) == 1 else 'are'} enough"
+    enough = (
+        f"{name} made {before} choices; {len(items)} {'is' if len(items) == 1 else 'are'} enough"
+    )
     print(f"{enough}:\n")
     return print_run(options, program, list_of(items), enough)
 
 
 def show(options, program):
     need_uring(options)
-    policy = options.list if ":" in options.list or options.list in ("order", "lazy") else "list:" + options.list
+    policy = (
+        options.list
+        if ":" in options.list or options.list in ("order", "lazy")
+        else "list:" + options.list
+    )
     if not POLICY.fullmatch(policy):
         stop(f"{options.list}: a list of choices is wanted, as 3=1,7=2, or a policy")
     return print_run(options, program, policy, f"the run by {policy}")
@@ -86,8 +99,14 @@ def show(options, program):
 def print_run(options, program, policy, title):
     """Prints a run: the choices that aren't in order, then what happened on each ring. Draws it too, if a page is asked for."""
     run = program.run(policy, is_tracing=True)
-    variables = " ".join(f"{name}={value}" for name, value in run.environment.items() if name in ("WULGACH_POLICY", "WULGACH_CHOOSE"))
-    parts = " ".join(f"{name}={shlex.quote(os.environ[name])}" for name in PARTS if name in os.environ)
+    variables = " ".join(
+        f"{name}={value}"
+        for name, value in run.environment.items()
+        if name in ("WULGACH_POLICY", "WULGACH_CHOOSE")
+    )
+    parts = " ".join(
+        f"{name}={shlex.quote(os.environ[name])}" for name in PARTS if name in os.environ
+    )
     variables = f"{parts} {variables}" if parts else variables
     print(f"    {variables} {shlex.join(program.words)}\n")
     for at, way, count, what in run.choices:

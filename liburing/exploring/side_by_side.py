@@ -116,4 +116,9 @@ class Progress:
 
     def summary(self):
         """For the JSON that tells of the whole."""
-        return {"runs": self.runs, "seconds": round(self.seconds(), 3), "rate": round(self.rate(), 1), "orders": len(self.orders)}
+        return {
+            "runs": self.runs,
+            "seconds": round(self.seconds(), 3),
+            "rate": round(self.rate(), 1),
+            "orders": len(self.orders),
+        }

@@ -10,18 +10,28 @@ import sys
 TOP = os.path.dirname(os.path.dirname(os.path.dirname(os.path.realpath(__file__))))
 IS_REPOSITORY = os.path.isdir(f"{TOP}/crates")
 # The program `uring`: that of the variable, or the repository's, or the one that is installed beside this tool.
-URING = os.environ.get("URING") or (f"{TOP}/crates/uring_cli/out/uring_cli" if IS_REPOSITORY else f"{TOP}/../bin/uring")
+URING = os.environ.get("URING") or (
+    f"{TOP}/crates/uring_cli/out/uring_cli" if IS_REPOSITORY else f"{TOP}/../bin/uring"
+)
 
 
 def numbers_of_failed(lines):
     """The requests that were finished with a failure."""
-    return {int(step.split()[1]) for step, answer in lines if step.startswith("finish ") and answer.startswith("ended -")}
+    return {
+        int(step.split()[1])
+        for step, answer in lines
+        if step.startswith("finish ") and answer.startswith("ended -")
+    }
 
 
 def split_trace(text):
     """The options, steps and answers of a trace. What a served request will come to is known only at its end, so the layer gives its core a no-op, and ends it with 0 or with -9. `uring trace` carries operations out, so here a no-op that failed is written as an fsync of a descriptor that no file has, which fails with -9. The core asks of neither what it is. Fills and requests have one order: the n-th fill is request n. A call that was refused for want of memory changed nothing, and is left out."""
     head, *rest = text.splitlines() or ["setup"]
-    lines = [tuple(line.split(" = ", 1)) for line in rest if not line.startswith("# ") and not line.endswith(" = again")]
+    lines = [
+        tuple(line.split(" = ", 1))
+        for line in rest
+        if not line.startswith("# ") and not line.endswith(" = again")
+    ]
     failed, steps, fills = numbers_of_failed(lines), [], 0
     for step, _ in lines:
         if step.startswith("fill "):
@@ -31,7 +41,11 @@ def split_trace(text):
                 step = f"fill {words[1]} fsync {words[3]} {words[4]} -1"
             fills += 1
         steps.append(step)
-    return head.split()[1:], "".join(it + "\n" for it in steps), "".join(answer + "\n" for _, answer in lines)
+    return (
+        head.split()[1:],
+        "".join(it + "\n" for it in steps),
+        "".join(answer + "\n" for _, answer in lines),
+    )
 
 
 def read_trace(path):
@@ -56,18 +70,25 @@ def each(look, paths):
         with open(path, "rb") as file:
             alike.setdefault(hashlib.sha256(file.read()).digest(), []).append(path)
     with concurrent.futures.ProcessPoolExecutor(min(2, len(os.sched_getaffinity(0)))) as pool:
-        yield from zip(map(len, alike.values()), pool.map(look, [first for first, *_ in alike.values()]))
+        yield from zip(
+            map(len, alike.values()), pool.map(look, [first for first, *_ in alike.values()])
+        )
 
 
 def compared(path):
     """How many steps a trace has, and what is to be said of the first answer that differs, or nothing."""
     words, steps, answers = read_trace(path)
-    done = subprocess.run([URING, "trace", *words], input=steps.encode(), stdout=subprocess.PIPE, check=True)
+    done = subprocess.run(
+        [URING, "trace", *words], input=steps.encode(), stdout=subprocess.PIPE, check=True
+    )
     found = done.stdout.decode()
     if found == answers:
         return steps.count("\n"), None
     rows = zip(steps.splitlines(), answers.splitlines(), found.splitlines())
-    first = next((f"{step}: {one} here, {other} there" for step, one, other in rows if one != other), "one has more answers")
+    first = next(
+        (f"{step}: {one} here, {other} there" for step, one, other in rows if one != other),
+        "one has more answers",
+    )
     return steps.count("\n"), f"{path}: the answers of uring trace differ\n{first}"
 
 
@@ -116,6 +137,8 @@ def split(options, program):
             words, steps, answers = read_trace(path)
             words = ["trace", *words]
         for end, text in ("", steps), (".stdout", answers), (".args", "\n".join(words)):
-            with open(f"{options.folder}/{'judge' if options.judge else 'trace'}_{number}{end}", "w") as file:
+            with open(
+                f"{options.folder}/{'judge' if options.judge else 'trace'}_{number}{end}", "w"
+            ) as file:
                 file.write(text)
     return 0

@@ -1,12 +1,12 @@
-/* The program's calls by which a ring's descriptor may be closed: after one the rings that nobody can reach any more let go what they have registered and
- * what waits in them, as the kernel has it with the last descriptor. Any other close costs a look whether the number may be a
- * ring's.
+/* The program's calls by which a ring's descriptor may be closed: after one the rings that nobody
+ * can reach any more let go what they have registered and what waits in them, as the kernel has it
+ * with the last descriptor. Any other close costs a look whether the number may be a ring's.
  *
- * A close by a system call of the program's own isn't heard, since no filter can tell a ring's number from others; nor is that of the real
- * liburing.
+ * A close by a system call of the program's own isn't heard, since no filter can tell a ring's
+ * number from others; nor is that of the real liburing.
  *
- * A program may close in a signal's handler, amid malloc or free (signal-safety(7)). So what the layer frees after a close is kept, and freed when it next
- * frees anything in a call.
+ * A program may close in a signal's handler, amid malloc or free (signal-safety(7)). So what the
+ * layer frees after a close is kept, and freed when it next frees anything in a call.
  */
 #define _GNU_SOURCE
 #include "run.h"
@@ -72,7 +72,8 @@ static struct block *blocks;
 static void keep_block(struct block *block)
 {
     block->next = __atomic_load_n(&blocks, __ATOMIC_RELAXED);
-    while (!__atomic_compare_exchange_n(&blocks, &block->next, block, true, __ATOMIC_RELEASE, __ATOMIC_RELAXED))
+    while (!__atomic_compare_exchange_n(
+        &blocks, &block->next, block, true, __ATOMIC_RELEASE, __ATOMIC_RELAXED))
         ;
 }
 
@@ -89,7 +90,8 @@ __attribute__((visibility("hidden"))) void __wrap_free(void *block)
     __real_free(block);
     if (!__atomic_load_n(&blocks, __ATOMIC_RELAXED))
         return;
-    for (struct block *kept = __atomic_exchange_n(&blocks, NULL, __ATOMIC_ACQUIRE), *next; kept; kept = next) {
+    for (struct block *kept = __atomic_exchange_n(&blocks, NULL, __ATOMIC_ACQUIRE), *next; kept;
+         kept = next) {
         next = kept->next;
         __real_free(kept);
     }
@@ -129,7 +131,8 @@ SEEN int close(int fd)
 SEEN int close_range(unsigned first, unsigned last, int flags)
 {
     want_real();
-    int result = real.close_range ? real.close_range(first, last, flags) : (int)syscall(SYS_close_range, first, last, flags);
+    int result = real.close_range ? real.close_range(first, last, flags)
+                                  : (int)syscall(SYS_close_range, first, last, flags);
     look_for_closed();
     return result;
 }

@@ -1,8 +1,8 @@
-/* A context that the C library goes on in has a mask: SIGSYS stays open in it. The mask of one that it comes to by itself, where another's
- * function ends (uc_link), is the program's.
+/* A context that the C library goes on in has a mask: SIGSYS stays open in it. The mask of one that
+ * it comes to by itself, where another's function ends (uc_link), is the program's.
  *
- * Whoever comes back to where a context was kept comes back to the program's call, maybe more than once: so these calls have no frame
- * of their own by then, and jump to the C library's.
+ * Whoever comes back to where a context was kept comes back to the program's call, maybe more than
+ * once: so these calls have no frame of their own by then, and jump to the C library's.
  */
 #define _GNU_SOURCE
 #include "run.h"
@@ -47,28 +47,27 @@ __attribute__((used)) void *before_swapcontext(ucontext_t *kept, ucontext_t *to)
     return real.swapcontext;
 }
 
-#define JUMPS(name)                             \
-    __asm__(".text\n"                           \
-            ".globl " #name "\n"                \
-            ".type " #name ", @function\n"      \
-            #name ":\n\t"                       \
-            ".cfi_startproc\n\t"                \
-            "endbr64\n\t"                       \
-            "push %rdi\n\t"                     \
-            ".cfi_adjust_cfa_offset 8\n\t"      \
-            "push %rsi\n\t"                     \
-            ".cfi_adjust_cfa_offset 8\n\t"      \
-            "sub $8, %rsp\n\t"                  \
-            ".cfi_adjust_cfa_offset 8\n\t"      \
-            "call before_" #name "\n\t"         \
-            "add $8, %rsp\n\t"                  \
-            ".cfi_adjust_cfa_offset -8\n\t"     \
-            "pop %rsi\n\t"                      \
-            ".cfi_adjust_cfa_offset -8\n\t"     \
-            "pop %rdi\n\t"                      \
-            ".cfi_adjust_cfa_offset -8\n\t"     \
-            "jmp *%rax\n\t"                     \
-            ".cfi_endproc\n"                    \
+#define JUMPS(name) \
+    __asm__(".text\n" \
+            ".globl " #name "\n" \
+            ".type " #name ", @function\n" #name ":\n\t" \
+            ".cfi_startproc\n\t" \
+            "endbr64\n\t" \
+            "push %rdi\n\t" \
+            ".cfi_adjust_cfa_offset 8\n\t" \
+            "push %rsi\n\t" \
+            ".cfi_adjust_cfa_offset 8\n\t" \
+            "sub $8, %rsp\n\t" \
+            ".cfi_adjust_cfa_offset 8\n\t" \
+            "call before_" #name "\n\t" \
+            "add $8, %rsp\n\t" \
+            ".cfi_adjust_cfa_offset -8\n\t" \
+            "pop %rsi\n\t" \
+            ".cfi_adjust_cfa_offset -8\n\t" \
+            "pop %rdi\n\t" \
+            ".cfi_adjust_cfa_offset -8\n\t" \
+            "jmp *%rax\n\t" \
+            ".cfi_endproc\n" \
             ".size " #name ", .-" #name "\n")
 
 JUMPS(setcontext);

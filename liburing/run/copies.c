@@ -1,4 +1,5 @@
-/* Calls that move bytes from one file to another: what they moved is read where it went, and stands at the event's end. */
+/* Calls that move bytes from one file to another: what they moved is read where it went, and stands
+ * at the event's end. */
 #define _GNU_SOURCE
 #include "files.h"
 #include "../layer/traces/logging.h"
@@ -12,7 +13,9 @@
 static void end_copy(int reader, int64_t begin, long result)
 {
     struct event event = {.kind = EVENT_END, .result = result};
-    long memory = result <= 0 ? -1 : pass(SYS_mmap, 0, result, PROT_READ | PROT_WRITE, MAP_PRIVATE | MAP_ANONYMOUS, -1, 0);
+    long memory = result <= 0 ? -1
+                              : pass(SYS_mmap, 0, result, PROT_READ | PROT_WRITE,
+                                    MAP_PRIVATE | MAP_ANONYMOUS, -1, 0);
     if (memory < 0 && memory > -4096) {
         log_event(&event, NULL, NULL, NULL, 0);
         return;
@@ -29,9 +32,11 @@ long call_copy(const struct file_call *call)
     const struct wulgach_call_words *is = &call->is;
     char path[PATH_ROOM];
     uint64_t file, place = is->offset;
-    if (!is_on_disk(is->fd, path, &file) || (is->address && !read_memory((const void *)(uintptr_t)is->address, &place, sizeof place)))
+    if (!is_on_disk(is->fd, path, &file) ||
+        (is->address && !read_memory((const void *)(uintptr_t)is->address, &place, sizeof place)))
         return carry(call);
-    struct event event = {.kind = EVENT_COPY, .file = file, .length = wulgach_seen_length_with(0, is->length)};
+    struct event event = {
+        .kind = EVENT_COPY, .file = file, .length = wulgach_seen_length_with(0, is->length)};
     wulgach_place_write(&event, is->fd, place, 0);
     log_event(&event, path, NULL, NULL, 0);
     long result = carry(call);

@@ -1,8 +1,9 @@
-/* Traps the calls that change files, and serves those that write and sync. A filter of seccomp of its own raises SIGSYS at them;
- * what the handler calls itself carries a mark (layer/process/passing.h) and passes.
+/* Traps the calls that change files, and serves those that write and sync. A filter of seccomp of
+ * its own raises SIGSYS at them; what the handler calls itself carries a mark
+ * (layer/process/passing.h) and passes.
  *
- * A sync isn't waited for: a run's disk doesn't lose power, only its log does. WULGACH_SYNC_FAILS=N: the Nth sync of a process
- * fails with EIO.
+ * A sync isn't waited for: a run's disk doesn't lose power, only its log does.
+ * WULGACH_SYNC_FAILS=N: the Nth sync of a process fails with EIO.
  */
 #define _GNU_SOURCE
 #include "files.h"
@@ -22,7 +23,10 @@
 #include <sys/uio.h>
 #include <unistd.h>
 
-_Static_assert((int)EVENT_WRITE == WULGACH_CALL_WRITE && (int)EVENT_SPACE == WULGACH_CALL_SPACE && (int)EVENT_MAKE_FOLDER == WULGACH_CALL_MAKE_FOLDER && (int)EVENT_REMOVE == WULGACH_CALL_REMOVE, "calls and events have the same numbers");
+_Static_assert((int)EVENT_WRITE == WULGACH_CALL_WRITE && (int)EVENT_SPACE == WULGACH_CALL_SPACE &&
+                   (int)EVENT_MAKE_FOLDER == WULGACH_CALL_MAKE_FOLDER &&
+                   (int)EVENT_REMOVE == WULGACH_CALL_REMOVE,
+    "calls and events have the same numbers");
 
 /* System calls have numbers below this. */
 enum { ALL_CALLS = 512 };
@@ -43,7 +47,8 @@ long carry(const struct file_call *call)
 bool read_memory(const void *from, void *to, size_t size)
 {
     const struct iovec here = {to, size}, there = {(void *)(uintptr_t)from, size};
-    ssize_t read = process_vm_readv((pid_t)pass(SYS_gettid, 0, 0, 0, 0, 0, 0), &here, 1, &there, 1, 0);
+    ssize_t read = process_vm_readv(
+        (pid_t)pass(SYS_gettid, 0, 0, 0, 0, 0, 0), &here, 1, &there, 1, 0);
     if (read >= 0 || (errno != ENOSYS && errno != EPERM))
         return read == (ssize_t)size;
     memcpy(to, from, size);
@@ -57,7 +62,8 @@ static long log_output(const struct file_call *call, const struct iovec *vectors
     return carry(call);
 }
 
-static long log_write(const struct file_call *call, const char *path, struct event *event, const struct iovec *vectors, size_t count)
+static long log_write(const struct file_call *call, const char *path, struct event *event,
+    const struct iovec *vectors, size_t count)
 {
     event->kind = EVENT_WRITE;
     wulgach_place_write(event, call->is.fd, call->is.offset, (int)call->is.flags);
@@ -112,10 +118,13 @@ static long call_sync(const struct file_call *call)
     compare_maps();
     if (!wulgach_is_synced_number(call->is.fd) || !is_on_disk(call->is.fd, path, &file))
         return carry(call);
-    struct event event = {.kind = EVENT_SYNC, .flags = call->number == SYS_fdatasync ? IS_OF_DATA : 0, .file = file};
+    struct event event = {
+        .kind = EVENT_SYNC, .flags = call->number == SYS_fdatasync ? IS_OF_DATA : 0, .file = file};
     log_event(&event, path, NULL, NULL, 0);
     compare_maps();
-    return end_operation(wulgach_seen_is_made((uint64_t)call->number) ? carry(call) : fails_now() ? -EIO : 0);
+    return end_operation(wulgach_seen_is_made((uint64_t)call->number) ? carry(call)
+                         : fails_now()                                ? -EIO
+                                                                      : 0);
 }
 
 static bool is_number_on_disk(int fd)
@@ -139,9 +148,13 @@ static long call_sync_all(const struct file_call *call)
 static long call_on_length(const struct file_call *call)
 {
     const struct wulgach_call_words *is = &call->is;
-    long fd = is->by_path ? pass(SYS_openat, is->fd, (long)is->path, O_PATH | O_CLOEXEC, 0, 0, 0) : is->fd;
+    long fd = is->by_path ? pass(SYS_openat, is->fd, (long)is->path, O_PATH | O_CLOEXEC, 0, 0, 0)
+                          : is->fd;
     char path[PATH_ROOM];
-    struct event event = {.kind = (uint16_t)call->kind, .flags = (uint16_t)is->flags, .offset = (int64_t)is->offset, .length = is->length};
+    struct event event = {.kind = (uint16_t)call->kind,
+        .flags = (uint16_t)is->flags,
+        .offset = (int64_t)is->offset,
+        .length = is->length};
     bool is_seen = fd >= 0 && is_on_disk((int)fd, path, &event.file);
     if (is_seen)
         log_event(&event, path, NULL, NULL, 0);
@@ -159,17 +172,30 @@ static long call_exit(const struct file_call *call)
 }
 
 static long (*const served[])(const struct file_call *call) = {
-    [WULGACH_CALL_WRITE] = call_write, [WULGACH_CALL_COPY] = call_copy, [WULGACH_CALL_SYNC] = call_sync, [WULGACH_CALL_SYNC_ALL] = call_sync_all,
-    [WULGACH_CALL_LENGTH] = call_on_length, [WULGACH_CALL_SPACE] = call_on_length, [WULGACH_CALL_OPEN] = call_open,
-    [WULGACH_CALL_MAKE_FOLDER] = call_on_name, [WULGACH_CALL_MAKE_LINK] = call_on_name, [WULGACH_CALL_REMOVE] = call_on_name,
-    [WULGACH_CALL_LINK] = call_link, [WULGACH_CALL_RENAME] = call_rename,
-    [WULGACH_CALL_MAP] = call_map, [WULGACH_CALL_SYNC_MEMORY] = call_msync, [WULGACH_CALL_EXIT] = call_exit,
+    [WULGACH_CALL_WRITE] = call_write,
+    [WULGACH_CALL_COPY] = call_copy,
+    [WULGACH_CALL_SYNC] = call_sync,
+    [WULGACH_CALL_SYNC_ALL] = call_sync_all,
+    [WULGACH_CALL_LENGTH] = call_on_length,
+    [WULGACH_CALL_SPACE] = call_on_length,
+    [WULGACH_CALL_OPEN] = call_open,
+    [WULGACH_CALL_MAKE_FOLDER] = call_on_name,
+    [WULGACH_CALL_MAKE_LINK] = call_on_name,
+    [WULGACH_CALL_REMOVE] = call_on_name,
+    [WULGACH_CALL_LINK] = call_link,
+    [WULGACH_CALL_RENAME] = call_rename,
+    [WULGACH_CALL_MAP] = call_map,
+    [WULGACH_CALL_SYNC_MEMORY] = call_msync,
+    [WULGACH_CALL_EXIT] = call_exit,
 };
 
 bool serve_file_call(long number, const long words[6], long *result)
 {
-    const struct wulgach_system_call whole = {(uint64_t)number, (uint64_t)words[0], (uint64_t)words[1], (uint64_t)words[2], (uint64_t)words[3], (uint64_t)words[4], (uint64_t)words[5]};
-    struct file_call call = {.number = number, .words = words, .kind = wulgach_seen_logged_call((uint64_t)number)};
+    const struct wulgach_system_call whole = {(uint64_t)number, (uint64_t)words[0],
+        (uint64_t)words[1], (uint64_t)words[2], (uint64_t)words[3], (uint64_t)words[4],
+        (uint64_t)words[5]};
+    struct file_call call = {
+        .number = number, .words = words, .kind = wulgach_seen_logged_call((uint64_t)number)};
     if (call.kind == WULGACH_CALL_NOTHING)
         return false;
     wulgach_seen_words_of_call(&whole, &call.is);
@@ -177,13 +203,16 @@ bool serve_file_call(long number, const long words[6], long *result)
     return true;
 }
 
-/* Our own calls pass; that of mmap has its mark at the descriptor. A mask is trapped that may block SIGSYS, as the C library's where it starts a program or a thread of
- * its own, which then write files; and an action of another signal, whose mask may. */
+/* Our own calls pass; that of mmap has its mark at the descriptor. A mask is trapped that may block
+ * SIGSYS, as the C library's where it starts a program or a thread of its own, which then write
+ * files; and an action of another signal, whose mask may. */
 static const struct filter_row before_calls[] = {
     {ANY_CALL, SECCOMP_RET_ALLOW, {{IS, UPPER(5), PASSES}}},
     {ANY_CALL, SECCOMP_RET_ALLOW, {{IS, UPPER(4), PASSES}}},
-    {SYS_rt_sigprocmask, SECCOMP_RET_TRAP, {{IS_NOT, ARGUMENT(0), SIG_UNBLOCK}, {IS_NOT_WHOLE, ARGUMENT(1), 0}}},
-    {SYS_rt_sigaction, SECCOMP_RET_TRAP, {{IS_NOT, ARGUMENT(0), SIGSYS}, {IS_NOT_WHOLE, ARGUMENT(1), 0}}},
+    {SYS_rt_sigprocmask, SECCOMP_RET_TRAP,
+        {{IS_NOT, ARGUMENT(0), SIG_UNBLOCK}, {IS_NOT_WHOLE, ARGUMENT(1), 0}}},
+    {SYS_rt_sigaction, SECCOMP_RET_TRAP,
+        {{IS_NOT, ARGUMENT(0), SIGSYS}, {IS_NOT_WHOLE, ARGUMENT(1), 0}}},
 };
 
 /* A call that is logged is trapped, or only if an argument has one of some bits. */

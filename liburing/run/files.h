@@ -1,5 +1,6 @@
-/* The calls that change files, trapped where the run has a log (layer/traces/log.h): each is put into it and carried out. Which call is logged as what, and what its
- * arguments are, the library says. */
+/* The calls that change files, trapped where the run has a log (layer/traces/log.h): each is put
+ * into it and carried out. Which call is logged as what, and what its arguments are, the library
+ * says. */
 #ifndef FILES_H
 #define FILES_H
 
@@ -13,14 +14,15 @@
 /* Traps them. False: the kernel refuses the filter. */
 bool trap_files(void);
 
-/* Serves a trapped call with these words: false if it isn't one of files. Its result is the kernel's. */
+/* Serves a trapped call with these words: false if it isn't one of files. Its result is the
+ * kernel's. */
 bool serve_file_call(long call, const long words[6], long *result);
 
 /* A trapped call: its number, its words, and what the library says of them. */
 struct file_call {
     long number;
     const long *words;
-    uint32_t kind;      /* enum wulgach_logged_call */
+    uint32_t kind; /* enum wulgach_logged_call */
     struct wulgach_call_words is;
 };
 
@@ -36,8 +38,9 @@ long call_copy(const struct file_call *call);
 long call_map(const struct file_call *call);
 long call_msync(const struct file_call *call);
 
-/* Reads the program's memory, which may be where nothing is; false if it can't be read. Where nobody may ask it is read as it comes. The process is named
- * by the thread that calls: its first one may have ended. */
+/* Reads the program's memory, which may be where nothing is; false if it can't be read. Where
+ * nobody may ask it is read as it comes. The process is named by the thread that calls: its first
+ * one may have ended. */
 bool read_memory(const void *from, void *to, size_t size);
 
 /* A descriptor of our own that reads a file, and stays open; negative if there is none. */

@@ -26,10 +26,12 @@ static void put_result(struct filter *filter, uint32_t result)
 }
 
 /* Compares what was loaded, and goes on at one line or the other. */
-static void put_jump(struct filter *filter, uint16_t test, uint64_t value, size_t if_so, size_t if_not)
+static void put_jump(
+    struct filter *filter, uint16_t test, uint64_t value, size_t if_so, size_t if_not)
 {
     size_t next = filter->count + 1;
-    put_line(filter, (struct sock_filter)BPF_JUMP((uint16_t)(BPF_JMP | BPF_K | test), (uint32_t)value, (uint8_t)(if_so - next), (uint8_t)(if_not - next)));
+    put_line(filter, (struct sock_filter)BPF_JUMP((uint16_t)(BPF_JMP | BPF_K | test),
+                         (uint32_t)value, (uint8_t)(if_so - next), (uint8_t)(if_not - next)));
 }
 
 static size_t lines_of(enum comparison comparison)
@@ -38,11 +40,13 @@ static size_t lines_of(enum comparison comparison)
 }
 
 /* If it doesn't hold the filter goes on at the line `otherwise`. */
-static void put_condition(struct filter *filter, const struct condition *condition, size_t otherwise)
+static void put_condition(
+    struct filter *filter, const struct condition *condition, size_t otherwise)
 {
     size_t next = filter->count + lines_of(condition->comparison), at = condition->at;
     uint64_t value = condition->value;
-    uint16_t test = condition->comparison == HAS || condition->comparison == LACKS ? BPF_JSET : BPF_JEQ;
+    uint16_t test = condition->comparison == HAS || condition->comparison == LACKS ? BPF_JSET
+                                                                                   : BPF_JEQ;
     bool holds_if_so = condition->comparison == IS || condition->comparison == HAS;
     if (condition->comparison == IS_NOT_WHOLE) {
         put_load(filter, at);
@@ -54,7 +58,8 @@ static void put_condition(struct filter *filter, const struct condition *conditi
     put_jump(filter, test, value, holds_if_so ? next : otherwise, holds_if_so ? otherwise : next);
 }
 
-/* Where the conditions don't hold the filter goes on after the result: the call's number is loaded again, for the next row. */
+/* Where the conditions don't hold the filter goes on after the result: the call's number is loaded
+ * again, for the next row. */
 static void put_row(struct filter *filter, const struct filter_row *row)
 {
     size_t lines = 0;
@@ -91,7 +96,8 @@ static bool set_filter(struct filter *filter, unsigned flags)
 {
     put_result(filter, SECCOMP_RET_ALLOW);
     struct sock_fprog program = {.len = (unsigned short)filter->count, .filter = filter->lines};
-    return has_room(filter) && syscall(SYS_seccomp, SECCOMP_SET_MODE_FILTER, flags, &program, 0, 0, ASKS_KERNEL) == 0;
+    return has_room(filter) &&
+           syscall(SYS_seccomp, SECCOMP_SET_MODE_FILTER, flags, &program, 0, 0, ASKS_KERNEL) == 0;
 }
 
 bool has_room(const struct filter *filter)

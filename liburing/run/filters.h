@@ -1,4 +1,5 @@
-/* Filters of seccomp for system calls, as rows say: the first row that fits a call decides of it, and a call that none fits passes. */
+/* Filters of seccomp for system calls, as rows say: the first row that fits a call decides of it,
+ * and a call that none fits passes. */
 #ifndef FILTERS_H
 #define FILTERS_H
 
@@ -14,7 +15,8 @@
 #define ARGUMENT(number) (offsetof(struct seccomp_data, args) + 8 * (number))
 #define UPPER(number) (ARGUMENT(number) + 4)
 
-/* Whether half an argument is the value, or has one of its bits; the lower half but for UPPER. Of both halves is only IS_NOT_WHOLE. */
+/* Whether half an argument is the value, or has one of its bits; the lower half but for UPPER. Of
+ * both halves is only IS_NOT_WHOLE. */
 enum comparison { NOTHING, IS, IS_NOT, HAS, LACKS, IS_NOT_WHOLE };
 
 struct condition {
@@ -42,8 +44,9 @@ void put_rows(struct filter *filter, const struct filter_row *rows, size_t count
 void put_line(struct filter *filter, struct sock_filter line);
 bool has_room(const struct filter *filter);
 
-/* Adds it to the filters that stand, of this thread or of all. False: the kernel refuses it, as where another thread has others; or it has too many lines. The kernel
- * was told before that the process takes no new privileges. */
+/* Adds it to the filters that stand, of this thread or of all. False: the kernel refuses it, as
+ * where another thread has others; or it has too many lines. The kernel was told before that the
+ * process takes no new privileges. */
 bool add_filter(struct filter *filter);
 bool add_filter_for_all(struct filter *filter);
 

@@ -1,15 +1,19 @@
-/* Where the function of an instruction begins, by the table that each file has for unwinders, sorted by where functions begin. */
+/* Where the function of an instruction begins, by the table that each file has for unwinders,
+ * sorted by where functions begin. */
 #define _GNU_SOURCE
 #include "rewriting.h"
 
 #include <link.h>
 
-/* The head of that table, where numbers have the usual forms: each of four bytes, counted from the head. */
+/* The head of that table, where numbers have the usual forms: each of four bytes, counted from the
+ * head. */
 struct table {
     uint8_t version, pointer_form, count_form, form;
     int32_t frames;
     uint32_t count;
-    struct { int32_t start, frame; } rows[];
+    struct {
+        int32_t start, frame;
+    } rows[];
 };
 
 enum { VERSION = 1, USUAL_POINTER = 0x1b, USUAL_COUNT = 3, USUAL_ROWS = 0x3b, LONGEST = 1 << 20 };
@@ -36,7 +40,8 @@ static const uint8_t *look_up(const struct table *table, uintptr_t address)
 
 static bool is_usual(const struct table *table)
 {
-    return table->version == VERSION && table->pointer_form == USUAL_POINTER && table->count_form == USUAL_COUNT && table->form == USUAL_ROWS;
+    return table->version == VERSION && table->pointer_form == USUAL_POINTER &&
+           table->count_form == USUAL_COUNT && table->form == USUAL_ROWS;
 }
 
 static int look_at_object(struct dl_phdr_info *object, size_t size, void *argument)
@@ -48,7 +53,8 @@ static int look_at_object(struct dl_phdr_info *object, size_t size, void *argume
     for (int i = 0; i < object->dlpi_phnum; i++) {
         const ElfW(Phdr) *part = &object->dlpi_phdr[i];
         uintptr_t start = object->dlpi_addr + part->p_vaddr;
-        is_here |= part->p_type == PT_LOAD && part->p_flags & PF_X && sought->address - start < part->p_memsz;
+        is_here |= part->p_type == PT_LOAD && part->p_flags & PF_X &&
+                   sought->address - start < part->p_memsz;
         if (part->p_type == PT_GNU_EH_FRAME)
             table = (const struct table *)start;
     }

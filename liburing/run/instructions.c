@@ -1,25 +1,49 @@
-/* As much of the processor's instructions as is wanted to find where one begins: how long each is, and from a function's first one on
- * which of them puts the number of io_uring_enter into eax before a call.
+/* As much of the processor's instructions as is wanted to find where one begins: how long each is,
+ * and from a function's first one on which of them puts the number of io_uring_enter into eax
+ * before a call.
  */
 #include "rewriting.h"
 
 #include <string.h>
 
-/* What follows an opcode: nothing (.), a byte (b), two (w), three (e), four (j), four or with a prefix two (z), such or with REX.W eight
- * (q), an address (o); and after the bytes that name registers or memory nothing (m), a byte (M), four or two (Z), or these only for a
- * test (t, T). An opcode that isn't known or isn't one: -. */
-static const char of_one_byte[] =
-    "mmmmbz--mmmmbz--" "mmmmbz--mmmmbz--" "mmmmbz--mmmmbz--" "mmmmbz--mmmmbz--"
-    "----------------" "................" "---m----zZbM...." "bbbbbbbbbbbbbbbb"
-    "MZ-Mmmmmmmmmmmmm" "..........-....." "oooo....bz......" "bbbbbbbbqqqqqqqq"
-    "MMw.--MZe.w..b-." "mmmm---.mmmmmmmm" "bbbbbbbbjj-b...." "-.--..tT......mm";
+/* What follows an opcode: nothing (.), a byte (b), two (w), three (e), four (j), four or with a
+ * prefix two (z), such or with REX.W eight (q), an address (o); and after the bytes that name
+ * registers or memory nothing (m), a byte (M), four or two (Z), or these only for a test (t, T). An
+ * opcode that isn't known or isn't one: -. */
+static const char of_one_byte[] = "mmmmbz--mmmmbz--"
+                                  "mmmmbz--mmmmbz--"
+                                  "mmmmbz--mmmmbz--"
+                                  "mmmmbz--mmmmbz--"
+                                  "----------------"
+                                  "................"
+                                  "---m----zZbM...."
+                                  "bbbbbbbbbbbbbbbb"
+                                  "MZ-Mmmmmmmmmmmmm"
+                                  "..........-....."
+                                  "oooo....bz......"
+                                  "bbbbbbbbqqqqqqqq"
+                                  "MMw.--MZe.w..b-."
+                                  "mmmm---.mmmmmmmm"
+                                  "bbbbbbbbjj-b...."
+                                  "-.--..tT......mm";
 
 /* The same of those after 0x0f. */
-static const char of_two_bytes[] =
-    "mmmm-.....-.-m.M" "mmmmmmmmmmmmmmmm" "mmmm----mmmmmmmm" "........--------"
-    "mmmmmmmmmmmmmmmm" "mmmmmmmmmmmmmmmm" "mmmmmmmmmmmmmmmm" "MMMMmmm.--mmmmmm"
-    "jjjjjjjjjjjjjjjj" "mmmmmmmmmmmmmmmm" "...mMm--...mMmmm" "mmmmmmmmmmMmmmmm"
-    "mmMmMMMm........" "mmmmmmmmmmmmmmmm" "mmmmmmmmmmmmmmmm" "mmmmmmmmmmmmmmmm";
+static const char of_two_bytes[] = "mmmm-.....-.-m.M"
+                                   "mmmmmmmmmmmmmmmm"
+                                   "mmmm----mmmmmmmm"
+                                   "........--------"
+                                   "mmmmmmmmmmmmmmmm"
+                                   "mmmmmmmmmmmmmmmm"
+                                   "mmmmmmmmmmmmmmmm"
+                                   "MMMMmmm.--mmmmmm"
+                                   "jjjjjjjjjjjjjjjj"
+                                   "mmmmmmmmmmmmmmmm"
+                                   "...mMm--...mMmmm"
+                                   "mmmmmmmmmmMmmmmm"
+                                   "mmMmMMMm........"
+                                   "mmmmmmmmmmmmmmmm"
+                                   "mmmmmmmmmmmmmmmm"
+                                   "mmmmmmmmmmmmmmmm";
 
 enum { REX = 0x40, REX_W = 8, REX_R = 4, REX_B = 1, MOST_PREFIXES = 11 };
 
@@ -40,26 +64,43 @@ static size_t length_after(char kind, const uint8_t *at, bool is_short, bool is_
 {
     size_t number = is_short && !is_wide ? 2 : 4;
     switch (kind) {
-    case '.': return 0;
-    case 'b': return 1;
-    case 'w': return 2;
-    case 'e': return 3;
-    case 'j': return 4;
-    case 'o': return 8;
-    case 'z': return number;
-    case 'q': return is_wide ? 8 : number;
-    case 'm': return length_of_names(at);
-    case 'M': return length_of_names(at) + 1;
-    case 'Z': return length_of_names(at) + number;
-    case 't': return length_of_names(at) + (*at >> 3 & 6 ? 0 : 1);
-    default: return length_of_names(at) + (*at >> 3 & 6 ? 0 : number);
+    case '.':
+        return 0;
+    case 'b':
+        return 1;
+    case 'w':
+        return 2;
+    case 'e':
+        return 3;
+    case 'j':
+        return 4;
+    case 'o':
+        return 8;
+    case 'z':
+        return number;
+    case 'q':
+        return is_wide ? 8 : number;
+    case 'm':
+        return length_of_names(at);
+    case 'M':
+        return length_of_names(at) + 1;
+    case 'Z':
+        return length_of_names(at) + number;
+    case 't':
+        return length_of_names(at) + (*at >> 3 & 6 ? 0 : 1);
+    default:
+        return length_of_names(at) + (*at >> 3 & 6 ? 0 : number);
     }
 }
 
-/* What follows an opcode of the maps that are named by a number. In the third all have a byte more. */
+/* What follows an opcode of the maps that are named by a number. In the third all have a byte more.
+ */
 static char kind_of(unsigned map, uint8_t opcode)
 {
-    return map == 1 ? of_two_bytes[opcode] : map == 3 ? 'M' : map == 2 || map == 5 || map == 6 ? 'm' : '-';
+    return map == 1                           ? of_two_bytes[opcode]
+           : map == 3                         ? 'M'
+           : map == 2 || map == 5 || map == 6 ? 'm'
+                                              : '-';
 }
 
 /* One whose prefix names the map and the registers. */
@@ -97,8 +138,8 @@ size_t length_of(const uint8_t *start)
     return kind == '-' ? 0 : (size_t)(at - start) + length_after(kind, at, is_short, is_wide);
 }
 
-/* One that can be carried out anywhere, and leaves rax and the stack: a register's value or a number goes into a register, or two are
- * exclusively ored. */
+/* One that can be carried out anywhere, and leaves rax and the stack: a register's value or a
+ * number goes into a register, or two are exclusively ored. */
 static bool is_movable(const uint8_t *at, size_t length)
 {
     unsigned rex = (*at & 0xf0) == REX ? *at : 0, target;

@@ -1,6 +1,8 @@
-/* Memory that is shared with a file. Nobody sees when it is written: the file is compared with a copy, page by page, where it is mapped, where a call
- * syncs any file, as that begins and as it ends, and where the process ends. What has changed since goes into the log. Its bytes are read by a descriptor of our own,
- * which stays open: whether the memory is still mapped doesn't matter, and to close it would take the program's locks away.
+/* Memory that is shared with a file. Nobody sees when it is written: the file is compared with a
+ * copy, page by page, where it is mapped, where a call syncs any file, as that begins and as it
+ * ends, and where the process ends. What has changed since goes into the log. Its bytes are read by
+ * a descriptor of our own, which stays open: whether the memory is still mapped doesn't matter, and
+ * to close it would take the program's locks away.
  */
 #define _GNU_SOURCE
 #include "files.h"
@@ -21,7 +23,8 @@
 
 enum { MOST_FILES = 64, PAGE = 4096 };
 
-/* A file that is read by a descriptor of our own; if it has been mapped, its copy has room for so many bytes. */
+/* A file that is read by a descriptor of our own; if it has been mapped, its copy has room for so
+ * many bytes. */
 struct mapped {
     bool is_used;
     uint64_t file;
@@ -32,8 +35,9 @@ struct mapped {
 
 static struct mapped files[MOST_FILES];
 
-/* Whether a thread looks at them: where it can be, on a page that the kernel empties in a child, since one that was forked by a system call of the program's own has none
- * that would give it back. */
+/* Whether a thread looks at them: where it can be, on a page that the kernel empties in a child,
+ * since one that was forked by a system call of the program's own has none that would give it back.
+ */
 static atomic_flag ordinary = ATOMIC_FLAG_INIT, *is_looked_at = &ordinary;
 
 /* (a handler that came meanwhile would wait for itself) */
@@ -86,25 +90,33 @@ static void log_page(struct mapped *mapped, size_t at, const char *now, size_t l
 {
     char *before = mapped->copy + at, path[PATH_ROOM];
     struct wulgach_file_part part;
-    if (memcmp(now, before, length) == 0 || !wulgach_seen_changed_part((const uint8_t *)before, length, (const uint8_t *)now, length, &part))
+    if (memcmp(now, before, length) == 0 || !wulgach_seen_changed_part((const uint8_t *)before,
+                                                length, (const uint8_t *)now, length, &part))
         return;
     memcpy(before, now, length);
-    struct event event = {.kind = EVENT_MAPPED, .file = mapped->file, .offset = (int64_t)(at + part.offset), .length = part.length};
+    struct event event = {.kind = EVENT_MAPPED,
+        .file = mapped->file,
+        .offset = (int64_t)(at + part.offset),
+        .length = part.length};
     struct iovec bytes = {before + part.offset, part.length};
     log_event(&event, path_of(mapped->fd, path) ? path : NULL, NULL, &bytes, 1);
 }
 
-/* The next page from here on that the file has: holes are passed over, so that one which is mostly empty costs little. */
+/* The next page from here on that the file has: holes are passed over, so that one which is mostly
+ * empty costs little. */
 static size_t next_page(const struct mapped *mapped, size_t at)
 {
-    return wulgach_seen_next_mapped_page(pass(SYS_lseek, mapped->fd, (long)at, SEEK_DATA, 0, 0, 0), at, mapped->room);
+    return wulgach_seen_next_mapped_page(
+        pass(SYS_lseek, mapped->fd, (long)at, SEEK_DATA, 0, 0, 0), at, mapped->room);
 }
 
-/* Whether its descriptor still reads it: the program may have closed the number, or taken it for a file of its own. */
+/* Whether its descriptor still reads it: the program may have closed the number, or taken it for a
+ * file of its own. */
 static bool reads(const struct mapped *mapped)
 {
     struct stat about;
-    return pass(SYS_fstat, mapped->fd, (long)&about, 0, 0, 0, 0) == 0 && about.st_ino == mapped->file;
+    return pass(SYS_fstat, mapped->fd, (long)&about, 0, 0, 0, 0) == 0 &&
+           about.st_ino == mapped->file;
 }
 
 static void compare(struct mapped *mapped)
@@ -149,7 +161,10 @@ static bool make_room(struct mapped *mapped, uint64_t bytes)
         return false;
     if (room <= mapped->room)
         return true;
-    long copy = mapped->copy ? pass(SYS_mremap, (long)mapped->copy, (long)mapped->room, (long)room, MREMAP_MAYMOVE, 0, 0) : pass(SYS_mmap, 0, (long)room, PROT_READ | PROT_WRITE, MAP_PRIVATE | MAP_ANONYMOUS | MAP_NORESERVE, -1, 0);
+    long copy = mapped->copy ? pass(SYS_mremap, (long)mapped->copy, (long)mapped->room, (long)room,
+                                   MREMAP_MAYMOVE, 0, 0)
+                             : pass(SYS_mmap, 0, (long)room, PROT_READ | PROT_WRITE,
+                                   MAP_PRIVATE | MAP_ANONYMOUS | MAP_NORESERVE, -1, 0);
     if (!is_address(copy))
         return false;
     size_t before = mapped->room;
@@ -159,14 +174,16 @@ static bool make_room(struct mapped *mapped, uint64_t bytes)
     return true;
 }
 
-/* Whether anybody has a lock on a file, as another descriptor's would meet it (fcntl(2)); or it isn't known. */
+/* Whether anybody has a lock on a file, as another descriptor's would meet it (fcntl(2)); or it
+ * isn't known. */
 static bool may_be_locked(long fd)
 {
     struct flock lock = {.l_type = F_WRLCK, .l_whence = SEEK_SET};
     return pass(SYS_fcntl, fd, F_OFD_GETLK, (long)&lock, 0, 0, 0) < 0 || lock.l_type != F_UNLCK;
 }
 
-/* Under a high number; the one that it is opened by stays too, where to close it could take locks away. */
+/* Under a high number; the one that it is opened by stays too, where to close it could take locks
+ * away. */
 static int open_again(int fd)
 {
     char name[40];
@@ -237,8 +254,8 @@ static void add_map(int fd, uint64_t length, uint64_t offset)
 /* A line has its numbers, and a path (proc_pid_maps(5)). */
 enum { LINE_ROOM = 128 + PATH_ROOM };
 
-/* What the kernel lists of the process's memory, from the first to the last, in a line each; and the line that was read last, as much of it as there is room
- * for, without its end. */
+/* What the kernel lists of the process's memory, from the first to the last, in a line each; and
+ * the line that was read last, as much of it as there is room for, without its end. */
 struct list {
     int fd;
     size_t at, length, line_length;
@@ -270,7 +287,11 @@ static bool next_line(struct list *list)
 
 static void sync_part(uint64_t file, const char *path, const struct wulgach_file_part *part)
 {
-    struct event event = {.kind = EVENT_SYNC, .flags = IS_OF_RANGE | IS_OF_DATA, .file = file, .offset = (int64_t)part->offset, .length = part->length};
+    struct event event = {.kind = EVENT_SYNC,
+        .flags = IS_OF_RANGE | IS_OF_DATA,
+        .file = file,
+        .offset = (int64_t)part->offset,
+        .length = part->length};
     compare_all();
     log_event(&event, path, NULL, NULL, 0);
     compare_all();
@@ -285,12 +306,18 @@ static void sync_line(const struct list *list, uint64_t begin, uint64_t length)
     if (!wulgach_seen_mapped_of((const uint8_t *)list->line, list->line_length, &is))
         return;
     const char *path = list->line + is.path;
-    struct wulgach_mapped_memory memory = {.is_shared = is.is_shared, .is_on_disk = is_path_on_disk(path), .file = is.inode, .begin = is.start, .end = is.end, .offset = is.offset};
+    struct wulgach_mapped_memory memory = {.is_shared = is.is_shared,
+        .is_on_disk = is_path_on_disk(path),
+        .file = is.inode,
+        .begin = is.start,
+        .end = is.end,
+        .offset = is.offset};
     if (wulgach_seen_synced_part(&memory, begin, length, &part))
         sync_part(is.inode, path, &part);
 }
 
-/* Which files the memory is of is asked as it is synced: what was mapped there before may be gone. */
+/* Which files the memory is of is asked as it is synced: what was mapped there before may be gone.
+ */
 static void sync_memory(uint64_t begin, uint64_t length)
 {
     static struct list list;
@@ -304,7 +331,8 @@ static void sync_memory(uint64_t begin, uint64_t length)
     unlock(&before);
 }
 
-/* An msync that waits is a sync of its pages, which isn't waited for: the kernel says whether it can be. */
+/* An msync that waits is a sync of its pages, which isn't waited for: the kernel says whether it
+ * can be. */
 long call_msync(const struct file_call *call)
 {
     const struct wulgach_call_words *is = &call->is;

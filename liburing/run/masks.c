@@ -1,5 +1,6 @@
-/* Calls that wait with another mask, or give a thread one: SIGSYS stays open in it, since a handler that comes meanwhile may call io_uring. And
- * the older calls whose masks are of 32 signals; and, where the run has a log, the kernel's own call. */
+/* Calls that wait with another mask, or give a thread one: SIGSYS stays open in it, since a handler
+ * that comes meanwhile may call io_uring. And the older calls whose masks are of 32 signals; and,
+ * where the run has a log, the kernel's own call. */
 #define _GNU_SOURCE
 #include "files.h"
 #include "run.h"
@@ -14,10 +15,10 @@
 #include <time.h>
 
 /* The C library's function of this name, which is looked up once. */
-#define REAL(type, name, arguments)             \
-    static type (*name) arguments;              \
-    if (!name)                                  \
-        *(void **)&name = dlsym(RTLD_NEXT, #name)
+#define REAL(type, name, arguments) \
+    static type(*name) arguments; \
+    if (!name) \
+    *(void **)&name = dlsym(RTLD_NEXT, #name)
 
 SEEN int sigsuspend(const sigset_t *set)
 {
@@ -60,7 +61,8 @@ SEEN int __sigpause(int mask_or_signal, int is_signal)
     return __sigpause(is_signal ? mask_or_signal : mask_or_signal & ~TRAP, is_signal);
 }
 
-SEEN int ppoll(struct pollfd *polled, nfds_t count, const struct timespec *time, const sigset_t *set)
+SEEN int ppoll(
+    struct pollfd *polled, nfds_t count, const struct timespec *time, const sigset_t *set)
 {
     REAL(int, ppoll, (struct pollfd *, nfds_t, const struct timespec *, const sigset_t *));
     sigset_t copy;
@@ -68,21 +70,26 @@ SEEN int ppoll(struct pollfd *polled, nfds_t count, const struct timespec *time,
 }
 
 /* What a compiler makes of it that checks the size of an array. */
-SEEN int __ppoll_chk(struct pollfd *polled, nfds_t count, const struct timespec *time, const sigset_t *set, size_t size)
+SEEN int __ppoll_chk(struct pollfd *polled, nfds_t count, const struct timespec *time,
+    const sigset_t *set, size_t size)
 {
-    REAL(int, __ppoll_chk, (struct pollfd *, nfds_t, const struct timespec *, const sigset_t *, size_t));
+    REAL(int, __ppoll_chk,
+        (struct pollfd *, nfds_t, const struct timespec *, const sigset_t *, size_t));
     sigset_t copy;
     return __ppoll_chk(polled, count, time, without_trap(set, &copy), size);
 }
 
-SEEN int pselect(int count, fd_set *read, fd_set *written, fd_set *exceptional, const struct timespec *time, const sigset_t *set)
+SEEN int pselect(int count, fd_set *read, fd_set *written, fd_set *exceptional,
+    const struct timespec *time, const sigset_t *set)
 {
-    REAL(int, pselect, (int, fd_set *, fd_set *, fd_set *, const struct timespec *, const sigset_t *));
+    REAL(int, pselect,
+        (int, fd_set *, fd_set *, fd_set *, const struct timespec *, const sigset_t *));
     sigset_t copy;
     return pselect(count, read, written, exceptional, time, without_trap(set, &copy));
 }
 
-SEEN int epoll_pwait(int instance, struct epoll_event *events, int most, int time, const sigset_t *set)
+SEEN int epoll_pwait(
+    int instance, struct epoll_event *events, int most, int time, const sigset_t *set)
 {
     REAL(int, epoll_pwait, (int, struct epoll_event *, int, int, const sigset_t *));
     sigset_t copy;
@@ -90,9 +97,11 @@ SEEN int epoll_pwait(int instance, struct epoll_event *events, int most, int tim
 }
 
 /* (a C library before 2.35 hasn't it) */
-SEEN int epoll_pwait2(int instance, struct epoll_event *events, int most, const struct timespec *time, const sigset_t *set)
+SEEN int epoll_pwait2(int instance, struct epoll_event *events, int most,
+    const struct timespec *time, const sigset_t *set)
 {
-    REAL(int, epoll_pwait2, (int, struct epoll_event *, int, const struct timespec *, const sigset_t *));
+    REAL(int, epoll_pwait2,
+        (int, struct epoll_event *, int, const struct timespec *, const sigset_t *));
     sigset_t copy;
     if (epoll_pwait2)
         return epoll_pwait2(instance, events, most, time, without_trap(set, &copy));
@@ -104,7 +113,9 @@ SEEN int pthread_attr_setsigmask_np(pthread_attr_t *attributes, const sigset_t *
 {
     REAL(int, pthread_attr_setsigmask_np, (pthread_attr_t *, const sigset_t *));
     sigset_t copy;
-    return pthread_attr_setsigmask_np ? pthread_attr_setsigmask_np(attributes, without_trap(set, &copy)) : ENOSYS;
+    return pthread_attr_setsigmask_np
+               ? pthread_attr_setsigmask_np(attributes, without_trap(set, &copy))
+               : ENOSYS;
 }
 
 /* (the thread has its own mask meanwhile, and goes on with what that is after the call) */

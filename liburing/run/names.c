@@ -74,7 +74,8 @@ static void look_at_name(int folder, const char *last, struct name *name)
         return;
     size_t length = strlen(name->path);
     name->folder = about.st_ino;
-    if (length + strlen(last) + 2 > PATH_ROOM || !wulgach_seen_is_entry_name((const uint8_t *)last, strlen(last)))
+    if (length + strlen(last) + 2 > PATH_ROOM ||
+        !wulgach_seen_is_entry_name((const uint8_t *)last, strlen(last)))
         return;
     name->is_on_disk = is_path_on_disk(name->path);
     snprintf(name->path + length, PATH_ROOM - length, "/%s", last);
@@ -104,16 +105,21 @@ static struct name *find_name(int at, uint64_t from, struct name *name)
 static long end_making(const struct file_call *call, long result, long at, const char *path)
 {
     struct stat about;
-    struct event end = {.kind = EVENT_END, .result = wulgach_seen_end_result((uint64_t)call->number, result)};
-    if (wulgach_seen_tells_file((uint64_t)call->number, result) && pass(SYS_newfstatat, at, (long)path, (long)&about, AT_SYMLINK_NOFOLLOW | AT_EMPTY_PATH, 0, 0) == 0)
+    struct event end = {
+        .kind = EVENT_END, .result = wulgach_seen_end_result((uint64_t)call->number, result)};
+    if (wulgach_seen_tells_file((uint64_t)call->number, result) &&
+        pass(SYS_newfstatat, at, (long)path, (long)&about, AT_SYMLINK_NOFOLLOW | AT_EMPTY_PATH, 0,
+            0) == 0)
         end.file = about.st_ino;
     log_event(&end, NULL, NULL, NULL, 0);
     return result;
 }
 
-static bool is_logged(const struct file_call *call, const struct name *one, const struct name *other)
+static bool is_logged(
+    const struct file_call *call, const struct name *one, const struct name *other)
 {
-    return wulgach_seen_logs_names((uint64_t)call->number, one->is_on_disk, other && other->is_on_disk);
+    return wulgach_seen_logs_names(
+        (uint64_t)call->number, one->is_on_disk, other && other->is_on_disk);
 }
 
 /* One name is made or removed. */
@@ -122,7 +128,8 @@ long call_on_name(const struct file_call *call)
     const bool has_text = call->kind == WULGACH_CALL_MAKE_LINK;
     struct name name;
     char text[PATH_ROOM];
-    if (!is_logged(call, find_name(call->is.fd, call->is.path, &name), NULL) || (has_text && !read_path((const char *)(uintptr_t)call->is.second_path, text)))
+    if (!is_logged(call, find_name(call->is.fd, call->is.path, &name), NULL) ||
+        (has_text && !read_path((const char *)(uintptr_t)call->is.second_path, text)))
         return carry(call);
     struct event event = {.kind = (uint16_t)call->kind, .file = name.folder};
     log_event(&event, name.path, has_text ? text : NULL, NULL, 0);
@@ -133,10 +140,16 @@ long call_rename(const struct file_call *call)
 {
     const struct wulgach_call_words *is = &call->is;
     struct name one, other;
-    if (!is_logged(call, find_name(is->fd, is->path, &one), find_name(is->second_fd, is->second_path, &other)))
+    if (!is_logged(call, find_name(is->fd, is->path, &one),
+            find_name(is->second_fd, is->second_path, &other)))
         return carry(call);
-    struct event event = {.kind = EVENT_RENAME, .flags = (uint16_t)is->flags, .file = one.folder, .second = other.folder, .length = one.file};
-    log_event(&event, one.is_on_disk ? one.path : NULL, other.is_on_disk ? other.path : NULL, NULL, 0);
+    struct event event = {.kind = EVENT_RENAME,
+        .flags = (uint16_t)is->flags,
+        .file = one.folder,
+        .second = other.folder,
+        .length = one.file};
+    log_event(
+        &event, one.is_on_disk ? one.path : NULL, other.is_on_disk ? other.path : NULL, NULL, 0);
     return end_operation(carry(call));
 }
 
@@ -146,7 +159,9 @@ long call_link(const struct file_call *call)
     const struct wulgach_call_words *is = &call->is;
     struct name name;
     struct stat about;
-    if (!is_logged(call, find_name(is->fd, is->path, &name), NULL) || pass(SYS_newfstatat, is->second_fd, (long)is->second_path, (long)&about, wulgach_seen_linked_flags(is->flags), 0, 0) < 0)
+    if (!is_logged(call, find_name(is->fd, is->path, &name), NULL) ||
+        pass(SYS_newfstatat, is->second_fd, (long)is->second_path, (long)&about,
+            wulgach_seen_linked_flags(is->flags), 0, 0) < 0)
         return carry(call);
     struct event event = {.kind = EVENT_LINK, .file = name.folder, .second = about.st_ino};
     log_event(&event, name.path, NULL, NULL, 0);
@@ -200,7 +215,8 @@ static struct name *follow(const struct opening *opening, struct name *name)
     char path[PATH_ROOM], room[PATH_ROOM];
     const char *folder;
     for (uint32_t i = 0; name->is_link && wulgach_seen_follows_link(opening->flags, i); i++) {
-        long length = pass(SYS_readlinkat, AT_FDCWD, (long)name->path, (long)path, PATH_ROOM - 1, 0, 0);
+        long length = pass(
+            SYS_readlinkat, AT_FDCWD, (long)name->path, (long)path, PATH_ROOM - 1, 0, 0);
         if (length <= 0)
             break;
         path[length] = '\0';
@@ -218,7 +234,9 @@ static long open_new(const struct file_call *call, const struct opening *opening
 {
     char path[PATH_ROOM];
     struct name name;
-    if (!read_path(opening->path, path) || !is_logged(call, follow(opening, find_path(opening->at, path, opening->resolve, &name)), NULL))
+    if (!read_path(opening->path, path) ||
+        !is_logged(
+            call, follow(opening, find_path(opening->at, path, opening->resolve, &name)), NULL))
         return carry(call);
     struct event event = {.kind = EVENT_CREATE, .file = name.folder};
     log_event(&event, name.path, NULL, NULL, 0);
@@ -232,19 +250,23 @@ static long open_nameless(const struct file_call *call)
     long result = carry(call);
     char path[PATH_ROOM];
     struct event event = {.kind = EVENT_CREATE}, end = {.kind = EVENT_END};
-    if (wulgach_seen_tells_file((uint64_t)call->number, result) && is_on_disk((int)result, path, &end.file)) {
+    if (wulgach_seen_tells_file((uint64_t)call->number, result) &&
+        is_on_disk((int)result, path, &end.file)) {
         log_event(&event, NULL, NULL, NULL, 0);
         log_event(&end, NULL, NULL, NULL, 0);
     }
     return result;
 }
 
-/* How a file is opened. False: the kernel refuses it, since its structure can't be read or isn't one. */
+/* How a file is opened. False: the kernel refuses it, since its structure can't be read or isn't
+ * one. */
 static bool read_opening(const struct file_call *call, struct opening *opening)
 {
     const struct wulgach_call_words *is = &call->is;
     struct open_how how = {.flags = is->flags};
-    if ((is->address || is->count) && (!wulgach_seen_says_how(is->count) || !read_memory((const void *)(uintptr_t)is->address, &how, sizeof how)))
+    if ((is->address || is->count) &&
+        (!wulgach_seen_says_how(is->count) ||
+            !read_memory((const void *)(uintptr_t)is->address, &how, sizeof how)))
         return false;
     *opening = (struct opening){is->fd, (const char *)(uintptr_t)is->path, how.flags, how.resolve};
     return true;

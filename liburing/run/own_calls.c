@@ -1,6 +1,9 @@
-/* Traps the calls of epoll_ctl that the program makes by an instruction of its own, or by the C library's `syscall`. A filter for that call alone would end a program
- * that is linked statically, inherits it, and has an event loop: so it names the places where such instructions stand, in all that is loaded as the first ring is
- * made. No other program has one at just that address, but by a chance in 2^28 where it has one in the same place of a page; since places are drawn anew for each.
+/* Traps the calls of epoll_ctl that the program makes by an instruction of its own, or by the C
+ * library's `syscall`. A filter for that call alone would end a program that is linked statically,
+ * inherits it, and has an event loop: so it names the places where such instructions stand, in all
+ * that is loaded as the first ring is made. No other program has one at just that address, but by a
+ * chance in 2^28 where it has one in the same place of a page; since places are drawn anew for
+ * each.
  */
 #define _GNU_SOURCE
 #include "../layer/process/passing.h"
@@ -22,7 +25,8 @@
 /* So many places stand together, before the line that traps: a jump goes over no more than 255. */
 enum { TOGETHER = 200 };
 
-/* The filter as it is written, and of the places since the last line that traps how many stand together, and in which 4 GB. */
+/* The filter as it is written, and of the places since the last line that traps how many stand
+ * together, and in which 4 GB. */
 static struct filter filter;
 static size_t standing;
 static uint32_t high;
@@ -35,7 +39,8 @@ static void put_jump_of(uint32_t value)
     put_line(&filter, (struct sock_filter)BPF_JUMP(BPF_JMP | BPF_JEQ | BPF_K, value, 0, 0));
 }
 
-/* Ends the places that stand together: each of them jumps to the line that traps, and else it is gone over. */
+/* Ends the places that stand together: each of them jumps to the line that traps, and else it is
+ * gone over. */
 static void close_places(void)
 {
     if (standing == 0)
@@ -60,7 +65,8 @@ static void open_places(uint32_t part)
     put_line(&filter, (struct sock_filter)BPF_STMT(BPF_LD | BPF_W | BPF_ABS, at));
 }
 
-/* A system call's instruction ends here, as the kernel says where one stands. At a fixed place another program may have its own. */
+/* A system call's instruction ends here, as the kernel says where one stands. At a fixed place
+ * another program may have its own. */
 static void add_place(uintptr_t end)
 {
     is_useless |= end <= UINT32_MAX;
@@ -75,7 +81,8 @@ static void add_place(uintptr_t end)
 /* What isn't looked for by its place: other calls, other changes, and calls of our own. */
 static const struct filter_row passing[] = {
     {ANY_CALL, SECCOMP_RET_ALLOW, {{IS_NOT, offsetof(struct seccomp_data, nr), SYS_epoll_ctl}}},
-    {ANY_CALL, SECCOMP_RET_ALLOW, {{IS_NOT, ARGUMENT(1), EPOLL_CTL_ADD}, {IS_NOT, ARGUMENT(1), EPOLL_CTL_MOD}}},
+    {ANY_CALL, SECCOMP_RET_ALLOW,
+        {{IS_NOT, ARGUMENT(1), EPOLL_CTL_ADD}, {IS_NOT, ARGUMENT(1), EPOLL_CTL_MOD}}},
     {ANY_CALL, SECCOMP_RET_ALLOW, {{IS, UPPER(5), PASSES}}},
 };
 
@@ -84,8 +91,10 @@ static void add_places(const uint8_t *at, const uint8_t *end)
 {
     const __m128i first = _mm_set1_epi8(0x0f), second = _mm_set1_epi8(0x05);
     for (; end - at > 16; at += 16) {
-        __m128i here = _mm_loadu_si128((const void *)at), after = _mm_loadu_si128((const void *)(at + 1));
-        unsigned found = (unsigned)_mm_movemask_epi8(_mm_and_si128(_mm_cmpeq_epi8(here, first), _mm_cmpeq_epi8(after, second)));
+        __m128i here = _mm_loadu_si128((const void *)at),
+                after = _mm_loadu_si128((const void *)(at + 1));
+        unsigned found = (unsigned)_mm_movemask_epi8(
+            _mm_and_si128(_mm_cmpeq_epi8(here, first), _mm_cmpeq_epi8(after, second)));
         for (; found; found &= found - 1)
             add_place((uintptr_t)at + (unsigned)__builtin_ctz(found) + 2);
     }
@@ -114,7 +123,8 @@ static int look_at_object(struct dl_phdr_info *object, size_t size, void *argume
 static bool does_kernel_draw(void)
 {
     char word = '0';
-    long file = pass(SYS_openat, AT_FDCWD, (long)"/proc/sys/kernel/randomize_va_space", O_RDONLY | O_CLOEXEC, 0, 0, 0);
+    long file = pass(SYS_openat, AT_FDCWD, (long)"/proc/sys/kernel/randomize_va_space",
+        O_RDONLY | O_CLOEXEC, 0, 0, 0);
     if (file < 0)
         return false;
     pass(SYS_read, file, (long)&word, 1, 0, 0, 0);

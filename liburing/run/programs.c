@@ -1,6 +1,7 @@
-/* A program that this one becomes or starts inherits the filter, and so needs this library too: a surrounding without
- * LD_PRELOAD is given it again, and one that preloads others has it in front of these. One that can't take it, since it is linked statically or has other rights than its user, is
- * told of: the kernel ends it with SIGSYS if it calls io_uring.
+/* A program that this one becomes or starts inherits the filter, and so needs this library too: a
+ * surrounding without LD_PRELOAD is given it again, and one that preloads others has it in front of
+ * these. One that can't take it, since it is linked statically or has other rights than its user,
+ * is told of: the kernel ends it with SIGSYS if it calls io_uring.
  */
 #define _GNU_SOURCE
 #include "run.h"
@@ -86,7 +87,8 @@ static bool names_own(const char *list)
     return false;
 }
 
-/* The LD_PRELOAD that is taken of a surrounding, the last one, if it doesn't name this library; or NULL. */
+/* The LD_PRELOAD that is taken of a surrounding, the last one, if it doesn't name this library; or
+ * NULL. */
 static char *const *preload_without_own(char *const *surrounding)
 {
     char *const *found = NULL;
@@ -111,8 +113,8 @@ static char *put_own(const char *other, char *room)
 }
 
 /* Room for a surrounding with ours, on the stack: a child of vfork has no memory of its own. */
-#define ROOM_FOR(surrounding)                                       \
-    char *room[count_of(surrounding) + MOST_VARIABLES + 1];         \
+#define ROOM_FOR(surrounding) \
+    char *room[count_of(surrounding) + MOST_VARIABLES + 1]; \
     char preload[room_with_own(surrounding)]
 
 /* The surrounding with what is missing of ours, for a program that is about to be started. */
@@ -136,40 +138,51 @@ static char *const *with_ours(char *const *surrounding, char **room, char *prelo
 static bool is_static(int file)
 {
     Elf64_Ehdr head;
-    if (pread(file, &head, sizeof head, 0) != sizeof head || memcmp(head.e_ident, ELFMAG, SELFMAG) != 0 || head.e_ident[EI_CLASS] != ELFCLASS64)
+    if (pread(file, &head, sizeof head, 0) != sizeof head ||
+        memcmp(head.e_ident, ELFMAG, SELFMAG) != 0 || head.e_ident[EI_CLASS] != ELFCLASS64)
         return false;
     for (unsigned i = 0; i < head.e_phnum; i++) {
         Elf64_Phdr part;
-        if (pread(file, &part, sizeof part, (off_t)(head.e_phoff + i * head.e_phentsize)) != sizeof part || part.p_type == PT_INTERP)
+        if (pread(file, &part, sizeof part, (off_t)(head.e_phoff + i * head.e_phentsize)) !=
+                sizeof part ||
+            part.p_type == PT_INTERP)
             return false;
     }
     return true;
 }
 
-/* Whether a file's capabilities, so many bytes, give some: those that this process has, since it gets no others; or are to be in effect, though there are none. */
+/* Whether a file's capabilities, so many bytes, give some: those that this process has, since it
+ * gets no others; or are to be in effect, though there are none. */
 static bool gives_capabilities(const struct vfs_ns_cap_data *given, size_t size)
 {
     struct __user_cap_header_struct head = {.version = _LINUX_CAPABILITY_VERSION_3};
     struct __user_cap_data_struct own[_LINUX_CAPABILITY_U32S_3] = {0};
     uint32_t gained = 0;
     syscall(SYS_capget, &head, own);
-    for (size_t i = 0; i < VFS_CAP_U32 && sizeof given->magic_etc + (i + 1) * sizeof *given->data <= size; i++)
-        gained |= own[i].permitted & (le32toh(given->data[i].permitted) | (le32toh(given->data[i].inheritable) & own[i].inheritable));
+    for (size_t i = 0;
+         i < VFS_CAP_U32 && sizeof given->magic_etc + (i + 1) * sizeof *given->data <= size; i++)
+        gained |= own[i].permitted &
+                  (le32toh(given->data[i].permitted) |
+                      (le32toh(given->data[i].inheritable) & own[i].inheritable));
     return gained || le32toh(given->magic_etc) & VFS_CAP_FLAGS_EFFECTIVE;
 }
 
-/* Whether the loader of a program passes over what is preloaded (AT_SECURE of getauxval(3)): whoever starts it acts for another user than its real one, or its file
- * gives it capabilities. That its mode is to change its user the kernel passes over, since this process takes no new privileges. */
+/* Whether the loader of a program passes over what is preloaded (AT_SECURE of getauxval(3)):
+ * whoever starts it acts for another user than its real one, or its file gives it capabilities.
+ * That its mode is to change its user the kernel passes over, since this process takes no new
+ * privileges. */
 static bool has_other_rights(int file)
 {
     struct vfs_ns_cap_data given;
     if (getuid() != geteuid() || getgid() != getegid())
         return true;
-    ssize_t size = getuid() == 0 ? -1 : fgetxattr(file, "security.capability", &given, sizeof given);
+    ssize_t size = getuid() == 0 ? -1
+                                 : fgetxattr(file, "security.capability", &given, sizeof given);
     return size >= (ssize_t)sizeof given.magic_etc && gives_capabilities(&given, (size_t)size);
 }
 
-/* The kernel reads so much of a script's first line, and looks for what runs it in so many that name each other. */
+/* The kernel reads so much of a script's first line, and looks for what runs it in so many that
+ * name each other. */
 enum { FIRST_LINE = 256, MOST_SCRIPTS = 5 };
 
 /* The path of what runs a script, which stands in its first line, or NULL: the file is none. */
@@ -194,12 +207,15 @@ static void look_at_file(int file, const char *name, unsigned depth)
     if (interpreter)
         look_below(AT_FDCWD, interpreter, depth + 1);
     else if (is_static(file))
-        say("it is linked statically and can't be reached: SIGSYS ends it if it calls io_uring, or writes to memory that it shares with a file", name);
+        say("it is linked statically and can't be reached: SIGSYS ends it if it calls io_uring, or writes to memory that it shares with a file",
+            name);
     else if (has_other_rights(file))
-        say("it has other rights than its user and can't be reached: SIGSYS ends it if it calls io_uring, or writes to memory that it shares with a file", name);
+        say("it has other rights than its user and can't be reached: SIGSYS ends it if it calls io_uring, or writes to memory that it shares with a file",
+            name);
 }
 
-/* (what opens something else waits, as for the other end of a named pipe, or does something, as of a device) */
+/* (what opens something else waits, as for the other end of a named pipe, or does something, as of
+ * a device) */
 static void look_below(int folder, const char *path, unsigned depth)
 {
     struct stat about;
@@ -218,8 +234,8 @@ static void look_at(const char *path)
     look_below(AT_FDCWD, path, 0);
 }
 
-/* The same of a name that is looked for in PATH, as the C library does: an empty part is the folder in which the process is, and without PATH it is
- * in one of two. */
+/* The same of a name that is looked for in PATH, as the C library does: an empty part is the folder
+ * in which the process is, and without PATH it is in one of two. */
 static void look_for(const char *name)
 {
     const char *path = getenv("PATH");
@@ -232,7 +248,8 @@ static void look_for(const char *name)
     for (bool is_last = false; !is_last; path++) {
         char found[PATH_MAX];
         int length = (int)strcspn(path, ":");
-        int size = snprintf(found, sizeof found, "%.*s%s%s", length, path, length > 0 ? "/" : "", name);
+        int size = snprintf(
+            found, sizeof found, "%.*s%s%s", length, path, length > 0 ? "/" : "", name);
         if (size < (int)sizeof found && access(found, X_OK) == 0) {
             look_at(found);
             return;
@@ -272,7 +289,8 @@ SEEN int execveat(int at, const char *path, char *const *words, char *const *sur
     if (flags & AT_EMPTY_PATH && faccessat(at, path, F_OK, 0) != 0)
         look_at_file(at, "a program", 0);
     ROOM_FOR(surrounding);
-    return (int)syscall(SYS_execveat, at, path, words, with_ours(surrounding, room, preload), flags);
+    return (int)syscall(
+        SYS_execveat, at, path, words, with_ours(surrounding, room, preload), flags);
 }
 
 SEEN int execvpe(const char *name, char *const *words, char *const *surrounding)
@@ -295,18 +313,18 @@ SEEN int execvp(const char *name, char *const *words)
 }
 
 /* The words of a call that lists them. */
-#define LISTED(first)                                                                                                  \
-    size_t count = 1;                                                                                                  \
-    va_list arguments;                                                                                                 \
-    va_start(arguments, first);                                                                                        \
-    while (va_arg(arguments, char *))                                                                                  \
-        count++;                                                                                                       \
-    va_end(arguments);                                                                                                 \
-    char *words[count + 1];                                                                                            \
-    words[0] = (char *)first;                                                                                          \
-    va_start(arguments, first);                                                                                        \
-    for (size_t i = 1; i <= count; i++)                                                                                \
-        words[i] = va_arg(arguments, char *)
+#define LISTED(first) \
+    size_t count = 1; \
+    va_list arguments; \
+    va_start(arguments, first); \
+    while (va_arg(arguments, char *)) \
+        count++; \
+    va_end(arguments); \
+    char *words[count + 1]; \
+    words[0] = (char *)first; \
+    va_start(arguments, first); \
+    for (size_t i = 1; i <= count; i++) \
+    words[i] = va_arg(arguments, char *)
 
 SEEN int execl(const char *path, const char *first, ...)
 {
@@ -330,18 +348,22 @@ SEEN int execle(const char *path, const char *first, ...)
     return execve(path, words, surrounding);
 }
 
-SEEN int posix_spawn(pid_t *process, const char *path, const posix_spawn_file_actions_t *actions, const posix_spawnattr_t *attributes, char *const *words, char *const *surrounding)
+SEEN int posix_spawn(pid_t *process, const char *path, const posix_spawn_file_actions_t *actions,
+    const posix_spawnattr_t *attributes, char *const *words, char *const *surrounding)
 {
-    int (*call)(pid_t *, const char *, const posix_spawn_file_actions_t *, const posix_spawnattr_t *, char *const *, char *const *);
+    int (*call)(pid_t *, const char *, const posix_spawn_file_actions_t *,
+        const posix_spawnattr_t *, char *const *, char *const *);
     *(void **)&call = next("posix_spawn");
     look_at(path);
     ROOM_FOR(surrounding);
     return call(process, path, actions, attributes, words, with_ours(surrounding, room, preload));
 }
 
-SEEN int posix_spawnp(pid_t *process, const char *name, const posix_spawn_file_actions_t *actions, const posix_spawnattr_t *attributes, char *const *words, char *const *surrounding)
+SEEN int posix_spawnp(pid_t *process, const char *name, const posix_spawn_file_actions_t *actions,
+    const posix_spawnattr_t *attributes, char *const *words, char *const *surrounding)
 {
-    int (*call)(pid_t *, const char *, const posix_spawn_file_actions_t *, const posix_spawnattr_t *, char *const *, char *const *);
+    int (*call)(pid_t *, const char *, const posix_spawn_file_actions_t *,
+        const posix_spawnattr_t *, char *const *, char *const *);
     *(void **)&call = next("posix_spawnp");
     look_for(name);
     ROOM_FOR(surrounding);

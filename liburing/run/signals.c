@@ -1,9 +1,12 @@
-/* SIGSYS stays the trap's: a program that asks to catch, ignore or block it, or all signals, is told that it is so, and
- * it isn't; so it is with masks (masks.c) and contexts (contexts.c). What a program says of SIGSYS is kept, so that it is told the same when it asks again, and
- * is done with a SIGSYS that isn't the trap's. One that asks the kernel itself, as the runtime of Go does, is told that it is done, and it isn't.
+/* SIGSYS stays the trap's: a program that asks to catch, ignore or block it, or all signals, is
+ * told that it is so, and it isn't; so it is with masks (masks.c) and contexts (contexts.c). What a
+ * program says of SIGSYS is kept, so that it is told the same when it asks again, and is done with
+ * a SIGSYS that isn't the trap's. One that asks the kernel itself, as the runtime of Go does, is
+ * told that it is done, and it isn't.
  *
- * A program that blocks it by a call of its own isn't reached, unless the run has a log: if a thread of its has blocked SIGSYS when it calls io_uring,
- * the kernel ends the program with that signal.
+ * A program that blocks it by a call of its own isn't reached, unless the run has a log: if a
+ * thread of its has blocked SIGSYS when it calls io_uring, the kernel ends the program with that
+ * signal.
  */
 #define _GNU_SOURCE
 #include "../layer/traces/logging.h"
@@ -51,7 +54,8 @@ static int kernels_sigmask(int how, const sigset_t *set, sigset_t *before)
     if (set)
         memcpy(&mask, set, sizeof mask);
     mask &= ~((uint64_t)3 << 31);
-    return (int)-pass(SYS_rt_sigprocmask, how, set ? (long)&mask : 0, (long)before, sizeof mask, 0, 0);
+    return (int)-pass(
+        SYS_rt_sigprocmask, how, set ? (long)&mask : 0, (long)before, sizeof mask, 0, 0);
 }
 
 int real_sigmask(int how, const sigset_t *set, sigset_t *before)
@@ -75,14 +79,19 @@ long set_action_without_trap(const long words[6])
     return pass(SYS_rt_sigaction, words[0], (long)&action, words[2], sizeof action.mask, 0, 0);
 }
 
-/* What a handler returns to. Unwinders know it by these bytes, if the byte before them is no function's. */
+/* What a handler returns to. Unwinders know it by these bytes, if the byte before them is no
+ * function's. */
 void return_from_handler(void);
-__asm__(".text\n.type return_from_handler, @function\n\tnop\nreturn_from_handler:\n\tmov $15, %rax\n\tsyscall\n.size return_from_handler, .-return_from_handler\n");
+__asm__(
+    ".text\n.type return_from_handler, @function\n\tnop\nreturn_from_handler:\n\tmov $15, %rax\n\tsyscall\n.size return_from_handler, .-return_from_handler\n");
 
 bool catch_for_good(void (*handler)(int, siginfo_t *, void *))
 {
-    struct raw_action action = {handler, SA_SIGINFO | SA_NODEFER | SA_RESTART | SA_ONSTACK | HAS_RESTORER, return_from_handler, ~OPEN_IN_TRAP};
-    return syscall(SYS_rt_sigaction, SIGSYS, &action, NULL, sizeof action.mask, 0, ASKS_KERNEL) == 0;
+    struct raw_action action = {handler,
+        SA_SIGINFO | SA_NODEFER | SA_RESTART | SA_ONSTACK | HAS_RESTORER, return_from_handler,
+        ~OPEN_IN_TRAP};
+    return syscall(SYS_rt_sigaction, SIGSYS, &action, NULL, sizeof action.mask, 0, ASKS_KERNEL) ==
+           0;
 }
 
 /* SIGSYS does what it does by itself. */
@@ -93,7 +102,8 @@ static void end_process(void)
     syscall(SYS_tgkill, getpid(), gettid(), SIGSYS);
 }
 
-/* What the program's handler finds blocked: what was where the signal came, and what the program said besides. */
+/* What the program's handler finds blocked: what was where the signal came, and what the program
+ * said besides. */
 static void block_for(const struct sigaction *action, const ucontext_t *at)
 {
     sigset_t mask, own, copy;
@@ -106,7 +116,8 @@ static void block_for(const struct sigaction *action, const ucontext_t *at)
 void give_signal(int number, siginfo_t *info, ucontext_t *at, bool is_of_filter)
 {
     const struct sigaction action = asked;
-    bool is_ignored = action.sa_handler == SIG_IGN, is_caught = !is_ignored && action.sa_handler != SIG_DFL;
+    bool is_ignored = action.sa_handler == SIG_IGN,
+         is_caught = !is_ignored && action.sa_handler != SIG_DFL;
     if (wulgach_seen_ends_process(is_of_filter, is_caught, is_ignored))
         end_process();
     if (!is_caught)
@@ -145,7 +156,8 @@ SEEN int sigaction(int number, const struct sigaction *action, struct sigaction 
     return real_sigaction(number, &copy, before);
 }
 
-SEEN int __sigaction(int number, const struct sigaction *action, struct sigaction *before) __attribute__((alias("sigaction"), nothrow, leaf));
+SEEN int __sigaction(int number, const struct sigaction *action, struct sigaction *before)
+    __attribute__((alias("sigaction"), nothrow, leaf));
 
 /* What a program says of SIGSYS by an older call. */
 static sighandler_t note_handler(sighandler_t handler)
@@ -160,13 +172,13 @@ static sighandler_t note_handler(sighandler_t handler)
 }
 
 /* Of another signal these do as the C library's do, and block no other. */
-#define CATCHES(name)                                                                   \
-    SEEN sighandler_t name(int number, sighandler_t handler)                            \
-    {                                                                                   \
-        static sighandler_t (*call)(int, sighandler_t);                                 \
-        if (!call)                                                                      \
-            *(void **)&call = next(#name);                                              \
-        return number == SIGSYS ? note_handler(handler) : call(number, handler);        \
+#define CATCHES(name) \
+    SEEN sighandler_t name(int number, sighandler_t handler) \
+    { \
+        static sighandler_t (*call)(int, sighandler_t); \
+        if (!call) \
+            *(void **)&call = next(#name); \
+        return number == SIGSYS ? note_handler(handler) : call(number, handler); \
     }
 
 CATCHES(signal)

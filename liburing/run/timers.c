@@ -1,8 +1,10 @@
-/* Timers that call a function in a thread of its own (SIGEV_THREAD). The C library may start that thread with all signals blocked, SIGSYS
- * among them, as 2.36 does: SIGSYS is opened before the program's function is called.
+/* Timers that call a function in a thread of its own (SIGEV_THREAD). The C library may start that
+ * thread with all signals blocked, SIGSYS among them, as 2.36 does: SIGSYS is opened before the
+ * program's function is called.
  *
- * Which function that is, and what it is given, is kept until the process ends, since a thread may come after the end of its timer; the
- * same two are kept once, unless two threads bring them at a time.
+ * Which function that is, and what it is given, is kept until the process ends, since a thread may
+ * come after the end of its timer; the same two are kept once, unless two threads bring them at a
+ * time.
  */
 #define _GNU_SOURCE
 #include "run.h"
@@ -26,7 +28,8 @@ static struct notice **list_of(union sigval value)
     return &lists[((uintptr_t)value.sival_ptr ^ (uintptr_t)value.sival_ptr >> 8) % LISTS];
 }
 
-static struct notice *find(struct notice *notice, void (*function)(union sigval), union sigval value)
+static struct notice *find(
+    struct notice *notice, void (*function)(union sigval), union sigval value)
 {
     while (notice && (notice->function != function || notice->value.sival_ptr != value.sival_ptr))
         notice = notice->next;
@@ -36,14 +39,16 @@ static struct notice *find(struct notice *notice, void (*function)(union sigval)
 /* NULL: out of memory. */
 static struct notice *keep(void (*function)(union sigval), union sigval value)
 {
-    struct notice **list = list_of(value), *first = __atomic_load_n(list, __ATOMIC_ACQUIRE), *notice = find(first, function, value);
+    struct notice **list = list_of(value), *first = __atomic_load_n(list, __ATOMIC_ACQUIRE),
+                  *notice = find(first, function, value);
     if (notice)
         return notice;
     notice = malloc(sizeof *notice);
     if (!notice)
         return NULL;
     *notice = (struct notice){first, function, value};
-    while (!__atomic_compare_exchange_n(list, &notice->next, notice, true, __ATOMIC_RELEASE, __ATOMIC_RELAXED))
+    while (!__atomic_compare_exchange_n(
+        list, &notice->next, notice, true, __ATOMIC_RELEASE, __ATOMIC_RELAXED))
         ;
     return notice;
 }

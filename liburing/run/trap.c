@@ -1,11 +1,13 @@
-/* Preloaded into a program by `uring-run`: the program's calls of io_uring, however it makes them, are trapped before
- * they reach the kernel, and the layer answers them. So is mmap where it shares memory with a file, which may be a ring: its
- * descriptor is one that polls, and has no memory that the kernel could map.
+/* Preloaded into a program by `uring-run`: the program's calls of io_uring, however it makes them,
+ * are trapped before they reach the kernel, and the layer answers them. So is mmap where it shares
+ * memory with a file, which may be a ring: its descriptor is one that polls, and has no memory that
+ * the kernel could map.
  *
- * A filter of seccomp turns these calls into the signal SIGSYS, which is raised in the thread that made the call, at
- * the call. Its handler hands the registers to the layer and puts the result where the call would have left it. So
- * SIGSYS must be neither blocked nor caught by the program: signals.c sees to that. Children inherit the filter, and
- * need this library too: programs.c sees to that.
+ * A filter of seccomp turns these calls into the signal SIGSYS, which is raised in the thread that
+ * made the call, at the call. Its handler hands the registers to the layer and puts the result
+ * where the call would have left it. So SIGSYS must be neither blocked nor caught by the program:
+ * signals.c sees to that. Children inherit the filter, and need this library too: programs.c sees
+ * to that.
  */
 #define _GNU_SOURCE
 #include "files.h"
@@ -39,24 +41,26 @@ long wulgach_polled_syscall(long call, ...);
 long wulgach_blocked_enter(const long words[6], const sigset_t *signals);
 void *wulgach_mmap(void *at, size_t size, int protection, int flags, int fd, off_t offset);
 
-/* The code of a SIGSYS that a filter raised: the kernel's header has it as SYS_SECCOMP, and can't stand beside the C
- * library's. */
+/* The code of a SIGSYS that a filter raised: the kernel's header has it as SYS_SECCOMP, and can't
+ * stand beside the C library's. */
 enum { BY_FILTER = 1 };
 
 void say(const char *message, const char *of)
 {
     char line[512];
     int length = snprintf(line, sizeof line, "uring-run: %s%s%s\n", of, *of ? ": " : "", message);
-    ssize_t written = write(STDERR_FILENO, line, length < (int)sizeof line ? (size_t)length : sizeof line - 1);
+    ssize_t written = write(
+        STDERR_FILENO, line, length < (int)sizeof line ? (size_t)length : sizeof line - 1);
     (void)written;
 }
 
-/* A ring whose submissions a thread of the kernel polls may be filled without any call, which nobody here would see: it is
- * told that the thread sleeps. */
+/* A ring whose submissions a thread of the kernel polls may be filled without any call, which
+ * nobody here would see: it is told that the thread sleeps. */
 static void tell_of_setup(const struct io_uring_params *params, long result)
 {
     if (result >= 0 && params && params->flags & IORING_SETUP_SQPOLL)
-        say("a ring with SQPOLL was asked for: its entries are taken in calls alone, and a program that only looks at memory waits for ever", "");
+        say("a ring with SQPOLL was asked for: its entries are taken in calls alone, and a program that only looks at memory waits for ever",
+            "");
 }
 
 static bool has_own_filter;
@@ -71,12 +75,15 @@ static long set_filter(long call, const greg_t *registers)
 {
     if (call == SYS_prctl || registers[REG_RDI] != SECCOMP_GET_ACTION_AVAIL) {
         __atomic_store_n(&has_own_filter, true, __ATOMIC_SEQ_CST);
-        say("the program sets a filter of its own for system calls: what that refuses the layer, of reads, writes and the like, fails or ends the program", "");
+        say("the program sets a filter of its own for system calls: what that refuses the layer, of reads, writes and the like, fails or ends the program",
+            "");
     }
-    return syscall(call, (long)registers[REG_RDI], (long)registers[REG_RSI], (long)registers[REG_RDX], (long)registers[REG_R10], (long)registers[REG_R8], ASKS_KERNEL);
+    return syscall(call, (long)registers[REG_RDI], (long)registers[REG_RSI],
+        (long)registers[REG_RDX], (long)registers[REG_R10], (long)registers[REG_R8], ASKS_KERNEL);
 }
 
-/* Memory of a file, or of a ring, which the kernel can't map: the layer says why not, where it is refused. */
+/* Memory of a file, or of a ring, which the kernel can't map: the layer says why not, where it is
+ * refused. */
 static long map_shared(const long words[6])
 {
     long memory;
@@ -84,13 +91,15 @@ static long map_shared(const long words[6])
         memory = pass_mmap(words[0], words[1], words[2], words[3], words[4], words[5]);
     if (memory >= 0 || memory < -4095)
         return memory;
-    void *ring = wulgach_mmap((void *)words[0], (size_t)words[1], (int)words[2], (int)words[3], (int)words[4], (off_t)words[5]);
+    void *ring = wulgach_mmap((void *)words[0], (size_t)words[1], (int)words[2], (int)words[3],
+        (int)words[4], (off_t)words[5]);
     return ring == MAP_FAILED ? -errno : (long)ring;
 }
 
 static long call_layer(long call, const long words[6])
 {
-    long result = wulgach_polled_syscall(call, words[0], words[1], words[2], words[3], words[4], words[5]);
+    long result = wulgach_polled_syscall(
+        call, words[0], words[1], words[2], words[3], words[4], words[5]);
     if (result == -1)
         result = -errno;
     if (call == SYS_io_uring_setup)
@@ -107,12 +116,13 @@ static sigset_t mask_of(const ucontext_t *at)
     return mask;
 }
 
-/* The result of a trapped call. Leaving the handler puts the thread's mask back: so one of enter, which wants all signals
- * blocked, takes no call for that; the others have the thread's mask. */
+/* The result of a trapped call. Leaving the handler puts the thread's mask back: so one of enter,
+ * which wants all signals blocked, takes no call for that; the others have the thread's mask. */
 static long serve(long call, ucontext_t *at)
 {
     const greg_t *registers = at->uc_mcontext.gregs;
-    const long words[6] = {registers[REG_RDI], registers[REG_RSI], registers[REG_RDX], registers[REG_R10], registers[REG_R8], registers[REG_R9]};
+    const long words[6] = {registers[REG_RDI], registers[REG_RSI], registers[REG_RDX],
+        registers[REG_R10], registers[REG_R8], registers[REG_R9]};
     const sigset_t mask = mask_of(at);
     long result;
     if (call == SYS_io_uring_enter) {
@@ -166,7 +176,8 @@ static bool is_our_own(long call, const greg_t *registers)
     return marked == ASKS_KERNEL || marked >> 32 == PASSES;
 }
 
-/* Whether a call was trapped by a filter of ours, which stops none that we make ourselves: else by the program's. */
+/* Whether a call was trapped by a filter of ours, which stops none that we make ourselves: else by
+ * the program's. */
 static bool is_of_trap(long call, const ucontext_t *at)
 {
     const greg_t *registers = at->uc_mcontext.gregs;
@@ -181,22 +192,28 @@ static bool is_of_trap(long call, const ucontext_t *at)
     case SYS_prctl:
         return registers[REG_RDI] == PR_SET_SECCOMP && !is_our_own(call, registers);
     case SYS_rt_sigprocmask:
-        return is_logging() && (int)registers[REG_RDI] != SIG_UNBLOCK && registers[REG_RSI] && !is_our_own(call, registers);
+        return is_logging() && (int)registers[REG_RDI] != SIG_UNBLOCK && registers[REG_RSI] &&
+               !is_our_own(call, registers);
     case SYS_rt_sigaction:
-        return is_logging() && (int)registers[REG_RDI] != SIGSYS && registers[REG_RSI] && !is_our_own(call, registers);
+        return is_logging() && (int)registers[REG_RDI] != SIGSYS && registers[REG_RSI] &&
+               !is_our_own(call, registers);
     default:
-        return wulgach_seen_logged_call((uint64_t)call) != WULGACH_CALL_NOTHING && !is_our_own(call, registers);
+        return wulgach_seen_logged_call((uint64_t)call) != WULGACH_CALL_NOTHING &&
+               !is_our_own(call, registers);
     }
 }
 
 /* On the stack that it was trapped on, or on one that has room. */
 static void serve_with_room(struct trapped *trapped)
 {
-    /* (one of the mask, of an action or of an epoll instance takes next to no room, and may be the last that its thread makes) */
-    bool is_small = trapped->call == SYS_rt_sigprocmask || trapped->call == SYS_rt_sigaction || trapped->call == SYS_epoll_ctl;
+    /* (one of the mask, of an action or of an epoll instance takes next to no room, and may be the
+     * last that its thread makes) */
+    bool is_small = trapped->call == SYS_rt_sigprocmask || trapped->call == SYS_rt_sigaction ||
+                    trapped->call == SYS_epoll_ctl;
     if (!is_small && wants_own_stack(trapped->at)) {
         if (!call_on_own_stack(trapped->at, serve_trapped, trapped))
-            trapped->at->uc_mcontext.gregs[REG_RAX] = wulgach_seen_missing_fault(WULGACH_NO_MEMORY_OWN);
+            trapped->at->uc_mcontext.gregs[REG_RAX] = wulgach_seen_missing_fault(
+                WULGACH_NO_MEMORY_OWN);
         return;
     }
     const void *before = wulgach_note_caller(NULL);
@@ -223,10 +240,15 @@ static bool catch_trap(void)
     return catch_for_good(answer);
 }
 
-/* The three calls are trapped, and those that set a filter; and what would take SIGSYS away succeeds and does nothing: it can't be trapped, since a child
- * that the C library spawns does it with all signals blocked. A call with the 6th argument that none of them uses is our own,
- * to the kernel: SIGSYS is caught so, a strict layer asks the kernel for set-ups and its probe, and the program's filter is set. */
-#define NOT_OURS {IS_NOT_WHOLE, ARGUMENT(5), ASKS_KERNEL}
+/* The three calls are trapped, and those that set a filter; and what would take SIGSYS away
+ * succeeds and does nothing: it can't be trapped, since a child that the C library spawns does it
+ * with all signals blocked. A call with the 6th argument that none of them uses is our own, to the
+ * kernel: SIGSYS is caught so, a strict layer asks the kernel for set-ups and its probe, and the
+ * program's filter is set. */
+#define NOT_OURS \
+    { \
+        IS_NOT_WHOLE, ARGUMENT(5), ASKS_KERNEL \
+    }
 
 static const struct filter_row of_rings[] = {
     {SYS_io_uring_enter, SECCOMP_RET_TRAP, {{NOTHING, 0, 0}}},
@@ -239,7 +261,9 @@ static const struct filter_row of_rings[] = {
 
 /* Memory that is shared with a file: a mapping by our own call has its mark at the descriptor. */
 static const struct filter_row of_maps[] = {
-    {SYS_mmap, SECCOMP_RET_TRAP, {{LACKS, ARGUMENT(3), MAP_ANONYMOUS}, {HAS, ARGUMENT(3), MAP_SHARED}, {IS_NOT, UPPER(4), PASSES}}},
+    {SYS_mmap, SECCOMP_RET_TRAP,
+        {{LACKS, ARGUMENT(3), MAP_ANONYMOUS}, {HAS, ARGUMENT(3), MAP_SHARED},
+            {IS_NOT, UPPER(4), PASSES}}},
 };
 
 static bool add_rows(const struct filter_row *rows, size_t count)
@@ -252,7 +276,8 @@ static bool add_rows(const struct filter_row *rows, size_t count)
 
 static bool set_trap(void)
 {
-    return prctl(PR_SET_NO_NEW_PRIVS, 1, 0, 0, 0) == 0 && add_rows(of_rings, COUNT(of_rings)) && add_rows(of_maps, COUNT(of_maps));
+    return prctl(PR_SET_NO_NEW_PRIVS, 1, 0, 0, 0) == 0 && add_rows(of_rings, COUNT(of_rings)) &&
+           add_rows(of_maps, COUNT(of_maps));
 }
 
 void unblock_trap(void)
@@ -263,8 +288,8 @@ void unblock_trap(void)
     real_sigmask(SIG_UNBLOCK, &trap, NULL);
 }
 
-/* The filter of a parent still stands, and one suffices. It is recognized by a call that it traps: without it the kernel
- * answers, with -9 or, where io_uring is switched off, otherwise. */
+/* The filter of a parent still stands, and one suffices. It is recognized by a call that it traps:
+ * without it the kernel answers, with -9 or, where io_uring is switched off, otherwise. */
 static volatile sig_atomic_t was_trapped;
 
 static void note_trap(int number, siginfo_t *info, void *context)
@@ -306,5 +331,5 @@ static void __attribute__((constructor)) begin(void)
 {
     if (!begin_turns || !begin_turns())
         begin_without_turns();
-    errno = 0;      /* as a program finds it that begins */
+    errno = 0; /* as a program finds it that begins */
 }

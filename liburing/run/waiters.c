@@ -1,6 +1,8 @@
-/* The calls by which somebody may begin to wait for edges of a ring's descriptor (layer/rings/waiters.c): of the program by the C library, and by an instruction of its
- * own, which is trapped (own_calls.c). A descriptor may go to another process too: in a message, or to a program that is started. Code that is loaded once there is a
- * ring may have instructions that aren't trapped.
+/* The calls by which somebody may begin to wait for edges of a ring's descriptor
+ * (layer/rings/waiters.c): of the program by the C library, and by an instruction of its own, which
+ * is trapped (own_calls.c). A descriptor may go to another process too: in a message, or to a
+ * program that is started. Code that is loaded once there is a ring may have instructions that
+ * aren't trapped.
  */
 #define _GNU_SOURCE
 #include "files.h"
@@ -61,7 +63,8 @@ static bool is_begun;
 static void begin_to_hear(void)
 {
     pid_t none = 0, own = getpid();
-    if (__atomic_compare_exchange_n(&hearer, &none, own, false, __ATOMIC_SEQ_CST, __ATOMIC_SEQ_CST)) {
+    if (__atomic_compare_exchange_n(
+            &hearer, &none, own, false, __ATOMIC_SEQ_CST, __ATOMIC_SEQ_CST)) {
         if (is_told && trap_own_calls())
             wulgach_hear_waiters();
         __atomic_store_n(&is_begun, true, __ATOMIC_SEQ_CST);
@@ -72,7 +75,8 @@ static void begin_to_hear(void)
         sched_yield();
 }
 
-/* (signals are blocked: a handler that came amid this, and made a ring, would wait for its own thread; and the thread isn't cancelled, for which others would wait) */
+/* (signals are blocked: a handler that came amid this, and made a ring, would wait for its own
+ * thread; and the thread isn't cancelled, for which others would wait) */
 void hear_waiters(void)
 {
     int before;
@@ -84,7 +88,8 @@ void hear_waiters(void)
 }
 
 /* Calls of the layer, and of this library, go here: those of the program below. */
-__attribute__((visibility("hidden"))) int __wrap_epoll_ctl(int instance, int change, int fd, struct epoll_event *event)
+__attribute__((visibility("hidden"))) int __wrap_epoll_ctl(
+    int instance, int change, int fd, struct epoll_event *event)
 {
     long result = pass(SYS_epoll_ctl, instance, change, fd, (long)event, 0, 0);
     if (result >= 0)

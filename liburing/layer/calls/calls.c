@@ -1,9 +1,12 @@
-/* What a program calls in the place of the C library's syscall(), mmap() and close(): the layer answers the three calls of
- * io_uring, and hands on all others. liburing's sources call wulgach_polled_syscall, wulgach_mmap and wulgach_close. A program
- * that maps its rings by mmap itself calls wulgach_syscall: its descriptors are memory, and don't poll. Where a call was trapped,
- * all signals are blocked already: wulgach_blocked_enter is told which the thread has blocked else; or none is, where wulgach_leaves_signals_open says that
- * none need be, and it is told so. Whoever hears of a program's closes asks wulgach_may_name_ring before one, and calls wulgach_look_for_closed after it. One
- * that hears all calls wulgach_hear_closes, if the user says so.
+/* What a program calls in the place of the C library's syscall(), mmap() and close(): the layer
+ * answers the three calls of io_uring, and hands on all others. liburing's sources call
+ * wulgach_polled_syscall, wulgach_mmap and wulgach_close. A program that maps its rings by mmap
+ * itself calls wulgach_syscall: its descriptors are memory, and don't poll. Where a call was
+ * trapped, all signals are blocked already: wulgach_blocked_enter is told which the thread has
+ * blocked else; or none is, where wulgach_leaves_signals_open says that none need be, and it is
+ * told so. Whoever hears of a program's closes asks wulgach_may_name_ring before one, and calls
+ * wulgach_look_for_closed after it. One that hears all calls wulgach_hear_closes, if the user says
+ * so.
  */
 #define _GNU_SOURCE
 #include "calls/enter.h"
@@ -33,8 +36,9 @@ SEEN void wulgach_look_for_closed(void);
 SEEN void wulgach_hear_closes(void);
 SEEN bool wulgach_leaves_signals_open(const long words[6]);
 
-/* A thread isn't cancelled in the middle of a call, as it isn't in the kernel's: the layer's own calls of the C library would end there,
- * with its locks held. Sleeps that were left by a jump are left first. (it is inlined: where it stands on the stack is where the call does) */
+/* A thread isn't cancelled in the middle of a call, as it isn't in the kernel's: the layer's own
+ * calls of the C library would end there, with its locks held. Sleeps that were left by a jump are
+ * left first. (it is inlined: where it stands on the stack is where the call does) */
 __attribute__((always_inline)) static inline int forbid_cancellation(void)
 {
     int before;
@@ -73,7 +77,8 @@ static long call_enter(va_list arguments)
     uint32_t min_complete = va_arg(arguments, uint32_t);
     uint32_t flags = va_arg(arguments, uint32_t);
     const void *argument = va_arg(arguments, const void *);
-    return enter(fd, to_submit, min_complete, flags, argument, va_arg(arguments, size_t), NULL, leaves_signals_open(min_complete, flags));
+    return enter(fd, to_submit, min_complete, flags, argument, va_arg(arguments, size_t), NULL,
+        leaves_signals_open(min_complete, flags));
 }
 
 static long call_register(va_list arguments)
@@ -134,7 +139,8 @@ long wulgach_polled_syscall(long call, ...)
     return result;
 }
 
-/* Calls of this thread are made from here on, and run on another stack; or, if NULL, where they are made. Returns what stood so before. */
+/* Calls of this thread are made from here on, and run on another stack; or, if NULL, where they are
+ * made. Returns what stood so before. */
 const void *wulgach_note_caller(const void *now)
 {
     const void *before = caller;
@@ -146,7 +152,8 @@ long wulgach_blocked_enter(const long words[6], const sigset_t *signals)
 {
     note_caller(__builtin_return_address(0));
     int before = forbid_cancellation();
-    long result = enter((int)words[0], (uint32_t)words[1], (uint32_t)words[2], (uint32_t)words[3], (const void *)words[4], (size_t)words[5], signals, !signals);
+    long result = enter((int)words[0], (uint32_t)words[1], (uint32_t)words[2], (uint32_t)words[3],
+        (const void *)words[4], (size_t)words[5], signals, !signals);
     allow_cancellation(before);
     return result;
 }
@@ -177,7 +184,8 @@ bool wulgach_may_name_ring(int fd)
     return may_be_ring(fd);
 }
 
-/* (a child of vfork has its parent's memory, and descriptors of its own: its closes leave the parent's rings. A process that isn't known has made none) */
+/* (a child of vfork has its parent's memory, and descriptors of its own: its closes leave the
+ * parent's rings. A process that isn't known has made none) */
 void wulgach_look_for_closed(void)
 {
     note_close();

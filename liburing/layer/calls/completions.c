@@ -1,7 +1,7 @@
-/* The completion side of the mirror. The layer is the application's hand on the core's ring: it reaps there what the
- * application has reaped in ring memory, and shows in ring memory exactly what the core's tail shows. Which
- * completions there are, in which order, and which overflow, is the core's decision; that the real
- * result stands in the place of the token's is the library's too.
+/* The completion side of the mirror. The layer is the application's hand on the core's ring: it
+ * reaps there what the application has reaped in ring memory, and shows in ring memory exactly what
+ * the core's tail shows. Which completions there are, in which order, and which overflow, is the
+ * core's decision; that the real result stands in the place of the token's is the library's too.
  */
 #include "calls/completions.h"
 #include "calls/duties.h"
@@ -17,7 +17,8 @@
 bool reserve_completions(struct completions *completions, size_t more)
 {
     if (completions->first > 0 && completions->first >= completions->at.posted) {
-        memcpy(completions->queue, completions->queue + completions->first, completions->at.posted * sizeof *completions->queue);
+        memcpy(completions->queue, completions->queue + completions->first,
+            completions->at.posted * sizeof *completions->queue);
         completions->first = 0;
     }
     size_t need = completions->first + completions->at.posted + more;
@@ -50,13 +51,15 @@ bool note_end(struct ring *ring, const struct request *request, int32_t told)
         .call = request->call,
         .ended = ring->call_number,
     };
-    int32_t posted = wulgach_shown_end(&completions->at, posted_at(completions, 0), completions->room - completions->first, &request->course, &end, &core, has_core);
+    int32_t posted = wulgach_shown_end(&completions->at, posted_at(completions, 0),
+        completions->room - completions->first, &request->course, &end, &core, has_core);
     demand(posted >= 0, "the core posted something else");
     return posted > 0;
 }
 
 /* Stores a completion into the cell of its position. */
-static void store_completion(struct memory *memory, const struct wulgach_posted *posted, uint32_t position)
+static void store_completion(
+    struct memory *memory, const struct wulgach_posted *posted, uint32_t position)
 {
     struct io_uring_cqe *cell = completion_at(memory, position);
     cell->user_data = posted->user_data;
@@ -66,7 +69,8 @@ static void store_completion(struct memory *memory, const struct wulgach_posted 
         cell[1] = (struct io_uring_cqe){0};
 }
 
-/* Stores what the core's tail shows, in the library's order. Returns of how much of it an eventfd is to be told. */
+/* Stores what the core's tail shows, in the library's order. Returns of how much of it an eventfd
+ * is to be told. */
 static uint64_t store_shown(struct ring *ring)
 {
     struct completions *completions = &ring->completions;
@@ -80,7 +84,7 @@ static uint64_t store_shown(struct ring *ring)
             break;
         const struct wulgach_posted *posted = posted_at(completions, store.place);
         store_completion(&ring->memory, posted, store.position);
-        if (ring->telling.is_registered)    /* (else nobody is told) */
+        if (ring->telling.is_registered) /* (else nobody is told) */
             told += wulgach_tells(posted, ring->telling.is_async);
     }
     store_word(&ring->memory.cq->tail, store.position);
@@ -89,8 +93,11 @@ static uint64_t store_shown(struct ring *ring)
 
 void show_flags(struct ring *ring)
 {
-    /* A call may bring something: so a peek that finds nothing calls, requests go on, and a descriptor that polls is readable no more. */
-    store_word(&ring->memory.sq->flags, wulgach_shown_flags(&ring->completions.at, ring->requests.count, ring->is_readable, ring->has_thread));
+    /* A call may bring something: so a peek that finds nothing calls, requests go on, and a
+     * descriptor that polls is readable no more. */
+    store_word(
+        &ring->memory.sq->flags, wulgach_shown_flags(&ring->completions.at, ring->requests.count,
+                                     ring->is_readable, ring->has_thread));
 }
 
 void show(struct ring *ring)
@@ -98,7 +105,8 @@ void show(struct ring *ring)
     struct wulgach_shown *at = &ring->completions.at;
     ring->completions.is_behind = false;
     ring->completions.told = wulgach_shown_overflows(at) ? store_shown(ring) : 0;
-    if (wulgach_shown_overflows(at) && !(load_word(&ring->memory.sq->flags) & IORING_SQ_CQ_OVERFLOW))
+    if (wulgach_shown_overflows(at) &&
+        !(load_word(&ring->memory.sq->flags) & IORING_SQ_CQ_OVERFLOW))
         note_rule(COMPLETION_OVERFLOWS);
     do_duties_after_storing(ring, ring->completions.told);
 }
@@ -122,12 +130,16 @@ static void reap(struct ring *ring, uint32_t count)
 /* What has overflowed moves into the ring, if the library says so. */
 static void move_overflow(struct ring *ring, uint32_t count, bool is_flushing)
 {
-    if (wulgach_shown_loads_head(&ring->completions.at, count, is_flushing, ring->memory.cq_entries) && wulgach_shows_again(flush(ring)))
+    if (wulgach_shown_loads_head(
+            &ring->completions.at, count, is_flushing, ring->memory.cq_entries) &&
+        wulgach_shows_again(flush(ring)))
         show(ring);
 }
 
-/* What was heard matters: so many were reaped, or what has overflowed is asked for. What is in a set is done by rising bits. */
-__attribute__((noinline)) static void take_heard(struct ring *ring, uint32_t steps, uint32_t count, bool is_flushing)
+/* What was heard matters: so many were reaped, or what has overflowed is asked for. What is in a
+ * set is done by rising bits. */
+__attribute__((noinline)) static void take_heard(
+    struct ring *ring, uint32_t steps, uint32_t count, bool is_flushing)
 {
     for (; steps; steps &= steps - 1)
         switch (__builtin_ctz(steps)) {

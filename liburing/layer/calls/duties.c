@@ -71,8 +71,8 @@ static struct wulgach_resting resting(const struct ring *ring)
         .looked_at = MOST_LOOKED_AT,
         .has_due = wulgach_due_is_any(&ring->due),
         .runs = ring->running.count > 0,
-        .has_new = ring->requests.count > 0 && ring->held_before < ring->accepted,
-        .has_watches = ring->pipes.count > 0,
+        .has_new = ring->requests.count > 0 &&
+                   ring->held_before<ring->accepted, .has_watches = ring->pipes.count> 0,
         .has_ends = ring->completions.is_behind,
         .is_polled = ring->ready_fd >= 0,
     };
@@ -94,7 +94,7 @@ bool do_duties_before_sleep(struct ring *ring, bool has_fault)
 
 bool do_duties_when_stuck(struct ring *ring)
 {
-    if (!ring->telling.is_registered)   /* (nor is it then) */
+    if (!ring->telling.is_registered) /* (nor is it then) */
         return false;
     struct wulgach_resting at = resting(ring);
     uint32_t duties = wulgach_duties_when_stuck(&at, ring->telling.is_registered, ring->has_shown);
@@ -119,7 +119,8 @@ void do_duties_at_rest(struct ring *ring)
 void do_duties_at_return(struct ring *ring)
 {
     struct wulgach_resting at = resting(ring);
-    do_all(ring, wulgach_duties_at_return(at.waiting, at.looked_at, at.has_due, at.runs, at.has_new, at.has_watches, at.has_ends, at.is_polled));
+    do_all(ring, wulgach_duties_at_return(at.waiting, at.looked_at, at.has_due, at.runs, at.has_new,
+                     at.has_watches, at.has_ends, at.is_polled));
 }
 
 void do_duties_at_register_begin(struct ring *ring, uint32_t code)

@@ -4,8 +4,8 @@
 
 #include "rings/ring.h"
 
-/* As a call begins, or has slept; before it sleeps, unless it is to fail, where it is told whether a poll was told of a write; as it falls asleep;
- * and as it returns. */
+/* As a call begins, or has slept; before it sleeps, unless it is to fail, where it is told whether
+ * a poll was told of a write; as it falls asleep; and as it returns. */
 void do_duties_at_begin(struct ring *ring, bool has_slept);
 bool do_duties_before_sleep(struct ring *ring, bool has_fault);
 void do_duties_at_rest(struct ring *ring);
@@ -21,7 +21,8 @@ bool do_duties_when_stuck(struct ring *ring);
 void do_duties_at_register_begin(struct ring *ring, uint32_t code);
 void do_duties_at_register_return(struct ring *ring, uint32_t code);
 
-/* Before a completion is posted that no operation has just ended with, and after those that were posted outside a call. */
+/* Before a completion is posted that no operation has just ended with, and after those that were
+ * posted outside a call. */
 void do_duties_before_posting(struct ring *ring);
 void do_duties_after_posting(struct ring *ring);
 

@@ -1,5 +1,5 @@
-/* One call of io_uring_enter(2): what the application has reaped is heard, what it has published is submitted, and
- * requests go on, as far as the policy and what the application waits for say.
+/* One call of io_uring_enter(2): what the application has reaped is heard, what it has published is
+ * submitted, and requests go on, as far as the policy and what the application waits for say.
  */
 #define _GNU_SOURCE
 #include "calls/enter.h"
@@ -32,29 +32,35 @@
 /* What the application asks for. */
 struct waiting {
     uint32_t to_submit, min_complete;
-    struct wulgach_limit limit;     /* how long it waits at most, in nanoseconds; after the submission, until when in the ring's time */
-    struct wulgach_limit least;     /* the same of the time after which one completion is enough; none once it is over */
+    struct wulgach_limit limit; /* how long it waits at most, in nanoseconds; after the submission,
+                                   until when in the ring's time */
+    struct wulgach_limit
+        least; /* the same of the time after which one completion is enough; none once it is over */
     bool is_trapped;
-    struct sleep_masks masks;       /* the thread's; it sleeps with its own, */
-    uint64_t mask;                  /* unless the call gives one, at this address */
+    struct sleep_masks masks; /* the thread's; it sleeps with its own, */
+    uint64_t mask; /* unless the call gives one, at this address */
     size_t mask_size;
-    sigset_t *given;                /* room for that */
-    uint32_t sleeps;                /* how often the call has begun to sleep */
+    sigset_t *given; /* room for that */
+    uint32_t sleeps; /* how often the call has begun to sleep */
     uint32_t flags;
-    bool is_extended;               /* the last argument is a structure */
-    int fault;                      /* of the last argument, read after the submission; 0: none */
-    bool waits;                     /* it waits for completions, if there aren't enough */
+    bool is_extended; /* the last argument is a structure */
+    int fault; /* of the last argument, read after the submission; 0: none */
+    bool waits; /* it waits for completions, if there aren't enough */
 };
 
-/* Reads the structure that a call gives as its last argument, which has this size. Returns its fault, or 0. */
+/* Reads the structure that a call gives as its last argument, which has this size. Returns its
+ * fault, or 0. */
 static int read_extended(struct waiting *waiting)
 {
     struct wulgach_extended_form extended = {0};
     struct wulgach_given given;
     struct __kernel_timespec time;
-    struct wulgach_argument argument = {.size = waiting->mask_size, .is_extended = waiting->is_extended};
-    _Static_assert(sizeof extended == sizeof(struct io_uring_getevents_arg), "the library's structure");
-    argument.is_readable = argument.size == sizeof extended && copy_in(&extended, waiting->mask, sizeof extended) == 0;
+    struct wulgach_argument argument = {
+        .size = waiting->mask_size, .is_extended = waiting->is_extended};
+    _Static_assert(
+        sizeof extended == sizeof(struct io_uring_getevents_arg), "the library's structure");
+    argument.is_readable = argument.size == sizeof extended &&
+                           copy_in(&extended, waiting->mask, sizeof extended) == 0;
     wulgach_argument_gives(&extended, &given);
     argument.has_time = given.has_time;
     argument.is_time_readable = given.has_time && copy_in(&time, given.time_at, sizeof time) == 0;
@@ -64,24 +70,28 @@ static int read_extended(struct waiting *waiting)
     waiting->mask = given.mask_at;
     waiting->mask_size = given.mask_size;
     if (given.has_time)
-        waiting->limit = (struct wulgach_limit){.at = wulgach_time_of(time.tv_sec, time.tv_nsec), .is_set = true};
+        waiting->limit = (struct wulgach_limit){
+            .at = wulgach_time_of(time.tv_sec, time.tv_nsec), .is_set = true};
     waiting->least = (struct wulgach_limit){.at = given.least, .is_set = given.has_least};
     return 0;
 }
 
-/* Reads the mask with which the call sleeps: the first 64 bits of the C library's. Returns its fault, or 0. */
+/* Reads the mask with which the call sleeps: the first 64 bits of the C library's. Returns its
+ * fault, or 0. */
 static int read_mask(struct waiting *waiting)
 {
     sigemptyset(waiting->given);
     waiting->masks.asleep = waiting->given;
     uint64_t mask = 0;
-    bool is_readable = waiting->mask_size == sizeof mask && copy_in(&mask, waiting->mask, sizeof mask) == 0;
+    bool is_readable = waiting->mask_size == sizeof mask &&
+                       copy_in(&mask, waiting->mask, sizeof mask) == 0;
     mask = wulgach_slept_with(mask, waiting->is_trapped);
     memcpy(waiting->given, &mask, sizeof mask);
     return wulgach_mask_fault(waiting->mask_size, is_readable);
 }
 
-/* Reads the mask where the library says so. Returns the fault with which the call doesn't sleep, or 0. */
+/* Reads the mask where the library says so. Returns the fault with which the call doesn't sleep, or
+ * 0. */
 static int sleep_fault(struct waiting *waiting)
 {
     bool is_read = wulgach_asks_mask(waiting->mask, waiting->fault, waiting->sleeps++);
@@ -90,14 +100,18 @@ static int sleep_fault(struct waiting *waiting)
 
 static void say_stuck(struct ring *ring, uint32_t min_complete)
 {
-    fprintf(stderr, "wulgach: ring %u waits for %u completions, %u are there, and nothing can go on\n", (unsigned)ring->index, (unsigned)min_complete, (unsigned)count_ready(ring));
+    fprintf(stderr,
+        "wulgach: ring %u waits for %u completions, %u are there, and nothing can go on\n",
+        (unsigned)ring->index, (unsigned)min_complete, (unsigned)count_ready(ring));
 }
 
-/* The application stored a completion head past the tail: its calls end so until it stores another. */
+/* The application stored a completion head past the tail: its calls end so until it stores another.
+ */
 static void complain_of_head(struct ring *ring)
 {
     if (!ring->has_complained)
-        fprintf(stderr, "wulgach: ring %u has a completion head past its tail\n", (unsigned)ring->index);
+        fprintf(stderr, "wulgach: ring %u has a completion head past its tail\n",
+            (unsigned)ring->index);
     ring->has_complained = true;
 }
 
@@ -126,12 +140,16 @@ static void note_limit(struct ring *ring, const struct waiting *waiting)
         wulgach_sleeps_to(&waiting->least, &waiting->limit, &ring->waits_until);
 }
 
-/* Submits, and says what came of it. After that the last argument is read, and the caller's time counts from then on. A fault of the argument counts only
- * where nothing was submitted; else it ends the call where that would sleep. */
-static enum wulgach_reply_kind submit_entries(struct ring *ring, struct waiting *waiting, struct wulgach_reply *reply)
+/* Submits, and says what came of it. After that the last argument is read, and the caller's time
+ * counts from then on. A fault of the argument counts only where nothing was submitted; else it
+ * ends the call where that would sleep. */
+static enum wulgach_reply_kind submit_entries(
+    struct ring *ring, struct waiting *waiting, struct wulgach_reply *reply)
 {
-    int64_t submitted = ring->has_thread ? submit_published(ring, waiting->to_submit) : submit(ring, waiting->to_submit);
-    if (waiting->is_extended && wulgach_reads_argument(waiting->flags & IORING_ENTER_GETEVENTS, waiting->to_submit, submitted)) {
+    int64_t submitted = ring->has_thread ? submit_published(ring, waiting->to_submit)
+                                         : submit(ring, waiting->to_submit);
+    if (waiting->is_extended && wulgach_reads_argument(waiting->flags & IORING_ENTER_GETEVENTS,
+                                    waiting->to_submit, submitted)) {
         waiting->fault = read_extended(waiting);
         submitted = wulgach_submission_with_fault(submitted, waiting->fault);
     }
@@ -139,19 +157,23 @@ static enum wulgach_reply_kind submit_entries(struct ring *ring, struct waiting 
         wulgach_times_deadline(&ring->times, &waiting->limit);
     if (waiting->least.is_set)
         wulgach_times_deadline(&ring->times, &waiting->least);
-    waiting->waits = waiting->flags & IORING_ENTER_GETEVENTS && waiting->min_complete > 0 && submitted == waiting->to_submit;
+    waiting->waits = waiting->flags & IORING_ENTER_GETEVENTS && waiting->min_complete > 0 &&
+                     submitted == waiting->to_submit;
     note_limit(ring, waiting);
     reply->number = (uint32_t)(submitted < 0 ? -submitted : submitted);
     reply->kind = submitted < 0 ? WULGACH_NOT_TAKEN : WULGACH_WAS_TAKEN;
     do_duties_at_reply(ring, reply);
-    if (is_recording_ways() && wulgach_looks_in_vain(waiting->flags & IORING_ENTER_GETEVENTS, waiting->min_complete, count_ready(ring)))
+    if (is_recording_ways() && wulgach_looks_in_vain(waiting->flags & IORING_ENTER_GETEVENTS,
+                                   waiting->min_complete, count_ready(ring)))
         record_break();
     return reply->kind;
 }
 
 static enum wulgach_reply_kind hear_application(struct ring *ring, bool asks)
 {
-    return hear(ring, asks ? WULGACH_HEARS_FOR_CALL_THAT_ASKS : WULGACH_HEARS_FOR_CALL) ? WULGACH_HEARD : WULGACH_WRONG_HEAD;
+    return hear(ring, asks ? WULGACH_HEARS_FOR_CALL_THAT_ASKS : WULGACH_HEARS_FOR_CALL)
+               ? WULGACH_HEARD
+               : WULGACH_WRONG_HEAD;
 }
 
 static enum wulgach_reply_kind go_on_once(struct ring *ring, bool may_end)
@@ -197,7 +219,8 @@ static enum wulgach_reply_kind wait_for_time(struct ring *ring, struct waiting *
 {
     struct wulgach_limit until;
     wulgach_sleeps_to(&waiting->least, &waiting->limit, &until);
-    enum wulgach_reply_kind kind = wait_for_any(ring, &until, waiting->least.is_set, &waiting->masks, error);
+    enum wulgach_reply_kind kind = wait_for_any(
+        ring, &until, waiting->least.is_set, &waiting->masks, error);
     if (kind == WULGACH_LEAST_OVER)
         waiting->least.is_set = false;
     /* (another call may have been made on the ring meanwhile) */
@@ -205,7 +228,8 @@ static enum wulgach_reply_kind wait_for_time(struct ring *ring, struct waiting *
     return kind;
 }
 
-static enum wulgach_reply_kind sleep_on(struct ring *ring, struct waiting *waiting, struct wulgach_reply *reply)
+static enum wulgach_reply_kind sleep_on(
+    struct ring *ring, struct waiting *waiting, struct wulgach_reply *reply)
 {
     int error, fault = 0;
     bool has_brought = false;
@@ -229,7 +253,8 @@ static enum wulgach_reply_kind sleep_on(struct ring *ring, struct waiting *waiti
 }
 
 /* Does what a call wants, and says what became of it. */
-static enum wulgach_reply_kind do_wanted(struct ring *ring, struct waiting *waiting, const struct wulgach_command *command, struct wulgach_reply *reply)
+static enum wulgach_reply_kind do_wanted(struct ring *ring, struct waiting *waiting,
+    const struct wulgach_command *command, struct wulgach_reply *reply)
 {
     switch (command->kind) {
     case WULGACH_HEAR:
@@ -258,7 +283,8 @@ static void see(struct ring *ring, struct wulgach_reply *reply)
     reply->is_due = has_expired(ring);
 }
 
-/* Carries a call out: what it does next, when it sleeps and what it returns is the library's decision. */
+/* Carries a call out: what it does next, when it sleeps and what it returns is the library's
+ * decision. */
 static int64_t carry_call_out(struct ring *ring, struct waiting *waiting, uint32_t flags)
 {
     struct wulgach_asked asked = {
@@ -308,7 +334,8 @@ static int64_t enter_ring(struct ring *ring, struct waiting *waiting, uint32_t s
     return result;
 }
 
-/* Does what the library says comes before a call is carried out. Returns its fault, or 0; the ring is held once it was found. */
+/* Does what the library says comes before a call is carried out. Returns its fault, or 0; the ring
+ * is held once it was found. */
 static int do_next(struct ring **ring, int *fd, const struct waiting *waiting, uint32_t wanted)
 {
     switch (wanted) {
@@ -322,7 +349,8 @@ static int do_next(struct ring **ring, int *fd, const struct waiting *waiting, u
         (*ring)->call_number++;
         return 0;
     default:
-        return wulgach_entering_fault(&(*ring)->issuer, (uint32_t)this_thread(), waiting->to_submit, waiting->flags & IORING_ENTER_GETEVENTS);
+        return wulgach_entering_fault(&(*ring)->issuer, (uint32_t)this_thread(), waiting->to_submit,
+            waiting->flags & IORING_ENTER_GETEVENTS);
     }
 }
 
@@ -331,14 +359,16 @@ static int64_t enter_by(int fd, struct waiting *waiting)
     struct ring *ring = NULL;
     int32_t next = wulgach_entering_next(waiting->flags, WULGACH_AT_FIRST, 0);
     while (next >= 0 && next < WULGACH_AT_FIRST)
-        next = wulgach_entering_next(waiting->flags, (uint32_t)next, do_next(&ring, &fd, waiting, (uint32_t)next));
+        next = wulgach_entering_next(
+            waiting->flags, (uint32_t)next, do_next(&ring, &fd, waiting, (uint32_t)next));
     int64_t result = next < 0 ? next : enter_ring(ring, waiting, (uint32_t)next);
     if (ring)
         unlock_ring(ring);
     return result;
 }
 
-int64_t enter(int fd, uint32_t to_submit, uint32_t min_complete, uint32_t flags, const void *argument, size_t size, const sigset_t *signals, bool is_open)
+int64_t enter(int fd, uint32_t to_submit, uint32_t min_complete, uint32_t flags,
+    const void *argument, size_t size, const sigset_t *signals, bool is_open)
 {
     sigset_t given;
     struct call_signals own;
@@ -353,7 +383,8 @@ int64_t enter(int fd, uint32_t to_submit, uint32_t min_complete, uint32_t flags,
         .given = &given,
         .flags = flags,
     };
-    /* Operations are carried out in the call, where the kernel's would be out of a signal's reach. */
+    /* Operations are carried out in the call, where the kernel's would be out of a signal's reach.
+     */
     if (!signals)
         begin_signals(&own, is_open);
     int64_t result = enter_by(fd, &waiting);

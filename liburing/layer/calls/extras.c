@@ -1,7 +1,8 @@
-/* The core posts one completion for a request, and knows of no others. So each extra one is a request to it, of the layer's
- * own, submitted, issued and ended at once, whose completion shows the event. So the order in the ring and what overflows
- * are the core's here too. What it is to the core the library says, by Linux's rules or the manual pages', and when one may be posted:
- * until then events and messages are left where they are.
+/* The core posts one completion for a request, and knows of no others. So each extra one is a
+ * request to it, of the layer's own, submitted, issued and ended at once, whose completion shows
+ * the event. So the order in the ring and what overflows are the core's here too. What it is to the
+ * core the library says, by Linux's rules or the manual pages', and when one may be posted: until
+ * then events and messages are left where they are.
  */
 #include "calls/extras.h"
 #include "calls/duties.h"
@@ -21,7 +22,8 @@
 #include <fcntl.h>
 #include <stdlib.h>
 
-/* A request of the layer's own was accepted: ends it with this result, and returns that of the core's. */
+/* A request of the layer's own was accepted: ends it with this result, and returns that of the
+ * core's. */
 static int32_t end_own(struct ring *ring, struct request *request, int32_t res)
 {
     int32_t ended;
@@ -34,7 +36,8 @@ static int32_t end_own(struct ring *ring, struct request *request, int32_t res)
     demand(kind == WULGACH_RUN, "the core doesn't start a no-op");
     demand(wulgach_course_start(&request->course), "a request starts twice");
     wulgach_lookout_starts(&ring->lookout, insert_request(&ring->running, request));
-    demand(wulgach_course_act(&request->course, &ended) == WULGACH_ACT_CARRY_OUT, "a no-op isn't carried out");
+    demand(wulgach_course_act(&request->course, &ended) == WULGACH_ACT_CARRY_OUT,
+        "a no-op isn't carried out");
     demand(wulgach_course_done(&request->course, res), "an operation is done that wasn't begun");
     ended = wulgach_told_of_end(true);
     finish(ring, request->number, ended);
@@ -60,11 +63,13 @@ static bool take_own(struct ring *ring, struct request *request, int32_t res)
     demand(take_position(ring), "the core drops a no-op");
     end_call(ring);
     ring->own_positions++;
-    wulgach_member_first(&request->member, ring->accepted++, &(struct wulgach_link){.links = false});
+    wulgach_member_first(
+        &request->member, ring->accepted++, &(struct wulgach_link){.links = false});
     wulgach_course_begin(&request->course);
     add_request(&ring->requests, request);
     put_into_directory(ring, request);
-    trace_note(ring, "request %llu: a completion of the layer's own", (unsigned long long)request->number);
+    trace_note(
+        ring, "request %llu: a completion of the layer's own", (unsigned long long)request->number);
     int32_t told = end_own(ring, request, res);
     end_of(ring, request, res, told);
     return true;
@@ -103,7 +108,8 @@ bool can_post_extra(struct ring *ring)
 {
     if (!wulgach_drains_may_post(&ring->drains, ring->staged.count, ring->is_linux, true))
         return false;
-    bool has_memory = (!ring->unposted || comes_now(ring, WULGACH_POSTING_COMES)) && reserve_all(ring, 1) && reserve_request(&ring->requests);
+    bool has_memory = (!ring->unposted || comes_now(ring, WULGACH_POSTING_COMES)) &&
+                      reserve_all(ring, 1) && reserve_request(&ring->requests);
     return wulgach_drains_may_post(&ring->drains, ring->staged.count, ring->is_linux, has_memory);
 }
 
@@ -129,7 +135,10 @@ bool post_extra(struct ring *ring, const struct origin *of, int32_t res, uint32_
 
 struct origin origin_of(const struct request *request)
 {
-    return (struct origin){.user_data = request->entry.user_data, .call = request->call, .number = request->number, .code = request->entry.opcode};
+    return (struct origin){.user_data = request->entry.user_data,
+        .call = request->call,
+        .number = request->number,
+        .code = request->entry.opcode};
 }
 
 void change_unposted(struct ring *ring, int32_t res, uint32_t flags)
@@ -168,7 +177,10 @@ __attribute__((noinline)) static void post_waiting(struct ring *ring)
 {
     struct message *message;
     while (posts_message(ring) && (message = take_message(&ring->inbox))) {
-        post_extra(ring, &(struct origin){.user_data = message->user_data, .code = IORING_OP_MSG_RING, .is_message = true}, message->res, message->flags);
+        post_extra(ring,
+            &(struct origin){
+                .user_data = message->user_data, .code = IORING_OP_MSG_RING, .is_message = true},
+            message->res, message->flags);
         free(message);
     }
 }
@@ -206,11 +218,14 @@ static bool has_slot(struct ring *ring, const struct io_uring_sqe *entry)
 }
 
 /* The ring that an entry names, held, or NULL; and what the library is told of it. */
-static struct ring *find_receiver(struct ring *ring, const struct io_uring_sqe *entry, struct wulgach_receiver *to)
+static struct ring *find_receiver(
+    struct ring *ring, const struct io_uring_sqe *entry, struct wulgach_receiver *to)
 {
     *to = (struct wulgach_receiver){0};
     struct ring *target = wulgach_may_be_ring(submission_of(entry)) ? hold_ring(entry->fd) : NULL;
-    to->is_open = target || (wulgach_message_is_by_slot(submission_of(entry)) ? has_slot(ring, entry) : counts_as_open(entry->fd, false));
+    to->is_open = target || (wulgach_message_is_by_slot(submission_of(entry))
+                                    ? has_slot(ring, entry)
+                                    : counts_as_open(entry->fd, false));
     to->is_ring = target;
     to->is_sender = target == ring;
     to->is_disabled = target && target->issuer.is_disabled;
@@ -225,15 +240,18 @@ struct sending {
 };
 
 /* Looks for the registered file that is to be passed. */
-static int32_t find_passed(struct ring *ring, const struct io_uring_sqe *entry, struct sending *sending)
+static int32_t find_passed(
+    struct ring *ring, const struct io_uring_sqe *entry, struct sending *sending)
 {
     wulgach_passed_of(submission_of(entry), &sending->passed);
     sending->file = use_file(ring, sending->passed.slot);
     return sending->file ? 0 : wulgach_missing_fault(WULGACH_NO_FILE);
 }
 
-/* Tells the other ring of what a message has come to, if it is to be told: then the message is its. */
-static void tell_ring(struct ring *target, const struct io_uring_sqe *entry, int32_t res, struct message **message)
+/* Tells the other ring of what a message has come to, if it is to be told: then the message is its.
+ */
+static void tell_ring(
+    struct ring *target, const struct io_uring_sqe *entry, int32_t res, struct message **message)
 {
     struct wulgach_message told;
     if (!wulgach_told_of(submission_of(entry), res, &told))
@@ -243,7 +261,8 @@ static void tell_ring(struct ring *target, const struct io_uring_sqe *entry, int
     *message = NULL;
 }
 
-static int32_t do_step_of_message(struct ring *ring, struct ring *target, const struct io_uring_sqe *entry, uint32_t step, int32_t res, struct sending *sending)
+static int32_t do_step_of_message(struct ring *ring, struct ring *target,
+    const struct io_uring_sqe *entry, uint32_t step, int32_t res, struct sending *sending)
 {
     switch (step) {
     case WULGACH_HAS_MESSAGE:
@@ -260,7 +279,8 @@ static int32_t do_step_of_message(struct ring *ring, struct ring *target, const 
 }
 
 /* Carries a message out, by rising bits, until a step fails. */
-static int32_t send_to(struct ring *ring, struct ring *target, const struct io_uring_sqe *entry, uint32_t steps)
+static int32_t send_to(
+    struct ring *ring, struct ring *target, const struct io_uring_sqe *entry, uint32_t steps)
 {
     struct sending sending = {0};
     int32_t res = 0;

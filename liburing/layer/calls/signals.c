@@ -1,8 +1,11 @@
-/* The signals of a thread that calls; and SIGXFSZ and SIGPIPE. The kernel sends these to the thread that made the call, and a thread's own signals are taken
- * before its process's: so the call's is taken first, if there is one. Which of those that are taken is the call's is the library's decision.
+/* The signals of a thread that calls; and SIGXFSZ and SIGPIPE. The kernel sends these to the thread
+ * that made the call, and a thread's own signals are taken before its process's: so the call's is
+ * taken first, if there is one. Which of those that are taken is the call's is the library's
+ * decision.
  *
- * A handler that comes amid a call may call io_uring, or leave by a jump: so all are blocked in a call, for two system calls. Where WULGACH_HANDLERS says that no
- * handler does anything of the kind, they are blocked from where one would be seen, as the library says.
+ * A handler that comes amid a call may call io_uring, or leave by a jump: so all are blocked in a
+ * call, for two system calls. Where WULGACH_HANDLERS says that no handler does anything of the
+ * kind, they are blocked from where one would be seen, as the library says.
  */
 #define _GNU_SOURCE
 #include "calls/signals.h"
@@ -17,19 +20,22 @@
 #include <sys/syscall.h>
 #include <unistd.h>
 
-static bool are_quiet;      /* the handlers; read when a ring is set up, while other threads may be in calls */
+static bool
+    are_quiet; /* the handlers; read when a ring is set up, while other threads may be in calls */
 
 void read_handlers(void)
 {
     const char *word = getenv("WULGACH_HANDLERS");
     bool is_quiet = word && strcmp(word, "quiet") == 0;
     __atomic_store_n(&are_quiet, is_quiet, __ATOMIC_RELAXED);
-    demand(is_quiet || !word || !*word || strcmp(word, "any") == 0, "WULGACH_HANDLERS is any or quiet");
+    demand(is_quiet || !word || !*word || strcmp(word, "any") == 0,
+        "WULGACH_HANDLERS is any or quiet");
 }
 
 bool leaves_signals_open(uint32_t min_complete, uint32_t flags)
 {
-    return !wulgach_blocks_at_begin(__atomic_load_n(&are_quiet, __ATOMIC_RELAXED), flags & IORING_ENTER_GETEVENTS, min_complete);
+    return !wulgach_blocks_at_begin(__atomic_load_n(&are_quiet, __ATOMIC_RELAXED),
+        flags & IORING_ENTER_GETEVENTS, min_complete);
 }
 
 /* The call that this thread is in, if none is blocked there yet. */
@@ -88,7 +94,8 @@ static void take_back(int signal)
     sigemptyset(&signals);
     sigaddset(&signals, signal);
     /* (the C library's call tells a thread's signal as a process's) */
-    if (syscall(SYS_rt_sigtimedwait, &signals, &told, &no_time, (size_t)_NSIG / 8) > 0 && !wulgach_is_signal_of_call(told.si_code, told.si_pid == this_process()))
+    if (syscall(SYS_rt_sigtimedwait, &signals, &told, &no_time, (size_t)_NSIG / 8) > 0 &&
+        !wulgach_is_signal_of_call(told.si_code, told.si_pid == this_process()))
         syscall(SYS_rt_tgsigqueueinfo, this_process(), this_thread(), signal, &told);
 }
 
@@ -107,7 +114,8 @@ static bool drops(int signal)
     if (sigaction(signal, NULL, &action) != 0)
         return false;
     bool is_ignored = action.sa_handler == SIG_IGN;
-    return wulgach_is_dropped((uint32_t)signal, !is_ignored && action.sa_handler != SIG_DFL, is_ignored);
+    return wulgach_is_dropped(
+        (uint32_t)signal, !is_ignored && action.sa_handler != SIG_DFL, is_ignored);
 }
 
 /* Those of these that the process drops as they come to a thread with its own mask. */

@@ -1,6 +1,7 @@
-/* Stages what the application has published, as far as the library says that the call takes it, at the moment when the kernel would read
- * it, and has the core take it in one call. What comes of it where memory is refused the library says: if the core is refused it, what is staged
- * stays so, and waits there, and the next call goes on with it.
+/* Stages what the application has published, as far as the library says that the call takes it, at
+ * the moment when the kernel would read it, and has the core take it in one call. What comes of it
+ * where memory is refused the library says: if the core is refused it, what is staged stays so, and
+ * waits there, and the next call goes on with it.
  */
 #include "calls/submit.h"
 #include "calls/extras.h"
@@ -31,13 +32,17 @@ static struct request *read_entry(struct ring *ring, uint32_t slot)
     request->token = request->entry.user_data;
     request->call = ring->call_number;
     wulgach_link_of(submission_of(&request->entry), &request->link);
-    request->mapping = form_of(&request->entry, strict_fault(ring, &request->entry), allows_entry(ring, &request->entry), &request->fault);
-    const struct request *before = ring->staged.count > 0 ? ring->staged.rows[ring->staged.count - 1] : NULL;
+    request->mapping = form_of(&request->entry, strict_fault(ring, &request->entry),
+        allows_entry(ring, &request->entry), &request->fault);
+    const struct request *before = ring->staged.count > 0
+                                       ? ring->staged.rows[ring->staged.count - 1]
+                                       : NULL;
     if (wulgach_copies_pieces(request->mapping) && copy_after(request, before) < 0) {
         free_request(request);
         return NULL;
     }
-    wulgach_beside_of(submission_of(&request->entry), request->mapping, before && before->link.links, &request->beside);
+    wulgach_beside_of(submission_of(&request->entry), request->mapping,
+        before && before->link.links, &request->beside);
     return request;
 }
 
@@ -67,9 +72,11 @@ static struct wulgach_item item_of(const struct request *request)
     };
 }
 
-/* Stages the positions that a call takes, `most` at most, the first of which has its word in this cell, but those that are staged already.
- * Returns the fault of a call that memory was refused, or 0: then it submits what is staged. */
-static int32_t stage_taken(struct ring *ring, struct wulgach_taking *taking, uint32_t most, uint32_t cell)
+/* Stages the positions that a call takes, `most` at most, the first of which has its word in this
+ * cell, but those that are staged already. Returns the fault of a call that memory was refused, or
+ * 0: then it submits what is staged. */
+static int32_t stage_taken(
+    struct ring *ring, struct wulgach_taking *taking, uint32_t most, uint32_t cell)
 {
     uint32_t count = 0, onward;
     if (!reserve_all(ring, most))
@@ -116,12 +123,15 @@ static void mark_draining(struct ring *ring, size_t first, size_t end)
         rows[i]->is_draining = is_draining;
 }
 
-/* A request that was accepted just now finds its files at once, if that is said, or in its turn; `after` tells that one before it may change slots. */
+/* A request that was accepted just now finds its files at once, if that is said, or in its turn;
+ * `after` tells that one before it may change slots. */
 static void find_for(struct ring *ring, struct request *request, bool after)
 {
-    uint32_t found = wulgach_drains_find_file(&ring->drains, &request->member, ring->is_linux, after, false, false);
+    uint32_t found = wulgach_drains_find_file(
+        &ring->drains, &request->member, ring->is_linux, after, false, false);
     if (found == WULGACH_ASKS_START)
-        found = wulgach_drains_find_file(&ring->drains, &request->member, ring->is_linux, after, true, can_issue(ring, request->number));
+        found = wulgach_drains_find_file(&ring->drains, &request->member, ring->is_linux, after,
+            true, can_issue(ring, request->number));
     request->is_late = found == WULGACH_FOUND_AT_START;
     if (found == WULGACH_FOUND_BY_CALL)
         assign(ring, request);
@@ -129,7 +139,8 @@ static void find_for(struct ring *ring, struct request *request, bool after)
         assign_in_turn(ring, request);
 }
 
-/* Of the requests from a row on, which are new: which drain, and on what those are carried out that wait for no other. */
+/* Of the requests from a row on, which are new: which drain, and on what those are carried out that
+ * wait for no other. */
 static void note_chains(struct ring *ring, size_t first)
 {
     struct request **rows = ring->requests.rows;
@@ -137,7 +148,8 @@ static void note_chains(struct ring *ring, size_t first)
     wulgach_changes_begin(&changes);
     begin_asking();
     for (size_t end; first < ring->requests.count; first = end) {
-        for (end = first + 1; end < ring->requests.count && wulgach_is_one_chain(&rows[end]->member, &rows[first]->member);)
+        for (end = first + 1; end < ring->requests.count &&
+                              wulgach_is_one_chain(&rows[end]->member, &rows[first]->member);)
             end++;
         mark_draining(ring, first, end);
         for (size_t i = first; i < end; i++) {
@@ -172,8 +184,9 @@ static void do_taken_step(struct ring *ring, const struct wulgach_taken *taken, 
     }
 }
 
-/* Has the core take what is staged, after which this head stands; it has the first `given` of it already. Returns how many requests it has
- * accepted, or the fault of a call that it refused for want of memory. */
+/* Has the core take what is staged, after which this head stands; it has the first `given` of it
+ * already. Returns how many requests it has accepted, or the fault of a call that it refused for
+ * want of memory. */
 static int take_staged(struct ring *ring, uint32_t given, uint32_t head)
 {
     uint32_t count = (uint32_t)ring->staged.count;
@@ -188,7 +201,8 @@ static int take_staged(struct ring *ring, uint32_t given, uint32_t head)
     note_chains(ring, ring->requests.count - (size_t)(ring->accepted - accepted));
     note_issuable(ring, accepted);
     wulgach_lookout_changes(&ring->lookout);
-    demand(taken.accepted == ring->accepted - accepted, "the core accepts another number of requests");
+    demand(
+        taken.accepted == ring->accepted - accepted, "the core accepts another number of requests");
     note_accepted(ring, accepted);
     demand(taken.head - ring->own_positions == head, "the core stands at another position");
     ring->head = head;
@@ -200,9 +214,11 @@ static int take_staged(struct ring *ring, uint32_t given, uint32_t head)
 bool reserve_all(struct ring *ring, uint32_t count)
 {
     size_t whole = ring->requests.count + count;
-    if (!reserve_requests(&ring->staged, count) || !reserve_requests(&ring->requests, count) || !reserve_completions(&ring->completions, whole))
+    if (!reserve_requests(&ring->staged, count) || !reserve_requests(&ring->requests, count) ||
+        !reserve_completions(&ring->completions, whole))
         return false;
-    if (!reserve_requests(&ring->running, whole - ring->running.count) || !reserve_timeouts(ring, ring->requests.room) || !reserve_ways(ring, whole))
+    if (!reserve_requests(&ring->running, whole - ring->running.count) ||
+        !reserve_timeouts(ring, ring->requests.room) || !reserve_ways(ring, whole))
         return false;
     return true;
 }

@@ -4,11 +4,12 @@
 
 #include "rings/ring.h"
 
-/* Submits at most this many positions. Returns how many requests were accepted, or the error that the library says where memory was refused. */
+/* Submits at most this many positions. Returns how many requests were accepted, or the error that
+ * the library says where memory was refused. */
 int submit(struct ring *ring, uint32_t count);
 
-/* Makes room for this many more requests in all that grows with them, so that nothing after the call has to fail. False if
- * memory was refused. */
+/* Makes room for this many more requests in all that grows with them, so that nothing after the
+ * call has to fail. False if memory was refused. */
 bool reserve_all(struct ring *ring, uint32_t count);
 
 #endif

@@ -1,5 +1,5 @@
-/* Makes whole calls, and traces their steps. To the core an entry stands in the slot of its place in the call, whatever the slot
- * is in which the application wrote it.
+/* Makes whole calls, and traces their steps. To the core an entry stands in the slot of its place
+ * in the call, whatever the slot is in which the application wrote it.
  */
 #include "calls/whole_calls.h"
 #include "calls/steps.h"
@@ -9,7 +9,8 @@
 #include <errno.h>
 #include <stdlib.h>
 
-/* What has a step or an answer has a frame of its own, which isn't there while the core takes one entry: a thread may have the smallest stack. */
+/* What has a step or an answer has a frame of its own, which isn't there while the core takes one
+ * entry: a thread may have the smallest stack. */
 #define APART __attribute__((noinline))
 
 bool make_entries(struct ring *ring, uint32_t slots)
@@ -36,17 +37,23 @@ void note_entry(struct ring *ring, const struct request *request)
 /* ---- submissions ---- */
 
 /* Traces the steps of a call that the core has taken at once, or whose begin it has refused. */
-static APART void trace_submission(struct ring *ring, uint32_t count, const struct wulgach_taken *taken)
+static APART void trace_submission(
+    struct ring *ring, uint32_t count, const struct wulgach_taken *taken)
 {
-    const struct wulgach_answer end = {.kind = taken->kind, .word = taken->accepted, .dropped = taken->dropped, .head = taken->head};
+    const struct wulgach_answer end = {.kind = taken->kind,
+        .word = taken->accepted,
+        .dropped = taken->dropped,
+        .head = taken->head};
     uint32_t head = ring->head + ring->own_positions;
     struct wulgach_step step;
     struct wulgach_answer answer;
-    for (uint32_t place = 0; wulgach_submitted_step(ring->entries, count, head, &end, place, &step, &answer); place++)
+    for (uint32_t place = 0;
+         wulgach_submitted_step(ring->entries, count, head, &end, place, &step, &answer); place++)
         trace_step(ring, &step, &answer);
 }
 
-/* Whether the core has none of it, and each word names a slot: after one that doesn't nothing more is staged. */
+/* Whether the core has none of it, and each word names a slot: after one that doesn't nothing more
+ * is staged. */
 static bool can_be_whole(const struct ring *ring, uint32_t given)
 {
     return given == 0 && ring->staged.rows[ring->staged.count - 1];
@@ -62,7 +69,10 @@ static void stage_position(struct ring *ring, uint32_t place)
 
 static struct wulgach_taken taken_of(const struct wulgach_answer *answer)
 {
-    return (struct wulgach_taken){.kind = answer->kind, .accepted = answer->word, .dropped = answer->dropped, .head = answer->head};
+    return (struct wulgach_taken){.kind = answer->kind,
+        .accepted = answer->word,
+        .dropped = answer->dropped,
+        .head = answer->head};
 }
 
 static APART bool submit_by_steps(struct ring *ring, uint32_t given, struct wulgach_taken *taken)
@@ -75,7 +85,8 @@ static APART bool submit_by_steps(struct ring *ring, uint32_t given, struct wulg
     if (!begin_call(ring, count))
         return false;
     for (uint32_t i = 0; i < count; i++)
-        demand(take_position(ring) == (ring->staged.rows[i] != NULL), "the core drops another word");
+        demand(
+            take_position(ring) == (ring->staged.rows[i] != NULL), "the core drops another word");
     struct wulgach_answer answer = end_call(ring);
     *taken = taken_of(&answer);
     return true;
@@ -93,7 +104,8 @@ static APART int32_t submit_many(struct ring *ring, uint32_t count, struct wulga
 /* A single entry is given, and told of, without a copy of an answer. */
 static int32_t submit_whole(struct ring *ring, uint32_t count, struct wulgach_taken *taken)
 {
-    return count == 1 ? wulgach_core_submit_one(&ring->core, ring->entries, taken) : submit_many(ring, count, taken);
+    return count == 1 ? wulgach_core_submit_one(&ring->core, ring->entries, taken)
+                      : submit_many(ring, count, taken);
 }
 
 bool submit_staged(struct ring *ring, uint32_t given, struct wulgach_taken *taken)
@@ -102,7 +114,8 @@ bool submit_staged(struct ring *ring, uint32_t given, struct wulgach_taken *take
     int32_t error = can_be_whole(ring, given) ? submit_whole(ring, count, taken) : -ENOMEM;
     if (error == -ENOMEM)
         return submit_by_steps(ring, given, taken);
-    demand(error == 0 && (taken->kind == WULGACH_TAKEN || taken->kind == WULGACH_AGAIN), "the core doesn't take what is staged");
+    demand(error == 0 && (taken->kind == WULGACH_TAKEN || taken->kind == WULGACH_AGAIN),
+        "the core doesn't take what is staged");
     if (is_traced(ring))
         trace_submission(ring, count, taken);
     return taken->kind == WULGACH_TAKEN;
@@ -113,15 +126,18 @@ bool submit_staged(struct ring *ring, uint32_t given, struct wulgach_taken *take
 /* So many are reaped by one call at most. */
 enum { MOST_REAPED = 32 };
 
-static void trace_reaped(struct ring *ring, const struct wulgach_completion *reaped, uint32_t count, uint32_t tail, uint32_t head)
+static void trace_reaped(struct ring *ring, const struct wulgach_completion *reaped, uint32_t count,
+    uint32_t tail, uint32_t head)
 {
     struct wulgach_step step;
     struct wulgach_answer answer;
-    for (uint32_t place = 0; wulgach_reaped_step(reaped, count, tail, head, place, &step, &answer); place++)
+    for (uint32_t place = 0; wulgach_reaped_step(reaped, count, tail, head, place, &step, &answer);
+         place++)
         trace_step(ring, &step, &answer);
 }
 
-static void reap_by_steps(struct ring *ring, const struct wulgach_posted *posted, uint32_t count, uint32_t tail, uint32_t head)
+static void reap_by_steps(struct ring *ring, const struct wulgach_posted *posted, uint32_t count,
+    uint32_t tail, uint32_t head)
 {
     demand(load_cq_tail(ring) == tail, "the core's completion tail isn't the one that was shown");
     for (uint32_t i = 0; i < count; i++)
@@ -130,7 +146,8 @@ static void reap_by_steps(struct ring *ring, const struct wulgach_posted *posted
 }
 
 /* Reaps so many; `tail` is what is shown, and `head` where the core's head is to be then. */
-static void reap_some(struct ring *ring, const struct wulgach_posted *posted, uint32_t count, uint32_t tail, uint32_t head)
+static void reap_some(struct ring *ring, const struct wulgach_posted *posted, uint32_t count,
+    uint32_t tail, uint32_t head)
 {
     struct wulgach_completion reaped[MOST_REAPED];
     uint64_t found;
@@ -141,7 +158,8 @@ static void reap_some(struct ring *ring, const struct wulgach_posted *posted, ui
     }
     demand(error == 0 && found == count, "the core has no completion to reap");
     for (uint32_t i = 0; i < count; i++)
-        demand(reaped[i].user_data == posted[i].token && reaped[i].res == posted[i].told, "the core's completion isn't the one that was shown");
+        demand(reaped[i].user_data == posted[i].token && reaped[i].res == posted[i].told,
+            "the core's completion isn't the one that was shown");
     if (is_traced(ring))
         trace_reaped(ring, reaped, count, tail, head);
 }

@@ -37,8 +37,8 @@ static const char *const names[RULE_COUNT] = {
 };
 
 static struct account *shared;
-static uint64_t hash;           /* of this process's choices */
-static pid_t hashing_process;   /* a forked child has choices of its own */
+static uint64_t hash; /* of this process's choices */
+static pid_t hashing_process; /* a forked child has choices of its own */
 
 /* The names stand in the file, so that they are told in one place. */
 static void map_account(void)
@@ -47,7 +47,8 @@ static void map_account(void)
     if (!path || !*path)
         return;
     int file = open(path, O_RDWR | O_CLOEXEC);
-    demand(file >= 0 && ftruncate(file, ACCOUNT_SIZE) == 0, "the file of WULGACH_ACCOUNT can't be written");
+    demand(file >= 0 && ftruncate(file, ACCOUNT_SIZE) == 0,
+        "the file of WULGACH_ACCOUNT can't be written");
     void *at = map_passing(NULL, ACCOUNT_SIZE, PROT_READ | PROT_WRITE, MAP_SHARED, file, 0);
     demand(at != MAP_FAILED, "the file of WULGACH_ACCOUNT can't be mapped");
     close(file);
@@ -75,7 +76,8 @@ void note_made_ring(void)
         shared->rings++;
 }
 
-/* What the process's hash was before is taken out of the sum: so the order in which processes note nothing changes it. */
+/* What the process's hash was before is taken out of the sum: so the order in which processes note
+ * nothing changes it. */
 void note_choice(const char *what)
 {
     if (!account())

@@ -1,6 +1,7 @@
-/* What a run did, counted for who looks on from outside: how many rings and choices it made, in which order, and which
- * rules of the core it met. The counts lie in a file that WULGACH_ACCOUNT names, which all processes of a run map; so they
- * stand however a run ends, and rules add up over all runs that name the same file.
+/* What a run did, counted for who looks on from outside: how many rings and choices it made, in
+ * which order, and which rules of the core it met. The counts lie in a file that WULGACH_ACCOUNT
+ * names, which all processes of a run map; so they stand however a run ends, and rules add up over
+ * all runs that name the same file.
  */
 #ifndef ACCOUNT_H
 #define ACCOUNT_H
@@ -10,23 +11,40 @@
 
 /* The rules of the core, each named in account.c. */
 enum rule {
-    WAITS_IN_GROUP, WAITS_FOR_DRAIN, WAITS_TO_DRAIN, WAITS_DEFERRED,
-    DOOMED_BY_OWN_FAULT, DOOMED_BY_FAULT, DOOMED_BY_FAILURE, DOOMED_BY_CANCEL, DOOMED_AS_DRAIN,
-    CANCEL_DOOMS, CANCEL_FINDS_RUNNING, CANCEL_FINDS_NOBODY,
-    FAILS_BY_SOFT_LINK, FAILS_BY_HARD_LINK, DRAIN_STARTS,
-    SUCCESS_IS_SKIPPED, FAILURE_ISNT_SKIPPED, COMPLETION_OVERFLOWS, OVERFLOW_MOVES,
-    WORD_IS_DROPPED, CALL_STOPS, ENTRY_HAS_FAULT,
+    WAITS_IN_GROUP,
+    WAITS_FOR_DRAIN,
+    WAITS_TO_DRAIN,
+    WAITS_DEFERRED,
+    DOOMED_BY_OWN_FAULT,
+    DOOMED_BY_FAULT,
+    DOOMED_BY_FAILURE,
+    DOOMED_BY_CANCEL,
+    DOOMED_AS_DRAIN,
+    CANCEL_DOOMS,
+    CANCEL_FINDS_RUNNING,
+    CANCEL_FINDS_NOBODY,
+    FAILS_BY_SOFT_LINK,
+    FAILS_BY_HARD_LINK,
+    DRAIN_STARTS,
+    SUCCESS_IS_SKIPPED,
+    FAILURE_ISNT_SKIPPED,
+    COMPLETION_OVERFLOWS,
+    OVERFLOW_MOVES,
+    WORD_IS_DROPPED,
+    CALL_STOPS,
+    ENTRY_HAS_FAULT,
     RULE_COUNT
 };
 
 enum { ACCOUNT_SIZE = 4096, RULE_NAME = 56 };
 
-/* The file, as `explore` reads it. What stands before the rules is of one run, and whoever begins a run sets it to 0. */
+/* The file, as `explore` reads it. What stands before the rules is of one run, and whoever begins a
+ * run sets it to 0. */
 struct account {
-    _Atomic uint64_t rings;      /* that were set up */
-    _Atomic uint64_t choosers;   /* processes that made a choice */
+    _Atomic uint64_t rings; /* that were set up */
+    _Atomic uint64_t choosers; /* processes that made a choice */
     _Atomic uint64_t choices;
-    _Atomic uint64_t order;      /* the sum, over the processes, of a hash of what was chosen */
+    _Atomic uint64_t order; /* the sum, over the processes, of a hash of what was chosen */
     uint64_t unused[4];
     struct {
         char name[RULE_NAME];

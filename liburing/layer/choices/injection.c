@@ -1,9 +1,9 @@
 /* Chooses the faults to inject.
  *
- *   WULGACH_FAULTS      ITEMS, separated by commas: [RING:]NUMBER=KIND, for request NUMBER of ring RING (0 if it isn't
- *                       given); KIND is EIO, ENOSPC or SHORT
- *   WULGACH_FAULT_RATE  N: each request that can have a fault is given one with a chance of one in N under a seed, of those that
- *                       it can have. That is a choice, so a list replays it.
+ *   WULGACH_FAULTS      ITEMS, separated by commas: [RING:]NUMBER=KIND, for request NUMBER of ring
+ * RING (0 if it isn't given); KIND is EIO, ENOSPC or SHORT WULGACH_FAULT_RATE  N: each request that
+ * can have a fault is given one with a chance of one in N under a seed, of those that it can have.
+ * That is a choice, so a list replays it.
  */
 #include "choices/injection.h"
 #include "choices/outlook.h"
@@ -62,7 +62,8 @@ static uint32_t read_rate(const char *text)
 {
     size_t length = strspn(text, "0123456789");
     unsigned long number = strtoul(text, NULL, 10);
-    demand(length > 0 && !text[length] && number <= 1000000000, "WULGACH_FAULT_RATE: a number is wanted, at most 1000000000");
+    demand(length > 0 && !text[length] && number <= 1000000000,
+        "WULGACH_FAULT_RATE: a number is wanted, at most 1000000000");
     return (uint32_t)number;
 }
 
@@ -98,7 +99,8 @@ static uint32_t list_faults(const struct request *request, enum injection *fault
     return count;
 }
 
-/* A choice: way 0 is no fault, and the others are those that the request can have. Each of these is one of `rate` times as many. */
+/* A choice: way 0 is no fault, and the others are those that the request can have. Each of these is
+ * one of `rate` times as many. */
 static enum injection roll_fault(struct ring *ring, const struct request *request)
 {
     enum injection faults[FAULT_SHORT + 1] = {NO_FAULT};
@@ -107,11 +109,13 @@ static enum injection roll_fault(struct ring *ring, const struct request *reques
         return NO_FAULT;
     uint64_t at = count_choice();
     record_faults(ring, request, at, faults + 1, ways - 1);
-    uint32_t count = (ways - 1) * rate < ways ? ways : (ways - 1) * rate, rolled = choose(at, count), chosen = rolled < ways ? rolled : 0;
+    uint32_t count = (ways - 1) * rate < ways ? ways : (ways - 1) * rate,
+             rolled = choose(at, count), chosen = rolled < ways ? rolled : 0;
     char what[64];
     snprintf(what, sizeof what, "fault %s", names[faults[chosen]]);
     if (chosen)
-        trace_note(ring, "choice %" PRIu64 " is %" PRIu32 " of %" PRIu32 ": %s", at, chosen, ways, what);
+        trace_note(
+            ring, "choice %" PRIu64 " is %" PRIu32 " of %" PRIu32 ": %s", at, chosen, ways, what);
     record_choice(at, ways, chosen, what);
     return faults[chosen];
 }
@@ -121,7 +125,8 @@ static bool is_rolling(void)
     return rate && policy() != IN_ORDER && policy() != LAZY;
 }
 
-__attribute__((noinline)) static enum injection find_fault(struct ring *ring, const struct request *request)
+__attribute__((noinline)) static enum injection find_fault(
+    struct ring *ring, const struct request *request)
 {
     enum injection fault = NO_FAULT;
     for (size_t i = 0; i < item_count; i++)

@@ -1,5 +1,6 @@
-/* Which requests the core lets start. What it said is kept as long as the library says, and of the end of a request the library says whether
- * that makes something of others than the next of its chain. Else the core is asked each time.
+/* Which requests the core lets start. What it said is kept as long as the library says, and of the
+ * end of a request the library says whether that makes something of others than the next of its
+ * chain. Else the core is asked each time.
  */
 #include "choices/issuable.h"
 #include "calls/steps.h"
@@ -14,7 +15,8 @@ static bool is_kept(const struct ring *ring)
 /* Asks for those from a number on. */
 static void add_from(struct ring *ring, uint64_t from)
 {
-    for (uint64_t number = next_issuable(ring, from); number != UINT64_MAX; number = next_issuable(ring, number + 1))
+    for (uint64_t number = next_issuable(ring, from); number != UINT64_MAX;
+         number = next_issuable(ring, number + 1))
         add_request(&ring->issuable, request_of(&ring->requests, number));
 }
 
@@ -34,15 +36,19 @@ uint32_t how_many_issuable(struct ring *ring)
 
 struct request *issuable_at(struct ring *ring, uint32_t place)
 {
-    return is_kept(ring) ? kept_ones(ring)->rows[place] : request_of(&ring->requests, nth_issuable(ring, place));
+    return is_kept(ring) ? kept_ones(ring)->rows[place]
+                         : request_of(&ring->requests, nth_issuable(ring, place));
 }
 
 struct request *issuable_after(struct ring *ring, uint32_t place, const struct request *before)
 {
-    return is_kept(ring) ? issuable_at(ring, place) : request_of(&ring->requests, next_issuable(ring, before ? before->number + 1 : 0));
+    return is_kept(ring)
+               ? issuable_at(ring, place)
+               : request_of(&ring->requests, next_issuable(ring, before ? before->number + 1 : 0));
 }
 
-/* Passes those that have started or ended, of which none can be issued again: so each is passed once, however many run. */
+/* Passes those that have started or ended, of which none can be issued again: so each is passed
+ * once, however many run. */
 static void pass_started(struct ring *ring)
 {
     const struct requests *requests = &ring->requests;
@@ -103,7 +109,12 @@ void note_issuable_after(struct ring *ring, const struct request *ended, int32_t
         forget_all(ring);
     /* (one between the two may have ended before, which a cancel has found) */
     size_t place = count_before(&ring->requests, ended->number + 1);
-    struct request *next = ring->knows_issuable && place < ring->requests.count ? ring->requests.rows[place] : NULL;
-    if (next && wulgach_asks_next(next->course.has_started, request_or_none(&ring->issuable, next->number)) && can_issue(ring, next->number))
+    struct request *next = ring->knows_issuable && place < ring->requests.count
+                               ? ring->requests.rows[place]
+                               : NULL;
+    if (next &&
+        wulgach_asks_next(
+            next->course.has_started, request_or_none(&ring->issuable, next->number)) &&
+        can_issue(ring, next->number))
         insert_request(&ring->issuable, next);
 }

@@ -16,12 +16,13 @@ static bool is_loose(const struct io_uring_sqe *entry)
     return !needs.needs_file && !needs.uses_buffer;
 }
 
-/* Whether all that an operation does is to move bytes at its offset, in a file that it neither appends to nor has a place in;
- * or it syncs a file or does nothing. */
+/* Whether all that an operation does is to move bytes at its offset, in a file that it neither
+ * appends to nor has a place in; or it syncs a file or does nothing. */
 static bool is_plain(const struct request *request)
 {
     const struct io_uring_sqe *entry = &request->entry;
-    if (request->mapping != TOKEN || request->standing.is_stream || entry->flags & (IOSQE_FIXED_FILE | IOSQE_BUFFER_SELECT))
+    if (request->mapping != TOKEN || request->standing.is_stream ||
+        entry->flags & (IOSQE_FIXED_FILE | IOSQE_BUFFER_SELECT))
         return false;
     switch (entry->opcode) {
     case IORING_OP_NOP:
@@ -56,7 +57,10 @@ void record_accepted(const struct ring *ring, const struct request *request)
     const struct io_uring_sqe *entry = &request->entry;
     if (!is_recording_ways())
         return;
-    record_line("request %" PRIu32 " %" PRIu64 " %u %u %" PRIu64 " %" PRIu64 " %" PRIu64 " %s\n", ring->index, request->number, (unsigned)entry->opcode, (unsigned)entry->flags, address_of(entry), (uint64_t)entry->off, length_of(request), is_plain(request) ? "plain" : "other");
+    record_line("request %" PRIu32 " %" PRIu64 " %u %u %" PRIu64 " %" PRIu64 " %" PRIu64 " %s\n",
+        ring->index, request->number, (unsigned)entry->opcode, (unsigned)entry->flags,
+        address_of(entry), (uint64_t)entry->off, length_of(request),
+        is_plain(request) ? "plain" : "other");
 }
 
 void record_silent_end(const struct ring *ring, const struct request *request)
@@ -71,7 +75,8 @@ static char letter_of(struct ring *ring, const struct request *way)
     struct wulgach_why why;
     if (way->course.has_started)
         return 'f';
-    bool is_doomed = wulgach_core_why(&ring->core, way->number, &why) == 0 && why.kind == WULGACH_DOOMED;
+    bool is_doomed = wulgach_core_why(&ring->core, way->number, &why) == 0 &&
+                     why.kind == WULGACH_DOOMED;
     if (is_doomed || way->mapping != TOKEN)
         return 'e';
     return is_choosing_events() ? 'i' : 'b';
@@ -95,7 +100,8 @@ void record_return(bool may_return)
     record_line(may_return ? " r\n" : "\n");
 }
 
-void record_faults(const struct ring *ring, const struct request *request, uint64_t at, const enum injection *faults, uint32_t count)
+void record_faults(const struct ring *ring, const struct request *request, uint64_t at,
+    const enum injection *faults, uint32_t count)
 {
     if (!is_recording_ways())
         return;

@@ -1,12 +1,13 @@
 /* Reads the policy from the environment, and chooses by it.
  *
- *   WULGACH_POLICY    order (the default), lazy, seed:N, pct:SEED:DEPTH[:CHOICES], or list:ITEMS. An item is the next
- *                     choice's number, or AT=NUMBER for choice AT; items are separated by commas. A choice that isn't
- *                     listed is 0, which is what "order" would do; so is one that is beyond what there is to choose from.
- *   WULGACH_CHOOSE    events (the default): issuing and finishing a request are two choices; ends: they are one
- *   WULGACH_CHOICES   PREFIX: a process that sets a ring up makes a file PREFIX.PID, and writes a line there for each
- *                     choice: its number, which way, of how many, and in words
- *   WULGACH_WAYS      if it is set, what could go on at each choice stands there too (outlook.h)
+ *   WULGACH_POLICY    order (the default), lazy, seed:N, pct:SEED:DEPTH[:CHOICES], or list:ITEMS.
+ * An item is the next choice's number, or AT=NUMBER for choice AT; items are separated by commas. A
+ * choice that isn't listed is 0, which is what "order" would do; so is one that is beyond what
+ * there is to choose from. WULGACH_CHOOSE    events (the default): issuing and finishing a request
+ * are two choices; ends: they are one WULGACH_CHOICES   PREFIX: a process that sets a ring up makes
+ * a file PREFIX.PID, and writes a line there for each choice: its number, which way, of how many,
+ * and in words WULGACH_WAYS      if it is set, what could go on at each choice stands there too
+ * (outlook.h)
  */
 #define _GNU_SOURCE
 #include "choices/policy.h"
@@ -33,14 +34,14 @@
 static struct {
     enum policy policy;
     bool is_choosing_events;
-    bool is_one_choice;             /* (asked once) */
-    uint64_t random;        /* the state of the generator */
+    bool is_one_choice; /* (asked once) */
+    uint64_t random; /* the state of the generator */
     uint32_t *list;
     uint64_t list_count;
-    const char *recorded_at;    /* what the records' names begin with; */
+    const char *recorded_at; /* what the records' names begin with; */
     bool is_recording;
     bool is_recording_ways;
-    uint64_t made;          /* how many choices were made */
+    uint64_t made; /* how many choices were made */
     pthread_mutex_t lock;
 } chosen_by = {.lock = PTHREAD_MUTEX_INITIALIZER};
 
@@ -139,7 +140,8 @@ static void read_environment(void)
     const char *name = getenv("WULGACH_POLICY"), *grain = getenv("WULGACH_CHOOSE");
     const char *record = getenv("WULGACH_CHOICES");
     read_name(name && *name ? name : "order");
-    demand(!grain || strcmp(grain, "ends") == 0 || strcmp(grain, "events") == 0, "WULGACH_CHOOSE is ends or events");
+    demand(!grain || strcmp(grain, "ends") == 0 || strcmp(grain, "events") == 0,
+        "WULGACH_CHOOSE is ends or events");
     chosen_by.is_choosing_events = !grain || strcmp(grain, "events") == 0;
     chosen_by.is_one_choice = wulgach_is_one_choice(kind_of_policy(), chosen_by.is_choosing_events);
     chosen_by.is_recording = record && *record;
@@ -221,7 +223,8 @@ uint32_t choose(uint64_t at, uint32_t count)
     return chosen < count ? chosen : 0;
 }
 
-/* The record of this process, opened to append: it may be there, since it has set a ring up. A program that closes low numbers doesn't close it. */
+/* The record of this process, opened to append: it may be there, since it has set a ring up. A
+ * program that closes low numbers doesn't close it. */
 static FILE *record_of_process(void)
 {
     char path[4096];
@@ -239,17 +242,19 @@ void note_ring(void)
         fclose(record_of_process());
 }
 
-/* Whether the record is this process's, and not its parent's; and its number still the record's: the program may have closed that, or taken it for a file of its own. */
+/* Whether the record is this process's, and not its parent's; and its number still the record's:
+ * the program may have closed that, or taken it for a file of its own. */
 static bool is_record_own(void)
 {
     struct stat about;
-    return record_of.image == this_image() && fstat(fileno(record_of.lines), &about) == 0 && about.st_dev == record_of.device && about.st_ino == record_of.inode;
+    return record_of.image == this_image() && fstat(fileno(record_of.lines), &about) == 0 &&
+           about.st_dev == record_of.device && about.st_ino == record_of.inode;
 }
 
 /* (what it is known by isn't closed where it isn't its own) */
 static void open_record(void)
 {
-    static char room[4096];     /* (a turn may be recorded amid malloc) */
+    static char room[4096]; /* (a turn may be recorded amid malloc) */
     struct stat about = {0};
     if (record_of.lines)
         __fpurge(record_of.lines);
@@ -306,7 +311,9 @@ void record_choice(uint64_t at, uint32_t count, uint32_t chosen, const char *wha
 uint32_t choose_turn(uint32_t count, uint32_t rolled, uint64_t *at)
 {
     *at = chosen_by.made++;
-    uint32_t listed = *at < chosen_by.list_count && chosen_by.list[*at] < count ? chosen_by.list[*at] : 0;
+    uint32_t listed = *at < chosen_by.list_count && chosen_by.list[*at] < count
+                          ? chosen_by.list[*at]
+                          : 0;
     return chosen_by.policy == LISTED ? listed : rolled;
 }
 

@@ -1,5 +1,6 @@
-/* What goes on next, where the core allows more than one thing: the policy that WULGACH_POLICY names, and the record of
- * what was chosen. Choices are counted from 0 over all rings of the process.
+/* What goes on next, where the core allows more than one thing: the policy that WULGACH_POLICY
+ * names, and the record of what was chosen. Choices are counted from 0 over all rings of the
+ * process.
  */
 #ifndef POLICY_H
 #define POLICY_H
@@ -8,11 +9,12 @@
 #include <stdint.h>
 
 enum policy {
-    IN_ORDER,   /* order: the least request that can go on, until none can */
-    LAZY,       /* lazy: the same, but nothing goes on before the application waits or peeks */
-    SEEDED,     /* seed:N: rolled */
-    BY_PRIORITY, /* pct:SEED:DEPTH or pct:SEED:DEPTH:CHOICES: by priorities that are drawn (priorities.h) */
-    LISTED      /* list:ITEMS: given, and 0 where the list says nothing */
+    IN_ORDER, /* order: the least request that can go on, until none can */
+    LAZY, /* lazy: the same, but nothing goes on before the application waits or peeks */
+    SEEDED, /* seed:N: rolled */
+    BY_PRIORITY, /* pct:SEED:DEPTH or pct:SEED:DEPTH:CHOICES: by priorities that are drawn
+                    (priorities.h) */
+    LISTED /* list:ITEMS: given, and 0 where the list says nothing */
 };
 
 /* Reads the environment, once. */
@@ -23,19 +25,20 @@ enum policy policy(void);
 /* What goes on by it while a call is made (enum wulgach_policy). */
 uint32_t kind_of_policy(void);
 
-/* Whether issuing and finishing are two choices (WULGACH_CHOOSE=events, the default), or one (ends); and whether they are one by the
- * policy. */
+/* Whether issuing and finishing are two choices (WULGACH_CHOOSE=events, the default), or one
+ * (ends); and whether they are one by the policy. */
 bool is_choosing_events(void);
 bool is_one_choice(void);
 
 /* Counts a choice, and returns its number. Only policies that choose make any. */
 uint64_t count_choice(void);
 
-/* Which of `count` ways, from 0, choice `at` is. By priorities it is rolled too: that is for choices in which nobody plays, as
- * whether an operation has a fault. */
+/* Which of `count` ways, from 0, choice `at` is. By priorities it is rolled too: that is for
+ * choices in which nobody plays, as whether an operation has a fault. */
 uint32_t choose(uint64_t at, uint32_t count);
 
-/* A number below `count` that the seed draws as the program begins, apart from its choices; 0 where there is no seed. */
+/* A number below `count` that the seed draws as the program begins, apart from its choices; 0 where
+ * there is no seed. */
 uint32_t drawn_apart(uint32_t count);
 
 /* A turn of the program's threads (turns.h). */
@@ -48,7 +51,8 @@ void note_ring(void);
 /* Records a choice that was made: which of how many ways, and in words. */
 void record_choice(uint64_t at, uint32_t count, uint32_t chosen, const char *what);
 
-/* Whether what could go on at each choice is recorded (outlook.h), and a line of that, or a part of one. */
+/* Whether what could go on at each choice is recorded (outlook.h), and a line of that, or a part of
+ * one. */
 bool is_recording_ways(void);
 void record_line(const char *format, ...) __attribute__((format(printf, 1, 2)));
 

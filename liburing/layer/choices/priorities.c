@@ -1,12 +1,13 @@
-/* Priorities are drawn when they are asked for: a hash of the seed and of who plays, so nothing is kept of those that
- * never fall.
+/* Priorities are drawn when they are asked for: a hash of the seed and of who plays, so nothing is
+ * kept of those that never fall.
  */
 #include "choices/priorities.h"
 #include "process/fault.h"
 
 #include <stdlib.h>
 
-/* One that falls: at which choice, and who, once it has. Its priority is its place, from 1, as in the paper. */
+/* One that falls: at which choice, and who, once it has. Its priority is its place, from 1, as in
+ * the paper. */
 struct fall {
     uint64_t choice;
     bool has_fallen;
@@ -50,7 +51,8 @@ uint64_t priority_of(struct player player)
     for (uint64_t i = 0; i < drawn.count; i++) {
         const struct fall *fall = &drawn.falls[i];
         /* (its last fall counts) */
-        if (fall->has_fallen && is_same(fall->player, player) && (place == 0 || fall->choice >= drawn.falls[place - 1].choice))
+        if (fall->has_fallen && is_same(fall->player, player) &&
+            (place == 0 || fall->choice >= drawn.falls[place - 1].choice))
             place = i + 1;
     }
     if (place > 0)

@@ -1,8 +1,9 @@
-/* The policy pct: each chain, each loose request and the application draw a priority, and of those that can go on the
- * highest goes. At DEPTH - 1 choices, which are rolled too, the one that would go falls below all others. If a bug needs
- * DEPTH orders to be as they are, a run with n that draw and k choices shows it with a chance of 1 / (n * k^(DEPTH - 1))
- * at least: Burckhardt, Kothari, Musuvathi, Nagarakatte, A randomized scheduler with probabilistic guarantees of finding
- * bugs, 2010.
+/* The policy pct: each chain, each loose request and the application draw a priority, and of those
+ * that can go on the highest goes. At DEPTH - 1 choices, which are rolled too, the one that would
+ * go falls below all others. If a bug needs DEPTH orders to be as they are, a run with n that draw
+ * and k choices shows it with a chance of 1 / (n * k^(DEPTH - 1)) at least: Burckhardt, Kothari,
+ * Musuvathi, Nagarakatte, A randomized scheduler with probabilistic guarantees of finding bugs,
+ * 2010.
  */
 #ifndef PRIORITIES_H
 #define PRIORITIES_H
@@ -10,7 +11,8 @@
 #include <stdbool.h>
 #include <stdint.h>
 
-/* Who draws a priority: the application, or a chain by its ring and its first member. A loose request is a chain of one. */
+/* Who draws a priority: the application, or a chain by its ring and its first member. A loose
+ * request is a chain of one. */
 struct player {
     bool is_application;
     uint32_t ring;

@@ -4,8 +4,10 @@
 
 #include <errno.h>
 
-_Static_assert(WAITS_DEFERRED - WAITS_IN_GROUP == WULGACH_DEFERRED - WULGACH_SAME_GROUP, "reasons of waiting stand in one order");
-_Static_assert(DOOMED_AS_DRAIN - DOOMED_BY_OWN_FAULT == WULGACH_REFUSED_DRAIN - WULGACH_OWN_FAULT, "dooms stand in one order");
+_Static_assert(WAITS_DEFERRED - WAITS_IN_GROUP == WULGACH_DEFERRED - WULGACH_SAME_GROUP,
+    "reasons of waiting stand in one order");
+_Static_assert(DOOMED_AS_DRAIN - DOOMED_BY_OWN_FAULT == WULGACH_REFUSED_DRAIN - WULGACH_OWN_FAULT,
+    "dooms stand in one order");
 
 void note_standing(struct ring *ring, const struct request *request)
 {
@@ -22,7 +24,8 @@ void note_standing(struct ring *ring, const struct request *request)
 
 void note_accepted(struct ring *ring, uint64_t first)
 {
-    for (size_t i = ring->requests.count; has_account() && i > 0 && ring->requests.rows[i - 1]->number >= first; i--) {
+    for (size_t i = ring->requests.count;
+         has_account() && i > 0 && ring->requests.rows[i - 1]->number >= first; i--) {
         const struct request *request = ring->requests.rows[i - 1];
         if (request->mapping == REFUSED)
             note_rule(ENTRY_HAS_FAULT);

@@ -1,4 +1,5 @@
-/* Which rules of the core a run meets: how requests stand is what the core says of them, and how they end is what it answers.
+/* Which rules of the core a run meets: how requests stand is what the core says of them, and how
+ * they end is what it answers.
  */
 #ifndef RULES_H
 #define RULES_H

@@ -1,18 +1,22 @@
-/* Turns of a program's threads (run/turns) are choices of the run's one list, where there are such. */
+/* Turns of a program's threads (run/turns) are choices of the run's one list, where there are such.
+ */
 #ifndef LAYER_TURNS_H
 #define LAYER_TURNS_H
 
 #include <stdbool.h>
 #include <stdint.h>
 
-/* The program's threads take turns from here on: whether these are chosen by the policy. The record and the account are there, as if a ring had been set up. */
+/* The program's threads take turns from here on: whether these are chosen by the policy. The record
+ * and the account are there, as if a ring had been set up. */
 bool wulgach_begin_turns(void);
 
-/* Counts a turn: which of so many ways it is, by a list, or else as it was rolled. And records it in words. They take no lock: one thread runs at a time. */
+/* Counts a turn: which of so many ways it is, by a list, or else as it was rolled. And records it
+ * in words. They take no lock: one thread runs at a time. */
 uint32_t wulgach_choose_turn(uint32_t count, uint32_t rolled, uint64_t *at);
 void wulgach_record_turn(uint64_t at, uint32_t count, uint32_t way, const char *what);
 
-/* Calls that the layer makes for its record and its trace are begun and have ended: no thread hears of them. NULL where none take turns. */
+/* Calls that the layer makes for its record and its trace are begun and have ended: no thread hears
+ * of them. NULL where none take turns. */
 extern void (*wulgach_tell_own_calls)(bool begin);
 
 static inline void tell_own_calls(bool begin)

@@ -1,6 +1,7 @@
-/* The ways of a choice: which there are, and which one the policy takes. Only what can really go on is a way: running requests that
- * needn't wait, and those that the core says can be issued. Only those that may have to wait are looked at: so a choice takes no longer for
- * the others, nor for those that wait after links.
+/* The ways of a choice: which there are, and which one the policy takes. Only what can really go on
+ * is a way: running requests that needn't wait, and those that the core says can be issued. Only
+ * those that may have to wait are looked at: so a choice takes no longer for the others, nor for
+ * those that wait after links.
  */
 #include "choices/ways.h"
 #include "choices/issuable.h"
@@ -14,8 +15,8 @@
 #include <inttypes.h>
 #include <stdlib.h>
 
-/* The ways of a choice: which stands where is the library's. Of the running requests those that have to wait are no way: they stand in
- * ring->waiting, by rising number. */
+/* The ways of a choice: which stands where is the library's. Of the running requests those that
+ * have to wait are no way: they stand in ring->waiting, by rising number. */
 struct ways {
     struct wulgach_ways of;
     uint32_t waiting;
@@ -28,7 +29,8 @@ bool is_by_choice(void)
 
 bool reserve_ways(struct ring *ring, size_t count)
 {
-    if (!reserve_requests(&ring->patient, count - ring->patient.count) || !reserve_requests(&ring->issuable, count - ring->issuable.count))
+    if (!reserve_requests(&ring->patient, count - ring->patient.count) ||
+        !reserve_requests(&ring->issuable, count - ring->issuable.count))
         return false;
     if (ring->waiting_room >= count)
         return true;
@@ -52,7 +54,8 @@ void note_patient(struct ring *ring, struct request *request)
 void note_running(struct ring *ring, struct request *request)
 {
     static const struct wulgach_moment nothing;
-    if (is_by_choice() && wulgach_can_finish(&request->waiter, &ring->lookout, &request->standing, &request->needs, &request->course, &nothing) != WULGACH_LOOK_FINISHES)
+    if (is_by_choice() && wulgach_can_finish(&request->waiter, &ring->lookout, &request->standing,
+                              &request->needs, &request->course, &nothing) != WULGACH_LOOK_FINISHES)
         note_patient(ring, request);
 }
 
@@ -69,7 +72,8 @@ static uint32_t list_waiting(struct ring *ring)
 static struct ways ways_of(struct ring *ring, bool may_return)
 {
     uint32_t waiting = list_waiting(ring);
-    return (struct ways){{(uint32_t)ring->running.count - waiting, how_many_issuable(ring), may_return}, waiting};
+    return (struct ways){
+        {(uint32_t)ring->running.count - waiting, how_many_issuable(ring), may_return}, waiting};
 }
 
 /* The running request that can be finished and stands at this place among these. */
@@ -86,7 +90,8 @@ static struct request *ready_at(struct ring *ring, const struct ways *ways, uint
     return ring->running.rows[place + low];
 }
 
-static uint32_t place_of_ready(struct ring *ring, const struct ways *ways, const struct request *request)
+static uint32_t place_of_ready(
+    struct ring *ring, const struct ways *ways, const struct request *request)
 {
     uint32_t place = (uint32_t)place_of(&ring->running, request->number), before = 0;
     while (before < ways->waiting && ring->waiting[before]->number < request->number)
@@ -117,26 +122,31 @@ static uint32_t count_requests(const struct ways *ways)
 /* Says what going on with a request means: before it is done, since it may free the request. */
 static void describe(char *text, size_t size, const struct request *request)
 {
-    snprintf(text, size, "%s request %" PRIu64 " (%s)", request->course.has_started ? "finish" : "issue", request->number, operation_name(request->entry.opcode));
+    snprintf(text, size, "%s request %" PRIu64 " (%s)",
+        request->course.has_started ? "finish" : "issue", request->number,
+        operation_name(request->entry.opcode));
 }
 
-static void take_way(struct ring *ring, struct request *way, uint64_t at, uint32_t chosen, uint32_t count)
+static void take_way(
+    struct ring *ring, struct request *way, uint64_t at, uint32_t chosen, uint32_t count)
 {
     char what[96];
     describe(what, sizeof what, way);
-    trace_note(ring, "choice %" PRIu64 " is %" PRIu32 " of %" PRIu32 ": %s", at, chosen, count, what);
+    trace_note(
+        ring, "choice %" PRIu64 " is %" PRIu32 " of %" PRIu32 ": %s", at, chosen, count, what);
     go_on_with(ring, way);
     record_choice(at, count, chosen, what);
 }
 
 static void choose_return(struct ring *ring, uint64_t at, uint32_t count)
 {
-    trace_note(ring, "choice %" PRIu64 " is %" PRIu32 " of %" PRIu32 ": return", at, count - 1, count);
+    trace_note(
+        ring, "choice %" PRIu64 " is %" PRIu32 " of %" PRIu32 ": return", at, count - 1, count);
     record_choice(at, count, count - 1, "return");
 }
 
-/* An application that has returned from so many calls in a row without anything going on only looks again and again: it
- * comes last then, whatever it drew. */
+/* An application that has returned from so many calls in a row without anything going on only looks
+ * again and again: it comes last then, whatever it drew. */
 enum { MOST_RETURNS = 3 };
 
 /* The way of the highest priority that was found so far; NULL: it is to return. */
@@ -147,7 +157,8 @@ struct highest {
 
 static struct player player_of(const struct ring *ring, const struct request *way)
 {
-    return way ? (struct player){.ring = ring->index, .chain = way->member.chain} : (struct player){.is_application = true};
+    return way ? (struct player){.ring = ring->index, .chain = way->member.chain}
+               : (struct player){.is_application = true};
 }
 
 static void look_at_way(struct highest *highest, struct ring *ring, struct request *way)
@@ -182,7 +193,8 @@ static uint32_t place_of_way(struct ring *ring, const struct ways *ways, const s
 {
     if (!way)
         return count_requests(ways);
-    return way->course.has_started ? place_of_ready(ring, ways, way) : ways->of.ready + place_of_issuable(ring, way);
+    return way->course.has_started ? place_of_ready(ring, ways, way)
+                                   : ways->of.ready + place_of_issuable(ring, way);
 }
 
 static uint32_t choose_by_priority(struct ring *ring, uint64_t at, const struct ways *ways)
@@ -219,7 +231,8 @@ enum progress go_on_by_choice(struct ring *ring, struct request *first, bool may
     }
     uint64_t at = count_choice();
     record_all_ways(ring, &at, &ways);
-    uint32_t chosen = policy() == BY_PRIORITY ? choose_by_priority(ring, at, &ways) : choose(at, count);
+    uint32_t chosen = policy() == BY_PRIORITY ? choose_by_priority(ring, at, &ways)
+                                              : choose(at, count);
     struct request *way = way_at(ring, &ways, chosen);
     if (!way) {
         ring->returns++;

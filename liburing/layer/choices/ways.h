@@ -10,11 +10,13 @@ bool is_by_choice(void);
 /* Makes sure that so many requests may be outstanding; false if memory was refused. */
 bool reserve_ways(struct ring *ring, size_t count);
 
-/* A request runs: whether it may have to wait is known. One that would have waited is such a one. */
+/* A request runs: whether it may have to wait is known. One that would have waited is such a one.
+ */
 void note_running(struct ring *ring, struct request *request);
 void note_patient(struct ring *ring, struct request *request);
 
-/* Goes on by one choice between all that can go on, of which this is first in order, and, if `may_return`, returning. */
+/* Goes on by one choice between all that can go on, of which this is first in order, and, if
+ * `may_return`, returning. */
 enum progress go_on_by_choice(struct ring *ring, struct request *first, bool may_return);
 
 #endif

@@ -1,4 +1,5 @@
-/* Looks at what a fork shares with its parent, and at what it has none of: threads, children, signals that wait, timers, memory, descriptors. */
+/* Looks at what a fork shares with its parent, and at what it has none of: threads, children,
+ * signals that wait, timers, memory, descriptors. */
 #define _GNU_SOURCE
 #include "forks/alone.h"
 #include "forks/server.h"
@@ -16,9 +17,10 @@
 #include <sys/wait.h>
 #include <unistd.h>
 
-/* Files and folders that a run opens again, each where its parent's stands. Descriptors that share one open file share it in the run too. */
+/* Files and folders that a run opens again, each where its parent's stands. Descriptors that share
+ * one open file share it in the run too. */
 struct opened {
-    int descriptor, flags, shared;  /* `shared`: an earlier one that has the same open file, or -1 */
+    int descriptor, flags, shared; /* `shared`: an earlier one that has the same open file, or -1 */
     bool is_closed_on_exec;
     dev_t device;
     ino_t inode;
@@ -44,7 +46,7 @@ static bool has_threads_or_none(void)
         count++;
     if (folder)
         closedir(folder);
-    return count != 3;  /* with . and .. */
+    return count != 3; /* with . and .. */
 }
 
 static bool has_children(void)
@@ -64,7 +66,8 @@ static bool has_timers(void)
     static const int kinds[] = {ITIMER_REAL, ITIMER_VIRTUAL, ITIMER_PROF};
     for (size_t i = 0; i < sizeof kinds / sizeof *kinds; i++) {
         struct itimerval timer;
-        if (getitimer((__itimer_which_t)kinds[i], &timer) < 0 || timer.it_value.tv_sec || timer.it_value.tv_usec)
+        if (getitimer((__itimer_which_t)kinds[i], &timer) < 0 || timer.it_value.tv_sec ||
+            timer.it_value.tv_usec)
             return true;
     }
     FILE *timers = fopen("/proc/self/timers", "re");
@@ -105,7 +108,8 @@ static struct opened *room_for_one(void)
     return &files[file_count];
 }
 
-/* Which descriptor that is remembered has the same open file: -1, if none has; -2: the kernel doesn't say. */
+/* Which descriptor that is remembered has the same open file: -1, if none has; -2: the kernel
+ * doesn't say. */
 static int sharing(const struct opened *file)
 {
     for (size_t i = 0; i < file_count; i++) {
@@ -118,13 +122,17 @@ static int sharing(const struct opened *file)
     return -1;
 }
 
-/* Remembers what a run is to open again. A folder that is being read goes on elsewhere in a copy. */
+/* Remembers what a run is to open again. A folder that is being read goes on elsewhere in a copy.
+ */
 static bool remember(int descriptor, const char *path, int flags, const struct stat *about)
 {
     struct opened *file = room_for_one();
     if (!file)
         return false;
-    *file = (struct opened){.descriptor = descriptor, .flags = flags & ~(O_CREAT | O_EXCL | O_TRUNC), .device = about->st_dev, .inode = about->st_ino};
+    *file = (struct opened){.descriptor = descriptor,
+        .flags = flags & ~(O_CREAT | O_EXCL | O_TRUNC),
+        .device = about->st_dev,
+        .inode = about->st_ino};
     file->at = flags & O_PATH ? 0 : lseek(descriptor, 0, SEEK_CUR);
     file->shared = sharing(file);
     file->is_closed_on_exec = fcntl(descriptor, F_GETFD) & FD_CLOEXEC;
@@ -135,7 +143,8 @@ static bool remember(int descriptor, const char *path, int flags, const struct s
     return true;
 }
 
-/* Whether locks or a lease are on an open file, as /proc says: a run has none of its parent's, or waits for them. */
+/* Whether locks or a lease are on an open file, as /proc says: a run has none of its parent's, or
+ * waits for them. */
 static bool has_locks(int descriptor)
 {
     char name[64], line[256];
@@ -153,19 +162,28 @@ static bool has_locks(int descriptor)
 static bool has_name(const char *path, const struct stat *about)
 {
     struct stat there;
-    return lstat(path, &there) == 0 && there.st_dev == about->st_dev && there.st_ino == about->st_ino;
+    return lstat(path, &there) == 0 && there.st_dev == about->st_dev &&
+           there.st_ino == about->st_ino;
 }
 
-static const char *look_at_file(int descriptor, const char *path, int flags, const struct stat *about, const char *folder)
+static const char *look_at_file(
+    int descriptor, const char *path, int flags, const struct stat *about, const char *folder)
 {
-    bool is_written = S_ISREG(about->st_mode) && !(flags & O_PATH) && (flags & O_ACCMODE) != O_RDONLY;
+    bool is_written = S_ISREG(about->st_mode) && !(flags & O_PATH) &&
+                      (flags & O_ACCMODE) != O_RDONLY;
     if (is_written && !lies_in(path, folder))
-        return because(folder ? "descriptor %d writes to a file outside of the run's folder" : "descriptor %d writes to a file, and runs have no folder of their own (--fresh)", descriptor);
+        return because(
+            folder
+                ? "descriptor %d writes to a file outside of the run's folder"
+                : "descriptor %d writes to a file, and runs have no folder of their own (--fresh)",
+            descriptor);
     if (!has_name(path, about))
         return because("descriptor %d is a file that has been removed", descriptor);
     if (has_locks(descriptor))
         return because("descriptor %d is a file with a lock", descriptor);
-    return remember(descriptor, path, flags, about) ? NULL : because("descriptor %d can't be opened again", descriptor);
+    return remember(descriptor, path, flags, about)
+               ? NULL
+               : because("descriptor %d can't be opened again", descriptor);
 }
 
 static const char *look_at(int descriptor, const char *folder)
@@ -180,7 +198,9 @@ static const char *look_at(int descriptor, const char *folder)
     path[length] = '\0';
     if (S_ISREG(about.st_mode) || S_ISDIR(about.st_mode))
         return look_at_file(descriptor, path, flags, &about, folder);
-    return S_ISCHR(about.st_mode) || (flags & O_PATH) ? NULL : because("descriptor %d is no file", descriptor);
+    return S_ISCHR(about.st_mode) || (flags & O_PATH)
+               ? NULL
+               : because("descriptor %d is no file", descriptor);
 }
 
 /* The streams 0, 1 and 2 are explore's. */
@@ -192,7 +212,8 @@ static const char *look_at_descriptors(const char *folder)
         return "its descriptors can't be listed";
     for (struct dirent *entry; !found && (entry = readdir(open_ones));) {
         int descriptor = atoi(entry->d_name);
-        if (entry->d_name[0] != '.' && descriptor > 2 && descriptor != dirfd(open_ones) && !is_of_server(descriptor))
+        if (entry->d_name[0] != '.' && descriptor > 2 && descriptor != dirfd(open_ones) &&
+            !is_of_server(descriptor))
             found = look_at(descriptor, folder);
     }
     closedir(open_ones);
@@ -223,9 +244,11 @@ void reopen_files(void)
         int on_exec = file->is_closed_on_exec ? O_CLOEXEC : 0, made = file->shared;
         if (made < 0) {
             made = open(file->path, file->flags | O_CLOEXEC);
-            demand(made >= 0 && (file->at == 0 || lseek(made, file->at, SEEK_SET) == file->at), "a file can't be opened again for a run");
+            demand(made >= 0 && (file->at == 0 || lseek(made, file->at, SEEK_SET) == file->at),
+                "a file can't be opened again for a run");
         }
-        demand(dup3(made, file->descriptor, on_exec) >= 0, "a file can't be opened again for a run");
+        demand(
+            dup3(made, file->descriptor, on_exec) >= 0, "a file can't be opened again for a run");
         if (file->shared < 0)
             close(made);
     }

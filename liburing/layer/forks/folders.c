@@ -52,7 +52,8 @@ static bool copy_rest(const struct stat *about, const char *to)
 
 static bool copy_file(const char *from, const char *to)
 {
-    int source = open(from, O_RDONLY | O_CLOEXEC), target = open(to, O_WRONLY | O_CREAT | O_EXCL | O_CLOEXEC, 0600);
+    int source = open(from, O_RDONLY | O_CLOEXEC),
+        target = open(to, O_WRONLY | O_CREAT | O_EXCL | O_CLOEXEC, 0600);
     bool is_copied = source >= 0 && target >= 0 && copy_bytes(source, target);
     if (source >= 0)
         close(source);
@@ -70,7 +71,8 @@ static bool copy_any(const char *from, const char *to)
         return copy_link(from, to);
     if (S_ISDIR(about.st_mode))
         return mkdir(to, 0700) == 0 && copy_folder(from, to) && copy_rest(&about, to);
-    return S_ISREG(about.st_mode) && about.st_nlink == 1 && copy_file(from, to) && copy_rest(&about, to);
+    return S_ISREG(about.st_mode) && about.st_nlink == 1 && copy_file(from, to) &&
+           copy_rest(&about, to);
 }
 
 bool copy_folder(const char *from, const char *to)
@@ -81,7 +83,8 @@ bool copy_folder(const char *from, const char *to)
     for (struct dirent *entry; is_copied && (entry = readdir(folder));) {
         if (strcmp(entry->d_name, ".") == 0 || strcmp(entry->d_name, "..") == 0)
             continue;
-        bool fits = snprintf(one, sizeof one, "%s/%s", from, entry->d_name) < (int)sizeof one && snprintf(other, sizeof other, "%s/%s", to, entry->d_name) < (int)sizeof other;
+        bool fits = snprintf(one, sizeof one, "%s/%s", from, entry->d_name) < (int)sizeof one &&
+                    snprintf(other, sizeof other, "%s/%s", to, entry->d_name) < (int)sizeof other;
         is_copied = fits && copy_any(one, other);
     }
     if (folder)

@@ -24,15 +24,15 @@
 #include <unistd.h>
 
 static struct {
-    int socket, output;     /* negative: nobody asks for runs */
-    bool is_at_set_up;      /* runs begin at the first set-up */
+    int socket, output; /* negative: nobody asks for runs */
+    bool is_at_set_up; /* runs begin at the first set-up */
     bool is_fresh;
-    bool is_early;          /* it serves before main: */
-    bool is_awaited;        /* where it is asked to, and not as the layer is begun; */
-    bool has_served;        /* it has, or said that it can't */
-    pid_t process;          /* the one that was started */
-    off_t printed;          /* what was printed before runs begin */
-    char folder[4096];      /* the working folder, and a copy of it as it was then */
+    bool is_early; /* it serves before main: */
+    bool is_awaited; /* where it is asked to, and not as the layer is begun; */
+    bool has_served; /* it has, or said that it can't */
+    pid_t process; /* the one that was started */
+    off_t printed; /* what was printed before runs begin */
+    char folder[4096]; /* the working folder, and a copy of it as it was then */
     char copy[4200];
 } server = {.socket = -1, .output = -1};
 
@@ -105,7 +105,8 @@ static double seconds_now(void)
     return (double)now.tv_sec + (double)now.tv_nsec / 1e9;
 }
 
-/* Whether a run hasn't ended in so many seconds. (a handler of the program's may come meanwhile, as when a run stops) */
+/* Whether a run hasn't ended in so many seconds. (a handler of the program's may come meanwhile, as
+ * when a run stops) */
 static bool is_late(int handle, double seconds)
 {
     struct pollfd watched = {.fd = handle, .events = POLLIN};
@@ -159,7 +160,8 @@ static void restore_folder(void)
     if (!server.is_fresh)
         return;
     demand(empty_folder(server.folder), "a run's folder can't be emptied");
-    demand(server.is_early || copy_folder(server.copy, server.folder), "a run's folder can't be copied");
+    demand(server.is_early || copy_folder(server.copy, server.folder),
+        "a run's folder can't be copied");
 }
 
 static bool tell(struct told_run *told)
@@ -181,7 +183,8 @@ static void serve_runs(void)
     for (char *request; (request = read_request(&size));) {
         struct told_run told = {0};
         char *variables = request + strlen(request) + 1;
-        demand(ftruncate(server.output, server.printed) == 0, "the file of what runs print can't be cut");
+        demand(ftruncate(server.output, server.printed) == 0,
+            "the file of what runs print can't be cut");
         begin_account();
         pid_t run = fork();
         demand(run >= 0, "a run can't be forked");
@@ -207,14 +210,18 @@ static const char *why_not(void)
     if (reason || server.is_early || !server.is_fresh)
         return reason;
     snprintf(server.copy, sizeof server.copy, "%s.begun", server.folder);
-    return mkdir(server.copy, 0700) == 0 && copy_folder(server.folder, server.copy) ? NULL : "its folder can't be copied";
+    return mkdir(server.copy, 0700) == 0 && copy_folder(server.folder, server.copy)
+               ? NULL
+               : "its folder can't be copied";
 }
 
 static void serve(void)
 {
     char hello[256];
     server.has_served = true;
-    const char *reason = server.is_fresh && !getcwd(server.folder, sizeof server.folder) ? "it has no working folder" : why_not();
+    const char *reason = server.is_fresh && !getcwd(server.folder, sizeof server.folder)
+                             ? "it has no working folder"
+                             : why_not();
     server.printed = lseek(server.output, 0, SEEK_END);
     if (reason)
         snprintf(hello, sizeof hello, "no %s\n", reason);
@@ -249,7 +256,9 @@ __attribute__((constructor)) static void begin_server(void)
     char where[8];
     if (!words || !*words)
         return;
-    demand(sscanf(words, "%d:%d:%4[a-z]%n", &connection, &output, where, &length) == 3 && length > 0, "WULGACH_SERVER is SOCKET:OUTPUT:main or SOCKET:OUTPUT:ring");
+    demand(
+        sscanf(words, "%d:%d:%4[a-z]%n", &connection, &output, where, &length) == 3 && length > 0,
+        "WULGACH_SERVER is SOCKET:OUTPUT:main or SOCKET:OUTPUT:ring");
     server.is_at_set_up = strcmp(where, "ring") == 0;
     server.is_fresh = strcmp(words + length, ":fresh") == 0;
     unsetenv("WULGACH_SERVER");

@@ -1,4 +1,5 @@
-/* Which call an operation is carried out by, and with which arguments, is the library's decision. */
+/* Which call an operation is carried out by, and with which arguments, is the library's decision.
+ */
 #define _GNU_SOURCE
 #include "operations/means.h"
 #include "calls/extras.h"
@@ -28,7 +29,8 @@
 
 int32_t make_call(const struct wulgach_system_call *call)
 {
-    long result = syscall((long)call->number, call->first, call->second, call->third, call->fourth, call->fifth, call->sixth);
+    long result = syscall((long)call->number, call->first, call->second, call->third, call->fourth,
+        call->fifth, call->sixth);
     return result < 0 ? -errno : (int32_t)result;
 }
 
@@ -40,10 +42,12 @@ static int asked_for_splice(int fd)
     return wulgach_asks_end(is_pipe(fd), is_regular) ? fd : -1;
 }
 
-/* Makes the call of an operation, with as many of its descriptors asked not to wait as the library says. */
+/* Makes the call of an operation, with as many of its descriptors asked not to wait as the library
+ * says. */
 static int32_t make_call_of(struct request *request, const struct wulgach_system_call *call)
 {
-    uint32_t opening = wulgach_opening_of(submission_of(&request->entry), how_flags(request), request->has_found_pipe);
+    uint32_t opening = wulgach_opening_of(
+        submission_of(&request->entry), how_flags(request), request->has_found_pipe);
     if (opening != WULGACH_OPENS_PLAINLY)
         return open_by(request, call, opening);
     switch (wulgach_asked_descriptors(request->entry.opcode)) {
@@ -52,13 +56,15 @@ static int32_t make_call_of(struct request *request, const struct wulgach_system
     case 1:
         return make_unwilling_call(call, request->fd, -1);
     default:
-        return make_unwilling_call(call, asked_for_splice(request->fd), asked_for_splice(request->second_fd));
+        return make_unwilling_call(
+            call, asked_for_splice(request->fd), asked_for_splice(request->second_fd));
     }
 }
 
 int32_t make_passing_call(const struct wulgach_system_call *call)
 {
-    return (int32_t)pass((long)call->number, (long)call->first, (long)call->second, (long)call->third, (long)call->fourth, (long)call->fifth, (long)call->sixth);
+    return (int32_t)pass((long)call->number, (long)call->first, (long)call->second,
+        (long)call->third, (long)call->fourth, (long)call->fifth, (long)call->sixth);
 }
 
 /* What is held for a request, but for the offsets of a splice. */
@@ -78,8 +84,10 @@ static struct wulgach_held held_of(const struct request *request)
     };
 }
 
-/* The same. An epoll instance that is a ring's descriptor is none: what the ring has of the layer's, and is none either, stands for it. */
-static int32_t make_call_on(const struct ring *ring, struct request *request, const struct wulgach_system_call *call)
+/* The same. An epoll instance that is a ring's descriptor is none: what the ring has of the
+ * layer's, and is none either, stands for it. */
+static int32_t make_call_on(
+    const struct ring *ring, struct request *request, const struct wulgach_system_call *call)
 {
     struct wulgach_system_call made = *call;
     if (wulgach_takes_instance(call->number) && is_ring((int)call->first))
@@ -90,14 +98,17 @@ static int32_t make_call_on(const struct ring *ring, struct request *request, co
     return make_passing_call(&made);
 }
 
-static int32_t open_file(struct ring *ring, struct request *request, const struct wulgach_means *means)
+static int32_t open_file(
+    struct ring *ring, struct request *request, const struct wulgach_means *means)
 {
     int32_t fd = make_call_of(request, &means->call);
     return fd >= 0 ? install_file(ring, fd, means->slot) : fd;
 }
 
-/* Does what the library says that a close does. Those before it have begun in the kernel, which has their files. */
-static int32_t close_file(struct ring *ring, const struct request *request, const struct wulgach_system_call *call)
+/* Does what the library says that a close does. Those before it have begun in the kernel, which has
+ * their files. */
+static int32_t close_file(
+    struct ring *ring, const struct request *request, const struct wulgach_system_call *call)
 {
     int fd = (int)call->first;
     int32_t result = wulgach_holding_fault(fd, is_ring(fd));
@@ -112,12 +123,15 @@ static int32_t close_file(struct ring *ring, const struct request *request, cons
 static int32_t update_listed(struct ring *ring, const struct wulgach_means *means)
 {
     struct wulgach_lists lists;
-    wulgach_lists_of_files(&(struct wulgach_files_form){.offset = means->slot, .fds = means->listed.address}, means->listed.count, &lists);
+    wulgach_lists_of_files(
+        &(struct wulgach_files_form){.offset = means->slot, .fds = means->listed.address},
+        means->listed.count, &lists);
     return update_files(ring, &lists);
 }
 
 /* What makes no call of its own: whoever keeps the ring does it. */
-static int32_t carry_out_on_ring(struct ring *ring, struct request *request, const struct wulgach_means *means)
+static int32_t carry_out_on_ring(
+    struct ring *ring, struct request *request, const struct wulgach_means *means)
 {
     const struct io_uring_sqe *entry = &request->entry;
     switch (means->kind) {
@@ -148,7 +162,8 @@ static int32_t carry_out_on_ring(struct ring *ring, struct request *request, con
     }
 }
 
-static int32_t carry_out_by(struct ring *ring, struct request *request, const struct wulgach_means *means)
+static int32_t carry_out_by(
+    struct ring *ring, struct request *request, const struct wulgach_means *means)
 {
     switch (means->kind) {
     case WULGACH_BY_CALL:
@@ -158,7 +173,9 @@ static int32_t carry_out_by(struct ring *ring, struct request *request, const st
     case WULGACH_BY_OPENING:
         return open_file(ring, request, means);
     case WULGACH_BY_SYNC:
-        return is_taken_for_synced(request->fd) ? wulgach_done_result(submission_of(&request->entry), 0, 0) : make_call(&means->call);
+        return is_taken_for_synced(request->fd)
+                   ? wulgach_done_result(submission_of(&request->entry), 0, 0)
+                   : make_call(&means->call);
     case WULGACH_BY_CLOSE:
         return close_file(ring, request, &means->call);
     case WULGACH_BY_CONNECT: {

@@ -1,4 +1,5 @@
-/* Carries out what the library says that an operation is carried out by: a system call, or what the layer does itself. */
+/* Carries out what the library says that an operation is carried out by: a system call, or what the
+ * layer does itself. */
 #ifndef MEANS_H
 #define MEANS_H
 
@@ -6,7 +7,8 @@
 
 struct ring;
 
-/* Makes a system call. Returns its result, or the negative of an error number; by `pass`, past the filters of `uring-run`. */
+/* Makes a system call. Returns its result, or the negative of an error number; by `pass`, past the
+ * filters of `uring-run`. */
 int32_t make_call(const struct wulgach_system_call *call);
 int32_t make_passing_call(const struct wulgach_system_call *call);
 

@@ -71,8 +71,10 @@ void print_operation(FILE *out, const struct request *request)
     if (request->mapping == REFUSED)
         fprintf(out, " (code %u), refused", entry->opcode);
     else if (request->needs.is_read || request->needs.is_write)
-        fprintf(out, " of %" PRIu64 " bytes at %" PRId64 ", descriptor %" PRId32, request->length, (int64_t)entry->off, entry->fd);
-    else if (entry->opcode == IORING_OP_FSYNC || entry->opcode == IORING_OP_CLOSE || entry->opcode == IORING_OP_FALLOCATE)
+        fprintf(out, " of %" PRIu64 " bytes at %" PRId64 ", descriptor %" PRId32, request->length,
+            (int64_t)entry->off, entry->fd);
+    else if (entry->opcode == IORING_OP_FSYNC || entry->opcode == IORING_OP_CLOSE ||
+             entry->opcode == IORING_OP_FALLOCATE)
         fprintf(out, " of descriptor %" PRId32, entry->fd);
     else if (entry->opcode == IORING_OP_ASYNC_CANCEL && !entry->cancel_flags)
         fprintf(out, " of user data %" PRIu64, (uint64_t)entry->addr);

@@ -1,5 +1,6 @@
-/* Whether an open is asked not to wait, and that of a named pipe waits all the same, is the library's decision. No descriptor tells that the other end was
- * opened: so a sleep naps for such a request. */
+/* Whether an open is asked not to wait, and that of a named pipe waits all the same, is the
+ * library's decision. No descriptor tells that the other end was opened: so a sleep naps for such a
+ * request. */
 #define _GNU_SOURCE
 #include "operations/openings.h"
 #include "calls/signals.h"
@@ -39,14 +40,17 @@ static int32_t open_unwilling(const struct request *request, struct wulgach_syst
 static struct wulgach_how how_of(const struct request *request)
 {
     const struct open_how *how = request->how;
-    return how ? (struct wulgach_how){how->flags, how->mode, how->resolve} : (struct wulgach_how){0};
+    return how ? (struct wulgach_how){how->flags, how->mode, how->resolve}
+               : (struct wulgach_how){0};
 }
 
 /* Opens a path so, by the call that its request asks for. Returns a descriptor, or -1. */
-static int open_so(const struct request *request, int folder, const char *path, const struct wulgach_how *so)
+static int open_so(
+    const struct request *request, int folder, const char *path, const struct wulgach_how *so)
 {
     struct open_how how = {.flags = so->flags, .mode = so->mode, .resolve = so->resolve};
-    return request->how ? (int)syscall(SYS_openat2, folder, path, &how, sizeof how) : openat(folder, path, (int)how.flags, (mode_t)how.mode);
+    return request->how ? (int)syscall(SYS_openat2, folder, path, &how, sizeof how)
+                        : openat(folder, path, (int)how.flags, (mode_t)how.mode);
 }
 
 /* Looks a path up, as its open does: a descriptor of what it names, for that alone, or -1. */
@@ -69,7 +73,8 @@ void look_for_pipe(struct request *request)
     } else if (fd >= 0) {
         close(fd);
     }
-    request->fd = wulgach_standing_after_path(&request->standing, request->fd, request->has_found_pipe);
+    request->fd = wulgach_standing_after_path(
+        &request->standing, request->fd, request->has_found_pipe);
 }
 
 static struct wulgach_how found_how_of(const struct request *request)
@@ -119,7 +124,8 @@ static void let_wait(int32_t fd)
         fcntl(fd, F_SETFL, (int)after);
 }
 
-/* Opens a path by this call, which is asked not to wait. Returns its descriptor, or the negative of an error number. */
+/* Opens a path by this call, which is asked not to wait. Returns its descriptor, or the negative of
+ * an error number. */
 static int32_t open_at_once(const struct request *request, const struct wulgach_system_call *call)
 {
     int32_t fd = open_unwilling(request, *call);
@@ -130,11 +136,13 @@ static int32_t open_at_once(const struct request *request, const struct wulgach_
 }
 
 /* Does what the library said is next, and says what that came to. */
-static int32_t open_further(struct request *request, const struct wulgach_system_call *call, uint32_t step)
+static int32_t open_further(
+    struct request *request, const struct wulgach_system_call *call, uint32_t step)
 {
     if (step == WULGACH_OPENING_ASKS_WRITER)
         return has_writer(request->opened);
-    int32_t fd = step == WULGACH_OPENING_BY_LINK ? open_found(request) : open_unwilling(request, *call);
+    int32_t fd = step == WULGACH_OPENING_BY_LINK ? open_found(request)
+                                                 : open_unwilling(request, *call);
     request->is_opened = fd >= 0;
     request->opened = fd;
     return fd;
@@ -144,7 +152,8 @@ static int32_t open_further(struct request *request, const struct wulgach_system
 static uint32_t next_step(const struct request *request, uint32_t last, int32_t *res)
 {
     int32_t opened = request->is_opened ? request->opened : -1;
-    return wulgach_opening_next(submission_of(&request->entry), how_flags(request), opened, last, *res, res);
+    return wulgach_opening_next(
+        submission_of(&request->entry), how_flags(request), opened, last, *res, res);
 }
 
 /* Gives what was opened to the application, or closes what it ends without. */

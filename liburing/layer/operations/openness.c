@@ -1,4 +1,5 @@
-/* What the kernel says of a descriptor. Whether it counts as open, or as a count, is the library's decision. */
+/* What the kernel says of a descriptor. Whether it counts as open, or as a count, is the library's
+ * decision. */
 #define _GNU_SOURCE
 #include "operations/openness.h"
 #include "process/process.h"
@@ -18,7 +19,8 @@
 struct wulgach_openness openness_of(int fd)
 {
     int flags = fcntl(fd, F_GETFL);
-    return (struct wulgach_openness){.is_open = flags >= 0, .is_path = flags >= 0 && flags & O_PATH};
+    return (struct wulgach_openness){
+        .is_open = flags >= 0, .is_path = flags >= 0 && flags & O_PATH};
 }
 
 bool counts_as_open(int fd, bool is_of_slot)

@@ -13,7 +13,8 @@ struct wulgach_openness openness_of(int fd);
 /* Whether it counts as open, by its number or as what a slot holds. */
 bool counts_as_open(int fd, bool is_of_slot);
 
-/* Writes the name in /proc of what it is open on, which isn't ended, and returns how long that is; 0: it has none. */
+/* Writes the name in /proc of what it is open on, which isn't ended, and returns how long that is;
+ * 0: it has none. */
 enum { MOST_OF_NAME = 64 };
 size_t name_of_descriptor(int fd, char name[MOST_OF_NAME]);
 

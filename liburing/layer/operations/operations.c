@@ -1,4 +1,5 @@
-/* Carries operations out, each by the system call that the library says, when its request is finished. */
+/* Carries operations out, each by the system call that the library says, when its request is
+ * finished. */
 #define _GNU_SOURCE
 #include "operations/operations.h"
 #include "calls/signals.h"
@@ -25,14 +26,17 @@
 bool has_offsets(const struct request *request)
 {
     int fd = request->fd;
-    return (request->needs.is_read ? preadv(fd, NULL, 0, 0) : pwritev(fd, NULL, 0, 0)) >= 0 || errno != ESPIPE;
+    return (request->needs.is_read ? preadv(fd, NULL, 0, 0) : pwritev(fd, NULL, 0, 0)) >= 0 ||
+           errno != ESPIPE;
 }
 
 bool finds_buffer(struct ring *ring, struct request *request)
 {
     struct wulgach_buffer buffer;
-    bool is_found = find_provided(ring, request->entry.buf_group, &buffer) && !wulgach_buffer_is_none(&buffer);
-    request->standing.has_found_buffer |= wulgach_waits_after_search(submission_of(&request->entry), is_found);
+    bool is_found = find_provided(ring, request->entry.buf_group, &buffer) &&
+                    !wulgach_buffer_is_none(&buffer);
+    request->standing.has_found_buffer |= wulgach_waits_after_search(
+        submission_of(&request->entry), is_found);
     return is_found;
 }
 
@@ -47,7 +51,12 @@ struct pollfd poll_of(const struct request *request)
 
 bool is_impatient(const struct request *request)
 {
-    struct wulgach_patience patience = {.length = request->length, .has_failed = request->started < 0, .has_begun = request->has_called, .knows_listening = request->knows_listening, .is_listening = request->is_listening, .is_socket = request->is_socket};
+    struct wulgach_patience patience = {.length = request->length,
+        .has_failed = request->started < 0,
+        .has_begun = request->has_called,
+        .knows_listening = request->knows_listening,
+        .is_listening = request->is_listening,
+        .is_socket = request->is_socket};
     return wulgach_is_impatient(submission_of(&request->entry), &patience);
 }
 
@@ -65,7 +74,8 @@ bool is_polled(const struct request *request)
 bool is_glanced_ready(const struct request *request, uint32_t glance)
 {
     bool is_shown = glance == WULGACH_GLANCE_READY;
-    bool breaks = wulgach_asks_breaking(is_shown, request->is_tried_first, request->has_called) && is_broken(request);
+    bool breaks = wulgach_asks_breaking(is_shown, request->is_tried_first, request->has_called) &&
+                  is_broken(request);
     return wulgach_is_found_ready(is_shown, request->is_tried_first, request->has_called, breaks);
 }
 
@@ -75,7 +85,8 @@ bool is_ready(const struct request *request)
     struct pollfd at = poll_of(request);
     /* (what the descriptor of a hasty one shows makes no difference) */
     int came = is_hasty ? 0 : poll_now(&at, 1);
-    return is_glanced_ready(request, wulgach_glance_of(is_hasty, false, came, (uint16_t)at.revents));
+    return is_glanced_ready(
+        request, wulgach_glance_of(is_hasty, false, came, (uint16_t)at.revents));
 }
 
 /* Cuts the vectors to what the library says that each has of half their bytes. */
@@ -126,8 +137,10 @@ static struct wulgach_vectors vectors_of(const struct request *request)
     };
 }
 
-/* Makes the call in the way that the library said. A read is made by the kernel's call itself, which is quicker than the C library's. */
-static int32_t make_in_way(const struct request *request, const struct wulgach_system_call *call, uint32_t way)
+/* Makes the call in the way that the library said. A read is made by the kernel's call itself,
+ * which is quicker than the C library's. */
+static int32_t make_in_way(
+    const struct request *request, const struct wulgach_system_call *call, uint32_t way)
 {
     if (way == WULGACH_CALL_UNWILLING) {
         block_signals_before(WULGACH_DOES_ASK_NOT_TO_WAIT, false, false);
@@ -152,7 +165,8 @@ static int32_t call_once(void *with)
     return make_in_way(call->request, &call->call, call->way);
 }
 
-static int32_t call_transfer(const struct request *request, struct wulgach_transfer *transfer, uint32_t way)
+static int32_t call_transfer(
+    const struct request *request, struct wulgach_transfer *transfer, uint32_t way)
 {
     struct wulgach_vectors vectors = vectors_of(request);
     struct transfer_call call = {.request = request, .way = way};
@@ -179,7 +193,8 @@ static int32_t carry_transfer_out(struct request *request)
             find_untried(request);
             transfer = transfer_of(request);
         } else {
-            res = step == WULGACH_TRY_POLLS ? is_polled(request) : call_transfer(request, &transfer, step);
+            res = step == WULGACH_TRY_POLLS ? is_polled(request)
+                                            : call_transfer(request, &transfer, step);
         }
     }
     return step == WULGACH_TRY_WAITS ? WOULD_WAIT : res;
@@ -200,11 +215,14 @@ static int32_t call_or_wait(struct ring *ring, struct request *request)
     }
 }
 
-_Static_assert((int)FAULT_EIO == WULGACH_GIVES_EIO && (int)FAULT_ENOSPC == WULGACH_GIVES_ENOSPC && (int)FAULT_SHORT == WULGACH_GIVES_SHORT, "faults count as the library's do");
+_Static_assert((int)FAULT_EIO == WULGACH_GIVES_EIO && (int)FAULT_ENOSPC == WULGACH_GIVES_ENOSPC &&
+                   (int)FAULT_SHORT == WULGACH_GIVES_SHORT,
+    "faults count as the library's do");
 
 bool can_have(const struct request *request, enum injection fault)
 {
-    return fault == NO_FAULT || wulgach_can_have(request->entry.opcode, request->standing.is_stream, request->length, fault);
+    return fault == NO_FAULT || wulgach_can_have(request->entry.opcode, request->standing.is_stream,
+                                    request->length, fault);
 }
 
 int32_t moved_so_far(const struct request *request)
@@ -216,7 +234,8 @@ int32_t moved_so_far(const struct request *request)
 static struct wulgach_nature nature_without_buffer(const struct request *request)
 {
     struct stat status = {0};
-    struct wulgach_nature nature = {.is_open = counts_as_open(request->fd, request->needs.is_registered)};
+    struct wulgach_nature nature = {
+        .is_open = counts_as_open(request->fd, request->needs.is_registered)};
     nature.is_socket = fstat(request->fd, &status) == 0 && S_ISSOCK(status.st_mode);
     return nature;
 }
@@ -234,7 +253,8 @@ int32_t fault_of_buffer(const struct request *request, int32_t why)
     return wulgach_buffer_fault(submission_of(&request->entry), &nature, why);
 }
 
-/* Whether one has had the provided buffer that was found for it. Its descriptor is asked only of one that failed. */
+/* Whether one has had the provided buffer that was found for it. Its descriptor is asked only of
+ * one that failed. */
 static bool has_had_buffer(const struct request *request, int32_t res)
 {
     if (res >= 0)
@@ -243,18 +263,23 @@ static bool has_had_buffer(const struct request *request, int32_t res)
     return wulgach_has_had_buffer(submission_of(&request->entry), res, true, &nature);
 }
 
-/* Whether one takes its provided buffer though nothing was moved. Whether its descriptor can be polled is asked only where that matters. */
+/* Whether one takes its provided buffer though nothing was moved. Whether its descriptor can be
+ * polled is asked only where that matters. */
 static bool takes_for_nothing(struct ring *ring, struct request *request, int32_t res)
 {
     bool is_of_ring = has_buffer_ring(ring, request->entry.buf_group);
-    return has_had_buffer(request, res) && wulgach_takes_for_nothing(request->entry.opcode, res, is_of_ring, is_of_ring && res < 0 && can_be_polled(request));
+    return has_had_buffer(request, res) &&
+           wulgach_takes_for_nothing(request->entry.opcode, res, is_of_ring,
+               is_of_ring && res < 0 && can_be_polled(request));
 }
 
-/* Tells of the buffer that a request had by its result, and takes it out of its group, if it has taken it. */
+/* Tells of the buffer that a request had by its result, and takes it out of its group, if it has
+ * taken it. */
 static void leave_buffer(struct ring *ring, struct request *request, int32_t res, uint16_t id)
 {
     bool would_wait = res == WOULD_WAIT;
-    request->flags = wulgach_buffer_flags(would_wait, (uint32_t)moved_so_far(request), res, !would_wait && takes_for_nothing(ring, request, res), id);
+    request->flags = wulgach_buffer_flags(would_wait, (uint32_t)moved_so_far(request), res,
+        !would_wait && takes_for_nothing(ring, request, res), id);
     if (wulgach_buffer_is_taken(request->flags))
         take_provided(ring, request->entry.buf_group);
 }
@@ -265,7 +290,8 @@ static int32_t fault_at_start(struct ring *ring, struct request *request)
     const struct wulgach_submission *entry = submission_of(&request->entry);
     struct wulgach_buffer buffer;
     struct wulgach_nature nature = {0};
-    bool is_asked = wulgach_fault_asks_buffer(entry, request->started), is_found = is_asked && find_provided(ring, request->entry.buf_group, &buffer);
+    bool is_asked = wulgach_fault_asks_buffer(entry, request->started),
+         is_found = is_asked && find_provided(ring, request->entry.buf_group, &buffer);
     bool has_buffer = !is_asked || (is_found && !wulgach_buffer_is_none(&buffer));
     if (!has_buffer)
         nature = nature_without_buffer(request);
@@ -288,17 +314,20 @@ static bool begin_buffer(struct ring *ring, struct request *request)
 }
 
 /* Goes on there in its buffer, of which what a fault cuts isn't used again. */
-static int32_t call_into(struct ring *ring, struct request *request, struct wulgach_buffer at, bool is_half)
+static int32_t call_into(
+    struct ring *ring, struct request *request, struct wulgach_buffer at, bool is_half)
 {
     *request->vectors = (struct iovec){(void *)(uintptr_t)at.address, at.length};
     if (is_half) {
         shorten(request);
-        request->provided.length = (uint32_t)wulgach_left_of_buffer(request->provided.length, request->length, at.length);
+        request->provided.length = (uint32_t)wulgach_left_of_buffer(
+            request->provided.length, request->length, at.length);
     }
     return call_or_wait(ring, request);
 }
 
-/* Carries out what takes a buffer. Whether it goes on in the one that it had, and has taken one, by its result, is the library's decision. */
+/* Carries out what takes a buffer. Whether it goes on in the one that it had, and has taken one, by
+ * its result, is the library's decision. */
 static int32_t call_with_buffer(struct ring *ring, struct request *request, bool is_half)
 {
     struct wulgach_buffer further;
@@ -307,7 +336,8 @@ static int32_t call_with_buffer(struct ring *ring, struct request *request, bool
     if (!begin_buffer(ring, request))
         return fault_without_buffer(request);
     struct wulgach_buffer had = request->provided;
-    int32_t res = wulgach_buffer_is_none(&had) ? fault_without_buffer(request) : call_into(ring, request, had, is_half);
+    int32_t res = wulgach_buffer_is_none(&had) ? fault_without_buffer(request)
+                                               : call_into(ring, request, had, is_half);
     leave_buffer(ring, request, res, had.id);
     return res;
 }
@@ -315,10 +345,12 @@ static int32_t call_with_buffer(struct ring *ring, struct request *request, bool
 /* Makes its calls, of half of its bytes or of all, and takes back the signal that comes of them. */
 static int32_t call_for(struct ring *ring, struct request *request, bool is_half)
 {
-    block_signals_before(WULGACH_DOES_OPERATION, request->needs.is_read, request->standing.is_stream);
+    block_signals_before(
+        WULGACH_DOES_OPERATION, request->needs.is_read, request->standing.is_stream);
     if (is_half && !request->needs.selects)
         shorten(request);
-    int32_t res = request->needs.selects ? call_with_buffer(ring, request, is_half) : call_or_wait(ring, request);
+    int32_t res = request->needs.selects ? call_with_buffer(ring, request, is_half)
+                                         : call_or_wait(ring, request);
     if (res < 0)
         take_back_signal(wulgach_signal_after(submission_of(&request->entry), res));
     return res;

@@ -1,5 +1,6 @@
-/* A poll that goes on tells of each event once: so the kernel is asked by an epoll instance. One that ends with its first event asks the
- * descriptor itself. Which is asked, and for what, is the library's decision.
+/* A poll that goes on tells of each event once: so the kernel is asked by an epoll instance. One
+ * that ends with its first event asks the descriptor itself. Which is asked, and for what, is the
+ * library's decision.
  */
 #define _GNU_SOURCE
 #include "operations/polls.h"
@@ -77,7 +78,8 @@ static int start_by_instance(struct request *request)
 
 int start_poll(const struct ring *ring, struct request *request)
 {
-    wulgach_ring_poll_begin(&request->of_ring, request->needs.goes_on, request->needs.goes_on && is_ring(request->fd), ring->tellings);
+    wulgach_ring_poll_begin(&request->of_ring, request->needs.goes_on,
+        request->needs.goes_on && is_ring(request->fd), ring->tellings);
     request->is_of_pipe = is_poll_of_pipe(request);
     drop_instance(request);
     return wulgach_asks_instance(submission_of(&request->entry)) ? start_by_instance(request) : 0;
@@ -113,7 +115,8 @@ bool comes_of_ring(const struct ring *ring, const struct request *request)
 {
     if (!is_poll(request))
         return false;
-    bool is_eventfd = wulgach_ring_poll_asks_eventfd(&request->of_ring, ring->tellings) && is_own_eventfd(ring, request->fd);
+    bool is_eventfd = wulgach_ring_poll_asks_eventfd(&request->of_ring, ring->tellings) &&
+                      is_own_eventfd(ring, request->fd);
     return wulgach_comes_of_ring(&request->of_ring, ring->tellings, is_eventfd);
 }
 

@@ -13,7 +13,8 @@ bool is_poll(const struct request *request);
 /* A poll has started. Returns 0 or the negative of an error number. */
 int start_poll(const struct ring *ring, struct request *request);
 
-/* Whether the descriptor of a read that goes on can be polled: 0, or the fault with which it ends. */
+/* Whether the descriptor of a read that goes on can be polled: 0, or the fault with which it ends.
+ */
 int find_polling(struct request *request);
 
 /* Whether its descriptor can be polled, which is a regular file's. */

@@ -1,5 +1,5 @@
-/* Sockets and splices: each call is made so that it doesn't wait, and again once the descriptor is ready. What is next after each is the
- * library's decision. */
+/* Sockets and splices: each call is made so that it doesn't wait, and again once the descriptor is
+ * ready. What is next after each is the library's decision. */
 #define _GNU_SOURCE
 #include "operations/sockets.h"
 #include "operations/means.h"
@@ -55,13 +55,17 @@ static struct wulgach_header header_of(const struct msghdr *message)
     };
 }
 
-/* Copies each piece of a message that the library tells, and returns its fault, or 0, or that of refused memory. */
+/* Copies each piece of a message that the library tells, and returns its fault, or 0, or that of
+ * refused memory. */
 static int32_t copy_message_pieces(struct request *request, const struct wulgach_header *header)
 {
     struct wulgach_piece piece;
     int32_t fault = 0, next;
-    for (uint32_t count = 0; (next = wulgach_next_message_piece(submission_of(&request->entry), header, count, fault, &piece)) > 0; count++)
-        fault = piece.what == WULGACH_ADDRESS ? copy_address(request, piece.from, piece.size) : copy_vectors(request, &piece);
+    for (uint32_t count = 0; (next = wulgach_next_message_piece(submission_of(&request->entry),
+                                  header, count, fault, &piece)) > 0;
+         count++)
+        fault = piece.what == WULGACH_ADDRESS ? copy_address(request, piece.from, piece.size)
+                                              : copy_vectors(request, &piece);
     return next;
 }
 
@@ -73,12 +77,13 @@ int copy_message(struct request *request, uint64_t from)
     struct msghdr *message = &addressed->message;
     int32_t fault = copy_in(message, from, sizeof *message);
     struct wulgach_header header = header_of(message);
-    request->vectors = &request->one;       /* an empty one, if none is copied */
+    request->vectors = &request->one; /* an empty one, if none is copied */
     if (fault == 0)
         fault = copy_message_pieces(request, &header);
     if (fault < 0)
         return fault;
-    request->vector_count = (uint32_t)wulgach_message_vectors(submission_of(&request->entry), header.vector_count);
+    request->vector_count = (uint32_t)wulgach_message_vectors(
+        submission_of(&request->entry), header.vector_count);
     message->msg_iov = request->vectors;
     message->msg_iovlen = request->vector_count;
     request->control = message->msg_controllen;
@@ -89,7 +94,8 @@ int copy_address(struct request *request, uint64_t from, size_t size)
 {
     if (wulgach_is_address_alone(request->entry.opcode)) {
         request->value = calloc(1, sizeof(struct sockaddr_storage));
-        return request->value ? copy_in(request->value, from, size) : wulgach_missing_fault(WULGACH_NO_MEMORY_OWN);
+        return request->value ? copy_in(request->value, from, size)
+                              : wulgach_missing_fault(WULGACH_NO_MEMORY_OWN);
     }
     struct addressed *addressed = request->value;
     request->address = addressed->message.msg_name = &addressed->address;
@@ -105,7 +111,8 @@ static void advance(struct request *request, int32_t came_to)
     for (uint32_t i = 0; i < request->vector_count && moved > 0; i++) {
         struct iovec *vector = &request->vectors[i];
         struct wulgach_rest rest;
-        wulgach_rest_of(&(struct wulgach_vector){(uintptr_t)vector->iov_base, vector->iov_len}, moved, &rest);
+        wulgach_rest_of(
+            &(struct wulgach_vector){(uintptr_t)vector->iov_base, vector->iov_len}, moved, &rest);
         *vector = (struct iovec){(void *)(uintptr_t)rest.vector.from, rest.vector.size};
         moved = rest.moved;
     }
@@ -122,7 +129,8 @@ static struct wulgach_received received_by(const struct msghdr *message)
     };
 }
 
-/* Tells what the library says of a message, where the application's stands. False if it can't be written. */
+/* Tells what the library says of a message, where the application's stands. False if it can't be
+ * written. */
 static bool tell_message(const struct request *request)
 {
     struct wulgach_received received = received_by(request->value);
@@ -136,22 +144,25 @@ static bool tell_message(const struct request *request)
 int32_t move_message(struct request *request, const struct wulgach_means *means)
 {
     struct msghdr *message = request->value;
-    message->msg_controllen = wulgach_control_of(submission_of(&request->entry), request->control, request->done);
+    message->msg_controllen = wulgach_control_of(
+        submission_of(&request->entry), request->control, request->done);
     int32_t came_to = make_call(&means->call);
-    bool is_told = !wulgach_tells_message(submission_of(&request->entry), came_to) || tell_message(request);
+    bool is_told = !wulgach_tells_message(submission_of(&request->entry), came_to) ||
+                   tell_message(request);
     int32_t res = wulgach_told_result(came_to, is_told);
     advance(request, res);
     return res;
 }
 
-/* One that goes on: sizes and flags stand in the buffer, and after them the address, the control data and the bytes. Writes how much of the buffer has
- * something. */
+/* One that goes on: sizes and flags stand in the buffer, and after them the address, the control
+ * data and the bytes. Writes how much of the buffer has something. */
 static int32_t receive_into_buffer(struct request *request, uint64_t *filled)
 {
     const struct msghdr *asked = request->value;
     struct wulgach_layout layout;
     char *at = request->vectors->iov_base;
-    if (!wulgach_layout_of(asked->msg_namelen, asked->msg_controllen, request->vectors->iov_len, &layout))
+    if (!wulgach_layout_of(
+            asked->msg_namelen, asked->msg_controllen, request->vectors->iov_len, &layout))
         return fault_of_buffer(request, wulgach_missing_fault(WULGACH_NO_ROOM));
     struct iovec bytes = {at + layout.bytes, layout.room};
     struct msghdr message = {
@@ -169,7 +180,8 @@ static int32_t receive_into_buffer(struct request *request, uint64_t *filled)
     struct wulgach_received received = received_by(&message);
     struct wulgach_front told;
     wulgach_front_of(&received, (uint32_t)came_to, &told);
-    bool is_told = !wulgach_tells_message(submission_of(&request->entry), came_to) || copy_out((uintptr_t)at, &told, sizeof told) == 0;
+    bool is_told = !wulgach_tells_message(submission_of(&request->entry), came_to) ||
+                   copy_out((uintptr_t)at, &told, sizeof told) == 0;
     int32_t res = wulgach_told_result(came_to, is_told);
     if (res < 0)
         return res;
@@ -182,7 +194,8 @@ static bool is_stream_socket(const struct request *request)
 {
     int type = 0;
     socklen_t size = sizeof type;
-    return getsockopt(request->fd, SOL_SOCKET, SO_TYPE, &type, &size) == 0 && wulgach_is_stream_type((uint32_t)type);
+    return getsockopt(request->fd, SOL_SOCKET, SO_TYPE, &type, &size) == 0 &&
+           wulgach_is_stream_type((uint32_t)type);
 }
 
 static int32_t error_of_socket(const struct request *request)
@@ -203,7 +216,9 @@ bool asks_broken(const struct request *request)
 {
     const struct wulgach_submission *entry = submission_of(&request->entry);
     /* (of what only reads the socket needn't be asked) */
-    return wulgach_asks_broken(entry, AF_UNIX, SOCK_STREAM) && wulgach_asks_broken(entry, (uint32_t)option_of(request->fd, SO_DOMAIN), (uint32_t)option_of(request->fd, SO_TYPE));
+    return wulgach_asks_broken(entry, AF_UNIX, SOCK_STREAM) &&
+           wulgach_asks_broken(entry, (uint32_t)option_of(request->fd, SO_DOMAIN),
+               (uint32_t)option_of(request->fd, SO_TYPE));
 }
 
 bool is_broken(const struct request *request)
@@ -215,7 +230,8 @@ bool is_broken(const struct request *request)
     return wulgach_is_broken(make_call(&call));
 }
 
-/* What an epoll instance tells of a descriptor now, as poll(2) does. Negative: there is none, or it doesn't take the descriptor. */
+/* What an epoll instance tells of a descriptor now, as poll(2) does. Negative: there is none, or it
+ * doesn't take the descriptor. */
 static int ask_instance_now(struct pollfd *at)
 {
     int instance = made_instance(), came = -1;
@@ -229,8 +245,9 @@ static int ask_instance_now(struct pollfd *at)
     return came;
 }
 
-/* Whether a descriptor is a socket that nothing more comes from: it was shut down for reading, or its peer for writing. (select(2), by which others are
- * looked at where poll(2) refuses to, tells only that it can be read: as of one with an error, or with what has come meanwhile) */
+/* Whether a descriptor is a socket that nothing more comes from: it was shut down for reading, or
+ * its peer for writing. (select(2), by which others are looked at where poll(2) refuses to, tells
+ * only that it can be read: as of one with an error, or with what has come meanwhile) */
 static bool is_shut(int fd)
 {
     struct pollfd at = {.fd = fd, .events = POLLRDHUP};
@@ -243,7 +260,8 @@ static bool is_shut(int fd)
     return wulgach_is_shut(came, (uint16_t)at.revents);
 }
 
-int32_t call_unless_shut(const struct request *request, int32_t (*call)(void *), void *with, bool *is_found_shut)
+int32_t call_unless_shut(
+    const struct request *request, int32_t (*call)(void *), void *with, bool *is_found_shut)
 {
     const struct wulgach_submission *entry = submission_of(&request->entry);
     uint32_t step = WULGACH_SHUTTING_ENDS;
@@ -272,17 +290,20 @@ struct turn_call {
 static int32_t call_once(void *with)
 {
     struct turn_call *call = with;
-    return call->filled ? receive_into_buffer(call->request, call->filled) : carry_out_by_means(call->ring, call->request);
+    return call->filled ? receive_into_buffer(call->request, call->filled)
+                        : carry_out_by_means(call->ring, call->request);
 }
 
 static int32_t call_in_turn(struct ring *ring, struct request *request, uint64_t *filled)
 {
     bool is_found_shut = false;
-    return call_unless_shut(request, call_once, &(struct turn_call){ring, request, filled}, &is_found_shut);
+    return call_unless_shut(
+        request, call_once, &(struct turn_call){ring, request, filled}, &is_found_shut);
 }
 
 /* Does what the library said is next, and says what that came to. */
-static int32_t take_turn(struct ring *ring, struct request *request, uint32_t turn, uint64_t *filled)
+static int32_t take_turn(
+    struct ring *ring, struct request *request, uint32_t turn, uint64_t *filled)
 {
     switch (turn) {
     case WULGACH_TURN_CALLS:

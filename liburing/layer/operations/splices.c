@@ -1,4 +1,5 @@
-/* Splices and tees are asked not to wait, and again once both descriptors are ready. Which is polled, and for what, is the library's decision. */
+/* Splices and tees are asked not to wait, and again once both descriptors are ready. Which is
+ * polled, and for what, is the library's decision. */
 #define _GNU_SOURCE
 #include "operations/splices.h"
 #include "operations/operations.h"
@@ -14,7 +15,8 @@ static struct pollfd poll_after(const struct request *request, bool is_source_re
 {
     struct wulgach_splice_poll asked;
     wulgach_splice_polls(is_source_ready, &asked);
-    return (struct pollfd){.fd = asked.is_of_source ? request->second_fd : request->fd, .events = (short)asked.events};
+    return (struct pollfd){
+        .fd = asked.is_of_source ? request->second_fd : request->fd, .events = (short)asked.events};
 }
 
 struct pollfd poll_of_splice(const struct request *request)
@@ -34,7 +36,8 @@ int32_t result_of_splice(const struct request *request, int32_t came_to)
 {
     if (!wulgach_splice_asks_directions(came_to))
         return came_to;
-    struct wulgach_directions from = directions_of(request->second_fd), to = directions_of(request->fd);
+    struct wulgach_directions from = directions_of(request->second_fd),
+                              to = directions_of(request->fd);
     return wulgach_splice_result(came_to, &from, &to);
 }
 
@@ -42,7 +45,8 @@ bool is_unwilling_splice(const struct request *request)
 {
     struct wulgach_splice_poll asked;
     wulgach_splice_polls(shows_ready(poll_after(request, false)), &asked);
-    int fd = asked.is_of_source ? request->second_fd : request->fd, other = asked.is_of_source ? request->fd : request->second_fd;
+    int fd = asked.is_of_source ? request->second_fd : request->fd,
+        other = asked.is_of_source ? request->fd : request->second_fd;
     struct wulgach_splice_ends ends = {
         .domain = (uint32_t)option_of(fd, SO_DOMAIN),
         .kind = (uint32_t)option_of(fd, SO_TYPE),

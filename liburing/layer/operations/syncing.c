@@ -1,4 +1,5 @@
-/* What is taken for synced is the library's decision; of anything else the kernel says what it says. */
+/* What is taken for synced is the library's decision; of anything else the kernel says what it
+ * says. */
 #define _GNU_SOURCE
 #include "operations/syncing.h"
 #include "operations/openness.h"
@@ -26,6 +27,7 @@ bool is_taken_for_synced(int fd)
     if (!is_skipping || fstat(fd, &about) < 0)
         return false;
     struct wulgach_openness openness = openness_of(fd);
-    struct wulgach_synced_kind kind = {.is_regular = S_ISREG(about.st_mode), .is_folder = S_ISDIR(about.st_mode)};
+    struct wulgach_synced_kind kind = {
+        .is_regular = S_ISREG(about.st_mode), .is_folder = S_ISDIR(about.st_mode)};
     return wulgach_counts_as_synced(&openness, &kind);
 }

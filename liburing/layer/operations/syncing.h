@@ -1,5 +1,5 @@
-/* Syncing a file, or not: under WULGACH_SYNC=skip the disk isn't waited for. A run that ends by no power failure reads the
- * same, and `explore` runs many.
+/* Syncing a file, or not: under WULGACH_SYNC=skip the disk isn't waited for. A run that ends by no
+ * power failure reads the same, and `explore` runs many.
  */
 #ifndef SYNCING_H
 #define SYNCING_H

@@ -1,6 +1,7 @@
-/* What a descriptor's number was is remembered, and what it is now isn't known: the application may have closed it, and opened
- * something else. So nothing rests on that but which call is made first: a read by the number of what was a file is asked not to wait,
- * which holds whatever is there by now. What was a file in memory can't be asked so, and is asked for its seals before; but where
+/* What a descriptor's number was is remembered, and what it is now isn't known: the application may
+ * have closed it, and opened something else. So nothing rests on that but which call is made first:
+ * a read by the number of what was a file is asked not to wait, which holds whatever is there by
+ * now. What was a file in memory can't be asked so, and is asked for its seals before; but where
  * WULGACH_DEVICES says that no device is read whose reads wait: nothing else waits at an offset.
  */
 #define _GNU_SOURCE
@@ -16,7 +17,7 @@
 #include <stdlib.h>
 #include <string.h>
 
-static bool are_none;       /* the devices; read when a ring is set up */
+static bool are_none; /* the devices; read when a ring is set up */
 
 void read_devices(void)
 {
@@ -43,7 +44,8 @@ static bool is_known(int fd)
 
 static uint32_t remembered_of(int fd)
 {
-    return is_known(fd) ? __atomic_load_n(&remembered[fd], __ATOMIC_RELAXED) : (uint32_t)WULGACH_REMEMBERED_NOTHING;
+    return is_known(fd) ? __atomic_load_n(&remembered[fd], __ATOMIC_RELAXED)
+                        : (uint32_t)WULGACH_REMEMBERED_NOTHING;
 }
 
 bool was_file(int fd)
@@ -92,7 +94,8 @@ bool is_in_memory(int fd)
     return wulgach_was_in_memory(after);
 }
 
-/* Elsewhere what can go on is a way of a choice, or is written down, or says which faults there may be. */
+/* Elsewhere what can go on is a way of a choice, or is written down, or says which faults there may
+ * be. */
 bool is_asked_before(void)
 {
     return (policy() != IN_ORDER && policy() != LAZY) || is_recording_ways() || has_listed_faults();

@@ -1,8 +1,10 @@
-/* That a descriptor isn't to wait is seen by all that share the open file, in this process and in others. So others that the layer runs in may
- * have asked it just now, and may be about to take that back: then a call that goes by it sleeps, or takes it for the application's word. So
- * none does that while another does, which a lock of the process tells (fcntl), of a byte that no file has. A pipe's end that can't be locked, since it
- * can only be read, is opened once more for the call, if there is a /proc; anything else that can't be, or that the application has locked there, is
- * asked without.
+/* That a descriptor isn't to wait is seen by all that share the open file, in this process and in
+ * others. So others that the layer runs in may have asked it just now, and may be about to take
+ * that back: then a call that goes by it sleeps, or takes it for the application's word. So none
+ * does that while another does, which a lock of the process tells (fcntl), of a byte that no file
+ * has. A pipe's end that can't be locked, since it can only be read, is opened once more for the
+ * call, if there is a /proc; anything else that can't be, or that the application has locked there,
+ * is asked without.
  */
 #define _GNU_SOURCE
 #include "operations/unwilling.h"
@@ -19,7 +21,8 @@
 /* Between two tries of a lock, in microseconds. */
 enum { PAUSE = 50 };
 
-static pthread_mutex_t only = PTHREAD_MUTEX_INITIALIZER;    /* the locks of a process don't keep its threads from each other */
+static pthread_mutex_t only =
+    PTHREAD_MUTEX_INITIALIZER; /* the locks of a process don't keep its threads from each other */
 
 void lock_unwilling(void)
 {
@@ -33,13 +36,15 @@ void unlock_unwilling(void)
 
 static int32_t set_lock(int fd, short type)
 {
-    struct flock lock = {.l_type = type, .l_whence = SEEK_SET, .l_start = WULGACH_LOCKED_BYTE, .l_len = 1};
+    struct flock lock = {
+        .l_type = type, .l_whence = SEEK_SET, .l_start = WULGACH_LOCKED_BYTE, .l_len = 1};
     return fcntl(fd, F_SETLK, &lock) < 0 ? -errno : 0;
 }
 
 struct wulgach_told_lock ask_lock(int fd, int query, int64_t start, int64_t length)
 {
-    struct flock lock = {.l_type = F_WRLCK, .l_whence = SEEK_SET, .l_start = start, .l_len = length};
+    struct flock lock = {
+        .l_type = F_WRLCK, .l_whence = SEEK_SET, .l_start = start, .l_len = length};
     bool is_told = fcntl(fd, query, &lock) >= 0;
     return (struct wulgach_told_lock){
         .start = (uint64_t)lock.l_start,
@@ -96,7 +101,8 @@ static struct asked ask_not_to_wait(int fd)
     asked.is_locked = lock_file(fd);
     int flags = fcntl(fd, F_GETFL);
     uint32_t unwilling;
-    asked.is_changed = wulgach_asked_flags(flags >= 0, (uint32_t)flags, &unwilling) && fcntl(fd, F_SETFL, (int)unwilling) >= 0;
+    asked.is_changed = wulgach_asked_flags(flags >= 0, (uint32_t)flags, &unwilling) &&
+                       fcntl(fd, F_SETFL, (int)unwilling) >= 0;
     return asked;
 }
 
@@ -122,7 +128,8 @@ int32_t make_unwilling_call(const struct wulgach_system_call *call, int fd, int 
     return res;
 }
 
-/* A descriptor on what is open by this one, which is opened once more and isn't to wait, and which nobody else has; or -1. */
+/* A descriptor on what is open by this one, which is opened once more and isn't to wait, and which
+ * nobody else has; or -1. */
 static int open_anew(int fd)
 {
     char name[sizeof "/proc/thread-self/fd/" + 11];

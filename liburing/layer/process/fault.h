@@ -1,4 +1,5 @@
-/* Ending the program: the application broke the protocol, or the core answered what the layer doesn't expect. */
+/* Ending the program: the application broke the protocol, or the core answered what the layer
+ * doesn't expect. */
 #ifndef FAULT_H
 #define FAULT_H
 
@@ -14,7 +15,8 @@ static inline void demand(bool is_so, const char *message)
         stop_program(message);
 }
 
-/* Room for this many bytes, all zero; ends the program if there is none. For what is small, and asked for once. */
+/* Room for this many bytes, all zero; ends the program if there is none. For what is small, and
+ * asked for once. */
 void *need_room(unsigned long count, unsigned long size);
 
 #endif

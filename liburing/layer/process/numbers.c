@@ -17,11 +17,12 @@
 #include <sys/stat.h>
 #include <unistd.h>
 
-/* Numbers from MOST_NOTED on aren't noted: a kernel gives none by its own limit (fs.nr_open), unless that was raised. */
+/* Numbers from MOST_NOTED on aren't noted: a kernel gives none by its own limit (fs.nr_open),
+ * unless that was raised. */
 enum { MOST_NOTED = 1 << 20, BITS = 64 };
 
-/* Copies that are left open, since the process has locks on their files. Under the lock copies are made and noted, and closed: a fork holds it, so
- * a child knows of each. */
+/* Copies that are left open, since the process has locks on their files. Under the lock copies are
+ * made and noted, and closed: a fork holds it, so a child knows of each. */
 static struct {
     pthread_mutex_t lock;
     int fds[WULGACH_MOST_LEFT];
@@ -51,8 +52,9 @@ struct limits {
     struct rlimit own, raised;
 };
 
-/* The soft limit says which numbers are given to new descriptors, and the layer's needn't be among them: it is raised to the hard one for a moment, under the
- * lock. The kernel says which it replaced, since the program may set it at any time. False: there are no more. */
+/* The soft limit says which numbers are given to new descriptors, and the layer's needn't be among
+ * them: it is raised to the hard one for a moment, under the lock. The kernel says which it
+ * replaced, since the program may set it at any time. False: there are no more. */
 static bool raise_limit(struct limits *limits)
 {
     struct rlimit own;
@@ -67,7 +69,8 @@ static bool raise_limit(struct limits *limits)
 static void put_limit_back(const struct limits *limits)
 {
     struct rlimit found;
-    if (prlimit(0, RLIMIT_NOFILE, &limits->own, &found) == 0 && (found.rlim_cur != limits->raised.rlim_cur || found.rlim_max != limits->raised.rlim_max))
+    if (prlimit(0, RLIMIT_NOFILE, &limits->own, &found) == 0 &&
+        (found.rlim_cur != limits->raised.rlim_cur || found.rlim_max != limits->raised.rlim_max))
         setrlimit(RLIMIT_NOFILE, &found);
 }
 
@@ -80,7 +83,8 @@ rlim_t limit_of_numbers(void)
     return limit.rlim_cur;
 }
 
-/* A copy under one of the last numbers that the program may have, of which the layer takes these few: so the limit stays as it is. */
+/* A copy under one of the last numbers that the program may have, of which the layer takes these
+ * few: so the limit stays as it is. */
 static int copy_below(int fd)
 {
     struct rlimit own = {.rlim_cur = RLIM_INFINITY};
@@ -94,12 +98,14 @@ static int copy_beyond(int fd)
     struct limits limits;
     if (!raise_limit(&limits))
         return -EMFILE;
-    int copy = copy_from(fd, limits.own.rlim_cur > HIGH_NUMBER ? (int)limits.own.rlim_cur : HIGH_NUMBER);
+    int copy = copy_from(
+        fd, limits.own.rlim_cur > HIGH_NUMBER ? (int)limits.own.rlim_cur : HIGH_NUMBER);
     put_limit_back(&limits);
     return copy;
 }
 
-/* A copy under the best number that there is: one of the last, one past the limit, a high one, or any. */
+/* A copy under the best number that there is: one of the last, one past the limit, a high one, or
+ * any. */
 static int copy_of(int fd)
 {
     int copy = copy_below(fd);
@@ -170,7 +176,7 @@ int made_eventfd(void)
 /* ---- copies ---- */
 
 static uint64_t kept[MOST_NOTED / BITS];
-static int end_of_noted;    /* all that are noted are below */
+static int end_of_noted; /* all that are noted are below */
 
 static void note(int fd)
 {
@@ -231,8 +237,8 @@ void close_parents(void)
 
 /* ---- locks ---- */
 
-/* Reads the next line of a file, without its end, as much of it as there is room for, and returns how much that is. No memory is asked for: a handler may
- * close. 0: there is none. */
+/* Reads the next line of a file, without its end, as much of it as there is room for, and returns
+ * how much that is. No memory is asked for: a handler may close. 0: there is none. */
 static size_t read_line(int file, uint8_t *line, size_t room)
 {
     size_t length = 0;
@@ -256,14 +262,16 @@ static bool lists_lock(int locks, int fd)
     return false;
 }
 
-/* An open file description has locks of its own, and is told of one that isn't. Of several it is told of one: then the list of all is read. */
+/* An open file description has locks of its own, and is told of one that isn't. Of several it is
+ * told of one: then the list of all is read. */
 static bool is_locked(int fd)
 {
     struct wulgach_told_lock told = ask_lock(fd, F_OFD_GETLK, 0, 0);
     if (!wulgach_asks_list_of_locks(&told))
         return wulgach_is_own_lock(&told);
     int locks = open("/proc/locks", O_RDONLY | O_CLOEXEC);
-    bool is_so = wulgach_is_taken_so(WULGACH_IS_LOCKED, locks >= 0, locks >= 0 && lists_lock(locks, fd));
+    bool is_so = wulgach_is_taken_so(
+        WULGACH_IS_LOCKED, locks >= 0, locks >= 0 && lists_lock(locks, fd));
     if (locks >= 0)
         close(locks);
     return is_so;

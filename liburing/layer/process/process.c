@@ -1,7 +1,7 @@
 /* Which process and which thread this is, and its signals.
  *
- * The kernel empties a page of the layer's in each child, however that was forked: so a number that stands in it is still
- * this process's, and needn't be asked for at each call.
+ * The kernel empties a page of the layer's in each child, however that was forked: so a number that
+ * stands in it is still this process's, and needn't be asked for at each call.
  */
 #define _GNU_SOURCE
 #include "process/process.h"
@@ -38,11 +38,14 @@ __attribute__((noinline)) pid_t ask_process(void)
 /* (of threads that ask at once the first says which) */
 __attribute__((noinline)) uint32_t ask_image(void)
 {
-    static uint32_t asked;      /* how often, in this process and in those that it comes from */
+    static uint32_t asked; /* how often, in this process and in those that it comes from */
     uint32_t none = 0, image = __atomic_add_fetch(&asked, 1, __ATOMIC_RELAXED);
     if (!kept_process)
         return (uint32_t)getpid();
-    return __atomic_compare_exchange_n(&kept_process->image, &none, image, false, __ATOMIC_RELAXED, __ATOMIC_RELAXED) ? image : none;
+    return __atomic_compare_exchange_n(
+               &kept_process->image, &none, image, false, __ATOMIC_RELAXED, __ATOMIC_RELAXED)
+               ? image
+               : none;
 }
 
 /* A child of vfork has the very page of its parent, and leaves it as it is. */

@@ -1,6 +1,7 @@
-/* Registered buffers. The kernel pins their pages; here they are asked for once (pinning.c), so that what can't be written is told where the
- * kernel tells it. A request that is started keeps its buffer, whatever becomes of the slot: its tag waits. What slots hold, what a row of a
- * list does, what is refused, when a buffer is gone and which bytes are its is the library's decision.
+/* Registered buffers. The kernel pins their pages; here they are asked for once (pinning.c), so
+ * that what can't be written is told where the kernel tells it. A request that is started keeps its
+ * buffer, whatever becomes of the slot: its tag waits. What slots hold, what a row of a list does,
+ * what is refused, when a buffer is gone and which bytes are its is the library's decision.
  */
 #define _GNU_SOURCE
 #include "registered/buffers.h"
@@ -36,12 +37,14 @@ struct buffer_row {
 };
 
 /* Reads it as the library says. A list that isn't read has no buffers, or no tags. */
-static int read_row(struct buffer_row *row, const struct wulgach_lists *lists, uint32_t index, bool is_update)
+static int read_row(
+    struct buffer_row *row, const struct wulgach_lists *lists, uint32_t index, bool is_update)
 {
     *row = (struct buffer_row){0};
     wulgach_row_of(lists, index, false, &row->place);
     int result = 0;
-    for (uint32_t steps = wulgach_reading_steps(lists->tags, lists->rows, is_update); steps && result == 0; steps &= steps - 1)
+    for (uint32_t steps = wulgach_reading_steps(lists->tags, lists->rows, is_update);
+         steps && result == 0; steps &= steps - 1)
         if (__builtin_ctz(steps) == WULGACH_READING_TAG)
             result = copy_in(&row->tag, row->place.tag_at, sizeof row->tag);
         else
@@ -51,9 +54,9 @@ static int read_row(struct buffer_row *row, const struct wulgach_lists *lists, u
 
 /* A buffer that is made of a row. */
 struct making {
-    struct inbox *told;         /* who is told its tag once it is gone: 0 is none */
+    struct inbox *told; /* who is told its tag once it is gone: 0 is none */
     uint64_t tag;
-    struct message *message;    /* for that */
+    struct message *message; /* for that */
     struct iovec bytes;
     struct buffer *buffer;
 };
@@ -83,7 +86,8 @@ static int make_step(struct known_memory *known, struct making *making, uint32_t
 }
 
 /* Makes the buffer of a row that names one, in the steps that the library says. */
-static int make_there(struct ring *ring, struct known_memory *known, uint64_t *word, const struct buffer_row *row)
+static int make_there(
+    struct ring *ring, struct known_memory *known, uint64_t *word, const struct buffer_row *row)
 {
     struct making making = {.told = &ring->inbox, .tag = row->tag, .bytes = row->bytes};
     int fault = 0;
@@ -99,18 +103,24 @@ static int make_there(struct ring *ring, struct known_memory *known, uint64_t *w
 /* What a row does with its slot, as the library says, the bit of each step. */
 static uint32_t steps_of(const struct buffer_row *row, int32_t *fault)
 {
-    return wulgach_row_steps(wulgach_buffer_row((uintptr_t)row->bytes.iov_base, row->bytes.iov_len, row->tag, fault), false);
+    return wulgach_row_steps(
+        wulgach_buffer_row((uintptr_t)row->bytes.iov_base, row->bytes.iov_len, row->tag, fault),
+        false);
 }
 
-/* Writes what a slot of a table, an empty one, gets by a row of a list, and does no more of what the library says that an update does by it. */
-static int make_row(struct ring *ring, struct known_memory *known, uint64_t *words, const struct wulgach_lists *lists, uint32_t index)
+/* Writes what a slot of a table, an empty one, gets by a row of a list, and does no more of what
+ * the library says that an update does by it. */
+static int make_row(struct ring *ring, struct known_memory *known, uint64_t *words,
+    const struct wulgach_lists *lists, uint32_t index)
 {
     struct buffer_row row;
     int32_t fault;
     int result = read_row(&row, lists, index, false);
     if (result < 0)
         return result;
-    return steps_of(&row, &fault) & 1U << WULGACH_STEP_MAKES ? make_there(ring, known, &words[row.place.slot], &row) : fault;
+    return steps_of(&row, &fault) & 1U << WULGACH_STEP_MAKES
+               ? make_there(ring, known, &words[row.place.slot], &row)
+               : fault;
 }
 
 /* Of a table that isn't registered after all, no tag is told. */
@@ -141,7 +151,8 @@ int register_buffers(struct ring *ring, const struct wulgach_lists *lists)
         return wulgach_missing_fault(WULGACH_NO_MEMORY_OWN);
     struct known_memory known = {0};
     uint32_t taken = 0, listing;
-    while ((listing = wulgach_table_listing(taken, count, lists->rows || lists->tags, result)) == WULGACH_LISTING_TAKES) {
+    while ((listing = wulgach_table_listing(taken, count, lists->rows || lists->tags, result)) ==
+           WULGACH_LISTING_TAKES) {
         result = make_row(ring, &known, words, lists, taken);
         taken++;
     }
@@ -171,8 +182,10 @@ void free_buffers(struct ring *ring)
     wulgach_table_unregister(&ring->buffers.table);
 }
 
-/* Does with a slot what the library says that a row does, step by step. It gets the buffer that was made, or none. */
-static int update_buffer(struct ring *ring, struct known_memory *known, const struct buffer_row *row)
+/* Does with a slot what the library says that a row does, step by step. It gets the buffer that was
+ * made, or none. */
+static int update_buffer(
+    struct ring *ring, struct known_memory *known, const struct buffer_row *row)
 {
     struct buffers *buffers = &ring->buffers;
     int32_t fault;
@@ -181,7 +194,8 @@ static int update_buffer(struct ring *ring, struct known_memory *known, const st
         if (__builtin_ctz(steps) == WULGACH_STEP_MAKES)
             fault = make_there(ring, known, &word, row);
         else
-            release_buffer(buffer_of(wulgach_table_fill(&buffers->table, buffers->words, buffers->table.count, row->place.slot, word)));
+            release_buffer(buffer_of(wulgach_table_fill(
+                &buffers->table, buffers->words, buffers->table.count, row->place.slot, word)));
     return fault;
 }
 
@@ -204,11 +218,14 @@ int update_buffers(struct ring *ring, const struct wulgach_lists *lists)
 int use_buffer(struct ring *ring, uint32_t index, const struct iovec *bytes, struct buffer **used)
 {
     struct buffers *buffers = &ring->buffers;
-    struct buffer *buffer = buffer_of(wulgach_table_content(&buffers->table, buffers->words, buffers->table.count, index));
+    struct buffer *buffer = buffer_of(
+        wulgach_table_content(&buffers->table, buffers->words, buffers->table.count, index));
     if (!buffer)
         return wulgach_missing_fault(WULGACH_NO_BUFFER);
     /* (a no-op looks for a buffer, and moves no bytes) */
-    int fault = bytes ? wulgach_bytes_fault((uintptr_t)buffer->bytes.iov_base, buffer->bytes.iov_len, (uintptr_t)bytes->iov_base, bytes->iov_len) : 0;
+    int fault = bytes ? wulgach_bytes_fault((uintptr_t)buffer->bytes.iov_base,
+                            buffer->bytes.iov_len, (uintptr_t)bytes->iov_base, bytes->iov_len)
+                      : 0;
     if (fault < 0)
         return fault;
     wulgach_uses_take(&buffer->uses);

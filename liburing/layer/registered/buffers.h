@@ -16,20 +16,20 @@ struct message;
 /* A registered buffer. It is gone once no slot and no request has it. */
 struct buffer {
     struct iovec bytes;
-    struct wulgach_uses uses;       /* when that is, is the library's decision */
-    struct inbox *told;             /* who is told its tag then, */
-    struct message *tag;            /* or NULL: it has none */
+    struct wulgach_uses uses; /* when that is, is the library's decision */
+    struct inbox *told; /* who is told its tag then, */
+    struct message *tag; /* or NULL: it has none */
 };
 
 struct buffers {
-    struct wulgach_table table;     /* which slot holds what is the library's: */
-    uint64_t *words;                /* of each slot the address of its buffer, or 0 */
+    struct wulgach_table table; /* which slot holds what is the library's: */
+    uint64_t *words; /* of each slot the address of its buffer, or 0 */
 };
 
 struct ring;
 
-/* The calls of io_uring_register(2), with the lists that the library says. Each returns 0 or the number
- * of buffers updated, or the negative of an error number. */
+/* The calls of io_uring_register(2), with the lists that the library says. Each returns 0 or the
+ * number of buffers updated, or the negative of an error number. */
 int register_buffers(struct ring *ring, const struct wulgach_lists *lists);
 int unregister_buffers(struct ring *ring, bool has_argument);
 void free_buffers(struct ring *ring);

@@ -1,6 +1,7 @@
-/* The table is a thread's own, as in the kernel. A ring in it stays open whatever is closed: it has a descriptor of the layer's
- * own, under a high number, which is closed when the thread ends. Which row a ring gets, what a number names, to which threads, and what is refused
- * is the library's decision.
+/* The table is a thread's own, as in the kernel. A ring in it stays open whatever is closed: it has
+ * a descriptor of the layer's own, under a high number, which is closed when the thread ends. Which
+ * row a ring gets, what a number names, to which threads, and what is refused is the library's
+ * decision.
  */
 #define _GNU_SOURCE
 #include "registered/enrolling.h"
@@ -21,12 +22,13 @@
 
 enum { MOST = 16 };
 
-/* The library's words of a thread that has rows, and the process in which it is known to io_uring, and has them. */
+/* The library's words of a thread that has rows, and the process in which it is known to io_uring,
+ * and has them. */
 static __thread uint64_t *table;
 static __thread uint32_t known_in;
-static __thread uint32_t ring_of[MOST];     /* which ring each row has, by its number in the process */
+static __thread uint32_t ring_of[MOST]; /* which ring each row has, by its number in the process */
 static pthread_key_t key;
-static bool has_key;            /* a program may have taken all: then the rows of a thread stay when it ends */
+static bool has_key; /* a program may have taken all: then the rows of a thread stay when it ends */
 static pthread_once_t once = PTHREAD_ONCE_INIT;
 
 static bool is_known(void)
@@ -48,7 +50,8 @@ static void free_table(void)
     free(rows);
 }
 
-/* A program that has closed the number itself may have it for a file of its own, or another ring. */
+/* A program that has closed the number itself may have it for a file of its own, or another ring.
+ */
 static void close_row(uint32_t row, int fd)
 {
     uint32_t found = 0;
@@ -92,8 +95,8 @@ static void make_key(void)
     has_key = pthread_key_create(&key, end_thread) == 0;
 }
 
-/* A child has none of its parent's rows. The copies of their descriptors were closed as it was forked; one that was made by a system call of the
- * program's own keeps them open. */
+/* A child has none of its parent's rows. The copies of their descriptors were closed as it was
+ * forked; one that was made by a system call of the program's own keeps them open. */
 static void leave_parents_table(void)
 {
     if (!table || is_known())

@@ -1,5 +1,6 @@
-/* The layer has no thread that could tell an eventfd of what goes on while no call is made. So a ring that has one goes on
- * in each call until nothing can without waiting. That, what is refused, and whether one is told is the library's decision.
+/* The layer has no thread that could tell an eventfd of what goes on while no call is made. So a
+ * ring that has one goes on in each call until nothing can without waiting. That, what is refused,
+ * and whether one is told is the library's decision.
  */
 #define _GNU_SOURCE
 #include "registered/eventfds.h"
@@ -18,7 +19,8 @@ static bool is_eventfd(int fd)
 {
     char name[MOST_OF_NAME];
     size_t length = name_of_descriptor(fd, name);
-    return wulgach_is_taken_so(WULGACH_IS_EVENTFD, length > 0, wulgach_is_eventfd_name((uint8_t *)name, length));
+    return wulgach_is_taken_so(
+        WULGACH_IS_EVENTFD, length > 0, wulgach_is_eventfd_name((uint8_t *)name, length));
 }
 
 int register_eventfd(struct ring *ring, uint64_t at, bool is_async)
@@ -26,7 +28,8 @@ int register_eventfd(struct ring *ring, uint64_t at, bool is_async)
     int fd;
     bool is_read = !ring->telling.is_registered && copy_in(&fd, at, sizeof fd) == 0;
     bool is_open = is_read && counts_as_open(fd, false);
-    int result = wulgach_eventfd_registering_fault(&ring->telling, is_read, is_open, is_open && is_eventfd(fd));
+    int result = wulgach_eventfd_registering_fault(
+        &ring->telling, is_read, is_open, is_open && is_eventfd(fd));
     if (result < 0)
         return result;
     int copy = kept_copy_of(fd);

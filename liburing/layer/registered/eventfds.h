@@ -11,7 +11,8 @@ struct ring;
 int register_eventfd(struct ring *ring, uint64_t fd, bool is_async);
 int unregister_eventfd(struct ring *ring);
 
-/* So many completions have come into the ring, shown together, of which it is to be told. It waits for nothing. */
+/* So many completions have come into the ring, shown together, of which it is to be told. It waits
+ * for nothing. */
 void tell_eventfd(struct ring *ring, uint64_t told);
 
 /* Whether it is what this descriptor is open on. */

@@ -1,10 +1,12 @@
-/* A registered file stays open however the application closes its descriptor, so the layer has one of its own, under a
- * high number. A request that is started keeps its file, whatever becomes of the slot. What slots hold, which one a file gets, what
- * a row of a list does, what is refused and when a file is gone is the library's decision.
+/* A registered file stays open however the application closes its descriptor, so the layer has one
+ * of its own, under a high number. A request that is started keeps its file, whatever becomes of
+ * the slot. What slots hold, which one a file gets, what a row of a list does, what is refused and
+ * when a file is gone is the library's decision.
  *
- * Another ring's thread may put a file here: so the table is looked at and changed under a lock of its own, which isn't
- * held while any other but an inbox's is taken. The file that it takes the place of may be a request's too, which gives it back without
- * that lock: so the library is given the count as it stands, and what it makes of it is put in its place by an exchange that fails if
+ * Another ring's thread may put a file here: so the table is looked at and changed under a lock of
+ * its own, which isn't held while any other but an inbox's is taken. The file that it takes the
+ * place of may be a request's too, which gives it back without that lock: so the library is given
+ * the count as it stands, and what it makes of it is put in its place by an exchange that fails if
  * another thread was faster.
  */
 #define _GNU_SOURCE
@@ -35,10 +37,12 @@ static struct file *file_of(uint64_t word)
     return (struct file *)(uintptr_t)word;
 }
 
-/* Puts the count of these uses in the place of what it was, unless that has changed: then says no, and what it is. */
+/* Puts the count of these uses in the place of what it was, unless that has changed: then says no,
+ * and what it is. */
 static bool exchange(struct file *file, uint32_t *count, const struct wulgach_uses *uses)
 {
-    return __atomic_compare_exchange_n(&file->uses.count, count, uses->count, false, __ATOMIC_ACQ_REL, __ATOMIC_ACQUIRE);
+    return __atomic_compare_exchange_n(
+        &file->uses.count, count, uses->count, false, __ATOMIC_ACQ_REL, __ATOMIC_ACQUIRE);
 }
 
 static void take_file(struct file *file)
@@ -81,7 +85,8 @@ struct file *use_file(struct ring *ring, uint32_t index)
 {
     struct files *files = &ring->files;
     pthread_mutex_lock(&files->lock);
-    struct file *file = file_of(wulgach_table_content(&files->table, files->words, files->table.count, index));
+    struct file *file = file_of(
+        wulgach_table_content(&files->table, files->words, files->table.count, index));
     if (file)
         take_file(file);
     pthread_mutex_unlock(&files->lock);
@@ -97,9 +102,9 @@ static bool is_regular(int fd)
 /* A file that is made of a descriptor, which stays the application's. */
 struct making {
     int fd;
-    struct inbox *told;         /* who is told its tag once it is gone: 0 is none */
+    struct inbox *told; /* who is told its tag once it is gone: 0 is none */
     uint64_t tag;
-    struct message *message;    /* for that */
+    struct message *message; /* for that */
     struct file *file;
 };
 
@@ -113,7 +118,8 @@ static int copy_file(struct making *making)
         close_kept(copy, is_regular(copy));
         return wulgach_missing_fault(WULGACH_NO_MEMORY_OWN);
     }
-    *making->file = (struct file){.fd = copy, .is_regular = is_regular(copy), .told = making->told, .tag = making->message};
+    *making->file = (struct file){
+        .fd = copy, .is_regular = is_regular(copy), .told = making->told, .tag = making->message};
     wulgach_uses_begin(&making->file->uses, making->message != NULL);
     return 0;
 }
@@ -137,7 +143,8 @@ static int make_step(struct making *making, uint32_t step)
 static int make_by_steps(struct file **made, struct making making, bool is_registered)
 {
     int fault = 0;
-    for (uint32_t steps = wulgach_making_steps(is_registered, making.tag); steps && fault == 0; steps &= steps - 1)
+    for (uint32_t steps = wulgach_making_steps(is_registered, making.tag); steps && fault == 0;
+         steps &= steps - 1)
         fault = make_step(&making, (uint32_t)__builtin_ctz(steps));
     if (fault < 0)
         free(making.message);
@@ -205,17 +212,20 @@ static void put_table(struct files *files, uint64_t *words, uint32_t count)
 static void put_slot(struct files *files, uint32_t slot, struct file *file)
 {
     pthread_mutex_lock(&files->lock);
-    uint64_t before = wulgach_table_fill(&files->table, files->words, files->table.count, slot, (uintptr_t)file);
+    uint64_t before = wulgach_table_fill(
+        &files->table, files->words, files->table.count, slot, (uintptr_t)file);
     pthread_mutex_unlock(&files->lock);
     release_file(file_of(before));
 }
 
-int read_file_row(struct file_row *row, const struct wulgach_lists *lists, uint32_t index, bool is_update)
+int read_file_row(
+    struct file_row *row, const struct wulgach_lists *lists, uint32_t index, bool is_update)
 {
     *row = (struct file_row){.fd = NO_FILE};
     wulgach_row_of(lists, index, true, &row->place);
     int result = 0;
-    for (uint32_t steps = wulgach_reading_steps(lists->tags, lists->rows, is_update); steps && result == 0; steps &= steps - 1)
+    for (uint32_t steps = wulgach_reading_steps(lists->tags, lists->rows, is_update);
+         steps && result == 0; steps &= steps - 1)
         if (__builtin_ctz(steps) == WULGACH_READING_TAG)
             result = copy_in(&row->tag, row->place.tag_at, sizeof row->tag);
         else
@@ -224,7 +234,8 @@ int read_file_row(struct file_row *row, const struct wulgach_lists *lists, uint3
 }
 
 /* Makes the file of a row, if the row has one, and puts it into its slot of a table. */
-static int make_row(struct ring *ring, uint64_t *words, const struct wulgach_lists *lists, uint32_t index)
+static int make_row(
+    struct ring *ring, uint64_t *words, const struct wulgach_lists *lists, uint32_t index)
 {
     struct file_row row;
     int32_t fault;
@@ -241,14 +252,16 @@ static int make_row(struct ring *ring, uint64_t *words, const struct wulgach_lis
 int register_files(struct ring *ring, const struct wulgach_lists *lists)
 {
     uint32_t count = lists->count;
-    int result = wulgach_table_registering_fault(&ring->files.table, count, limit_of_numbers(), true);
+    int result = wulgach_table_registering_fault(
+        &ring->files.table, count, limit_of_numbers(), true);
     if (result < 0)
         return result;
     uint64_t *words = calloc(count, sizeof *words);
     if (!words)
         return wulgach_missing_fault(WULGACH_NO_MEMORY_OWN);
     uint32_t taken = 0, listing;
-    while ((listing = wulgach_table_listing(taken, count, lists->rows || lists->tags, result)) == WULGACH_LISTING_TAKES) {
+    while ((listing = wulgach_table_listing(taken, count, lists->rows || lists->tags, result)) ==
+           WULGACH_LISTING_TAKES) {
         result = make_row(ring, words, lists, taken);
         taken++;
     }
@@ -267,7 +280,8 @@ int unregister_files(struct ring *ring, bool has_argument)
     return result;
 }
 
-/* Does with a slot what the library says that a row does, step by step. It gets the file that was made, or none. */
+/* Does with a slot what the library says that a row does, step by step. It gets the file that was
+ * made, or none. */
 static int update_file(struct ring *ring, const struct file_row *row)
 {
     int fd = row->fd;
@@ -316,9 +330,11 @@ int put_file(struct ring *ring, struct file *file, uint32_t file_index)
     struct file *before = file;
     uint32_t slot = 0;
     pthread_mutex_lock(&files->lock);
-    int result = wulgach_table_place(&files->table, files->words, files->table.count, file_index, &slot);
+    int result = wulgach_table_place(
+        &files->table, files->words, files->table.count, file_index, &slot);
     if (result == 0)
-        before = file_of(wulgach_table_fill(&files->table, files->words, files->table.count, slot, (uintptr_t)file));
+        before = file_of(wulgach_table_fill(
+            &files->table, files->words, files->table.count, slot, (uintptr_t)file));
     pthread_mutex_unlock(&files->lock);
     release_file(before);
     return result < 0 ? result : wulgach_placed_result(file_index, slot);

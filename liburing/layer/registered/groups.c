@@ -1,5 +1,5 @@
-/* A group is a list that requests fill, or a ring in memory of the application's. Which buffer comes next, what is left and what is refused
- * is the library's decision. */
+/* A group is a list that requests fill, or a ring in memory of the application's. Which buffer
+ * comes next, what is left and what is refused is the library's decision. */
 #include "registered/groups.h"
 #include "registered/pinning.h"
 #include "requests/copying.h"
@@ -14,10 +14,10 @@
 struct group {
     struct group *next;
     uint16_t id;
-    struct wulgach_group kept;      /* what becomes of it is the library's: */
-    struct wulgach_buffer *rows;    /* a list's buffers, */
-    uint32_t room;                  /* and for how many there is room */
-    uint64_t ring;                  /* where the application's ring is */
+    struct wulgach_group kept; /* what becomes of it is the library's: */
+    struct wulgach_buffer *rows; /* a list's buffers, */
+    uint32_t room; /* and for how many there is room */
+    uint64_t ring; /* where the application's ring is */
 };
 
 static struct group *find_group(struct ring *ring, uint16_t id)
@@ -28,7 +28,8 @@ static struct group *find_group(struct ring *ring, uint16_t id)
     return group;
 }
 
-/* The group of a number. Where there is none yet, one is made that isn't there for the library; NULL: out of memory. */
+/* The group of a number. Where there is none yet, one is made that isn't there for the library;
+ * NULL: out of memory. */
 static struct group *any_group(struct ring *ring, uint16_t id)
 {
     struct group *group = find_group(ring, id);
@@ -83,13 +84,18 @@ int32_t provide_buffers(struct ring *ring, const struct io_uring_sqe *entry)
 {
     struct wulgach_provided provided;
     wulgach_provided_of(submission_of(entry), &provided);
-    struct wulgach_buffers asked = {.address = provided.address, .length = provided.length, .count = provided.count, .id = (uint16_t)provided.first};
+    struct wulgach_buffers asked = {.address = provided.address,
+        .length = provided.length,
+        .count = provided.count,
+        .id = (uint16_t)provided.first};
     struct wulgach_group kept = kept_of(ring, entry->buf_group);
-    int32_t fault = wulgach_group_providing_fault(&kept, provided.address, provided.length, provided.count, provided.first);
+    int32_t fault = wulgach_group_providing_fault(
+        &kept, provided.address, provided.length, provided.count, provided.first);
     if (fault < 0)
         return fault;
     struct group *group = any_group(ring, entry->buf_group);
-    bool is_provided = group && make_room(group, asked.count) && wulgach_group_provide(&group->kept, group->rows, group->room, &asked);
+    bool is_provided = group && make_room(group, asked.count) &&
+                       wulgach_group_provide(&group->kept, group->rows, group->room, &asked);
     return is_provided ? fault : wulgach_missing_fault(WULGACH_NO_MEMORY_OWN);
 }
 
@@ -98,7 +104,9 @@ int32_t remove_buffers(struct ring *ring, const struct io_uring_sqe *entry)
     struct group *group = find_group(ring, entry->buf_group);
     struct wulgach_group kept = kept_of(ring, entry->buf_group);
     int32_t fault = wulgach_group_removing_fault(&kept);
-    return fault < 0 ? fault : (int32_t)wulgach_group_remove(&group->kept, wulgach_removed_of(submission_of(entry)));
+    return fault < 0 ? fault
+                     : (int32_t)wulgach_group_remove(
+                           &group->kept, wulgach_removed_of(submission_of(entry)));
 }
 
 /* Reads the argument of a call for a ring that is to be registered, or goes: 0, or its fault. */
@@ -114,19 +122,22 @@ static int read_ring(struct io_uring_buf_reg *asked, uint64_t at, uint32_t count
 static int form_fault(struct ring *ring, const struct io_uring_buf_reg *asked)
 {
     struct wulgach_group kept = kept_of(ring, asked->bgid);
-    return wulgach_group_registering_fault(&kept, asked->ring_addr, asked->ring_entries, (uint64_t)sysconf(_SC_PAGESIZE));
+    return wulgach_group_registering_fault(
+        &kept, asked->ring_addr, asked->ring_entries, (uint64_t)sysconf(_SC_PAGESIZE));
 }
 
 static int pages_fault(const struct io_uring_buf_reg *asked)
 {
-    struct iovec cells = {(void *)(uintptr_t)asked->ring_addr, asked->ring_entries * sizeof(struct io_uring_buf)};
+    struct iovec cells = {
+        (void *)(uintptr_t)asked->ring_addr, asked->ring_entries * sizeof(struct io_uring_buf)};
     struct known_memory known = {0};
     int result = pinning_fault(&known, &cells);
     forget_memory(&known);
     return result;
 }
 
-static int ring_step(struct ring *ring, const struct io_uring_buf_reg *asked, struct group **group, uint32_t step)
+static int ring_step(
+    struct ring *ring, const struct io_uring_buf_reg *asked, struct group **group, uint32_t step)
 {
     switch (step) {
     case WULGACH_RING_FORM:
@@ -184,7 +195,8 @@ static bool find_in_ring(const struct group *group, struct wulgach_buffer *found
 {
     uint16_t tail = 0, cell;
     struct io_uring_buf buffer = {0};
-    bool is_read = copy_in(&tail, group->ring + offsetof(struct io_uring_buf_ring, tail), sizeof tail) == 0;
+    bool is_read = copy_in(&tail, group->ring + offsetof(struct io_uring_buf_ring, tail),
+                       sizeof tail) == 0;
     if (!wulgach_group_cell(&group->kept, is_read, tail, &cell))
         return false;
     is_read = copy_in(&buffer, group->ring + cell * sizeof buffer, sizeof buffer) == 0;
@@ -197,7 +209,9 @@ bool find_provided(struct ring *ring, uint16_t id, struct wulgach_buffer *found)
     const struct group *group = find_group(ring, id);
     if (!group)
         return false;
-    return wulgach_group_is_ring(&group->kept) ? find_in_ring(group, found) : wulgach_group_next(&group->kept, group->rows, group->room, found);
+    return wulgach_group_is_ring(&group->kept)
+               ? find_in_ring(group, found)
+               : wulgach_group_next(&group->kept, group->rows, group->room, found);
 }
 
 bool has_buffer_ring(struct ring *ring, uint16_t id)

@@ -1,5 +1,6 @@
-/* Which memory may be registered: the kernel is asked for its pages, to be written, and with which files it is shared is looked up in
- * /proc. What its lines say, and what all this comes to, is the library's decision.
+/* Which memory may be registered: the kernel is asked for its pages, to be written, and with which
+ * files it is shared is looked up in /proc. What its lines say, and what all this comes to, is the
+ * library's decision.
  */
 #define _GNU_SOURCE
 #include "registered/pinning.h"
@@ -35,7 +36,8 @@ static bool can_ask(uintptr_t page)
     return ask_for((uintptr_t)&here, 1, page);
 }
 
-/* Reads a file to its end, with a 0 after it. NULL: it can't be read, or there is no memory for it. */
+/* Reads a file to its end, with a 0 after it. NULL: it can't be read, or there is no memory for it.
+ */
 static char *read_file(const char *path)
 {
     size_t length = 0, room = 0;
@@ -62,7 +64,8 @@ static char *read_file(const char *path)
     return NULL;
 }
 
-/* Whether the memory that a line of the thread's list is of is shared with a file which is written back. */
+/* Whether the memory that a line of the thread's list is of is shared with a file which is written
+ * back. */
 static bool is_of_a_file(const char *line, const struct wulgach_mapped *mapped)
 {
     struct statfs status;
@@ -74,7 +77,8 @@ static bool is_of_a_file(const char *line, const struct wulgach_mapped *mapped)
 static bool note(struct known_memory *known, const struct wulgach_mapped *mapped)
 {
     if (known->count == known->room) {
-        struct span *more = realloc(known->spans, (known->room = 2 * known->room + 8) * sizeof *more);
+        struct span *more = realloc(
+            known->spans, (known->room = 2 * known->room + 8) * sizeof *more);
         if (!more)
             return false;
         known->spans = more;
@@ -111,7 +115,8 @@ static void look_up(struct known_memory *known)
 static bool is_shared(const struct known_memory *known, const struct iovec *bytes)
 {
     for (size_t i = 0; i < known->count; i++)
-        if (wulgach_has_byte_of((uintptr_t)bytes->iov_base, bytes->iov_len, known->spans[i].start, known->spans[i].end))
+        if (wulgach_has_byte_of((uintptr_t)bytes->iov_base, bytes->iov_len, known->spans[i].start,
+                known->spans[i].end))
             return true;
     return false;
 }

@@ -8,10 +8,10 @@
 
 /* What a call knows of the memory of its process: nothing at first. It asks once. */
 struct known_memory {
-    struct span *spans;     /* what is shared with files that the kernel writes back, */
+    struct span *spans; /* what is shared with files that the kernel writes back, */
     size_t count, room;
-    bool is_looked_up;      /* once it is looked up, */
-    bool is_listed;         /* and if it is known */
+    bool is_looked_up; /* once it is looked up, */
+    bool is_listed; /* and if it is known */
 };
 
 /* The fault of registering these bytes, or 0. */

@@ -1,5 +1,5 @@
-/* Registered files that are put where there is room, by a list of descriptors. What is done with each row, and in which order, is the library's
- * decision.
+/* Registered files that are put where there is room, by a list of descriptors. What is done with
+ * each row, and in which order, is the library's decision.
  */
 #include "registered/placings.h"
 #include "registered/files.h"

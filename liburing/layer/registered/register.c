@@ -1,5 +1,6 @@
-/* io_uring_register(2): the probe of operations, registered files, buffers, rings and an eventfd, and restrictions. Which calls there are, and
- * what is refused of their arguments and of what they read, is the library's decision.
+/* io_uring_register(2): the probe of operations, registered files, buffers, rings and an eventfd,
+ * and restrictions. Which calls there are, and what is refused of their arguments and of what they
+ * read, is the library's decision.
  */
 #define _GNU_SOURCE
 #include "calls/duties.h"
@@ -23,15 +24,22 @@
 
 enum { MOST_PROBED = 256 };
 
-_Static_assert(sizeof(struct io_uring_rsrc_register) == 32 && sizeof(struct io_uring_rsrc_update2) == 32, "the library's sizes of structures");
-_Static_assert(sizeof(struct io_uring_rsrc_register) == sizeof(struct wulgach_table_form) && sizeof(struct io_uring_rsrc_update2) == sizeof(struct wulgach_update_form), "the library's structures");
-_Static_assert(sizeof(struct io_uring_files_update) == sizeof(struct wulgach_files_form) && sizeof(struct io_uring_sync_cancel_reg) == sizeof(struct wulgach_cancel_form), "the library's structures");
+_Static_assert(
+    sizeof(struct io_uring_rsrc_register) == 32 && sizeof(struct io_uring_rsrc_update2) == 32,
+    "the library's sizes of structures");
+_Static_assert(sizeof(struct io_uring_rsrc_register) == sizeof(struct wulgach_table_form) &&
+                   sizeof(struct io_uring_rsrc_update2) == sizeof(struct wulgach_update_form),
+    "the library's structures");
+_Static_assert(sizeof(struct io_uring_files_update) == sizeof(struct wulgach_files_form) &&
+                   sizeof(struct io_uring_sync_cancel_reg) == sizeof(struct wulgach_cancel_form),
+    "the library's structures");
 
 static int probe(uint32_t code, uint64_t at, uint32_t count)
 {
     union {
         struct io_uring_probe probe;
-        unsigned char bytes[sizeof(struct io_uring_probe) + MOST_PROBED * sizeof(struct io_uring_probe_op)];
+        unsigned char
+            bytes[sizeof(struct io_uring_probe) + MOST_PROBED * sizeof(struct io_uring_probe_op)];
     } copy;
     struct wulgach_probe told;
     wulgach_probe_of(count, &told);
@@ -173,7 +181,7 @@ static int make_call(struct ring *ring, uint32_t code, uint64_t at, uint32_t cou
 /* One call, as it is made. */
 struct calling {
     struct wulgach_caller caller;
-    struct ring *ring;          /* held once it was found, or NULL */
+    struct ring *ring; /* held once it was found, or NULL */
     void *argument;
     uint32_t code, count;
 };
@@ -217,7 +225,8 @@ static int make_passed(struct calling *calling, uint32_t steps)
             do_duties_at_register_begin(calling->ring, calling->code);
             break;
         case WULGACH_MAKES_CALL:
-            result = make_call(calling->ring, calling->code, (uintptr_t)calling->argument, calling->count);
+            result = make_call(
+                calling->ring, calling->code, (uintptr_t)calling->argument, calling->count);
             break;
         default:
             do_duties_at_register_return(calling->ring, calling->code);
@@ -241,7 +250,8 @@ static int register_by(struct calling *calling)
 int register_at(int fd, uint32_t code, void *argument, uint32_t count)
 {
     sigset_t own;
-    struct calling calling = {.caller = {.fd = fd}, .argument = argument, .code = code, .count = count};
+    struct calling calling = {
+        .caller = {.fd = fd}, .argument = argument, .code = code, .count = count};
     block_signals(&own);
     int result = register_by(&calling);
     allow_signals(&own);

@@ -1,5 +1,5 @@
-/* Restrictions are taken once, while the ring is disabled, and hold from when it is enabled. What a list is refused for, and in which
- * order, and what it allows, is the library's decision. */
+/* Restrictions are taken once, while the ring is disabled, and hold from when it is enabled. What a
+ * list is refused for, and in which order, and what it allows, is the library's decision. */
 #define _GNU_SOURCE
 #include "registered/restrictions.h"
 #include "process/process.h"
@@ -12,14 +12,17 @@
 
 enum { MOST_RESTRICTIONS = 103 };
 
-_Static_assert(sizeof(struct io_uring_restriction) == sizeof(struct wulgach_restriction), "the library's row");
+_Static_assert(
+    sizeof(struct io_uring_restriction) == sizeof(struct wulgach_restriction), "the library's row");
 
 /* Does a step of what the library says. Returns its fault, or 0. */
-static int do_step(struct ring *ring, enum wulgach_restricting_step step, struct wulgach_restriction *rows, uint64_t list, uint32_t count)
+static int do_step(struct ring *ring, enum wulgach_restricting_step step,
+    struct wulgach_restriction *rows, uint64_t list, uint32_t count)
 {
     switch (step) {
     case WULGACH_RESTRICTING_LIST:
-        return wulgach_restricting_fault(ring->issuer.is_disabled, ring->restrictions.are_registered, list, count);
+        return wulgach_restricting_fault(
+            ring->issuer.is_disabled, ring->restrictions.are_registered, list, count);
     case WULGACH_RESTRICTING_READS:
         return copy_in(rows, list, count * sizeof *rows);
     case WULGACH_RESTRICTING_ROWS:
@@ -32,8 +35,10 @@ int register_restrictions(struct ring *ring, uint64_t list, uint32_t count)
 {
     struct wulgach_restriction rows[MOST_RESTRICTIONS];
     int result = 0;
-    for (uint32_t steps = wulgach_restricting_steps(count); steps && result == 0; steps &= steps - 1)
-        result = do_step(ring, (enum wulgach_restricting_step)__builtin_ctz(steps), rows, list, count);
+    for (uint32_t steps = wulgach_restricting_steps(count); steps && result == 0;
+         steps &= steps - 1)
+        result = do_step(
+            ring, (enum wulgach_restricting_step)__builtin_ctz(steps), rows, list, count);
     return result;
 }
 

@@ -1,5 +1,6 @@
-/* What a request is carried out on. The kernel finds a file when it begins a request; one that is linked, or drains, or comes
- * after one that does, begins after others, and may use a file that these open.
+/* What a request is carried out on. The kernel finds a file when it begins a request; one that is
+ * linked, or drains, or comes after one that does, begins after others, and may use a file that
+ * these open.
  */
 #define _GNU_SOURCE
 #include "operations/openness.h"
@@ -48,7 +49,8 @@ static void ask_name(int fd, struct wulgach_nature *nature)
 {
     char name[MOST_OF_NAME];
     size_t length = name_of_descriptor(fd, name);
-    nature->is_counter = wulgach_is_taken_so(WULGACH_IS_COUNTER, length > 0, wulgach_is_counter_name((uint8_t *)name, length));
+    nature->is_counter = wulgach_is_taken_so(
+        WULGACH_IS_COUNTER, length > 0, wulgach_is_counter_name((uint8_t *)name, length));
     nature->tells_signals = wulgach_is_signals_name((uint8_t *)name, length);
 }
 
@@ -61,7 +63,8 @@ static void ask_status(struct request *request, struct wulgach_nature *nature)
         return;
     }
     bool is_open = pass(SYS_fstat, request->fd, (long)&status, 0, 0, 0, 0) >= 0;
-    bool is_polled = is_open && wulgach_asks_polling(status.st_mode, (uint64_t)status.st_blocks) && can_be_polled(request);
+    bool is_polled = is_open && wulgach_asks_polling(status.st_mode, (uint64_t)status.st_blocks) &&
+                     can_be_polled(request);
     wulgach_note_status(nature, false, is_open, is_polled, is_open ? status.st_mode : 0);
     if (is_open)
         note_kind(request->fd, nature->is_file);
@@ -116,16 +119,19 @@ int find_kind(struct request *request)
     };
     struct wulgach_known known = {0};
     uint32_t kind;
-    while ((kind = wulgach_find_kind(submission_of(&request->entry), &trial, &known)) >= WULGACH_ASK_STATUS)
+    while ((kind = wulgach_find_kind(submission_of(&request->entry), &trial, &known)) >=
+           WULGACH_ASK_STATUS)
         ask(request, kind, &known);
     request->is_tried = kind == WULGACH_KIND_TRIED;
     request->is_tried_at_once = kind == WULGACH_KIND_AT_ONCE;
     request->standing.is_stream = kind == WULGACH_KIND_STREAM;
     request->is_socket = known.nature.is_socket;
     /* (of what wasn't asked, or has a type, the name doesn't matter) */
-    if (known.status && !known.nature.has_type && wulgach_asks_name(submission_of(&request->entry), request->length, &known.nature))
+    if (known.status && !known.nature.has_type &&
+        wulgach_asks_name(submission_of(&request->entry), request->length, &known.nature))
         ask_name(request->fd, &known.nature);
-    return wulgach_start_fault(submission_of(&request->entry), kind == WULGACH_KIND_WRONG, request->length, &known.nature);
+    return wulgach_start_fault(
+        submission_of(&request->entry), kind == WULGACH_KIND_WRONG, request->length, &known.nature);
 }
 
 static int find_buffer(struct ring *ring, struct request *request)
@@ -138,7 +144,9 @@ static int find_buffer(struct ring *ring, struct request *request)
 static bool are_open(const struct request *request)
 {
     const struct wulgach_needs *needs = &request->needs;
-    return counts_as_open(request->fd, needs->is_registered) && (!needs->needs_second || counts_as_open(request->second_fd, needs->is_second_registered));
+    return counts_as_open(request->fd, needs->is_registered) &&
+           (!needs->needs_second ||
+               counts_as_open(request->second_fd, needs->is_second_registered));
 }
 
 /* Looks for what is needed. Returns its fault, or 0. */
@@ -149,7 +157,8 @@ static int look_for(struct ring *ring, struct request *request, enum wulgach_nee
     case WULGACH_NEEDS_FILE:
         return find_fd(ring, &request->fd, needs->fd, needs->is_registered, &request->file);
     case WULGACH_NEEDS_SECOND:
-        return find_fd(ring, &request->second_fd, needs->second_fd, needs->is_second_registered, &request->second_file);
+        return find_fd(ring, &request->second_fd, needs->second_fd, needs->is_second_registered,
+            &request->second_file);
     case WULGACH_NEEDS_OPEN:
         return are_open(request) ? 0 : wulgach_missing_fault(WULGACH_NO_FILE);
     case WULGACH_NEEDS_BUFFER:
@@ -166,7 +175,8 @@ void assign(struct ring *ring, struct request *request)
 {
     request->is_assigned = true;
     request->fd = request->needs.fd;
-    for (uint32_t sought = request->needs.sought; sought && request->started == 0; sought &= sought - 1)
+    for (uint32_t sought = request->needs.sought; sought && request->started == 0;
+         sought &= sought - 1)
         request->started = look_for(ring, request, (enum wulgach_need)__builtin_ctz(sought));
 }
 
@@ -182,7 +192,8 @@ void assign_before(struct ring *ring, uint64_t number)
     struct wulgach_due_span span;
     if (!wulgach_due_before(&ring->due, number, &span))
         return;
-    for (size_t place = count_before(requests, span.first); place < requests->count && requests->rows[place]->number <= span.last; place++)
+    for (size_t place = count_before(requests, span.first);
+         place < requests->count && requests->rows[place]->number <= span.last; place++)
         if (requests->rows[place]->is_due && !requests->rows[place]->is_assigned)
             assign(ring, requests->rows[place]);
     wulgach_due_found_before(&ring->due, number);

@@ -1,7 +1,8 @@
-/* The core knows one cancel, by user data, which fails if it finds its request running. All others are no-ops to it, and so
- * is one on whose success a link or a skipped completion stands. Those are looked for here: a request that runs, or that the
- * core would let start, is marked, and ends with -125 when it is next gone on with. Which are found is the library's decision: as
- * in the kernel, one that waits after a link or a drain isn't.
+/* The core knows one cancel, by user data, which fails if it finds its request running. All others
+ * are no-ops to it, and so is one on whose success a link or a skipped completion stands. Those are
+ * looked for here: a request that runs, or that the core would let start, is marked, and ends with
+ * -125 when it is next gone on with. Which are found is the library's decision: as in the kernel,
+ * one that waits after a link or a drain isn't.
  */
 #define _GNU_SOURCE
 #include "requests/cancels.h"
@@ -17,7 +18,8 @@
 #include "waiting/streams.h"
 #include "wulgach_cancel.h"
 
-static void do_step_of_cancel(struct ring *ring, struct request *request, enum wulgach_cancelling step)
+static void do_step_of_cancel(
+    struct ring *ring, struct request *request, enum wulgach_cancelling step)
 {
     switch (step) {
     case WULGACH_CANCELLING_ROUSES:
@@ -40,7 +42,8 @@ static void do_step_of_cancel(struct ring *ring, struct request *request, enum w
 /* Does with what was found what the library says, by rising bits. */
 void cancel_request(struct ring *ring, struct request *request)
 {
-    for (uint32_t steps = wulgach_course_steps_at_cancel(&request->course); steps; steps &= steps - 1)
+    for (uint32_t steps = wulgach_course_steps_at_cancel(&request->course); steps;
+         steps &= steps - 1)
         do_step_of_cancel(ring, request, (enum wulgach_cancelling)__builtin_ctz(steps));
 }
 
@@ -78,7 +81,8 @@ static void compare(struct wulgach_outstanding *seen, const struct request *requ
 
 static bool is_issued_before(const struct request *seeker, const struct request *request)
 {
-    return wulgach_is_issued_before(seeker->entry.opcode, seeker->number, seeker->member.is_linked, seeker->call == request->call, request->number);
+    return wulgach_is_issued_before(seeker->entry.opcode, seeker->number, seeker->member.is_linked,
+        seeker->call == request->call, request->number);
 }
 
 bool is_due_before(const struct request *seeker, const struct request *request)
@@ -88,8 +92,10 @@ bool is_due_before(const struct request *seeker, const struct request *request)
     return wulgach_is_due_first(&seen);
 }
 
-/* A request as a seeker sees it, or a call of io_uring_register(2) (NULL). Whether one that is issued before it needn't wait is asked only where it matters. */
-static struct wulgach_outstanding seen_by(struct ring *ring, const struct request *seeker, struct request *request)
+/* A request as a seeker sees it, or a call of io_uring_register(2) (NULL). Whether one that is
+ * issued before it needn't wait is asked only where it matters. */
+static struct wulgach_outstanding seen_by(
+    struct ring *ring, const struct request *seeker, struct request *request)
 {
     struct wulgach_outstanding seen = seen_of(request);
     seen.comes_first = seeker && is_issued_before(seeker, request);
@@ -98,20 +104,26 @@ static struct wulgach_outstanding seen_by(struct ring *ring, const struct reques
     return seen;
 }
 
-/* Has the cancel of a seeker, or of a call of io_uring_register(2), which comes after all (NULL), look at a request. Whether that is carried out on the
- * file of this descriptor, and whether the core lets it start, is asked only where it matters. */
-static bool look_for(struct ring *ring, struct wulgach_cancel *cancel, const struct request *seeker, struct request *request, int on)
+/* Has the cancel of a seeker, or of a call of io_uring_register(2), which comes after all (NULL),
+ * look at a request. Whether that is carried out on the file of this descriptor, and whether the
+ * core lets it start, is asked only where it matters. */
+static bool look_for(struct ring *ring, struct wulgach_cancel *cancel, const struct request *seeker,
+    struct request *request, int on)
 {
     struct wulgach_outstanding seen = seen_by(ring, seeker, request);
     if (wulgach_asks_file(&cancel->sought, &seen))
         compare(&seen, request, on);
-    bool is_taken_after = seeker && wulgach_is_taken_after(seeker->number, seeker->member.is_linked, seeker->is_draining, request->number);
-    seen.may_start = wulgach_cancel_asks(cancel, &seen) && !is_taken_after && can_issue(ring, request->number);
+    bool is_taken_after = seeker && wulgach_is_taken_after(seeker->number, seeker->member.is_linked,
+                                        seeker->is_draining, request->number);
+    seen.may_start = wulgach_cancel_asks(cancel, &seen) && !is_taken_after &&
+                     can_issue(ring, request->number);
     return wulgach_cancel_sees(cancel, &seen);
 }
 
-/* Cancels what is sought, where that is by a file on the one of this descriptor, and returns what the canceller ends with. */
-static int32_t cancel_all(struct ring *ring, const struct request *canceller, const struct wulgach_sought *sought, int on)
+/* Cancels what is sought, where that is by a file on the one of this descriptor, and returns what
+ * the canceller ends with. */
+static int32_t cancel_all(
+    struct ring *ring, const struct request *canceller, const struct wulgach_sought *sought, int on)
 {
     struct wulgach_cancel cancel;
     struct seeking seeking;
@@ -139,11 +151,13 @@ bool cancel_running(struct ring *ring, const struct request *cancel, int32_t *fo
     return wulgach_search_has_cancelled(&search);
 }
 
-int32_t cancel_sought(struct ring *ring, const struct request *canceller, const struct wulgach_sought *sought)
+int32_t cancel_sought(
+    struct ring *ring, const struct request *canceller, const struct wulgach_sought *sought)
 {
     uint32_t where = wulgach_file_sought(sought);
     struct file *file = where == WULGACH_SEEKS_SLOT ? use_file(ring, sought->fd) : NULL;
-    bool is_there = file || (where == WULGACH_SEEKS_NUMBER && counts_as_open((int)sought->fd, false));
+    bool is_there = file ||
+                    (where == WULGACH_SEEKS_NUMBER && counts_as_open((int)sought->fd, false));
     int on = file ? file->fd : (int)sought->fd;
     int32_t fault = wulgach_seeking_fault(sought, is_there);
     int32_t res = fault < 0 ? fault : cancel_all(ring, canceller, sought, on);
@@ -177,7 +191,8 @@ static void look_at_changed(struct ring *ring, struct request *poll)
 {
     wulgach_waiter_meets_update(&poll->waiter);
     look_at(ring, poll);
-    wulgach_lookout_updates(&ring->lookout, place_of(&ring->running, poll->number), can_finish(ring, poll));
+    wulgach_lookout_updates(
+        &ring->lookout, place_of(&ring->running, poll->number), can_finish(ring, poll));
 }
 
 /* It gets what the update names. */
@@ -190,7 +205,8 @@ static void change_entry(struct ring *ring, struct request *poll, const struct i
     wulgach_needs_of(submission_of(&poll->entry), &poll->needs);
 }
 
-static void do_step_of_update(struct ring *ring, struct request *poll, const struct io_uring_sqe *change, enum wulgach_changing step)
+static void do_step_of_update(struct ring *ring, struct request *poll,
+    const struct io_uring_sqe *change, enum wulgach_changing step)
 {
     switch (step) {
     case WULGACH_CHANGING_ROUSES:

@@ -1,5 +1,6 @@
-/* Copies by system calls, which end with an error where a load or a store would end the program: by those that read and write a process's memory,
- * here its own, or through a pipe. Which way a copy goes is the library's decision. The process is named by the thread that calls: its first one may
+/* Copies by system calls, which end with an error where a load or a store would end the program: by
+ * those that read and write a process's memory, here its own, or through a pipe. Which way a copy
+ * goes is the library's decision. The process is named by the thread that calls: its first one may
  * have ended.
  */
 #define _GNU_SOURCE
@@ -17,7 +18,8 @@
 #include <sys/uio.h>
 #include <unistd.h>
 
-/* No page is smaller: what stands between two multiples can be read as a whole or not at all. And a pipe that is empty has room for one. */
+/* No page is smaller: what stands between two multiples can be read as a whole or not at all. And a
+ * pipe that is empty has room for one. */
 enum { SMALLEST_PAGE = 4096 };
 
 /* A copy, in to the layer or out to the application. */
@@ -30,8 +32,10 @@ struct copy {
 
 static int64_t copy_by_process(const struct copy *copy)
 {
-    const struct iovec to = {copy->to, copy->size}, from = {(char *)(uintptr_t)copy->from, copy->size};
-    ssize_t copied = copy->is_out ? process_vm_writev(this_thread(), &from, 1, &to, 1, 0) : process_vm_readv(this_thread(), &to, 1, &from, 1, 0);
+    const struct iovec to = {copy->to, copy->size},
+                       from = {(char *)(uintptr_t)copy->from, copy->size};
+    ssize_t copied = copy->is_out ? process_vm_writev(this_thread(), &from, 1, &to, 1, 0)
+                                  : process_vm_readv(this_thread(), &to, 1, &from, 1, 0);
     return copied < 0 ? -errno : copied;
 }
 

@@ -1,5 +1,5 @@
-/* Copying what the application points to. An address that can't be read or written is an error, as it is in the kernel,
- * and not the end of the program.
+/* Copying what the application points to. An address that can't be read or written is an error, as
+ * it is in the kernel, and not the end of the program.
  */
 #ifndef COPYING_H
 #define COPYING_H

@@ -1,5 +1,6 @@
-/* A cancel, a removal and an update go by user data, mostly, of which the library decides who is found. Where thousands wait, most of what it
- * would look at has other user data, which it never finds: so these are left out. A ring on which no cancel was made among many pays nothing for it.
+/* A cancel, a removal and an update go by user data, mostly, of which the library decides who is
+ * found. Where thousands wait, most of what it would look at has other user data, which it never
+ * finds: so these are left out. A ring on which no cancel was made among many pays nothing for it.
  */
 #include "requests/directory.h"
 #include "rings/ring.h"
@@ -35,7 +36,8 @@ static void put_last(struct directory *directory, struct request *request)
     directory->count++;
 }
 
-/* Makes it anew, with room for twice as many as are outstanding. If memory is refused, it isn't kept. */
+/* Makes it anew, with room for twice as many as are outstanding. If memory is refused, it isn't
+ * kept. */
 static void make_directory(struct ring *ring)
 {
     struct directory *directory = &ring->directory;
@@ -120,7 +122,9 @@ static void begin_rank(struct seeking *seeking, uint32_t rank)
 void begin_seeking(struct seeking *seeking, struct ring *ring, const struct wulgach_sought *sought)
 {
     bool is_named = wulgach_goes_by_user_data(sought);
-    *seeking = (struct seeking){.ring = ring, .user_data = sought->user_data, .is_by_directory = is_named && has_directory(ring)};
+    *seeking = (struct seeking){.ring = ring,
+        .user_data = sought->user_data,
+        .is_by_directory = is_named && has_directory(ring)};
     seeking->first = wulgach_first_rank(sought, ring->is_linux);
     begin_rank(seeking, seeking->first);
 }
@@ -155,7 +159,8 @@ static struct request *next_in_row(struct seeking *seeking, bool is_backwards)
 static bool is_of_rank(const struct seeking *seeking, const struct request *request)
 {
     uint64_t count = wulgach_timeout_count(submission_of(&request->entry));
-    return wulgach_rank_from(seeking->first, request->entry.opcode, request->standing.is_stream, count) == seeking->rank;
+    return wulgach_rank_from(seeking->first, request->entry.opcode, request->standing.is_stream,
+               count) == seeking->rank;
 }
 
 /* The next of the rank that is looked at, or NULL. */
@@ -164,7 +169,8 @@ static struct request *next_of_rank(struct seeking *seeking)
     bool is_backwards = wulgach_is_newest_first(seeking->rank);
     struct request *found;
     do
-        found = seeking->is_by_directory ? next_in_drawer(seeking, is_backwards) : next_in_row(seeking, is_backwards);
+        found = seeking->is_by_directory ? next_in_drawer(seeking, is_backwards)
+                                         : next_in_row(seeking, is_backwards);
     while (found && !is_of_rank(seeking, found));
     return found;
 }

@@ -1,5 +1,5 @@
-/* What the end of a request makes of others: its completion is queued, what had to wait needn't now, and what the
- * application sees of it may differ from what the core says.
+/* What the end of a request makes of others: its completion is queued, what had to wait needn't
+ * now, and what the application sees of it may differ from what the core says.
  */
 #include "requests/ends.h"
 #include "choices/issuable.h"
@@ -22,7 +22,8 @@ void note_wait(struct ring *ring, struct request *request)
 /* A request ends that had started or not: which others are looked at again. */
 static void look_after_end(struct ring *ring, const struct request *ended)
 {
-    struct wulgach_end_of_one end = {.is_count_reached = ring->is_count_reached, .has_drains = ring->drains.outstanding > 0};
+    struct wulgach_end_of_one end = {
+        .is_count_reached = ring->is_count_reached, .has_drains = ring->drains.outstanding > 0};
     wulgach_lookout_ends(&ring->lookout, &end);
     if (ended->course.has_started)
         wulgach_lookout_leaves(&ring->lookout, take_request(&ring->running, ended));
@@ -42,7 +43,8 @@ struct kept {
     bool has_file, is_of_slot, is_same;
 };
 
-/* Whether it is the file of the number that its entry names is asked only where that matters to `wulgach_may_close_last`. */
+/* Whether it is the file of the number that its entry names is asked only where that matters to
+ * `wulgach_may_close_last`. */
 static struct kept kept_of(uint64_t others, const struct file *file, bool is_of_slot, int fd)
 {
     return (struct kept){file, is_of_slot, others && file && !is_of_slot && is_file_of(file, fd)};
@@ -50,16 +52,19 @@ static struct kept kept_of(uint64_t others, const struct file *file, bool is_of_
 
 static bool may_close(uint64_t others, bool was_closed, const struct kept *kept)
 {
-    return wulgach_may_close_last(others, was_closed, kept->has_file, kept->is_of_slot, kept->is_same);
+    return wulgach_may_close_last(
+        others, was_closed, kept->has_file, kept->is_of_slot, kept->is_same);
 }
 
-/* A request that has files lets them go. Others may go on after it, as who reads a pipe whose other end it has closed. */
+/* A request that has files lets them go. Others may go on after it, as who reads a pipe whose other
+ * end it has closed. */
 static void leave_files(struct ring *ring, struct request *request)
 {
     const struct wulgach_needs *needs = &request->needs;
     uint64_t others = ring->running.count + ring->dormant.count;
     struct kept first = kept_of(others, request->file, needs->is_registered, needs->fd);
-    struct kept second = kept_of(others, request->second_file, needs->is_second_registered, needs->second_fd);
+    struct kept second = kept_of(
+        others, request->second_file, needs->is_second_registered, needs->second_fd);
     bool was_closed = end_request(&ring->requests, request);
     if (may_close(others, was_closed, &first) || may_close(others, was_closed, &second))
         wulgach_lookout_moves(&ring->lookout);
@@ -107,8 +112,10 @@ static void do_duty(struct ring *ring, struct end_of_request *end, enum wulgach_
         keep_completion(ring, end);
         return;
     case WULGACH_END_COUNTS:
-        if (wulgach_times_count_end(&ring->times, &request->course, is_timeout(request), end->is_posted))
-            wulgach_held_posts(&ring->held, request->is_extra ? request->of : request->number, request->is_at_once);
+        if (wulgach_times_count_end(
+                &ring->times, &request->course, is_timeout(request), end->is_posted))
+            wulgach_held_posts(&ring->held, request->is_extra ? request->of : request->number,
+                request->is_at_once);
         return;
     case WULGACH_END_STOPS_TIMEOUT:
         note_ended(ring, request);
@@ -146,16 +153,20 @@ void end_of(struct ring *ring, struct request *request, int32_t res, int32_t tol
     trace_result(ring, request, res);
     note_outcome(request, told);
     struct end_of_request end = {.request = request, .told = told};
-    uint32_t duties = wulgach_duties_after_end(request->file || request->second_file, request->epoll >= 0, request->standing.is_stream, request->is_draining);
+    uint32_t duties = wulgach_duties_after_end(request->file || request->second_file,
+        request->epoll >= 0, request->standing.is_stream, request->is_draining);
     for (; duties; duties &= duties - 1)
         do_duty(ring, &end, (enum wulgach_end_duty)__builtin_ctz(duties));
 }
 
-/* A request of the core's has ended so: cancels what it has found all the same, if it is a cancel, and says whether there is one. Of a core that has found what no cancel
- * finds the result is put right. */
-static bool cancel_after(struct ring *ring, const struct request *cancel, struct request *next, int32_t *res)
+/* A request of the core's has ended so: cancels what it has found all the same, if it is a cancel,
+ * and says whether there is one. Of a core that has found what no cancel finds the result is put
+ * right. */
+static bool cancel_after(
+    struct ring *ring, const struct request *cancel, struct request *next, int32_t *res)
 {
-    struct wulgach_ended_cancel ended = {.is_cancel = cancel->mapping == CANCEL, .has_next = next, .linux_rules = ring->is_linux};
+    struct wulgach_ended_cancel ended = {
+        .is_cancel = cancel->mapping == CANCEL, .has_next = next, .linux_rules = ring->is_linux};
     for (;;)
         switch ((enum wulgach_sought_after)wulgach_next_sought(&ended, *res)) {
         case WULGACH_SEEKS_RUNNING:
@@ -171,7 +182,8 @@ static bool cancel_after(struct ring *ring, const struct request *cancel, struct
         }
 }
 
-int32_t shown_of(struct ring *ring, const struct request *request, struct request *next, int32_t res)
+int32_t shown_of(
+    struct ring *ring, const struct request *request, struct request *next, int32_t res)
 {
     struct wulgach_ended_early ended = {
         .fault = request->fault,
@@ -183,4 +195,3 @@ int32_t shown_of(struct ring *ring, const struct request *request, struct reques
     };
     return wulgach_shown_of(&ended, res);
 }
-

@@ -10,8 +10,9 @@ void note_wait(struct ring *ring, struct request *request);
 /* A request has ended: its completion is queued, and others are told of it. */
 void end_of(struct ring *ring, struct request *request, int32_t res, int32_t told);
 
-/* What the application sees of a request that the core ends without letting it start. `next`: of a cancel, what it would have found that could
- * start, or NULL. */
-int32_t shown_of(struct ring *ring, const struct request *request, struct request *next, int32_t res);
+/* What the application sees of a request that the core ends without letting it start. `next`: of a
+ * cancel, what it would have found that could start, or NULL. */
+int32_t shown_of(
+    struct ring *ring, const struct request *request, struct request *next, int32_t res);
 
 #endif

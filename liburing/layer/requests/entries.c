@@ -1,5 +1,5 @@
-/* What is copied of an entry when it is submitted. What it is to the core, which fault its form has, what is copied and which fault that has
- * is the library's decision. */
+/* What is copied of an entry when it is submitted. What it is to the core, which fault its form
+ * has, what is copied and which fault that has is the library's decision. */
 #define _GNU_SOURCE
 #include "operations/openings.h"
 #include "operations/operations.h"
@@ -30,7 +30,8 @@ static int32_t measure_vectors(struct request *request)
     int32_t fault = 0;
     for (uint32_t i = 0; i < request->vector_count; i++) {
         const struct iovec *vector = &request->vectors[i];
-        fault = wulgach_vector_fault(submission_of(&request->entry), fault, (uintptr_t)vector->iov_base, vector->iov_len, request->vector_count == 1);
+        fault = wulgach_vector_fault(submission_of(&request->entry), fault,
+            (uintptr_t)vector->iov_base, vector->iov_len, request->vector_count == 1);
         request->length = wulgach_length_with(request->length, vector->iov_len);
     }
     return fault;
@@ -60,11 +61,15 @@ static int copy_time(struct request *request, uint64_t from)
 }
 
 /* The sizes that the library gives. */
-_Static_assert(sizeof(struct iovec) == 16 && sizeof(struct msghdr) == 56 && sizeof(struct __kernel_timespec) == 16, "a piece is as long as it is here");
-_Static_assert(sizeof(struct open_how) == 24 && sizeof(struct epoll_event) == 12 && sizeof(struct sockaddr_storage) == 128, "a piece is as long as it is here");
+_Static_assert(sizeof(struct iovec) == 16 && sizeof(struct msghdr) == 56 &&
+                   sizeof(struct __kernel_timespec) == 16,
+    "a piece is as long as it is here");
+_Static_assert(sizeof(struct open_how) == 24 && sizeof(struct epoll_event) == 12 &&
+                   sizeof(struct sockaddr_storage) == 128,
+    "a piece is as long as it is here");
 
-/* Looks at what a structure of an open has after what is known of it, page by page, since what comes after a byte that isn't 0 needn't be there. Returns
- * its fault, or 0. */
+/* Looks at what a structure of an open has after what is known of it, page by page, since what
+ * comes after a byte that isn't 0 needn't be there. Returns its fault, or 0. */
 static int32_t look_at_rest(uint64_t from, uint64_t end)
 {
     enum { PAGE = 4096 };
@@ -88,13 +93,15 @@ static int copy_name(const struct request *request, char **to, const struct wulg
     if (result < 0)
         return result;
     *to = text.letters;
-    return wulgach_name_fault(submission_of(&request->entry), piece->what == WULGACH_SECOND_PATH, text.length, text.has_end);
+    return wulgach_name_fault(submission_of(&request->entry), piece->what == WULGACH_SECOND_PATH,
+        text.length, text.has_end);
 }
 
 static int copy_first_path(struct request *request, const struct wulgach_piece *piece)
 {
     int result = copy_name(request, &request->path, piece);
-    return result < 0 ? result : wulgach_open_fault(submission_of(&request->entry), how_flags(request));
+    return result < 0 ? result
+                      : wulgach_open_fault(submission_of(&request->entry), how_flags(request));
 }
 
 /* Copies a piece of what the entry points to. Returns 0, its fault or -ENOMEM. */
@@ -102,7 +109,8 @@ static int copy_piece(struct request *request, const struct wulgach_piece *piece
 {
     switch (piece->what) {
     case WULGACH_BUFFER:
-        return request->needs.is_of_sockets ? make_message(request, piece) : make_vector(request, piece);
+        return request->needs.is_of_sockets ? make_message(request, piece)
+                                            : make_vector(request, piece);
     case WULGACH_VECTORS:
         return copy_vectors(request, piece);
     case WULGACH_PATH:
@@ -124,7 +132,8 @@ static int copy_piece(struct request *request, const struct wulgach_piece *piece
     }
 }
 
-/* Copies each piece that the library tells, and returns the fault of the entry, or 0, or -ENOMEM. */
+/* Copies each piece that the library tells, and returns the fault of the entry, or 0, or -ENOMEM.
+ */
 static int32_t copy_pieces(struct request *request, const struct request *before)
 {
     struct wulgach_copied copied = {.has_before = before};
@@ -146,11 +155,12 @@ int copy_after(struct request *request, const struct request *before)
     struct wulgach_piece buffer;
     wulgach_needs_as(entry, request->mapping, &request->needs);
     /* (nothing is copied of one buffer, and it has no fault) */
-    int32_t next = wulgach_one_buffer(entry, &buffer) ? make_vector(request, &buffer) : copy_pieces(request, before);
+    int32_t next = wulgach_one_buffer(entry, &buffer) ? make_vector(request, &buffer)
+                                                      : copy_pieces(request, before);
     if (next < 0 && !wulgach_is_own_fault(next))
         return next;
     request->fault = next;
-    if (request->needs.selects)         /* (of another it is 0) */
+    if (request->needs.selects) /* (of another it is 0) */
         request->wanted = wulgach_wanted_of(entry, request->length);
     /* (without a fault it stays what it is, and so does what it needs) */
     if (next < 0) {

@@ -1,4 +1,5 @@
-/* Issues a ring's requests. What is done with one that starts, and in which order, is the library's decision. */
+/* Issues a ring's requests. What is done with one that starts, and in which order, is the library's
+ * decision. */
 #include "requests/issuing.h"
 #include "calls/extras.h"
 #include "calls/steps.h"
@@ -17,7 +18,8 @@
 #include "waiting/streams.h"
 #include "wulgach_cancel.h"
 
-static void do_step_of_start(struct ring *ring, struct request *request, enum wulgach_step_of_start step)
+static void do_step_of_start(
+    struct ring *ring, struct request *request, enum wulgach_step_of_start step)
 {
     switch (step) {
     case WULGACH_FINDS_EARLIER:
@@ -52,15 +54,19 @@ static void do_steps(struct ring *ring, struct request *request, uint32_t steps)
         do_step_of_start(ring, request, (enum wulgach_step_of_start)__builtin_ctz(steps));
 }
 
-/* The core let a request start: what is done then, and in which order, is the library's decision. */
+/* The core let a request start: what is done then, and in which order, is the library's decision.
+ */
 static void start(struct ring *ring, struct request *request)
 {
     demand(wulgach_course_start(&request->course), "a request starts twice");
     request->begun = ++ring->begun;
     wulgach_lookout_starts(&ring->lookout, insert_request(&ring->running, request));
-    do_steps(ring, request, wulgach_steps_at_start(submission_of(&request->entry), how_flags(request), request->is_assigned));
+    do_steps(ring, request,
+        wulgach_steps_at_start(
+            submission_of(&request->entry), how_flags(request), request->is_assigned));
     log_start(ring, request);
-    do_steps(ring, request, wulgach_steps_after_files(&request->standing, &request->needs, request->started));
+    do_steps(ring, request,
+        wulgach_steps_after_files(&request->standing, &request->needs, request->started));
     note_running(ring, request);
 }
 
@@ -69,21 +75,27 @@ static void end_unissued(struct ring *ring, struct request *request, int32_t sho
 {
     struct origin of = origin_of(request);
     int32_t notice;
-    bool notifies = wulgach_notifies_unsent(request->needs.is_zero_copy, shown) && wulgach_notice_of(submission_of(&request->entry), can_post_extra(ring), &notice);
+    bool notifies = wulgach_notifies_unsent(request->needs.is_zero_copy, shown) &&
+                    wulgach_notice_of(
+                        submission_of(&request->entry), can_post_extra(ring), &notice);
     if (notifies)
-        request->flags = wulgach_completion_flags(wulgach_part_unsent(request->member.is_linked), 0);
+        request->flags = wulgach_completion_flags(
+            wulgach_part_unsent(request->member.is_linked), 0);
     end_of(ring, request, shown, told);
     if (notifies && can_post_extra(ring))
         post_extra(ring, &of, notice, wulgach_completion_flags(WULGACH_PART_NOTICE, 0));
 }
 
-/* Issues a request that can be issued, and no other. True if it has started: else it has ended without being carried out. */
+/* Issues a request that can be issued, and no other. True if it has started: else it has ended
+ * without being carried out. */
 static bool issue_alone(struct ring *ring, struct request *request)
 {
     int32_t res;
     note_standing(ring, request);
     bool is_cancel = request->mapping == CANCEL;
-    struct request *next = is_cancel && wulgach_looks_ahead(is_cancel, ring->is_linux) ? find_request(ring, request) : NULL;
+    struct request *next = is_cancel && wulgach_looks_ahead(is_cancel, ring->is_linux)
+                               ? find_request(ring, request)
+                               : NULL;
     uint32_t kind = issue(ring, request->number, &res);
     note_issued(ring, request);
     if (kind == WULGACH_ENDED) {

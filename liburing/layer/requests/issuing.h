@@ -4,7 +4,8 @@
 
 #include "rings/ring.h"
 
-/* Issues a request that can be issued, after those that a kernel issues before it. True if it has started. */
+/* Issues a request that can be issued, after those that a kernel issues before it. True if it has
+ * started. */
 bool issue_waiting(struct ring *ring, struct request *request);
 
 #endif

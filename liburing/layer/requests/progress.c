@@ -1,5 +1,5 @@
-/* Goes on with a ring's requests. Whether a request may start, and what its end makes of others, is the core's decision:
- * the layer asks which can be issued.
+/* Goes on with a ring's requests. Whether a request may start, and what its end makes of others, is
+ * the core's decision: the layer asks which can be issued.
  */
 #define _GNU_SOURCE
 #include "requests/progress.h"
@@ -26,7 +26,8 @@
 #include "wulgach_taking.h"
 
 /* Finds out what the library wants to know of this moment. */
-static void look_for_one(struct ring *ring, struct request *request, uint32_t wanted, struct wulgach_moment *known)
+static void look_for_one(
+    struct ring *ring, struct request *request, uint32_t wanted, struct wulgach_moment *known)
 {
     switch (wanted) {
     case WULGACH_ASK_COUNT:
@@ -51,7 +52,8 @@ bool can_finish(struct ring *ring, struct request *request)
 {
     struct wulgach_moment known = {0};
     uint32_t look;
-    while ((look = wulgach_can_finish(&request->waiter, &ring->lookout, &request->standing, &request->needs, &request->course, &known)) > WULGACH_LOOK_FINISHES)
+    while ((look = wulgach_can_finish(&request->waiter, &ring->lookout, &request->standing,
+                &request->needs, &request->course, &known)) > WULGACH_LOOK_FINISHES)
         look_for_one(ring, request, look, &known);
     return look == WULGACH_LOOK_FINISHES;
 }
@@ -59,11 +61,15 @@ bool can_finish(struct ring *ring, struct request *request)
 /* Whether a request goes on after this result. */
 static bool goes_on_after(const struct ring *ring, const struct request *request, int32_t res)
 {
-    return wulgach_goes_on(&ring->completions.at, request->needs.goes_on, submission_of(&request->entry), request->done, comes_of_ring(ring, request), res, ring->memory.cq_entries);
+    return wulgach_goes_on(&ring->completions.at, request->needs.goes_on,
+        submission_of(&request->entry), request->done, comes_of_ring(ring, request), res,
+        ring->memory.cq_entries);
 }
 
-/* Posts a completion of a request before its end. It counts as of the call that submitted the request. False: it is put off. */
-static bool post_event(struct ring *ring, const struct request *request, int32_t res, enum wulgach_part part)
+/* Posts a completion of a request before its end. It counts as of the call that submitted the
+ * request. False: it is put off. */
+static bool post_event(
+    struct ring *ring, const struct request *request, int32_t res, enum wulgach_part part)
 {
     struct origin of = origin_of(request);
     return post_extra(ring, &of, res, wulgach_completion_flags(part, request->flags));
@@ -91,7 +97,8 @@ static bool brings_event(struct ring *ring, struct request *request, int32_t res
 }
 
 /* Does what is due after an operation. True: it ends. */
-static bool do_try_duty(struct ring *ring, struct request *request, int32_t res, enum wulgach_tried_duty duty)
+static bool do_try_duty(
+    struct ring *ring, struct request *request, int32_t res, enum wulgach_tried_duty duty)
 {
     switch (duty) {
     case WULGACH_TRIED_LOOKS_AFRESH:
@@ -106,7 +113,8 @@ static bool do_try_duty(struct ring *ring, struct request *request, int32_t res,
     __builtin_unreachable();
 }
 
-/* Carries an operation out. False: it goes on running, since it would have to wait, or brought something and goes on. */
+/* Carries an operation out. False: it goes on running, since it would have to wait, or brought
+ * something and goes on. */
 static bool try_operation(struct ring *ring, struct request *request, int32_t *res)
 {
     do_duties_before(ring, request);
@@ -114,7 +122,8 @@ static bool try_operation(struct ring *ring, struct request *request, int32_t *r
     *res = carry_out(ring, request, injected(ring, request));
     log_carried(ring, request, *res);
     bool ends = false;
-    for (uint32_t duties = wulgach_after_try(request->needs.can_make_ready, *res == WOULD_WAIT); duties; duties &= duties - 1)
+    for (uint32_t duties = wulgach_after_try(request->needs.can_make_ready, *res == WOULD_WAIT);
+         duties; duties &= duties - 1)
         ends = do_try_duty(ring, request, *res, (enum wulgach_tried_duty)__builtin_ctz(duties));
     if (!ends)
         return false;
@@ -122,8 +131,8 @@ static bool try_operation(struct ring *ring, struct request *request, int32_t *r
     return true;
 }
 
-/* A send without copies ends with this result: if it has two completions, its own end is the second, that its memory may be used again.
- * Returns what its own end shows. */
+/* A send without copies ends with this result: if it has two completions, its own end is the
+ * second, that its memory may be used again. Returns what its own end shows. */
 static int32_t notify(struct ring *ring, struct request *request, int32_t res)
 {
     int32_t shown;
@@ -145,7 +154,8 @@ struct finishing {
     int32_t res, told;
 };
 
-static void do_step_of_finish(struct ring *ring, struct finishing *at, enum wulgach_finish_step step)
+static void do_step_of_finish(
+    struct ring *ring, struct finishing *at, enum wulgach_finish_step step)
 {
     struct request *request = at->request;
     switch (step) {
@@ -169,13 +179,18 @@ static void do_step_of_finish(struct ring *ring, struct finishing *at, enum wulg
 /* Whether a request's file is one of an operation's, of which a splice has two. */
 static bool has_file_of(const struct request *request, const struct request *taker)
 {
-    return is_same_file(request->fd, taker->fd) || (taker->needs.needs_second && is_same_file(request->fd, taker->second_fd));
+    return is_same_file(request->fd, taker->fd) ||
+           (taker->needs.needs_second && is_same_file(request->fd, taker->second_fd));
 }
 
-/* Whether a request that runs has its event before an operation that may take it. Whether both are carried out on one file is asked where it matters. */
+/* Whether a request that runs has its event before an operation that may take it. Whether both are
+ * carried out on one file is asked where it matters. */
 static bool has_event_first(struct ring *ring, struct request *request, const struct request *taker)
 {
-    return wulgach_has_event_first(&request->needs, request->has_waited, true) && can_finish(ring, request) && wulgach_has_event_first(&request->needs, request->has_waited, has_file_of(request, taker));
+    return wulgach_has_event_first(&request->needs, request->has_waited, true) &&
+           can_finish(ring, request) &&
+           wulgach_has_event_first(
+               &request->needs, request->has_waited, has_file_of(request, taker));
 }
 
 /* The first of those from a number on, or NULL. */
@@ -195,14 +210,15 @@ static void finish_rivals(struct ring *ring, const struct request *taker)
     struct request *rival;
     if (!wulgach_may_take(&taker->standing, &taker->needs))
         return;
-    for (uint64_t from = 0; (rival = next_first(ring, taker, from)); ) {
+    for (uint64_t from = 0; (rival = next_first(ring, taker, from));) {
         from = rival->number + 1;
         record_break();
         finish_running(ring, rival);
     }
 }
 
-/* Goes on with a running request: whether its operation is carried out, or it ends at once, is the library's decision. */
+/* Goes on with a running request: whether its operation is carried out, or it ends at once, is the
+ * library's decision. */
 static void finish_running(struct ring *ring, struct request *request)
 {
     int32_t res;
@@ -217,7 +233,8 @@ static void finish_running(struct ring *ring, struct request *request)
             comes_now(ring, WULGACH_END_COMES);
     }
     struct finishing at = {.request = request, .res = res};
-    for (uint32_t steps = wulgach_finish_steps(request->needs.is_zero_copy); steps; steps &= steps - 1)
+    for (uint32_t steps = wulgach_finish_steps(request->needs.is_zero_copy); steps;
+         steps &= steps - 1)
         do_step_of_finish(ring, &at, (enum wulgach_finish_step)__builtin_ctz(steps));
 }
 
@@ -246,18 +263,25 @@ static struct request *first_to_issue(struct ring *ring)
     if (ring->requests.count == 0)
         return NULL;
     struct request *oldest = ring->requests.rows[0];
-    return wulgach_oldest_starts(&ring->drains, ring->is_linux, &oldest->course) ? oldest : first_issuable(ring);
+    return wulgach_oldest_starts(&ring->drains, ring->is_linux, &oldest->course)
+               ? oldest
+               : first_issuable(ring);
 }
 
-/* What goes on first in order: way 0 of the library's, which is asked where there are two kinds. NULL if there is none. */
+/* What goes on first in order: way 0 of the library's, which is asked where there are two kinds.
+ * NULL if there is none. */
 static struct request *first_in_order(struct ring *ring)
 {
     struct request *running = first_to_finish(ring);
     uint32_t place;
-    return running && wulgach_ways_at(&(struct wulgach_ways){.ready = 1, .issuable = 1}, 0, &place) == WULGACH_WAY_FINISH ? running : first_to_issue(ring);
+    return running && wulgach_ways_at(&(struct wulgach_ways){.ready = 1, .issuable = 1}, 0,
+                          &place) == WULGACH_WAY_FINISH
+               ? running
+               : first_to_issue(ring);
 }
 
-/* Time passes by choice, or what is chosen goes on. A wait whose time is over sleeps, as where nothing can go on. */
+/* Time passes by choice, or what is chosen goes on. A wait whose time is over sleeps, as where
+ * nothing can go on. */
 static enum progress go_on_chosen(struct ring *ring, struct request *first, bool may_return)
 {
     switch (choose_passing(ring, may_return)) {
@@ -298,8 +322,10 @@ void end_cancelled(struct ring *ring)
     wulgach_awaiting_begin(&awaiting);
     for (size_t i = 0; i < ring->requests.count;) {
         struct request *request = ring->requests.rows[i];
-        bool may_start = wulgach_course_asks_start(&request->course) && can_issue(ring, request->number);
-        uint32_t awaited = wulgach_awaiting_sees(&awaiting, request->number, &request->course, may_start);
+        bool may_start = wulgach_course_asks_start(&request->course) &&
+                         can_issue(ring, request->number);
+        uint32_t awaited = wulgach_awaiting_sees(
+            &awaiting, request->number, &request->course, may_start);
         demand(awaited != WULGACH_WRONG_TURN, "a cancel looks at a request out of its turn");
         if (awaited == WULGACH_NOT_AWAITED) {
             i++;

@@ -35,12 +35,14 @@ struct request *make_request(struct requests *requests)
 
 void note_fact(struct request *request, enum wulgach_fact fact, int32_t res)
 {
-    demand(wulgach_course_note(&request->course, fact, res), "something happens to a request that can't");
+    demand(wulgach_course_note(&request->course, fact, res),
+        "something happens to a request that can't");
 }
 
 const struct wulgach_submission *submission_of(const struct io_uring_sqe *entry)
 {
-    _Static_assert(sizeof(struct wulgach_submission) == sizeof *entry, "an entry has the library's fields");
+    _Static_assert(
+        sizeof(struct wulgach_submission) == sizeof *entry, "an entry has the library's fields");
     return (const void *)entry;
 }
 
@@ -49,7 +51,8 @@ struct wulgach_submission *submission_at(struct io_uring_sqe *entry)
     return (void *)entry;
 }
 
-enum mapping form_of(const struct io_uring_sqe *entry, int32_t refusal, bool is_allowed, int32_t *fault)
+enum mapping form_of(
+    const struct io_uring_sqe *entry, int32_t refusal, bool is_allowed, int32_t *fault)
 {
     return (enum mapping)wulgach_form_of(submission_of(entry), refusal, is_allowed, fault);
 }
@@ -99,12 +102,13 @@ static bool stands_at(const struct requests *requests, uint64_t number, uint64_t
     return place < requests->count && requests->rows[place]->number == number;
 }
 
-/* Its place, or how many there are: it isn't there. Numbers rise: if none is missing before it, its place is how far its number is
- * from the first. */
+/* Its place, or how many there are: it isn't there. Numbers rise: if none is missing before it, its
+ * place is how far its number is from the first. */
 static size_t find_place(const struct requests *requests, uint64_t number)
 {
     uint64_t distance = requests->count > 0 ? number - requests->rows[0]->number : 0;
-    size_t place = stands_at(requests, number, distance) ? (size_t)distance : count_before(requests, number);
+    size_t place = stands_at(requests, number, distance) ? (size_t)distance
+                                                         : count_before(requests, number);
     return stands_at(requests, number, place) ? place : requests->count;
 }
 
@@ -132,7 +136,8 @@ size_t insert_request(struct requests *requests, struct request *request)
         requests->rows--;
         requests->room++;
     } else if (place < count) {
-        memmove(requests->rows + place + 1, requests->rows + place, (count - place) * sizeof *requests->rows);
+        memmove(requests->rows + place + 1, requests->rows + place,
+            (count - place) * sizeof *requests->rows);
     }
     requests->rows[place] = request;
     requests->count++;
@@ -170,7 +175,9 @@ __attribute__((noinline)) static void free_copies(const struct request *request)
 static bool has_copies(const struct request *request)
 {
     bool has_vectors = request->vectors && request->vectors != &request->one;
-    return has_vectors || (uintptr_t)request->path | (uintptr_t)request->second_path | (uintptr_t)request->value | (uintptr_t)request->how | (uintptr_t)request->time;
+    return has_vectors || (uintptr_t)request->path | (uintptr_t)request->second_path |
+                              (uintptr_t)request->value | (uintptr_t)request->how |
+                              (uintptr_t)request->time;
 }
 
 /* Returns whether a file was closed. */
@@ -190,8 +197,10 @@ static bool free_parts(const struct request *request)
     return is_closed;
 }
 
-/* The rows on the side that has fewer are moved: after a few that wait, a long chain ends from its beginning on. */
-__attribute__((noinline)) static size_t take_from_between(struct requests *requests, const struct request *request)
+/* The rows on the side that has fewer are moved: after a few that wait, a long chain ends from its
+ * beginning on. */
+__attribute__((noinline)) static size_t take_from_between(
+    struct requests *requests, const struct request *request)
 {
     size_t at = place_of(requests, request->number), after = requests->count - at - 1;
     if (at <= after) {

@@ -1,9 +1,11 @@
-/* Finding the ring of a descriptor. Where the layer isn't told that a descriptor is closed, it keeps each ring until somebody finds that nobody can reach
- * it any more and that no call is on it: a set-up, a close that is heard, a call on another ring that sleeps, and once in a while any call. What is left
- * when the process ends isn't freed: threads may use it to the last.
+/* Finding the ring of a descriptor. Where the layer isn't told that a descriptor is closed, it
+ * keeps each ring until somebody finds that nobody can reach it any more and that no call is on it:
+ * a set-up, a close that is heard, a call on another ring that sleeps, and once in a while any
+ * call. What is left when the process ends isn't freed: threads may use it to the last.
  *
- * A close that the layer is told of may stand in a signal's handler, amid whatever the thread does (signal-safety(7)): after it nothing is asked of the C
- * library's memory, and no lock is waited for long.
+ * A close that the layer is told of may stand in a signal's handler, amid whatever the thread does
+ * (signal-safety(7)): after it nothing is asked of the C library's memory, and no lock is waited
+ * for long.
  */
 #define _GNU_SOURCE
 #include "rings/descriptors.h"
@@ -25,17 +27,19 @@
 #include <time.h>
 #include <unistd.h>
 
-static struct ring *rings;          /* those of this process and of its parents, the newest first */
-static struct ring **by_number;     /* the ring that was last found under each descriptor, or NULL */
+static struct ring *rings; /* those of this process and of its parents, the newest first */
+static struct ring **by_number; /* the ring that was last found under each descriptor, or NULL */
 static size_t by_number_room;
-static struct ring *looked_at;      /* the one that was last looked at, or NULL */
-static struct ring *ending;         /* those that have let go what they had, and whose traces and memory are left */
+static struct ring *looked_at; /* the one that was last looked at, or NULL */
+static struct ring
+    *ending; /* those that have let go what they had, and whose traces and memory are left */
 static uint32_t ring_count;
 static pthread_mutex_t rings_lock = PTHREAD_MUTEX_INITIALIZER;
-static sigset_t forker;             /* the signals that the thread has blocked else which forks now, with that lock */
+static sigset_t
+    forker; /* the signals that the thread has blocked else which forks now, with that lock */
 
-/* A child has its parent's locks as they were at the fork: so none is held then by another thread. The lock of a ring
- * may be, but a child doesn't take those. */
+/* A child has its parent's locks as they were at the fork: so none is held then by another thread.
+ * The lock of a ring may be, but a child doesn't take those. */
 static void lock_for_fork(void)
 {
     sigset_t own;
@@ -91,10 +95,12 @@ static void note_number(int fd)
 
 bool may_be_ring(int fd)
 {
-    return fd >= MOST_NOTED || (fd >= 0 && __atomic_load_n(&numbers[fd / BITS], __ATOMIC_RELAXED) >> fd % BITS & 1);
+    return fd >= MOST_NOTED ||
+           (fd >= 0 && __atomic_load_n(&numbers[fd / BITS], __ATOMIC_RELAXED) >> fd % BITS & 1);
 }
 
-/* Whether a descriptor is open on a ring, or may be in another thread's table of them: its close will be heard. */
+/* Whether a descriptor is open on a ring, or may be in another thread's table of them: its close
+ * will be heard. */
 static bool is_reached(struct ring *ring)
 {
     int fd = find_descriptor(ring);
@@ -105,7 +111,8 @@ static bool is_reached(struct ring *ring)
     return true;
 }
 
-/* Whether a ring is to be freed now. A call begins under the list's lock. It ends without: after that it doesn't touch the ring. */
+/* Whether a ring is to be freed now. A call begins under the list's lock. It ends without: after
+ * that it doesn't touch the ring. */
 static bool is_gone(struct ring *ring)
 {
     bool is_of_process = is_own(ring);
@@ -119,7 +126,8 @@ static bool is_gone(struct ring *ring)
 /* Whether a ring may be closed that a call is on. */
 static bool is_left_in_call;
 
-/* The same. One that only a call keeps goes as that ends, which may have been just before that was noted. */
+/* The same. One that only a call keeps goes as that ends, which may have been just before that was
+ * noted. */
 static bool is_to_go(struct ring *ring)
 {
     if (is_gone(ring))
@@ -139,7 +147,8 @@ static void forget(const struct ring *ring)
         looked_at = NULL;
 }
 
-/* Ends those that have let go what they had. (the numbers of the traces of a parent's may be its child's own by now) */
+/* Ends those that have let go what they had. (the numbers of the traces of a parent's may be its
+ * child's own by now) */
 static void end_rings(void)
 {
     while (ending) {
@@ -150,7 +159,8 @@ static void end_rings(void)
     }
 }
 
-/* Has the rings that nobody can reach any more, and that no call is on, let go what they have: they are to be ended. */
+/* Has the rings that nobody can reach any more, and that no call is on, let go what they have: they
+ * are to be ended. */
 static void let_go_closed(void)
 {
     __atomic_store_n(&is_left_in_call, false, __ATOMIC_SEQ_CST);
@@ -213,7 +223,8 @@ static void drop_ring(struct ring *ring)
     free_ring(ring);
 }
 
-/* One whose mark it has comes before another: the number of a ring's eventfd may be that of another's, in another thread's table of descriptors. */
+/* One whose mark it has comes before another: the number of a ring's eventfd may be that of
+ * another's, in another thread's table of descriptors. */
 static struct ring *search_rings(int fd)
 {
     struct ring *found = NULL;
@@ -227,7 +238,8 @@ static struct ring *search_rings(int fd)
     return found;
 }
 
-/* The ring of a descriptor, with the list's lock held. It is looked for by number first, and then among all. */
+/* The ring of a descriptor, with the list's lock held. It is looked for by number first, and then
+ * among all. */
 static struct ring *find_ring(int fd)
 {
     if (fd < 0)
@@ -326,7 +338,7 @@ struct ring *hold_ring(int fd)
     return ring;
 }
 
-static uint64_t last_look;          /* when it was last looked as a call ended, in nanoseconds */
+static uint64_t last_look; /* when it was last looked as a call ended, in nanoseconds */
 
 static uint64_t coarse_time(void)
 {
@@ -341,7 +353,8 @@ static void look_after_call(void)
     bool may_be_left = __atomic_load_n(&is_left_in_call, __ATOMIC_SEQ_CST);
     uint32_t rings = __atomic_load_n(&ring_count, __ATOMIC_RELAXED);
     uint64_t now = wulgach_asks_elapsed(may_be_left, rings) ? coarse_time() : 0;
-    uint32_t most = wulgach_looked_at_after(may_be_left, rings, now - __atomic_load_n(&last_look, __ATOMIC_RELAXED));
+    uint32_t most = wulgach_looked_at_after(
+        may_be_left, rings, now - __atomic_load_n(&last_look, __ATOMIC_RELAXED));
     if (most == 0)
         return;
     if (most == WULGACH_ALL_RINGS) {

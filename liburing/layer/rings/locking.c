@@ -1,4 +1,5 @@
-/* Locking the ring of a descriptor for a call, and what is done as that is over: messages that came meanwhile. */
+/* Locking the ring of a descriptor for a call, and what is done as that is over: messages that came
+ * meanwhile. */
 #define _GNU_SOURCE
 #include "rings/locking.h"
 #include "calls/duties.h"
@@ -24,12 +25,13 @@ void call_by(struct ring *ring, int fd)
         ring->called_fd = is_reached_by(ring, fd) ? fd : find_descriptor(ring);
 }
 
-/* A message that comes while the lock is held is posted by who holds it; one that comes between its last look and its
- * unlocking, by who looks again. When that is done, the library says. */
+/* A message that comes while the lock is held is posted by who holds it; one that comes between its
+ * last look and its unlocking, by who looks again. When that is done, the library says. */
 __attribute__((noinline)) static void visit_with_messages(struct ring *ring, int fd)
 {
     bool is_left = false, may_post = false;
-    while (wulgach_visits_again(has_messages(ring), is_left, may_post) && pthread_mutex_trylock(&ring->lock) == 0) {
+    while (wulgach_visits_again(has_messages(ring), is_left, may_post) &&
+           pthread_mutex_trylock(&ring->lock) == 0) {
         call_by(ring, fd);
         post_messages(ring);
         is_left = has_messages(ring);

@@ -1,7 +1,8 @@
-/* Makes ring memory: the submission ring's words and array at IORING_OFF_SQ_RING, the completion ring's words and
- * completions at IORING_OFF_CQ_RING, and the entry table at IORING_OFF_SQES. It is a memfd, which is sparse and as long as the
- * last offset demands, and of which each is mapped by itself: without the feature SINGLE_MMAP a program does so, and one that
- * never asks for it does so too. Or it is memory without a file, and then both rings stand at both offsets, as in the kernel.
+/* Makes ring memory: the submission ring's words and array at IORING_OFF_SQ_RING, the completion
+ * ring's words and completions at IORING_OFF_CQ_RING, and the entry table at IORING_OFF_SQES. It is
+ * a memfd, which is sparse and as long as the last offset demands, and of which each is mapped by
+ * itself: without the feature SINGLE_MMAP a program does so, and one that never asks for it does so
+ * too. Or it is memory without a file, and then both rings stand at both offsets, as in the kernel.
  */
 #define _GNU_SOURCE
 #include "rings/memory.h"
@@ -18,16 +19,19 @@
 #include <sys/mman.h>
 #include <unistd.h>
 
-/* Where the array and the completions stand in their mappings: after the words, on a cache line of their own. */
+/* Where the array and the completions stand in their mappings: after the words, on a cache line of
+ * their own. */
 enum { AFTER_WORDS = 64 };
 
 static void *map(int fd, size_t size, uint64_t offset)
 {
-    void *at = fd < 0 ? mmap(NULL, size, PROT_READ | PROT_WRITE, MAP_SHARED | MAP_ANONYMOUS, -1, 0) : mmap(NULL, size, PROT_READ | PROT_WRITE, MAP_SHARED, fd, (off_t)offset);
+    void *at = fd < 0 ? mmap(NULL, size, PROT_READ | PROT_WRITE, MAP_SHARED | MAP_ANONYMOUS, -1, 0)
+                      : mmap(NULL, size, PROT_READ | PROT_WRITE, MAP_SHARED, fd, (off_t)offset);
     return at == MAP_FAILED ? NULL : at;
 }
 
-/* Lengthens a memfd. If the process may have no file as long, that is an error, and not a signal. */
+/* Lengthens a memfd. If the process may have no file as long, that is an error, and not a signal.
+ */
 static int lengthen(int fd, uint64_t length)
 {
     sigset_t own;
@@ -90,14 +94,16 @@ static size_t round_to_line(size_t size)
     return (size + AFTER_WORDS - 1) / AFTER_WORDS * AFTER_WORDS;
 }
 
-void plan_memory(struct memory *memory, bool is_single, uint32_t sq_entries, uint32_t cq_entries, struct io_uring_params *params)
+void plan_memory(struct memory *memory, bool is_single, uint32_t sq_entries, uint32_t cq_entries,
+    struct io_uring_params *params)
 {
     memory->sq_entries = sq_entries;
     memory->cq_entries = cq_entries;
     memory->is_single = is_single;
     memory->sq_size = AFTER_WORDS + round_to_line(sq_entries * sizeof(uint32_t));
     wulgach_cells_of(params->flags, &memory->entry_cells, &memory->completion_cells);
-    memory->cq_size = AFTER_WORDS + cq_entries * memory->completion_cells * sizeof(struct io_uring_cqe);
+    memory->cq_size = AFTER_WORDS +
+                      cq_entries * memory->completion_cells * sizeof(struct io_uring_cqe);
     memory->entries_size = sq_entries * memory->entry_cells * sizeof(struct io_uring_sqe);
     tell_offsets(params, memory);
 }
@@ -122,14 +128,18 @@ int make_file(void)
     return fd < 0 ? -errno : fd;
 }
 
-/* A shared mapping of no size that is moved is mapped once more, and stays. It is moved to where the kernel puts memory that is asked for so. */
+/* A shared mapping of no size that is moved is mapped once more, and stays. It is moved to where
+ * the kernel puts memory that is asked for so. */
 static void *map_part(const struct memory *memory, const struct wulgach_mapping *asked)
 {
-    void *part = wulgach_region_of(asked->offset) == WULGACH_RINGS ? (void *)memory->sq : memory->entries;
-    void *place = mmap((void *)asked->at, asked->size, PROT_NONE, MAP_PRIVATE | MAP_ANONYMOUS | MAP_NORESERVE | (int)wulgach_mapping_placing(asked), -1, 0);
+    void *part = wulgach_region_of(asked->offset) == WULGACH_RINGS ? (void *)memory->sq
+                                                                   : memory->entries;
+    void *place = mmap((void *)asked->at, asked->size, PROT_NONE,
+        MAP_PRIVATE | MAP_ANONYMOUS | MAP_NORESERVE | (int)wulgach_mapping_placing(asked), -1, 0);
     if (place == MAP_FAILED)
         return MAP_FAILED;
-    if (mremap(part, 0, asked->size, MREMAP_MAYMOVE | MREMAP_FIXED, place) != MAP_FAILED && mprotect(place, asked->size, (int)wulgach_mapping_protection(asked)) == 0)
+    if (mremap(part, 0, asked->size, MREMAP_MAYMOVE | MREMAP_FIXED, place) != MAP_FAILED &&
+        mprotect(place, asked->size, (int)wulgach_mapping_protection(asked)) == 0)
         return place;
     int error = errno;
     munmap(place, asked->size);

@@ -1,5 +1,5 @@
-/* Ring memory: the application maps it as it maps a ring of the kernel. It mirrors the core's rings: the same sizes, the
- * same heads and tails.
+/* Ring memory: the application maps it as it maps a ring of the kernel. It mirrors the core's
+ * rings: the same sizes, the same heads and tails.
  */
 #ifndef MEMORY_H
 #define MEMORY_H
@@ -23,22 +23,27 @@ struct cq_words {
 struct memory {
     struct sq_words *sq;
     struct cq_words *cq;
-    uint32_t *array;                    /* the index words, sq_entries of them */
-    struct io_uring_cqe *completions;   /* cq_entries of them */
-    struct io_uring_sqe *entries;       /* the entry table, of sq_entries slots */
-    uint32_t entry_cells, completion_cells; /* how many cells an entry and a completion take: 1, or 2 where they are large */
-    uint32_t sq_entries, cq_entries;    /* as the layer made them: the application can write to the words */
-    size_t sq_size, cq_size, entries_size;  /* in bytes */
-    bool is_single;                     /* both rings stand in one mapping, the completion ring after the other */
+    uint32_t *array; /* the index words, sq_entries of them */
+    struct io_uring_cqe *completions; /* cq_entries of them */
+    struct io_uring_sqe *entries; /* the entry table, of sq_entries slots */
+    uint32_t entry_cells, completion_cells; /* how many cells an entry and a completion take: 1, or
+                                               2 where they are large */
+    uint32_t sq_entries,
+        cq_entries; /* as the layer made them: the application can write to the words */
+    size_t sq_size, cq_size, entries_size; /* in bytes */
+    bool is_single; /* both rings stand in one mapping, the completion ring after the other */
 };
 
 /* A memfd. Returns it, or the negative of an error number. */
 int make_file(void);
 
-/* Plans the memory of rings of these sizes, both powers of two, in a single mapping or one for each, and writes into the parameters where everything stands. */
-void plan_memory(struct memory *memory, bool is_single, uint32_t sq_entries, uint32_t cq_entries, struct io_uring_params *params);
+/* Plans the memory of rings of these sizes, both powers of two, in a single mapping or one for
+ * each, and writes into the parameters where everything stands. */
+void plan_memory(struct memory *memory, bool is_single, uint32_t sq_entries, uint32_t cq_entries,
+    struct io_uring_params *params);
 
-/* Makes it in a memfd, or without a file if `fd` is negative. Returns 0 or the negative of an error number. */
+/* Makes it in a memfd, or without a file if `fd` is negative. Returns 0 or the negative of an error
+ * number. */
 int make_memory(struct memory *memory, int fd);
 
 struct wulgach_mapping;
@@ -48,7 +53,8 @@ void *map_again(const struct memory *memory, const struct wulgach_mapping *asked
 
 void free_memory(struct memory *memory);
 
-/* The words are shared with the application: one side stores after what it wrote, the other loads before it reads. */
+/* The words are shared with the application: one side stores after what it wrote, the other loads
+ * before it reads. */
 static inline uint32_t load_word(const uint32_t *word)
 {
     return __atomic_load_n(word, __ATOMIC_ACQUIRE);

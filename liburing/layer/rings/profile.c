@@ -1,5 +1,5 @@
-/* Reads WULGACH_PROFILE: `linux`, the default, where the core keeps a ring's requests by Linux's rules; or `manual`, by the
- * manual pages'.
+/* Reads WULGACH_PROFILE: `linux`, the default, where the core keeps a ring's requests by Linux's
+ * rules; or `manual`, by the manual pages'.
  */
 #include "rings/profile.h"
 #include "process/fault.h"
@@ -14,7 +14,8 @@ static void read_environment(void)
 {
     const char *word = getenv("WULGACH_PROFILE");
     bool is_manual = word && strcmp(word, "manual") == 0;
-    demand(is_manual || !word || !*word || strcmp(word, "linux") == 0, "WULGACH_PROFILE is linux or manual");
+    demand(is_manual || !word || !*word || strcmp(word, "linux") == 0,
+        "WULGACH_PROFILE is linux or manual");
     is_linux = !is_manual;
 }
 

@@ -1,4 +1,5 @@
-/* By which rules requests are kept where the kernel differs from the manual pages: WULGACH_PROFILE. */
+/* By which rules requests are kept where the kernel differs from the manual pages: WULGACH_PROFILE.
+ */
 #ifndef PROFILE_H
 #define PROFILE_H
 

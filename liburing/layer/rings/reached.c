@@ -1,6 +1,7 @@
-/* By which descriptors a ring is reached: each asks the kernel, since a program closes, copies and uses numbers again unheard. Where the user says that each
- * close of a ring's descriptor is heard, what was asked holds until the next. And by which tables of descriptors: a thread may have one of its own
- * (CLONE_FILES, unshare(2)), in which a number is another file's, or nobody's.
+/* By which descriptors a ring is reached: each asks the kernel, since a program closes, copies and
+ * uses numbers again unheard. Where the user says that each close of a ring's descriptor is heard,
+ * what was asked holds until the next. And by which tables of descriptors: a thread may have one of
+ * its own (CLONE_FILES, unshare(2)), in which a number is another file's, or nobody's.
  */
 #define _GNU_SOURCE
 #include "rings/reached.h"
@@ -57,16 +58,17 @@ bool is_still_reached_by(struct ring *ring, int fd)
 /* A look at the numbers in a folder of /proc, for a ring. */
 struct look {
     const struct ring *ring;
-    int own;                    /* a descriptor that this thread has opened for the look, */
-    bool is_apart;              /* whether a thread was seen whose table of descriptors isn't this one's, */
-    pid_t thread;               /* whose descriptors are looked at, */
-    int found;                  /* and the number that it was */
+    int own; /* a descriptor that this thread has opened for the look, */
+    bool is_apart; /* whether a thread was seen whose table of descriptors isn't this one's, */
+    pid_t thread; /* whose descriptors are looked at, */
+    int found; /* and the number that it was */
 };
 
 typedef enum wulgach_knowledge is_it(struct look *look, int number);
 
 /* Looks at a part of a folder, up to the number that it is, or of which that can't be known. */
-static enum wulgach_knowledge look_at_part(struct look *look, is_it *is_it, const char *entries, long length)
+static enum wulgach_knowledge look_at_part(
+    struct look *look, is_it *is_it, const char *entries, long length)
 {
     enum wulgach_knowledge known = WULGACH_IS_NOT_SO;
     for (long at = 0; at < length && known == WULGACH_IS_NOT_SO;) {
@@ -82,7 +84,8 @@ static enum wulgach_knowledge look_through(struct look *look, is_it *is_it, int 
 {
     _Alignas(struct dirent64) char entries[1024];
     enum wulgach_knowledge known = WULGACH_IS_NOT_SO;
-    for (long length; known == WULGACH_IS_NOT_SO && (length = syscall(SYS_getdents64, folder, entries, sizeof entries)) > 0;)
+    for (long length; known == WULGACH_IS_NOT_SO &&
+                      (length = syscall(SYS_getdents64, folder, entries, sizeof entries)) > 0;)
         known = look_at_part(look, is_it, entries, length);
     return known;
 }
@@ -116,7 +119,8 @@ static enum wulgach_knowledge is_kept_open(struct look *look, int fd)
 {
     (void)look;
     int flags = fcntl(fd, F_GETFD);
-    return flags >= 0 && !(flags & FD_CLOEXEC) && may_be_instance(fd) ? WULGACH_IS_SO : WULGACH_IS_NOT_SO;
+    return flags >= 0 && !(flags & FD_CLOEXEC) && may_be_instance(fd) ? WULGACH_IS_SO
+                                                                      : WULGACH_IS_NOT_SO;
 }
 
 bool is_instance_kept_open(void)
@@ -156,10 +160,12 @@ static bool shares_table(pid_t thread, int own)
 {
     struct stat here, there;
     struct path path = path_of(thread, own);
-    return thread == this_thread() || (fstat(own, &here) == 0 && stat(path.letters, &there) == 0 && are_one(&here, &there));
+    return thread == this_thread() ||
+           (fstat(own, &here) == 0 && stat(path.letters, &there) == 0 && are_one(&here, &there));
 }
 
-/* Whether a descriptor of another table is open on the ring. An eventfd that an epoll instance polls for is known by kcmp(2). */
+/* Whether a descriptor of another table is open on the ring. An eventfd that an epoll instance
+ * polls for is known by kcmp(2). */
 static enum wulgach_knowledge is_reached_there(struct look *look, int fd)
 {
     struct stat status;
@@ -167,16 +173,21 @@ static enum wulgach_knowledge is_reached_there(struct look *look, int fd)
     look->is_apart = true;
     if (ring->ready_fd < 0) {
         struct path path = path_of(look->thread, fd);
-        return stat(path.letters, &status) == 0 && status.st_dev == ring->device && status.st_ino == ring->inode ? WULGACH_IS_SO : WULGACH_IS_NOT_SO;
+        return stat(path.letters, &status) == 0 && status.st_dev == ring->device &&
+                       status.st_ino == ring->inode
+                   ? WULGACH_IS_SO
+                   : WULGACH_IS_NOT_SO;
     }
     struct kcmp_epoll_slot slot = {.efd = (uint32_t)fd, .tfd = (uint32_t)ring->ready_fd};
-    long came = syscall(SYS_kcmp, this_thread(), look->thread, KCMP_EPOLL_TFD, ring->ready_fd, &slot);
+    long came = syscall(
+        SYS_kcmp, this_thread(), look->thread, KCMP_EPOLL_TFD, ring->ready_fd, &slot);
     if (came < 0 && (errno == ENOSYS || errno == EPERM || errno == EACCES))
         return WULGACH_IS_NOT_KNOWN;
     return came == 0 ? WULGACH_IS_SO : WULGACH_IS_NOT_SO;
 }
 
-/* Whether a thread has another table, and in it a descriptor of the ring. One that has ended has none. */
+/* Whether a thread has another table, and in it a descriptor of the ring. One that has ended has
+ * none. */
 static enum wulgach_knowledge has_descriptor(struct look *look, int thread)
 {
     if (shares_table(thread, look->own))
@@ -230,7 +241,9 @@ bool is_reached_elsewhere(const struct ring *ring)
     if (look.own < 0)
         return !wulgach_is_gone(WULGACH_IS_NOT_SO, WULGACH_IS_NOT_KNOWN, WULGACH_IS_NOT_KNOWN);
     uint32_t elsewhere = look_through(&look, has_descriptor, look.own);
-    bool is_here = wulgach_was_made_here(shares_table(ring->table_of, look.own), ring->is_table_apart, look.is_apart);
+    bool is_here = wulgach_was_made_here(
+        shares_table(ring->table_of, look.own), ring->is_table_apart, look.is_apart);
     close(look.own);
-    return !wulgach_is_gone(WULGACH_IS_NOT_SO, is_here ? WULGACH_IS_SO : WULGACH_IS_NOT_SO, elsewhere);
+    return !wulgach_is_gone(
+        WULGACH_IS_NOT_SO, is_here ? WULGACH_IS_SO : WULGACH_IS_NOT_SO, elsewhere);
 }

@@ -1,9 +1,11 @@
-/* The descriptor is an epoll instance: poll and epoll take it, read and write refuse it, as they do a ring of the kernel.
- * In it are an eventfd of the layer's, which is set while completions wait or something can go on, and the descriptors
- * of the streams that running requests wait for. The eventfd also tells the instance from others, and so does a mark.
+/* The descriptor is an epoll instance: poll and epoll take it, read and write refuse it, as they do
+ * a ring of the kernel. In it are an eventfd of the layer's, which is set while completions wait or
+ * something can go on, and the descriptors of the streams that running requests wait for. The
+ * eventfd also tells the instance from others, and so does a mark.
  *
- * The layer isn't told when the application reaps: so the eventfd stays set until the next call, and meanwhile
- * IORING_SQ_TASKRUN makes a peek that finds nothing call. Where somebody may wait for edges (waiters.c), each call that posts writes the eventfd, though it is set.
+ * The layer isn't told when the application reaps: so the eventfd stays set until the next call,
+ * and meanwhile IORING_SQ_TASKRUN makes a peek that finds nothing call. Where somebody may wait for
+ * edges (waiters.c), each call that posts writes the eventfd, though it is set.
  */
 #define _GNU_SOURCE
 #include "rings/readiness.h"
@@ -22,8 +24,9 @@
 #include <sys/random.h>
 #include <unistd.h>
 
-/* An instance keeps how whoever waits on it looks for what a network brings: 31 bits of microseconds and 6 of a count, which any program may set and a kernel
- * since 6.9 keeps. Nobody waits on a ring's, so there it has the ring's mark. */
+/* An instance keeps how whoever waits on it looks for what a network brings: 31 bits of
+ * microseconds and 6 of a count, which any program may set and a kernel since 6.9 keeps. Nobody
+ * waits on a ring's, so there it has the ring's mark. */
 #define BITS_OF_MARK 0x3f7fffffffu
 
 /* Draws a mark, and gives it to an instance. 0: it has none. */
@@ -88,7 +91,8 @@ static void list_one(struct watched *watched, int fd, uint32_t events, uint64_t 
     wulgach_watched_add(&watched->at, events, begun);
 }
 
-/* Lists the descriptors of the running requests that wait for streams by rising number, each once. */
+/* Lists the descriptors of the running requests that wait for streams by rising number, each once.
+ */
 static size_t list_watched(const struct ring *ring, struct watched *watched)
 {
     size_t count = 0, kept = 0;
@@ -134,12 +138,13 @@ static void add_watched(struct ring *ring, struct watched *watched)
     wulgach_watched_enlist(&watched->at, watch(ring, EPOLL_CTL_ADD, watched));
 }
 
-/* Changes what is watched of one descriptor, or two lists' first: NULL where one has it not. A number that is closed and opened again
- * isn't watched. */
+/* Changes what is watched of one descriptor, or two lists' first: NULL where one has it not. A
+ * number that is closed and opened again isn't watched. */
 static void watch_change(struct ring *ring, const struct watched *before, struct watched *after)
 {
     static const struct watched nothing;
-    switch (wulgach_watch_of(before ? &before->at : &nothing.at, before, after ? &after->at : &nothing.at, after)) {
+    switch (wulgach_watch_of(
+        before ? &before->at : &nothing.at, before, after ? &after->at : &nothing.at, after)) {
     case WULGACH_WATCH_ADDS:
         add_watched(ring, after);
         return;
@@ -154,7 +159,8 @@ static void watch_change(struct ring *ring, const struct watched *before, struct
 }
 
 /* Changes what is watched from one list to another. */
-static void watch_changes(struct ring *ring, const struct watched *before, size_t before_count, struct watched *after, size_t after_count)
+static void watch_changes(struct ring *ring, const struct watched *before, size_t before_count,
+    struct watched *after, size_t after_count)
 {
     size_t i = 0, j = 0;
     while (i < before_count || j < after_count) {
@@ -171,14 +177,18 @@ static void watch_changes(struct ring *ring, const struct watched *before, size_
 void unwatch(struct ring *ring, int fd)
 {
     struct watched key = {.fd = fd};
-    struct watched *watched = ring->watched_count ? bsearch(&key, ring->watched, ring->watched_count, sizeof key, by_descriptor) : NULL;
+    struct watched *watched = ring->watched_count
+                                  ? bsearch(&key, ring->watched, ring->watched_count, sizeof key,
+                                        by_descriptor)
+                                  : NULL;
     if (!watched)
         return;
     watch(ring, EPOLL_CTL_DEL, watched);
     wulgach_watched_give_back(&watched->at);
 }
 
-/* Puts the streams that are waited for in the place of those that were. If memory is refused, it can't tell of them until the next call tries. */
+/* Puts the streams that are waited for in the place of those that were. If memory is refused, it
+ * can't tell of them until the next call tries. */
 static void watch_streams(struct ring *ring)
 {
     ring->is_untold = false;
@@ -218,7 +228,8 @@ static bool is_readable_now(struct ring *ring)
 {
     struct wulgach_prospect known = {.is_untold = ring->is_untold};
     uint32_t told, head = load_word(&ring->memory.cq->head);
-    while ((told = wulgach_shown_readable(&ring->completions.at, head, &known)) > WULGACH_IS_READABLE)
+    while (
+        (told = wulgach_shown_readable(&ring->completions.at, head, &known)) > WULGACH_IS_READABLE)
         look_ahead(ring, told, &known);
     return told == WULGACH_IS_READABLE;
 }
@@ -232,6 +243,7 @@ void show_readiness(struct ring *ring)
     if (!wulgach_tells_anew(ring->is_readable, is_readable, has_posted(ring), may_wait_for_edges()))
         return;
     ring->is_readable = is_readable;
-    /* (by the kernel's call itself: the C library's asks besides whether the thread is cancelled) */
+    /* (by the kernel's call itself: the C library's asks besides whether the thread is cancelled)
+     */
     pass(is_readable ? SYS_write : SYS_read, ring->ready_fd, (long)&one, sizeof one, 0, 0, 0);
 }

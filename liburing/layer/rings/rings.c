@@ -75,10 +75,14 @@ void free_ring(struct ring *ring)
     end_ring(ring);
 }
 
-/* What a set-up asks for, by which rules, and what is so of the ring and of the processor that it names. */
+/* What a set-up asks for, by which rules, and what is so of the ring and of the processor that it
+ * names. */
 static struct wulgach_asked_ring asked_ring(uint32_t entries, const struct io_uring_params *params)
 {
-    struct wulgach_asked_ring asked = {.entries = entries, .cq_entries = params->cq_entries, .flags = params->flags, .linux_rules = is_profile_linux()};
+    struct wulgach_asked_ring asked = {.entries = entries,
+        .cq_entries = params->cq_entries,
+        .flags = params->flags,
+        .linux_rules = is_profile_linux()};
     asked.has_reserved = wulgach_parameters_have_reserved((const void *)params);
     if (wulgach_asks_processor(params->flags))
         asked.is_online = is_online(params->sq_thread_cpu);
@@ -94,7 +98,8 @@ static struct wulgach_asked_ring asked_ring(uint32_t entries, const struct io_ur
 }
 
 /* Makes the core and what the ring has of it. */
-static int fill_ring(struct ring *ring, const struct wulgach_setup *setup, struct io_uring_params *params, bool is_polled)
+static int fill_ring(struct ring *ring, const struct wulgach_setup *setup,
+    struct io_uring_params *params, bool is_polled)
 {
     int result = wulgach_core_new(&ring->core, setup);
     if (result < 0)
@@ -125,7 +130,8 @@ static int open_ring(struct ring *ring, bool is_polled)
 }
 
 /* Makes a ring as the parameters say, but its descriptor, and fills them in. */
-static int make_ring(struct ring **made, uint32_t entries, struct io_uring_params *params, bool is_polled)
+static int make_ring(
+    struct ring **made, uint32_t entries, struct io_uring_params *params, bool is_polled)
 {
     struct wulgach_setup sizes;
     struct wulgach_asked_ring asked = asked_ring(entries, params);
@@ -172,9 +178,9 @@ static int make_ring(struct ring **made, uint32_t entries, struct io_uring_param
 struct making {
     uint32_t entries;
     bool is_polled;
-    uint64_t at;                        /* where its parameters are, */
-    struct io_uring_params params;      /* and these */
-    struct ring *ring;                  /* once it is made */
+    uint64_t at; /* where its parameters are, */
+    struct io_uring_params params; /* and these */
+    struct ring *ring; /* once it is made */
 };
 
 /* Does what is next of a set-up, and says what that came to: 0, or a fault. */
@@ -240,10 +246,15 @@ void *map_file(void *at, size_t size, int protection, int flags, int fd, int64_t
 {
     sigset_t own;
     block_signals(&own);
-    struct wulgach_mapping asked = {.at = (uintptr_t)at, .size = size, .offset = (uint64_t)offset, .protection = (uint32_t)protection, .flags = (uint32_t)flags};
+    struct wulgach_mapping asked = {.at = (uintptr_t)at,
+        .size = size,
+        .offset = (uint64_t)offset,
+        .protection = (uint32_t)protection,
+        .flags = (uint32_t)flags};
     struct ring *ring = wulgach_names_descriptor(asked.flags) ? lock_ring(fd) : NULL;
     bool is_polled = ring && ring->ready_fd >= 0;
-    void *mapped = is_polled ? map_again(&ring->memory, &asked) : map_passing(at, size, protection, flags, fd, offset);
+    void *mapped = is_polled ? map_again(&ring->memory, &asked)
+                             : map_passing(at, size, protection, flags, fd, offset);
     /* (what is done as the ring is let go may end with an error of its own) */
     int error = errno;
     if (ring)

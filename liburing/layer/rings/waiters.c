@@ -1,8 +1,11 @@
-/* Who may wait for edges of a ring's descriptor. A kernel's ring sees who polls it. The layer's is an epoll instance, and nothing tells which others have it. So
- * the calls are heard by which somebody begins to wait, where `uring-run` hears them all: of the program itself, by the C library or an instruction of its own, of
- * its requests, and of its forked children, which have its descriptors and share a page with it. Until one is heard nobody waits. A program that is started has no
- * ring's descriptor, unless it is kept open for that (FD_CLOEXEC); so that counts as one who waits, as does a descriptor that may be sent to another process. Elsewhere
- * somebody may wait always, unless WULGACH_EDGES says that nobody does.
+/* Who may wait for edges of a ring's descriptor. A kernel's ring sees who polls it. The layer's is
+ * an epoll instance, and nothing tells which others have it. So the calls are heard by which
+ * somebody begins to wait, where `uring-run` hears them all: of the program itself, by the C
+ * library or an instruction of its own, of its requests, and of its forked children, which have its
+ * descriptors and share a page with it. Until one is heard nobody waits. A program that is started
+ * has no ring's descriptor, unless it is kept open for that (FD_CLOEXEC); so that counts as one who
+ * waits, as does a descriptor that may be sent to another process. Elsewhere somebody may wait
+ * always, unless WULGACH_EDGES says that nobody does.
  */
 #define _GNU_SOURCE
 #include "rings/waiters.h"
@@ -30,13 +33,13 @@ SEEN void wulgach_note_unheard(void);
 
 /* What a process and its forked children share. */
 struct shared {
-    bool has_ring;      /* one of them has made one with a descriptor that polls, */
-    bool is_unmarked;   /* and one of these has no mark */
-    bool was_heard;     /* somebody began to wait, or may have */
+    bool has_ring; /* one of them has made one with a descriptor that polls, */
+    bool is_unmarked; /* and one of these has no mark */
+    bool was_heard; /* somebody began to wait, or may have */
 };
 
-static struct shared *shared;   /* NULL: nothing is told */
-static bool are_heard;          /* all calls are, in this process */
+static struct shared *shared; /* NULL: nothing is told */
+static bool are_heard; /* all calls are, in this process */
 
 static bool is_so(const bool *word)
 {
@@ -78,7 +81,8 @@ bool may_wait_for_edges(void)
     return wulgach_may_wait_for_edges(is_denied, is_heard, is_heard && is_so(&shared->was_heard));
 }
 
-/* Whether it is of use to hear more: all is heard here, there is a ring, and nobody was heard yet. */
+/* Whether it is of use to hear more: all is heard here, there is a ring, and nobody was heard yet.
+ */
 static bool listens(void)
 {
     return is_so(&are_heard) && is_so(&shared->has_ring) && !is_so(&shared->was_heard);
@@ -107,7 +111,8 @@ void note_message(uint64_t control)
 /* As the process begins: its children are to share the page. */
 bool wulgach_share_waiters(void)
 {
-    void *page = map_passing(NULL, sizeof *shared, PROT_READ | PROT_WRITE, MAP_SHARED | MAP_ANONYMOUS, -1, 0);
+    void *page = map_passing(
+        NULL, sizeof *shared, PROT_READ | PROT_WRITE, MAP_SHARED | MAP_ANONYMOUS, -1, 0);
     if (page != MAP_FAILED)
         shared = page;
     return shared;

@@ -9,13 +9,15 @@
 #define SETS_MARK _IOW(0x8a, 1, uint64_t)
 #define GETS_MARK _IOR(0x8a, 2, uint64_t)
 
-/* A ring is about to have a descriptor that polls, with this mark, or 0: it has none, as where no instance keeps one. */
+/* A ring is about to have a descriptor that polls, with this mark, or 0: it has none, as where no
+ * instance keeps one. */
 void note_polled_ring(uint64_t mark);
 
 /* Whether somebody may wait for edges of one. */
 bool may_wait_for_edges(void);
 
-/* A descriptor is about to be put into an epoll instance, or changed there (EPOLL_CTL_...); and a message is about to be sent with so many bytes of control data. */
+/* A descriptor is about to be put into an epoll instance, or changed there (EPOLL_CTL_...); and a
+ * message is about to be sent with so many bytes of control data. */
 void note_waiter(uint32_t change, int fd);
 void note_message(uint64_t control);
 

@@ -1,6 +1,7 @@
-/* The addresses are found by the C library's backtrace, which needs no frame pointers, and are told as places in the files
- * that are mapped there: so whoever reads the trace can ask addr2line for lines, also where programs are loaded anywhere. A thread may have
- * a small stack, so no path stands on it.
+/* The addresses are found by the C library's backtrace, which needs no frame pointers, and are told
+ * as places in the files that are mapped there: so whoever reads the trace can ask addr2line for
+ * lines, also where programs are loaded anywhere. A thread may have a small stack, so no path
+ * stands on it.
  */
 #define _GNU_SOURCE
 #include "traces/callers.h"
@@ -58,7 +59,8 @@ static int look_at_object(struct dl_phdr_info *object, size_t size, void *argume
     (void)size;
     if (!holds(object, place->address))
         return 0;
-    place->file = *object->dlpi_name ? object->dlpi_name : program;     /* (the program itself has no name there) */
+    place->file = *object->dlpi_name ? object->dlpi_name
+                                     : program; /* (the program itself has no name there) */
     place->offset = place->address - object->dlpi_addr;
     return 1;
 }
@@ -76,7 +78,8 @@ void trace_callers(struct ring *ring)
     for (int i = first == count ? 0 : first; i < count && told < MOST_TOLD; i++) {
         struct place place = {.address = (uintptr_t)frames[i]};
         if (dl_iterate_phdr(look_at_object, &place))
-            fprintf(ring->trace, "%s%s+0x%" PRIxPTR, told++ ? ", " : "# called from ", place.file, place.offset);
+            fprintf(ring->trace, "%s%s+0x%" PRIxPTR, told++ ? ", " : "# called from ", place.file,
+                place.offset);
     }
     tell_own_calls(false);
     if (told > 0)

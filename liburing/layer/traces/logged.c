@@ -8,10 +8,12 @@
 #include <string.h>
 #include <unistd.h>
 
-/* What is logged of a request is the library's decision. Of most it is nothing, and they are passed over at once. */
+/* What is logged of a request is the library's decision. Of most it is nothing, and they are passed
+ * over at once. */
 static uint32_t logged_of(const struct request *request)
 {
-    uint32_t logged = wulgach_logged_of(request->mapping, request->entry.opcode, request->standing.is_stream);
+    uint32_t logged = wulgach_logged_of(
+        request->mapping, request->entry.opcode, request->standing.is_stream);
     return logged != WULGACH_LOGS_NOTHING && is_logging() ? logged : WULGACH_LOGS_NOTHING;
 }
 
@@ -21,7 +23,8 @@ static uint64_t operation_of(const struct ring *ring, const struct request *requ
     return ((uint64_t)ring->index << 40) + request->number + 1;
 }
 
-/* Who sees memory that is shared with files compares it at any call that syncs, also of no file: what was written before is told from what is written meanwhile. */
+/* Who sees memory that is shared with files compares it at any call that syncs, also of no file:
+ * what was written before is told from what is written meanwhile. */
 static void compare_memory(void)
 {
     int kept = errno;
@@ -52,7 +55,8 @@ static void log_write(struct event *event, const char *path, const struct reques
 }
 
 /* (a path's room is made only where it may be wanted) */
-__attribute__((noinline)) static void log_start_of(const struct ring *ring, struct request *request, uint32_t logged)
+__attribute__((noinline)) static void log_start_of(
+    const struct ring *ring, struct request *request, uint32_t logged)
 {
     char path[PATH_ROOM];
     uint64_t file;
@@ -74,9 +78,13 @@ void log_start(const struct ring *ring, struct request *request)
 }
 
 /* (its file may have been renamed meanwhile) */
-__attribute__((noinline)) static void log_part(const struct ring *ring, const struct request *request, uint16_t kind, int64_t result)
+__attribute__((noinline)) static void log_part(
+    const struct ring *ring, const struct request *request, uint16_t kind, int64_t result)
 {
-    struct event event = {.kind = kind, .operation = operation_of(ring, request), .file = request->logged_file, .result = result};
+    struct event event = {.kind = kind,
+        .operation = operation_of(ring, request),
+        .file = request->logged_file,
+        .result = result};
     log_event(&event, NULL, NULL, NULL, 0);
 }
 

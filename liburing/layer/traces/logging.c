@@ -1,5 +1,5 @@
-/* Which files are logged, where a write begins and whether it is synced: the library says so. Nothing here is trapped, and nothing takes memory: a
- * signal's handler calls it too.
+/* Which files are logged, where a write begins and whether it is synced: the library says so.
+ * Nothing here is trapped, and nothing takes memory: a signal's handler calls it too.
  */
 #define _GNU_SOURCE
 #include "traces/logging.h"
@@ -36,15 +36,20 @@ bool wulgach_is_synced_number(int fd)
     if (pass(SYS_fstat, fd, (long)&about, 0, 0, 0, 0) < 0)
         return false;
     struct wulgach_openness openness = openness_of(fd);
-    struct wulgach_synced_kind kind = {.is_regular = S_ISREG(about.st_mode), .is_folder = S_ISDIR(about.st_mode)};
+    struct wulgach_synced_kind kind = {
+        .is_regular = S_ISREG(about.st_mode), .is_folder = S_ISDIR(about.st_mode)};
     return wulgach_counts_as_synced(&openness, &kind);
 }
 
 #define DEFINE_SEEN(result, name, parameters, arguments) \
-    result wulgach_seen_##name parameters { return wulgach_##name arguments; }
+    result wulgach_seen_##name parameters \
+    { \
+        return wulgach_##name arguments; \
+    }
 LOGGING_CALLS(DEFINE_SEEN)
 
-void wulgach_seen_words_of_call(const struct wulgach_system_call *call, struct wulgach_call_words *words)
+void wulgach_seen_words_of_call(
+    const struct wulgach_system_call *call, struct wulgach_call_words *words)
 {
     wulgach_words_of_call(call, words);
 }
@@ -77,7 +82,10 @@ static int64_t place_of(int fd, uint32_t begins, uint64_t offset)
 void wulgach_place_write(struct event *event, int fd, uint64_t offset, int flags)
 {
     long status = pass(SYS_fcntl, fd, F_GETFL, 0, 0, 0, 0);
-    struct wulgach_writing writing = {.is_known = status >= 0, .status = (uint32_t)status, .flags = (uint32_t)flags, .offset = offset};
+    struct wulgach_writing writing = {.is_known = status >= 0,
+        .status = (uint32_t)status,
+        .flags = (uint32_t)flags,
+        .offset = offset};
     event->offset = place_of(fd, wulgach_write_begins(&writing), offset);
     event->flags = wulgach_syncs_itself(&writing) ? SYNCS_ITS_RANGE : 0;
 }

@@ -1,5 +1,5 @@
-/* Writes the trace of a ring: each line by one write, so that no line is cut where a thread exits in the middle of
- * another's, and none is there twice where a child is forked.
+/* Writes the trace of a ring: each line by one write, so that no line is cut where a thread exits
+ * in the middle of another's, and none is there twice where a child is forked.
  */
 #define _GNU_SOURCE
 #include "traces/trace.h"
@@ -55,7 +55,11 @@ void end_trace_line(struct ring *ring)
 /* Writes the set-up, which is the first line. */
 static void trace_setup(struct ring *ring)
 {
-    struct wulgach_setup setup = {.sq = ring->memory.sq_entries, .cq = ring->memory.cq_entries, .files = 1, .has_cq = true, .linux_rules = ring->is_linux};
+    struct wulgach_setup setup = {.sq = ring->memory.sq_entries,
+        .cq = ring->memory.cq_entries,
+        .files = 1,
+        .has_cq = true,
+        .linux_rules = ring->is_linux};
     uint8_t line[WULGACH_MOST_OF_LINE];
     uint64_t length;
     if (wulgach_trace_setup(&setup, line, sizeof line, &length) != 0) {
@@ -92,12 +96,16 @@ static void open_trace(struct ring *ring)
     if (!prefix)
         return;
     char *path = NULL;
-    ring->trace_file = asprintf(&path, "%s.%d.%" PRIu32, prefix, (int)ring->process, ring->index) < 0 ? -1 : open_written(path);
+    ring->trace_file = asprintf(&path, "%s.%d.%" PRIu32, prefix, (int)ring->process, ring->index) <
+                               0
+                           ? -1
+                           : open_written(path);
     free(path);
     if (ring->trace_file >= 0)
         ring->trace = open_memstream(&ring->line, &ring->line_length);
     if (!ring->trace) {
-        fprintf(stderr, "wulgach: %s.%d.%" PRIu32 " can't be written\n", prefix, (int)ring->process, ring->index);
+        fprintf(stderr, "wulgach: %s.%d.%" PRIu32 " can't be written\n", prefix, (int)ring->process,
+            ring->index);
         if (ring->trace_file >= 0)
             close(ring->trace_file);
         return;
@@ -126,7 +134,8 @@ static void print_flags(FILE *out, uint8_t flags)
         fwrite(letters, 1, length, out);
 }
 
-void trace_step(struct ring *ring, const struct wulgach_step *step, const struct wulgach_answer *answer)
+void trace_step(
+    struct ring *ring, const struct wulgach_step *step, const struct wulgach_answer *answer)
 {
     if (!ring->has_trace) {
         tell_own_calls(true);

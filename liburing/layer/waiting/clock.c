@@ -1,6 +1,6 @@
-/* Reads WULGACH_TIME: `virtual`, the default, where time moves when nothing else can go on; or `real`, for a program that
- * measures time, where a call sleeps until a timeout or a limit is over. Where time is virtual, a program's clocks go with it that are
- * those of behind/clocks.c.
+/* Reads WULGACH_TIME: `virtual`, the default, where time moves when nothing else can go on; or
+ * `real`, for a program that measures time, where a call sleeps until a timeout or a limit is over.
+ * Where time is virtual, a program's clocks go with it that are those of behind/clocks.c.
  */
 #define _GNU_SOURCE
 #include "waiting/clock.h"
@@ -12,13 +12,14 @@
 #include <time.h>
 #include <unistd.h>
 
-static bool is_real;        /* read when the process's first ring is set up */
+static bool is_real; /* read when the process's first ring is set up */
 
 static void read_environment(void)
 {
     const char *word = getenv("WULGACH_TIME");
     is_real = word && strcmp(word, "real") == 0;
-    demand(is_real || !word || !*word || strcmp(word, "virtual") == 0, "WULGACH_TIME is virtual or real");
+    demand(is_real || !word || !*word || strcmp(word, "virtual") == 0,
+        "WULGACH_TIME is virtual or real");
 }
 
 static void read_clock(void)
@@ -32,8 +33,8 @@ bool is_time_real(void)
     return is_real;
 }
 
-static bool are_moved;              /* the program's clocks go with the time that is moved: */
-static _Atomic uint64_t moved;      /* by so much, on all rings */
+static bool are_moved; /* the program's clocks go with the time that is moved: */
+static _Atomic uint64_t moved; /* by so much, on all rings */
 
 uint64_t wulgach_moved_time(void)
 {

@@ -18,7 +18,8 @@ uint64_t time_of_clock(clockid_t clock);
 /* Time was moved on, without a sleep. */
 void note_moved(uint64_t before, uint64_t after);
 
-/* For behind/clocks.c: that the program's clocks go with it, and how far time was moved on so far. */
+/* For behind/clocks.c: that the program's clocks go with it, and how far time was moved on so far.
+ */
 #define SEEN __attribute__((visibility("default"), externally_visible))
 SEEN void wulgach_move_clocks(void);
 SEEN uint64_t wulgach_moved_time(void);

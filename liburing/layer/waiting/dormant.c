@@ -1,11 +1,14 @@
-/* A descriptor that is looked at costs as much in each call as it does in the first, however long nothing comes. So where more requests
- * wait than a poll(2) looks at in passing, they become dormant: they leave those that the lookout has run, and come back, as if they had started,
- * once their descriptor is ready, a cancel has found them, an update has changed them or a poll hears of a write. Whether one waits for nothing but
- * its descriptor the library says.
+/* A descriptor that is looked at costs as much in each call as it does in the first, however long
+ * nothing comes. So where more requests wait than a poll(2) looks at in passing, they become
+ * dormant: they leave those that the lookout has run, and come back, as if they had started, once
+ * their descriptor is ready, a cancel has found them, an update has changed them or a poll hears of
+ * a write. Whether one waits for nothing but its descriptor the library says.
  *
- * The instance is asked once a moment, as descriptors are looked at once. It has each for one event, and is given it again when its request is
- * to be dormant again: then the kernel looks whether it is ready already. It knows a descriptor by its number and its file, so a request whose
- * descriptor it has already, as a registered file's, gets a duplicate. What it doesn't take is looked at as before.
+ * The instance is asked once a moment, as descriptors are looked at once. It has each for one
+ * event, and is given it again when its request is to be dormant again: then the kernel looks
+ * whether it is ready already. It knows a descriptor by its number and its file, so a request whose
+ * descriptor it has already, as a registered file's, gets a duplicate. What it doesn't take is
+ * looked at as before.
  */
 #define _GNU_SOURCE
 #include "waiting/dormant.h"
@@ -36,7 +39,8 @@ void free_dormant(struct dormant *dormant)
         close(dormant->instance);
 }
 
-/* A ring's descriptor that polls has the instance before that has anything: so a request that waits for the ring itself isn't taken. */
+/* A ring's descriptor that polls has the instance before that has anything: so a request that waits
+ * for the ring itself isn't taken. */
 static bool is_polled_for(struct ring *ring, int instance)
 {
     struct epoll_event event = {.events = EPOLLIN};
@@ -60,17 +64,21 @@ static bool has_instance(struct ring *ring)
 /* ---- which descriptors the instance has ---- */
 
 /* Returns 0, or an error number's negative. */
-static int32_t change(const struct ring *ring, int how, const struct request *request, const struct pollfd *polled)
+static int32_t change(
+    const struct ring *ring, int how, const struct request *request, const struct pollfd *polled)
 {
-    struct epoll_event event = {.events = wulgach_dormant_events((uint16_t)polled->events), .data.u64 = request->number};
+    struct epoll_event event = {
+        .events = wulgach_dormant_events((uint16_t)polled->events), .data.u64 = request->number};
     int fd = request->duplicate ? request->duplicate->fd : polled->fd;
     return epoll_ctl(ring->dormant.instance, how, fd, &event) == 0 ? 0 : -errno;
 }
 
 /* Adds its descriptor, or its duplicate if it has one. */
-static enum wulgach_enlisting add_to_instance(const struct ring *ring, const struct request *request, const struct pollfd *polled)
+static enum wulgach_enlisting add_to_instance(
+    const struct ring *ring, const struct request *request, const struct pollfd *polled)
 {
-    return (enum wulgach_enlisting)wulgach_enlisting_after(change(ring, EPOLL_CTL_ADD, request, polled), request->duplicate != NULL);
+    return (enum wulgach_enlisting)wulgach_enlisting_after(
+        change(ring, EPOLL_CTL_ADD, request, polled), request->duplicate != NULL);
 }
 
 /* Gives the instance a request's descriptor, for one event. False: it doesn't take it. */
@@ -102,11 +110,14 @@ void delist(struct ring *ring, struct request *request)
 /* Whether a request is to become dormant. */
 static bool is_to_lie(const struct ring *ring, const struct request *request)
 {
-    bool is_unready = wulgach_waiter_sighting(&request->waiter, &ring->lookout) == WULGACH_SIGHTING_UNREADY;
-    return wulgach_lies_down(&request->standing, &request->needs, &request->course, is_unready, request->is_unlisted);
+    bool is_unready = wulgach_waiter_sighting(&request->waiter, &ring->lookout) ==
+                      WULGACH_SIGHTING_UNREADY;
+    return wulgach_lies_down(
+        &request->standing, &request->needs, &request->course, is_unready, request->is_unlisted);
 }
 
-/* Has the instance tell of one, which keeps its file from now on. False: it is looked at for ever. */
+/* Has the instance tell of one, which keeps its file from now on. False: it is looked at for ever.
+ */
 static bool enlist_kept(struct ring *ring, struct request *request)
 {
     hold_file_of(request);
@@ -173,8 +184,8 @@ void rouse(struct ring *ring, struct request *request)
         bring_back(ring, request);
 }
 
-/* The kernel refuses to tell, so all are looked at from now on. The program may have closed the instance, and opened something under its number: that
- * stays open. */
+/* The kernel refuses to tell, so all are looked at from now on. The program may have closed the
+ * instance, and opened something under its number: that stays open. */
 static void rouse_all(struct ring *ring)
 {
     ring->dormant.is_refused = true;

@@ -1,5 +1,7 @@
-/* poll(2) takes no more entries than the process may have descriptors (RLIMIT_NOFILE), which a sandbox sets to 0 once it has opened all that it needs.
- * select(2) looks at whatever is open, and tells less: of the end of a stream that it can be read, and of an error that it can be read and written.
+/* poll(2) takes no more entries than the process may have descriptors (RLIMIT_NOFILE), which a
+ * sandbox sets to 0 once it has opened all that it needs. select(2) looks at whatever is open, and
+ * tells less: of the end of a stream that it can be read, and of an error that it can be read and
+ * written.
  */
 #define _GNU_SOURCE
 #include "waiting/glance.h"
@@ -82,7 +84,8 @@ static int tell_found(const struct sets *sets, struct pollfd *polled, nfds_t cou
     int found = 0;
     for (struct pollfd *at = polled; at < polled + count; at++) {
         if (at->fd >= 0 && at->revents == 0) {
-            struct wulgach_sets in = {has(sets->readable, at->fd), has(sets->writable, at->fd), has(sets->urgent, at->fd)};
+            struct wulgach_sets in = {has(sets->readable, at->fd), has(sets->writable, at->fd),
+                has(sets->urgent, at->fd)};
             at->revents = (short)wulgach_told_by_select((uint16_t)at->events, true, &in);
         }
         found += at->revents != 0;
@@ -90,7 +93,8 @@ static int tell_found(const struct sets *sets, struct pollfd *polled, nfds_t cou
     return found;
 }
 
-static int ask_select(struct pollfd *polled, nfds_t count, const struct timespec *time, const sigset_t *signals)
+static int ask_select(
+    struct pollfd *polled, nfds_t count, const struct timespec *time, const sigset_t *signals)
 {
     static const struct timespec now;
     struct sets sets = {0};
@@ -98,7 +102,8 @@ static int ask_select(struct pollfd *polled, nfds_t count, const struct timespec
         return -1;
     if (ask_sets(&sets, polled, count) > 0)
         time = &now;
-    int came = pselect(sets.end, (fd_set *)sets.readable, (fd_set *)sets.writable, (fd_set *)sets.urgent, time, signals);
+    int came = pselect(sets.end, (fd_set *)sets.readable, (fd_set *)sets.writable,
+        (fd_set *)sets.urgent, time, signals);
     if (came >= 0)
         came = tell_found(&sets, polled, count);
     int error = errno;
@@ -115,8 +120,10 @@ int poll_now(struct pollfd *polled, nfds_t count)
     return came < 0 && wulgach_asks_select(-errno) ? ask_select(polled, count, &now, NULL) : came;
 }
 
-int poll_until(struct pollfd *polled, nfds_t count, const struct timespec *time, const sigset_t *signals)
+int poll_until(
+    struct pollfd *polled, nfds_t count, const struct timespec *time, const sigset_t *signals)
 {
     int came = ppoll(polled, count, time, signals);
-    return came < 0 && wulgach_asks_select(-errno) ? ask_select(polled, count, time, signals) : came;
+    return came < 0 && wulgach_asks_select(-errno) ? ask_select(polled, count, time, signals)
+                                                   : came;
 }

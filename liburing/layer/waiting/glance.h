@@ -1,4 +1,5 @@
-/* Looks at descriptors as poll(2) does, also in a process that may have fewer open than it looks at. */
+/* Looks at descriptors as poll(2) does, also in a process that may have fewer open than it looks
+ * at. */
 #ifndef GLANCE_H
 #define GLANCE_H
 
@@ -10,6 +11,7 @@
 int poll_now(struct pollfd *polled, nfds_t count);
 
 /* Waits until one shows something, as ppoll(2) does. */
-int poll_until(struct pollfd *polled, nfds_t count, const struct timespec *time, const sigset_t *signals);
+int poll_until(
+    struct pollfd *polled, nfds_t count, const struct timespec *time, const sigset_t *signals);
 
 #endif

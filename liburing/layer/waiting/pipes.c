@@ -1,6 +1,7 @@
-/* The kernel tells a poll of a write in the moment of the write, also if what was written is read at once. The layer looks
- * at a descriptor in its calls, and finds nothing then. So it has inotify tell of writes to the pipes that polls wait for while
- * it isn't called: that keeps no file open, and knows pipes, though not sockets.
+/* The kernel tells a poll of a write in the moment of the write, also if what was written is read
+ * at once. The layer looks at a descriptor in its calls, and finds nothing then. So it has inotify
+ * tell of writes to the pipes that polls wait for while it isn't called: that keeps no file open,
+ * and knows pipes, though not sockets.
  */
 #define _GNU_SOURCE
 #include "waiting/pipes.h"
@@ -47,7 +48,8 @@ static struct wulgach_pipe_poll seen_of(const struct request *request)
 static bool reads_pipe(int fd)
 {
     struct stat status;
-    return fstat(fd, &status) == 0 && wulgach_is_heard(status.st_mode, (uint32_t)fcntl(fd, F_GETFL));
+    return fstat(fd, &status) == 0 &&
+           wulgach_is_heard(status.st_mode, (uint32_t)fcntl(fd, F_GETFL));
 }
 
 bool is_poll_of_pipe(const struct request *request)
@@ -86,7 +88,8 @@ static int make_inotify(void)
     return inotify_init1(IN_CLOEXEC | IN_NONBLOCK);
 }
 
-/* The watch of a descriptor's pipe, which is one however many descriptors it has; 0: there is none to be had. */
+/* The watch of a descriptor's pipe, which is one however many descriptors it has; 0: there is none
+ * to be had. */
 static int watch_of(struct pipes *pipes, int fd)
 {
     char path[40];
@@ -117,7 +120,8 @@ static size_t place_of_watch(const struct pipes *pipes, int number)
 static struct watch *watch_by(const struct pipes *pipes, int number)
 {
     size_t place = place_of_watch(pipes, number);
-    return place < pipes->count && pipes->watches[place].number == number ? &pipes->watches[place] : NULL;
+    return place < pipes->count && pipes->watches[place].number == number ? &pipes->watches[place]
+                                                                          : NULL;
 }
 
 /* Adds a watch without polls. There is room. */
@@ -161,7 +165,8 @@ void leave_pipe(struct ring *ring, struct request *request)
     request->watched_before = request->watched_after = NULL;
 }
 
-/* Sees that each running poll has its watch: a dormant one had it before. Those that were submitted together wait for the same pipe, mostly. */
+/* Sees that each running poll has its watch: a dormant one had it before. Those that were submitted
+ * together wait for the same pipe, mostly. */
 static void add_watches(struct ring *ring)
 {
     const struct request *before = NULL;
@@ -173,7 +178,8 @@ static void add_watches(struct ring *ring)
         }
         int watch = request->watch;
         if (watch == 0)
-            watch = before && before->fd == request->fd ? before->watch : watch_of(&ring->pipes, request->fd);
+            watch = before && before->fd == request->fd ? before->watch
+                                                        : watch_of(&ring->pipes, request->fd);
         if (request->watch == 0 && watch > 0)
             wait_by(&ring->pipes, request, watch);
         before = request;
@@ -215,7 +221,8 @@ static bool tell_of_write(struct ring *ring, const struct watch *watch)
     for (struct request *request = watch->polls; request; request = request->watched_after) {
         struct wulgach_pipe_poll seen = seen_of(request);
         uint32_t telling;
-        while ((telling = wulgach_telling_of(&seen, (uint32_t)watch->number, is_known)) == WULGACH_TELLING_ASKS) {
+        while ((telling = wulgach_telling_of(&seen, (uint32_t)watch->number, is_known)) ==
+               WULGACH_TELLING_ASKS) {
             is_there = has_something(request);
             is_known = true;
         }
@@ -247,7 +254,8 @@ static void note_write(struct pipes *pipes, struct watch *watch)
 }
 
 /* Notes what an event says of a pipe. Returns whether that counts as written to. */
-static bool note_event_of(struct pipes *pipes, const struct inotify_event *event, struct watch *watch)
+static bool note_event_of(
+    struct pipes *pipes, const struct inotify_event *event, struct watch *watch)
 {
     bool is_written = wulgach_counts_as_written(event->mask, watch->number == event->wd);
     if (is_written)
@@ -255,7 +263,8 @@ static bool note_event_of(struct pipes *pipes, const struct inotify_event *event
     return is_written;
 }
 
-/* Notes what an event says: of its pipe, or where it names none, of each. Returns whether one counts as written to that is watched. */
+/* Notes what an event says: of its pipe, or where it names none, of each. Returns whether one
+ * counts as written to that is watched. */
 static bool note_event(struct pipes *pipes, const struct inotify_event *event)
 {
     bool is_any = false;
@@ -267,7 +276,8 @@ static bool note_event(struct pipes *pipes, const struct inotify_event *event)
     return is_any;
 }
 
-/* Reads the writes that were told since they were last read, and passes them on, or drops them. Returns whether a poll has heard of one. */
+/* Reads the writes that were told since they were last read, and passes them on, or drops them.
+ * Returns whether a poll has heard of one. */
 static bool read_writes(struct ring *ring, bool is_dropping)
 {
     _Alignas(struct inotify_event) char events[4096];
@@ -322,7 +332,8 @@ static bool tell_of_gone(struct ring *ring)
     return is_told;
 }
 
-/* Does what the library says is next so that writes are heard. Returns whether a poll has heard of one. */
+/* Does what the library says is next so that writes are heard. Returns whether a poll has heard of
+ * one. */
 static bool do_hearing(struct ring *ring, uint32_t hearing)
 {
     switch (hearing) {
@@ -344,12 +355,14 @@ static bool do_hearing(struct ring *ring, uint32_t hearing)
     }
 }
 
-/* What the ring's own requests may have written and read since isn't told: in which order they go on is the policy's choice. */
+/* What the ring's own requests may have written and read since isn't told: in which order they go
+ * on is the policy's choice. */
 bool watch_pipes(struct ring *ring)
 {
     bool is_heard = false;
     uint32_t hearing = WULGACH_HEARING_IS_DONE;
-    while ((hearing = wulgach_hearing_at_rest(hearing, ring->pipes.count)) != WULGACH_HEARING_IS_DONE)
+    while (
+        (hearing = wulgach_hearing_at_rest(hearing, ring->pipes.count)) != WULGACH_HEARING_IS_DONE)
         is_heard |= do_hearing(ring, hearing);
     return is_heard;
 }
@@ -357,6 +370,7 @@ bool watch_pipes(struct ring *ring)
 void hear_pipes(struct ring *ring)
 {
     uint32_t hearing = WULGACH_HEARING_IS_DONE;
-    while ((hearing = wulgach_hearing_at_begin(hearing, ring->pipes.count)) != WULGACH_HEARING_IS_DONE)
+    while (
+        (hearing = wulgach_hearing_at_begin(hearing, ring->pipes.count)) != WULGACH_HEARING_IS_DONE)
         do_hearing(ring, hearing);
 }

@@ -1,6 +1,7 @@
-/* Sleeps on the streams that running requests wait for, and on an eventfd that is this sleeper's: by an epoll instance, which any signal ends, or by poll(2)
- * where that can't be. Both descriptors are made for one sleep, so that a ring keeps none for it. A process with one thread has them too: another thread may
- * have ended just now, and left a message.
+/* Sleeps on the streams that running requests wait for, and on an eventfd that is this sleeper's:
+ * by an epoll instance, which any signal ends, or by poll(2) where that can't be. Both descriptors
+ * are made for one sleep, so that a ring keeps none for it. A process with one thread has them too:
+ * another thread may have ended just now, and left a message.
  */
 #define _GNU_SOURCE
 #include "waiting/sleep.h"
@@ -36,9 +37,14 @@ static void add_slept(struct ring *ring, uint64_t start)
     wulgach_times_slept(&ring->times, is_time_real(), ring->origin, start, real_time());
 }
 
-_Static_assert(sizeof(struct pollfd) == sizeof(struct wulgach_poll_row) && offsetof(struct pollfd, fd) == offsetof(struct wulgach_poll_row, fd) && offsetof(struct pollfd, events) == offsetof(struct wulgach_poll_row, events) && offsetof(struct pollfd, revents) == offsetof(struct wulgach_poll_row, found), "a row is what poll(2) takes");
+_Static_assert(sizeof(struct pollfd) == sizeof(struct wulgach_poll_row) &&
+                   offsetof(struct pollfd, fd) == offsetof(struct wulgach_poll_row, fd) &&
+                   offsetof(struct pollfd, events) == offsetof(struct wulgach_poll_row, events) &&
+                   offsetof(struct pollfd, revents) == offsetof(struct wulgach_poll_row, found),
+    "a row is what poll(2) takes");
 
-/* Joins what is asked of one descriptor: an instance takes each once, and poll(2) no more than a process may have. */
+/* Joins what is asked of one descriptor: an instance takes each once, and poll(2) no more than a
+ * process may have. */
 static nfds_t join_polled(struct pollfd *polled, nfds_t count)
 {
     return wulgach_join_polled((struct wulgach_poll_row *)polled, count);
@@ -49,12 +55,14 @@ static struct wulgach_slept_for find_slept_for(struct request *request)
 {
     struct wulgach_slept_for slept;
     bool shows = wulgach_asks_before_nap(&request->needs, request->vain) && is_ready(request);
-    wulgach_sleep_effect(&request->standing, &request->needs, request->vain, shows, asks_broken(request), &slept);
+    wulgach_sleep_effect(
+        &request->standing, &request->needs, request->vain, shows, asks_broken(request), &slept);
     request->vain = slept.vain;
     return slept;
 }
 
-/* Lists what is asked of the descriptors of the running requests that wait for streams. Says whether there are some for which it is to nap. */
+/* Lists what is asked of the descriptors of the running requests that wait for streams. Says
+ * whether there are some for which it is to nap. */
 static nfds_t list_streams(const struct ring *ring, struct pollfd *streams, bool *naps)
 {
     nfds_t count = 0;
@@ -72,13 +80,17 @@ static nfds_t list_streams(const struct ring *ring, struct pollfd *streams, bool
     return count;
 }
 
-/* Gives the sleep's instance what it polls. Returns what that made of it, as far as any can be told of (enum wulgach_enlisted). */
+/* Gives the sleep's instance what it polls. Returns what that made of it, as far as any can be told
+ * of (enum wulgach_enlisted). */
 static uint32_t enlist(const struct sleeper *self, nfds_t count)
 {
     uint32_t all = WULGACH_INSTANCE_TELLS;
-    for (const struct pollfd *at = self->polled; at < self->polled + count && all != WULGACH_INSTANCE_CANT_TELL; at++) {
+    for (const struct pollfd *at = self->polled;
+         at < self->polled + count && all != WULGACH_INSTANCE_CANT_TELL; at++) {
         struct epoll_event event = {.events = (uint16_t)at->events};
-        int32_t came = at->fd >= 0 && epoll_ctl(self->instance, EPOLL_CTL_ADD, at->fd, &event) < 0 ? -errno : 0;
+        int32_t came = at->fd >= 0 && epoll_ctl(self->instance, EPOLL_CTL_ADD, at->fd, &event) < 0
+                           ? -errno
+                           : 0;
         all = wulgach_enlisted_with(all, came);
     }
     return all;
@@ -93,14 +105,17 @@ static const struct timespec *time_of(const struct wulgach_limit *limit, struct 
     return limit->is_set ? time : NULL;
 }
 
-/* Sleeps until a descriptor shows something or the time is over. Returns how many do, or the negative of an error number. */
-static int sleep_on(struct sleeper *self, nfds_t count, const struct wulgach_limit *limit, const sigset_t *signals)
+/* Sleeps until a descriptor shows something or the time is over. Returns how many do, or the
+ * negative of an error number. */
+static int sleep_on(
+    struct sleeper *self, nfds_t count, const struct wulgach_limit *limit, const sigset_t *signals)
 {
     struct timespec time;
     struct epoll_event told;
     struct wulgach_limit lasts;
     bool has_instance = self->instance >= 0;
-    uint32_t call = wulgach_sleep_call_of(has_instance, has_instance ? enlist(self, count) : WULGACH_INSTANCE_TELLS, limit, &lasts);
+    uint32_t call = wulgach_sleep_call_of(
+        has_instance, has_instance ? enlist(self, count) : WULGACH_INSTANCE_TELLS, limit, &lasts);
     if (call != WULGACH_SLEEPS_BY_POLL) {
         int came = epoll_pwait2(self->instance, &told, 1, time_of(&lasts, &time), signals);
         came = came < 0 ? -errno : came;
@@ -112,7 +127,8 @@ static int sleep_on(struct sleeper *self, nfds_t count, const struct wulgach_lim
 }
 
 /* Polls without the ring's lock. Handlers of signals run meanwhile. */
-static int poll_unlocked(struct ring *ring, struct sleeper *self, nfds_t count, const struct wulgach_limit *limit, const struct sleep_masks *masks)
+static int poll_unlocked(struct ring *ring, struct sleeper *self, nfds_t count,
+    const struct wulgach_limit *limit, const struct sleep_masks *masks)
 {
     int fd = ring->called_fd;
     pthread_mutex_unlock(&ring->lock);
@@ -135,7 +151,8 @@ static int poll_unlocked(struct ring *ring, struct sleeper *self, nfds_t count, 
 }
 
 /* (it has a frame of its own, below that of the call: by this a sleep that was left is known) */
-__attribute__((noinline)) int sleep_until(struct ring *ring, const struct wulgach_limit *until, const struct sleep_masks *masks)
+__attribute__((noinline)) int sleep_until(
+    struct ring *ring, const struct wulgach_limit *until, const struct sleep_masks *masks)
 {
     volatile uint64_t place;
     wake_sleepers(ring);
@@ -166,5 +183,5 @@ void wake_sleepers(struct ring *ring)
         return;
     for (const struct sleeper *sleeper = ring->sleepers; sleeper; sleeper = sleeper->next)
         if (write(sleeper->wake, &one, sizeof one) < 0)
-            continue;   /* it has none, and naps */
+            continue; /* it has none, and naps */
 }

@@ -1,6 +1,7 @@
-/* Whether a sleep was left by a jump is seen on the stack: a mark stands there, in the frame of the sleep, while that lasts, and a handler that comes
- * in a sleep has its frames below. What that comes to is the library's decision. Of a call that runs on a stack of the layer's it is told where it was
- * made.
+/* Whether a sleep was left by a jump is seen on the stack: a mark stands there, in the frame of the
+ * sleep, while that lasts, and a handler that comes in a sleep has its frames below. What that
+ * comes to is the library's decision. Of a call that runs on a stack of the layer's it is told
+ * where it was made.
  */
 #define _GNU_SOURCE
 #include "waiting/sleepers.h"
@@ -19,7 +20,8 @@
 __thread struct sleeps own_sleeps;
 __thread const void *caller;
 
-/* By which a thread that ends leaves its sleeps: a program may have taken all keys, and then they stay. */
+/* By which a thread that ends leaves its sleeps: a program may have taken all keys, and then they
+ * stay. */
 static pthread_key_t key;
 static bool has_key;
 static pthread_once_t once = PTHREAD_ONCE_INIT;
@@ -88,7 +90,8 @@ static void make_key(void)
     has_key = pthread_key_create(&key, leave_all) == 0;
 }
 
-/* How the thread can be cancelled is remembered, for one that leaves the C library's sleep by a jump. */
+/* How the thread can be cancelled is remembered, for one that leaves the C library's sleep by a
+ * jump. */
 static void note_cancel_type(void)
 {
     pthread_setcanceltype(PTHREAD_CANCEL_DEFERRED, &own_sleeps.cancel_type);
@@ -105,7 +108,12 @@ struct sleeper *begin_sleep(struct ring *ring, size_t most, volatile uint64_t *p
         pthread_setspecific(key, &own_sleeps);
     if (!own_sleeps.innermost)
         note_cancel_type();
-    *sleeper = (struct sleeper){.next = ring->sleepers, .outer = own_sleeps.innermost, .ring = ring, .place = place, .mark = next_mark(), .from = caller ? caller : (const volatile void *)place};
+    *sleeper = (struct sleeper){.next = ring->sleepers,
+        .outer = own_sleeps.innermost,
+        .ring = ring,
+        .place = place,
+        .mark = next_mark(),
+        .from = caller ? caller : (const volatile void *)place};
     sleeper->wake = made_eventfd();
     sleeper->instance = made_instance();
     sigaltstack(NULL, &sleeper->for_handlers);
@@ -129,7 +137,8 @@ static bool has_mark(const struct sleeper *sleeper)
     return wulgach_has_mark(sleeper->mark, is_read, found);
 }
 
-/* Finds out which stacks the thread has: the one that it was made with, and that of its handlers, as it is now and was as the sleep began. */
+/* Finds out which stacks the thread has: the one that it was made with, and that of its handlers,
+ * as it is now and was as the sleep began. */
 static void find_stacks(struct wulgach_seen_sleep *seen, const struct sleeper *sleeper)
 {
     pthread_attr_t attributes;
@@ -168,7 +177,9 @@ static void go_on_with_cancel_type(void)
 {
     int now;
     pthread_setcanceltype(PTHREAD_CANCEL_DEFERRED, &now);
-    if (wulgach_is_cancellable_at_once(own_sleeps.innermost, own_sleeps.cancel_type == PTHREAD_CANCEL_ASYNCHRONOUS, now == PTHREAD_CANCEL_ASYNCHRONOUS))
+    if (wulgach_is_cancellable_at_once(own_sleeps.innermost,
+            own_sleeps.cancel_type == PTHREAD_CANCEL_ASYNCHRONOUS,
+            now == PTHREAD_CANCEL_ASYNCHRONOUS))
         pthread_setcanceltype(PTHREAD_CANCEL_ASYNCHRONOUS, NULL);
 }
 
@@ -180,6 +191,7 @@ int leave_jumped_sleeps(const void *here, int cancel_state)
         leave(own_sleeps.innermost);
     allow_signals(&signals);
     go_on_with_cancel_type();
-    bool is_cancellable = wulgach_is_cancellable(own_sleeps.innermost, own_sleeps.cancel_state == PTHREAD_CANCEL_ENABLE, cancel_state == PTHREAD_CANCEL_ENABLE);
+    bool is_cancellable = wulgach_is_cancellable(own_sleeps.innermost,
+        own_sleeps.cancel_state == PTHREAD_CANCEL_ENABLE, cancel_state == PTHREAD_CANCEL_ENABLE);
     return is_cancellable ? PTHREAD_CANCEL_ENABLE : PTHREAD_CANCEL_DISABLE;
 }

@@ -1,5 +1,5 @@
-/* Time: it is moved on by timeouts, by waits that end without anything, and by what was really slept; or, where it is real, by
- * itself. */
+/* Time: it is moved on by timeouts, by waits that end without anything, and by what was really
+ * slept; or, where it is real, by itself. */
 #define _GNU_SOURCE
 #include "waiting/waiting.h"
 #include "calls/extras.h"
@@ -14,7 +14,8 @@
 bool has_expired(const struct ring *ring)
 {
     struct wulgach_timeout timeout;
-    return ring->times.count > 0 && wulgach_times_due(&ring->times, ring->timeouts, ring->timeouts_room, &timeout) == 0;
+    return ring->times.count > 0 &&
+           wulgach_times_due(&ring->times, ring->timeouts, ring->timeouts_room, &timeout) == 0;
 }
 
 static void fire(struct ring *ring, const struct wulgach_timeout *timeout)
@@ -54,8 +55,8 @@ static bool has_signal(const sigset_t *mask)
     return sigpending(&waiting) == 0 && wulgach_comes_by_mask(word_of(&waiting), word_of(mask));
 }
 
-/* By what a call of this ring may be woken, if it has a mask to sleep with. Of other threads, and of signals, it is asked where the library says that it
- * matters. */
+/* By what a call of this ring may be woken, if it has a mask to sleep with. Of other threads, and
+ * of signals, it is asked where the library says that it matters. */
 static struct wulgach_wake_sources wake_sources(const struct ring *ring, const sigset_t *mask)
 {
     bool has_streams = is_streaming(ring);
@@ -68,7 +69,8 @@ static struct wulgach_wake_sources wake_sources(const struct ring *ring, const s
 }
 
 /* Waits as the library says, and notes what is known then. */
-static struct wulgach_waited wait_as(struct ring *ring, const struct wulgach_wait *wait, const struct sleep_masks *masks)
+static struct wulgach_waited wait_as(
+    struct ring *ring, const struct wulgach_wait *wait, const struct sleep_masks *masks)
 {
     struct wulgach_waited waited = {.is_never = wait->kind == WULGACH_WAIT_NEVER};
     switch (wait->kind) {
@@ -87,14 +89,17 @@ static struct wulgach_waited wait_as(struct ring *ring, const struct wulgach_wai
     return waited;
 }
 
-enum wulgach_reply_kind wait_for_any(struct ring *ring, const struct wulgach_limit *deadline, bool is_least, const struct sleep_masks *masks, int *error)
+enum wulgach_reply_kind wait_for_any(struct ring *ring, const struct wulgach_limit *deadline,
+    bool is_least, const struct sleep_masks *masks, int *error)
 {
     take_dropped(masks->own);
     /* (by choice time passes before any of these) */
-    struct wulgach_wake_sources sources = ring->is_rushed ? (struct wulgach_wake_sources){0} : wake_sources(ring, masks->asleep);
+    struct wulgach_wake_sources sources = ring->is_rushed ? (struct wulgach_wake_sources){0}
+                                                          : wake_sources(ring, masks->asleep);
     ring->is_rushed = false;
     struct wulgach_wait wait;
-    wulgach_times_wait(&ring->times, ring->timeouts, ring->timeouts_room, &sources, deadline, &wait);
+    wulgach_times_wait(
+        &ring->times, ring->timeouts, ring->timeouts_room, &sources, deadline, &wait);
     struct wulgach_waited waited = wait_as(ring, &wait, masks);
     if (wulgach_fires_after(&waited)) {
         struct wulgach_woken woken;
@@ -112,7 +117,8 @@ enum wulgach_reply_kind wait_for_any(struct ring *ring, const struct wulgach_lim
 static bool find_passing(const struct ring *ring, struct wulgach_timeout *timeout)
 {
     struct wulgach_wake_sources sources = wake_sources(ring, NULL);
-    return wulgach_times_passing(&ring->times, ring->timeouts, ring->timeouts_room, &sources, timeout) == 0;
+    return wulgach_times_passing(
+               &ring->times, ring->timeouts, ring->timeouts_room, &sources, timeout) == 0;
 }
 
 bool can_pass_time(const struct ring *ring)
@@ -131,7 +137,8 @@ void pass_time(struct ring *ring)
 bool find_next_timeout(const struct ring *ring, struct wulgach_timeout *timeout)
 {
     static const struct wulgach_wake_sources nothing_else;
-    return ring->times.count > 0 && wulgach_times_passing(&ring->times, ring->timeouts, ring->timeouts_room, &nothing_else, timeout) == 0;
+    return ring->times.count > 0 && wulgach_times_passing(&ring->times, ring->timeouts,
+                                        ring->timeouts_room, &nothing_else, timeout) == 0;
 }
 
 void pass_by_choice(struct ring *ring)

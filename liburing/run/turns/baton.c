@@ -1,10 +1,12 @@
-/* The baton: one thread has it and runs. All others are parked in the trap of their last call, with signals blocked, each on a word of its own. */
+/* The baton: one thread has it and runs. All others are parked in the trap of their last call, with
+ * signals blocked, each on a word of its own. */
 #define _GNU_SOURCE
 #include "turns.h"
 
 #include <linux/futex.h>
 
-/* Who went before has to be gone: the kernel clears its word as it is, and nothing of it happens after that. */
+/* Who went before has to be gone: the kernel clears its word as it is, and nothing of it happens
+ * after that. */
 static void await_end_of_other(void)
 {
     if (self->follows == 0)

@@ -1,4 +1,5 @@
-/* How each call is served. What isn't here is carried out by the kernel, and told of by name, since it may wait there. */
+/* How each call is served. What isn't here is carried out by the kernel, and told of by name, since
+ * it may wait there. */
 #define _GNU_SOURCE
 #include "calls.h"
 #include "chance.h"
@@ -27,11 +28,16 @@ static const char *const names[MOST_CALLS] = {
 const char *name_of_call(long call)
 {
     switch (call) {
-    case POINT_AT_LOOK: return "a look at the clock";
-    case POINT_AT_LOCK: return "a lock";
-    case GO_ON_AS: return "a lock, at which another goes on";
-    case YIELD_AT_LOCK: return "a lock that is tried";
-    default: return call >= 0 && call < MOST_CALLS && names[call] ? names[call] : "an unknown call";
+    case POINT_AT_LOOK:
+        return "a look at the clock";
+    case POINT_AT_LOCK:
+        return "a lock";
+    case GO_ON_AS:
+        return "a lock, at which another goes on";
+    case YIELD_AT_LOCK:
+        return "a lock that is tried";
+    default:
+        return call >= 0 && call < MOST_CALLS && names[call] ? names[call] : "an unknown call";
     }
 }
 
@@ -42,7 +48,8 @@ void tell_unserved(const struct trap *trap, const char *why)
     if (trap->call < 0 || trap->call >= MOST_CALLS || was_told[trap->call])
         return;
     was_told[trap->call] = true;
-    say_line("thread %d calls %s, which --threads doesn't serve: %s", slot_of(self) + 1, name_of_call(trap->call), why);
+    say_line("thread %d calls %s, which --threads doesn't serve: %s", slot_of(self) + 1,
+        name_of_call(trap->call), why);
 }
 
 static long do_nothing(struct trap *trap)
@@ -108,44 +115,123 @@ static long serve_prctl(struct trap *trap)
 
 static const struct row rows[MOST_CALLS] = {
     /* threads and processes */
-    [SYS_clone] = {serve_clone, false}, [SYS_clone3] = {serve_clone, false}, [SYS_fork] = {serve_fork, false}, [SYS_vfork] = {serve_fork, false},
-    [SYS_execve] = {serve_exec, false}, [SYS_execveat] = {serve_exec, false}, [SYS_exit] = {serve_exit, false}, [SYS_exit_group] = {serve_exit_group, false},
-    [SYS_set_tid_address] = {serve_tid_address, true}, [SYS_set_robust_list] = {serve_robust_list, true}, [SYS_rseq] = {refuse, true},
-    [SYS_sched_yield] = {do_nothing, false}, [SYS_sched_getaffinity] = {serve_affinity, true}, [SYS_sched_setaffinity] = {do_nothing, true},
-    [SYS_wait4] = {serve_wait4, false}, [SYS_waitid] = {serve_waitid, false}, [SYS_prctl] = {serve_prctl, true},
-    [SYS_futex] = {serve_futex, false}, [449] = {serve_waitv, false},
+    [SYS_clone] = {serve_clone, false},
+    [SYS_clone3] = {serve_clone, false},
+    [SYS_fork] = {serve_fork, false},
+    [SYS_vfork] = {serve_fork, false},
+    [SYS_execve] = {serve_exec, false},
+    [SYS_execveat] = {serve_exec, false},
+    [SYS_exit] = {serve_exit, false},
+    [SYS_exit_group] = {serve_exit_group, false},
+    [SYS_set_tid_address] = {serve_tid_address, true},
+    [SYS_set_robust_list] = {serve_robust_list, true},
+    [SYS_rseq] = {refuse, true},
+    [SYS_sched_yield] = {do_nothing, false},
+    [SYS_sched_getaffinity] = {serve_affinity, true},
+    [SYS_sched_setaffinity] = {do_nothing, true},
+    [SYS_wait4] = {serve_wait4, false},
+    [SYS_waitid] = {serve_waitid, false},
+    [SYS_prctl] = {serve_prctl, true},
+    [SYS_futex] = {serve_futex, false},
+    [449] = {serve_waitv, false},
     /* time and chance */
-    [SYS_clock_gettime] = {serve_clock, true}, [SYS_gettimeofday] = {serve_timeofday, true}, [SYS_time] = {serve_time, true}, [SYS_getcpu] = {serve_processor, true},
-    [SYS_nanosleep] = {serve_nanosleep, false}, [SYS_clock_nanosleep] = {serve_clock_nanosleep, false}, [SYS_getrusage] = {serve_usage, true},
-    [SYS_times] = {serve_times, true}, [SYS_sysinfo] = {serve_system, true}, [SYS_getrandom] = {serve_getrandom, true},
-    [SYS_alarm] = {serve_alarm, false}, [SYS_setitimer] = {serve_setitimer, false}, [SYS_getitimer] = {serve_getitimer, false},
-    [SYS_timer_create] = {serve_timer_create, false}, [SYS_timer_settime] = {serve_timer_settime, false}, [SYS_timer_gettime] = {serve_timer_gettime, false},
-    [SYS_timer_delete] = {serve_timer_delete, false}, [SYS_timer_getoverrun] = {serve_timer_overruns, false},
-    [SYS_timerfd_create] = {serve_timerfd_create, false}, [SYS_timerfd_settime] = {serve_timerfd_settime, false}, [SYS_timerfd_gettime] = {serve_timerfd_gettime, false},
+    [SYS_clock_gettime] = {serve_clock, true},
+    [SYS_gettimeofday] = {serve_timeofday, true},
+    [SYS_time] = {serve_time, true},
+    [SYS_getcpu] = {serve_processor, true},
+    [SYS_nanosleep] = {serve_nanosleep, false},
+    [SYS_clock_nanosleep] = {serve_clock_nanosleep, false},
+    [SYS_getrusage] = {serve_usage, true},
+    [SYS_times] = {serve_times, true},
+    [SYS_sysinfo] = {serve_system, true},
+    [SYS_getrandom] = {serve_getrandom, true},
+    [SYS_alarm] = {serve_alarm, false},
+    [SYS_setitimer] = {serve_setitimer, false},
+    [SYS_getitimer] = {serve_getitimer, false},
+    [SYS_timer_create] = {serve_timer_create, false},
+    [SYS_timer_settime] = {serve_timer_settime, false},
+    [SYS_timer_gettime] = {serve_timer_gettime, false},
+    [SYS_timer_delete] = {serve_timer_delete, false},
+    [SYS_timer_getoverrun] = {serve_timer_overruns, false},
+    [SYS_timerfd_create] = {serve_timerfd_create, false},
+    [SYS_timerfd_settime] = {serve_timerfd_settime, false},
+    [SYS_timerfd_gettime] = {serve_timerfd_gettime, false},
     /* signals */
-    [SYS_rt_sigprocmask] = {serve_mask, true}, [SYS_rt_sigaction] = {serve_action, true}, [SYS_sigaltstack] = {serve_signal_stack, true},
-    [SYS_rt_sigsuspend] = {serve_suspend, false}, [SYS_pause] = {serve_pause, false}, [SYS_rt_sigtimedwait] = {serve_timed_wait, false},
-    [SYS_kill] = {serve_kill, false}, [SYS_tkill] = {serve_thread_kill, false}, [SYS_tgkill] = {serve_thread_kill, false},
-    [SYS_rt_sigqueueinfo] = {serve_queue, false}, [SYS_rt_tgsigqueueinfo] = {serve_thread_queue, false},
+    [SYS_rt_sigprocmask] = {serve_mask, true},
+    [SYS_rt_sigaction] = {serve_action, true},
+    [SYS_sigaltstack] = {serve_signal_stack, true},
+    [SYS_rt_sigsuspend] = {serve_suspend, false},
+    [SYS_pause] = {serve_pause, false},
+    [SYS_rt_sigtimedwait] = {serve_timed_wait, false},
+    [SYS_kill] = {serve_kill, false},
+    [SYS_tkill] = {serve_thread_kill, false},
+    [SYS_tgkill] = {serve_thread_kill, false},
+    [SYS_rt_sigqueueinfo] = {serve_queue, false},
+    [SYS_rt_tgsigqueueinfo] = {serve_thread_queue, false},
     /* waits */
-    [SYS_poll] = {serve_poll, false}, [SYS_ppoll] = {serve_ppoll, false}, [SYS_select] = {serve_select, false}, [SYS_pselect6] = {serve_pselect, false},
-    [SYS_epoll_wait] = {serve_epoll_wait, false}, [SYS_epoll_pwait] = {serve_epoll_pwait, false}, [441] = {serve_epoll_pwait2, false}, [SYS_epoll_ctl] = {serve_epoll_ctl, false},
-    [SYS_semop] = {serve_semop, false}, [SYS_semtimedop] = {serve_semtimedop, false}, [SYS_msgsnd] = {serve_msgsnd, false}, [SYS_msgrcv] = {serve_msgrcv, false},
-    [SYS_mq_timedsend] = {serve_mq_send, false}, [SYS_mq_timedreceive] = {serve_mq_receive, false}, [SYS_mq_open] = {serve_mq_open, false},
+    [SYS_poll] = {serve_poll, false},
+    [SYS_ppoll] = {serve_ppoll, false},
+    [SYS_select] = {serve_select, false},
+    [SYS_pselect6] = {serve_pselect, false},
+    [SYS_epoll_wait] = {serve_epoll_wait, false},
+    [SYS_epoll_pwait] = {serve_epoll_pwait, false},
+    [441] = {serve_epoll_pwait2, false},
+    [SYS_epoll_ctl] = {serve_epoll_ctl, false},
+    [SYS_semop] = {serve_semop, false},
+    [SYS_semtimedop] = {serve_semtimedop, false},
+    [SYS_msgsnd] = {serve_msgsnd, false},
+    [SYS_msgrcv] = {serve_msgrcv, false},
+    [SYS_mq_timedsend] = {serve_mq_send, false},
+    [SYS_mq_timedreceive] = {serve_mq_receive, false},
+    [SYS_mq_open] = {serve_mq_open, false},
     /* transfers */
-    [SYS_read] = {serve_read, false}, [SYS_readv] = {serve_read, false}, [SYS_preadv2] = {serve_read, false}, [SYS_recvfrom] = {serve_receive, false},
-    [SYS_recvmsg] = {serve_receive, false}, [SYS_recvmmsg] = {serve_receive, false}, [SYS_accept] = {serve_accept, false}, [SYS_accept4] = {serve_accept, false},
-    [SYS_write] = {serve_write, false}, [SYS_writev] = {serve_write, false}, [SYS_pwritev2] = {serve_write, false}, [SYS_sendto] = {serve_send, false},
-    [SYS_sendmsg] = {serve_send, false}, [SYS_sendmmsg] = {serve_send, false}, [SYS_connect] = {serve_connect, false},
-    [SYS_splice] = {serve_splice, false}, [SYS_tee] = {serve_tee, false}, [SYS_vmsplice] = {serve_write, false}, [SYS_sendfile] = {serve_sendfile, false},
+    [SYS_read] = {serve_read, false},
+    [SYS_readv] = {serve_read, false},
+    [SYS_preadv2] = {serve_read, false},
+    [SYS_recvfrom] = {serve_receive, false},
+    [SYS_recvmsg] = {serve_receive, false},
+    [SYS_recvmmsg] = {serve_receive, false},
+    [SYS_accept] = {serve_accept, false},
+    [SYS_accept4] = {serve_accept, false},
+    [SYS_write] = {serve_write, false},
+    [SYS_writev] = {serve_write, false},
+    [SYS_pwritev2] = {serve_write, false},
+    [SYS_sendto] = {serve_send, false},
+    [SYS_sendmsg] = {serve_send, false},
+    [SYS_sendmmsg] = {serve_send, false},
+    [SYS_connect] = {serve_connect, false},
+    [SYS_splice] = {serve_splice, false},
+    [SYS_tee] = {serve_tee, false},
+    [SYS_vmsplice] = {serve_write, false},
+    [SYS_sendfile] = {serve_sendfile, false},
     /* descriptors and what is said of files */
-    [SYS_open] = {serve_open, false}, [SYS_openat] = {serve_openat, false}, [SYS_close] = {serve_close, false}, [SYS_close_range] = {serve_close_range, false},
-    [SYS_pipe] = {serve_pipe, false}, [SYS_pipe2] = {serve_pipe, false}, [SYS_socketpair] = {serve_socketpair, false}, [SYS_socket] = {serve_socket, false},
-    [SYS_eventfd] = {serve_made_inside, false}, [SYS_eventfd2] = {serve_made_inside, false}, [SYS_signalfd] = {serve_made_inside, false}, [SYS_signalfd4] = {serve_made_inside, false},
-    [SYS_epoll_create] = {serve_made_inside, false}, [SYS_epoll_create1] = {serve_made_inside, false}, [SYS_inotify_init] = {serve_made_inside, false}, [SYS_inotify_init1] = {serve_made_inside, false},
-    [SYS_dup] = {serve_dup, true}, [SYS_dup2] = {serve_dup_to, false}, [SYS_dup3] = {serve_dup_to, false}, [SYS_fcntl] = {serve_fcntl, false}, [SYS_flock] = {serve_flock, false},
-    [SYS_stat] = {serve_stat, true}, [SYS_lstat] = {serve_stat, true}, [SYS_fstat] = {serve_stat, true}, [SYS_newfstatat] = {serve_fstatat, true},
-    [SYS_statx] = {serve_statx, true}, [SYS_getdents64] = {serve_entries, false},
+    [SYS_open] = {serve_open, false},
+    [SYS_openat] = {serve_openat, false},
+    [SYS_close] = {serve_close, false},
+    [SYS_close_range] = {serve_close_range, false},
+    [SYS_pipe] = {serve_pipe, false},
+    [SYS_pipe2] = {serve_pipe, false},
+    [SYS_socketpair] = {serve_socketpair, false},
+    [SYS_socket] = {serve_socket, false},
+    [SYS_eventfd] = {serve_made_inside, false},
+    [SYS_eventfd2] = {serve_made_inside, false},
+    [SYS_signalfd] = {serve_made_inside, false},
+    [SYS_signalfd4] = {serve_made_inside, false},
+    [SYS_epoll_create] = {serve_made_inside, false},
+    [SYS_epoll_create1] = {serve_made_inside, false},
+    [SYS_inotify_init] = {serve_made_inside, false},
+    [SYS_inotify_init1] = {serve_made_inside, false},
+    [SYS_dup] = {serve_dup, true},
+    [SYS_dup2] = {serve_dup_to, false},
+    [SYS_dup3] = {serve_dup_to, false},
+    [SYS_fcntl] = {serve_fcntl, false},
+    [SYS_flock] = {serve_flock, false},
+    [SYS_stat] = {serve_stat, true},
+    [SYS_lstat] = {serve_stat, true},
+    [SYS_fstat] = {serve_stat, true},
+    [SYS_newfstatat] = {serve_fstatat, true},
+    [SYS_statx] = {serve_statx, true},
+    [SYS_getdents64] = {serve_entries, false},
     /* refused */
     [SYS_io_setup] = {refuse_aio, true},
 #define QUIET(call) [SYS_##call] = {pass_on_quietly, true}

@@ -1,4 +1,5 @@
-/* What the layer's own trap has for turns (trap.c), and which calls are made again after a signal's handler. */
+/* What the layer's own trap has for turns (trap.c), and which calls are made again after a signal's
+ * handler. */
 #ifndef TURNS_CALLS_H
 #define TURNS_CALLS_H
 

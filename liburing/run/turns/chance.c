@@ -1,5 +1,5 @@
-/* Where a program gets what no run before had: random bytes come from the seed; rdtsc faults, and counts the run's time; cpuid faults, and hides rdrand, rdseed and
- * transactions. */
+/* Where a program gets what no run before had: random bytes come from the seed; rdtsc faults, and
+ * counts the run's time; cpuid faults, and hides rdrand, rdseed and transactions. */
 #define _GNU_SOURCE
 #include "chance.h"
 #include "places.h"
@@ -49,7 +49,8 @@ void take_chance(void)
 /* rdtsc and rdtscp: cycles of 2.5 GHz. */
 static bool count_cycles(greg_t *registers, const uint8_t *at)
 {
-    bool is_plain = at[0] == 0x0f && at[1] == 0x31, is_of_processor = at[0] == 0x0f && at[1] == 0x01 && at[2] == 0xf9;
+    bool is_plain = at[0] == 0x0f && at[1] == 0x31,
+         is_of_processor = at[0] == 0x0f && at[1] == 0x01 && at[2] == 0xf9;
     if (!is_plain && !is_of_processor)
         return false;
     uint64_t cycles = look_at_clock(CLOCK_MONOTONIC) * 5 / 2;
@@ -65,7 +66,8 @@ static bool count_cycles(greg_t *registers, const uint8_t *at)
 static bool say_features(greg_t *registers, const uint8_t *at)
 {
     enum { RDRAND = 1 << 30, RDSEED = 1 << 18, TRANSACTIONS = 1 << 11, NUMBER = 0x00ffffff };
-    uint32_t leaf = (uint32_t)registers[REG_RAX], part = (uint32_t)registers[REG_RCX], a = leaf, b, c = part, d;
+    uint32_t leaf = (uint32_t)registers[REG_RAX], part = (uint32_t)registers[REG_RCX], a = leaf, b,
+             c = part, d;
     if (at[0] != 0x0f || at[1] != 0xa2)
         return false;
     kernel(SYS_arch_prctl, SET_FEATURES, 1);
@@ -98,7 +100,7 @@ static void give_fault(int number, siginfo_t *info, void *context)
     tell_fault(context);
     end_log();
     kernel(SYS_rt_sigaction, SIGSEGV, &ends, 0, sizeof(uint64_t));
-    if (info->si_code <= 0)     /* (it was sent, and doesn't come again) */
+    if (info->si_code <= 0) /* (it was sent, and doesn't come again) */
         kernel(SYS_tgkill, kernel(SYS_getpid), kernel(SYS_gettid), number);
 }
 

@@ -1,4 +1,5 @@
-/* Random bytes, the counter of cycles and what a processor says of itself, of the seed or the same in each run. */
+/* Random bytes, the counter of cycles and what a processor says of itself, of the seed or the same
+ * in each run. */
 #ifndef TURNS_CHANCE_H
 #define TURNS_CHANCE_H
 

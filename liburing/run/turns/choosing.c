@@ -1,5 +1,6 @@
-/* Who goes on: at each point the threads that can are the ways of a choice, way 0 the one that has the baton, or after a yield the next by number, the others
- * following by number. Where nobody can, time moves to the next moment for which one waits. */
+/* Who goes on: at each point the threads that can are the ways of a choice, way 0 the one that has
+ * the baton, or after a yield the next by number, the others following by number. Where nobody can,
+ * time moves to the next moment for which one waits. */
 #define _GNU_SOURCE
 #include "turns.h"
 #include "../../layer/choices/turns.h"
@@ -21,7 +22,8 @@ static int first_way(const int *candidates, int count)
     return 0;
 }
 
-/* A seed has rolled how often a thread stays: where each turn is rolled anew all go equally fast, which finds little. */
+/* A seed has rolled how often a thread stays: where each turn is rolled anew all go equally fast,
+ * which finds little. */
 static int pick_by_seed(const int *candidates, int count)
 {
     int first = first_way(candidates, count);
@@ -57,7 +59,9 @@ static int pick_by_priorities(const int *candidates, int count)
 /* The way that is rolled, from way 0 on. */
 static int rolled_way(const int *candidates, int count, int first)
 {
-    int at = world->how == BY_SEED ? pick_by_seed(candidates, count) : world->how == BY_PRIORITIES ? pick_by_priorities(candidates, count) : first;
+    int at = world->how == BY_SEED         ? pick_by_seed(candidates, count)
+             : world->how == BY_PRIORITIES ? pick_by_priorities(candidates, count)
+                                           : first;
     return (at - first + count) % count;
 }
 
@@ -68,8 +72,10 @@ static int chosen_way(const int *candidates, int count, int first, int rolled)
     uint64_t at;
     if (!world->chooses)
         return rolled;
-    int way = (int)wulgach_choose_turn((uint32_t)count, (uint32_t)rolled, &at), next = candidates[(first + way) % count];
-    snprintf(what, sizeof what, "thread %d at %s, then thread %d", slot_of(self) + 1, name_of_call(self->call), next + 1);
+    int way = (int)wulgach_choose_turn((uint32_t)count, (uint32_t)rolled, &at),
+        next = candidates[(first + way) % count];
+    snprintf(what, sizeof what, "thread %d at %s, then thread %d", slot_of(self) + 1,
+        name_of_call(self->call), next + 1);
     wulgach_record_turn(at, (uint32_t)count, (uint32_t)way, what);
     return way;
 }
@@ -98,7 +104,8 @@ static bool is_met(struct thread *thread)
     return thread->is_ready && thread->is_met;
 }
 
-/* The candidates; when the next moment is that somebody waits for; and whether somebody waits for what may come from outside. */
+/* The candidates; when the next moment is that somebody waits for; and whether somebody waits for
+ * what may come from outside. */
 static int find_candidates(uint64_t *moment, bool *is_outside)
 {
     int count = 0;
@@ -106,7 +113,8 @@ static int find_candidates(uint64_t *moment, bool *is_outside)
     *is_outside = false;
     for (int i = 0; i < world->count; i++) {
         struct thread *thread = world->threads + i;
-        if (thread->state == READY || (thread->state == WAITS && (thread->limit <= world->now || is_met(thread)))) {
+        if (thread->state == READY ||
+            (thread->state == WAITS && (thread->limit <= world->now || is_met(thread)))) {
             world->candidates[count++] = i;
         } else if (thread->state == WAITS) {
             *moment = thread->limit < *moment ? thread->limit : *moment;
@@ -121,7 +129,8 @@ static struct thread *take_turn(int count)
     struct thread *next = world->threads + pick_of(world->candidates, count);
     if (next->state == WAITS) {
         bool is_over = next->limit <= world->now;
-        next->reason = is_over && !(next->is_ready && next->is_ready(next->argument)) ? TIME_IS_OVER : IS_READY;
+        next->reason = is_over && !(next->is_ready && next->is_ready(next->argument)) ? TIME_IS_OVER
+                                                                                      : IS_READY;
         next->state = READY;
     }
     return next;
@@ -170,7 +179,7 @@ struct thread *choose_next(void)
             move_time(moment);
         } else if (is_sure) {
             tell_deadlock();
-        } else {        /* (all are asked once more) */
+        } else { /* (all are asked once more) */
             is_sure = true;
             change_world();
         }
@@ -222,7 +231,8 @@ static void roll_falls(const char *words)
     char *at;
     enum { SOME_CHOICES = 1000 };
     world->seed = strtoul(words, &at, 10);
-    uint64_t depth = *at == ':' ? strtoul(at + 1, &at, 10) : 1, most = *at == ':' ? strtoul(at + 1, &at, 10) : SOME_CHOICES;
+    uint64_t depth = *at == ':' ? strtoul(at + 1, &at, 10) : 1,
+             most = *at == ':' ? strtoul(at + 1, &at, 10) : SOME_CHOICES;
     world->turns_random = world->seed;
     world->fall_count = depth > 64 ? 64 : depth > 0 ? depth - 1 : 0;
     for (uint64_t i = 0; i < world->fall_count; i++)
@@ -236,7 +246,8 @@ static void note_own_calls(bool begin)
         self->own_calls += begin ? 1 : -1;
 }
 
-/* By the policy of the rings: under a seed, by priorities, or as a list says; else a thread goes on until it waits. */
+/* By the policy of the rings: under a seed, by priorities, or as a list says; else a thread goes on
+ * until it waits. */
 void begin_choices(void)
 {
     static const uint64_t stays[] = {1, 20, 100};

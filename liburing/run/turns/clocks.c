@@ -1,5 +1,6 @@
-/* Looks at clocks, and sleeps. What the vDSO answers without a call is answered here too: the beginnings of its functions are written over. Looks that come in
- * numbers are points, since who waits by looking at the clock has others go on. */
+/* Looks at clocks, and sleeps. What the vDSO answers without a call is answered here too: the
+ * beginnings of its functions are written over. Looks that come in numbers are points, since who
+ * waits by looking at the clock has others go on. */
 #define _GNU_SOURCE
 #include "clocks.h"
 
@@ -57,7 +58,7 @@ uint64_t look_at_clock(int clock)
     case CLOCK_MONOTONIC_COARSE:
     case CLOCK_BOOTTIME:
         return FIRST_MOMENT + world->now;
-    default:        /* (of the processor, by a process or a thread) */
+    default: /* (of the processor, by a process or a thread) */
         return world->now;
     }
 }
@@ -113,7 +114,7 @@ static long getcpu_here(unsigned *processor, unsigned *node, void *unused)
 
 static long getrandom_here(void)
 {
-    return -ENOSYS;     /* (the C library makes the call then) */
+    return -ENOSYS; /* (the C library makes the call then) */
 }
 
 /* The names of the vDSO, by its table of symbols, which ends where their strings begin. */
@@ -130,7 +131,8 @@ static struct symbols symbols_of(const char *base)
     for (int i = 0; i < head->e_phnum; i++) {
         if (parts[i].p_type != PT_DYNAMIC)
             continue;
-        for (const Elf64_Dyn *entry = (const Elf64_Dyn *)(base + parts[i].p_offset); entry->d_tag != DT_NULL; entry++) {
+        for (const Elf64_Dyn *entry = (const Elf64_Dyn *)(base + parts[i].p_offset);
+             entry->d_tag != DT_NULL; entry++) {
             if (entry->d_tag == DT_SYMTAB)
                 found.first = (const Elf64_Sym *)(base + entry->d_un.d_ptr);
             if (entry->d_tag == DT_STRTAB)
@@ -175,8 +177,10 @@ void take_vdso(void)
     struct symbols symbols = base ? symbols_of(base) : (struct symbols){NULL, NULL};
     if (!base)
         return;
-    if (!symbols.first || !symbols.strings || kernel(SYS_mprotect, base, SIZE, PROT_READ | PROT_WRITE | PROT_EXEC) < 0) {
-        say_line("--threads: the kernel's functions for clocks can't be replaced: what the program sees of time is real, and isn't replayed");
+    if (!symbols.first || !symbols.strings ||
+        kernel(SYS_mprotect, base, SIZE, PROT_READ | PROT_WRITE | PROT_EXEC) < 0) {
+        say_line(
+            "--threads: the kernel's functions for clocks can't be replaced: what the program sees of time is real, and isn't replayed");
         return;
     }
     for (const Elf64_Sym *symbol = symbols.first; (const char *)symbol < symbols.strings; symbol++)
@@ -222,7 +226,8 @@ static bool is_time(const struct timespec *time)
 long serve_nanosleep(struct trap *trap)
 {
     const struct timespec *time = (const struct timespec *)trap->words[0];
-    return is_time(time) ? sleep_until(limit_after(time), (struct timespec *)trap->words[1]) : -EINVAL;
+    return is_time(time) ? sleep_until(limit_after(time), (struct timespec *)trap->words[1])
+                         : -EINVAL;
 }
 
 long serve_clock_nanosleep(struct trap *trap)
@@ -236,7 +241,8 @@ long serve_clock_nanosleep(struct trap *trap)
     return sleep_until(limit_after(time), (struct timespec *)trap->words[3]);
 }
 
-/* What the kernel counts of a process isn't the same twice: time is the run's, and memory a number. */
+/* What the kernel counts of a process isn't the same twice: time is the run's, and memory a number.
+ */
 long serve_usage(struct trap *trap)
 {
     enum { RESIDENT = 50000 };

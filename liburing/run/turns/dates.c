@@ -1,5 +1,6 @@
-/* Timers on the run's time. A timer of descriptors is an eventfd, into which is written as it is due. One whose expiry is a signal raises it at a point, in the thread
- * that it names or in one that has it open. */
+/* Timers on the run's time. A timer of descriptors is an eventfd, into which is written as it is
+ * due. One whose expiry is a signal raises it at a point, in the thread that it names or in one
+ * that has it open. */
 #define _GNU_SOURCE
 #include "dates.h"
 #include "descriptors.h"
@@ -19,8 +20,8 @@ enum kind { NONE, INTERVAL, TIMER, DESCRIPTOR };
 
 static struct date {
     enum kind kind;
-    int number;         /* of the descriptor, or of the signal */
-    int thread;         /* that has the signal, or 0 */
+    int number; /* of the descriptor, or of the signal */
+    int thread; /* that has the signal, or 0 */
     bool is_date, is_quiet;
     union sigval value;
     uint64_t due, interval;
@@ -103,7 +104,10 @@ static uint64_t left_of(const struct date *date)
 /* ITIMER_REAL and alarm(2) are one timer, the first. */
 static void set_interval(uint64_t first, uint64_t interval)
 {
-    dates[0] = (struct date){.kind = INTERVAL, .number = SIGALRM, .due = first ? world->now + first : 0, .interval = interval};
+    dates[0] = (struct date){.kind = INTERVAL,
+        .number = SIGALRM,
+        .due = first ? world->now + first : 0,
+        .interval = interval};
     find_due();
 }
 

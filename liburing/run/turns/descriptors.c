@@ -16,7 +16,7 @@
 enum { MOST = 1 << 16 };
 
 static uint8_t kinds[MOST];
-static uint8_t hears_outside[MOST];     /* an instance of epoll */
+static uint8_t hears_outside[MOST]; /* an instance of epoll */
 static bool has_child;
 
 static bool has_place(long fd)
@@ -29,7 +29,8 @@ static enum kind_of_descriptor look_at(int fd)
     struct stat about;
     if (kernel(SYS_fstat, fd, &about) < 0)
         return OUTSIDE;
-    return S_ISREG(about.st_mode) || S_ISDIR(about.st_mode) || S_ISBLK(about.st_mode) ? ON_DISK : OUTSIDE;
+    return S_ISREG(about.st_mode) || S_ISDIR(about.st_mode) || S_ISBLK(about.st_mode) ? ON_DISK
+                                                                                      : OUTSIDE;
 }
 
 enum kind_of_descriptor kind_of(int fd)
@@ -65,7 +66,8 @@ bool is_blocking(int fd)
 void say_child(void)
 {
     if (!has_child)
-        say_line("the program starts a process, which doesn't take turns: what comes from it isn't replayed");
+        say_line(
+            "the program starts a process, which doesn't take turns: what comes from it isn't replayed");
     has_child = true;
 }
 
@@ -81,10 +83,12 @@ struct opening {
     long result;
 };
 
-/* A writer is refused while there is no reader; a reader is let in at once, and waits until there is something or the other end has come and gone. */
+/* A writer is refused while there is no reader; a reader is let in at once, and waits until there
+ * is something or the other end has come and gone. */
 static bool can_write_fifo(struct opening *opening)
 {
-    opening->result = kernel(SYS_openat, opening->folder, opening->path, opening->flags | O_NONBLOCK, 0);
+    opening->result = kernel(
+        SYS_openat, opening->folder, opening->path, opening->flags | O_NONBLOCK, 0);
     return opening->result != -ENXIO;
 }
 
@@ -101,7 +105,8 @@ static long open_fifo(long folder, long path, long flags)
     if ((flags & O_ACCMODE) == O_RDONLY)
         opening.result = kernel(SYS_openat, folder, path, flags | O_NONBLOCK, 0);
     if (opening.result >= 0)
-        kernel(SYS_fcntl, opening.result, F_SETFL, flags & ~(long)(O_NONBLOCK | O_CREAT | O_EXCL | O_TRUNC | O_CLOEXEC));
+        kernel(SYS_fcntl, opening.result, F_SETFL,
+            flags & ~(long)(O_NONBLOCK | O_CREAT | O_EXCL | O_TRUNC | O_CLOEXEC));
     return opening.result;
 }
 
@@ -111,7 +116,9 @@ static long open_at(long folder, long path, long flags, long mode)
     long fd = open_saying(name);
     if (fd != NO_SAYING)
         return fd;
-    fd = is_fifo((int)folder, name) && !(flags & O_PATH) ? open_fifo(folder, path, flags) : kernel(SYS_openat, folder, path, flags, mode);
+    fd = is_fifo((int)folder, name) && !(flags & O_PATH)
+             ? open_fifo(folder, path, flags)
+             : kernel(SYS_openat, folder, path, flags, mode);
     bool is_random = strcmp(name, "/dev/urandom") == 0 || strcmp(name, "/dev/random") == 0;
     set_kind(fd, is_random ? RANDOM : UNKNOWN);
     change_world();
@@ -174,7 +181,8 @@ long serve_close(struct trap *trap)
 long serve_close_range(struct trap *trap)
 {
     enum { ON_EXEC = 4 };
-    for (uint64_t fd = (unsigned)trap->words[0]; fd <= (unsigned)trap->words[1] && fd < MOST && !(trap->words[2] & ON_EXEC); fd++)
+    for (uint64_t fd = (unsigned)trap->words[0];
+         fd <= (unsigned)trap->words[1] && fd < MOST && !(trap->words[2] & ON_EXEC); fd++)
         set_kind((long)fd, UNKNOWN);
     change_world();
     return pass_on(trap);
@@ -203,7 +211,8 @@ long serve_dup_to(struct trap *trap)
 long serve_epoll_ctl(struct trap *trap)
 {
     long result = pass_on(trap);
-    if (result == 0 && trap->words[1] != EPOLL_CTL_DEL && has_place(trap->words[0]) && is_outside((int)trap->words[2]))
+    if (result == 0 && trap->words[1] != EPOLL_CTL_DEL && has_place(trap->words[0]) &&
+        is_outside((int)trap->words[2]))
         hears_outside[trap->words[0]] = 1;
     change_world();
     return result;
@@ -241,5 +250,6 @@ long serve_fcntl(struct trap *trap)
 long serve_flock(struct trap *trap)
 {
     change_world();
-    return trap->words[1] & (LOCK_NB | LOCK_UN) ? pass_on(trap) : lock_again(trap, trap->words[1] | LOCK_NB);
+    return trap->words[1] & (LOCK_NB | LOCK_UN) ? pass_on(trap)
+                                                : lock_again(trap, trap->words[1] | LOCK_NB);
 }

@@ -1,8 +1,10 @@
-/* The trap of turns: Syscall User Dispatch (prctl(2)) has the kernel raise SIGSYS in the thread for each call that isn't made in the one range of code that passes.
- * It is a thread's own, so each begins with it; a child that is forked and a program that is exec'd are without.
+/* The trap of turns: Syscall User Dispatch (prctl(2)) has the kernel raise SIGSYS in the thread for
+ * each call that isn't made in the one range of code that passes. It is a thread's own, so each
+ * begins with it; a child that is forked and a program that is exec'd are without.
  *
- * A call is served on the stack of the thread's slot, since one of signals may be small, and with all signals blocked: those that came meanwhile come as it
- * returns. A call of a ring is the layer's, as in trap.c; what that calls itself is trapped within it, and served as any other call.
+ * A call is served on the stack of the thread's slot, since one of signals may be small, and with
+ * all signals blocked: those that came meanwhile come as it returns. A call of a ring is the
+ * layer's, as in trap.c; what that calls itself is trapped within it, and served as any other call.
  */
 #define _GNU_SOURCE
 #include "dispatch.h"
@@ -37,7 +39,9 @@ void call_on(char *top, void (*function)(void *), void *argument)
                      "mov %%rbx, %%rsp"
                      : "+D"(argument)
                      : [top] "r"(top), [function] "r"(function)
-                     : "rbx", "rax", "rcx", "rdx", "rsi", "r8", "r9", "r10", "r11", "xmm0", "xmm1", "xmm2", "xmm3", "xmm4", "xmm5", "xmm6", "xmm7", "xmm8", "xmm9", "xmm10", "xmm11", "xmm12", "xmm13", "xmm14", "xmm15", "memory", "cc");
+                     : "rbx", "rax", "rcx", "rdx", "rsi", "r8", "r9", "r10", "r11", "xmm0", "xmm1",
+                     "xmm2", "xmm3", "xmm4", "xmm5", "xmm6", "xmm7", "xmm8", "xmm9", "xmm10",
+                     "xmm11", "xmm12", "xmm13", "xmm14", "xmm15", "memory", "cc");
 }
 
 long pass_on(const struct trap *trap)
@@ -57,10 +61,12 @@ static void note_place(const struct trap *trap)
 /* Of which none is a point, since malloc makes them with a lock of its own. */
 static bool is_of_memory(long call)
 {
-    return call == SYS_brk || call == SYS_mmap || call == SYS_munmap || call == SYS_mremap || call == SYS_mprotect || call == SYS_madvise;
+    return call == SYS_brk || call == SYS_mmap || call == SYS_munmap || call == SYS_mremap ||
+           call == SYS_mprotect || call == SYS_madvise;
 }
 
-/* A thread that makes many calls of which no other hears may wait for one all the same, or for a timer. */
+/* A thread that makes many calls of which no other hears may wait for one all the same, or for a
+ * timer. */
 static bool is_point(long call, const struct row *row)
 {
     enum { MOST_QUIET = 1000, LOOK = 1000 };
@@ -89,7 +95,7 @@ static void serve_trap(void *argument)
     greg_t *registers = trap->at->uc_mcontext.gregs;
     note_place(trap);
     long result = serve_row(trap);
-    if (has_left_turns) {       /* (a child that was forked) */
+    if (has_left_turns) { /* (a child that was forked) */
         registers[REG_RAX] = result;
         return;
     }
@@ -118,7 +124,8 @@ static bool is_of_ring(const struct trap *trap)
     case SYS_io_uring_register:
         return true;
     case SYS_mmap:
-        return !(trap->words[3] & MAP_ANONYMOUS) && trap->words[3] & MAP_SHARED && (uint64_t)trap->words[4] >> 32 != PASSES;
+        return !(trap->words[3] & MAP_ANONYMOUS) && trap->words[3] & MAP_SHARED &&
+               (uint64_t)trap->words[4] >> 32 != PASSES;
     default:
         return false;
     }
@@ -135,8 +142,9 @@ static char *own_stack(void)
     return stack_of_slot(slot_of(self) + 1);
 }
 
-/* Calls of the layer's are trapped before it is on a stack of its own (stacks.c), and this one may be small: so it begins on the slot's, with signals on another
- * part of that, since the program's stack of signals may have this trap's frame. */
+/* Calls of the layer's are trapped before it is on a stack of its own (stacks.c), and this one may
+ * be small: so it begins on the slot's, with signals on another part of that, since the program's
+ * stack of signals may have this trap's frame. */
 struct beginning {
     struct trap *trap;
     bool is_served;
@@ -146,7 +154,8 @@ static void begin_apart(void *argument)
 {
     struct beginning *beginning = argument;
     const struct trap *trap = beginning->trap;
-    const stack_t signals = {.ss_sp = stack_of_slot(slot_of(self)), .ss_size = SIGNALS_STACK}, *program = &trap->at->uc_stack;
+    const stack_t signals = {.ss_sp = stack_of_slot(slot_of(self)), .ss_size = SIGNALS_STACK},
+                  *program = &trap->at->uc_stack;
     bool has_signals = program->ss_size > 0 && !(program->ss_flags & SS_DISABLE);
     self->is_in_ring = true;
     if (has_signals)
@@ -177,7 +186,10 @@ static void on_call(int number, siginfo_t *info, void *context)
 {
     ucontext_t *at = context;
     greg_t *registers = at->uc_mcontext.gregs;
-    struct trap trap = {info->si_syscall, {registers[REG_RDI], registers[REG_RSI], registers[REG_RDX], registers[REG_R10], registers[REG_R8], registers[REG_R9]}, at};
+    struct trap trap = {info->si_syscall,
+        {registers[REG_RDI], registers[REG_RSI], registers[REG_RDX], registers[REG_R10],
+            registers[REG_R8], registers[REG_R9]},
+        at};
     if (info->si_code != BY_DISPATCH)
         give_signal(number, info, at, info->si_code == BY_FILTER);
     else if (trap.call == SYS_rt_sigreturn)
@@ -193,13 +205,15 @@ static void on_call(int number, siginfo_t *info, void *context)
 /* These stay ours, whatever the program says of them. */
 bool is_ours(int signal)
 {
-    return signal == SIGSYS || signal == SIGVTALRM || (signal == SIGSEGV && (world->has_cycles || world->has_features));
+    return signal == SIGSYS || signal == SIGVTALRM ||
+           (signal == SIGSEGV && (world->has_cycles || world->has_features));
 }
 
 uint64_t without_ours(uint64_t mask)
 {
     const uint64_t one = 1;
-    return mask & ~(one << (SIGSYS - 1) | one << (SIGVTALRM - 1) | one << (SIGSEGV - 1) | one << (SIGKILL - 1) | one << (SIGSTOP - 1));
+    return mask & ~(one << (SIGSYS - 1) | one << (SIGVTALRM - 1) | one << (SIGSEGV - 1) |
+                      one << (SIGKILL - 1) | one << (SIGSTOP - 1));
 }
 
 struct kernels_action {
@@ -209,22 +223,26 @@ struct kernels_action {
     uint64_t mask;
 };
 
-static void catch_signal(int number, void (*handler)(int, siginfo_t *, void *), int flags, uint64_t mask)
+static void catch_signal(
+    int number, void (*handler)(int, siginfo_t *, void *), int flags, uint64_t mask)
 {
-    struct kernels_action action = {handler, (unsigned long)(SA_SIGINFO | SA_ONSTACK | RESTORED | flags), return_from_ours, mask};
+    struct kernels_action action = {handler,
+        (unsigned long)(SA_SIGINFO | SA_ONSTACK | RESTORED | flags), return_from_ours, mask};
     kernel(SYS_rt_sigaction, number, &action, 0, sizeof mask);
 }
 
 /* A thread's own: its calls are trapped from here on. */
 void catch_calls(void)
 {
-    kernel(SYS_prctl, PR_SET_SYSCALL_USER_DISPATCH, PR_SYS_DISPATCH_ON, passing_begins, passing_ends - passing_begins);
+    kernel(SYS_prctl, PR_SET_SYSCALL_USER_DISPATCH, PR_SYS_DISPATCH_ON, passing_begins,
+        passing_ends - passing_begins);
 }
 
 /* Without it nothing can be done: the kernel says so here. */
 static void demand_dispatch(void)
 {
-    if (kernel(SYS_prctl, PR_SET_SYSCALL_USER_DISPATCH, PR_SYS_DISPATCH_ON, passing_begins, passing_ends - passing_begins) == 0)
+    if (kernel(SYS_prctl, PR_SET_SYSCALL_USER_DISPATCH, PR_SYS_DISPATCH_ON, passing_begins,
+            passing_ends - passing_begins) == 0)
         return;
     enum { STOPPED = 125 };
     say_line("--threads: this kernel has no Syscall User Dispatch (prctl(2), Linux 5.11)");
@@ -233,7 +251,8 @@ static void demand_dispatch(void)
 
 void begin_dispatch(void)
 {
-    const uint64_t all_but_call = ~((uint64_t)1 << (SIGSYS - 1) | (uint64_t)1 << (SIGSEGV - 1));     /* (cpuid faults there too) */
+    const uint64_t all_but_call = ~(
+        (uint64_t)1 << (SIGSYS - 1) | (uint64_t)1 << (SIGSEGV - 1)); /* (cpuid faults there too) */
     take_vdso();
     take_chance();
     catch_signal(SIGSYS, on_call, SA_NODEFER, all_but_call);
@@ -244,14 +263,16 @@ void begin_dispatch(void)
     demand_dispatch();
 }
 
-/* The layer's stack of signals while it runs on one of its own (stacks.c), which isn't the program's. */
+/* The layer's stack of signals while it runs on one of its own (stacks.c), which isn't the
+ * program's. */
 bool set_signal_stack_in_turns(const stack_t *stack);
 bool set_signal_stack_in_turns(const stack_t *stack)
 {
     return self && kernel(SYS_sigaltstack, stack, 0) == 0;
 }
 
-/* In a child that is forked: time, chance and calls are the kernel's again, and rings are trapped as without turns. */
+/* In a child that is forked: time, chance and calls are the kernel's again, and rings are trapped
+ * as without turns. */
 void leave_turns(void)
 {
     has_left_turns = true;

@@ -16,8 +16,8 @@ __attribute__((noreturn)) void return_from_program(long stack);
 /* By which handlers of ours return. */
 void return_from_ours(void);
 
-/* Waits by a mask for signals that are pending, whose handlers are called, and goes on after the call: on the stack are where that is, rdi, rsi, rdx, r10, the mask
- * and the thread's. */
+/* Waits by a mask for signals that are pending, whose handlers are called, and goes on after the
+ * call: on the stack are where that is, rdi, rsi, rdx, r10, the mask and the thread's. */
 void take_pending(void);
 
 /* As sigaltstack(2), called with the stack at this place. */

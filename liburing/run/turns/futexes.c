@@ -1,4 +1,5 @@
-/* Futexes: who waits for one is kept here, and the kernel hears of none. They are told by their address: a word that is mapped twice is two. */
+/* Futexes: who waits for one is kept here, and the kernel hears of none. They are told by their
+ * address: a word that is mapped twice is two. */
 #define _GNU_SOURCE
 #include "turns.h"
 
@@ -30,7 +31,8 @@ static struct thread *first_waiter(uint64_t word, uint32_t bits)
     struct thread *first = NULL;
     for (int i = 0; i < world->count; i++) {
         struct thread *thread = world->threads + i;
-        if (place_among_wanted(thread, word, bits) >= 0 && (!first || thread->ticket < first->ticket))
+        if (place_among_wanted(thread, word, bits) >= 0 &&
+            (!first || thread->ticket < first->ticket))
             first = thread;
     }
     return first;
@@ -75,8 +77,11 @@ static long requeue(const long *words)
 {
     int changed = wake_futex((uint64_t)words[0], (int)words[2], FUTEX_BITSET_MATCH_ANY);
     struct thread *first;
-    for (long moved = 0; moved < words[3] && (first = first_waiter((uint64_t)words[0], FUTEX_BITSET_MATCH_ANY)); moved++, changed++) {
-        first->wanted[place_among_wanted(first, (uint64_t)words[0], FUTEX_BITSET_MATCH_ANY)].word = (uint64_t)words[4];
+    for (long moved = 0;
+         moved < words[3] && (first = first_waiter((uint64_t)words[0], FUTEX_BITSET_MATCH_ANY));
+         moved++, changed++) {
+        first->wanted[place_among_wanted(first, (uint64_t)words[0], FUTEX_BITSET_MATCH_ANY)]
+            .word = (uint64_t)words[4];
         first->ticket = world->tickets++;
     }
     return changed;
@@ -88,11 +93,16 @@ static uint32_t changed_word(uint32_t how, uint32_t before)
     int by = (int)(how << 8) >> 20;
     uint32_t value = how >> 28 & FUTEX_OP_OPARG_SHIFT ? (uint32_t)1 << (by & 31) : (uint32_t)by;
     switch (how >> 28 & 7) {
-    case FUTEX_OP_SET: return value;
-    case FUTEX_OP_ADD: return before + value;
-    case FUTEX_OP_OR: return before | value;
-    case FUTEX_OP_ANDN: return before & ~value;
-    default: return before ^ value;
+    case FUTEX_OP_SET:
+        return value;
+    case FUTEX_OP_ADD:
+        return before + value;
+    case FUTEX_OP_OR:
+        return before | value;
+    case FUTEX_OP_ANDN:
+        return before & ~value;
+    default:
+        return before ^ value;
     }
 }
 
@@ -100,12 +110,18 @@ static bool compares(uint32_t how, uint32_t before)
 {
     int with = (int)(how << 20) >> 20, is = (int)before;
     switch (how >> 24 & 15) {
-    case FUTEX_OP_CMP_EQ: return is == with;
-    case FUTEX_OP_CMP_NE: return is != with;
-    case FUTEX_OP_CMP_LT: return is < with;
-    case FUTEX_OP_CMP_LE: return is <= with;
-    case FUTEX_OP_CMP_GT: return is > with;
-    default: return is >= with;
+    case FUTEX_OP_CMP_EQ:
+        return is == with;
+    case FUTEX_OP_CMP_NE:
+        return is != with;
+    case FUTEX_OP_CMP_LT:
+        return is < with;
+    case FUTEX_OP_CMP_LE:
+        return is <= with;
+    case FUTEX_OP_CMP_GT:
+        return is > with;
+    default:
+        return is >= with;
     }
 }
 
@@ -114,7 +130,9 @@ static long wake_by_word(const long *words)
     uint32_t how = (uint32_t)words[5], before = word_at((uint64_t)words[4]);
     put_word((uint64_t)words[4], changed_word(how, before));
     int woken = wake_futex((uint64_t)words[0], (int)words[2], FUTEX_BITSET_MATCH_ANY);
-    return woken + (compares(how, before) ? wake_futex((uint64_t)words[4], (int)words[3], FUTEX_BITSET_MATCH_ANY) : 0);
+    return woken + (compares(how, before)
+                           ? wake_futex((uint64_t)words[4], (int)words[3], FUTEX_BITSET_MATCH_ANY)
+                           : 0);
 }
 
 static bool has_waiter(uint64_t word)
@@ -122,13 +140,15 @@ static bool has_waiter(uint64_t word)
     return first_waiter(word, FUTEX_BITSET_MATCH_ANY) != NULL;
 }
 
-/* The word of a lock with inheritance names its owner: it goes to who has waited longest, or is free. */
+/* The word of a lock with inheritance names its owner: it goes to who has waited longest, or is
+ * free. */
 static void hand_over(uint64_t word, uint32_t marks)
 {
     struct thread *next = first_waiter(word, FUTEX_BITSET_MATCH_ANY);
     if (next)
         wake(next, 0);
-    put_word(word, marks | (next ? (uint32_t)next->number | (has_waiter(word) ? FUTEX_WAITERS : 0) : 0));
+    put_word(
+        word, marks | (next ? (uint32_t)next->number | (has_waiter(word) ? FUTEX_WAITERS : 0) : 0));
 }
 
 static long lock_by_owner(const long *words, bool tries, bool is_date)
@@ -161,7 +181,9 @@ static long wait_by_operation(const long *words)
 {
     const struct timespec *time = (const struct timespec *)words[3];
     bool is_span = (words[1] & FUTEX_CMD_MASK) == FUTEX_WAIT;
-    uint64_t limit = !time ? NEVER : is_span ? limit_after(time) : limit_at(words[1] & FUTEX_CLOCK_REALTIME, ns_of(time));
+    uint64_t limit = !time     ? NEVER
+                     : is_span ? limit_after(time)
+                               : limit_at(words[1] & FUTEX_CLOCK_REALTIME, ns_of(time));
     return wait_for_word(words, is_span ? FUTEX_BITSET_MATCH_ANY : (uint32_t)words[5], limit);
 }
 
@@ -176,9 +198,12 @@ long serve_futex(struct trap *trap)
     case FUTEX_WAIT_BITSET:
         return wait_by_operation(words);
     case FUTEX_WAKE:
-        return wake_futex((uint64_t)words[0], (int)words[2] > 0 ? (int)words[2] : 1, FUTEX_BITSET_MATCH_ANY);
+        return wake_futex(
+            (uint64_t)words[0], (int)words[2] > 0 ? (int)words[2] : 1, FUTEX_BITSET_MATCH_ANY);
     case FUTEX_WAKE_BITSET:
-        return (uint32_t)words[5] ? wake_futex((uint64_t)words[0], (int)words[2], (uint32_t)words[5]) : -EINVAL;
+        return (uint32_t)words[5]
+                   ? wake_futex((uint64_t)words[0], (int)words[2], (uint32_t)words[5])
+                   : -EINVAL;
     case FUTEX_REQUEUE:
     case FUTEX_CMP_REQUEUE:
         return requeue(words);
@@ -215,7 +240,8 @@ long serve_waitv(struct trap *trap)
             return -EAGAIN;
         wanted[i] = (struct wanted){given[i].uaddr, FUTEX_BITSET_MATCH_ANY};
     }
-    enum reason reason = wait_for_words(wanted, (int)count, time ? limit_at(trap->words[4] == CLOCK_REALTIME, ns_of(time)) : NEVER);
+    enum reason reason = wait_for_words(
+        wanted, (int)count, time ? limit_at(trap->words[4] == CLOCK_REALTIME, ns_of(time)) : NEVER);
     return reason == WOKEN ? self->woken : reason == INTERRUPTED ? RESTARTS : -ETIMEDOUT;
 }
 
@@ -248,5 +274,6 @@ void free_robust_locks(void)
             mark_ended((at & ~(uint64_t)INHERITS) + (uint64_t)head->futex_offset, at & INHERITS);
     }
     if (pending & ~(uint64_t)INHERITS)
-        mark_ended((pending & ~(uint64_t)INHERITS) + (uint64_t)head->futex_offset, pending & INHERITS);
+        mark_ended(
+            (pending & ~(uint64_t)INHERITS) + (uint64_t)head->futex_offset, pending & INHERITS);
 }

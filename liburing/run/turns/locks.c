@@ -1,5 +1,6 @@
-/* In the places of the C library's functions: each is a point, and whether another goes on there is decided without a call; only where one does it is made. Who
- * tries a lock in vain yields, and a lock that spins is tried. */
+/* In the places of the C library's functions: each is a point, and whether another goes on there is
+ * decided without a call; only where one does it is made. Who tries a lock in vain yields, and a
+ * lock that spins is tried. */
 #define _GNU_SOURCE
 #include "locks.h"
 #include "../run.h"
@@ -28,7 +29,8 @@ const char *name_of_lock(const struct thread *thread)
 int owner_of_lock(const struct thread *thread)
 {
     const struct lock *lock = locks + slot_of(thread);
-    return thread->place && lock->is_mutex ? ((const pthread_mutex_t *)lock->lock)->__data.__owner : 0;
+    return thread->place && lock->is_mutex ? ((const pthread_mutex_t *)lock->lock)->__data.__owner
+                                           : 0;
 }
 
 /* Whether it is enough to look at who is ready: nobody waits for what may have come since. */
@@ -41,7 +43,9 @@ static int find_ready(int *ready, uint64_t now)
         const struct thread *thread = world->threads + i;
         if (thread->state == READY)
             ready[count++] = i;
-        else if (thread->state == WAITS && (thread->limit <= now || (thread->is_ready && (thread->is_met || thread->asked != world->changes))))
+        else if (thread->state == WAITS &&
+                 (thread->limit <= now ||
+                     (thread->is_ready && (thread->is_met || thread->asked != world->changes))))
             return -1;
     }
     return count;
@@ -65,7 +69,8 @@ static void make_point_at(const void *lock)
 }
 
 /* Where this library's code is: its own locks are no points. */
-extern const char __ehdr_start[] __attribute__((visibility("hidden"))), etext[] __attribute__((visibility("hidden")));
+extern const char __ehdr_start[] __attribute__((visibility("hidden"))),
+    etext[] __attribute__((visibility("hidden")));
 
 static bool is_own(const void *place)
 {
@@ -101,47 +106,54 @@ static void *find(const char *name, const char *version)
 }
 
 /* A function in the place of one, with that found once. */
-#define REAL(name, version, given)                      \
-    static int (*real) given;                           \
-    if (!real)                                          \
-        *(void **)&real = find(#name, version)
+#define REAL(name, version, given) \
+    static int(*real) given; \
+    if (!real) \
+    *(void **)&real = find(#name, version)
 
-#define LOCKS(name, version, is_mutex, given, words, lock)                          \
-    SEEN int name given                                                             \
-    {                                                                               \
-        REAL(name, version, given);                                                 \
-        begin_lock(#name, lock, __builtin_return_address(0), is_mutex);             \
-        return end_lock(real words);                                                \
+#define LOCKS(name, version, is_mutex, given, words, lock) \
+    SEEN int name given \
+    { \
+        REAL(name, version, given); \
+        begin_lock(#name, lock, __builtin_return_address(0), is_mutex); \
+        return end_lock(real words); \
     }
 
-#define TRIES(name, given, words)                                                   \
-    SEEN int name given                                                             \
-    {                                                                               \
-        REAL(name, NULL, given);                                                    \
-        begin_lock(#name, NULL, __builtin_return_address(0), false);                \
-        int result = end_lock(real words);                                          \
-        yield_if(result != 0);                                                      \
-        return result;                                                              \
+#define TRIES(name, given, words) \
+    SEEN int name given \
+    { \
+        REAL(name, NULL, given); \
+        begin_lock(#name, NULL, __builtin_return_address(0), false); \
+        int result = end_lock(real words); \
+        yield_if(result != 0); \
+        return result; \
     }
 
 #define OF_CONDITION "GLIBC_2.3.2"
 
-LOCKS(pthread_mutex_lock, NULL, true, (pthread_mutex_t *mutex), (mutex), mutex)
-LOCKS(pthread_mutex_timedlock, NULL, true, (pthread_mutex_t *mutex, const struct timespec *time), (mutex, time), mutex)
-TRIES(pthread_mutex_trylock, (pthread_mutex_t *mutex), (mutex))
-LOCKS(pthread_cond_wait, OF_CONDITION, false, (pthread_cond_t *condition, pthread_mutex_t *mutex), (condition, mutex), condition)
-LOCKS(pthread_cond_timedwait, OF_CONDITION, false, (pthread_cond_t *condition, pthread_mutex_t *mutex, const struct timespec *time), (condition, mutex, time), condition)
-LOCKS(pthread_cond_signal, OF_CONDITION, false, (pthread_cond_t *condition), (condition), condition)
-LOCKS(pthread_cond_broadcast, OF_CONDITION, false, (pthread_cond_t *condition), (condition), condition)
-LOCKS(pthread_rwlock_rdlock, NULL, false, (pthread_rwlock_t *lock), (lock), lock)
-LOCKS(pthread_rwlock_wrlock, NULL, false, (pthread_rwlock_t *lock), (lock), lock)
-TRIES(pthread_rwlock_tryrdlock, (pthread_rwlock_t *lock), (lock))
-TRIES(pthread_rwlock_trywrlock, (pthread_rwlock_t *lock), (lock))
+LOCKS(pthread_mutex_lock, NULL, true, (pthread_mutex_t * mutex), (mutex), mutex)
+LOCKS(pthread_mutex_timedlock, NULL, true, (pthread_mutex_t * mutex, const struct timespec *time),
+    (mutex, time), mutex)
+TRIES(pthread_mutex_trylock, (pthread_mutex_t * mutex), (mutex))
+LOCKS(pthread_cond_wait, OF_CONDITION, false, (pthread_cond_t * condition, pthread_mutex_t *mutex),
+    (condition, mutex), condition)
+LOCKS(pthread_cond_timedwait, OF_CONDITION, false,
+    (pthread_cond_t * condition, pthread_mutex_t *mutex, const struct timespec *time),
+    (condition, mutex, time), condition)
+LOCKS(
+    pthread_cond_signal, OF_CONDITION, false, (pthread_cond_t * condition), (condition), condition)
+LOCKS(pthread_cond_broadcast, OF_CONDITION, false, (pthread_cond_t * condition), (condition),
+    condition)
+LOCKS(pthread_rwlock_rdlock, NULL, false, (pthread_rwlock_t * lock), (lock), lock)
+LOCKS(pthread_rwlock_wrlock, NULL, false, (pthread_rwlock_t * lock), (lock), lock)
+TRIES(pthread_rwlock_tryrdlock, (pthread_rwlock_t * lock), (lock))
+TRIES(pthread_rwlock_trywrlock, (pthread_rwlock_t * lock), (lock))
 LOCKS(pthread_join, NULL, false, (pthread_t thread, void **result), (thread, result), NULL)
-LOCKS(sem_wait, NULL, false, (sem_t *semaphore), (semaphore), semaphore)
-LOCKS(sem_timedwait, NULL, false, (sem_t *semaphore, const struct timespec *time), (semaphore, time), semaphore)
-LOCKS(sem_post, NULL, false, (sem_t *semaphore), (semaphore), semaphore)
-TRIES(sem_trywait, (sem_t *semaphore), (semaphore))
+LOCKS(sem_wait, NULL, false, (sem_t * semaphore), (semaphore), semaphore)
+LOCKS(sem_timedwait, NULL, false, (sem_t * semaphore, const struct timespec *time),
+    (semaphore, time), semaphore)
+LOCKS(sem_post, NULL, false, (sem_t * semaphore), (semaphore), semaphore)
+TRIES(sem_trywait, (sem_t * semaphore), (semaphore))
 
 /* One processor runs: who has it has to go on. */
 SEEN int pthread_spin_lock(pthread_spinlock_t *lock)

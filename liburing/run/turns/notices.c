@@ -68,13 +68,15 @@ long serve_action(struct trap *trap)
     return result;
 }
 
-/* It is set at once, as if from the program's stack, and in the frame: the kernel doesn't change the one that a handler returns from. */
+/* It is set at once, as if from the program's stack, and in the frame: the kernel doesn't change
+ * the one that a handler returns from. */
 long serve_signal_stack(struct trap *trap)
 {
     const stack_t *given = (const stack_t *)trap->words[0];
     stack_t *told = (stack_t *)trap->words[1], was = trap->at->uc_stack;
     uintptr_t at = (uintptr_t)trap->at->uc_mcontext.gregs[REG_RSP], lowest = (uintptr_t)was.ss_sp;
-    bool has = was.ss_size > 0 && !(was.ss_flags & SS_DISABLE), is_on = has && at > lowest && at <= lowest + was.ss_size;
+    bool has = was.ss_size > 0 && !(was.ss_flags & SS_DISABLE),
+         is_on = has && at > lowest && at <= lowest + was.ss_size;
     if (given && is_on)
         return -EPERM;
     if (given) {
@@ -93,14 +95,16 @@ long serve_signal_stack(struct trap *trap)
 static bool does_nothing(int signal)
 {
     uint64_t handler = actions[signal].handler;
-    bool is_quiet = signal == SIGCHLD || signal == SIGURG || signal == SIGWINCH || signal == SIGCONT;
+    bool is_quiet = signal == SIGCHLD || signal == SIGURG || signal == SIGWINCH ||
+                    signal == SIGCONT;
     return handler == (uint64_t)SIG_IGN || (handler == (uint64_t)SIG_DFL && is_quiet);
 }
 
 static void interrupt(struct thread *thread, int signal)
 {
     bool is_awaited = thread->awaited & bit_of(signal);
-    if (thread->state != WAITS || (!is_awaited && (thread->mask & bit_of(signal) || does_nothing(signal))))
+    if (thread->state != WAITS ||
+        (!is_awaited && (thread->mask & bit_of(signal) || does_nothing(signal))))
         return;
     thread->wanted_count = 0;
     thread->reason = is_awaited ? IS_READY : INTERRUPTED;
@@ -125,10 +129,13 @@ static struct thread *thread_of_number(int number)
 
 static bool takes(const struct thread *thread, int signal)
 {
-    return thread->state != FREE && thread->state != ENDED && (!(thread->mask & bit_of(signal)) || (thread->state == WAITS && thread->awaited & bit_of(signal)));
+    return thread->state != FREE && thread->state != ENDED &&
+           (!(thread->mask & bit_of(signal)) ||
+               (thread->state == WAITS && thread->awaited & bit_of(signal)));
 }
 
-/* One for the process: this thread has it, if it is open here; else the first that has it open, or waits for it. */
+/* One for the process: this thread has it, if it is open here; else the first that has it open, or
+ * waits for it. */
 static struct thread *taker_of(int signal)
 {
     if (!(self->mask & bit_of(signal)))
@@ -165,10 +172,12 @@ void hear_outside(void)
 /* A signal that may end the program: the log is there first. */
 static bool may_end(int signal)
 {
-    return signal > 0 && signal <= LAST_SIGNAL && actions[signal].handler == (uint64_t)SIG_DFL && !does_nothing(signal);
+    return signal > 0 && signal <= LAST_SIGNAL && actions[signal].handler == (uint64_t)SIG_DFL &&
+           !does_nothing(signal);
 }
 
-/* The kernel lets any thread take one for the process, and those that wait have all blocked: it is sent to the one that is to have it. */
+/* The kernel lets any thread take one for the process, and those that wait have all blocked: it is
+ * sent to the one that is to have it. */
 static long raise_in_process(struct trap *trap, int signal)
 {
     struct thread *taker = signal > 0 && signal <= LAST_SIGNAL ? taker_of(signal) : NULL;
@@ -187,7 +196,8 @@ long serve_kill(struct trap *trap)
         note_call(trap, 0);
         end_log();
     }
-    if ((int)trap->words[0] != 0 && is_own && signal != 0 && signal != SIGKILL && signal != SIGSTOP && !may_end(signal))
+    if ((int)trap->words[0] != 0 && is_own && signal != 0 && signal != SIGKILL &&
+        signal != SIGSTOP && !may_end(signal))
         return raise_in_process(trap, signal);
     long result = pass_on(trap);
     if (result == 0 && is_own)
@@ -234,14 +244,16 @@ static bool is_pending(void *argument)
     return (pending & *(const uint64_t *)argument) != 0;
 }
 
-/* What is kept on the program's stack, below what is the program's own there, while its handlers are called (take_pending of passing.c). */
+/* What is kept on the program's stack, below what is the program's own there, while its handlers
+ * are called (take_pending of passing.c). */
 struct kept {
     long next, first, second, third, fourth;
     uint64_t open, mask;
 };
 
-/* The kernel calls the handlers of what is pending by now, as it would, under this mask: once the trap is left, and all signals are blocked until then. The program's
- * stack stands there, so that its handlers may do what they like. */
+/* The kernel calls the handlers of what is pending by now, as it would, under this mask: once the
+ * trap is left, and all signals are blocked until then. The program's stack stands there, so that
+ * its handlers may do what they like. */
 static void go_on_with_pending(struct trap *trap, uint64_t mask)
 {
     enum { IN_USE = 128 };
@@ -250,7 +262,8 @@ static void go_on_with_pending(struct trap *trap, uint64_t mask)
     if (!is_pending((void *)&open))
         return;
     struct kept *kept = (struct kept *)(registers[REG_RSP] - IN_USE) - 1;
-    *kept = (struct kept){registers[REG_RIP], registers[REG_RDI], registers[REG_RSI], registers[REG_RDX], registers[REG_R10], mask, mask_at(trap->at)};
+    *kept = (struct kept){registers[REG_RIP], registers[REG_RDI], registers[REG_RSI],
+        registers[REG_RDX], registers[REG_R10], mask, mask_at(trap->at)};
     registers[REG_RSP] = (greg_t)kept;
     registers[REG_RIP] = (greg_t)take_pending;
     memcpy(&trap->at->uc_sigmask, &all, sizeof all);
@@ -295,7 +308,8 @@ long serve_pause(struct trap *trap)
 long serve_timed_wait(struct trap *trap)
 {
     const struct timespec none = {0, 0};
-    uint64_t wanted = *(const uint64_t *)trap->words[0], limit = limit_after((const struct timespec *)trap->words[2]);
+    uint64_t wanted = *(const uint64_t *)trap->words[0],
+             limit = limit_after((const struct timespec *)trap->words[2]);
     for (;;) {
         change_world();
         long result = kernel(SYS_rt_sigtimedwait, &wanted, trap->words[1], &none, sizeof wanted);

@@ -1,21 +1,27 @@
-/* Signals. All are blocked while a call is served: one that the program sends comes as its thread returns from a call, which is a place that the choices determine. */
+/* Signals. All are blocked while a call is served: one that the program sends comes as its thread
+ * returns from a call, which is a place that the choices determine. */
 #ifndef TURNS_NOTICES_H
 #define TURNS_NOTICES_H
 
 #include "turns.h"
 
-serving serve_mask, serve_action, serve_signal_stack, serve_suspend, serve_pause, serve_timed_wait, serve_thread_kill, serve_kill, serve_queue, serve_thread_queue;
+serving serve_mask, serve_action, serve_signal_stack, serve_suspend, serve_pause, serve_timed_wait,
+    serve_thread_kill, serve_kill, serve_queue, serve_thread_queue;
 
-/* A signal was raised, in the thread of this number, or (0) in the process: who waits and has it open goes on. */
+/* A signal was raised, in the thread of this number, or (0) in the process: who waits and has it
+ * open goes on. */
 void note_raised(int thread, int signal);
 
-/* Signals for the process that another one has sent, while all threads wait: who has one open goes on. */
+/* Signals for the process that another one has sent, while all threads wait: who has one open goes
+ * on. */
 void hear_outside(void);
 
-/* Whether a call that this thread's signal has interrupted is made again after the handler (SA_RESTART). */
+/* Whether a call that this thread's signal has interrupted is made again after the handler
+ * (SA_RESTART). */
 bool is_restarted(void);
 
-/* A wait that another mask goes with: a signal that only this lets through ends it, and has its handler called under that mask. */
+/* A wait that another mask goes with: a signal that only this lets through ends it, and has its
+ * handler called under that mask. */
 long wait_under_mask(struct trap *trap, const uint64_t *mask, long (*wait)(const long *words));
 
 #endif

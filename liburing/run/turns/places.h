@@ -1,4 +1,5 @@
-/* Where a thread is, in words: the file and line by addr2line(1), or the object and the place in it. */
+/* Where a thread is, in words: the file and line by addr2line(1), or the object and the place in
+ * it. */
 #ifndef TURNS_PLACES_H
 #define TURNS_PLACES_H
 

@@ -24,7 +24,8 @@ static bool is_done(struct attempt *attempt)
     return attempt->result != attempt->refusal;
 }
 
-/* A try that succeeds has happened: so it is made by who has the baton, and not as it is looked who may go on. */
+/* A try that succeeds has happened: so it is made by who has the baton, and not as it is looked who
+ * may go on. */
 static long try_until(struct attempt *attempt, uint64_t limit)
 {
     uint64_t span = FIRST_WHILE;
@@ -46,7 +47,8 @@ static long operate(struct trap *trap, uint64_t limit)
     enum { MOST = 500 };
     struct sembuf operations[MOST];
     size_t count = (size_t)trap->words[2];
-    struct attempt attempt = {{SYS_semop, {trap->words[0], (long)operations, trap->words[2]}, trap->at}, -EAGAIN, 0};
+    struct attempt attempt = {
+        {SYS_semop, {trap->words[0], (long)operations, trap->words[2]}, trap->at}, -EAGAIN, 0};
     if (count > MOST)
         return -E2BIG;
     memcpy(operations, (const void *)trap->words[1], count * sizeof *operations);

@@ -4,6 +4,7 @@
 
 #include "turns.h"
 
-serving serve_semop, serve_semtimedop, serve_msgsnd, serve_msgrcv, serve_mq_send, serve_mq_receive, serve_mq_open;
+serving serve_semop, serve_semtimedop, serve_msgsnd, serve_msgrcv, serve_mq_send, serve_mq_receive,
+    serve_mq_open;
 
 #endif

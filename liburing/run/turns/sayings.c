@@ -1,4 +1,5 @@
-/* Numbers of files are given as they are met, and dates after the run's begin are that. Of /proc the files that count what the machine does are answered here. */
+/* Numbers of files are given as they are met, and dates after the run's begin are that. Of /proc
+ * the files that count what the machine does are answered here. */
 #define _GNU_SOURCE
 #include "sayings.h"
 #include "chance.h"
@@ -71,8 +72,10 @@ long serve_statx(struct trap *trap)
     long result = pass_on(trap);
     if (result < 0)
         return result;
-    about->stx_ino = number_of_file((uint64_t)about->stx_dev_major << 32 | about->stx_dev_minor, about->stx_ino);
-    struct statx_timestamp *dates[4] = {&about->stx_atime, &about->stx_btime, &about->stx_ctime, &about->stx_mtime};
+    about->stx_ino = number_of_file(
+        (uint64_t)about->stx_dev_major << 32 | about->stx_dev_minor, about->stx_ino);
+    struct statx_timestamp *dates[4] = {
+        &about->stx_atime, &about->stx_btime, &about->stx_ctime, &about->stx_mtime};
     for (int i = 0; i < 4; i++)
         if (dates[i]->tv_sec >= world->began)
             *dates[i] = (struct statx_timestamp){.tv_sec = (int64_t)(FIRST_DATE / SECOND)};
@@ -107,7 +110,8 @@ static long read_whole(const char *path, char *room, size_t size)
     long fd = kernel(SYS_openat, AT_FDCWD, path, O_RDONLY), length = 0, part;
     if (fd < 0)
         return fd;
-    while (length < (long)size - 1 && (part = kernel(SYS_read, fd, room + length, (long)size - 1 - length)) > 0)
+    while (length < (long)size - 1 &&
+           (part = kernel(SYS_read, fd, room + length, (long)size - 1 - length)) > 0)
         length += part;
     kernel(SYS_close, fd);
     room[length] = '\0';
@@ -117,7 +121,8 @@ static long read_whole(const char *path, char *room, size_t size)
 /* Lines that begin so are counts. */
 static bool is_count(const char *line, bool is_of_memory)
 {
-    static const char *const counts[] = {"Vm", "Rss", "Hugetlb", "voluntary", "nonvoluntary", "Cpus_", "Mems_", "x86_"};
+    static const char *const counts[] = {
+        "Vm", "Rss", "Hugetlb", "voluntary", "nonvoluntary", "Cpus_", "Mems_", "x86_"};
     if (is_of_memory && strncmp(line, "hierarchical", 12) != 0)
         return true;
     for (size_t i = 0; i < sizeof counts / sizeof *counts; i++)
@@ -143,10 +148,18 @@ static long lines_without_counts(const char *path, bool is_of_memory)
     return file_with(left, kept);
 }
 
-/* /proc/PID/stat: what it is and who made it, how many threads, and else numbers that are the same in each run. */
+/* /proc/PID/stat: what it is and who made it, how many threads, and else numbers that are the same
+ * in each run. */
 static long stat_of_process(const char *path)
 {
-    enum { FIRST_COUNT = 10, THREADS = 20, MEMORY = 23, RESIDENT = 24, BYTES = 100000000, PAGES = 10000 };
+    enum {
+        FIRST_COUNT = 10,
+        THREADS = 20,
+        MEMORY = 23,
+        RESIDENT = 24,
+        BYTES = 100000000,
+        PAGES = 10000
+    };
     static char text[ROOM], said[ROOM];
     long length = read_whole(path, text, sizeof text);
     char *at = length > 0 ? strrchr(text, ')') : NULL;
@@ -173,7 +186,9 @@ static long uuid_by_chance(void)
     char line[64];
     uint64_t by[2];
     fill_by_chance(by, sizeof by);
-    int length = snprintf(line, sizeof line, "%08x-%04x-4%03x-a%03x-%012lx\n", (unsigned)by[0], (unsigned)(by[0] >> 48), (unsigned)(by[0] >> 32 & 0xfff), (unsigned)(by[1] >> 48 & 0xfff), by[1] & 0xfffffffffffful);
+    int length = snprintf(line, sizeof line, "%08x-%04x-4%03x-a%03x-%012lx\n", (unsigned)by[0],
+        (unsigned)(by[0] >> 48), (unsigned)(by[0] >> 32 & 0xfff), (unsigned)(by[1] >> 48 & 0xfff),
+        by[1] & 0xfffffffffffful);
     return file_with(line, length);
 }
 
@@ -182,7 +197,8 @@ static const struct {
 } said[] = {
     {"/proc/loadavg", "0.10 0.10 0.10 1/100 100\n"},
     {"/proc/uptime", "1000.00 1000.00\n"},
-    {"/proc/meminfo", "MemTotal:       16000000 kB\nMemFree:         8000000 kB\nMemAvailable:   12000000 kB\nSwapTotal:             0 kB\nSwapFree:              0 kB\n"},
+    {"/proc/meminfo",
+        "MemTotal:       16000000 kB\nMemFree:         8000000 kB\nMemAvailable:   12000000 kB\nSwapTotal:             0 kB\nSwapFree:              0 kB\n"},
 };
 
 static bool ends_with(const char *path, const char *end)

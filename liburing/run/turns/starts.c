@@ -1,5 +1,6 @@
-/* Threads and processes that are made. A thread gets a slot, and runs once it is chosen; the kernel clears a word of ours as it ends, and who waits for the program's
- * word is waked here. A child that is forked, or made to become another program, runs without turns. */
+/* Threads and processes that are made. A thread gets a slot, and runs once it is chosen; the kernel
+ * clears a word of ours as it ends, and who waits for the program's word is waked here. A child
+ * that is forked, or made to become another program, runs without turns. */
 #define _GNU_SOURCE
 #include "chance.h"
 #include "descriptors.h"
@@ -31,23 +32,28 @@ static bool read_request(const struct trap *trap, struct request *request)
         return true;
     }
     size_t size = (size_t)words[1];
-    memcpy(&request->arguments, (const void *)words[0], size < sizeof request->arguments ? size : sizeof request->arguments);
+    memcpy(&request->arguments, (const void *)words[0],
+        size < sizeof request->arguments ? size : sizeof request->arguments);
     return size >= CLONE_ARGS_SIZE_VER0;
 }
 
 /* Makes it, with its flags and where the kernel clears a word; the rest stands as it was given. */
-static long make(const struct trap *trap, struct request *request, uint64_t flags, uint64_t cleared, struct thread *thread)
+static long make(const struct trap *trap, struct request *request, uint64_t flags, uint64_t cleared,
+    struct thread *thread)
 {
     const long *words = trap->words;
     if (request->is_new) {
         request->arguments.flags = flags;
         request->arguments.child_tid = cleared;
-        return make_thread(SYS_clone3, (long)&request->arguments, sizeof request->arguments, 0, 0, 0, thread->registers);
+        return make_thread(SYS_clone3, (long)&request->arguments, sizeof request->arguments, 0, 0,
+            0, thread->registers);
     }
-    return make_thread(SYS_clone, (long)(flags | request->arguments.exit_signal), words[1], words[2], (long)cleared, words[4], thread->registers);
+    return make_thread(SYS_clone, (long)(flags | request->arguments.exit_signal), words[1],
+        words[2], (long)cleared, words[4], thread->registers);
 }
 
-/* How numbers are rounded and what they raise stands in the frame, where the program's vectors are. */
+/* How numbers are rounded and what they raise stands in the frame, where the program's vectors are.
+ */
 static uint32_t rounding_at(const ucontext_t *at)
 {
     return at->uc_mcontext.fpregs ? at->uc_mcontext.fpregs->mxcsr : 0x1f80;
@@ -67,7 +73,9 @@ static long make_turning(const struct trap *trap, struct request *request)
     struct thread *thread = take_slot();
     fill_slot(thread, trap);
     thread->cleared = flags & CLONE_CHILD_CLEARTID ? told : 0;
-    long number = make(trap, request, (flags | CLONE_CHILD_CLEARTID) & ~(uint64_t)CLONE_CHILD_SETTID, (uint64_t)&thread->is_alive, thread);
+    long number = make(trap, request,
+        (flags | CLONE_CHILD_CLEARTID) & ~(uint64_t)CLONE_CHILD_SETTID, (uint64_t)&thread->is_alive,
+        thread);
     if (number < 0) {
         thread->state = FREE;
         return number;
@@ -78,7 +86,8 @@ static long make_turning(const struct trap *trap, struct request *request)
     return number;
 }
 
-/* A child that shares memory until it has become another program, while the thread that made it waits: it goes on without turns, on the stack that it was given. */
+/* A child that shares memory until it has become another program, while the thread that made it
+ * waits: it goes on without turns, on the stack that it was given. */
 static long make_waited_for(const struct trap *trap, struct request *request)
 {
     static struct thread child;
@@ -92,7 +101,8 @@ static long make_waited_for(const struct trap *trap, struct request *request)
 __attribute__((used, noreturn)) void begin_thread(long *registers);
 void begin_thread(long *registers)
 {
-    struct thread *thread = (struct thread *)((char *)registers - offsetof(struct thread, registers));
+    struct thread *thread = (struct thread *)((char *)registers -
+                                              offsetof(struct thread, registers));
     __asm__ volatile("ldmxcsr %0" : : "m"(thread->rounding));
     if (thread->is_plain) {
         pause_chance(true);
@@ -133,13 +143,14 @@ long serve_clone(struct trap *trap)
         say_child();
         if (request.arguments.stack)
             return make_waited_for(trap, &request);
-        long result = kernel(SYS_fork);     /* (the child would return on this stack) */
+        long result = kernel(SYS_fork); /* (the child would return on this stack) */
         if (result == 0)
             leave_turns();
         return result;
     }
     if (!(flags & CLONE_THREAD) || !(flags & CLONE_SETTLS)) {
-        tell_unserved(trap, "a task that shares memory and has no memory of a thread's own is refused with ENOSYS");
+        tell_unserved(trap,
+            "a task that shares memory and has no memory of a thread's own is refused with ENOSYS");
         return -ENOSYS;
     }
     return make_turning(trap, &request);

@@ -1,4 +1,5 @@
-/* What is said as a run ends: that every thread waits, with each thread's place; that only clocks go on; and what makes a run one that isn't replayed. */
+/* What is said as a run ends: that every thread waits, with each thread's place; that only clocks
+ * go on; and what makes a run one that isn't replayed. */
 #define _GNU_SOURCE
 #include "code.h"
 #include "locks.h"
@@ -36,7 +37,8 @@ static void tell_place(const struct thread *thread)
         describe_place(at, place);
     else
         snprintf(place, sizeof place, "a place that isn't known");
-    say_line("  thread %d waits in %s at %s%s", slot_of(thread) + 1, thread->place ? name_of_lock(thread) : name_of_call(thread->call), place, owner);
+    say_line("  thread %d waits in %s at %s%s", slot_of(thread) + 1,
+        thread->place ? name_of_lock(thread) : name_of_call(thread->call), place, owner);
 }
 
 static void tell_places(void)
@@ -68,14 +70,18 @@ void tell_fault(const ucontext_t *at)
     char place[PLACE_ROOM];
     read_code();
     describe_place((const void *)at->uc_mcontext.gregs[REG_RIP], place);
-    say_line("thread %d has a fault at %s, which ends the program", self ? slot_of(self) + 1 : 0, place);
+    say_line(
+        "thread %d has a fault at %s, which ends the program", self ? slot_of(self) + 1 : 0, place);
 }
 
 void tell_end(void)
 {
     compare_end();
     if (world->from_outside > 0)
-        say_line("%lu times something came from outside that was waited for: this run isn't replayed", world->from_outside);
+        say_line(
+            "%lu times something came from outside that was waited for: this run isn't replayed",
+            world->from_outside);
     if (world->interrupted > 0)
-        say_line("%lu times a thread was interrupted that seemed to spin: this run isn't replayed", world->interrupted);
+        say_line("%lu times a thread was interrupted that seemed to spin: this run isn't replayed",
+            world->interrupted);
 }

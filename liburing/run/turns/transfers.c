@@ -1,5 +1,6 @@
-/* Reads, writes and the like: none sleeps in the kernel. One that would wait is a candidate once its descriptor is ready; a large write to a pipe goes in parts
- * that a pipe with room takes at once. */
+/* Reads, writes and the like: none sleeps in the kernel. One that would wait is a candidate once
+ * its descriptor is ready; a large write to a pipe goes in parts that a pipe with room takes at
+ * once. */
 #define _GNU_SOURCE
 #include "transfers.h"
 #include "chance.h"
@@ -20,7 +21,8 @@ static uint64_t limit_of_socket(int fd, int which)
 {
     struct timeval time = {0, 0};
     socklen_t size = sizeof time;
-    if (kernel(SYS_getsockopt, fd, SOL_SOCKET, which, &time, &size) < 0 || (time.tv_sec == 0 && time.tv_usec == 0))
+    if (kernel(SYS_getsockopt, fd, SOL_SOCKET, which, &time, &size) < 0 ||
+        (time.tv_sec == 0 && time.tv_usec == 0))
         return NEVER;
     return world->now + (uint64_t)time.tv_sec * SECOND + (uint64_t)time.tv_usec * 1000;
 }
@@ -71,18 +73,21 @@ static int flags_of_message(const struct trap *trap)
     }
 }
 
-/* MSG_WAITALL may wait for more than is there: what is there is told of as one that ends early, unless all is. */
+/* MSG_WAITALL may wait for more than is there: what is there is told of as one that ends early,
+ * unless all is. */
 long serve_receive(struct trap *trap)
 {
     struct trap at_once = *trap;
     int flags = flags_of_message(trap);
     if (flags & MSG_DONTWAIT || !is_blocking((int)trap->words[0]))
         return pass_on(trap);
-    long refused = wait_to((int)trap->words[0], flags & MSG_ERRQUEUE ? POLLERR : POLLIN, SO_RCVTIMEO);
+    long refused = wait_to(
+        (int)trap->words[0], flags & MSG_ERRQUEUE ? POLLERR : POLLIN, SO_RCVTIMEO);
     if (refused < 0)
         return refused;
     at_once.words[trap->call == SYS_recvmsg ? 2 : 3] |= MSG_DONTWAIT;
-    size_t wanted = trap->call == SYS_recvfrom && flags & MSG_WAITALL ? (size_t)trap->words[2] : 0, done = 0;
+    size_t wanted = trap->call == SYS_recvfrom && flags & MSG_WAITALL ? (size_t)trap->words[2] : 0,
+           done = 0;
     for (;;) {
         long result = pass_on(&at_once);
         change_world();
@@ -104,7 +109,8 @@ long serve_accept(struct trap *trap)
     return fd;
 }
 
-/* A pipe that polls as writable takes PART at once. Standard output and errors go where a user reads, and are written as they come. */
+/* A pipe that polls as writable takes PART at once. Standard output and errors go where a user
+ * reads, and are written as they come. */
 static long write_in_parts(struct trap *trap)
 {
     int fd = (int)trap->words[0];
@@ -112,7 +118,8 @@ static long write_in_parts(struct trap *trap)
     while (done < size) {
         long refused = wait_to(fd, POLLOUT, SO_SNDTIMEO);
         size_t part = size - done < PART ? size - done : PART;
-        long result = refused < 0 ? refused : kernel(SYS_write, fd, trap->words[1] + (long)done, part);
+        long result = refused < 0 ? refused
+                                  : kernel(SYS_write, fd, trap->words[1] + (long)done, part);
         change_world();
         if (result < 0)
             return done > 0 ? (long)done : result;
@@ -164,7 +171,8 @@ long serve_send(struct trap *trap)
     }
 }
 
-/* A connection that isn't made at once is waited for without blocking; one to a full queue of a local socket is tried again. */
+/* A connection that isn't made at once is waited for without blocking; one to a full queue of a
+ * local socket is tried again. */
 long serve_connect(struct trap *trap)
 {
     int fd = (int)trap->words[0], error = 0;
@@ -209,7 +217,8 @@ long serve_splice(struct trap *trap)
 {
     struct trap at_once = *trap;
     at_once.words[5] |= SPLICE_F_NONBLOCK;
-    return move_between(trap->words[5] & SPLICE_F_NONBLOCK ? trap : &at_once, (int)trap->words[0], (int)trap->words[2]);
+    return move_between(trap->words[5] & SPLICE_F_NONBLOCK ? trap : &at_once, (int)trap->words[0],
+        (int)trap->words[2]);
 }
 
 long serve_tee(struct trap *trap)
@@ -223,7 +232,8 @@ long serve_tee(struct trap *trap)
 long serve_sendfile(struct trap *trap)
 {
     struct trap part = *trap;
-    if (kind_of((int)trap->words[0]) != ON_DISK && is_blocking((int)trap->words[0]) && part.words[3] > PART)
+    if (kind_of((int)trap->words[0]) != ON_DISK && is_blocking((int)trap->words[0]) &&
+        part.words[3] > PART)
         part.words[3] = PART;
     return move_between(&part, (int)trap->words[1], (int)trap->words[0]);
 }

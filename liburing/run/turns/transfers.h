@@ -4,6 +4,7 @@
 
 #include "turns.h"
 
-serving serve_read, serve_receive, serve_accept, serve_write, serve_send, serve_connect, serve_splice, serve_tee, serve_sendfile;
+serving serve_read, serve_receive, serve_accept, serve_write, serve_send, serve_connect,
+    serve_splice, serve_tee, serve_sendfile;
 
 #endif

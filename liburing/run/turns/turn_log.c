@@ -1,5 +1,6 @@
-/* The log of a run: a line for each call, with its thread, its words and its result, into the file that WULGACH_TURNS names. Two runs of one seed have one log: it is
- * compared with the one that WULGACH_RECORDED_TURNS names, and the first line that differs is told. */
+/* The log of a run: a line for each call, with its thread, its words and its result, into the file
+ * that WULGACH_TURNS names. Two runs of one seed have one log: it is compared with the one that
+ * WULGACH_RECORDED_TURNS names, and the first line that differs is told. */
 #define _GNU_SOURCE
 #include "turns.h"
 
@@ -33,7 +34,8 @@ static void read_recorded(const char *path)
     struct stat about = {0};
     long from = kernel(SYS_open, path, O_RDONLY | O_CLOEXEC), at = -1;
     if (from >= 0 && kernel(SYS_fstat, from, &about) == 0 && about.st_size > 0)
-        at = kernel(SYS_mmap, place, about.st_size, PROT_READ, MAP_PRIVATE | MAP_FIXED_NOREPLACE, from, 0);
+        at = kernel(
+            SYS_mmap, place, about.st_size, PROT_READ, MAP_PRIVATE | MAP_FIXED_NOREPLACE, from, 0);
     if (from >= 0)
         kernel(SYS_close, from);
     if (at != (long)place) {
@@ -55,13 +57,16 @@ static void tell_difference(const char *line, int size)
 {
     const char *end = end_of_line(recorded, recorded_end);
     if (recorded == recorded_end)
-        say_line("choice %lu differs from the recorded run, which ends here: %.*s", world->choices, size - 1, line);
+        say_line("choice %lu differs from the recorded run, which ends here: %.*s", world->choices,
+            size - 1, line);
     else
-        say_line("choice %lu differs from the recorded run: %.*s; recorded: %.*s", world->choices, size - 1, line, (int)(end - recorded), recorded);
+        say_line("choice %lu differs from the recorded run: %.*s; recorded: %.*s", world->choices,
+            size - 1, line, (int)(end - recorded), recorded);
     recorded = NULL;
 }
 
-/* Past a word that is an address, if one begins here: where memory lies rests on the environment too, and isn't compared. */
+/* Past a word that is an address, if one begins here: where memory lies rests on the environment
+ * too, and isn't compared. */
 static const char *past_address(const char *text, const char *end)
 {
     enum { PREFIX = 2, SMALL = 8 };
@@ -101,7 +106,8 @@ static void compare_line(const char *line, int size)
 void compare_end(void)
 {
     if (recorded && recorded < recorded_end)
-        say_line("the run ends where the recorded one goes on: %.*s", (int)(end_of_line(recorded, recorded_end) - recorded), recorded);
+        say_line("the run ends where the recorded one goes on: %.*s",
+            (int)(end_of_line(recorded, recorded_end) - recorded), recorded);
     recorded = NULL;
 }
 
@@ -131,31 +137,106 @@ void end_log(void)
     length = 0;
 }
 
-/* How many of the first three words a call has: the registers of others are whatever was left there. */
+/* How many of the first three words a call has: the registers of others are whatever was left
+ * there. */
 static int words_of(long call, const long *words)
 {
     switch (call) {
-    case SYS_getpid: case SYS_gettid: case SYS_getppid: case SYS_getuid: case SYS_geteuid: case SYS_getgid: case SYS_getegid: case SYS_sched_yield: case SYS_fork: case SYS_vfork:
-    case SYS_setsid: case SYS_pause: case SYS_sync: case SYS_getpgrp: case POINT_AT_LOOK: case YIELD_AT_LOCK:
+    case SYS_getpid:
+    case SYS_gettid:
+    case SYS_getppid:
+    case SYS_getuid:
+    case SYS_geteuid:
+    case SYS_getgid:
+    case SYS_getegid:
+    case SYS_sched_yield:
+    case SYS_fork:
+    case SYS_vfork:
+    case SYS_setsid:
+    case SYS_pause:
+    case SYS_sync:
+    case SYS_getpgrp:
+    case POINT_AT_LOOK:
+    case YIELD_AT_LOCK:
         return 0;
-    case SYS_close: case SYS_fsync: case SYS_fdatasync: case SYS_exit: case SYS_exit_group: case SYS_brk: case SYS_umask: case SYS_uname: case SYS_unlink: case SYS_rmdir: case SYS_chdir:
-    case SYS_time: case SYS_times: case SYS_sysinfo: case SYS_epoll_create: case SYS_epoll_create1: case SYS_dup: case SYS_alarm: case SYS_set_tid_address: case SYS_pipe: case POINT_AT_LOCK: case SYS_timer_delete:
+    case SYS_close:
+    case SYS_fsync:
+    case SYS_fdatasync:
+    case SYS_exit:
+    case SYS_exit_group:
+    case SYS_brk:
+    case SYS_umask:
+    case SYS_uname:
+    case SYS_unlink:
+    case SYS_rmdir:
+    case SYS_chdir:
+    case SYS_time:
+    case SYS_times:
+    case SYS_sysinfo:
+    case SYS_epoll_create:
+    case SYS_epoll_create1:
+    case SYS_dup:
+    case SYS_alarm:
+    case SYS_set_tid_address:
+    case SYS_pipe:
+    case POINT_AT_LOCK:
+    case SYS_timer_delete:
         return 1;
     case SYS_futex:
-        return (words[1] & FUTEX_CMD_MASK) == FUTEX_UNLOCK_PI || (words[1] & FUTEX_CMD_MASK) == FUTEX_LOCK_PI ? 2 : 3;
+        return (words[1] & FUTEX_CMD_MASK) == FUTEX_UNLOCK_PI ||
+                       (words[1] & FUTEX_CMD_MASK) == FUTEX_LOCK_PI
+                   ? 2
+                   : 3;
     case SYS_fcntl:
         return words[1] == F_GETFL || words[1] == F_GETFD ? 2 : 3;
-    case SYS_mkdir: case SYS_rename: case SYS_access: case SYS_stat: case SYS_lstat: case SYS_fstat: case SYS_munmap: case SYS_ftruncate: case SYS_truncate: case SYS_clone3: case SYS_nanosleep:
-    case SYS_clock_gettime: case SYS_gettimeofday: case SYS_kill: case SYS_tkill: case SYS_listen: case SYS_flock: case SYS_dup2: case SYS_pipe2: case SYS_eventfd2: case SYS_getcwd: case SYS_link:
-    case SYS_symlink: case SYS_chmod: case SYS_getrlimit: case SYS_setrlimit: case SYS_getrusage: case SYS_sigaltstack: case SYS_fchmod: case SYS_getpriority: case SYS_set_robust_list: case SYS_shutdown:
-    case SYS_timerfd_create: case SYS_fstatfs: case SYS_statfs: case SYS_clock_getres: case SYS_sched_getparam: case SYS_getgroups: case SYS_timer_gettime: case SYS_timerfd_gettime:
+    case SYS_mkdir:
+    case SYS_rename:
+    case SYS_access:
+    case SYS_stat:
+    case SYS_lstat:
+    case SYS_fstat:
+    case SYS_munmap:
+    case SYS_ftruncate:
+    case SYS_truncate:
+    case SYS_clone3:
+    case SYS_nanosleep:
+    case SYS_clock_gettime:
+    case SYS_gettimeofday:
+    case SYS_kill:
+    case SYS_tkill:
+    case SYS_listen:
+    case SYS_flock:
+    case SYS_dup2:
+    case SYS_pipe2:
+    case SYS_eventfd2:
+    case SYS_getcwd:
+    case SYS_link:
+    case SYS_symlink:
+    case SYS_chmod:
+    case SYS_getrlimit:
+    case SYS_setrlimit:
+    case SYS_getrusage:
+    case SYS_sigaltstack:
+    case SYS_fchmod:
+    case SYS_getpriority:
+    case SYS_set_robust_list:
+    case SYS_shutdown:
+    case SYS_timerfd_create:
+    case SYS_fstatfs:
+    case SYS_statfs:
+    case SYS_clock_getres:
+    case SYS_sched_getparam:
+    case SYS_getgroups:
+    case SYS_timer_gettime:
+    case SYS_timerfd_gettime:
         return 2;
     default:
         return 3;
     }
 }
 
-/* A lock by its owner, or the end of a thread, is awaited by the number of a thread, which isn't the same twice. */
+/* A lock by its owner, or the end of a thread, is awaited by the number of a thread, which isn't
+ * the same twice. */
 enum { OWNER = -1 };
 
 static bool is_of_owner(const struct trap *trap, int word)
@@ -180,13 +261,38 @@ static void put_line(const char *line, int size)
     length += (size_t)size;
 }
 
-/* Numbers of threads and of processes are the kernel's, and not the same twice: they aren't in it. */
+/* Numbers of threads and of processes are the kernel's, and not the same twice: they aren't in it.
+ */
 static bool has_number(long call)
 {
     switch (call) {
-    case SYS_getpid: case SYS_gettid: case SYS_getppid: case SYS_set_tid_address: case SYS_clone: case SYS_clone3: case SYS_fork: case SYS_vfork: case SYS_tkill: case SYS_tgkill: case SYS_kill:
-    case SYS_wait4: case SYS_waitid: case SYS_rt_sigqueueinfo: case SYS_rt_tgsigqueueinfo: case SYS_getpgid: case SYS_getsid: case SYS_setsid: case SYS_getpgrp: case SYS_prlimit64:
-    case SYS_sched_getaffinity: case SYS_sched_setaffinity: case SYS_sched_getparam: case SYS_sched_getscheduler: case SYS_sched_setscheduler: case SYS_setpriority: case SYS_getpriority:
+    case SYS_getpid:
+    case SYS_gettid:
+    case SYS_getppid:
+    case SYS_set_tid_address:
+    case SYS_clone:
+    case SYS_clone3:
+    case SYS_fork:
+    case SYS_vfork:
+    case SYS_tkill:
+    case SYS_tgkill:
+    case SYS_kill:
+    case SYS_wait4:
+    case SYS_waitid:
+    case SYS_rt_sigqueueinfo:
+    case SYS_rt_tgsigqueueinfo:
+    case SYS_getpgid:
+    case SYS_getsid:
+    case SYS_setsid:
+    case SYS_getpgrp:
+    case SYS_prlimit64:
+    case SYS_sched_getaffinity:
+    case SYS_sched_setaffinity:
+    case SYS_sched_getparam:
+    case SYS_sched_getscheduler:
+    case SYS_sched_setscheduler:
+    case SYS_setpriority:
+    case SYS_getpriority:
         return true;
     default:
         return false;
@@ -198,15 +304,19 @@ void note_call(const struct trap *trap, long result)
     char line[MOST_LINE];
     if (!is_logging_turns())
         return;
-    int count = words_of(trap->call, trap->words), size = snprintf(line, sizeof line, "%lu: thread %d: %s(", world->points, slot_of(self) + 1, name_of_call(trap->call));
+    int count = words_of(trap->call, trap->words),
+        size = snprintf(line, sizeof line, "%lu: thread %d: %s(", world->points, slot_of(self) + 1,
+            name_of_call(trap->call));
     if (has_number(trap->call)) {
         size += snprintf(line + size, sizeof line - (size_t)size, "..)\n");
         put_line(line, size);
         return;
     }
     for (int i = 0; i < count; i++)
-        size += snprintf(line + size, sizeof line - (size_t)size, i ? ", %#lx" : "%#lx", (unsigned long)(is_of_owner(trap, i) ? OWNER : trap->words[i]));
-    size += snprintf(line + size, sizeof line - (size_t)size, ") = %ld, at %lu ns\n", result, world->now);
+        size += snprintf(line + size, sizeof line - (size_t)size, i ? ", %#lx" : "%#lx",
+            (unsigned long)(is_of_owner(trap, i) ? OWNER : trap->words[i]));
+    size += snprintf(
+        line + size, sizeof line - (size_t)size, ") = %ld, at %lu ns\n", result, world->now);
     put_line(line, size);
 }
 

@@ -101,7 +101,8 @@ long serve_poll(struct trap *trap)
 
 static long ppoll_words(const long *words)
 {
-    return poll_until((struct pollfd *)words[0], words[1], limit_after((const struct timespec *)words[2]));
+    return poll_until(
+        (struct pollfd *)words[0], words[1], limit_after((const struct timespec *)words[2]));
 }
 
 long serve_ppoll(struct trap *trap)
@@ -129,7 +130,9 @@ static int read_sets(int count, fd_set *const sets[3], struct pollfd *polled)
 
 static long write_sets(int count, fd_set *const sets[3], const struct pollfd *polled, int found)
 {
-    static const short events[3] = {POLLIN, POLLOUT, POLLPRI}, ready[3] = {POLLIN | POLLRDNORM | POLLHUP | POLLERR, POLLOUT | POLLWRNORM | POLLERR, POLLPRI};
+    static const short events[3] = {POLLIN, POLLOUT, POLLPRI},
+                       ready[3] = {POLLIN | POLLRDNORM | POLLHUP | POLLERR,
+                           POLLOUT | POLLWRNORM | POLLERR, POLLPRI};
     long told = 0;
     for (int set = 0; set < 3; set++)
         if (sets[set])
@@ -161,7 +164,9 @@ static long select_until(const long *words, uint64_t limit)
 long serve_select(struct trap *trap)
 {
     struct timeval *time = (struct timeval *)trap->words[4];
-    uint64_t limit = time ? world->now + (uint64_t)time->tv_sec * SECOND + (uint64_t)time->tv_usec * 1000 : NEVER;
+    uint64_t limit = time ? world->now + (uint64_t)time->tv_sec * SECOND +
+                                (uint64_t)time->tv_usec * 1000
+                          : NEVER;
     long ready = select_until(trap->words, limit);
     if (time) {
         uint64_t left = limit > world->now ? limit - world->now : 0;
@@ -248,8 +253,14 @@ static long wait_for_process(struct trap *trap, long which, long number, long op
 long serve_wait4(struct trap *trap)
 {
     int process = (int)trap->words[0];
-    long options = WEXITED | (trap->words[2] & (WNOHANG | WUNTRACED | WCONTINUED | __WALL | __WCLONE | __WNOTHREAD));
-    long which = process == -1 ? P_ALL : process > 0 ? P_PID : P_PGID, number = process == -1 ? 0 : process > 0 ? process : -process;
+    long options = WEXITED | (trap->words[2] & (WNOHANG | WUNTRACED | WCONTINUED | __WALL |
+                                                   __WCLONE | __WNOTHREAD));
+    long which = process == -1 ? P_ALL
+                 : process > 0 ? P_PID
+                               : P_PGID,
+         number = process == -1 ? 0
+                  : process > 0 ? process
+                                : -process;
     long result = wait_for_process(trap, which, number, options);
     if (result > 0 && trap->words[3])
         memset((void *)trap->words[3], 0, sizeof(struct rusage));

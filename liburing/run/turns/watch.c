@@ -1,5 +1,6 @@
-/* The processor's time of the process ticks, and a tick that finds no point since the last ones is of a thread that computes. That is deterministic, and left alone
- * unless it takes long while another could go on: then it is taken to spin for that one. */
+/* The processor's time of the process ticks, and a tick that finds no point since the last ones is
+ * of a thread that computes. That is deterministic, and left alone unless it takes long while
+ * another could go on: then it is taken to spin for that one. */
 #define _GNU_SOURCE
 #include "watch.h"
 #include "places.h"
@@ -32,7 +33,9 @@ static bool can_others_go_on(void)
 {
     for (int i = 0; i < world->count; i++) {
         const struct thread *thread = world->threads + i;
-        if (thread != self && (thread->state == READY || (thread->state == WAITS && (thread->is_ready || thread->limit != NEVER))))
+        if (thread != self &&
+            (thread->state == READY ||
+                (thread->state == WAITS && (thread->is_ready || thread->limit != NEVER))))
             return true;
     }
     return world->due != NEVER;
@@ -44,7 +47,9 @@ static void tell_interrupted(const ucontext_t *at)
     if (world->interrupted++ > 0)
         return;
     describe_place((const void *)at->uc_mcontext.gregs[REG_RIP], place);
-    say_line("thread %d computed for %lu ms at %s without a call while others could go on: it was interrupted, and this run isn't replayed", slot_of(self) + 1, (unsigned long)(world->patience / 1000000), place);
+    say_line(
+        "thread %d computed for %lu ms at %s without a call while others could go on: it was interrupted, and this run isn't replayed",
+        slot_of(self) + 1, (unsigned long)(world->patience / 1000000), place);
 }
 
 /* (one that did so once does so again, and is waited for no longer) */

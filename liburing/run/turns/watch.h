@@ -1,4 +1,5 @@
-/* Who computes for long without a call is left alone; who seems to spin is interrupted, which no seed decides and is told. */
+/* Who computes for long without a call is left alone; who seems to spin is interrupted, which no
+ * seed decides and is told. */
 #ifndef TURNS_WATCH_H
 #define TURNS_WATCH_H
 

@@ -1,5 +1,7 @@
-/* The world: memory at one place, with a slot and a stack for each thread. It begins in the program that `uring-run --threads` becomes (WULGACH_THREADS has the
- * number of its process), and not in what that starts: such a process runs as without turns, and what comes from it comes from outside. */
+/* The world: memory at one place, with a slot and a stack for each thread. It begins in the program
+ * that `uring-run --threads` becomes (WULGACH_THREADS has the number of its process), and not in
+ * what that starts: such a process runs as without turns, and what comes from it comes from
+ * outside. */
 #define _GNU_SOURCE
 #include "turns.h"
 #include "../../layer/traces/logging.h"
@@ -35,7 +37,8 @@ void say_line(const char *form, ...)
     char line[512];
     va_list words;
     va_start(words, form);
-    int start = snprintf(line, sizeof line, "uring-run: "), length = vsnprintf(line + start, sizeof line - (size_t)start - 1, form, words) + start;
+    int start = snprintf(line, sizeof line, "uring-run: "),
+        length = vsnprintf(line + start, sizeof line - (size_t)start - 1, form, words) + start;
     va_end(words);
     if (length > (int)sizeof line - 2)
         length = (int)sizeof line - 2;
@@ -62,7 +65,8 @@ struct thread *take_slot(void)
     while (slot < MOST_THREADS && world->threads[slot].state != FREE)
         slot++;
     if (slot == MOST_THREADS) {
-        say_line("the program has over %d threads at a time, which --threads doesn't serve", MOST_THREADS);
+        say_line("the program has over %d threads at a time, which --threads doesn't serve",
+            MOST_THREADS);
         end_run(STOPPED);
     }
     struct thread *thread = world->threads + slot;
@@ -75,7 +79,8 @@ struct thread *take_slot(void)
 
 static long map_at(void *at, size_t size)
 {
-    return kernel(SYS_mmap, at, size, PROT_READ | PROT_WRITE, MAP_PRIVATE | MAP_ANONYMOUS | MAP_NORESERVE | MAP_FIXED_NOREPLACE, -1, 0);
+    return kernel(SYS_mmap, at, size, PROT_READ | PROT_WRITE,
+        MAP_PRIVATE | MAP_ANONYMOUS | MAP_NORESERVE | MAP_FIXED_NOREPLACE, -1, 0);
 }
 
 static bool make_world(void)
@@ -100,7 +105,8 @@ static void take_first_slot(void)
     self = first;
 }
 
-/* The kernel writes into this memory of a thread's when it has moved it to another processor: it is told no more. */
+/* The kernel writes into this memory of a thread's when it has moved it to another processor: it is
+ * told no more. */
 static void end_restarts(void)
 {
     enum { SIZE = 32, UNREGISTER = 1, MARK = 0x53053053 };
@@ -111,14 +117,16 @@ static void end_restarts(void)
         kernel(SYS_rseq, thread + (uintptr_t)*offset, SIZE, UNREGISTER, MARK);
 }
 
-/* One processor, on which the threads take turns anyway: the one on which this runs, so that runs side by side have others. How many it may have stays what is said. */
+/* One processor, on which the threads take turns anyway: the one on which this runs, so that runs
+ * side by side have others. How many it may have stays what is said. */
 static void take_one_processor(void)
 {
     unsigned here = 0;
     cpu_set_t all, one;
     CPU_ZERO(&all);
     CPU_ZERO(&one);
-    if (kernel(SYS_sched_getaffinity, 0, sizeof all, &all) <= 0 || kernel(SYS_getcpu, &here, 0, 0) < 0)
+    if (kernel(SYS_sched_getaffinity, 0, sizeof all, &all) <= 0 ||
+        kernel(SYS_getcpu, &here, 0, 0) < 0)
         return;
     world->processors = CPU_COUNT(&all);
     CPU_SET(here, &one);

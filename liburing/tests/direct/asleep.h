@@ -1,4 +1,5 @@
-/* Waits until a thread or a process sleeps in a call, as the kernel tells of it: on a busy machine that takes as long as it takes. */
+/* Waits until a thread or a process sleeps in a call, as the kernel tells of it: on a busy machine
+ * that takes as long as it takes. */
 #ifndef ASLEEP_H
 #define ASLEEP_H
 
@@ -32,7 +33,8 @@ static inline void await_sleep(const pid_t *thread)
         usleep(1000);
 }
 
-/* A child that sends this thread a signal once that sleeps, and doesn't outlive this process long. If the thread is to be cancelled by then, the child isn't. */
+/* A child that sends this thread a signal once that sleeps, and doesn't outlive this process long.
+ * If the thread is to be cancelled by then, the child isn't. */
 static inline pid_t signal_asleep(int number)
 {
     int before;

@@ -1,4 +1,5 @@
-/* Tests of cancels, by direct calls: which requests they find, by user data, by a descriptor or a slot, and any. All hold under every policy, which the environment says.
+/* Tests of cancels, by direct calls: which requests they find, by user data, by a descriptor or a
+ * slot, and any. All hold under every policy, which the environment says.
  *
  *   cancels [NAME]           with a name: that test alone
  */
@@ -26,7 +27,8 @@ static void test_cancels(void)
     check(enter(&ring, 1, 0, 0) == 1);
     reap_all(&ring, 2, results);
     check(results[0] == -ECANCELED && results[3] == 0);
-    put_plain(&ring, IORING_OP_ASYNC_CANCEL, 3, ends[0])->cancel_flags = IORING_ASYNC_CANCEL_FD | IORING_ASYNC_CANCEL_ALL;
+    put_plain(&ring, IORING_OP_ASYNC_CANCEL, 3, ends[0])->cancel_flags = IORING_ASYNC_CANCEL_FD |
+                                                                         IORING_ASYNC_CANCEL_ALL;
     check(enter(&ring, 1, 0, 0) == 1);
     reap_all(&ring, 3, results);
     check(results[1] == -ECANCELED && results[2] == -ECANCELED && results[3] == 2);
@@ -61,7 +63,8 @@ static void test_cancel_by_unused_descriptor(void)
     put_plain(&ring, IORING_OP_POLL_ADD, 1, ends[0])->poll32_events = POLLIN;
     check(enter(&ring, 2, 0, 0) == 2);
     check(enter_for(&ring, 1, 1000) == -ETIME);
-    put_plain(&ring, IORING_OP_ASYNC_CANCEL, 2, ends[0])->cancel_flags = IORING_ASYNC_CANCEL_FD | IORING_ASYNC_CANCEL_ALL;
+    put_plain(&ring, IORING_OP_ASYNC_CANCEL, 2, ends[0])->cancel_flags = IORING_ASYNC_CANCEL_FD |
+                                                                         IORING_ASYNC_CANCEL_ALL;
     check(enter(&ring, 1, 0, 0) == 1);
     reap_all(&ring, 2, results);
     check(results[1] == -ECANCELED && results[2] == 1);
@@ -95,8 +98,8 @@ static void test_cancels_of_any(void)
     close_ring(&ring);
 }
 
-/* By the manual pages' rules a cancel ends a member in the middle of a chain before the one in front of it has ended; once that has, the one after
- * starts. */
+/* By the manual pages' rules a cancel ends a member in the middle of a chain before the one in
+ * front of it has ended; once that has, the one after starts. */
 static void test_cancelled_middle(void)
 {
     struct ring ring;
@@ -114,12 +117,14 @@ static void test_cancelled_middle(void)
     check(write(ends[1], "a", 1) == 1);
     reap_all(&ring, 4, results);
     check(results[0] == 1 && results[2] == 0);
-    check(is_by_manual() ? results[1] == -ECANCELED && results[3] == 0 : results[1] == 0 && results[3] == -ENOENT);
+    check(is_by_manual() ? results[1] == -ECANCELED && results[3] == 0
+                         : results[1] == 0 && results[3] == -ENOENT);
     close_pair(ends);
     close_ring(&ring);
 }
 
-/* A cancel by io_uring_register(2) waits for all that it has found, also for what hasn't started. */
+/* A cancel by io_uring_register(2) waits for all that it has found, also for what hasn't started.
+ */
 static void test_awaited(void)
 {
     struct ring ring;
@@ -134,7 +139,8 @@ static void test_awaited(void)
         check(enter(&ring, 3, 0, 0) == 3);
         if (has_started)
             check(enter_for(&ring, 1, 1000) == -ETIME);
-        check(register_at(ring.fd, IORING_REGISTER_SYNC_CANCEL, &any, 1) == 3 && count_ready(&ring) == 3);
+        check(register_at(ring.fd, IORING_REGISTER_SYNC_CANCEL, &any, 1) == 3 &&
+              count_ready(&ring) == 3);
         for (int i = 0; i < 3; i++)
             check(reap(&ring).res == -ECANCELED);
         close_ring(&ring);
@@ -147,14 +153,16 @@ static bool is_in_turn(void)
     return is_in_order() || strcmp(getenv("WULGACH_POLICY"), "lazy") == 0;
 }
 
-/* What was submitted after a cancel or a removal, also in one call with it, isn't found unless it has started: in order it never has. */
+/* What was submitted after a cancel or a removal, also in one call with it, isn't found unless it
+ * has started: in order it never has. */
 static void test_after_a_cancel(void)
 {
     struct ring ring;
     int32_t results[2];
     struct __kernel_timespec moment = {.tv_nsec = 1000000};
     make_ring(&ring, 8, 0, 0);
-    put(&ring, IORING_OP_ASYNC_CANCEL, 0, 0)->cancel_flags = IORING_ASYNC_CANCEL_ANY | IORING_ASYNC_CANCEL_ALL;
+    put(&ring, IORING_OP_ASYNC_CANCEL, 0, 0)->cancel_flags = IORING_ASYNC_CANCEL_ANY |
+                                                             IORING_ASYNC_CANCEL_ALL;
     put(&ring, IORING_OP_NOP, 1, 0);
     check(enter(&ring, 2, 0, 0) == 2);
     reap_all(&ring, 2, results);
@@ -171,7 +179,8 @@ static void test_after_a_cancel(void)
     close_ring(&ring);
 }
 
-/* Whether a cancel finds the poll of this descriptor or slot by that one. It is removed then, if it is still there. */
+/* Whether a cancel finds the poll of this descriptor or slot by that one. It is removed then, if it
+ * is still there. */
 static bool finds(struct ring *ring, uint32_t cancel_flags, int fd, uint8_t flags, int polled)
 {
     int32_t results[3];
@@ -179,7 +188,8 @@ static bool finds(struct ring *ring, uint32_t cancel_flags, int fd, uint8_t flag
     poll->poll32_events = POLLIN;
     poll->flags = flags;
     check(enter(ring, 1, 0, 0) == 1 && enter_for(ring, 1, 1000) == -ETIME);
-    put_plain(ring, IORING_OP_ASYNC_CANCEL, 0, fd)->cancel_flags = cancel_flags | IORING_ASYNC_CANCEL_FD;
+    put_plain(ring, IORING_OP_ASYNC_CANCEL, 0, fd)->cancel_flags = cancel_flags |
+                                                                   IORING_ASYNC_CANCEL_FD;
     check(enter(ring, 1, 1, IORING_ENTER_GETEVENTS) == 1);
     put(ring, IORING_OP_POLL_REMOVE, 2, 0)->addr = 1;
     check(enter(ring, 1, 0, 0) == 1);
@@ -188,7 +198,8 @@ static bool finds(struct ring *ring, uint32_t cancel_flags, int fd, uint8_t flag
     return results[0] == 0;
 }
 
-/* By a descriptor or a slot what is carried out on its file is found, however that is named, and nothing that is carried out on another. */
+/* By a descriptor or a slot what is carried out on its file is found, however that is named, and
+ * nothing that is carried out on another. */
 static void test_cancel_by_file(void)
 {
     struct ring ring;
@@ -197,11 +208,15 @@ static void test_cancel_by_file(void)
     int copy = dup(ends[0]);
     make_ring(&ring, 8, 0, 0);
     check(register_at(ring.fd, IORING_REGISTER_FILES, ends, 2) == 0);
-    check(finds(&ring, 0, ends[0], 0, ends[0]) && finds(&ring, 0, copy, 0, ends[0]) && !finds(&ring, 0, others[0], 0, ends[0]));
-    check(finds(&ring, 0, copy, IOSQE_FIXED_FILE, 0) && finds(&ring, IORING_ASYNC_CANCEL_FD_FIXED, 0, 0, copy));
-    check(!finds(&ring, IORING_ASYNC_CANCEL_FD_FIXED, 1, 0, copy) && !finds(&ring, 0, others[0], IOSQE_FIXED_FILE, 0));
+    check(finds(&ring, 0, ends[0], 0, ends[0]) && finds(&ring, 0, copy, 0, ends[0]) &&
+          !finds(&ring, 0, others[0], 0, ends[0]));
+    check(finds(&ring, 0, copy, IOSQE_FIXED_FILE, 0) &&
+          finds(&ring, IORING_ASYNC_CANCEL_FD_FIXED, 0, 0, copy));
+    check(!finds(&ring, IORING_ASYNC_CANCEL_FD_FIXED, 1, 0, copy) &&
+          !finds(&ring, 0, others[0], IOSQE_FIXED_FILE, 0));
     put_plain(&ring, IORING_OP_POLL_ADD, 0, ends[0])->poll32_events = POLLIN;
-    check(enter(&ring, 1, 0, 0) == 1 && enter_for(&ring, 1, 1000) == -ETIME && dup2(others[0], ends[0]) == ends[0]);
+    check(enter(&ring, 1, 0, 0) == 1 && enter_for(&ring, 1, 1000) == -ETIME &&
+          dup2(others[0], ends[0]) == ends[0]);
     put_plain(&ring, IORING_OP_ASYNC_CANCEL, 1, ends[0])->cancel_flags = IORING_ASYNC_CANCEL_FD;
     check(enter(&ring, 1, 1, IORING_ENTER_GETEVENTS) == 1 && reap(&ring).res == -ENOENT);
     close_ring(&ring);

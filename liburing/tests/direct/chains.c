@@ -1,21 +1,23 @@
-/* Calls with as many requests as a ring takes: a chain's members end in order, and loose requests each once; and small calls beside as many that
- * wait.
+/* Calls with as many requests as a ring takes: a chain's members end in order, and loose requests
+ * each once; and small calls beside as many that wait.
  *
- *   chains [KIND [LENGTH]]       one call of a kind, of so many requests, or small calls beside so many; tests/speed/growth counts its instructions
+ *   chains [KIND [LENGTH]]       one call of a kind, of so many requests, or small calls beside so
+ * many; tests/speed/growth counts its instructions
  */
 #define _GNU_SOURCE
 #include "engines.h"
 
 #include <poll.h>
 
-enum { LONGEST = 4096, OTHERS = LONGEST };      /* the user data of what isn't a no-op of the call */
+enum { LONGEST = 4096, OTHERS = LONGEST }; /* the user data of what isn't a no-op of the call */
 
 /* A kind of call, of no-ops or of updates. */
 struct kind {
     const char *name;
     uint8_t code;
-    void (*before)(struct ring *ring, int pipe, unsigned length);       /* what is submitted before it, and waits */
-    uint8_t link;                                                       /* what links its members, if anything */
+    void (*before)(
+        struct ring *ring, int pipe, unsigned length); /* what is submitted before it, and waits */
+    uint8_t link; /* what links its members, if anything */
 };
 
 /* A read, and an hour. */
@@ -80,7 +82,8 @@ static void call_of(const struct kind *kind, unsigned length)
     close_pair(ends);
 }
 
-/* A call of its own for a no-op, for a poll that ends once its pipe is written to, and for the update of one that waits. */
+/* A call of its own for a no-op, for a poll that ends once its pipe is written to, and for the
+ * update of one that waits. */
 static void make_calls(struct ring *ring, const int *ends, unsigned calls)
 {
     char byte;

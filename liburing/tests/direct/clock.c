@@ -1,4 +1,5 @@
-/* Under WULGACH_TIME=real timeouts, linked ones and the limits of calls last as long as they say, and a wait lasts until a signal comes; else an hour takes no time.
+/* Under WULGACH_TIME=real timeouts, linked ones and the limits of calls last as long as they say,
+ * and a wait lasts until a signal comes; else an hour takes no time.
  *
  *   clock
  */
@@ -59,7 +60,8 @@ static void test_linked(void)
     close_ring(&ring);
 }
 
-/* A write that has started can't be cancelled: it ends with what it wrote, whenever the time of its timeout is over. */
+/* A write that has started can't be cancelled: it ends with what it wrote, whenever the time of its
+ * timeout is over. */
 static void test_linked_to_write(void)
 {
     struct __kernel_timespec time = {.tv_nsec = MILLISECOND};
@@ -118,6 +120,8 @@ static void test_signal(void)
 
 int main(int count, char **words)
 {
-    static const struct named tests[] = {{"timeout", test_timeout}, {"limit", test_limit}, {"linked", test_linked}, {"linked to a write", test_linked_to_write}, {"cancelled late", test_cancelled_late}, {"signal", test_signal}};
+    static const struct named tests[] = {{"timeout", test_timeout}, {"limit", test_limit},
+        {"linked", test_linked}, {"linked to a write", test_linked_to_write},
+        {"cancelled late", test_cancelled_late}, {"signal", test_signal}};
     return run_tests(tests, sizeof tests / sizeof *tests, count > 1 ? words[1] : NULL);
 }

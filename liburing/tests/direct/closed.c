@@ -1,5 +1,6 @@
-/* Tests of descriptors that are closed, by direct calls: while a request waits for them or hasn't been carried out, and by the ring itself. All hold
- * under every policy, which the environment says.
+/* Tests of descriptors that are closed, by direct calls: while a request waits for them or hasn't
+ * been carried out, and by the ring itself. All hold under every policy, which the environment
+ * says.
  *
  *   closed [NAME]            with a name: that test alone
  */
@@ -15,7 +16,8 @@
 /* How the last descriptor of a pipe's end for writing goes. */
 enum last { REGISTERED, KEPT, IN_THE_RING, LINKED, LASTS };
 
-/* Has the end for writing be closed within the next call, which submits so many requests, with the user data 2 on. */
+/* Has the end for writing be closed within the next call, which submits so many requests, with the
+ * user data 2 on. */
 static unsigned put_last(struct ring *ring, enum last last, int end)
 {
     if (last == IN_THE_RING) {
@@ -25,7 +27,8 @@ static unsigned put_last(struct ring *ring, enum last last, int end)
     if (last == REGISTERED)
         check(register_at(ring->fd, IORING_REGISTER_FILES, &end, 1) == 0);
     put_poll(ring, 3, last == REGISTERED ? 0 : end, POLLPRI, 0);
-    ring->entries[(*sq_word(ring, ring->params.sq_off.tail) - 1) & (ring->params.sq_entries - 1)].flags = last == REGISTERED ? IOSQE_FIXED_FILE : 0;
+    ring->entries[(*sq_word(ring, ring->params.sq_off.tail) - 1) & (ring->params.sq_entries - 1)]
+        .flags = last == REGISTERED ? IOSQE_FIXED_FILE : 0;
     check(enter(ring, 1, 0, 0) == 1);
     settle(ring);
     check(close(end) == 0);
@@ -38,7 +41,8 @@ static unsigned put_last(struct ring *ring, enum last last, int end)
     return last == LINKED ? 2 : 1;
 }
 
-/* The last descriptor of a pipe's end goes within a call: who reads from the other is told in that call. */
+/* The last descriptor of a pipe's end goes within a call: who reads from the other is told in that
+ * call. */
 static void test_last_end(void)
 {
     for (enum last last = 0; last < LASTS; last++) {
@@ -65,7 +69,8 @@ static void test_last_end(void)
     }
 }
 
-/* A poll that goes on keeps its file open: it is told of what comes after the close of the program's own descriptor. */
+/* A poll that goes on keeps its file open: it is told of what comes after the close of the
+ * program's own descriptor. */
 static void test_kept_by_a_poll(void)
 {
     struct ring ring;
@@ -114,7 +119,8 @@ static void *close_later(void *of)
     return NULL;
 }
 
-/* A call that has submitted a read sleeps, and another thread closes its descriptor: it reads what it was submitted for. */
+/* A call that has submitted a read sleeps, and another thread closes its descriptor: it reads what
+ * it was submitted for. */
 static void test_closed_in_a_sleep(void)
 {
     for (enum instead instead = 0; instead < INSTEADS; instead++) {
@@ -136,8 +142,8 @@ static void test_closed_in_a_sleep(void)
     }
 }
 
-/* The program closes a descriptor of which it has submitted a transfer, and opens another file, or the ring does that in the same call: the transfer is
- * one of what it was submitted for. */
+/* The program closes a descriptor of which it has submitted a transfer, and opens another file, or
+ * the ring does that in the same call: the transfer is one of what it was submitted for. */
 enum { NUMBER_IS_TAKEN = 1, RING_CLOSES = 2, IS_WRITE = 4, WAYS = 8 };
 
 static int make_named(const char *bytes)
@@ -154,7 +160,8 @@ static void test_closed_after_a_submission(void)
         char text[5] = "mine", found[5] = "";
         int fd = make_named("file"), again = dup(fd), other = make_named("none"), taken = -1;
         make_ring(&ring, 4, 0, 0);
-        put_transfer(&ring, way & IS_WRITE ? IORING_OP_WRITE : IORING_OP_READ, 1, 0, fd, text, 4, 0);
+        put_transfer(
+            &ring, way & IS_WRITE ? IORING_OP_WRITE : IORING_OP_READ, 1, 0, fd, text, 4, 0);
         if (way & RING_CLOSES)
             put_plain(&ring, IORING_OP_CLOSE, 2, fd);
         unsigned count = way & RING_CLOSES ? 2 : 1;
@@ -170,7 +177,8 @@ static void test_closed_after_a_submission(void)
             check(seen.res == (seen.user_data == 1 ? 4 : 0));
         }
         check(way & IS_WRITE || memcmp(text, "file", 4) == 0);
-        check(pread(again, found, 4, 0) == 4 && strcmp(found, way & IS_WRITE ? "mine" : "file") == 0);
+        check(
+            pread(again, found, 4, 0) == 4 && strcmp(found, way & IS_WRITE ? "mine" : "file") == 0);
         check(pread(other, found, 4, 0) == 4 && strcmp(found, "none") == 0);
         close_ring(&ring);
         close(again);
@@ -242,7 +250,10 @@ static pid_t lock_in_child(int fd, int *until)
     pid_t child = fork();
     if (child == 0) {
         close(ends[1]);
-        _exit(fcntl(fd, F_SETLK, &lock) == 0 && write(said[1], "x", 1) == 1 && read(ends[0], &byte, 1) == 0 ? 0 : 1);
+        _exit(fcntl(fd, F_SETLK, &lock) == 0 && write(said[1], "x", 1) == 1 &&
+                      read(ends[0], &byte, 1) == 0
+                  ? 0
+                  : 1);
     }
     check(read(said[0], &byte, 1) == 1);
     close(said[0]), close(said[1]), close(ends[0]);
@@ -250,11 +261,13 @@ static pid_t lock_in_child(int fd, int *until)
     return child;
 }
 
-/* A registered file that goes leaves the program's locks on it, which go with any descriptor of the program's own. */
+/* A registered file that goes leaves the program's locks on it, which go with any descriptor of the
+ * program's own. */
 static void test_locks(void)
 {
     struct ring ring;
-    struct flock lock = {.l_type = F_RDLCK, .l_whence = SEEK_SET}, none = {.l_type = F_UNLCK, .l_whence = SEEK_SET};
+    struct flock lock = {.l_type = F_RDLCK, .l_whence = SEEK_SET},
+                 none = {.l_type = F_UNLCK, .l_whence = SEEK_SET};
     int fd = make_named("file"), until = -1, status;
     make_ring(&ring, 4, 0, 0);
     for (int round = 0; round < 4; round++) {

@@ -1,5 +1,7 @@
-/* Tests of what a process may be confined to, by direct calls: that it may open nothing more, has ended its first thread, or is stopped in a wait; and what its
- * signals do to that. What is expected is what a real ring of Linux 6.18 was seen to do. All hold under every policy. Each runs in a process of its own.
+/* Tests of what a process may be confined to, by direct calls: that it may open nothing more, has
+ * ended its first thread, or is stopped in a wait; and what its signals do to that. What is
+ * expected is what a real ring of Linux 6.18 was seen to do. All hold under every policy. Each runs
+ * in a process of its own.
  *
  *   confined [NAME]          with a name: that test alone
  */
@@ -150,7 +152,8 @@ static void receive_shut_with_none_of_its_own(void)
     struct sockaddr_in address = {.sin_family = AF_INET, .sin_addr.s_addr = htonl(INADDR_LOOPBACK)};
     socklen_t size = sizeof address;
     int fd = socket(AF_INET, SOCK_DGRAM, 0);
-    check(bind(fd, (void *)&address, size) == 0 && getsockname(fd, (void *)&address, &size) == 0 && connect(fd, (void *)&address, size) == 0);
+    check(bind(fd, (void *)&address, size) == 0 && getsockname(fd, (void *)&address, &size) == 0 &&
+          connect(fd, (void *)&address, size) == 0);
     receive_shut(fd, 1024);
 }
 
@@ -167,7 +170,8 @@ static void test_few_descriptors(void)
 /* The parameters are told before there is a descriptor. */
 static void set_up_in_vain(void)
 {
-    struct io_uring_params *params = mmap(NULL, 4096, PROT_READ | PROT_WRITE, MAP_PRIVATE | MAP_ANONYMOUS, -1, 0);
+    struct io_uring_params *params = mmap(
+        NULL, 4096, PROT_READ | PROT_WRITE, MAP_PRIVATE | MAP_ANONYMOUS, -1, 0);
     check(params != MAP_FAILED);
     allow_descriptors(3, 3);
     check(set_up(4, params) == -EMFILE && params->sq_entries == 4 && params->cq_entries == 8);
@@ -213,7 +217,8 @@ static void wait_with_ignored(void (*handler)(int))
 {
     const uint64_t none = 0;
     struct __kernel_timespec time = {.tv_sec = 100};
-    struct io_uring_getevents_arg argument = {.sigmask = (uintptr_t)&none, .sigmask_sz = sizeof none, .ts = (uintptr_t)&time};
+    struct io_uring_getevents_arg argument = {
+        .sigmask = (uintptr_t)&none, .sigmask_sz = sizeof none, .ts = (uintptr_t)&time};
     struct ring ring;
     sigset_t blocked;
     signal(SIGCHLD, handler);
@@ -221,7 +226,9 @@ static void wait_with_ignored(void (*handler)(int))
     sigaddset(&blocked, SIGCHLD);
     check(pthread_sigmask(SIG_BLOCK, &blocked, NULL) == 0 && kill(getpid(), SIGCHLD) == 0);
     make_ring(&ring, 8, 0, 0);
-    check(wulgach_syscall(SYS_io_uring_enter, ring.fd, 0u, 1u, IORING_ENTER_GETEVENTS | IORING_ENTER_EXT_ARG, &argument, sizeof argument) < 0 && errno == EINTR);
+    check(wulgach_syscall(SYS_io_uring_enter, ring.fd, 0u, 1u,
+              IORING_ENTER_GETEVENTS | IORING_ENTER_EXT_ARG, &argument, sizeof argument) < 0 &&
+          errno == EINTR);
 }
 
 static void wait_with_default(void)
@@ -300,7 +307,8 @@ static void open_pipe(const char *name, const char *word)
 {
     check(mkfifo(name, 0600) == 0);
     int both = open(name, O_RDWR), one = open(name, O_RDONLY);
-    check(dup2(both, WRITE_END) == WRITE_END && dup2(one, READ_END) == READ_END && write(both, word, 3) == 3);
+    check(dup2(both, WRITE_END) == WRITE_END && dup2(one, READ_END) == READ_END &&
+          write(both, word, 3) == 3);
     close(both);
     close(one);
     check(unlink(name) == 0);
@@ -315,7 +323,8 @@ static void *read_own(void *none)
     open_pipe("two", "TWO");
     make_ring(&ring, 8, 0, 0);
     put_transfer(&ring, IORING_OP_READ, 0, 0, READ_END, bytes, sizeof bytes, -1);
-    check(enter(&ring, 1, 1, IORING_ENTER_GETEVENTS) == 1 && reap(&ring).res == 3 && strcmp(bytes, "TWO") == 0);
+    check(enter(&ring, 1, 1, IORING_ENTER_GETEVENTS) == 1 && reap(&ring).res == 3 &&
+          strcmp(bytes, "TWO") == 0);
     return NULL;
 }
 
@@ -374,7 +383,8 @@ static void end_first(void)
 static void test_first_has_ended(void)
 {
     char name[] = "confined-file-XXXXXX";
-    check((mapped_file = mkstemp(name)) >= 0 && unlink(name) == 0 && ftruncate(mapped_file, 4096) == 0);
+    check((mapped_file = mkstemp(name)) >= 0 && unlink(name) == 0 &&
+          ftruncate(mapped_file, 4096) == 0);
     expected = register_mapped();
     in_child(end_first);
     close(mapped_file);

@@ -6,7 +6,8 @@
 
 #include <poll.h>
 
-/* Polls of a pipe that nobody writes to, and their user data from this on: so many more at a time, and so many so far. */
+/* Polls of a pipe that nobody writes to, and their user data from this on: so many more at a time,
+ * and so many so far. */
 enum { CROWD = 40, OTHERS = 1000, MOST = 2000 };
 
 static int quiet[2];
@@ -37,7 +38,8 @@ static inline void leave_crowded(struct ring *ring)
     check(write(quiet[1], "x", 1) == 1);
     for (unsigned i = 0; i < crowd; i++) {
         struct seen found = next_of(ring);
-        check(found.user_data >= OTHERS && found.user_data < OTHERS + crowd && found.res == POLLIN && !has_ended[found.user_data - OTHERS]);
+        check(found.user_data >= OTHERS && found.user_data < OTHERS + crowd &&
+              found.res == POLLIN && !has_ended[found.user_data - OTHERS]);
         has_ended[found.user_data - OTHERS] = true;
     }
     check(close(quiet[0]) == 0 && close(quiet[1]) == 0);

@@ -1,5 +1,6 @@
-/* Tests of descriptors that requests wait for, by direct calls: how many there may be, which numbers the layer's own have, what a pipe had that
- * nothing tells of, and what can't be written to, and the ring's own eventfd. All hold under every policy, which the environment says.
+/* Tests of descriptors that requests wait for, by direct calls: how many there may be, which
+ * numbers the layer's own have, what a pipe had that nothing tells of, and what can't be written
+ * to, and the ring's own eventfd. All hold under every policy, which the environment says.
  *
  *   descriptors [NAME]       with a name: that test alone
  */
@@ -20,7 +21,8 @@ static int lowest_free(void)
     return fd;
 }
 
-/* More requests wait for a pipe than the process may have descriptors: a call sleeps, and each ends. */
+/* More requests wait for a pipe than the process may have descriptors: a call sleeps, and each
+ * ends. */
 static void test_more_than_descriptors(void)
 {
     enum { POLLS = 300, DESCRIPTORS = 100 };
@@ -105,7 +107,8 @@ static void write_and_read(const int ends[2])
     check(write(ends[1], "x", 1) == 1 && read(ends[0], &byte, 1) == 1);
 }
 
-/* So many writes to two pipes that nothing tells of one to a third: its poll is told of that all the same. */
+/* So many writes to two pipes that nothing tells of one to a third: its poll is told of that all
+ * the same. */
 static void test_dropped_writes(void)
 {
     struct ring ring;
@@ -139,7 +142,8 @@ static void test_dropped_writes(void)
     close_ring(&ring);
 }
 
-/* A write of no bytes to an eventfd ends with 0, and one of fewer than 8 with an error; so does any to a timerfd or a ring, and none waits. */
+/* A write of no bytes to an eventfd ends with 0, and one of fewer than 8 with an error; so does any
+ * to a timerfd or a ring, and none waits. */
 static void test_unwritable(void)
 {
     struct ring ring, other;
@@ -153,7 +157,8 @@ static void test_unwritable(void)
         check(result_of_one(&ring, 1) == (length == 4 ? -EINVAL : (int)length));
         put_transfer(&ring, IORING_OP_WRITE, 0, 0, timer, &one, length, 0);
         check(result_of_one(&ring, 1) == -EINVAL);
-        if (!getenv("WULGACH_TEST_POLLED"))     /* (another is a file in memory, which can be written) */
+        if (!getenv(
+                "WULGACH_TEST_POLLED")) /* (another is a file in memory, which can be written) */
             continue;
         put_transfer(&ring, IORING_OP_WRITE, 0, 0, other.fd, &one, length, 0);
         check(result_of_one(&ring, 1) == -EINVAL);
@@ -166,8 +171,8 @@ static void test_unwritable(void)
     close_ring(&ring);
 }
 
-/* A poll that goes on, of the eventfd that is registered with its own ring, ends with the first event of which the ring has told it: a completion of the
- * ring's, or of the poll's own event. */
+/* A poll that goes on, of the eventfd that is registered with its own ring, ends with the first
+ * event of which the ring has told it: a completion of the ring's, or of the poll's own event. */
 static void test_own_eventfd(void)
 {
     struct ring ring;
@@ -186,7 +191,9 @@ static void test_own_eventfd(void)
         else
             submit_nop(&ring, 0);
         struct seen first = next_of(&ring), last = next_of(&ring);
-        check(is_written ? first.user_data == 1 && first.res == POLLIN && first.flags == IORING_CQE_F_MORE : first.user_data == 0 && first.res == 0);
+        check(is_written
+                  ? first.user_data == 1 && first.res == POLLIN && first.flags == IORING_CQE_F_MORE
+                  : first.user_data == 0 && first.res == 0);
         check(last.user_data == 1 && last.res == POLLIN && last.flags == 0);
         check(read(counter, &one, sizeof one) == sizeof one);
         one = 1;

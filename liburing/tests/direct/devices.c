@@ -1,6 +1,7 @@
-/* Tests by direct calls of reads by a number that was a file's in memory, and is something else's by now. All hold under every policy, and are run with
- * WULGACH_DEVICES=no too: then such a read is made in order before anything is asked of its descriptor. Each test is a process of its own, which is
- * killed if it sleeps within the layer.
+/* Tests by direct calls of reads by a number that was a file's in memory, and is something else's
+ * by now. All hold under every policy, and are run with WULGACH_DEVICES=no too: then such a read is
+ * made in order before anything is asked of its descriptor. Each test is a process of its own,
+ * which is killed if it sleeps within the layer.
  *
  *   devices [NAME]           with a name: that test alone
  */
@@ -18,7 +19,8 @@ static bool are_none(void)
     return word && strcmp(word, "no") == 0;
 }
 
-/* A ring, and the number of a file in memory of a page, which was read by it often enough that it is known as one. */
+/* A ring, and the number of a file in memory of a page, which was read by it often enough that it
+ * is known as one. */
 static int begin(struct ring *ring)
 {
     char bytes[8];
@@ -36,7 +38,8 @@ static void become(int number, int fd)
     check(fd >= 0 && dup2(fd, number) == number && close(fd) == 0);
 }
 
-/* A stream has no offsets, and is waited for: twice, so that the second read finds what the first has left of what is known. */
+/* A stream has no offsets, and is waited for: twice, so that the second read finds what the first
+ * has left of what is known. */
 static void wait_for_stream(const int *ends, uint64_t offset, unsigned length)
 {
     static const uint64_t given = 'x';
@@ -111,7 +114,8 @@ static void test_offset(void)
     close_ring(&ring);
 }
 
-/* What it is by now is read: another file, in memory or not, a folder, a device, and what isn't open, or isn't open for that. */
+/* What it is by now is read: another file, in memory or not, a folder, a device, and what isn't
+ * open, or isn't open for that. */
 static void test_others(void)
 {
     struct ring ring;
@@ -119,7 +123,8 @@ static void test_others(void)
     int number = begin(&ring), other = make_file();
     check(pwrite(other, "others", 6, 0) == 6);
     become(number, other);
-    check(read_at(&ring, number, bytes, 6, 0) == 6 && memcmp(bytes, "others", 6) == 0 && read_at(&ring, number, bytes, 6, 6) == 0);
+    check(read_at(&ring, number, bytes, 6, 0) == 6 && memcmp(bytes, "others", 6) == 0 &&
+          read_at(&ring, number, bytes, 6, 6) == 0);
     become(number, open("/proc/self/exe", O_RDONLY | O_CLOEXEC));
     check(read_at(&ring, number, bytes, 3, 1) == 3 && memcmp(bytes, "ELF", 3) == 0);
     become(number, open("/", O_RDONLY | O_DIRECTORY | O_CLOEXEC));
@@ -137,8 +142,7 @@ static void test_others(void)
 /* From here on who asks for a file's seals is ended. */
 static void refuse_seals(void)
 {
-    FILTER(
-        BPF_STMT(BPF_LD | BPF_W | BPF_ABS, offsetof(struct seccomp_data, nr)),
+    FILTER(BPF_STMT(BPF_LD | BPF_W | BPF_ABS, offsetof(struct seccomp_data, nr)),
         BPF_JUMP(BPF_JMP | BPF_JEQ | BPF_K, SYS_fcntl, 0, 3),
         BPF_STMT(BPF_LD | BPF_W | BPF_ABS, offsetof(struct seccomp_data, args[1])),
         BPF_JUMP(BPF_JMP | BPF_JEQ | BPF_K, F_GET_SEALS, 0, 1),

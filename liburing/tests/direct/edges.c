@@ -1,5 +1,6 @@
-/* Tests of who waits for the edges of a ring's descriptor that polls (EPOLLET), by direct calls. All hold under every policy. They are run with
- * WULGACH_TEST_POLLED, and with WULGACH_EDGES=no too: then nobody is told of a completion that comes while the descriptor is readable.
+/* Tests of who waits for the edges of a ring's descriptor that polls (EPOLLET), by direct calls.
+ * All hold under every policy. They are run with WULGACH_TEST_POLLED, and with WULGACH_EDGES=no
+ * too: then nobody is told of a completion that comes while the descriptor is readable.
  *
  *   edges [NAME]             with a name: that test alone
  */
@@ -40,15 +41,16 @@ static int count_told(int loop, int patience)
     return epoll_wait(loop, &found, 1, patience);
 }
 
-/* It is told of what there is as it begins to wait, once, and then of each call that posts, where a completion is reaped after each, as `is_reaping`
- * says, and where none is. */
+/* It is told of what there is as it begins to wait, once, and then of each call that posts, where a
+ * completion is reaped after each, as `is_reaping` says, and where none is. */
 static void hear_calls(struct ring *ring, int loop, bool is_reaping)
 {
     count_told(loop, 0);
     check(count_told(loop, 0) == 0);
     for (int i = 0; i < ROUNDS; i++) {
         post(ring);
-        check(count_told(loop, 0) == is_told_anew() && count_told(loop, 0) == 0 && is_readable(ring, 0));
+        check(count_told(loop, 0) == is_told_anew() && count_told(loop, 0) == 0 &&
+              is_readable(ring, 0));
         while (is_reaping && count_ready(ring) > 0)
             reap(ring);
     }
@@ -142,7 +144,8 @@ static void *sleep_for_edge(void *at)
     return NULL;
 }
 
-/* A thread sleeps, as it has heard all: it is woken by the next call that makes the descriptor readable. */
+/* A thread sleeps, as it has heard all: it is woken by the next call that makes the descriptor
+ * readable. */
 static void test_asleep(void)
 {
     struct ring ring;
@@ -174,7 +177,8 @@ static char receive_byte(int socket)
     return byte;
 }
 
-/* Another process waits for edges: it says what it was told of each call. (where the test fails it ends, as no byte comes) */
+/* Another process waits for edges: it says what it was told of each call. (where the test fails it
+ * ends, as no byte comes) */
 static void hear_for(int socket, int fd)
 {
     int loop = wait_on(fd, EPOLLET);
@@ -226,9 +230,14 @@ union control {
 static void send_descriptor(int socket, int fd)
 {
     char byte = 'd';
-    union control control = {.head = {.cmsg_len = CMSG_LEN(sizeof fd), .cmsg_level = SOL_SOCKET, .cmsg_type = SCM_RIGHTS}};
+    union control control = {
+        .head = {
+            .cmsg_len = CMSG_LEN(sizeof fd), .cmsg_level = SOL_SOCKET, .cmsg_type = SCM_RIGHTS}};
     struct iovec vector = {&byte, 1};
-    struct msghdr message = {.msg_iov = &vector, .msg_iovlen = 1, .msg_control = &control, .msg_controllen = sizeof control};
+    struct msghdr message = {.msg_iov = &vector,
+        .msg_iovlen = 1,
+        .msg_control = &control,
+        .msg_controllen = sizeof control};
     memcpy(CMSG_DATA(&control.head), &fd, sizeof fd);
     check(sendmsg(socket, &message, 0) == 1);
 }
@@ -239,7 +248,10 @@ static int receive_descriptor(int socket)
     int fd = -1;
     union control control;
     struct iovec vector = {&byte, 1};
-    struct msghdr message = {.msg_iov = &vector, .msg_iovlen = 1, .msg_control = &control, .msg_controllen = sizeof control};
+    struct msghdr message = {.msg_iov = &vector,
+        .msg_iovlen = 1,
+        .msg_control = &control,
+        .msg_controllen = sizeof control};
     check(recvmsg(socket, &message, 0) == 1 && message.msg_controllen >= CMSG_LEN(sizeof fd));
     memcpy(&fd, CMSG_DATA(&control.head), sizeof fd);
     return fd;

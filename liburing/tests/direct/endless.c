@@ -1,5 +1,6 @@
-/* Tests of requests that once waited without an end, or with work: named pipes that are opened, what isn't ordinary data, and connects. Each is a
- * process of its own. All hold under every policy.
+/* Tests of requests that once waited without an end, or with work: named pipes that are opened,
+ * what isn't ordinary data, and connects. Each is a process of its own. All hold under every
+ * policy.
  *
  *   endless [NAME]           with a name: that test alone
  */
@@ -10,8 +11,8 @@
 #include <sys/resource.h>
 #include <sys/un.h>
 
-/* Urgent data are there or aren't, whatever else is; what a socket was told of errors ends with -11 once there is something else; and a socket that
- * listens has nothing to be read. */
+/* Urgent data are there or aren't, whatever else is; what a socket was told of errors ends with -11
+ * once there is something else; and a socket that listens has nothing to be read. */
 static void test_not_ordinary(void)
 {
     struct ring ring;
@@ -49,8 +50,8 @@ static void put_cancel(struct ring *ring, uint64_t user_data, uint64_t target)
     put_plain(ring, IORING_OP_ASYNC_CANCEL, user_data, -1)->addr = target;
 }
 
-/* Both ends of a named pipe are opened by who waits, whichever comes first, and each waits for the other, also for another process'. One that was opened is as it
- * was asked for. */
+/* Both ends of a named pipe are opened by who waits, whichever comes first, and each waits for the
+ * other, also for another process'. One that was opened is as it was asked for. */
 static void test_opened(void)
 {
     struct ring ring;
@@ -65,7 +66,8 @@ static void test_opened(void)
         check(enter(&ring, 2, 0, 0) == 2);
         reap_all(&ring, 2, fds);
         for (int end = 0; end < 2; end++)
-            check(fds[end] >= 0 && !(fcntl(fds[end], F_GETFL) & O_NONBLOCK) && close(fds[end]) == 0);
+            check(
+                fds[end] >= 0 && !(fcntl(fds[end], F_GETFL) & O_NONBLOCK) && close(fds[end]) == 0);
         put_open(&ring, 0, "fifo", O_CREAT | (i ? O_WRONLY : O_RDONLY));
         check(enter(&ring, 1, 0, 0) == 1 && is_waiting(&ring));
         put_cancel(&ring, 1, 0);
@@ -74,7 +76,7 @@ static void test_opened(void)
         check(fds[0] == -ECANCELED && open("fifo", O_WRONLY | O_NONBLOCK) < 0 && errno == ENXIO);
     }
     struct io_uring_sqe *entry = put_plain(&ring, IORING_OP_OPENAT2, 0, AT_FDCWD);
-    entry->addr = (uintptr_t)"fifo";
+    entry->addr = (uintptr_t) "fifo";
     entry->off = (uintptr_t)&how;
     entry->len = sizeof how;
     entry->flags |= IOSQE_ASYNC;
@@ -93,7 +95,8 @@ static int descriptor_of(const char *path)
     struct stat sought, found;
     check(stat(path, &sought) == 0);
     for (int fd = 0; fd < 1024; fd++)
-        if (fstat(fd, &found) == 0 && found.st_dev == sought.st_dev && found.st_ino == sought.st_ino)
+        if (fstat(fd, &found) == 0 && found.st_dev == sought.st_dev &&
+            found.st_ino == sought.st_ino)
             return fd;
     return -1;
 }
@@ -108,7 +111,8 @@ static int descriptor_of_child(const char *path)
     return WEXITSTATUS(status) - 1;
 }
 
-/* What an open that waits has open already, no child has, and no program that is started; once it has ended, they have it. */
+/* What an open that waits has open already, no child has, and no program that is started; once it
+ * has ended, they have it. */
 static void test_opened_meanwhile(void)
 {
     struct ring ring;
@@ -123,18 +127,20 @@ static void test_opened_meanwhile(void)
         int writer = open("fifo", O_WRONLY | O_NONBLOCK);
         check(writer >= 0);
         fd = next_of(&ring).res;
-        check(fd >= 0 && !(fcntl(fd, F_GETFD) & FD_CLOEXEC) == !closes && close(writer) == 0 && descriptor_of_child("fifo") == fd && close(fd) == 0);
+        check(fd >= 0 && !(fcntl(fd, F_GETFD) & FD_CLOEXEC) == !closes && close(writer) == 0 &&
+              descriptor_of_child("fifo") == fd && close(fd) == 0);
     }
     put_open(&ring, 0, "fifo", O_CREAT | O_RDONLY);
     check(enter(&ring, 1, 0, 0) == 1 && is_waiting(&ring));
     put_cancel(&ring, 1, 0);
-    check(enter(&ring, 1, 0, 0) == 1 && next_of(&ring).res + next_of(&ring).res == -ECANCELED && descriptor_of("fifo") < 0);
+    check(enter(&ring, 1, 0, 0) == 1 && next_of(&ring).res + next_of(&ring).res == -ECANCELED &&
+          descriptor_of("fifo") < 0);
     check(unlink("fifo") == 0 && rmdir(name) == 0);
     close_ring(&ring);
 }
 
-/* What an open that waits is to open was found as it started: its path may name nothing by then, and the folder where that begins be closed, or what else has the
- * number that its entry has. */
+/* What an open that waits is to open was found as it started: its path may name nothing by then,
+ * and the folder where that begins be closed, or what else has the number that its entry has. */
 static void test_found_once(void)
 {
     struct ring ring;
@@ -147,7 +153,8 @@ static void test_found_once(void)
     for (int i = 0; i < 3; i++) {
         check(mkfifo("fifo", 0600) == 0);
         int folder = i == 2 ? ends[0] : open(".", O_RDONLY | O_DIRECTORY);
-        struct io_uring_sqe *entry = put_plain(&ring, i == 1 ? IORING_OP_OPENAT2 : IORING_OP_OPENAT, 0, folder);
+        struct io_uring_sqe *entry = put_plain(
+            &ring, i == 1 ? IORING_OP_OPENAT2 : IORING_OP_OPENAT, 0, folder);
         entry->addr = (uintptr_t)(i == 2 ? path : i == 1 ? "/fifo" : "fifo");
         entry->flags |= IOSQE_ASYNC;
         if (i == 1) {
@@ -161,13 +168,15 @@ static void test_found_once(void)
         int reader = open("other", O_RDONLY | O_NONBLOCK);
         check(reader >= 0 && unlink("other") == 0);
         int fd = next_of(&ring).res;
-        check(fd >= 0 && !(fcntl(fd, F_GETFL) & O_NONBLOCK) && close(fd) == 0 && close(reader) == 0);
+        check(
+            fd >= 0 && !(fcntl(fd, F_GETFL) & O_NONBLOCK) && close(fd) == 0 && close(reader) == 0);
     }
     check(close(ends[0]) == 0 && rmdir(name) == 0);
     close_ring(&ring);
 }
 
-/* What is wrong with the flags or the mode of one that would wait ends it as it does any other. Seen at a ring of Linux 6.18. */
+/* What is wrong with the flags or the mode of one that would wait ends it as it does any other.
+ * Seen at a ring of Linux 6.18. */
 static void test_refused_opens(void)
 {
     struct ring ring;
@@ -177,7 +186,7 @@ static void test_refused_opens(void)
     make_ring(&ring, 8, 0, 0);
     for (int i = 0; i < 2; i++) {
         struct io_uring_sqe *entry = put_plain(&ring, IORING_OP_OPENAT2, 0, AT_FDCWD);
-        entry->addr = (uintptr_t)"fifo";
+        entry->addr = (uintptr_t) "fifo";
         entry->off = (uintptr_t)&hows[i];
         entry->len = sizeof *hows;
         entry->flags |= IOSQE_ASYNC;
@@ -187,13 +196,16 @@ static void test_refused_opens(void)
     close_ring(&ring);
 }
 
-/* Has a folder keep its pipes from others, if that may be said here: it is sticky, and the pipe is another user's (fs.protected_fifos). */
+/* Has a folder keep its pipes from others, if that may be said here: it is sticky, and the pipe is
+ * another user's (fs.protected_fifos). */
 static bool protect_pipe(const char *name, char *before)
 {
     int protection = open("/proc/sys/fs/protected_fifos", O_RDWR);
-    bool is_protected = geteuid() == 0 && protection >= 0 && pread(protection, before, 1, 0) == 1 && (*before != '0' || pwrite(protection, "1", 1, 0) == 1);
+    bool is_protected = geteuid() == 0 && protection >= 0 && pread(protection, before, 1, 0) == 1 &&
+                        (*before != '0' || pwrite(protection, "1", 1, 0) == 1);
     close(protection);
-    return is_protected && chmod(name, 0666) == 0 && chown(name, 65534, 65534) == 0 && chmod(".", 01777) == 0 && chown(".", 1, 1) == 0;
+    return is_protected && chmod(name, 0666) == 0 && chown(name, 65534, 65534) == 0 &&
+           chmod(".", 01777) == 0 && chown(".", 1, 1) == 0;
 }
 
 static void let_protection_be(const char *before)
@@ -202,18 +214,20 @@ static void let_protection_be(const char *before)
     check(protection >= 0 && pwrite(protection, before, 1, 0) == 1 && close(protection) == 0);
 }
 
-/* What its path's own open is refused with ends one that would wait: by how it is to be resolved, and by a folder that keeps its pipes from others. Seen at a
- * ring of Linux 6.18. */
+/* What its path's own open is refused with ends one that would wait: by how it is to be resolved,
+ * and by a folder that keeps its pipes from others. Seen at a ring of Linux 6.18. */
 static void test_refused_paths(void)
 {
     struct ring ring;
-    struct open_how hows[] = {{.flags = O_RDONLY | O_CREAT, .mode = 0600, .resolve = RESOLVE_CACHED}, {.flags = O_WRONLY | O_TRUNC, .resolve = RESOLVE_CACHED}};
+    struct open_how hows[] = {
+        {.flags = O_RDONLY | O_CREAT, .mode = 0600, .resolve = RESOLVE_CACHED},
+        {.flags = O_WRONLY | O_TRUNC, .resolve = RESOLVE_CACHED}};
     char name[] = "/tmp/unwilling-XXXXXX", before;
     check(mkdtemp(name) && chdir(name) == 0 && mkfifo("fifo", 0600) == 0);
     make_ring(&ring, 8, 0, 0);
     for (int i = 0; i < 2; i++) {
         struct io_uring_sqe *entry = put_plain(&ring, IORING_OP_OPENAT2, 0, AT_FDCWD);
-        entry->addr = (uintptr_t)"fifo";
+        entry->addr = (uintptr_t) "fifo";
         entry->off = (uintptr_t)&hows[i];
         entry->len = sizeof *hows;
         check(enter(&ring, 1, 0, 0) == 1 && ends_with(&ring, -EAGAIN));
@@ -231,7 +245,8 @@ static void test_refused_paths(void)
     close_ring(&ring);
 }
 
-/* One with O_DIRECT, which no pipe has, is told so once the other end is open, and leaves nothing open. Seen at a ring of Linux 6.18. */
+/* One with O_DIRECT, which no pipe has, is told so once the other end is open, and leaves nothing
+ * open. Seen at a ring of Linux 6.18. */
 static void test_direct_opens(void)
 {
     struct ring ring;
@@ -248,7 +263,8 @@ static void test_direct_opens(void)
     close_ring(&ring);
 }
 
-/* One that a kernel asks not to wait: to read it is open at once, and to write it finds nobody who reads. */
+/* One that a kernel asks not to wait: to read it is open at once, and to write it finds nobody who
+ * reads. */
 static void test_opened_at_once(void)
 {
     struct ring ring;
@@ -264,12 +280,13 @@ static void test_opened_at_once(void)
     check(fd >= 0 && !(fcntl(fd, F_GETFL) & O_NONBLOCK) && close(fd) == 0);
     int folder = open(".", O_RDONLY | O_DIRECTORY);
     struct io_uring_sqe *entry = put_plain(&ring, IORING_OP_OPENAT2, 0, folder);
-    entry->addr = (uintptr_t)"/fifo";
+    entry->addr = (uintptr_t) "/fifo";
     entry->off = (uintptr_t)&how;
     entry->len = sizeof how;
     check(enter(&ring, 1, 1, IORING_ENTER_GETEVENTS) == 1);
     fd = next_of(&ring).res;
-    check(fd >= 0 && close(fd) == 0 && close(folder) == 0 && unlink("fifo") == 0 && rmdir(name) == 0);
+    check(
+        fd >= 0 && close(fd) == 0 && close(folder) == 0 && unlink("fifo") == 0 && rmdir(name) == 0);
     close_ring(&ring);
 }
 
@@ -300,10 +317,12 @@ static long long processor_time(void)
 {
     struct rusage used;
     check(getrusage(RUSAGE_SELF, &used) == 0);
-    return (used.ru_utime.tv_sec + used.ru_stime.tv_sec) * 1000000LL + used.ru_utime.tv_usec + used.ru_stime.tv_usec;
+    return (used.ru_utime.tv_sec + used.ru_stime.tv_sec) * 1000000LL + used.ru_utime.tv_usec +
+           used.ru_stime.tv_usec;
 }
 
-/* A connect to a local socket that takes no more waits without work, and is made once it takes one. */
+/* A connect to a local socket that takes no more waits without work, and is made once it takes one.
+ */
 static void test_full_backlog(void)
 {
     struct ring ring;

@@ -1,4 +1,5 @@
-/* What tests share beside rings: single requests, completions with their flags, and a list of tests. */
+/* What tests share beside rings: single requests, completions with their flags, and a list of
+ * tests. */
 #ifndef ENGINES_H
 #define ENGINES_H
 
@@ -6,14 +7,16 @@
 
 #include <dirent.h>
 
-static inline struct io_uring_sqe *put_plain(struct ring *ring, uint8_t code, uint64_t user_data, int fd)
+static inline struct io_uring_sqe *put_plain(
+    struct ring *ring, uint8_t code, uint64_t user_data, int fd)
 {
     struct io_uring_sqe *entry = put(ring, code, user_data, 0);
     entry->fd = fd;
     return entry;
 }
 
-static inline void put_poll(struct ring *ring, uint64_t user_data, int fd, uint32_t events, uint32_t how)
+static inline void put_poll(
+    struct ring *ring, uint64_t user_data, int fd, uint32_t events, uint32_t how)
 {
     struct io_uring_sqe *entry = put_plain(ring, IORING_OP_POLL_ADD, user_data, fd);
     entry->poll32_events = events;
@@ -21,7 +24,8 @@ static inline void put_poll(struct ring *ring, uint64_t user_data, int fd, uint3
 }
 
 /* A splice or a tee of at most so many bytes, at the places where its files are. */
-static inline struct io_uring_sqe *put_splice(struct ring *ring, uint8_t code, uint64_t user_data, int from, int to, uint32_t length)
+static inline struct io_uring_sqe *put_splice(
+    struct ring *ring, uint8_t code, uint64_t user_data, int from, int to, uint32_t length)
 {
     struct io_uring_sqe *entry = put_plain(ring, code, user_data, to);
     entry->splice_fd_in = from;
@@ -37,7 +41,8 @@ static inline bool is_by_manual(void)
     return profile && strcmp(profile, "manual") == 0;
 }
 
-/* Submits this many entries, whose user data are 0, 1 and so on, waits for all, and returns the result of the last. */
+/* Submits this many entries, whose user data are 0, 1 and so on, waits for all, and returns the
+ * result of the last. */
 static inline int32_t result_of_one(struct ring *ring, uint32_t count)
 {
     int32_t results[16];
@@ -51,7 +56,8 @@ static inline int32_t result_of_one(struct ring *ring, uint32_t count)
     return results[count - 1];
 }
 
-/* The entry that is staged, whose user data is 0, ends with this fault as it is taken, so that a call stops after it; or it has NO_FAULT. */
+/* The entry that is staged, whose user data is 0, ends with this fault as it is taken, so that a
+ * call stops after it; or it has NO_FAULT. */
 enum { NO_FAULT = 1 };
 
 static inline void expect_entry_fault(struct ring *ring, int32_t fault)
@@ -72,7 +78,8 @@ static inline void submit_nop(struct ring *ring, uint64_t user_data)
     check(enter(ring, 1, 0, 0) == 1);
 }
 
-/* Whether it runs under valgrind, which maps no ring whose descriptor polls, and tells of each address where nothing is. */
+/* Whether it runs under valgrind, which maps no ring whose descriptor polls, and tells of each
+ * address where nothing is. */
 static inline bool is_under_valgrind(void)
 {
     return getenv("WULGACH_TEST_VALGRIND");
@@ -98,7 +105,8 @@ static inline void expect_waiting(struct ring *ring)
     settle(ring);
 }
 
-/* How many names /proc has for the process's descriptors, to be compared with what it was before. */
+/* How many names /proc has for the process's descriptors, to be compared with what it was before.
+ */
 static inline size_t count_descriptors(void)
 {
     size_t count = 0;
@@ -116,7 +124,8 @@ static inline int32_t wait_for_one(struct ring *ring)
     return reap(ring).res;
 }
 
-static inline int32_t read_at(struct ring *ring, int fd, void *bytes, unsigned length, uint64_t offset)
+static inline int32_t read_at(
+    struct ring *ring, int fd, void *bytes, unsigned length, uint64_t offset)
 {
     put_transfer(ring, IORING_OP_READ, 0, 0, fd, bytes, length, offset);
     check(enter(ring, 1, 0, 0) == 1);

@@ -1,5 +1,6 @@
-/* Tests of rings that a thread has by number (IORING_REGISTER_RING_FDS), by direct calls: calls by number, which threads io_uring knows, and what the layer keeps for it.
- * All hold under every policy, which the environment says.
+/* Tests of rings that a thread has by number (IORING_REGISTER_RING_FDS), by direct calls: calls by
+ * number, which threads io_uring knows, and what the layer keeps for it. All hold under every
+ * policy, which the environment says.
  *
  *   enrolled [NAME]          with a name: that test alone
  */
@@ -13,7 +14,8 @@
 
 static long enter_by_number(unsigned number, unsigned to_submit)
 {
-    long result = wulgach_syscall(SYS_io_uring_enter, number, to_submit, to_submit, IORING_ENTER_GETEVENTS | IORING_ENTER_REGISTERED_RING, NULL, (size_t)0);
+    long result = wulgach_syscall(SYS_io_uring_enter, number, to_submit, to_submit,
+        IORING_ENTER_GETEVENTS | IORING_ENTER_REGISTERED_RING, NULL, (size_t)0);
     return result < 0 ? -errno : result;
 }
 
@@ -24,7 +26,8 @@ static void test_rings_by_number(void)
     int file = make_file();
     make_ring(&ring, 8, 0, 0);
     make_ring(&other, 8, 0, 0);
-    struct io_uring_rsrc_update row = {.offset = (unsigned)-1, .data = (uint64_t)ring.fd}, bad = {.offset = 3, .data = (uint64_t)file}, past = {.offset = 16};
+    struct io_uring_rsrc_update row = {.offset = (unsigned)-1, .data = (uint64_t)ring.fd},
+                                bad = {.offset = 3, .data = (uint64_t)file}, past = {.offset = 16};
     check(enter_by_number(0, 0) == -EBADF);
     check(register_at(other.fd, IORING_REGISTER_RING_FDS, &row, 0) == -EINVAL);
     check(register_at(other.fd, IORING_REGISTER_RING_FDS, &row, 17) == -EINVAL);
@@ -73,10 +76,13 @@ static void *know_by_submitting(void *of)
     struct io_uring_sync_cancel_reg nothing = {.addr = 1, .timeout = {-1, -1}};
     check(!is_known() && enter(&rings[0], 0, 0, IORING_ENTER_GETEVENTS) == 0);
     check(register_at(rings[0].fd, IORING_REGISTER_SYNC_CANCEL, &nothing, 1) == -ENOENT);
-    check(enter(&rings[1], 1, 0, 0) == -EBADFD && enter(&rings[2], 1, 0, IORING_ENTER_SQ_WAKEUP) == 1 && !is_known());
-    check(dismiss(&rings[0], &no_row, 1) == 0 && dismiss(&rings[0], (void *)1, 16) == 0 && dismiss(&rings[0], &no_row, 17) == -EINVAL);
+    check(enter(&rings[1], 1, 0, 0) == -EBADFD &&
+          enter(&rings[2], 1, 0, IORING_ENTER_SQ_WAKEUP) == 1 && !is_known());
+    check(dismiss(&rings[0], &no_row, 1) == 0 && dismiss(&rings[0], (void *)1, 16) == 0 &&
+          dismiss(&rings[0], &no_row, 17) == -EINVAL);
     check(enter(&rings[0], 1, 0, 0) == 0 && is_known());
-    check(dismiss(&rings[0], &no_row, 1) == -EINVAL && dismiss(&rings[0], (void *)1, 16) == -EFAULT);
+    check(
+        dismiss(&rings[0], &no_row, 1) == -EINVAL && dismiss(&rings[0], (void *)1, 16) == -EFAULT);
     return NULL;
 }
 
@@ -100,7 +106,8 @@ static void *know_by_set_up(void *of)
     return NULL;
 }
 
-/* A thread becomes known as it makes a ring, asks for a submission or enrolls a ring; and a child isn't by what its parent did. */
+/* A thread becomes known as it makes a ring, asks for a submission or enrolls a ring; and a child
+ * isn't by what its parent did. */
 static void test_known_threads(void)
 {
     static void *(*const ways[])(void *) = {know_by_submitting, know_by_enrolling, know_by_set_up};
@@ -111,7 +118,8 @@ static void test_known_threads(void)
     make_ring(&rings[2], 4, 0, IORING_SETUP_SQPOLL);
     for (size_t i = 0; i < sizeof ways / sizeof *ways; i++) {
         pthread_t thread;
-        check(pthread_create(&thread, NULL, ways[i], rings) == 0 && pthread_join(thread, NULL) == 0);
+        check(
+            pthread_create(&thread, NULL, ways[i], rings) == 0 && pthread_join(thread, NULL) == 0);
     }
     check(is_known());
     pid_t child = fork();
@@ -130,7 +138,8 @@ static bool is_open(int fd)
     return fcntl(fd, F_GETFD) >= 0;
 }
 
-/* The layer's own descriptor of a number's ring may be closed by the program, and be another ring's by then: that stays open as its number is taken back. */
+/* The layer's own descriptor of a number's ring may be closed by the program, and be another ring's
+ * by then: that stays open as its number is taken back. */
 static void test_number_of_another(void)
 {
     enum { MOST = 256 };
@@ -158,7 +167,8 @@ static void test_number_of_another(void)
     close_ring(&other);
 }
 
-/* A program that has all the keys that there are for what threads have of their own (pthread_key_create(3)) keeps what it has by them. */
+/* A program that has all the keys that there are for what threads have of their own
+ * (pthread_key_create(3)) keeps what it has by them. */
 static void use_all_keys(void)
 {
     static pthread_key_t keys[PTHREAD_KEYS_MAX];

@@ -1,5 +1,6 @@
-/* How operations end by Linux's rules that fail, or have nothing to wait for, under each profile, which WULGACH_PROFILE says. All hold under every policy; and
- * Linux's on a real ring, if the kernel gives one and it is built for that.
+/* How operations end by Linux's rules that fail, or have nothing to wait for, under each profile,
+ * which WULGACH_PROFILE says. All hold under every policy; and Linux's on a real ring, if the
+ * kernel gives one and it is built for that.
  */
 #define _GNU_SOURCE
 #include "profile.h"
@@ -10,7 +11,8 @@
 #include <sys/epoll.h>
 #include <sys/eventfd.h>
 
-/* By Linux's rules a failure that the kernel doesn't mark breaks no link, and is skipped as a success is. */
+/* By Linux's rules a failure that the kernel doesn't mark breaks no link, and is skipped as a
+ * success is. */
 static void expect_unmarked(uint8_t code, int fd, int32_t res)
 {
     put(&ring, code, 0, IOSQE_IO_LINK)->fd = fd;
@@ -40,7 +42,8 @@ static void expect_marked(uint8_t code, int fd, int32_t res)
 static void test_unmarked_failures(void)
 {
     begin(0);
-    int unconnected = socket(AF_INET, SOCK_STREAM, 0), path = open("/", O_PATH), for_reading = open("/proc/self/exe", O_RDONLY);
+    int unconnected = socket(AF_INET, SOCK_STREAM, 0), path = open("/", O_PATH),
+        for_reading = open("/proc/self/exe", O_RDONLY);
     check(unconnected >= 0 && path >= 0 && for_reading >= 0);
     expect_unmarked(IORING_OP_FSYNC, ends[0], -EINVAL);
     expect_unmarked(IORING_OP_SYNC_FILE_RANGE, ends[0], -ESPIPE);
@@ -48,7 +51,8 @@ static void test_unmarked_failures(void)
     expect_marked(IORING_OP_SHUTDOWN, ends[0], -ENOTSOCK);
     expect_marked(IORING_OP_FSYNC, -1, -EBADF);
     expect_marked(IORING_OP_FSYNC, path, -EBADF);
-    put_transfer(&ring, IORING_OP_FALLOCATE, 0, IOSQE_IO_LINK | IOSQE_CQE_SKIP_SUCCESS, for_reading, (void *)1, 0, 0);
+    put_transfer(&ring, IORING_OP_FALLOCATE, 0, IOSQE_IO_LINK | IOSQE_CQE_SKIP_SUCCESS, for_reading,
+        (void *)1, 0, 0);
     put(&ring, IORING_OP_NOP, 1, 0);
     submit(2);
     if (is_by_manual())
@@ -79,7 +83,8 @@ static void test_shut_down(void)
     stop();
 }
 
-/* A poll of a file, or of a device without events, ends with what such a one always has, also if it goes on, or with -22. */
+/* A poll of a file, or of a device without events, ends with what such a one always has, also if it
+ * goes on, or with -22. */
 static void expect_unpolled(int fd)
 {
     put_plain(&ring, IORING_OP_POLL_ADD, 0, fd)->poll32_events = POLLIN | POLLPRI;
@@ -112,7 +117,8 @@ static void test_unpolled(void)
     stop();
 }
 
-/* What isn't open, and what is no socket, counts before a buffer that isn't there, and that before the direction of a file. */
+/* What isn't open, and what is no socket, counts before a buffer that isn't there, and that before
+ * the direction of a file. */
 static void expect_unbuffered(uint8_t code, uint8_t flags, int fd, int32_t res)
 {
     struct io_uring_sqe *entry = put_transfer(&ring, code, 0, flags, fd, &byte, 1, 0);
@@ -127,7 +133,8 @@ static void test_unbuffered(void)
     begin(0);
     make_pair(pair);
     for (int is_fixed = 0; is_fixed < 2; is_fixed++) {
-        uint8_t code = is_fixed ? IORING_OP_READ_FIXED : IORING_OP_READ, flags = is_fixed ? 0 : IOSQE_BUFFER_SELECT;
+        uint8_t code = is_fixed ? IORING_OP_READ_FIXED : IORING_OP_READ,
+                flags = is_fixed ? 0 : IOSQE_BUFFER_SELECT;
         int32_t missing = is_fixed ? -EFAULT : -ENOBUFS;
         expect_unbuffered(code, flags, -1, -EBADF);
         expect_unbuffered(code, flags, 999, -EBADF);
@@ -142,27 +149,31 @@ static void test_unbuffered(void)
     stop();
 }
 
-/* A message that asks for a poll first, and isn't to wait, is never polled, whatever its socket has. */
+/* A message that asks for a poll first, and isn't to wait, is never polled, whatever its socket
+ * has. */
 static void test_unpolled_messages(void)
 {
     char bytes[4] = "abc";
     struct iovec part = {bytes, 3};
     struct msghdr message = {.msg_iov = &part, .msg_iovlen = 1};
-    static const uint8_t codes[] = {IORING_OP_RECV, IORING_OP_SEND, IORING_OP_RECVMSG, IORING_OP_SENDMSG};
+    static const uint8_t codes[] = {
+        IORING_OP_RECV, IORING_OP_SEND, IORING_OP_RECVMSG, IORING_OP_SENDMSG};
     int pair[2];
     begin(0);
     check(socketpair(AF_UNIX, SOCK_STREAM, 0, pair) == 0 && write(pair[1], "abc", 3) == 3);
     for (int i = 0; i < 8; i++) {
         uint8_t code = codes[i / 2];
         bool is_plain = i < 4;
-        struct io_uring_sqe *entry = put_transfer(&ring, code, 0, i % 2 ? IOSQE_ASYNC : 0, pair[0], is_plain ? (void *)bytes : &message, is_plain ? 3 : 1, 0);
+        struct io_uring_sqe *entry = put_transfer(&ring, code, 0, i % 2 ? IOSQE_ASYNC : 0, pair[0],
+            is_plain ? (void *)bytes : &message, is_plain ? 3 : 1, 0);
         entry->ioprio = IORING_RECVSEND_POLL_FIRST;
         entry->msg_flags = MSG_DONTWAIT;
         submit(1);
         EXPECT({0, -EAGAIN});
     }
     /* It takes no provided buffer, and finds none missing. */
-    struct io_uring_sqe *entry = put_transfer(&ring, IORING_OP_RECV, 0, IOSQE_BUFFER_SELECT, pair[0], NULL, 3, 0);
+    struct io_uring_sqe *entry = put_transfer(
+        &ring, IORING_OP_RECV, 0, IOSQE_BUFFER_SELECT, pair[0], NULL, 3, 0);
     entry->ioprio = IORING_RECVSEND_POLL_FIRST;
     entry->msg_flags = MSG_DONTWAIT;
     entry->buf_group = 9;
@@ -172,7 +183,8 @@ static void test_unpolled_messages(void)
     stop();
 }
 
-/* A poll that is to go on, and has EPOLLONESHOT among its events, ends with the first, also if its events were updated since. */
+/* A poll that is to go on, and has EPOLLONESHOT among its events, ends with the first, also if its
+ * events were updated since. */
 static void test_one_shot_polls(void)
 {
     for (int is_updated = 0; is_updated < 2; is_updated++) {
@@ -208,7 +220,8 @@ static int32_t connect_to(int fd, const struct sockaddr_in *address)
     return result_of_one(&ring, 1);
 }
 
-/* A connect after one that was refused, on the same socket, is a new one: it is refused too, or succeeds if somebody listens by then. */
+/* A connect after one that was refused, on the same socket, is a new one: it is refused too, or
+ * succeeds if somebody listens by then. */
 static void test_refused_connects(void)
 {
     struct sockaddr_in address;
@@ -233,7 +246,8 @@ static void connect_pair(int type, int pair[2])
         make_tcp_pair(pair);
 }
 
-/* A splice from a socket that has nothing isn't to wait if the socket isn't; from a local stream also by its flag, and by its pipe. */
+/* A splice from a socket that has nothing isn't to wait if the socket isn't; from a local stream
+ * also by its flag, and by its pipe. */
 static void test_splices_that_wait(void)
 {
     enum { PLAIN, BY_SOCKET, BY_FLAG, BY_PIPE };
@@ -244,8 +258,10 @@ static void test_splices_that_wait(void)
             bool waits = way == PLAIN || (way != BY_SOCKET && types[i] != SOCK_STREAM);
             begin(0);
             connect_pair(types[i], pair);
-            check(fcntl(pair[0], F_SETFL, way == BY_SOCKET ? O_NONBLOCK : 0) == 0 && fcntl(ends[1], F_SETFL, way == BY_PIPE ? O_NONBLOCK : 0) == 0);
-            put_splice(&ring, IORING_OP_SPLICE, 0, pair[0], ends[1], 8)->splice_flags = way == BY_FLAG ? SPLICE_F_NONBLOCK : 0;
+            check(fcntl(pair[0], F_SETFL, way == BY_SOCKET ? O_NONBLOCK : 0) == 0 &&
+                  fcntl(ends[1], F_SETFL, way == BY_PIPE ? O_NONBLOCK : 0) == 0);
+            put_splice(&ring, IORING_OP_SPLICE, 0, pair[0], ends[1], 8)
+                ->splice_flags = way == BY_FLAG ? SPLICE_F_NONBLOCK : 0;
             submit(1);
             if (waits) {
                 expect(0, NULL);
@@ -281,7 +297,8 @@ static void test_splice_to_full_socket(void)
     stop();
 }
 
-/* A poll of the eventfd that is registered with its own ring ends in the call in which that is told, which is told of the poll too. */
+/* A poll of the eventfd that is registered with its own ring ends in the call in which that is
+ * told, which is told of the poll too. */
 static void test_own_eventfd(void)
 {
     uint64_t told = 0;
@@ -314,5 +331,7 @@ int main(int count, char **words)
         {"splices that wait", test_splices_that_wait},
         {"splice to a full socket", test_splice_to_full_socket},
     };
-    return are_rings_there() ? run_tests(tests, sizeof tests / sizeof *tests, count > 1 ? words[1] : NULL) : 0;
+    return are_rings_there()
+               ? run_tests(tests, sizeof tests / sizeof *tests, count > 1 ? words[1] : NULL)
+               : 0;
 }

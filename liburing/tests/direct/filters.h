@@ -12,9 +12,12 @@
 static inline void filter_calls(struct sock_filter *lines, size_t count)
 {
     struct sock_fprog filter = {.len = (unsigned short)count, .filter = lines};
-    check(prctl(PR_SET_NO_NEW_PRIVS, 1, 0, 0, 0) == 0 && prctl(PR_SET_SECCOMP, SECCOMP_MODE_FILTER, &filter) == 0);
+    check(prctl(PR_SET_NO_NEW_PRIVS, 1, 0, 0, 0) == 0 &&
+          prctl(PR_SET_SECCOMP, SECCOMP_MODE_FILTER, &filter) == 0);
 }
 
-#define FILTER(...) filter_calls((struct sock_filter[]){__VA_ARGS__}, sizeof((struct sock_filter[]){__VA_ARGS__}) / sizeof(struct sock_filter))
+#define FILTER(...) \
+    filter_calls((struct sock_filter[]){__VA_ARGS__}, \
+        sizeof((struct sock_filter[]){__VA_ARGS__}) / sizeof(struct sock_filter))
 
 #endif

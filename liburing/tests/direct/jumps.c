@@ -1,5 +1,6 @@
-/* Tests by direct calls: a signal's handler that leaves a wait by a jump, or calls in it, and how a thread ends after that. All hold under
- * every policy, and on a real ring. A test that hangs ends by an alarm.
+/* Tests by direct calls: a signal's handler that leaves a wait by a jump, or calls in it, and how a
+ * thread ends after that. All hold under every policy, and on a real ring. A test that hangs ends
+ * by an alarm.
  */
 #define _GNU_SOURCE
 #include "asleep.h"
@@ -11,7 +12,8 @@
 
 /* ---- what is waited for, and whether it is gone ---- */
 
-/* A ring that keeps a pipe's end open, as a registered file, and has a poll outstanding that nothing ends. */
+/* A ring that keeps a pipe's end open, as a registered file, and has a poll outstanding that
+ * nothing ends. */
 struct waited {
     struct ring ring;
     int quiet[2], kept[2];
@@ -27,7 +29,8 @@ static void make_waited(struct waited *waited)
     check(enter(&waited->ring, 1, 0, 0) == 1);
 }
 
-/* Closes it: the other end of its pipe tells once the ring is gone, at the next set-up at the latest. */
+/* Closes it: the other end of its pipe tells once the ring is gone, at the next set-up at the
+ * latest. */
 static void expect_gone(struct waited *waited)
 {
     struct ring other;
@@ -62,7 +65,7 @@ static void jump(int number)
     siglongjmp(back, 1);
 }
 
-static void catch(int number, void (*handler)(int), int flags)
+static void catch (int number, void (*handler)(int), int flags)
 {
     struct sigaction action = {.sa_handler = handler, .sa_flags = flags};
     check(sigaction(number, &action, NULL) == 0);
@@ -94,7 +97,7 @@ __attribute__((noinline)) static void fill_stack(struct ring *ring)
 static void test_left(void)
 {
     struct waited waited;
-    catch(SIGUSR1, jump, 0);
+    catch (SIGUSR1, jump, 0);
     make_waited(&waited);
     leave_wait(&waited.ring, SIGUSR1);
     fill_stack(NULL);
@@ -106,7 +109,7 @@ static void test_left(void)
 static void test_left_for_deeper(void)
 {
     struct waited waited;
-    catch(SIGUSR1, jump, 0);
+    catch (SIGUSR1, jump, 0);
     make_waited(&waited);
     leave_wait(&waited.ring, SIGUSR1);
     fill_stack(&waited.ring);
@@ -117,7 +120,7 @@ static void test_left_for_deeper(void)
 static void test_left_often(void)
 {
     struct waited waited;
-    catch(SIGUSR1, jump, 0);
+    catch (SIGUSR1, jump, 0);
     make_waited(&waited);
     leave_wait(&waited.ring, SIGUSR1);
     expect_good(&waited);
@@ -142,11 +145,12 @@ static void test_left_beside_thread(void)
     struct waited waited;
     pthread_t thread;
     int32_t results[3];
-    catch(SIGUSR1, jump, 0);
+    catch (SIGUSR1, jump, 0);
     make_waited(&waited);
     leave_wait(&waited.ring, SIGUSR1);
     fill_stack(NULL);
-    check(pthread_create(&thread, NULL, submit_in_thread, &waited.ring) == 0 && pthread_join(thread, NULL) == 0);
+    check(pthread_create(&thread, NULL, submit_in_thread, &waited.ring) == 0 &&
+          pthread_join(thread, NULL) == 0);
     reap_all(&waited.ring, 3, results);
     expect_gone(&waited);
 }
@@ -179,16 +183,17 @@ static void expect_interrupted(struct waited *waited)
     check(has_signalled(child));
 }
 
-/* A handler that waits too, and returns; or waits, and leaves that wait by a jump, and returns. The outer wait goes on. */
+/* A handler that waits too, and returns; or waits, and leaves that wait by a jump, and returns. The
+ * outer wait goes on. */
 static void test_wait_in_wait(void)
 {
     void (*const handlers[])(int) = {wait_in_handler, leave_in_handler};
-    catch(SIGUSR2, jump, 0);
+    catch (SIGUSR2, jump, 0);
     for (int i = 0; i < 2; i++) {
         struct waited waited;
         make_waited(&waited);
         make_waited(&inner);
-        catch(SIGUSR1, handlers[i], 0);
+        catch (SIGUSR1, handlers[i], 0);
         expect_interrupted(&waited);
         expect_good(&waited);
         expect_good(&inner);
@@ -211,9 +216,9 @@ static void test_other_stack(void)
         make_waited(&waited);
         make_waited(&inner);
         check(sigaltstack(&stack, &before) == 0);
-        catch(SIGUSR1, wait_in_handler, SA_ONSTACK);
+        catch (SIGUSR1, wait_in_handler, SA_ONSTACK);
         expect_interrupted(&waited);
-        catch(SIGUSR1, jump, SA_ONSTACK);
+        catch (SIGUSR1, jump, SA_ONSTACK);
         leave_wait(&waited.ring, SIGUSR1);
         expect_good(&waited);
         check(sigaltstack(&before, NULL) == 0);
@@ -244,7 +249,7 @@ static void test_stack_is_gone(void)
     makecontext(&own, wait_on_own_stack, 0);
     make_waited(&waited);
     of_own_stack = &waited;
-    catch(SIGUSR1, jump, 0);
+    catch (SIGUSR1, jump, 0);
     volatile pid_t child;
     if (sigsetjmp(back, 1) == 0) {
         may_jump = 1;
@@ -277,8 +282,9 @@ static void test_thread_ends(void)
         struct waited waited;
         pthread_t thread;
         make_waited(&waited);
-        catch(SIGUSR1, handlers[i], 0);
-        check(pthread_create(&thread, NULL, leave_and_end, &waited.ring) == 0 && pthread_join(thread, NULL) == 0);
+        catch (SIGUSR1, handlers[i], 0);
+        check(pthread_create(&thread, NULL, leave_and_end, &waited.ring) == 0 &&
+              pthread_join(thread, NULL) == 0);
         expect_gone(&waited);
     }
 }
@@ -301,7 +307,7 @@ static void test_cancelled_after(void)
     pthread_t thread;
     void *result;
     make_waited(&waited);
-    catch(SIGUSR1, jump, 0);
+    catch (SIGUSR1, jump, 0);
     check(pthread_create(&thread, NULL, leave_and_stay, &waited.ring) == 0);
     check(pthread_cancel(thread) == 0);
     check(pthread_join(thread, &result) == 0);
@@ -312,11 +318,14 @@ static void test_cancelled_after(void)
 static void *allow_after(void *ring)
 {
     int state, type;
-    check(pthread_setcancelstate(PTHREAD_CANCEL_DISABLE, NULL) == 0 && pthread_setcanceltype(PTHREAD_CANCEL_ASYNCHRONOUS, NULL) == 0);
+    check(pthread_setcancelstate(PTHREAD_CANCEL_DISABLE, NULL) == 0 &&
+          pthread_setcanceltype(PTHREAD_CANCEL_ASYNCHRONOUS, NULL) == 0);
     leave_wait(ring, SIGUSR1);
-    check(pthread_setcancelstate(PTHREAD_CANCEL_ENABLE, NULL) == 0 && pthread_setcanceltype(PTHREAD_CANCEL_DEFERRED, NULL) == 0);
+    check(pthread_setcancelstate(PTHREAD_CANCEL_ENABLE, NULL) == 0 &&
+          pthread_setcanceltype(PTHREAD_CANCEL_DEFERRED, NULL) == 0);
     check(enter(ring, 0, 0, 0) == 0);
-    check(pthread_setcancelstate(PTHREAD_CANCEL_ENABLE, &state) == 0 && pthread_setcanceltype(PTHREAD_CANCEL_DEFERRED, &type) == 0);
+    check(pthread_setcancelstate(PTHREAD_CANCEL_ENABLE, &state) == 0 &&
+          pthread_setcanceltype(PTHREAD_CANCEL_DEFERRED, &type) == 0);
     check(state == PTHREAD_CANCEL_ENABLE && type == PTHREAD_CANCEL_DEFERRED);
     return NULL;
 }
@@ -327,8 +336,9 @@ static void test_allowed_after(void)
     struct waited waited;
     pthread_t thread;
     make_waited(&waited);
-    catch(SIGUSR1, jump, 0);
-    check(pthread_create(&thread, NULL, allow_after, &waited.ring) == 0 && pthread_join(thread, NULL) == 0);
+    catch (SIGUSR1, jump, 0);
+    check(pthread_create(&thread, NULL, allow_after, &waited.ring) == 0 &&
+          pthread_join(thread, NULL) == 0);
     expect_gone(&waited);
 }
 
@@ -348,7 +358,7 @@ static void test_child_jumps(void)
     struct waited waited;
     int status;
     make_waited(&waited);
-    catch(SIGUSR1, fork_and_jump, 0);
+    catch (SIGUSR1, fork_and_jump, 0);
     may_jump = 1;
     if (sigsetjmp(back, 1) == 0) {
         expect_interrupted(&waited);

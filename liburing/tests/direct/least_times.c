@@ -1,5 +1,6 @@
-/* Tests of waits with a least time (`min_wait_usec`, IORING_FEAT_MIN_TIMEOUT), after which one completion is enough, by direct calls. All hold under every
- * policy, which the environment says, in virtual and in real time, and on a real ring of Linux 6.18.
+/* Tests of waits with a least time (`min_wait_usec`, IORING_FEAT_MIN_TIMEOUT), after which one
+ * completion is enough, by direct calls. All hold under every policy, which the environment says,
+ * in virtual and in real time, and on a real ring of Linux 6.18.
  *
  *   least_times [NAME]       with a name: that test alone
  */
@@ -21,9 +22,9 @@ struct argument {
 };
 
 static struct ring ring;
-static int ends[2];     /* of a pipe */
-static int64_t start;   /* of the last wait */
-static unsigned found;  /* how many completions were there as it returned */
+static int ends[2]; /* of a pipe */
+static int64_t start; /* of the last wait */
+static unsigned found; /* how many completions were there as it returned */
 
 static void begin(void)
 {
@@ -41,9 +42,11 @@ static void stop(void)
 static long wait_for(unsigned to_submit, unsigned count, int64_t least, int64_t limit)
 {
     struct __kernel_timespec time = {limit / 1000000000, limit % 1000000000};
-    struct argument argument = {.min_wait_usec = (uint32_t)(least / MICROSECOND), .ts = limit == never ? 0 : (uintptr_t)&time};
+    struct argument argument = {.min_wait_usec = (uint32_t)(least / MICROSECOND),
+        .ts = limit == never ? 0 : (uintptr_t)&time};
     start = real_time();
-    long result = wulgach_syscall(SYS_io_uring_enter, ring.fd, to_submit, count, IORING_ENTER_GETEVENTS | IORING_ENTER_EXT_ARG, &argument, sizeof argument);
+    long result = wulgach_syscall(SYS_io_uring_enter, ring.fd, to_submit, count,
+        IORING_ENTER_GETEVENTS | IORING_ENTER_EXT_ARG, &argument, sizeof argument);
     int error = errno;
     found = count_ready(&ring);
     return result < 0 ? -error : result;
@@ -63,7 +66,8 @@ static void *write_later(void *bytes)
 }
 
 /* Waits while another thread writes so many bytes after 40 milliseconds. */
-static long wait_meanwhile(size_t bytes, unsigned to_submit, unsigned count, int64_t least, int64_t limit)
+static long wait_meanwhile(
+    size_t bytes, unsigned to_submit, unsigned count, int64_t least, int64_t limit)
 {
     pthread_t thread;
     check(pthread_create(&thread, NULL, write_later, (void *)bytes) == 0);
@@ -72,7 +76,7 @@ static long wait_meanwhile(size_t bytes, unsigned to_submit, unsigned count, int
     return result;
 }
 
-static _Atomic bool is_over;     /* the wait beside another thread */
+static _Atomic bool is_over; /* the wait beside another thread */
 
 static void *write_behind(void *none)
 {
@@ -95,21 +99,26 @@ static long wait_before(unsigned to_submit, unsigned count, int64_t least, int64
     return result;
 }
 
-/* Nothing comes: the limit counts once the least time is over, and without one the wait ends then. */
+/* Nothing comes: the limit counts once the least time is over, and without one the wait ends then.
+ */
 static void test_nothing_comes(void)
 {
     begin();
     check(ring.params.features & FEATURE);
-    check(wait_for(0, MANY, 20 * MILLISECOND, never) == -ETIME && has_lasted(start, 20 * MILLISECOND));
+    check(wait_for(0, MANY, 20 * MILLISECOND, never) == -ETIME &&
+          has_lasted(start, 20 * MILLISECOND));
     check(wait_for(0, 1, 20 * MILLISECOND, never) == -ETIME && has_lasted(start, 20 * MILLISECOND));
-    check(wait_for(0, MANY, 20 * MILLISECOND, 60 * MILLISECOND) == -ETIME && has_lasted(start, 60 * MILLISECOND));
-    check(wait_for(0, MANY, 60 * MILLISECOND, 20 * MILLISECOND) == -ETIME && has_lasted(start, 60 * MILLISECOND));
+    check(wait_for(0, MANY, 20 * MILLISECOND, 60 * MILLISECOND) == -ETIME &&
+          has_lasted(start, 60 * MILLISECOND));
+    check(wait_for(0, MANY, 60 * MILLISECOND, 20 * MILLISECOND) == -ETIME &&
+          has_lasted(start, 60 * MILLISECOND));
     check(wait_for(0, MANY, 20 * MILLISECOND, 0) == -ETIME && has_lasted(start, 20 * MILLISECOND));
     check(wait_for(0, 0, 20 * MILLISECOND, never) == 0);
     stop();
 }
 
-/* One completion that is there, or comes of what the call submits, is enough after the least time and not before, whatever the limit. */
+/* One completion that is there, or comes of what the call submits, is enough after the least time
+ * and not before, whatever the limit. */
 static void test_one_is_there(void)
 {
     static const int64_t limits[] = {never, 0, 10 * MILLISECOND, 3600ll * 1000 * MILLISECOND};
@@ -124,7 +133,8 @@ static void test_one_is_there(void)
     stop();
 }
 
-/* One that comes after the least time ends the wait at once; without a limit that is over by then. */
+/* One that comes after the least time ends the wait at once; without a limit that is over by then.
+ */
 static void test_one_comes_later(void)
 {
     begin();
@@ -162,7 +172,9 @@ static void test_timeouts(void)
     for (int ends_later = 0; ends_later < 2; ends_later++) {
         struct __kernel_timespec time = {.tv_nsec = 20 * MILLISECOND};
         put_transfer(&ring, IORING_OP_TIMEOUT, 1, 0, -1, &time, 1, 0);
-        check(wait_for(1, MANY, (ends_later ? 5 : 3600 * 1000) * (int64_t)MILLISECOND, 3600ll * 1000 * MILLISECOND) == 1 && has_lasted(start, 20 * MILLISECOND));
+        check(wait_for(1, MANY, (ends_later ? 5 : 3600 * 1000) * (int64_t)MILLISECOND,
+                  3600ll * 1000 * MILLISECOND) == 1 &&
+              has_lasted(start, 20 * MILLISECOND));
         check(found == 1 && reap(&ring).res == -ETIME);
     }
     stop();
@@ -175,12 +187,17 @@ static void test_faults(void)
     unsigned flags = IORING_ENTER_GETEVENTS | IORING_ENTER_EXT_ARG;
     begin();
     if (!is_under_valgrind()) {
-        check(wulgach_syscall(SYS_io_uring_enter, ring.fd, 0u, 1u, flags, &argument, sizeof argument) == -1 && errno == EFAULT);
+        check(wulgach_syscall(
+                  SYS_io_uring_enter, ring.fd, 0u, 1u, flags, &argument, sizeof argument) == -1 &&
+              errno == EFAULT);
         put(&ring, IORING_OP_NOP, 5, 0);
-        check(wulgach_syscall(SYS_io_uring_enter, ring.fd, 1u, 3u, flags, &argument, sizeof argument) == 1);
+        check(wulgach_syscall(
+                  SYS_io_uring_enter, ring.fd, 1u, 3u, flags, &argument, sizeof argument) == 1);
         check(next_of(&ring).user_data == 5);
     }
-    check(wulgach_syscall(SYS_io_uring_enter, ring.fd, 0u, 1u, flags, &argument, sizeof argument - 1) == -1 && errno == EINVAL);
+    check(wulgach_syscall(
+              SYS_io_uring_enter, ring.fd, 0u, 1u, flags, &argument, sizeof argument - 1) == -1 &&
+          errno == EINVAL);
     stop();
 }
 
@@ -194,5 +211,7 @@ int main(int count, char **words)
         {"timeouts", test_timeouts},
         {"faults", test_faults},
     };
-    return are_rings_there() ? run_tests(tests, sizeof tests / sizeof *tests, count > 1 ? words[1] : NULL) : 0;
+    return are_rings_there()
+               ? run_tests(tests, sizeof tests / sizeof *tests, count > 1 ? words[1] : NULL)
+               : 0;
 }

@@ -1,5 +1,6 @@
-/* Tests by direct calls of what would end a process by a signal, or leaves it little room: a write past the longest file, a pipe that nobody reads, a trace past its limit, the
- * smallest stack. All hold under every policy.
+/* Tests by direct calls of what would end a process by a signal, or leaves it little room: a write
+ * past the longest file, a pipe that nobody reads, a trace past its limit, the smallest stack. All
+ * hold under every policy.
  *
  *   limits [NAME]            with a name: that test alone
  */
@@ -20,8 +21,9 @@ static bool is_pending(void)
     return sigismember(&pending, SIGXFSZ) == 1;
 }
 
-/* A write past the longest that a file may be, and a FALLOCATE, in 64 bits of a file that has holes, end so and bring no signal. One that the
- * program was sent before, as a process or a thread, stays pending. */
+/* A write past the longest that a file may be, and a FALLOCATE, in 64 bits of a file that has
+ * holes, end so and bring no signal. One that the program was sent before, as a process or a
+ * thread, stays pending. */
 static void test_too_long(void)
 {
     struct ring ring;
@@ -36,19 +38,21 @@ static void test_too_long(void)
     limit = (struct rlimit){1 << 30, before.rlim_max};
     check(setrlimit(RLIMIT_FSIZE, &limit) == 0);
     for (int sent = 0; sent < 3; sent++) {
-        check(sent == 0 || (sent == 1 ? kill(getpid(), SIGXFSZ) : pthread_kill(pthread_self(), SIGXFSZ)) == 0);
+        check(sent == 0 ||
+              (sent == 1 ? kill(getpid(), SIGXFSZ) : pthread_kill(pthread_self(), SIGXFSZ)) == 0);
         put_transfer(&ring, IORING_OP_WRITE, 0, 0, file, "late", 4, 1ULL << 31);
         check(result_of_one(&ring, 1) == -EFBIG && is_pending() == (sent > 0));
         put_transfer(&ring, IORING_OP_FALLOCATE, 0, 0, file, (void *)4, 0, 1ULL << 31);
         check(result_of_one(&ring, 1) == -EFBIG && is_pending() == (sent > 0));
         check(sent == 0 || sigtimedwait(&signals, NULL, &no_time) == SIGXFSZ);
     }
-    check(!is_pending() && setrlimit(RLIMIT_FSIZE, &before) == 0 && sigprocmask(SIG_SETMASK, &own, NULL) == 0);
+    check(!is_pending() && setrlimit(RLIMIT_FSIZE, &before) == 0 &&
+          sigprocmask(SIG_SETMASK, &own, NULL) == 0);
     close(file);
     close_ring(&ring);
 }
 
-static int broken;      /* how often SIGPIPE came */
+static int broken; /* how often SIGPIPE came */
 
 static void count_broken(int signal)
 {
@@ -56,7 +60,8 @@ static void count_broken(int signal)
     broken++;
 }
 
-/* A splice and a tee to what nobody reads, and a write that is to be a worker's, bring no signal; another write does. */
+/* A splice and a tee to what nobody reads, and a write that is to be a worker's, bring no signal;
+ * another write does. */
 static void test_broken_pipe(void)
 {
     struct ring ring;
@@ -93,7 +98,8 @@ static void run_below_a_trace(char *path)
     }
 }
 
-/* A sanitizer's frames are larger, and it can't have a thread with the smallest stack that there is. */
+/* A sanitizer's frames are larger, and it can't have a thread with the smallest stack that there
+ * is. */
 #if defined __SANITIZE_ADDRESS__ || defined __SANITIZE_THREAD__
 enum { STACKS = 64 };
 #else
@@ -115,8 +121,10 @@ static void run_on_a_small_stack(char *path)
 {
     pthread_attr_t small;
     pthread_t thread;
-    check(pthread_attr_init(&small) == 0 && pthread_attr_setstacksize(&small, STACKS * (size_t)sysconf(_SC_THREAD_STACK_MIN)) == 0);
-    check(pthread_create(&thread, &small, use_traced, path) == 0 && pthread_join(thread, NULL) == 0);
+    check(pthread_attr_init(&small) == 0 &&
+          pthread_attr_setstacksize(&small, STACKS * (size_t)sysconf(_SC_THREAD_STACK_MIN)) == 0);
+    check(
+        pthread_create(&thread, &small, use_traced, path) == 0 && pthread_join(thread, NULL) == 0);
 }
 
 /* Runs it in a child, with a path for its traces, and removes these. */

@@ -1,5 +1,5 @@
-/* Tests of linked timeouts and of those with a count, by direct calls: how they end, and what their removals and updates do. All hold under every policy, which the
- * environment says.
+/* Tests of linked timeouts and of those with a count, by direct calls: how they end, and what their
+ * removals and updates do. All hold under every policy, which the environment says.
  *
  *   linked_timeouts [NAME]   with a name: that test alone
  */
@@ -8,8 +8,8 @@
 
 #include <time.h>
 
-/* A read that nobody feeds is limited by a timeout: the chain after them is cancelled. One that is fed isn't, and the chain
- * goes on. */
+/* A read that nobody feeds is limited by a timeout: the chain after them is cancelled. One that is
+ * fed isn't, and the chain goes on. */
 static void test_linked_timeout(void)
 {
     struct ring ring;
@@ -37,7 +37,8 @@ static void test_linked_timeout(void)
     close_ring(&ring);
 }
 
-static struct io_uring_sqe *put_update(struct ring *ring, uint64_t user_data, uint64_t sought, uint32_t flags, const struct __kernel_timespec *time)
+static struct io_uring_sqe *put_update(struct ring *ring, uint64_t user_data, uint64_t sought,
+    uint32_t flags, const struct __kernel_timespec *time)
 {
     struct io_uring_sqe *entry = put(ring, IORING_OP_TIMEOUT_REMOVE, user_data, 0);
     entry->addr = sought;
@@ -46,7 +47,8 @@ static struct io_uring_sqe *put_update(struct ring *ring, uint64_t user_data, ui
     return entry;
 }
 
-/* An update changes the linked timeout with its user data, and looks at nothing else that has that; without IORING_TIMEOUT_UPDATE a timeout is removed. */
+/* An update changes the linked timeout with its user data, and looks at nothing else that has that;
+ * without IORING_TIMEOUT_UPDATE a timeout is removed. */
 static void test_linked_update(void)
 {
     enum { LINKED = IORING_LINK_TIMEOUT_UPDATE | IORING_TIMEOUT_UPDATE };
@@ -79,14 +81,15 @@ static void test_linked_update(void)
         check(found.user_data < 7);
         results[found.user_data] = found.res;
     }
-    check(results[6] == 0 && results[5] == -ECANCELED && results[1] == -ETIME && results[0] == -ECANCELED);
+    check(results[6] == 0 && results[5] == -ECANCELED && results[1] == -ETIME &&
+          results[0] == -ECANCELED);
     close_pair(ends);
     close_pair(others);
     close_ring(&ring);
 }
 
-/* Of two linked timeouts of one user data an update changes the one whose time began first: that of a chain's second member began later than that of a younger
- * chain's first. */
+/* Of two linked timeouts of one user data an update changes the one whose time began first: that of
+ * a chain's second member began later than that of a younger chain's first. */
 static void test_first_linked_update(void)
 {
     struct ring ring;
@@ -120,7 +123,8 @@ static void test_first_linked_update(void)
     }
 }
 
-/* A timeout ends with 0 once as many completions were posted as it counts; one is removed; one is changed. */
+/* A timeout ends with 0 once as many completions were posted as it counts; one is removed; one is
+ * changed. */
 static void test_timeouts(void)
 {
     struct ring ring;
@@ -175,7 +179,8 @@ static void test_count_of_removed(void)
     close_ring(&ring);
 }
 
-/* An update keeps the clock of a timeout, and names none: a time that is over by that clock ends it before another. */
+/* An update keeps the clock of a timeout, and names none: a time that is over by that clock ends it
+ * before another. */
 static void test_updated_clock(void)
 {
     struct ring ring;
@@ -184,7 +189,8 @@ static void test_updated_clock(void)
     make_ring(&ring, 8, 0, IORING_SETUP_SUBMIT_ALL);
     check(clock_gettime(CLOCK_REALTIME, &now) == 0);
     past = (struct __kernel_timespec){now.tv_sec - 5, 0};
-    put_transfer(&ring, IORING_OP_TIMEOUT, 1, 0, -1, &hour, 1, 0)->timeout_flags = IORING_TIMEOUT_REALTIME;
+    put_transfer(&ring, IORING_OP_TIMEOUT, 1, 0, -1, &hour, 1, 0)
+        ->timeout_flags = IORING_TIMEOUT_REALTIME;
     put_transfer(&ring, IORING_OP_TIMEOUT, 2, 0, -1, &minute, 1, 0);
     check(enter(&ring, 2, 0, 0) == 2);
     check(enter_for(&ring, 1, 1000) == -ETIME);
@@ -194,7 +200,10 @@ static void test_updated_clock(void)
     int32_t ends = 0;
     for (int i = 0; i < 3; i++) {
         struct seen found = next_of(&ring);
-        check(found.res == (found.user_data == 3 ? -EINVAL : found.user_data == 4 ? 0 : -ETIME) && found.user_data != 2);
+        check(found.res == (found.user_data == 3      ? -EINVAL
+                               : found.user_data == 4 ? 0
+                                                      : -ETIME) &&
+              found.user_data != 2);
         ends += found.user_data == 1;
     }
     check(ends == 1);

@@ -1,5 +1,5 @@
-/* Tests of rings on which many requests wait, by direct calls: of those the layer doesn't look at each in every call. All hold under every
- * policy, which the environment says.
+/* Tests of rings on which many requests wait, by direct calls: of those the layer doesn't look at
+ * each in every call. All hold under every policy, which the environment says.
  *
  *   many [NAME]              with a name: that test alone
  */
@@ -11,7 +11,8 @@
 #include <sys/socket.h>
 #include <sys/wait.h>
 
-/* Each kind of request ends once its descriptor is ready, and one that goes on has each event once. */
+/* Each kind of request ends once its descriptor is ready, and one that goes on has each event once.
+ */
 static void test_kinds(void)
 {
     struct ring ring;
@@ -64,7 +65,8 @@ static void test_shared(void)
     make_crowded(&ring, 64);
     check(register_at(ring.fd, IORING_REGISTER_FILES, pair, 1) == 0);
     for (unsigned i = 0; i < 4; i++) {
-        put_transfer(&ring, IORING_OP_RECV, i, i < 3 ? IOSQE_FIXED_FILE : 0, i < 3 ? 0 : pair[0], bytes[i], 4, 0);
+        put_transfer(&ring, IORING_OP_RECV, i, i < 3 ? IOSQE_FIXED_FILE : 0, i < 3 ? 0 : pair[0],
+            bytes[i], 4, 0);
         check(enter(&ring, 1, 0, 0) == 1);
     }
     rest(&ring);
@@ -79,7 +81,8 @@ static void test_shared(void)
     leave_crowded(&ring);
 }
 
-static struct io_uring_sqe *put_cancel(struct ring *ring, uint64_t user_data, uint64_t sought, uint32_t flags)
+static struct io_uring_sqe *put_cancel(
+    struct ring *ring, uint64_t user_data, uint64_t sought, uint32_t flags)
 {
     struct io_uring_sqe *entry = put_plain(ring, IORING_OP_ASYNC_CANCEL, user_data, (int)sought);
     entry->addr = flags ? 0 : sought;
@@ -237,7 +240,8 @@ static void *write_later(void *end)
     return NULL;
 }
 
-/* A call that sleeps is woken: by another thread, and by a child, whose end closes nothing of the ring's. */
+/* A call that sleeps is woken: by another thread, and by a child, whose end closes nothing of the
+ * ring's. */
 static void test_woken(void)
 {
     struct ring ring;
@@ -321,7 +325,8 @@ static void test_some(void)
             check(found.user_data < PIPES && found.res == POLLIN && is_written[found.user_data]);
             is_written[found.user_data] = false;
             check(read(ends[found.user_data][0], &byte, 1) == 1);
-            put_plain(&ring, IORING_OP_POLL_ADD, found.user_data, ends[found.user_data][0])->poll32_events = POLLIN;
+            put_plain(&ring, IORING_OP_POLL_ADD, found.user_data, ends[found.user_data][0])
+                ->poll32_events = POLLIN;
         }
         check(enter(&ring, count, 0, 0) == (long)count);
     }

@@ -1,5 +1,6 @@
-/* Tests of memory, by direct calls: which may be registered, how a ring's is mapped, and that a call reads its mask once; and of what a
- * process can't ask. What is expected is what a real ring of Linux 6.18 was seen to do, but where our own rule is named. All hold under every policy.
+/* Tests of memory, by direct calls: which may be registered, how a ring's is mapped, and that a
+ * call reads its mask once; and of what a process can't ask. What is expected is what a real ring
+ * of Linux 6.18 was seen to do, but where our own rule is named. All hold under every policy.
  *
  *   mapped [NAME]            with a name: that test alone
  */
@@ -94,9 +95,11 @@ static void test_memory_of_no_file(void)
     check_kept(&ring, (void *)-(uintptr_t)PAGE, -EOVERFLOW);
     char *half = anonymous(PROT_READ | PROT_WRITE, MAP_PRIVATE);
     check(mprotect(half + PAGE, PAGE, PROT_READ) == 0);
-    check(kept(&ring, half, BOTH) == -EFAULT && kept(&ring, half, PAGE) == 0 && kept_as_ring(&ring, half) == 0);
+    check(kept(&ring, half, BOTH) == -EFAULT && kept(&ring, half, PAGE) == 0 &&
+          kept_as_ring(&ring, half) == 0);
     check(munmap(half + PAGE, PAGE) == 0);
-    check(kept(&ring, half, BOTH) == -EFAULT && kept(&ring, half + PAGE, 1) == -EFAULT && kept(&ring, half + PAGE - 1, 1) == 0);
+    check(kept(&ring, half, BOTH) == -EFAULT && kept(&ring, half + PAGE, 1) == -EFAULT &&
+          kept(&ring, half + PAGE - 1, 1) == 0);
     close_ring(&ring);
 }
 
@@ -105,17 +108,21 @@ static void test_memory_of_files(void)
     struct ring ring;
     struct statfs status;
     int file = make_file(), memory = memfd_create("memory", 0);
-    check(ftruncate(file, BOTH) == 0 && ftruncate(memory, BOTH) == 0 && fstatfs(file, &status) == 0);
+    check(
+        ftruncate(file, BOTH) == 0 && ftruncate(memory, BOTH) == 0 && fstatfs(file, &status) == 0);
     make_ring(&ring, 8, 0, 0);
     /* (where files are kept in memory they may be written so) */
-    check_kept(&ring, mmap(NULL, BOTH, PROT_READ | PROT_WRITE, MAP_SHARED, file, 0), status.f_type == 0x01021994 ? 0 : -EFAULT);
+    check_kept(&ring, mmap(NULL, BOTH, PROT_READ | PROT_WRITE, MAP_SHARED, file, 0),
+        status.f_type == 0x01021994 ? 0 : -EFAULT);
     check_kept(&ring, mmap(NULL, BOTH, PROT_READ | PROT_WRITE, MAP_PRIVATE, file, 0), 0);
     check_kept(&ring, mmap(NULL, BOTH, PROT_READ, MAP_SHARED, file, 0), -EFAULT);
     check_kept(&ring, mmap(NULL, BOTH, PROT_READ, MAP_PRIVATE, file, 0), -EFAULT);
-    check_kept(&ring, mmap(NULL, BOTH, PROT_READ | PROT_WRITE, MAP_PRIVATE, file, 2 * BOTH), -EFAULT);
+    check_kept(
+        &ring, mmap(NULL, BOTH, PROT_READ | PROT_WRITE, MAP_PRIVATE, file, 2 * BOTH), -EFAULT);
     check_kept(&ring, mmap(NULL, BOTH, PROT_READ | PROT_WRITE, MAP_SHARED, memory, 0), 0);
     check_kept(&ring, mmap(NULL, BOTH, PROT_READ, MAP_SHARED, memory, 0), -EFAULT);
-    check_kept(&ring, mmap(NULL, BOTH, PROT_READ | PROT_WRITE, MAP_SHARED, memory, 2 * BOTH), -EFAULT);
+    check_kept(
+        &ring, mmap(NULL, BOTH, PROT_READ | PROT_WRITE, MAP_SHARED, memory, 2 * BOTH), -EFAULT);
     close(file);
     close(memory);
     close_ring(&ring);
@@ -129,7 +136,8 @@ static int make_polled_ring(struct io_uring_params *params)
     return (int)fd;
 }
 
-static long mapped(int fd, void *at, size_t size, int protection, int flags, unsigned long long offset)
+static long mapped(
+    int fd, void *at, size_t size, int protection, int flags, unsigned long long offset)
 {
     void *memory = wulgach_mmap(at, size, protection, flags, fd, (off_t)offset);
     long result = memory == MAP_FAILED ? -errno : 0;
@@ -160,16 +168,25 @@ static void test_mappings(void)
     static const long of_private = IS_REAL ? 0 : -ENODEV;
     char *place = anonymous(PROT_NONE, MAP_PRIVATE);
     int fd = make_polled_ring(&params);
-    static const unsigned long long parts[] = {IORING_OFF_SQ_RING, IORING_OFF_CQ_RING, IORING_OFF_SQES, IORING_OFF_SQES + PAGE};
+    static const unsigned long long parts[] = {
+        IORING_OFF_SQ_RING, IORING_OFF_CQ_RING, IORING_OFF_SQES, IORING_OFF_SQES + PAGE};
     for (size_t i = 0; i < sizeof parts / sizeof *parts; i++) {
-        check(mapped(fd, NULL, PAGE, ALL, MAP_SHARED | MAP_POPULATE, parts[i]) == 0 && mapped(fd, NULL, 1 << 20, ALL, MAP_SHARED_VALIDATE, parts[i]) == 0);
-        check(mapped(fd, place, PAGE, ALL, MAP_SHARED, parts[i]) == -EINVAL && mapped(fd, place, PAGE, ALL, MAP_SHARED | MAP_FIXED, parts[i]) == -EINVAL);
-        check(mapped(fd, NULL, 0, ALL, MAP_SHARED, parts[i]) == -EINVAL && mapped(fd, NULL, PAGE, ALL, MAP_SHARED, parts[i] + 1) == -EINVAL);
-        check(mapped(fd, NULL, PAGE, ALL | PROT_EXEC, MAP_SHARED, parts[i]) == -EPERM && mapped(fd, NULL, PAGE, ALL, 0, parts[i]) == -EINVAL);
-        check(mapped(fd, NULL, PAGE, ALL, MAP_SHARED_VALIDATE | MAP_SYNC, parts[i]) == -EOPNOTSUPP && mapped(fd, NULL, PAGE, ALL, MAP_SHARED | MAP_GROWSDOWN, parts[i]) == -EINVAL);
-        check(mapped(fd, NULL, PAGE, ALL, MAP_PRIVATE, parts[i]) == of_private && mapped(fd, NULL, PAGE, PROT_READ, MAP_PRIVATE, parts[i]) == 0);
+        check(mapped(fd, NULL, PAGE, ALL, MAP_SHARED | MAP_POPULATE, parts[i]) == 0 &&
+              mapped(fd, NULL, 1 << 20, ALL, MAP_SHARED_VALIDATE, parts[i]) == 0);
+        check(mapped(fd, place, PAGE, ALL, MAP_SHARED, parts[i]) == -EINVAL &&
+              mapped(fd, place, PAGE, ALL, MAP_SHARED | MAP_FIXED, parts[i]) == -EINVAL);
+        check(mapped(fd, NULL, 0, ALL, MAP_SHARED, parts[i]) == -EINVAL &&
+              mapped(fd, NULL, PAGE, ALL, MAP_SHARED, parts[i] + 1) == -EINVAL);
+        check(mapped(fd, NULL, PAGE, ALL | PROT_EXEC, MAP_SHARED, parts[i]) == -EPERM &&
+              mapped(fd, NULL, PAGE, ALL, 0, parts[i]) == -EINVAL);
+        check(
+            mapped(fd, NULL, PAGE, ALL, MAP_SHARED_VALIDATE | MAP_SYNC, parts[i]) == -EOPNOTSUPP &&
+            mapped(fd, NULL, PAGE, ALL, MAP_SHARED | MAP_GROWSDOWN, parts[i]) == -EINVAL);
+        check(mapped(fd, NULL, PAGE, ALL, MAP_PRIVATE, parts[i]) == of_private &&
+              mapped(fd, NULL, PAGE, PROT_READ, MAP_PRIVATE, parts[i]) == 0);
     }
-    check(mapped(fd, NULL, PAGE, ALL, MAP_SHARED, 1 << 29) == -ENOMEM && mapped(fd, place, PAGE, ALL, MAP_SHARED, 1 << 29) == -EINVAL);
+    check(mapped(fd, NULL, PAGE, ALL, MAP_SHARED, 1 << 29) == -ENOMEM &&
+          mapped(fd, place, PAGE, ALL, MAP_SHARED, 1 << 29) == -EINVAL);
     check(mapped(fd, NULL, PAGE, ALL, MAP_SHARED | MAP_ANONYMOUS, 1 << 29) == 0);
     check(munmap(place, BOTH) == 0);
     close(fd);
@@ -185,11 +202,18 @@ static void expect_whole_entries(unsigned entries, unsigned flags)
     int fd = (int)made;
     check(made >= 0);
     for (size_t i = 0; i < sizeof parts / sizeof *parts; i++) {
-        check(mapped(fd, NULL, PAGE, ALL, MAP_SHARED, parts[i]) == -EFAULT && mapped(fd, NULL, SIZE - PAGE, PROT_READ, MAP_SHARED | MAP_POPULATE, parts[i]) == -EFAULT);
-        check(mapped(fd, NULL, SIZE - PAGE + 1, ALL, MAP_SHARED, parts[i]) == 0 && mapped(fd, NULL, SIZE, ALL, MAP_SHARED, parts[i]) == 0 && mapped(fd, NULL, 2 * SIZE, ALL, MAP_SHARED, parts[i]) == 0);
-        check(mapped(fd, NULL, PAGE, ALL | PROT_EXEC, MAP_SHARED, parts[i]) == -EPERM && mapped(fd, NULL, PAGE, ALL, 0, parts[i]) == -EINVAL && mapped(fd, NULL, PAGE, ALL, MAP_SHARED | MAP_GROWSDOWN, parts[i]) == -EINVAL);
+        check(mapped(fd, NULL, PAGE, ALL, MAP_SHARED, parts[i]) == -EFAULT &&
+              mapped(fd, NULL, SIZE - PAGE, PROT_READ, MAP_SHARED | MAP_POPULATE, parts[i]) ==
+                  -EFAULT);
+        check(mapped(fd, NULL, SIZE - PAGE + 1, ALL, MAP_SHARED, parts[i]) == 0 &&
+              mapped(fd, NULL, SIZE, ALL, MAP_SHARED, parts[i]) == 0 &&
+              mapped(fd, NULL, 2 * SIZE, ALL, MAP_SHARED, parts[i]) == 0);
+        check(mapped(fd, NULL, PAGE, ALL | PROT_EXEC, MAP_SHARED, parts[i]) == -EPERM &&
+              mapped(fd, NULL, PAGE, ALL, 0, parts[i]) == -EINVAL &&
+              mapped(fd, NULL, PAGE, ALL, MAP_SHARED | MAP_GROWSDOWN, parts[i]) == -EINVAL);
     }
-    check(mapped(fd, NULL, PAGE, ALL, MAP_SHARED, IORING_OFF_SQ_RING) == 0 && mapped(fd, NULL, PAGE, ALL, MAP_SHARED, IORING_OFF_CQ_RING) == 0);
+    check(mapped(fd, NULL, PAGE, ALL, MAP_SHARED, IORING_OFF_SQ_RING) == 0 &&
+          mapped(fd, NULL, PAGE, ALL, MAP_SHARED, IORING_OFF_CQ_RING) == 0);
     close(fd);
 }
 
@@ -199,7 +223,8 @@ static void test_part_of_entries(void)
     expect_whole_entries(128, IORING_SETUP_SQE128);
 }
 
-/* A mapping that is refused says why, also where another ring was closed meanwhile, which the layer then lets go. */
+/* A mapping that is refused says why, also where another ring was closed meanwhile, which the layer
+ * then lets go. */
 static void test_refusals(void)
 {
     struct io_uring_params params = {0};
@@ -218,13 +243,16 @@ static void test_rights(void)
     static const struct {
         int protection;
         const char *rights;
-    } rows[] = {{PROT_READ | PROT_WRITE, "rw-s"}, {PROT_READ, "r--s"}, {PROT_WRITE, "-w-s"}, {PROT_NONE, "---s"}};
+    } rows[] = {{PROT_READ | PROT_WRITE, "rw-s"}, {PROT_READ, "r--s"}, {PROT_WRITE, "-w-s"},
+        {PROT_NONE, "---s"}};
     struct io_uring_params params = {0};
     int fd = make_polled_ring(&params);
     for (size_t i = 0; i < sizeof rows / sizeof *rows; i++) {
-        char *memory = wulgach_mmap(NULL, PAGE, rows[i].protection, MAP_SHARED, fd, IORING_OFF_SQ_RING);
+        char *memory = wulgach_mmap(
+            NULL, PAGE, rows[i].protection, MAP_SHARED, fd, IORING_OFF_SQ_RING);
         check(memory != MAP_FAILED && has_rights(memory, rows[i].rights));
-        check(!(rows[i].protection & PROT_READ) || *(unsigned *)(memory + params.sq_off.ring_entries) == 8);
+        check(!(rows[i].protection & PROT_READ) ||
+              *(unsigned *)(memory + params.sq_off.ring_entries) == 8);
         munmap(memory, PAGE);
     }
     close(fd);
@@ -236,14 +264,15 @@ struct waiter {
     struct ring *ring;
     const void *mask;
     long result;
-    pid_t thread;       /* once it runs */
+    pid_t thread; /* once it runs */
 };
 
 static void *wait_with_mask(void *argument)
 {
     struct waiter *waiter = argument;
     __atomic_store_n(&waiter->thread, gettid(), __ATOMIC_RELEASE);
-    waiter->result = wulgach_syscall(SYS_io_uring_enter, waiter->ring->fd, 0, 1, IORING_ENTER_GETEVENTS, waiter->mask, waiter->mask ? 8 : 0);
+    waiter->result = wulgach_syscall(SYS_io_uring_enter, waiter->ring->fd, 0, 1,
+        IORING_ENTER_GETEVENTS, waiter->mask, waiter->mask ? 8 : 0);
     waiter->result = waiter->result < 0 ? -errno : waiter->result;
     return NULL;
 }
@@ -310,7 +339,8 @@ static void test_unknown_eventfd(void)
 static void test_processors(void)
 {
     for (unsigned number = 0; number < 2; number++) {
-        struct io_uring_params params = {.flags = IORING_SETUP_SQPOLL | IORING_SETUP_SQ_AFF, .sq_thread_cpu = number ? (unsigned)get_nprocs_conf() : 0};
+        struct io_uring_params params = {.flags = IORING_SETUP_SQPOLL | IORING_SETUP_SQ_AFF,
+            .sq_thread_cpu = number ? (unsigned)get_nprocs_conf() : 0};
         long fd = set_up(4, &params);
         check(number ? fd == -EINVAL : fd >= 0);
         if (fd >= 0)

@@ -1,5 +1,5 @@
-/* Tests by direct calls: memory that is refused, by the wrapped malloc, calloc and realloc of this program, and how often memory is asked
- * for to grow. All hold under every policy.
+/* Tests by direct calls: memory that is refused, by the wrapped malloc, calloc and realloc of this
+ * program, and how often memory is asked for to grow. All hold under every policy.
  */
 #define _GNU_SOURCE
 #include "engines.h"
@@ -9,10 +9,11 @@
 #include <sys/socket.h>
 #include <sys/uio.h>
 
-/* So many are allowed, or all if it is negative; then one is refused, or as many as `refusals` says. */
+/* So many are allowed, or all if it is negative; then one is refused, or as many as `refusals`
+ * says. */
 static long allocations_left = -1, refusals;
 enum { LARGE = 16384 };
-static unsigned reallocations;      /* to so much and more */
+static unsigned reallocations; /* to so much and more */
 
 static bool is_allowed(void)
 {
@@ -45,18 +46,19 @@ void *__wrap_realloc(void *at, size_t size)
     return is_allowed() ? __real_realloc(at, size) : NULL;
 }
 
-/* Each allocation of a submission is refused in turn: the call ends with -EAGAIN or takes less, and a later one takes
- * the rest, once. */
+/* Each allocation of a submission is refused in turn: the call ends with -EAGAIN or takes less, and
+ * a later one takes the rest, once. */
 static void test_refused_memory(void)
 {
     for (long allowed = 0; allowed < 40; allowed++) {
         struct ring ring;
         int32_t results[4];
         make_ring(&ring, 4, 0, 0);
-        struct iovec vector = {(void *)(uintptr_t)"x", 1};
+        struct iovec vector = {(void *)(uintptr_t) "x", 1};
         int file = make_file();
         for (unsigned i = 0; i < 4; i++)
-            put_transfer(&ring, IORING_OP_WRITEV, i, i < 3 ? IOSQE_IO_LINK : 0, file, &vector, 1, i);
+            put_transfer(
+                &ring, IORING_OP_WRITEV, i, i < 3 ? IOSQE_IO_LINK : 0, file, &vector, 1, i);
         allocations_left = allowed;
         long result = enter(&ring, 4, 0, 0);
         allocations_left = -1;
@@ -76,7 +78,8 @@ static void test_refused_memory(void)
     }
 }
 
-/* What a call was refused memory for waits, and the next call takes it with what was published since: a chain goes over both. */
+/* What a call was refused memory for waits, and the next call takes it with what was published
+ * since: a chain goes over both. */
 static void test_refused_call(void)
 {
     bool is_refused = true;
@@ -124,8 +127,8 @@ static void test_refused_reaps(void)
     }
 }
 
-/* A message is refused memory at each place, where so many requests wait on the other ring: it is sent or not, and posted once, after
- * what comes before it. */
+/* A message is refused memory at each place, where so many requests wait on the other ring: it is
+ * sent or not, and posted once, after what comes before it. */
 static bool send_refused(unsigned outstanding, long allowed, long refused)
 {
     struct ring ring, other;
@@ -151,7 +154,8 @@ static bool send_refused(unsigned outstanding, long allowed, long refused)
     check(sent == 0 || sent == -ENOMEM);
     submit_nop(&other, 66);
     struct seen first = next_of(&other), second = sent == 0 ? next_of(&other) : first;
-    check(sent == 0 ? first.user_data == 55 && first.res == 77 && second.user_data == 66 : first.user_data == 66);
+    check(sent == 0 ? first.user_data == 55 && first.res == 77 && second.user_data == 66
+                    : first.user_data == 66);
     check(enter(&other, 0, 0, IORING_ENTER_GETEVENTS) == 0 && count_ready(&other) == 0);
     close(ends[0]), close(ends[1]);
     close_ring(&ring);
@@ -159,7 +163,8 @@ static bool send_refused(unsigned outstanding, long allowed, long refused)
     return is_refused;
 }
 
-/* Events of as many polls that go on are refused memory: each comes once, or, where they are cancelled then, before their end. */
+/* Events of as many polls that go on are refused memory: each comes once, or, where they are
+ * cancelled then, before their end. */
 static bool tell_refused(unsigned polls, long allowed, long refused, bool is_cancelled)
 {
     struct ring ring;
@@ -182,13 +187,15 @@ static bool tell_refused(unsigned polls, long allowed, long refused, bool is_can
     allocations_left = -1;
     refusals = 0;
     check(result == 0 || is_refused);
-    struct io_uring_sync_cancel_reg all = {.flags = IORING_ASYNC_CANCEL_ALL | IORING_ASYNC_CANCEL_ANY, .timeout = {-1, -1}};
+    struct io_uring_sync_cancel_reg all = {
+        .flags = IORING_ASYNC_CANCEL_ALL | IORING_ASYNC_CANCEL_ANY, .timeout = {-1, -1}};
     check(!is_cancelled || register_at(ring.fd, IORING_REGISTER_SYNC_CANCEL, &all, 1) >= 0);
     for (unsigned ended = 0; ended < polls;) {
         struct seen found = next_of(&ring);
         unsigned bit = 1u << found.user_data;
         /* Of one that was cancelled no event comes after its end. */
-        check(!(seen & bit) && (found.res == POLLIN) == (found.flags == IORING_CQE_F_MORE) && (is_cancelled || found.res == POLLIN));
+        check(!(seen & bit) && (found.res == POLLIN) == (found.flags == IORING_CQE_F_MORE) &&
+              (is_cancelled || found.res == POLLIN));
         if (found.res == POLLIN && is_cancelled)
             continue;
         seen |= bit;
@@ -210,9 +217,12 @@ static void test_refused_extras(void)
         for (long refused = 1; refused <= 3; refused++) {
             for (long allowed = 0; send_refused(count, allowed, refused); allowed++)
                 continue;
-            for (long allowed = 0; count > 0 && tell_refused(count, allowed, refused, false); allowed++)
+            for (long allowed = 0; count > 0 && tell_refused(count, allowed, refused, false);
+                 allowed++)
                 continue;
-            for (long allowed = 0; count > 0 && tell_refused(count, allowed, refused < 3 ? refused : 1000, true); allowed++)
+            for (long allowed = 0;
+                 count > 0 && tell_refused(count, allowed, refused < 3 ? refused : 1000, true);
+                 allowed++)
                 continue;
         }
     }
@@ -224,7 +234,8 @@ static void test_refused_notice(void)
     struct sockaddr_in address = {.sin_family = AF_INET, .sin_addr.s_addr = htonl(INADDR_LOOPBACK)};
     socklen_t size = sizeof address;
     int listener = socket(AF_INET, SOCK_STREAM, 0), sender = socket(AF_INET, SOCK_STREAM, 0);
-    check(bind(listener, (void *)&address, size) == 0 && listen(listener, 1) == 0 && getsockname(listener, (void *)&address, &size) == 0);
+    check(bind(listener, (void *)&address, size) == 0 && listen(listener, 1) == 0 &&
+          getsockname(listener, (void *)&address, &size) == 0);
     check(connect(sender, (void *)&address, size) == 0);
     int receiver = accept(listener, NULL, NULL);
     for (unsigned count = 0; count < 6; count++) {
@@ -247,7 +258,8 @@ static void test_refused_notice(void)
             check(first.user_data == 9 && first.res == 4 && !(first.flags & IORING_CQE_F_NOTIF));
             if (first.flags & IORING_CQE_F_MORE) {
                 struct seen second = next_of(&ring);
-                check(second.user_data == 9 && second.res == 0 && second.flags == IORING_CQE_F_NOTIF);
+                check(
+                    second.user_data == 9 && second.res == 0 && second.flags == IORING_CQE_F_NOTIF);
             }
             submit_nop(&ring, 66);
             check(next_of(&ring).user_data == 66);
@@ -257,7 +269,8 @@ static void test_refused_notice(void)
     close(listener), close(sender), close(receiver);
 }
 
-/* Where memory is refused at any place as a read begins to wait, who sleeps on the ring's descriptor is woken by what comes, and then sleeps. */
+/* Where memory is refused at any place as a read begins to wait, who sleeps on the ring's
+ * descriptor is woken by what comes, and then sleeps. */
 static void test_refused_readiness(void)
 {
     bool is_refused = !is_under_valgrind();
@@ -287,7 +300,8 @@ static void test_refused_readiness(void)
         unsetenv("WULGACH_TEST_POLLED");
 }
 
-/* Calls of one no-op each, of which none is reaped: tables grow by doubling, or each call would move all that waits. */
+/* Calls of one no-op each, of which none is reaped: tables grow by doubling, or each call would
+ * move all that waits. */
 static void test_growing(void)
 {
     enum { CALLS = 2048, MOST_GROWTHS = 100 };

@@ -1,5 +1,5 @@
-/* Tests of messages between rings, by direct calls: with data, with registered files, and between threads. All hold under
- * every policy, which the environment says.
+/* Tests of messages between rings, by direct calls: with data, with registered files, and between
+ * threads. All hold under every policy, which the environment says.
  *
  *   messages [NAME]          with a name: that test alone
  */
@@ -43,7 +43,9 @@ static void test_messages_of_files(void)
         static const struct {
             uint32_t from, slot, flags;
             int32_t res;
-        } rows[6] = {{0, 1, 0, -ENXIO}, {0, 1, 0, 0}, {0, IORING_FILE_INDEX_ALLOC, IORING_MSG_RING_CQE_SKIP, 1}, {0, IORING_FILE_INDEX_ALLOC, 0, -ENFILE}, {1, 1, 0, -EBADF}, {0, 3, 0, -EINVAL}};
+        } rows[6] = {{0, 1, 0, -ENXIO}, {0, 1, 0, 0},
+            {0, IORING_FILE_INDEX_ALLOC, IORING_MSG_RING_CQE_SKIP, 1},
+            {0, IORING_FILE_INDEX_ALLOC, 0, -ENFILE}, {1, 1, 0, -EBADF}, {0, 3, 0, -EINVAL}};
         struct io_uring_sqe *entry = put_plain(&ring, IORING_OP_MSG_RING, 0, other.fd);
         entry->addr = IORING_MSG_SEND_FD;
         entry->addr3 = rows[i].from;
@@ -135,7 +137,8 @@ static void *exchange(void *argument)
     int64_t sum = 0;
     while (ended + received < 2 * MANY_MESSAGES) {
         if (sent < MANY_MESSAGES) {
-            struct io_uring_sqe *entry = put_plain(&side->ring, IORING_OP_MSG_RING, 1, side->other_fd);
+            struct io_uring_sqe *entry = put_plain(
+                &side->ring, IORING_OP_MSG_RING, 1, side->other_fd);
             entry->len = sent++;
             entry->off = 2;
             check(enter(&side->ring, 1, 0, 0) == 1);

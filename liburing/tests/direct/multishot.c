@@ -1,7 +1,9 @@
-/* Tests of reads that go on, IORING_OP_READ_MULTISHOT, by direct calls: what is read into buffers of a list and of a ring in memory, of pipes, files, counts and sockets. All hold
- * under every policy, which the environment says, and on a real ring of Linux 6.18.
+/* Tests of reads that go on, IORING_OP_READ_MULTISHOT, by direct calls: what is read into buffers
+ * of a list and of a ring in memory, of pipes, files, counts and sockets. All hold under every
+ * policy, which the environment says, and on a real ring of Linux 6.18.
  *
- *   multishot [NAME]         with a name: that test alone. Status 0 also where the kernel makes no rings, or doesn't know the operation
+ *   multishot [NAME]         with a name: that test alone. Status 0 also where the kernel makes no
+ * rings, or doesn't know the operation
  */
 #define _GNU_SOURCE
 #include "multishot.h"
@@ -9,7 +11,8 @@
 #include <sys/eventfd.h>
 #include <sys/socket.h>
 
-/* What comes is read, as much as each buffer has room for, until the writer closes. That end takes no buffer. */
+/* What comes is read, as much as each buffer has room for, until the writer closes. That end takes
+ * no buffer. */
 static void test_pipe(void)
 {
     for (int kind = BY_LIST; kind <= BY_RING; kind++) {
@@ -74,7 +77,7 @@ static void test_offsets(void)
         make_with(&ring, 0, BY_LIST, 4);
         struct io_uring_sqe *entry = put_read(&ring, 1, ends[0], BY_LIST);
         entry->off = offsets[i];
-        entry->rw_flags = 8;        /* RWF_NOWAIT */
+        entry->rw_flags = 8; /* RWF_NOWAIT */
         check(enter(&ring, 1, 0, 0) == 1);
         expect_bytes(&ring, "0123", 0);
         expect_end(&ring, -EAGAIN);
@@ -117,7 +120,10 @@ static void test_counts(void)
         for (uint32_t i = 0; i < 3; i++) {
             check(i < 2 || eventfd_write(fd, 1) == 0);
             struct seen found = next_of(&ring);
-            check(found.res == 8 && found.flags == (IORING_CQE_F_MORE | IORING_CQE_F_BUFFER | i << IORING_CQE_BUFFER_SHIFT) && counts[i] == 1);
+            check(found.res == 8 &&
+                  found.flags ==
+                      (IORING_CQE_F_MORE | IORING_CQE_F_BUFFER | i << IORING_CQE_BUFFER_SHIFT) &&
+                  counts[i] == 1);
             check(i == 0 || (expect_nothing(&ring), true));
         }
         close(fd);

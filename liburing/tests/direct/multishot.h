@@ -1,4 +1,5 @@
-/* What tests of reads that go on share, IORING_OP_READ_MULTISHOT: their buffers, of a list or of a ring in memory, and what is expected of them. */
+/* What tests of reads that go on share, IORING_OP_READ_MULTISHOT: their buffers, of a list or of a
+ * ring in memory, and what is expected of them. */
 #ifndef MULTISHOT_H
 #define MULTISHOT_H
 
@@ -24,9 +25,11 @@ static inline void provide_list(struct ring *ring, int count)
 
 static inline void provide_ring(struct ring *ring, int count)
 {
-    struct io_uring_buf_reg asked = {.ring_addr = (uintptr_t)cells, .ring_entries = MOST, .bgid = BY_RING};
+    struct io_uring_buf_reg asked = {
+        .ring_addr = (uintptr_t)cells, .ring_entries = MOST, .bgid = BY_RING};
     for (int i = 0; i < count; i++)
-        cells->bufs[i] = (struct io_uring_buf){.addr = (uintptr_t)memory[i], .len = SIZE, .bid = (uint16_t)(FIRST + i)};
+        cells->bufs[i] = (struct io_uring_buf){
+            .addr = (uintptr_t)memory[i], .len = SIZE, .bid = (uint16_t)(FIRST + i)};
     __atomic_store_n(&cells->tail, (uint16_t)count, __ATOMIC_RELEASE);
     check(register_at(ring->fd, IORING_REGISTER_PBUF_RING, &asked, 1) == 0);
 }
@@ -61,7 +64,8 @@ static inline void expect_bytes(struct ring *ring, const char *bytes, int buffer
 {
     struct seen found = next_of(ring);
     check(found.user_data == 1 && found.res == (int32_t)strlen(bytes));
-    check(found.flags == (IORING_CQE_F_MORE | IORING_CQE_F_BUFFER | (uint32_t)(FIRST + buffer) << IORING_CQE_BUFFER_SHIFT));
+    check(found.flags == (IORING_CQE_F_MORE | IORING_CQE_F_BUFFER |
+                             (uint32_t)(FIRST + buffer) << IORING_CQE_BUFFER_SHIFT));
     check(memcmp(memory[buffer], bytes, strlen(bytes)) == 0);
 }
 
@@ -90,7 +94,8 @@ static inline bool is_known_here(void)
     if (fd < 0)
         return false;
     check(probe && register_at((int)fd, IORING_REGISTER_PROBE, probe, 256) == 0);
-    bool is_known = probe->last_op >= READ_MULTISHOT && probe->ops[READ_MULTISHOT].flags & IO_URING_OP_SUPPORTED;
+    bool is_known = probe->last_op >= READ_MULTISHOT &&
+                    probe->ops[READ_MULTISHOT].flags & IO_URING_OP_SUPPORTED;
     free(probe);
     close((int)fd);
     return is_known;

@@ -1,7 +1,9 @@
-/* Tests of how reads that go on end, by direct calls: by a fault of their file or their entry, a cancel, a full ring, or at the end of the file. All hold under every policy, which
- * the environment says, and on a real ring of Linux 6.18.
+/* Tests of how reads that go on end, by direct calls: by a fault of their file or their entry, a
+ * cancel, a full ring, or at the end of the file. All hold under every policy, which the
+ * environment says, and on a real ring of Linux 6.18.
  *
- *   multishot_ends [NAME]    with a name: that test alone. Status 0 also where the kernel makes no rings, or doesn't know the operation
+ *   multishot_ends [NAME]    with a name: that test alone. Status 0 also where the kernel makes no
+ * rings, or doesn't know the operation
  */
 #define _GNU_SOURCE
 #include "multishot.h"
@@ -22,7 +24,11 @@ static int32_t end_of(const struct io_uring_sqe *asked, int kind, int count)
 
 static struct io_uring_sqe read_of(int fd)
 {
-    return (struct io_uring_sqe){.opcode = READ_MULTISHOT, .flags = IOSQE_BUFFER_SELECT, .fd = fd, .user_data = 1, .buf_group = BY_LIST};
+    return (struct io_uring_sqe){.opcode = READ_MULTISHOT,
+        .flags = IOSQE_BUFFER_SELECT,
+        .fd = fd,
+        .user_data = 1,
+        .buf_group = BY_LIST};
 }
 
 static int32_t end_on(int fd, int count)
@@ -33,7 +39,8 @@ static int32_t end_on(int fd, int count)
     return res;
 }
 
-/* What can't be polled fails before a buffer is looked for; what isn't open for reading after that. */
+/* What can't be polled fails before a buffer is looked for; what isn't open for reading after that.
+ */
 static void test_files(void)
 {
     for (int count = 1; count <= 2; count++) {
@@ -108,7 +115,8 @@ static void test_cancel(void)
     close_ring(&ring);
 }
 
-/* The completion that finds the ring full is the last. (A lazy ring may have carried no more out by then.) */
+/* The completion that finds the ring full is the last. (A lazy ring may have carried no more out by
+ * then.) */
 static void test_overflow(void)
 {
     struct ring ring;
@@ -125,7 +133,9 @@ static void test_overflow(void)
     expect_bytes(&ring, "2222", 2);
     expect_bytes(&ring, "3333", 3);
     struct seen last = next_of(&ring);
-    check(last.res == SIZE && last.flags == (IORING_CQE_F_BUFFER | (is_full ? 0 : IORING_CQE_F_MORE) | (FIRST + 4u) << IORING_CQE_BUFFER_SHIFT));
+    check(
+        last.res == SIZE && last.flags == (IORING_CQE_F_BUFFER | (is_full ? 0 : IORING_CQE_F_MORE) |
+                                              (FIRST + 4u) << IORING_CQE_BUFFER_SHIFT));
     if (is_full) {
         expect_nothing(&ring);
         check(read(ends[0], left, 4) == 4 && strcmp(left, "5555") == 0);

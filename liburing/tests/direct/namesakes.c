@@ -1,5 +1,6 @@
-/* Requests that share their user data: which of them a cancel or a removal finds, by Linux's rules and by the manual pages', as WULGACH_PROFILE says.
- * All hold under every policy; and Linux's on a real ring, if the kernel gives one and it is built for that.
+/* Requests that share their user data: which of them a cancel or a removal finds, by Linux's rules
+ * and by the manual pages', as WULGACH_PROFILE says. All hold under every policy; and Linux's on a
+ * real ring, if the kernel gives one and it is built for that.
  */
 #define _GNU_SOURCE
 #include "profile.h"
@@ -45,7 +46,8 @@ static void end_timeout(void)
     stop();
 }
 
-/* Of two polls the newer goes, though a timeout is older than both; by the manual pages' rules the older. */
+/* Of two polls the newer goes, though a timeout is older than both; by the manual pages' rules the
+ * older. */
 static void find_poll(uint8_t code)
 {
     int others[2];
@@ -76,8 +78,9 @@ static void test_removal_of_a_poll(void)
     find_poll(IORING_OP_POLL_REMOVE);
 }
 
-/* Of two timeouts that with a count goes, though the other is older; by the manual pages' rules the older, and then that with a count has counted enough:
- * the two completions of the removal, and seven. */
+/* Of two timeouts that with a count goes, though the other is older; by the manual pages' rules the
+ * older, and then that with a count has counted enough: the two completions of the removal, and
+ * seven. */
 static void test_removal_of_a_timeout(void)
 {
     unsigned more = is_by_manual();
@@ -101,14 +104,16 @@ static void test_removal_of_a_timeout(void)
         end_timeout();
 }
 
-/* Where many wait, which are found by their user data, the newest of these goes too, and then the next one. */
+/* Where many wait, which are found by their user data, the newest of these goes too, and then the
+ * next one. */
 static void test_among_many(void)
 {
     enum { MANY = 80 };
     int pipes[3][2];
     begin(0);
     for (int i = 0; i < MANY; i++) {
-        put_plain(&ring, IORING_OP_POLL_ADD, (uint64_t)(OTHER + i), ends[0])->poll32_events = POLLIN;
+        put_plain(&ring, IORING_OP_POLL_ADD, (uint64_t)(OTHER + i), ends[0])
+            ->poll32_events = POLLIN;
         submit(1);
     }
     for (int i = 0; i < 3; i++) {
@@ -138,5 +143,7 @@ int main(int count, char **words)
         {"removal of a timeout", test_removal_of_a_timeout},
         {"among many", test_among_many},
     };
-    return are_rings_there() ? run_tests(tests, sizeof tests / sizeof *tests, count > 1 ? words[1] : NULL) : 0;
+    return are_rings_there()
+               ? run_tests(tests, sizeof tests / sizeof *tests, count > 1 ? words[1] : NULL)
+               : 0;
 }

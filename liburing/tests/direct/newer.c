@@ -1,5 +1,6 @@
-/* Tests of operations that are newer than most headers, by direct calls: the length of a file, a descriptor of a registered file, the name of a socket, and that
- * it listens. All hold under every policy, which the environment says, and on a real ring of Linux 6.18.
+/* Tests of operations that are newer than most headers, by direct calls: the length of a file, a
+ * descriptor of a registered file, the name of a socket, and that it listens. All hold under every
+ * policy, which the environment says, and on a real ring of Linux 6.18.
  *
  *   newer [NAME]             with a name: that test alone
  */
@@ -16,7 +17,8 @@
 /* As <linux/io_uring.h> has them. */
 enum { FIXED_FD_INSTALL = 54, FTRUNCATE, BIND, LISTEN, NO_CLOEXEC = 1 };
 
-/* What a failure leaves of the member after it: it is carried out, or ends with -125. By the manual pages' rules each failure breaks a link. */
+/* What a failure leaves of the member after it: it is carried out, or ends with -125. By the manual
+ * pages' rules each failure breaks a link. */
 enum after { GOES_ON, IS_CANCELLED };
 
 /* Submits the one entry, links a no-op after it, and wants this result. */
@@ -30,7 +32,8 @@ static void want(struct ring *ring, struct io_uring_sqe *entry, int32_t res, enu
     reap_all(ring, 2, results);
     check(results[0] == res);
     if (taken == 2)
-        check(results[1] == (res < 0 && (after == IS_CANCELLED || is_by_manual()) ? -ECANCELED : 0));
+        check(
+            results[1] == (res < 0 && (after == IS_CANCELLED || is_by_manual()) ? -ECANCELED : 0));
 }
 
 static struct io_uring_sqe *put_length(struct ring *ring, uint8_t flags, int fd, int64_t length)
@@ -74,12 +77,13 @@ static void test_lengths(void)
     close_ring(&ring);
 }
 
-/* A file that would get longer than the process may have one is left, and no signal comes: in a kernel a worker makes the call. */
+/* A file that would get longer than the process may have one is left, and no signal comes: in a
+ * kernel a worker makes the call. */
 static void test_no_signal_of_lengths(void)
 {
     struct ring ring;
     int file = make_file();
-    enum { MOST = 1 << 20 };     /* a trace is shorter */
+    enum { MOST = 1 << 20 }; /* a trace is shorter */
     struct rlimit before, limit = {MOST, MOST};
     check(getrlimit(RLIMIT_FSIZE, &before) == 0);
     limit.rlim_max = before.rlim_max;
@@ -100,19 +104,22 @@ static struct io_uring_sqe *put_install(struct ring *ring, uint8_t flags, int sl
     return entry;
 }
 
-/* A registered file has a descriptor of its own by that, which is closed in a program that is started, or not. */
+/* A registered file has a descriptor of its own by that, which is closed in a program that is
+ * started, or not. */
 static void test_installs(void)
 {
     struct ring ring;
     int file = make_file();
     make_ring(&ring, 8, 0, 0);
-    check(write(file, "bytes", 5) == 5 && register_at(ring.fd, IORING_REGISTER_FILES, (int[]){file, -1}, 2) == 0);
+    check(write(file, "bytes", 5) == 5 &&
+          register_at(ring.fd, IORING_REGISTER_FILES, (int[]){file, -1}, 2) == 0);
     for (uint32_t how = 0; how <= NO_CLOEXEC; how++) {
         put_install(&ring, IOSQE_FIXED_FILE, 0, how);
         int fd = result_of_one(&ring, 1), lowest = open("/dev/null", O_RDONLY);
         check(fd >= 0 && fd < lowest && fcntl(fd, F_GETFD) == (how ? 0 : FD_CLOEXEC));
         /* (both have one place in the file) */
-        check(lseek(fd, 0, SEEK_CUR) == 5 && lseek(fd, 3, SEEK_SET) == 3 && lseek(file, 0, SEEK_CUR) == 3 && lseek(file, 5, SEEK_SET) == 5);
+        check(lseek(fd, 0, SEEK_CUR) == 5 && lseek(fd, 3, SEEK_SET) == 3 &&
+              lseek(file, 0, SEEK_CUR) == 3 && lseek(file, 5, SEEK_SET) == 5);
         close(fd);
         close(lowest);
     }
@@ -151,7 +158,8 @@ static void test_installs_what_was_opened(void)
     close_ring(&ring);
 }
 
-static struct io_uring_sqe *put_bind(struct ring *ring, uint8_t flags, int fd, const void *name, uint64_t size)
+static struct io_uring_sqe *put_bind(
+    struct ring *ring, uint8_t flags, int fd, const void *name, uint64_t size)
 {
     return put_transfer(ring, BIND, 0, flags, fd, (void *)(uintptr_t)name, 0, size);
 }
@@ -165,7 +173,8 @@ static struct io_uring_sqe *put_listen(struct ring *ring, uint8_t flags, int fd,
 static void test_names_are_copied(void)
 {
     struct ring ring;
-    struct sockaddr_in name = {.sin_family = AF_INET, .sin_addr.s_addr = htonl(INADDR_LOOPBACK)}, told;
+    struct sockaddr_in name = {.sin_family = AF_INET, .sin_addr.s_addr = htonl(INADDR_LOOPBACK)},
+                       told;
     socklen_t size = sizeof told;
     int fd = socket(AF_INET, SOCK_STREAM, 0), caller = socket(AF_INET, SOCK_STREAM, 0), ends[2];
     char byte;
@@ -180,7 +189,8 @@ static void test_names_are_copied(void)
     check(enter(&ring, 4, 0, 0) == 4);
     memset(&name, 0xff, sizeof name);
     check(write(ends[1], "b", 1) == 1 && enter_for(&ring, 3, 1000000000) == 0);
-    check(getsockname(fd, (void *)&told, &size) == 0 && told.sin_family == AF_INET && told.sin_addr.s_addr == htonl(INADDR_LOOPBACK) && told.sin_port != 0);
+    check(getsockname(fd, (void *)&told, &size) == 0 && told.sin_family == AF_INET &&
+          told.sin_addr.s_addr == htonl(INADDR_LOOPBACK) && told.sin_port != 0);
     check(connect(caller, (void *)&told, size) == 0);
     reap_all(&ring, 4, results);
     check(results[0] == 1 && results[1] == 0 && results[2] == 0 && results[3] >= 0);
@@ -196,7 +206,8 @@ static void test_refused_names(void)
 {
     struct ring ring;
     struct sockaddr_storage name = {.ss_family = AF_UNIX};
-    int fd = socket(AF_UNIX, SOCK_STREAM, 0), datagrams = socket(AF_UNIX, SOCK_DGRAM, 0), other = make_file();
+    int fd = socket(AF_UNIX, SOCK_STREAM, 0), datagrams = socket(AF_UNIX, SOCK_DGRAM, 0),
+        other = make_file();
     make_ring(&ring, 8, 0, 0);
     want(&ring, put_bind(&ring, 0, fd, &name, 129), -EINVAL, IS_CANCELLED);
     want(&ring, put_bind(&ring, 0, fd, &name, UINT32_MAX), -EINVAL, IS_CANCELLED);
@@ -226,11 +237,22 @@ static void test_refused_names(void)
 /* Fields that each of them wants to be 0. */
 static void test_barred_fields(void)
 {
-    enum { PRIORITY = 1, OFFSET = 2, ADDRESS = 4, LENGTH = 8, OWN = 16, BUFFER = 32, SLOT = 64, THIRD = 128, PAD = 256 };
+    enum {
+        PRIORITY = 1,
+        OFFSET = 2,
+        ADDRESS = 4,
+        LENGTH = 8,
+        OWN = 16,
+        BUFFER = 32,
+        SLOT = 64,
+        THIRD = 128,
+        PAD = 256
+    };
     static const struct {
         uint8_t code;
         uint16_t free;
-    } rows[] = {{FIXED_FD_INSTALL, OWN | PAD}, {FTRUNCATE, OFFSET | PAD}, {BIND, OFFSET | ADDRESS | THIRD | PAD}, {LISTEN, LENGTH | THIRD | PAD}};
+    } rows[] = {{FIXED_FD_INSTALL, OWN | PAD}, {FTRUNCATE, OFFSET | PAD},
+        {BIND, OFFSET | ADDRESS | THIRD | PAD}, {LISTEN, LENGTH | THIRD | PAD}};
     struct ring ring;
     int file = make_file(), fd = socket(AF_UNIX, SOCK_STREAM, 0);
     struct sockaddr_un name = {.sun_family = AF_UNIX};
@@ -272,8 +294,11 @@ static void test_they_are_told(void)
     check(register_at(ring.fd, IORING_REGISTER_PROBE, probe, 256) == 0 && probe->last_op >= LISTEN);
     for (int code = FIXED_FD_INSTALL; code <= LISTEN; code++)
         check(probe->ops[code].op == code && probe->ops[code].flags == IO_URING_OP_SUPPORTED);
-    struct io_uring_restriction rows[] = {{.opcode = IORING_RESTRICTION_SQE_OP, .sqe_op = FTRUNCATE}, {.opcode = IORING_RESTRICTION_SQE_OP, .sqe_op = LISTEN}};
-    check(register_at(ring.fd, IORING_REGISTER_RESTRICTIONS, rows, 2) == 0 && register_at(ring.fd, IORING_REGISTER_ENABLE_RINGS, NULL, 0) == 0);
+    struct io_uring_restriction rows[] = {
+        {.opcode = IORING_RESTRICTION_SQE_OP, .sqe_op = FTRUNCATE},
+        {.opcode = IORING_RESTRICTION_SQE_OP, .sqe_op = LISTEN}};
+    check(register_at(ring.fd, IORING_REGISTER_RESTRICTIONS, rows, 2) == 0 &&
+          register_at(ring.fd, IORING_REGISTER_ENABLE_RINGS, NULL, 0) == 0);
     put_length(&ring, 0, -1, 0);
     check(result_of_one(&ring, 1) == -EBADF);
     put_bind(&ring, 0, -1, "", 0);

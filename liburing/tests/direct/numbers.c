@@ -1,5 +1,6 @@
-/* Tests of the numbers that the layer's own descriptors have, by direct calls: the program's limit (RLIMIT_NOFILE) leaves room for what it opens itself, and a lock
- * on a file stays. All hold under every policy, which the environment says.
+/* Tests of the numbers that the layer's own descriptors have, by direct calls: the program's limit
+ * (RLIMIT_NOFILE) leaves room for what it opens itself, and a lock on a file stays. All hold under
+ * every policy, which the environment says.
  *
  *   numbers [NAME]           with a name: that test alone
  */
@@ -77,7 +78,8 @@ static void test_many_slots(void)
     close_ring(&ring);
 }
 
-/* Each of many connections waits for something: the program may open as many as without the ring. */
+/* Each of many connections waits for something: the program may open as many as without the ring.
+ */
 static void test_many_connections(void)
 {
     enum { PAIRS = 480 };
@@ -150,7 +152,8 @@ static void test_lower_limit(void)
         struct completion found = reap(&ring);
         check(found.user_data == 7 && found.res == 1);
     }
-    check(waitpid(child, &status, 0) == child && status == 0 && setrlimit(RLIMIT_NOFILE, &before) == 0);
+    check(waitpid(child, &status, 0) == child && status == 0 &&
+          setrlimit(RLIMIT_NOFILE, &before) == 0);
     close_ring(&ring);
     for (int i = 0; i < READS; i++) {
         close(ends[i][0]);
@@ -168,7 +171,8 @@ static void *watch_limit(void *wrong)
     return NULL;
 }
 
-/* The limit is the process's: it stays what it is while the layer takes a few numbers again and again. */
+/* The limit is the process's: it stays what it is while the layer takes a few numbers again and
+ * again. */
 static void test_same_limit(void)
 {
     enum { TURNS = 20000, FILES = 8 };
@@ -184,7 +188,8 @@ static void test_same_limit(void)
     is_watched = true;
     check(pthread_create(&thread, NULL, watch_limit, &wrong) == 0);
     for (int i = 0; i < TURNS; i++)
-        check(register_at(ring.fd, IORING_REGISTER_FILES, fds, FILES) == 0 && register_at(ring.fd, IORING_UNREGISTER_FILES, NULL, 0) == 0);
+        check(register_at(ring.fd, IORING_REGISTER_FILES, fds, FILES) == 0 &&
+              register_at(ring.fd, IORING_UNREGISTER_FILES, NULL, 0) == 0);
     is_watched = false;
     check(pthread_join(thread, NULL) == 0 && wrong == 0);
     check(setrlimit(RLIMIT_NOFILE, &before) == 0);
@@ -206,10 +211,12 @@ static bool is_locked(const char *path, off_t from)
     return WEXITSTATUS(status) == 1;
 }
 
-/* A file on which the process has a lock is opened into a slot: the lock stays, also if there is no such slot. */
+/* A file on which the process has a lock is opened into a slot: the lock stays, also if there is no
+ * such slot. */
 static void test_lock(void)
 {
-    struct flock lock = {.l_type = F_WRLCK, .l_whence = SEEK_SET}, unlock = {.l_type = F_UNLCK, .l_whence = SEEK_SET};
+    struct flock lock = {.l_type = F_WRLCK, .l_whence = SEEK_SET},
+                 unlock = {.l_type = F_UNLCK, .l_whence = SEEK_SET};
     struct io_uring_rsrc_register sparse = {.nr = 2, .flags = IORING_RSRC_REGISTER_SPARSE};
     struct ring ring;
     char path[64];
@@ -250,7 +257,8 @@ static void hold_for_a_while(struct ring *ring, int file)
     check(register_at(ring->fd, IORING_UNREGISTER_FILES, NULL, 0) == 0);
 }
 
-/* A lock of another process's, from the byte on that has this one's number: no copy of the file stays open for it. */
+/* A lock of another process's, from the byte on that has this one's number: no copy of the file
+ * stays open for it. */
 static void test_others_lock(void)
 {
     struct flock lock = {.l_type = F_WRLCK, .l_whence = SEEK_SET, .l_start = getpid(), .l_len = 1};
@@ -271,7 +279,8 @@ static void test_others_lock(void)
 /* Such a lock beside one of its own, which stays, also where the process may open nothing more. */
 static void test_lock_beside_others(void)
 {
-    struct flock own = {.l_type = F_WRLCK, .l_whence = SEEK_SET, .l_start = 2, .l_len = 2}, others = {.l_type = F_WRLCK, .l_whence = SEEK_SET, .l_len = 1};
+    struct flock own = {.l_type = F_WRLCK, .l_whence = SEEK_SET, .l_start = 2, .l_len = 2},
+                 others = {.l_type = F_WRLCK, .l_whence = SEEK_SET, .l_len = 1};
     struct rlimit before;
     struct ring ring;
     char path[64];

@@ -1,5 +1,5 @@
-/* Tests by direct calls: completions that the ring has no room for, and when those that are reaped make some. All hold under every
- * policy.
+/* Tests by direct calls: completions that the ring has no room for, and when those that are reaped
+ * make some. All hold under every policy.
  */
 #define _GNU_SOURCE
 #include "engines.h"
@@ -15,7 +15,8 @@ static void test_overflow(void)
         for (unsigned i = 0; i < 4; i++)
             put(&ring, IORING_OP_NOP, round * 4 + i, i < 3 ? IOSQE_IO_LINK : 0);
         check(enter(&ring, 4, 0, 0) == 4);
-        while (flags_of(&ring) & IORING_SQ_TASKRUN && !(flags_of(&ring) & IORING_SQ_CQ_OVERFLOW) && count_ready(&ring) < 4)
+        while (flags_of(&ring) & IORING_SQ_TASKRUN && !(flags_of(&ring) & IORING_SQ_CQ_OVERFLOW) &&
+               count_ready(&ring) < 4)
             enter(&ring, 0, 4, IORING_ENTER_GETEVENTS);
     }
     unsigned reaped = 0, seen[12] = {0};
@@ -33,8 +34,8 @@ static void test_overflow(void)
     close_ring(&ring);
 }
 
-/* In order, eight no-ops complete at once, four of them past the ring's end. A wait for more than the ring holds ends
- * when it is full. */
+/* In order, eight no-ops complete at once, four of them past the ring's end. A wait for more than
+ * the ring holds ends when it is full. */
 static void test_overflow_flag(void)
 {
     struct ring ring;
@@ -49,7 +50,8 @@ static void test_overflow_flag(void)
     close_ring(&ring);
 }
 
-/* An operation that changes the completion ring's head itself: the end of the next request finds the room. */
+/* An operation that changes the completion ring's head itself: the end of the next request finds
+ * the room. */
 static void test_head_before_end(void)
 {
     struct ring ring;
@@ -60,10 +62,12 @@ static void test_head_before_end(void)
     for (unsigned i = 0; i < 4; i++)
         put(&ring, IORING_OP_NOP, i, 0);
     check(enter(&ring, 4, 4, IORING_ENTER_GETEVENTS) == 4);
-    put_transfer(&ring, IORING_OP_READ, 4, IOSQE_IO_LINK | IOSQE_CQE_SKIP_SUCCESS, file, cq_word(&ring, ring.params.cq_off.head), sizeof head, 0);
+    put_transfer(&ring, IORING_OP_READ, 4, IOSQE_IO_LINK | IOSQE_CQE_SKIP_SUCCESS, file,
+        cq_word(&ring, ring.params.cq_off.head), sizeof head, 0);
     put(&ring, IORING_OP_NOP, 5, 0);
     check(enter(&ring, 2, 0, 0) == 2);
-    check(!is_in_order() || (!(flags_of(&ring) & IORING_SQ_CQ_OVERFLOW) && count_ready(&ring) == 1));
+    check(
+        !is_in_order() || (!(flags_of(&ring) & IORING_SQ_CQ_OVERFLOW) && count_ready(&ring) == 1));
     check(enter(&ring, 0, 1, IORING_ENTER_GETEVENTS) == 0);
     check(count_ready(&ring) > 0);
     close(file);
@@ -88,7 +92,8 @@ static void test_some_reaped(void)
     close_ring(&ring);
 }
 
-/* In order, a submission that asks for no completion goes on too, beside one that is there already. */
+/* In order, a submission that asks for no completion goes on too, beside one that is there already.
+ */
 static void test_peek_beside_one(void)
 {
     struct ring ring;
@@ -161,9 +166,12 @@ static void test_tags_in_a_reaped_ring(void)
     char byte;
     struct iovec bytes = {&byte, 1};
     uint64_t file_tag = 8, buffer_tag = 9, none = 0;
-    struct io_uring_rsrc_register files = {.nr = 1, .data = (uintptr_t)&file, .tags = (uintptr_t)&file_tag};
-    struct io_uring_rsrc_register buffers = {.nr = 1, .data = (uintptr_t)&bytes, .tags = (uintptr_t)&buffer_tag};
-    struct io_uring_rsrc_update2 update = {.nr = 1, .data = (uintptr_t)&file, .tags = (uintptr_t)&none};
+    struct io_uring_rsrc_register files = {
+        .nr = 1, .data = (uintptr_t)&file, .tags = (uintptr_t)&file_tag};
+    struct io_uring_rsrc_register buffers = {
+        .nr = 1, .data = (uintptr_t)&bytes, .tags = (uintptr_t)&buffer_tag};
+    struct io_uring_rsrc_update2 update = {
+        .nr = 1, .data = (uintptr_t)&file, .tags = (uintptr_t)&none};
     make_ring(&ring, 4, 4, 0);
     check(register_at(ring.fd, IORING_REGISTER_FILES2, &files, sizeof files) == 0);
     check(register_at(ring.fd, IORING_REGISTER_BUFFERS2, &buffers, sizeof buffers) == 0);
@@ -195,13 +203,15 @@ static void test_cancel_in_a_reaped_ring(void)
     close_ring(&ring);
 }
 
-/* By a head past the tail none counts as reaped: a tag overflows, and comes once the head is right. */
+/* By a head past the tail none counts as reaped: a tag overflows, and comes once the head is right.
+ */
 static void test_tag_by_a_wrong_head(void)
 {
     struct ring ring;
     int file = make_file();
     uint64_t tag = 8;
-    struct io_uring_rsrc_register files = {.nr = 1, .data = (uintptr_t)&file, .tags = (uintptr_t)&tag};
+    struct io_uring_rsrc_register files = {
+        .nr = 1, .data = (uintptr_t)&file, .tags = (uintptr_t)&tag};
     make_ring(&ring, 4, 4, 0);
     unsigned *head = cq_word(&ring, ring.params.cq_off.head);
     check(register_at(ring.fd, IORING_REGISTER_FILES2, &files, sizeof files) == 0);

@@ -1,5 +1,6 @@
-/* Tests of messages that are moved in parts, with MSG_WAITALL, by direct calls: their provided buffers, a cancel or a timeout after a part,
- * and control data. All hold under every policy, which the environment says. Expected is what a ring of Linux 6.18 was seen to do.
+/* Tests of messages that are moved in parts, with MSG_WAITALL, by direct calls: their provided
+ * buffers, a cancel or a timeout after a part, and control data. All hold under every policy, which
+ * the environment says. Expected is what a ring of Linux 6.18 was seen to do.
  *
  *   parts [NAME]     with a name: that test alone
  */
@@ -40,9 +41,11 @@ static void provide(struct ring *ring, char *memory, int count)
     check(result_of_one(ring, 1) == 0);
 }
 
-static struct io_uring_sqe *put_receive(struct ring *ring, uint64_t user_data, uint8_t flags, int fd, void *bytes)
+static struct io_uring_sqe *put_receive(
+    struct ring *ring, uint64_t user_data, uint8_t flags, int fd, void *bytes)
 {
-    struct io_uring_sqe *entry = put_transfer(ring, IORING_OP_RECV, user_data, flags, fd, bytes, ALL, 0);
+    struct io_uring_sqe *entry = put_transfer(
+        ring, IORING_OP_RECV, user_data, flags, fd, bytes, ALL, 0);
     entry->msg_flags = MSG_WAITALL;
     return entry;
 }
@@ -60,23 +63,28 @@ static void test_parts_in_a_buffer(void)
         make_streams(others);
         make_ring(&ring, 8, 0, 0);
         provide(&ring, memory, 2);
-        put_transfer(&ring, is_message ? IORING_OP_RECVMSG : IORING_OP_RECV, 1, IOSQE_BUFFER_SELECT, ends[0], is_message ? &message : NULL, is_message ? 1 : ALL, 0)->msg_flags = MSG_WAITALL;
+        put_transfer(&ring, is_message ? IORING_OP_RECVMSG : IORING_OP_RECV, 1, IOSQE_BUFFER_SELECT,
+            ends[0], is_message ? &message : NULL, is_message ? 1 : ALL, 0)
+            ->msg_flags = MSG_WAITALL;
         check(enter(&ring, 1, 0, 0) == 1);
         check(send(ends[1], "hello", 5, 0) == 5);
         let_wait(&ring);
         put_transfer(&ring, IORING_OP_RECV, 2, IOSQE_BUFFER_SELECT, others[0], NULL, ALL, 0);
         check(enter(&ring, 1, 0, 0) == 1 && send(others[1], other, 5, 0) == 5);
         struct seen second = next_of(&ring);
-        check(second.user_data == 2 && second.res == 5 && second.flags == (IORING_CQE_F_BUFFER | 1 << IORING_CQE_BUFFER_SHIFT));
+        check(second.user_data == 2 && second.res == 5 &&
+              second.flags == (IORING_CQE_F_BUFFER | 1 << IORING_CQE_BUFFER_SHIFT));
         check(send(ends[1], "world", 5, 0) == 5);
         struct seen first = next_of(&ring);
-        check(first.user_data == 1 && first.res == ALL && first.flags == IORING_CQE_F_BUFFER && memcmp(memory, "helloworldother", 15) == 0);
+        check(first.user_data == 1 && first.res == ALL && first.flags == IORING_CQE_F_BUFFER &&
+              memcmp(memory, "helloworldother", 15) == 0);
         close_pair(others);
         close_all(&ring, ends);
     }
 }
 
-/* The last completion names the buffer that has a part, if its peer closes, and if a cancel finds it. */
+/* The last completion names the buffer that has a part, if its peer closes, and if a cancel finds
+ * it. */
 static void test_end_after_a_part(void)
 {
     for (int is_cancelled = 0; is_cancelled < 2; is_cancelled++) {
@@ -96,12 +104,14 @@ static void test_end_after_a_part(void)
             check(shutdown(ends[1], SHUT_WR) == 0);
         }
         struct seen last = next_of(&ring);
-        check(last.user_data == 1 && last.res == 5 && last.flags == IORING_CQE_F_BUFFER && memcmp(memory, "hello", 5) == 0);
+        check(last.user_data == 1 && last.res == 5 && last.flags == IORING_CQE_F_BUFFER &&
+              memcmp(memory, "hello", 5) == 0);
         close_all(&ring, ends);
     }
 }
 
-/* What a cancel or a linked timeout ends that has moved bytes tells how many, and breaks its chain all the same. */
+/* What a cancel or a linked timeout ends that has moved bytes tells how many, and breaks its chain
+ * all the same. */
 static void test_cancel_after_a_part(void)
 {
     struct ring ring;
@@ -149,13 +159,15 @@ static void test_cancelled_sends(void)
     make_ring(&ring, 8, 0, 0);
     for (int is_full = 0; is_full < 2; is_full++) {
         int32_t results[2];
-        put_transfer(&ring, IORING_OP_SEND, 0, 0, ends[1], memory, MANY, 0)->msg_flags = MSG_WAITALL;
+        put_transfer(&ring, IORING_OP_SEND, 0, 0, ends[1], memory, MANY, 0)
+            ->msg_flags = MSG_WAITALL;
         check(enter(&ring, 1, 0, 0) == 1);
         let_wait(&ring);
         put(&ring, IORING_OP_ASYNC_CANCEL, 1, 0)->addr = 0;
         check(enter(&ring, 1, 0, 0) == 1);
         reap_all(&ring, 2, results);
-        check(results[1] == 0 && (is_full ? results[0] == -ECANCELED : results[0] > 0 && results[0] < MANY));
+        check(results[1] == 0 &&
+              (is_full ? results[0] == -ECANCELED : results[0] > 0 && results[0] < MANY));
         if (is_full)
             check(drain(ends[0]) > 0);
     }
@@ -176,7 +188,8 @@ static void test_cancelled_zero_copy(void)
     put(&ring, IORING_OP_ASYNC_CANCEL, 8, IOSQE_CQE_SKIP_SUCCESS)->addr = 7;
     check(enter(&ring, 1, 0, 0) == 1);
     struct seen sent = next_of(&ring), notice = next_of(&ring);
-    check(sent.user_data == 7 && sent.res > 0 && sent.res < MANY && sent.flags == IORING_CQE_F_MORE);
+    check(
+        sent.user_data == 7 && sent.res > 0 && sent.res < MANY && sent.flags == IORING_CQE_F_MORE);
     check(notice.user_data == 7 && notice.res == 0 && notice.flags == IORING_CQE_F_NOTIF);
     close_all(&ring, ends);
 }
@@ -189,7 +202,8 @@ union control {
 static void hold_descriptor(union control *control, struct msghdr *message, int fd)
 {
     memset(control, 0, sizeof *control);
-    control->header = (struct cmsghdr){.cmsg_level = SOL_SOCKET, .cmsg_type = SCM_RIGHTS, .cmsg_len = CMSG_LEN(sizeof fd)};
+    control->header = (struct cmsghdr){
+        .cmsg_level = SOL_SOCKET, .cmsg_type = SCM_RIGHTS, .cmsg_len = CMSG_LEN(sizeof fd)};
     memcpy(CMSG_DATA(&control->header), &fd, sizeof fd);
     message->msg_control = control;
     message->msg_controllen = sizeof *control;
@@ -210,7 +224,8 @@ static void test_descriptor_passed_once(void)
     put_transfer(&ring, IORING_OP_SENDMSG, 7, 0, ends[1], &message, 1, 0)->msg_flags = MSG_WAITALL;
     check(enter(&ring, 1, 0, 0) == 1);
     while (came < MANY) {
-        struct msghdr found = {.msg_iov = &into, .msg_iovlen = 1, .msg_control = &room, .msg_controllen = sizeof room};
+        struct msghdr found = {
+            .msg_iov = &into, .msg_iovlen = 1, .msg_control = &room, .msg_controllen = sizeof room};
         ssize_t part = recvmsg(ends[0], &found, MSG_DONTWAIT);
         if (part < 0) {
             check(errno == EAGAIN && enter(&ring, 0, 0, IORING_ENTER_GETEVENTS) == 0);
@@ -228,7 +243,8 @@ static void test_descriptor_passed_once(void)
     close_all(&ring, ends);
 }
 
-/* A message that is received with room for control data has one part alone, which is a success to its link; one whose control data is cut isn't. */
+/* A message that is received with room for control data has one part alone, which is a success to
+ * its link; one whose control data is cut isn't. */
 static void test_control_data_ends_a_receive(void)
 {
     for (int is_cut = 0; is_cut < 2; is_cut++) {
@@ -237,12 +253,17 @@ static void test_control_data_ends_a_receive(void)
         int ends[2], fd;
         union control control, room;
         struct iovec piece = {"hello", 5}, into = {text, ALL};
-        struct msghdr sent = {.msg_iov = &piece, .msg_iovlen = 1}, found = {.msg_iov = &into, .msg_iovlen = 1, .msg_control = &room, .msg_controllen = is_cut ? 4 : sizeof room};
+        struct msghdr sent = {.msg_iov = &piece, .msg_iovlen = 1},
+                      found = {.msg_iov = &into,
+                          .msg_iovlen = 1,
+                          .msg_control = &room,
+                          .msg_controllen = is_cut ? 4 : sizeof room};
         int32_t results[2];
         make_streams(ends);
         make_ring(&ring, 8, 0, 0);
         hold_descriptor(&control, &sent, ends[0]);
-        put_transfer(&ring, IORING_OP_RECVMSG, 0, IOSQE_IO_LINK, ends[0], &found, 1, 0)->msg_flags = MSG_WAITALL;
+        put_transfer(&ring, IORING_OP_RECVMSG, 0, IOSQE_IO_LINK, ends[0], &found, 1, 0)
+            ->msg_flags = MSG_WAITALL;
         put(&ring, IORING_OP_NOP, 1, 0);
         check(enter(&ring, 2, 0, 0) == 2 && sendmsg(ends[1], &sent, 0) == 5);
         reap_all(&ring, 2, results);

@@ -1,6 +1,7 @@
-/* Tests of operations on names, attributes and an epoll instance, by direct calls: each does what the system call of its name does, and
- * a chain of them goes on in order; and of what is copied of an entry. All hold under every policy, which the environment says. They work in a
- * folder of their own.
+/* Tests of operations on names, attributes and an epoll instance, by direct calls: each does what
+ * the system call of its name does, and a chain of them goes on in order; and of what is copied of
+ * an entry. All hold under every policy, which the environment says. They work in a folder of their
+ * own.
  *
  *   paths [NAME]             with a name: that test alone
  */
@@ -19,7 +20,8 @@
 static char folder[] = "/tmp/wulgach-paths-XXXXXX";
 static int root;
 
-static struct io_uring_sqe *put_path(struct ring *ring, uint8_t code, uint64_t user_data, const char *path)
+static struct io_uring_sqe *put_path(
+    struct ring *ring, uint8_t code, uint64_t user_data, const char *path)
 {
     struct io_uring_sqe *entry = put(ring, code, user_data, 0);
     entry->fd = root;
@@ -27,7 +29,8 @@ static struct io_uring_sqe *put_path(struct ring *ring, uint8_t code, uint64_t u
     return entry;
 }
 
-static struct io_uring_sqe *put_paths(struct ring *ring, uint8_t code, const char *path, const char *other)
+static struct io_uring_sqe *put_paths(
+    struct ring *ring, uint8_t code, const char *path, const char *other)
 {
     struct io_uring_sqe *entry = put_path(ring, code, 0, path);
     entry->len = (uint32_t)root;
@@ -41,7 +44,8 @@ static bool is_there(const char *path)
     return fstatat(root, path, &status, AT_SYMLINK_NOFOLLOW) == 0;
 }
 
-/* A folder, a file in it, two more names of the file, another name of one of these, and all taken away again. */
+/* A folder, a file in it, two more names of the file, another name of one of these, and all taken
+ * away again. */
 static void test_names(void)
 {
     struct ring ring;
@@ -60,7 +64,7 @@ static void test_names(void)
     put_paths(&ring, IORING_OP_LINKAT, "d/file", "d/link");
     check(result_of_one(&ring, 1) == 0);
     entry = put_path(&ring, IORING_OP_SYMLINKAT, 0, "file");
-    entry->addr2 = (uintptr_t)"d/name";
+    entry->addr2 = (uintptr_t) "d/name";
     check(result_of_one(&ring, 1) == 0 && is_there("d/name"));
     put_paths(&ring, IORING_OP_RENAMEAT, "d/link", "d/other");
     check(result_of_one(&ring, 1) == 0 && !is_there("d/link"));
@@ -78,8 +82,8 @@ static void test_names(void)
     close_ring(&ring);
 }
 
-/* A chain makes a folder, opens a file in it and takes both away; by the manual pages' rules the first that fails ends it, and Linux goes on after
- * a folder that is there already. */
+/* A chain makes a folder, opens a file in it and takes both away; by the manual pages' rules the
+ * first that fails ends it, and Linux goes on after a folder that is there already. */
 static void test_chain(void)
 {
     struct ring ring;
@@ -108,7 +112,8 @@ static void test_chain(void)
     close_ring(&ring);
 }
 
-/* Attributes of a file and of a name, where the file system has them; else each says what the system call says. */
+/* Attributes of a file and of a name, where the file system has them; else each says what the
+ * system call says. */
 static void test_attributes(void)
 {
     struct ring ring;
@@ -116,11 +121,13 @@ static void test_attributes(void)
     int file = openat(root, "attributes", O_RDWR | O_CREAT, 0600);
     char path[64];
     snprintf(path, sizeof path, "%s/attributes", folder);
-    int32_t can_set = fsetxattr(file, "user.asked", "1", 1, 0) < 0 ? -errno : 0, length = can_set < 0 ? can_set : 5;
+    int32_t can_set = fsetxattr(file, "user.asked", "1", 1, 0) < 0 ? -errno : 0,
+            length = can_set < 0 ? can_set : 5;
     make_ring(&ring, 8, 0, 0);
     for (int is_named = 0; is_named < 2; is_named++) {
         for (int is_get = 0; is_get < 2; is_get++) {
-            uint8_t code = is_named ? (is_get ? IORING_OP_GETXATTR : IORING_OP_SETXATTR) : (is_get ? IORING_OP_FGETXATTR : IORING_OP_FSETXATTR);
+            uint8_t code = is_named ? (is_get ? IORING_OP_GETXATTR : IORING_OP_SETXATTR)
+                                    : (is_get ? IORING_OP_FGETXATTR : IORING_OP_FSETXATTR);
             struct io_uring_sqe *entry = put(&ring, code, 0, 0);
             entry->fd = is_named ? 0 : file;
             entry->addr = (uintptr_t)(is_named ? "user.second" : "user.first");
@@ -155,16 +162,20 @@ static void test_ring_is_no_instance(void)
         make_ring(&other, 8, 0, 0);
         unsetenv("WULGACH_TEST_POLLED");
         for (int change = EPOLL_CTL_ADD; change <= EPOLL_CTL_MOD; change++) {
-            put_transfer(&ring, IORING_OP_EPOLL_CTL, 0, 0, other.fd, &event, (unsigned)change, (uint64_t)ends[0]);
+            put_transfer(&ring, IORING_OP_EPOLL_CTL, 0, 0, other.fd, &event, (unsigned)change,
+                (uint64_t)ends[0]);
             check(result_of_one(&ring, 1) == -EINVAL);
         }
-        put_transfer(&ring, IORING_OP_EPOLL_CTL, 0, 0, ring.fd, &event, EPOLL_CTL_ADD, (uint64_t)ends[0]);
+        put_transfer(
+            &ring, IORING_OP_EPOLL_CTL, 0, 0, ring.fd, &event, EPOLL_CTL_ADD, (uint64_t)ends[0]);
         check(result_of_one(&ring, 1) == -EINVAL);
         put_transfer(&ring, IORING_OP_EPOLL_CTL, 0, 0, other.fd, &event, EPOLL_CTL_ADD, 9999);
         check(result_of_one(&ring, 1) == -EBADF);
-        put_transfer(&ring, IORING_OP_EPOLL_CTL, 0, 0, other.fd, &event, EPOLL_CTL_ADD, (uint64_t)file);
+        put_transfer(
+            &ring, IORING_OP_EPOLL_CTL, 0, 0, other.fd, &event, EPOLL_CTL_ADD, (uint64_t)file);
         check(result_of_one(&ring, 1) == -EPERM);
-        put_transfer(&ring, IORING_OP_EPOLL_CTL, 0, 0, other.fd, NULL, EPOLL_CTL_ADD, (uint64_t)ends[0]);
+        put_transfer(
+            &ring, IORING_OP_EPOLL_CTL, 0, 0, other.fd, NULL, EPOLL_CTL_ADD, (uint64_t)ends[0]);
         check(result_of_one(&ring, 1) == -EFAULT);
         close_ring(&ring);
         close_ring(&other);
@@ -185,11 +196,14 @@ static void test_epoll(void)
         int change;
         int32_t res;
         int ready;
-    } rows[] = {{EPOLL_CTL_MOD, -ENOENT, 0}, {EPOLL_CTL_ADD, 0, 1}, {EPOLL_CTL_ADD, -EEXIST, 1}, {EPOLL_CTL_DEL, 0, 0}, {EPOLL_CTL_DEL, -ENOENT, 0}};
+    } rows[] = {{EPOLL_CTL_MOD, -ENOENT, 0}, {EPOLL_CTL_ADD, 0, 1}, {EPOLL_CTL_ADD, -EEXIST, 1},
+        {EPOLL_CTL_DEL, 0, 0}, {EPOLL_CTL_DEL, -ENOENT, 0}};
     for (size_t i = 0; i < sizeof rows / sizeof *rows; i++) {
-        put_transfer(&ring, IORING_OP_EPOLL_CTL, 0, 0, all, &event, (unsigned)rows[i].change, (uint64_t)ends[0]);
+        put_transfer(&ring, IORING_OP_EPOLL_CTL, 0, 0, all, &event, (unsigned)rows[i].change,
+            (uint64_t)ends[0]);
         check(result_of_one(&ring, 1) == rows[i].res);
-        check(epoll_wait(all, &found, 1, 0) == rows[i].ready && (!rows[i].ready || found.data.u64 == 7));
+        check(epoll_wait(all, &found, 1, 0) == rows[i].ready &&
+              (!rows[i].ready || found.data.u64 == 7));
     }
     put_transfer(&ring, IORING_OP_EPOLL_CTL, 0, 0, all, NULL, EPOLL_CTL_ADD, (uint64_t)ends[0]);
     check(result_of_one(&ring, 1) == -EFAULT);
@@ -198,7 +212,8 @@ static void test_epoll(void)
     close_ring(&ring);
 }
 
-/* What a structure of an open may be, and an open into a slot: the kernel's faults, in its order. */
+/* What a structure of an open may be, and an open into a slot: the kernel's faults, in its order.
+ */
 static void test_how(void)
 {
     struct ring ring;
@@ -212,29 +227,37 @@ static void test_how(void)
         bool has_path;
         char more;
         int32_t res;
-    } rows[] = {{8216, 0, true, 0, 0}, {8216, 0, true, 1, -E2BIG}, {23, 0, true, 0, -EINVAL}, {23, 0, false, 0, -EINVAL}, {24, 1, true, 0, -EINVAL}, {24, 1, false, 0, -EFAULT}, {32, 0, true, 1, -E2BIG}, {32, 0, false, 1, -E2BIG}, {4097, 0, true, 0, 0}, {32, 0, true, 0, 0}};
+    } rows[] = {{8216, 0, true, 0, 0}, {8216, 0, true, 1, -E2BIG}, {23, 0, true, 0, -EINVAL},
+        {23, 0, false, 0, -EINVAL}, {24, 1, true, 0, -EINVAL}, {24, 1, false, 0, -EFAULT},
+        {32, 0, true, 1, -E2BIG}, {32, 0, false, 1, -E2BIG}, {4097, 0, true, 0, 0},
+        {32, 0, true, 0, 0}};
     make_ring(&ring, 8, 0, 0);
     check(register_at(ring.fd, IORING_REGISTER_FILES2, &sparse, sizeof sparse) == 0);
     for (size_t i = 0; i < sizeof rows / sizeof *rows; i++) {
-        struct io_uring_sqe *entry = put_path(&ring, IORING_OP_OPENAT2, 0, rows[i].has_path ? "how" : NULL);
+        struct io_uring_sqe *entry = put_path(
+            &ring, IORING_OP_OPENAT2, 0, rows[i].has_path ? "how" : NULL);
         entry->off = (uintptr_t)&large;
         entry->len = rows[i].size;
         entry->file_index = rows[i].slot;
         large.more[7] = rows[i].more;
         int32_t res = result_of_one(&ring, 1);
-        check(res == rows[i].res || (rows[i].res == 0 && res > 0 && close(res) == 0 && unlinkat(root, "how", 0) == 0));
+        check(res == rows[i].res ||
+              (rows[i].res == 0 && res > 0 && close(res) == 0 && unlinkat(root, "how", 0) == 0));
         check(!is_there("how"));
     }
     close_ring(&ring);
 }
 
-/* What is newer in a structure of an open is looked at first, up to what isn't 0 or can't be read: it lies over the end of a page, or its newer fields begin one. */
+/* What is newer in a structure of an open is looked at first, up to what isn't 0 or can't be read:
+ * it lies over the end of a page, or its newer fields begin one. */
 static void test_how_at_an_edge(void)
 {
     enum { PAGE = 4096, KNOWN = sizeof(struct open_how), LONG = 64 };
     struct ring ring;
-    char *pages = mmap(NULL, 3 * PAGE, PROT_READ | PROT_WRITE, MAP_PRIVATE | MAP_ANONYMOUS, -1, 0), *page = pages + PAGE;
-    check(pages != MAP_FAILED && mprotect(pages, PAGE, PROT_NONE) == 0 && mprotect(page + PAGE, PAGE, PROT_NONE) == 0);
+    char *pages = mmap(NULL, 3 * PAGE, PROT_READ | PROT_WRITE, MAP_PRIVATE | MAP_ANONYMOUS, -1, 0),
+         *page = pages + PAGE;
+    check(pages != MAP_FAILED && mprotect(pages, PAGE, PROT_NONE) == 0 &&
+          mprotect(page + PAGE, PAGE, PROT_NONE) == 0);
     make_ring(&ring, 8, 0, 0);
     for (int row = 0; row < 4; row++) {
         bool is_at_end = row & 1, has_more = row & 2;
@@ -248,7 +271,8 @@ static void test_how_at_an_edge(void)
     close_ring(&ring);
 }
 
-/* What a slot has isn't closed by exec: an open into one that says so is refused, but after its path. */
+/* What a slot has isn't closed by exec: an open into one that says so is refused, but after its
+ * path. */
 static void test_open_into_slot(void)
 {
     struct ring ring;
@@ -257,7 +281,8 @@ static void test_open_into_slot(void)
         const char *path;
         uint32_t slot, flags;
         int32_t res;
-    } rows[] = {{NULL, 1, O_CLOEXEC, -EFAULT}, {"", 1, O_CLOEXEC, -ENOENT}, {"no", 1, O_CLOEXEC, -EINVAL}, {"no", 1, 0, -ENOENT}, {"no", 0, O_CLOEXEC, -ENOENT}};
+    } rows[] = {{NULL, 1, O_CLOEXEC, -EFAULT}, {"", 1, O_CLOEXEC, -ENOENT},
+        {"no", 1, O_CLOEXEC, -EINVAL}, {"no", 1, 0, -ENOENT}, {"no", 0, O_CLOEXEC, -ENOENT}};
     make_ring(&ring, 8, 0, 0);
     check(register_at(ring.fd, IORING_REGISTER_FILES2, &sparse, sizeof sparse) == 0);
     for (size_t i = 0; i < sizeof rows / sizeof *rows; i++) {
@@ -269,7 +294,8 @@ static void test_open_into_slot(void)
     close_ring(&ring);
 }
 
-/* What is wrong with a path or a name is a fault of its entry, and the call ends after that; seen at a ring of Linux 6.18. */
+/* What is wrong with a path or a name is a fault of its entry, and the call ends after that; seen
+ * at a ring of Linux 6.18. */
 static void test_refused_names(void)
 {
     static char of_4096[4097], of_256[257], of_255[256];
@@ -279,15 +305,37 @@ static void test_refused_names(void)
         const char *first, *second, *third;
         int32_t res;
     } rows[] = {
-        {IORING_OP_OPENAT, 0, "", NULL, NULL, -ENOENT}, {IORING_OP_OPENAT, O_DSYNC, "", NULL, NULL, -ENOENT}, {IORING_OP_OPENAT, 0, of_4096, NULL, NULL, -ENAMETOOLONG}, {IORING_OP_OPENAT, 0, of_4096 + 1, NULL, NULL, NO_FAULT},
-        {IORING_OP_MKDIRAT, 0, "", NULL, NULL, -ENOENT}, {IORING_OP_UNLINKAT, 0, "", NULL, NULL, -ENOENT}, {IORING_OP_UNLINKAT, AT_REMOVEDIR, "", NULL, NULL, -ENOENT},
-        {IORING_OP_STATX, 0, "", NULL, NULL, -ENOENT}, {IORING_OP_STATX, AT_EMPTY_PATH, "", NULL, NULL, NO_FAULT}, {IORING_OP_STATX, AT_EMPTY_PATH, NULL, NULL, NULL, -EFAULT},
-        {IORING_OP_RENAMEAT, 0, "", "new", NULL, -ENOENT}, {IORING_OP_RENAMEAT, 0, "old", "", NULL, -ENOENT}, {IORING_OP_RENAMEAT, 0, "", NULL, NULL, -ENOENT}, {IORING_OP_RENAMEAT, 0, NULL, "", NULL, -EFAULT},
-        {IORING_OP_SYMLINKAT, 0, "", "new", NULL, -ENOENT}, {IORING_OP_SYMLINKAT, 0, "old", "", NULL, -ENOENT}, {IORING_OP_SYMLINKAT, 0, of_4096, "", NULL, -ENAMETOOLONG},
-        {IORING_OP_LINKAT, 0, "", "new", NULL, -ENOENT}, {IORING_OP_LINKAT, AT_EMPTY_PATH, "", "", NULL, -ENOENT}, {IORING_OP_LINKAT, AT_EMPTY_PATH, "", "no/new", NULL, NO_FAULT},
-        {IORING_OP_FGETXATTR, 0, "", NULL, NULL, -ERANGE}, {IORING_OP_FGETXATTR, 0, of_256, NULL, NULL, -ERANGE}, {IORING_OP_FGETXATTR, 0, of_4096, NULL, NULL, -ERANGE}, {IORING_OP_FGETXATTR, 0, of_255, NULL, NULL, NO_FAULT},
-        {IORING_OP_FSETXATTR, 0, "", "v", NULL, -ERANGE}, {IORING_OP_GETXATTR, 0, "", NULL, NULL, -ERANGE}, {IORING_OP_GETXATTR, 0, "user.a", NULL, "", -ENOENT}, {IORING_OP_GETXATTR, 0, "user.a", NULL, of_4096, -ENAMETOOLONG},
-        {IORING_OP_SETXATTR, 0, of_256, "v", "", -ERANGE}, {IORING_OP_SETXATTR, 0, "user.a", "v", "", -ENOENT}, {IORING_OP_SETXATTR, 0, "user.a", NULL, "", -EFAULT},
+        {IORING_OP_OPENAT, 0, "", NULL, NULL, -ENOENT},
+        {IORING_OP_OPENAT, O_DSYNC, "", NULL, NULL, -ENOENT},
+        {IORING_OP_OPENAT, 0, of_4096, NULL, NULL, -ENAMETOOLONG},
+        {IORING_OP_OPENAT, 0, of_4096 + 1, NULL, NULL, NO_FAULT},
+        {IORING_OP_MKDIRAT, 0, "", NULL, NULL, -ENOENT},
+        {IORING_OP_UNLINKAT, 0, "", NULL, NULL, -ENOENT},
+        {IORING_OP_UNLINKAT, AT_REMOVEDIR, "", NULL, NULL, -ENOENT},
+        {IORING_OP_STATX, 0, "", NULL, NULL, -ENOENT},
+        {IORING_OP_STATX, AT_EMPTY_PATH, "", NULL, NULL, NO_FAULT},
+        {IORING_OP_STATX, AT_EMPTY_PATH, NULL, NULL, NULL, -EFAULT},
+        {IORING_OP_RENAMEAT, 0, "", "new", NULL, -ENOENT},
+        {IORING_OP_RENAMEAT, 0, "old", "", NULL, -ENOENT},
+        {IORING_OP_RENAMEAT, 0, "", NULL, NULL, -ENOENT},
+        {IORING_OP_RENAMEAT, 0, NULL, "", NULL, -EFAULT},
+        {IORING_OP_SYMLINKAT, 0, "", "new", NULL, -ENOENT},
+        {IORING_OP_SYMLINKAT, 0, "old", "", NULL, -ENOENT},
+        {IORING_OP_SYMLINKAT, 0, of_4096, "", NULL, -ENAMETOOLONG},
+        {IORING_OP_LINKAT, 0, "", "new", NULL, -ENOENT},
+        {IORING_OP_LINKAT, AT_EMPTY_PATH, "", "", NULL, -ENOENT},
+        {IORING_OP_LINKAT, AT_EMPTY_PATH, "", "no/new", NULL, NO_FAULT},
+        {IORING_OP_FGETXATTR, 0, "", NULL, NULL, -ERANGE},
+        {IORING_OP_FGETXATTR, 0, of_256, NULL, NULL, -ERANGE},
+        {IORING_OP_FGETXATTR, 0, of_4096, NULL, NULL, -ERANGE},
+        {IORING_OP_FGETXATTR, 0, of_255, NULL, NULL, NO_FAULT},
+        {IORING_OP_FSETXATTR, 0, "", "v", NULL, -ERANGE},
+        {IORING_OP_GETXATTR, 0, "", NULL, NULL, -ERANGE},
+        {IORING_OP_GETXATTR, 0, "user.a", NULL, "", -ENOENT},
+        {IORING_OP_GETXATTR, 0, "user.a", NULL, of_4096, -ENAMETOOLONG},
+        {IORING_OP_SETXATTR, 0, of_256, "v", "", -ERANGE},
+        {IORING_OP_SETXATTR, 0, "user.a", "v", "", -ENOENT},
+        {IORING_OP_SETXATTR, 0, "user.a", NULL, "", -EFAULT},
     };
     struct ring ring;
     struct statx told;
@@ -297,9 +345,13 @@ static void test_refused_names(void)
     make_ring(&ring, 8, 0, 0);
     for (size_t i = 0; i < sizeof rows / sizeof *rows; i++) {
         struct io_uring_sqe *entry = put_path(&ring, rows[i].opcode, 0, rows[i].first);
-        entry->off = rows[i].opcode == IORING_OP_STATX ? (uintptr_t)&told : (uintptr_t)rows[i].second;
+        entry->off = rows[i].opcode == IORING_OP_STATX ? (uintptr_t)&told
+                                                       : (uintptr_t)rows[i].second;
         entry->addr3 = (uintptr_t)rows[i].third;
-        entry->len = rows[i].opcode == IORING_OP_LINKAT || rows[i].opcode == IORING_OP_RENAMEAT ? (uint32_t)root : rows[i].opcode == IORING_OP_SETXATTR || rows[i].opcode == IORING_OP_FSETXATTR;
+        entry->len = rows[i].opcode == IORING_OP_LINKAT || rows[i].opcode == IORING_OP_RENAMEAT
+                         ? (uint32_t)root
+                         : rows[i].opcode == IORING_OP_SETXATTR ||
+                               rows[i].opcode == IORING_OP_FSETXATTR;
         entry->statx_flags = rows[i].flags;
         expect_entry_fault(&ring, rows[i].res);
     }
@@ -309,8 +361,7 @@ static void test_refused_names(void)
 /* From now on the calls that copy a process's memory aren't served, as in many a container. */
 static void refuse_copies(void)
 {
-    FILTER(
-        BPF_STMT(BPF_LD | BPF_W | BPF_ABS, offsetof(struct seccomp_data, nr)),
+    FILTER(BPF_STMT(BPF_LD | BPF_W | BPF_ABS, offsetof(struct seccomp_data, nr)),
         BPF_JUMP(BPF_JMP | BPF_JEQ | BPF_K, SYS_process_vm_readv, 1, 0),
         BPF_JUMP(BPF_JMP | BPF_JEQ | BPF_K, SYS_process_vm_writev, 0, 1),
         BPF_STMT(BPF_RET | BPF_K, SECCOMP_RET_ERRNO | EPERM),
@@ -340,7 +391,8 @@ static void expect_copies(void)
     put_path(&ring, IORING_OP_UNLINKAT, 0, pages + 4094);
     check(result_of_one(&ring, 1) == -EFAULT);
     memset(pages, 0, 4096);
-    check(mprotect(pages, 4096, PROT_READ) == 0 && set_up(4, (void *)pages) == -EFAULT && set_up(4, (void *)(pages + 4096)) == -EFAULT);
+    check(mprotect(pages, 4096, PROT_READ) == 0 && set_up(4, (void *)pages) == -EFAULT &&
+          set_up(4, (void *)(pages + 4096)) == -EFAULT);
     check(munmap(pages, 8192) == 0);
     close(file);
     close_ring(&ring);
@@ -364,7 +416,16 @@ static void test_copies(void)
 int main(int count, char **words)
 {
     static const struct named tests[] = {
-        {"names", test_names}, {"refused names", test_refused_names}, {"how", test_how}, {"how at an edge", test_how_at_an_edge}, {"open into slot", test_open_into_slot}, {"chain", test_chain}, {"attributes", test_attributes}, {"epoll", test_epoll}, {"ring is no instance", test_ring_is_no_instance}, {"copies", test_copies},
+        {"names", test_names},
+        {"refused names", test_refused_names},
+        {"how", test_how},
+        {"how at an edge", test_how_at_an_edge},
+        {"open into slot", test_open_into_slot},
+        {"chain", test_chain},
+        {"attributes", test_attributes},
+        {"epoll", test_epoll},
+        {"ring is no instance", test_ring_is_no_instance},
+        {"copies", test_copies},
     };
     check(mkdtemp(folder) && (root = open(folder, O_PATH | O_DIRECTORY)) >= 0);
     int status = run_tests(tests, sizeof tests / sizeof *tests, count > 1 ? words[1] : NULL);

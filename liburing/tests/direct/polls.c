@@ -1,5 +1,6 @@
-/* Tests of a ring's descriptor that polls, by direct calls. All hold under every policy. A test that hangs ends by an
- * alarm. They are run with WULGACH_TEST_POLLED, which has ring.h set such rings up.
+/* Tests of a ring's descriptor that polls, by direct calls. All hold under every policy. A test
+ * that hangs ends by an alarm. They are run with WULGACH_TEST_POLLED, which has ring.h set such
+ * rings up.
  *
  *   polls [NAME]             with a name: that test alone
  */
@@ -17,15 +18,20 @@ static void test_refused(void)
     make_ring(&ring, 4, 0, 0);
     check(read(ring.fd, bytes, 8) == -1 && errno == EINVAL);
     check(write(ring.fd, bytes, 8) == -1 && errno == EINVAL);
-    /* As a real ring has it: an offset names a part by its upper bits, and a mapping may be longer. */
+    /* As a real ring has it: an offset names a part by its upper bits, and a mapping may be longer.
+     */
     static const off_t offsets[] = {IORING_OFF_SQ_RING, IORING_OFF_CQ_RING, 4096, IORING_OFF_SQES};
     for (size_t i = 0; i < sizeof offsets / sizeof *offsets; i++) {
         unsigned *part = wulgach_mmap(NULL, 1 << 20, PROT_READ, MAP_SHARED, ring.fd, offsets[i]);
-        check(part != MAP_FAILED && (i == 3 || part[ring.params.sq_off.ring_entries / sizeof *part] == ring.params.sq_entries));
+        check(
+            part != MAP_FAILED && (i == 3 || part[ring.params.sq_off.ring_entries / sizeof *part] ==
+                                                 ring.params.sq_entries));
         munmap(part, 1 << 20);
     }
-    check(wulgach_mmap(NULL, 0, PROT_READ, MAP_SHARED, ring.fd, IORING_OFF_SQ_RING) == MAP_FAILED && errno == EINVAL);
-    check(wulgach_mmap(NULL, 64, PROT_READ, MAP_SHARED, ring.fd, 0x18000000) == MAP_FAILED && errno == ENOMEM);
+    check(wulgach_mmap(NULL, 0, PROT_READ, MAP_SHARED, ring.fd, IORING_OFF_SQ_RING) == MAP_FAILED &&
+          errno == EINVAL);
+    check(wulgach_mmap(NULL, 64, PROT_READ, MAP_SHARED, ring.fd, 0x18000000) == MAP_FAILED &&
+          errno == ENOMEM);
     int file = make_file();
     check(write(file, "file", 4) == 4);
     char *mapped = wulgach_mmap(NULL, 4, PROT_READ, MAP_SHARED, file, 0);
@@ -53,7 +59,8 @@ static void test_poll(void)
     close_ring(&ring);
 }
 
-/* Completions that have overflowed wait too: also if all in the ring are reaped, and the call didn't ask for them. */
+/* Completions that have overflowed wait too: also if all in the ring are reaped, and the call
+ * didn't ask for them. */
 static void test_overflow(void)
 {
     struct ring ring;
@@ -128,8 +135,8 @@ static void test_cancelled_at_once(void)
     close_ring(&ring);
 }
 
-/* Requests 2 and 3 wait for a number. When 5, whose number is their sum, waits for it in their place, that is another pipe's: it makes the
- * descriptor readable too. */
+/* Requests 2 and 3 wait for a number. When 5, whose number is their sum, waits for it in their
+ * place, that is another pipe's: it makes the descriptor readable too. */
 static void test_renewed(void)
 {
     struct ring ring;
@@ -192,15 +199,16 @@ static void test_changed(void)
     entry->addr = 1;
     entry->poll32_events = POLLIN;
     entry->len = IORING_POLL_UPDATE_EVENTS | IORING_POLL_ADD_MULTI;
-    check(enter(&ring, 1, 1, IORING_ENTER_GETEVENTS) == 1 && reap_by_peeks(&ring) == 1 && !is_readable(&ring, 20));
+    check(enter(&ring, 1, 1, IORING_ENTER_GETEVENTS) == 1 && reap_by_peeks(&ring) == 1 &&
+          !is_readable(&ring, 20));
     check(write(ends[1], "x", 1) == 1 && is_readable(&ring, 1000));
     check(next_of(&ring).user_data == 1);
     close_pair(ends);
     close_ring(&ring);
 }
 
-/* A splice waits for a pipe that is open by another number too, by its slot or by its own number, which is then emptied or closed. Once
- * it is cancelled, nothing tells of that pipe.
+/* A splice waits for a pipe that is open by another number too, by its slot or by its own number,
+ * which is then emptied or closed. Once it is cancelled, nothing tells of that pipe.
  */
 static void end_splice(bool is_fixed)
 {
@@ -210,7 +218,8 @@ static void end_splice(bool is_fixed)
     int kept = dup(in[0]);
     make_ring(&ring, 4, 0, 0);
     check(register_at(ring.fd, IORING_REGISTER_FILES, &in[0], 1) == 0);
-    put_splice(&ring, IORING_OP_SPLICE, 1, is_fixed ? 0 : in[0], out[1], 1)->splice_flags = is_fixed ? SPLICE_F_FD_IN_FIXED : 0;
+    put_splice(&ring, IORING_OP_SPLICE, 1, is_fixed ? 0 : in[0], out[1], 1)
+        ->splice_flags = is_fixed ? SPLICE_F_FD_IN_FIXED : 0;
     enter_and_wait(&ring);
     struct io_uring_files_update update = {.fds = (uintptr_t)&none};
     check(register_at(ring.fd, IORING_REGISTER_FILES_UPDATE, &update, 1) == 1);
@@ -252,7 +261,8 @@ static void test_threads(void)
     close_ring(&ring);
 }
 
-/* Set-up makes no file, so a limit on the size of files doesn't matter; where it makes one, it ends with -EFBIG. */
+/* Set-up makes no file, so a limit on the size of files doesn't matter; where it makes one, it ends
+ * with -EFBIG. */
 static void test_file_limit(void)
 {
     pid_t child = fork();
@@ -270,8 +280,8 @@ static void test_file_limit(void)
     check(waitpid(child, &status, 0) == child && status == 0);
 }
 
-/* A poll of a ring by another that goes on ends with the first event for which it has waited, but not with what is there as it starts. (after that it
- * waits for an edge) */
+/* A poll of a ring by another that goes on ends with the first event for which it has waited, but
+ * not with what is there as it starts. (after that it waits for an edge) */
 static void test_by_another(void)
 {
     struct ring ring, other;

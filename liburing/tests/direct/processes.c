@@ -1,5 +1,5 @@
-/* Tests by direct calls: several rings, forked children, how a call finds its ring, and addresses that can't be read. All hold under
- * every policy. A test that hangs ends by an alarm.
+/* Tests by direct calls: several rings, forked children, how a call finds its ring, and addresses
+ * that can't be read. All hold under every policy. A test that hangs ends by an alarm.
  */
 #define _GNU_SOURCE
 #include "engines.h"
@@ -104,7 +104,8 @@ static void test_forks(void)
     check(pthread_join(thread, NULL) == 0);
 }
 
-/* What a ring and a request of the parent's keep open, a child doesn't, once it has closed what it knows of. */
+/* What a ring and a request of the parent's keep open, a child doesn't, once it has closed what it
+ * knows of. */
 static void test_kept_files(void)
 {
     for (int is_registered = 0; is_registered < 2; is_registered++) {
@@ -115,7 +116,8 @@ static void test_kept_files(void)
         make_ring(&ring, 4, 0, 0);
         if (is_registered)
             check(register_at(ring.fd, IORING_REGISTER_FILES, &ends[1], 1) == 0);
-        struct io_uring_sqe *entry = put_plain(&ring, IORING_OP_POLL_ADD, 0, is_registered ? 0 : ends[1]);
+        struct io_uring_sqe *entry = put_plain(
+            &ring, IORING_OP_POLL_ADD, 0, is_registered ? 0 : ends[1]);
         entry->flags = is_registered ? IOSQE_FIXED_FILE : 0;
         check(enter(&ring, 1, 0, 0) == 1 && enter_for(&ring, 1, 1000) == -ETIME);
         pid_t child = fork();
@@ -150,7 +152,8 @@ static uint32_t enroll(const struct ring *ring)
 
 static long enter_by_number(uint32_t number)
 {
-    return wulgach_syscall(SYS_io_uring_enter, number, 0u, 0u, IORING_ENTER_REGISTERED_RING, NULL, (size_t)0);
+    return wulgach_syscall(
+        SYS_io_uring_enter, number, 0u, 0u, IORING_ENTER_REGISTERED_RING, NULL, (size_t)0);
 }
 
 static void want_success(pid_t child)
@@ -200,7 +203,7 @@ static void test_numbers_of_child(void)
 static pid_t fork_first(void)
 {
     if (unshare(CLONE_NEWPID) < 0 && unshare(CLONE_NEWUSER | CLONE_NEWPID) < 0)
-        _exit(0);   /* (the kernel doesn't let it) */
+        _exit(0); /* (the kernel doesn't let it) */
     return fork();
 }
 
@@ -252,7 +255,8 @@ static void *fork_in_thread(void *of)
         return NULL;
     }
     take_numbers();
-    check(pthread_key_create(&last_key, want_own_files) == 0 && pthread_setspecific(last_key, of) == 0);
+    check(pthread_key_create(&last_key, want_own_files) == 0 &&
+          pthread_setspecific(last_key, of) == 0);
     return NULL;
 }
 
@@ -263,7 +267,8 @@ static void test_thread_of_child(void)
     pthread_t thread;
     make_ring(&ring, 4, 0, 0);
     last_round = 0;
-    check(pthread_create(&thread, NULL, fork_in_thread, &ring) == 0 && pthread_join(thread, NULL) == 0);
+    check(pthread_create(&thread, NULL, fork_in_thread, &ring) == 0 &&
+          pthread_join(thread, NULL) == 0);
     close_ring(&ring);
 }
 
@@ -290,7 +295,8 @@ static void test_numbers_of_thread(void)
     int free_number = fcntl(0, F_DUPFD, LOWEST), next;
     close(free_number);
     last_round = 0;
-    check(pthread_create(&thread, NULL, enroll_in_thread, &ring) == 0 && pthread_join(thread, NULL) == 0);
+    check(pthread_create(&thread, NULL, enroll_in_thread, &ring) == 0 &&
+          pthread_join(thread, NULL) == 0);
     check(last_round == ROUNDS - 1);
     next = fcntl(0, F_DUPFD, LOWEST);
     check(next == free_number && close(next) == 0);
@@ -309,7 +315,8 @@ int __wrap_fstat(int fd, struct stat *status)
     return __real_fstat(fd, status);
 }
 
-/* A call finds its ring by one question, however many rings there are; once in a while it asks of a few others whether they are reached. */
+/* A call finds its ring by one question, however many rings there are; once in a while it asks of a
+ * few others whether they are reached. */
 static void test_many_rings(void)
 {
     enum { RINGS = 200, CALLS = 1000 };
@@ -324,7 +331,8 @@ static void test_many_rings(void)
         close_ring(&rings[i]);
 }
 
-static void expect_fault(struct ring *ring, struct io_uring_sqe *entry, uint64_t first, uint64_t second, int32_t result)
+static void expect_fault(
+    struct ring *ring, struct io_uring_sqe *entry, uint64_t first, uint64_t second, int32_t result)
 {
     entry->fd = AT_FDCWD;
     entry->addr = first;
@@ -359,8 +367,11 @@ static void test_bad_addresses(void)
     check(enter(&ring, 1, 0, 0) == 1 && wait_for_one(&ring) == -EFAULT);
     struct io_uring_getevents_arg argument = {.ts = bad};
     unsigned flags = IORING_ENTER_GETEVENTS | IORING_ENTER_EXT_ARG;
-    check(wulgach_syscall(SYS_io_uring_enter, ring.fd, 0u, 1u, flags, &argument, sizeof argument) == -1 && errno == EFAULT);
-    check(wulgach_syscall(SYS_io_uring_enter, ring.fd, 0u, 1u, flags, bad, sizeof argument) == -1 && errno == EFAULT);
+    check(wulgach_syscall(SYS_io_uring_enter, ring.fd, 0u, 1u, flags, &argument, sizeof argument) ==
+              -1 &&
+          errno == EFAULT);
+    check(wulgach_syscall(SYS_io_uring_enter, ring.fd, 0u, 1u, flags, bad, sizeof argument) == -1 &&
+          errno == EFAULT);
     check(register_at(ring.fd, IORING_REGISTER_PROBE, (void *)bad, 1) == -EFAULT);
     check(set_up(4, (void *)bad) == -EFAULT);
     close(file);

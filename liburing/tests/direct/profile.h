@@ -1,5 +1,5 @@
-/* One ring and a pipe, for tests of the rules in which Linux differs from the manual pages: what has come is expected in order. They are run on a real ring
- * too, if the kernel gives one. */
+/* One ring and a pipe, for tests of the rules in which Linux differs from the manual pages: what
+ * has come is expected in order. They are run on a real ring too, if the kernel gives one. */
 #ifndef PROFILE_H
 #define PROFILE_H
 
@@ -8,7 +8,7 @@
 enum { NO_OPERATION = 99 };
 
 static struct ring ring;
-static int ends[2];     /* of a pipe */
+static int ends[2]; /* of a pipe */
 static char byte;
 
 static inline void begin(unsigned flags)
@@ -54,7 +54,9 @@ static inline void expect(unsigned count, const struct completion *wanted)
     }
 }
 
-#define EXPECT(...) expect(sizeof((struct completion[]){__VA_ARGS__}) / sizeof(struct completion), (struct completion[]){__VA_ARGS__})
+#define EXPECT(...) \
+    expect(sizeof((struct completion[]){__VA_ARGS__}) / sizeof(struct completion), \
+        (struct completion[]){__VA_ARGS__})
 
 static inline void feed(void)
 {

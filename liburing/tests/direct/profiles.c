@@ -1,5 +1,6 @@
-/* The rules in which Linux differs from the manual pages, under each profile, which WULGACH_PROFILE says. All hold under every policy; and
- * Linux's on a real ring, if the kernel gives one and it is built for that.
+/* The rules in which Linux differs from the manual pages, under each profile, which WULGACH_PROFILE
+ * says. All hold under every policy; and Linux's on a real ring, if the kernel gives one and it is
+ * built for that.
  */
 #define _GNU_SOURCE
 #include "profile.h"
@@ -29,12 +30,14 @@ static void test_refused_drain(void)
         if (!goes_on)
             submit(2);
         reap_all(&ring, 3, results);
-        check(results[0] == -EINVAL && results[1] == (is_by_manual() ? -EINVAL : -EOPNOTSUPP) && results[2] == -ECANCELED);
+        check(results[0] == -EINVAL && results[1] == (is_by_manual() ? -EINVAL : -EOPNOTSUPP) &&
+              results[2] == -ECANCELED);
         stop();
     }
 }
 
-/* After a member that fails and skips success the others post nothing; nor does the fault after a first one that skips. */
+/* After a member that fails and skips success the others post nothing; nor does the fault after a
+ * first one that skips. */
 static void test_silent_members(void)
 {
     begin(0);
@@ -82,7 +85,8 @@ static void test_doomed_in_their_turn(void)
     stop();
 }
 
-/* A cancel finds what waits, whether or not it was begun; by Linux's rules nothing that a link holds back, or a drain up to the cancel's own end. */
+/* A cancel finds what waits, whether or not it was begun; by Linux's rules nothing that a link
+ * holds back, or a drain up to the cancel's own end. */
 static void test_cancels(void)
 {
     int32_t results[3];
@@ -110,7 +114,8 @@ static void test_cancels(void)
     put(&ring, IORING_OP_NOP, 1, IOSQE_IO_DRAIN);
     submit(2);
     reap_all(&ring, 2, results);
-    check(is_by_manual() ? results[0] == 0 && results[1] == -ECANCELED : results[0] == -ENOENT && results[1] == 0);
+    check(is_by_manual() ? results[0] == 0 && results[1] == -ECANCELED
+                         : results[0] == -ENOENT && results[1] == 0);
     stop();
 }
 
@@ -130,7 +135,8 @@ static void expect_owed_drain(void)
         EXPECT({2, 1}, {3, 0});
 }
 
-/* By Linux's rules a later request waits for what was accepted beside a drain, and after a drain that isn't the first of its chain. */
+/* By Linux's rules a later request waits for what was accepted beside a drain, and after a drain
+ * that isn't the first of its chain. */
 static void test_drains(void)
 {
     begin(0);
@@ -164,7 +170,8 @@ static void send_to_ring(struct ring *other)
     check(result_of_one(other, 1) == 0);
 }
 
-/* A completion that belongs to no end of a request waits for no drain by Linux's rules, and takes none that is owed. */
+/* A completion that belongs to no end of a request waits for no drain by Linux's rules, and takes
+ * none that is owed. */
 static void test_messages_beside_drains(void)
 {
     struct ring other;
@@ -208,10 +215,12 @@ static void put_after_cancel(enum after_cancel what, uint64_t user_data, int dev
     else if (what == EMPTY_PIPE)
         put_waiting(user_data, 0);
     else
-        put_plain(&ring, IORING_OP_POLL_ADD, user_data, ends[what == READY_POLL])->poll32_events = what == READY_POLL ? POLLOUT : POLLIN;
+        put_plain(&ring, IORING_OP_POLL_ADD, user_data, ends[what == READY_POLL])
+            ->poll32_events = what == READY_POLL ? POLLOUT : POLLIN;
 }
 
-/* A cancel or a removal after a link finds of its own submission what has to wait, and nothing that needn't: all of that was issued before. */
+/* A cancel or a removal after a link finds of its own submission what has to wait, and nothing that
+ * needn't: all of that was issued before. */
 static void test_cancels_after_links(void)
 {
     static const struct {
@@ -219,12 +228,22 @@ static void test_cancels_after_links(void)
         uint32_t flags;
         enum after_cancel what;
     } rows[] = {
-        {IORING_OP_ASYNC_CANCEL, 0, NO_OP}, {IORING_OP_ASYNC_CANCEL, 0, DEVICE}, {IORING_OP_ASYNC_CANCEL, 0, READY_POLL}, {IORING_OP_ASYNC_CANCEL, 0, HOUR},
-        {IORING_OP_ASYNC_CANCEL, 0, EMPTY_POLL}, {IORING_OP_ASYNC_CANCEL, 0, EMPTY_PIPE}, {IORING_OP_ASYNC_CANCEL, IORING_ASYNC_CANCEL_ALL, NO_OP},
-        {IORING_OP_ASYNC_CANCEL, IORING_ASYNC_CANCEL_ALL, DEVICE}, {IORING_OP_ASYNC_CANCEL, IORING_ASYNC_CANCEL_ALL, READY_POLL},
-        {IORING_OP_ASYNC_CANCEL, IORING_ASYNC_CANCEL_ALL, HOUR}, {IORING_OP_ASYNC_CANCEL, IORING_ASYNC_CANCEL_ALL, EMPTY_POLL},
-        {IORING_OP_ASYNC_CANCEL, IORING_ASYNC_CANCEL_ALL, EMPTY_PIPE}, {IORING_OP_ASYNC_CANCEL, IORING_ASYNC_CANCEL_ANY, NO_OP},
-        {IORING_OP_ASYNC_CANCEL, IORING_ASYNC_CANCEL_ANY, EMPTY_PIPE}, {IORING_OP_POLL_REMOVE, 0, READY_POLL}, {IORING_OP_POLL_REMOVE, 0, EMPTY_POLL},
+        {IORING_OP_ASYNC_CANCEL, 0, NO_OP},
+        {IORING_OP_ASYNC_CANCEL, 0, DEVICE},
+        {IORING_OP_ASYNC_CANCEL, 0, READY_POLL},
+        {IORING_OP_ASYNC_CANCEL, 0, HOUR},
+        {IORING_OP_ASYNC_CANCEL, 0, EMPTY_POLL},
+        {IORING_OP_ASYNC_CANCEL, 0, EMPTY_PIPE},
+        {IORING_OP_ASYNC_CANCEL, IORING_ASYNC_CANCEL_ALL, NO_OP},
+        {IORING_OP_ASYNC_CANCEL, IORING_ASYNC_CANCEL_ALL, DEVICE},
+        {IORING_OP_ASYNC_CANCEL, IORING_ASYNC_CANCEL_ALL, READY_POLL},
+        {IORING_OP_ASYNC_CANCEL, IORING_ASYNC_CANCEL_ALL, HOUR},
+        {IORING_OP_ASYNC_CANCEL, IORING_ASYNC_CANCEL_ALL, EMPTY_POLL},
+        {IORING_OP_ASYNC_CANCEL, IORING_ASYNC_CANCEL_ALL, EMPTY_PIPE},
+        {IORING_OP_ASYNC_CANCEL, IORING_ASYNC_CANCEL_ANY, NO_OP},
+        {IORING_OP_ASYNC_CANCEL, IORING_ASYNC_CANCEL_ANY, EMPTY_PIPE},
+        {IORING_OP_POLL_REMOVE, 0, READY_POLL},
+        {IORING_OP_POLL_REMOVE, 0, EMPTY_POLL},
         {IORING_OP_TIMEOUT_REMOVE, 0, HOUR},
     };
     int device = open("/dev/zero", O_RDONLY);
@@ -251,7 +270,8 @@ static void test_cancels_after_links(void)
     close(device);
 }
 
-/* A send without copies that its chain cancels has a notice all the same, also where its own completion is skipped. */
+/* A send without copies that its chain cancels has a notice all the same, also where its own
+ * completion is skipped. */
 static void test_cancelled_sends(void)
 {
     enum { AFTER_A_FAILURE, AFTER_A_SILENT_ONE, BEFORE_A_FAULT };
@@ -260,12 +280,15 @@ static void test_cancelled_sends(void)
         unsigned flags = 0, silent = way == AFTER_A_SILENT_ONE && !is_by_manual();
         begin(0);
         if (way != BEFORE_A_FAULT)
-            put_failing(0, IOSQE_IO_LINK | (way == AFTER_A_SILENT_ONE ? IOSQE_CQE_SKIP_SUCCESS : 0));
-        put_transfer(&ring, IORING_OP_SEND_ZC, 1, way == BEFORE_A_FAULT ? IOSQE_IO_LINK : 0, ends[1], &byte, 1, 0);
+            put_failing(
+                0, IOSQE_IO_LINK | (way == AFTER_A_SILENT_ONE ? IOSQE_CQE_SKIP_SUCCESS : 0));
+        put_transfer(&ring, IORING_OP_SEND_ZC, 1, way == BEFORE_A_FAULT ? IOSQE_IO_LINK : 0,
+            ends[1], &byte, 1, 0);
         if (way == BEFORE_A_FAULT)
             put(&ring, NO_OPERATION, 0, 0);
         submit(2);
-        check(enter(&ring, 0, 3 - silent, IORING_ENTER_GETEVENTS) == 0 && count_ready(&ring) == 3 - silent);
+        check(enter(&ring, 0, 3 - silent, IORING_ENTER_GETEVENTS) == 0 &&
+              count_ready(&ring) == 3 - silent);
         for (unsigned i = 0; i < 3 - silent; i++) {
             struct seen found = next_of(&ring);
             if (found.flags & IORING_CQE_F_NOTIF)
@@ -275,7 +298,8 @@ static void test_cancelled_sends(void)
             if (found.user_data == 1 && found.res == -ECANCELED)
                 flags = found.flags;
         }
-        check(notices == 1 && results[0] == (way == BEFORE_A_FAULT ? -EINVAL : -EBADF) && results[1] == (silent ? 0 : -ECANCELED));
+        check(notices == 1 && results[0] == (way == BEFORE_A_FAULT ? -EINVAL : -EBADF) &&
+              results[1] == (silent ? 0 : -ECANCELED));
         check(flags == (way == BEFORE_A_FAULT ? IORING_CQE_F_MORE : 0));
         stop();
     }
@@ -293,5 +317,7 @@ int main(int count, char **words)
         {"cancels after links", test_cancels_after_links},
         {"cancelled sends", test_cancelled_sends},
     };
-    return are_rings_there() ? run_tests(tests, sizeof tests / sizeof *tests, count > 1 ? words[1] : NULL) : 0;
+    return are_rings_there()
+               ? run_tests(tests, sizeof tests / sizeof *tests, count > 1 ? words[1] : NULL)
+               : 0;
 }

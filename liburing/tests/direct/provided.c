@@ -1,5 +1,6 @@
 /* Tests of provided buffers, by direct calls: of lists and of rings in memory. All hold
- * under every policy, which the environment says; and on a real ring, if the kernel gives one and it is built for that.
+ * under every policy, which the environment says; and on a real ring, if the kernel gives one and
+ * it is built for that.
  *
  *   provided [NAME]          with a name: that test alone
  */
@@ -13,7 +14,8 @@
 /* (not in most headers) */
 enum { READ_MULTISHOT = 49 };
 
-/* The group 2, a ring, has no buffer left, and without one nothing is waited for; there is no group 3. The ring goes. */
+/* The group 2, a ring, has no buffer left, and without one nothing is waited for; there is no
+ * group 3. The ring goes. */
 static void expect_no_buffers(struct ring *ring, struct io_uring_buf_reg *asked)
 {
     int ends[2];
@@ -34,7 +36,8 @@ static void test_provided(void)
 {
     struct ring ring;
     static char memory[4][16];
-    struct io_uring_buf_ring *cells = mmap(NULL, 4096, PROT_READ | PROT_WRITE, MAP_PRIVATE | MAP_ANONYMOUS, -1, 0);
+    struct io_uring_buf_ring *cells = mmap(
+        NULL, 4096, PROT_READ | PROT_WRITE, MAP_PRIVATE | MAP_ANONYMOUS, -1, 0);
     struct io_uring_buf_reg asked = {.ring_addr = (uintptr_t)cells, .ring_entries = 4, .bgid = 2};
     int fd = make_file();
     check(pwrite(fd, "0123456789", 10, 0) == 10);
@@ -53,13 +56,17 @@ static void test_provided(void)
         uint16_t group, id;
         uint32_t asked;
         int32_t res;
-    } rows[] = {{1, 7, 10, 4}, {1, 8, 3, 3}, {1, 0, 3, -ENOBUFS}, {2, 30, 10, 8}, {2, 0, 10, -ENOBUFS}, {3, 0, 10, -ENOBUFS}};
+    } rows[] = {{1, 7, 10, 4}, {1, 8, 3, 3}, {1, 0, 3, -ENOBUFS}, {2, 30, 10, 8},
+        {2, 0, 10, -ENOBUFS}, {3, 0, 10, -ENOBUFS}};
     for (size_t i = 0; i < sizeof rows / sizeof *rows; i++) {
-        put_transfer(&ring, IORING_OP_READ, 5, IOSQE_BUFFER_SELECT, fd, NULL, rows[i].asked, 0)->buf_group = rows[i].group;
+        put_transfer(&ring, IORING_OP_READ, 5, IOSQE_BUFFER_SELECT, fd, NULL, rows[i].asked, 0)
+            ->buf_group = rows[i].group;
         check(enter(&ring, 1, 0, 0) == 1);
         struct seen found = next_of(&ring);
         check(found.res == rows[i].res);
-        check(found.flags == (found.res < 0 ? 0 : IORING_CQE_F_BUFFER | (uint32_t)rows[i].id << IORING_CQE_BUFFER_SHIFT));
+        check(found.flags == (found.res < 0 ? 0
+                                            : IORING_CQE_F_BUFFER |
+                                                  (uint32_t)rows[i].id << IORING_CQE_BUFFER_SHIFT));
     }
     check(memcmp(memory[3], "01234567", 8) == 0);
     expect_no_buffers(&ring, &asked);
@@ -68,7 +75,8 @@ static void test_provided(void)
     close_ring(&ring);
 }
 
-static int32_t provide(struct ring *ring, uint64_t address, uint32_t size, int count, uint64_t id, uint16_t group)
+static int32_t provide(
+    struct ring *ring, uint64_t address, uint32_t size, int count, uint64_t id, uint16_t group)
 {
     struct io_uring_sqe *entry = put_plain(ring, IORING_OP_PROVIDE_BUFFERS, 0, count);
     entry->addr = address;
@@ -84,9 +92,11 @@ static int32_t remove_buffers(struct ring *ring, int count, uint16_t group)
     return result_of_one(ring, 1);
 }
 
-static long register_group(const struct ring *ring, const void *cells, uint32_t entries, uint16_t group)
+static long register_group(
+    const struct ring *ring, const void *cells, uint32_t entries, uint16_t group)
 {
-    struct io_uring_buf_reg asked = {.ring_addr = (uintptr_t)cells, .ring_entries = entries, .bgid = group};
+    struct io_uring_buf_reg asked = {
+        .ring_addr = (uintptr_t)cells, .ring_entries = entries, .bgid = group};
     return register_at(ring->fd, IORING_REGISTER_PBUF_RING, &asked, 1);
 }
 
@@ -106,18 +116,31 @@ static void test_groups(void)
     make_ring(&ring, 8, 0, 0);
     munmap(cells + 4096, 4096);
     check(remove_buffers(&ring, 1, 1) == -ENOENT && unregister_group(&ring, 1) == -ENOENT);
-    check(provide(&ring, at, 1, 2, 65535, 1) == -EINVAL && provide(&ring, UINT64_MAX - 5, 4096, 2, 0, 1) == -EOVERFLOW);
-    check(register_group(&ring, cells, 3, 1) == -EINVAL && register_group(&ring, cells, 0, 1) == -EINVAL && register_group(&ring, cells, 65536, 1) == -EINVAL);
-    check(register_group(&ring, NULL, 3, 1) == -EINVAL && register_group(&ring, NULL, 8, 1) == -EFAULT && register_group(&ring, cells + 8, 8, 1) == -EINVAL);
-    check(register_group(&ring, cells + 4096, 8, 1) == -EFAULT && unregister_group(&ring, 1) == -ENOENT);
+    check(provide(&ring, at, 1, 2, 65535, 1) == -EINVAL &&
+          provide(&ring, UINT64_MAX - 5, 4096, 2, 0, 1) == -EOVERFLOW);
+    check(register_group(&ring, cells, 3, 1) == -EINVAL &&
+          register_group(&ring, cells, 0, 1) == -EINVAL &&
+          register_group(&ring, cells, 65536, 1) == -EINVAL);
+    check(register_group(&ring, NULL, 3, 1) == -EINVAL &&
+          register_group(&ring, NULL, 8, 1) == -EFAULT &&
+          register_group(&ring, cells + 8, 8, 1) == -EINVAL);
+    check(register_group(&ring, cells + 4096, 8, 1) == -EFAULT &&
+          unregister_group(&ring, 1) == -ENOENT);
     check(register_group(&ring, cells, 8, 1) == 0);
-    check(register_group(&ring, cells, 3, 1) == -EINVAL && register_group(&ring, NULL, 8, 1) == -EEXIST && register_group(&ring, cells + 8, 8, 1) == -EEXIST);
+    check(register_group(&ring, cells, 3, 1) == -EINVAL &&
+          register_group(&ring, NULL, 8, 1) == -EEXIST &&
+          register_group(&ring, cells + 8, 8, 1) == -EEXIST);
     check(provide(&ring, at, 1, 1, 0, 1) == -EINVAL && remove_buffers(&ring, 1, 1) == -EINVAL);
-    struct io_uring_buf_reg with_rest = {.bgid = 1, .resv = {1ull << 32}}, with_least = {.bgid = 1, .resv = {5}};
-    check(register_at(ring.fd, IORING_UNREGISTER_PBUF_RING, NULL, 1) == -EINVAL && register_at(ring.fd, IORING_UNREGISTER_PBUF_RING, &with_rest, 1) == -EINVAL);
-    check(register_at(ring.fd, IORING_UNREGISTER_PBUF_RING, &with_least, 1) == 0 && unregister_group(&ring, 1) == -ENOENT);
-    check(provide(&ring, at, 1, 3, 0, 2) == 0 && register_group(&ring, cells, 8, 2) == -EEXIST && unregister_group(&ring, 2) == -EINVAL);
-    check(remove_buffers(&ring, 2, 2) == 2 && remove_buffers(&ring, 2, 2) == 1 && remove_buffers(&ring, 2, 2) == 0);
+    struct io_uring_buf_reg with_rest = {.bgid = 1, .resv = {1ull << 32}},
+                            with_least = {.bgid = 1, .resv = {5}};
+    check(register_at(ring.fd, IORING_UNREGISTER_PBUF_RING, NULL, 1) == -EINVAL &&
+          register_at(ring.fd, IORING_UNREGISTER_PBUF_RING, &with_rest, 1) == -EINVAL);
+    check(register_at(ring.fd, IORING_UNREGISTER_PBUF_RING, &with_least, 1) == 0 &&
+          unregister_group(&ring, 1) == -ENOENT);
+    check(provide(&ring, at, 1, 3, 0, 2) == 0 && register_group(&ring, cells, 8, 2) == -EEXIST &&
+          unregister_group(&ring, 2) == -EINVAL);
+    check(remove_buffers(&ring, 2, 2) == 2 && remove_buffers(&ring, 2, 2) == 1 &&
+          remove_buffers(&ring, 2, 2) == 0);
     check(register_group(&ring, cells, 8, 2) == 0 && unregister_group(&ring, 2) == 0);
     check(provide(&ring, at, 1, 65536, 0, 3) == 0 && provide(&ring, at, 1, 1, 0, 3) == -EOVERFLOW);
     check(remove_buffers(&ring, 65536, 3) == 65535 && remove_buffers(&ring, 1, 3) == 0);
@@ -135,13 +158,15 @@ static void test_unregistered(void)
     check(register_group(&ring, cells, 8, 0) == 0 && unregister_group(&ring, 0) == 0);
     size_t before = mallinfo2().uordblks;
     for (uint32_t group = 0; group <= UINT16_MAX; group += EACH)
-        check(register_group(&ring, cells, 8, (uint16_t)group) == 0 && unregister_group(&ring, (uint16_t)group) == 0);
+        check(register_group(&ring, cells, 8, (uint16_t)group) == 0 &&
+              unregister_group(&ring, (uint16_t)group) == 0);
     check(mallinfo2().uordblks <= before + MOST_KEPT);
     munmap(cells, 4096);
     close_ring(&ring);
 }
 
-/* A list without buffers goes where a ring of a good size is to take its place, though that is refused for its address or its pages. */
+/* A list without buffers goes where a ring of a good size is to take its place, though that is
+ * refused for its address or its pages. */
 static void test_empty_lists(void)
 {
     struct ring ring;
@@ -151,7 +176,8 @@ static void test_empty_lists(void)
     make_ring(&ring, 8, 0, 0);
     munmap(cells + 4096, 4096);
     for (int i = 0; i < 3; i++) {
-        check(provide(&ring, (uintptr_t)memory, 1, 1, 0, 1) == 0 && remove_buffers(&ring, 1, 1) == 1);
+        check(
+            provide(&ring, (uintptr_t)memory, 1, 1, 0, 1) == 0 && remove_buffers(&ring, 1, 1) == 1);
         check(register_group(&ring, cells, 3, 1) == -EINVAL && remove_buffers(&ring, 1, 1) == 0);
         check(register_group(&ring, refused[i], 8, 1) == (i == 1 ? -EINVAL : -EFAULT));
         check(remove_buffers(&ring, 1, 1) == -ENOENT && unregister_group(&ring, 1) == -ENOENT);
@@ -168,9 +194,12 @@ static void make_both(struct ring *ring, uint64_t first)
     static char memory[8][8];
     static _Alignas(4096) struct io_uring_buf_ring cells[8];
     make_ring(ring, 8, 0, 0);
-    check(provide(ring, first, 8, 1, 0, BY_LIST) == 0 && provide(ring, (uintptr_t)memory[1], 8, 7, 1, BY_LIST) == 0 && register_group(ring, cells, 8, BY_RING) == 0);
+    check(provide(ring, first, 8, 1, 0, BY_LIST) == 0 &&
+          provide(ring, (uintptr_t)memory[1], 8, 7, 1, BY_LIST) == 0 &&
+          register_group(ring, cells, 8, BY_RING) == 0);
     for (uint16_t i = 0; i < 8; i++)
-        cells->bufs[i] = (struct io_uring_buf){.addr = i == 0 ? first : (uintptr_t)memory[i], .len = 8, .bid = i};
+        cells->bufs[i] = (struct io_uring_buf){
+            .addr = i == 0 ? first : (uintptr_t)memory[i], .len = 8, .bid = i};
     __atomic_store_n(&cells->tail, 8, __ATOMIC_RELEASE);
 }
 
@@ -181,30 +210,46 @@ struct taking {
     uint64_t offset;
     uint32_t flags;
     int32_t res;
-    int takers;         /* of which kinds it takes its buffer */
+    int takers; /* of which kinds it takes its buffer */
 };
 
 static void check_taking(struct ring *ring, const struct taking *of, uint16_t group, uint32_t id)
 {
     struct iovec vector = {NULL, 8};
     bool is_vector = of->code == IORING_OP_READV;
-    struct io_uring_sqe *entry = put_transfer(ring, of->code, 0, IOSQE_BUFFER_SELECT, of->fd, is_vector ? &vector : NULL, is_vector ? 1 : of->code == READ_MULTISHOT ? 0 : 8, of->offset);
+    struct io_uring_sqe *entry = put_transfer(ring, of->code, 0, IOSQE_BUFFER_SELECT, of->fd,
+        is_vector ? &vector : NULL,
+        is_vector                    ? 1
+        : of->code == READ_MULTISHOT ? 0
+                                     : 8,
+        of->offset);
     entry->rw_flags = (int)of->flags;
     entry->buf_group = group;
     check(enter(ring, 1, 0, 0) == 1);
     struct seen found = next_of(ring);
-    check(found.res == of->res && found.flags == (of->takers & group ? IORING_CQE_F_BUFFER | id << IORING_CQE_BUFFER_SHIFT : 0));
+    check(found.res == of->res &&
+          found.flags ==
+              (of->takers & group ? IORING_CQE_F_BUFFER | id << IORING_CQE_BUFFER_SHIFT : 0));
 }
 
-/* A read that fails takes its buffer: of a list, and of a ring where its descriptor can't be polled. */
+/* A read that fails takes its buffer: of a list, and of a ring where its descriptor can't be
+ * polled. */
 static void test_failing(void)
 {
-    int ends[2], folder = open("/", O_RDONLY | O_DIRECTORY), to_write = open("/dev/null", O_WRONLY), alone = socket(AF_UNIX, SOCK_STREAM, 0);
+    int ends[2], folder = open("/", O_RDONLY | O_DIRECTORY), to_write = open("/dev/null", O_WRONLY),
+                 alone = socket(AF_UNIX, SOCK_STREAM, 0);
     check(pipe(ends) == 0);
     const struct taking takings[] = {
-        {IORING_OP_READ, to_write, 0, 0, -EBADF, BY_LIST | BY_RING}, {IORING_OP_READ, ends[1], 0, 0, -EBADF, BY_LIST}, {IORING_OP_READV, ends[1], 0, 0, -EBADF, BY_LIST},
-        {IORING_OP_READ, folder, 0, 0, -EISDIR, BY_LIST | BY_RING}, {IORING_OP_READ, ends[0], 0, RWF_NOWAIT, -EAGAIN, BY_LIST}, {IORING_OP_READ, ends[0], (uint64_t)-2, 0, -EINVAL, BY_LIST},
-        {IORING_OP_READ, 999, 0, 0, -EBADF, 0}, {READ_MULTISHOT, ends[1], 0, 0, -EBADF, 0}, {IORING_OP_RECV, alone, 0, 0, -EINVAL, 0}, {IORING_OP_READ, alone, 0, 0, -EINVAL, BY_LIST},
+        {IORING_OP_READ, to_write, 0, 0, -EBADF, BY_LIST | BY_RING},
+        {IORING_OP_READ, ends[1], 0, 0, -EBADF, BY_LIST},
+        {IORING_OP_READV, ends[1], 0, 0, -EBADF, BY_LIST},
+        {IORING_OP_READ, folder, 0, 0, -EISDIR, BY_LIST | BY_RING},
+        {IORING_OP_READ, ends[0], 0, RWF_NOWAIT, -EAGAIN, BY_LIST},
+        {IORING_OP_READ, ends[0], (uint64_t)-2, 0, -EINVAL, BY_LIST},
+        {IORING_OP_READ, 999, 0, 0, -EBADF, 0},
+        {READ_MULTISHOT, ends[1], 0, 0, -EBADF, 0},
+        {IORING_OP_RECV, alone, 0, 0, -EINVAL, 0},
+        {IORING_OP_READ, alone, 0, 0, -EINVAL, BY_LIST},
     };
     for (uint16_t group = BY_LIST; group <= BY_RING; group++) {
         struct ring ring;
@@ -223,10 +268,12 @@ static void test_failing(void)
     close(alone);
 }
 
-/* A read of 8 bytes from a slot of the ring's, of which the first alone has a file, or from a file. */
+/* A read of 8 bytes from a slot of the ring's, of which the first alone has a file, or from a file.
+ */
 static void put_into_buffer(struct ring *ring, uint16_t group, uint8_t flags, int fd)
 {
-    put_transfer(ring, IORING_OP_READ, 0, IOSQE_BUFFER_SELECT | flags, fd, NULL, 8, 0)->buf_group = group;
+    put_transfer(ring, IORING_OP_READ, 0, IOSQE_BUFFER_SELECT | flags, fd, NULL, 8, 0)
+        ->buf_group = group;
 }
 
 static void check_next(struct ring *ring, int32_t res, uint32_t flags)
@@ -235,7 +282,8 @@ static void check_next(struct ring *ring, int32_t res, uint32_t flags)
     check(found.res == res && found.flags == flags);
 }
 
-/* So does a read from a slot that has a file, also within a chain and after others, and none that is cancelled, or whose slot is empty. */
+/* So does a read from a slot that has a file, also within a chain and after others, and none that
+ * is cancelled, or whose slot is empty. */
 static void test_failing_in_chains(void)
 {
     enum { HAD = IORING_CQE_F_BUFFER, NEXT = 1 << IORING_CQE_BUFFER_SHIFT };
@@ -269,7 +317,8 @@ static void test_failing_in_chains(void)
     close(file);
 }
 
-/* So it is of a buffer that can't be written, and of one at address 0, which is none: a receive takes neither. */
+/* So it is of a buffer that can't be written, and of one at address 0, which is none: a receive
+ * takes neither. */
 static void test_unusable(void)
 {
     char *pages[] = {mmap(NULL, 4096, PROT_READ, MAP_PRIVATE | MAP_ANONYMOUS, -1, 0), NULL};
@@ -277,8 +326,13 @@ static void test_unusable(void)
         for (uint16_t group = BY_LIST; group <= BY_RING; group++) {
             int ends[2], pair[2], file = make_file();
             int32_t res = pages[i] ? -EFAULT : -ENOBUFS;
-            check(pipe(ends) == 0 && socketpair(AF_UNIX, SOCK_STREAM, 0, pair) == 0 && write(file, "12345678", 8) == 8 && write(pair[1], "12345678", 8) == 8 && (!pages[i] || write(ends[1], "12345678", 8) == 8));
-            const struct taking takings[] = {{IORING_OP_RECV, pair[0], 0, 0, res, 0}, {IORING_OP_READ, ends[0], 0, 0, res, BY_LIST}, {IORING_OP_READ, file, 0, 0, res, BY_RING}, {IORING_OP_READ, file, 0, 0, 8, BY_LIST | BY_RING}};
+            check(pipe(ends) == 0 && socketpair(AF_UNIX, SOCK_STREAM, 0, pair) == 0 &&
+                  write(file, "12345678", 8) == 8 && write(pair[1], "12345678", 8) == 8 &&
+                  (!pages[i] || write(ends[1], "12345678", 8) == 8));
+            const struct taking takings[] = {{IORING_OP_RECV, pair[0], 0, 0, res, 0},
+                {IORING_OP_READ, ends[0], 0, 0, res, BY_LIST},
+                {IORING_OP_READ, file, 0, 0, res, BY_RING},
+                {IORING_OP_READ, file, 0, 0, 8, BY_LIST | BY_RING}};
             struct ring ring;
             make_both(&ring, (uintptr_t)pages[i]);
             check_taking(&ring, &takings[0], group, 0);
@@ -305,5 +359,7 @@ int main(int count, char **words)
         {"failing in chains", test_failing_in_chains},
         {"unusable", test_unusable},
     };
-    return !are_rings_there() ? 0 : run_tests(tests, sizeof tests / sizeof *tests, count > 1 ? words[1] : NULL);
+    return !are_rings_there()
+               ? 0
+               : run_tests(tests, sizeof tests / sizeof *tests, count > 1 ? words[1] : NULL);
 }

@@ -1,6 +1,8 @@
-/* Tests by direct calls of when a signal comes whose handler does nothing unusual. All hold under every policy, and are run with WULGACH_HANDLERS=quiet too: then
- * one comes amid a call that doesn't wait, at once, until an operation is carried out that it could end. A signal is raised within the layer's own calls of
- * the C library, which go through the wrapped ones of this program. A test that hangs ends by an alarm.
+/* Tests by direct calls of when a signal comes whose handler does nothing unusual. All hold under
+ * every policy, and are run with WULGACH_HANDLERS=quiet too: then one comes amid a call that
+ * doesn't wait, at once, until an operation is carried out that it could end. A signal is raised
+ * within the layer's own calls of the C library, which go through the wrapped ones of this program.
+ * A test that hangs ends by an alarm.
  *
  *   quiet [NAME]             with a name: that test alone
  */
@@ -21,7 +23,7 @@ static void come(int number)
     comings_of_pipe += number == SIGPIPE;
 }
 
-static void catch(int number)
+static void catch (int number)
 {
     struct sigaction action = {.sa_handler = come};
     check(sigaction(number, &action, NULL) == 0);
@@ -82,7 +84,7 @@ static int begin(struct ring *ring)
     int file = memfd_create("quiet", MFD_CLOEXEC);
     check(file >= 0 && ftruncate(file, 4096) == 0);
     comings = comings_of_pipe = 0;
-    catch(SIGUSR1);
+    catch (SIGUSR1);
     make_ring(ring, 8, 0, 0);
     return file;
 }
@@ -102,7 +104,8 @@ static void test_reads(void)
     int file = begin(&ring);
     for (unsigned i = 0; i < 6; i++) {
         bool waits = i % 2 == 1;
-        put_transfer(&ring, i < 3 ? IORING_OP_READ : IORING_OP_NOP, i, 0, file, bytes, i < 3 ? sizeof bytes : 0, 0);
+        put_transfer(&ring, i < 3 ? IORING_OP_READ : IORING_OP_NOP, i, 0, file, bytes,
+            i < 3 ? sizeof bytes : 0, 0);
         raised_at = AT_LOCK;
         check(enter(&ring, 1, waits, IORING_ENTER_GETEVENTS) == 1);
         check(came_at_once == (are_quiet() && !waits) && comings == (int)i + 1);
@@ -114,7 +117,8 @@ static void test_reads(void)
 /* What a signal could end early isn't reached by any. */
 static void test_operations(void)
 {
-    static const uint8_t codes[] = {IORING_OP_FALLOCATE, IORING_OP_FSYNC, IORING_OP_SYNC_FILE_RANGE, IORING_OP_FADVISE};
+    static const uint8_t codes[] = {
+        IORING_OP_FALLOCATE, IORING_OP_FSYNC, IORING_OP_SYNC_FILE_RANGE, IORING_OP_FADVISE};
     struct ring ring;
     int file = begin(&ring);
     for (unsigned i = 0; i < sizeof codes; i++) {
@@ -172,12 +176,13 @@ static void test_look(void)
     end(&ring, file);
 }
 
-/* The signal of a write that nobody reads is taken back where a worker of the kernel's would have it. */
+/* The signal of a write that nobody reads is taken back where a worker of the kernel's would have
+ * it. */
 static void test_pipe(void)
 {
     struct ring ring;
     int ends[2], file = begin(&ring);
-    catch(SIGPIPE);
+    catch (SIGPIPE);
     check(pipe(ends) == 0 && close(ends[0]) == 0);
     put_transfer(&ring, IORING_OP_WRITE, 0, IOSQE_ASYNC, ends[1], "x", 1, 0);
     check(enter(&ring, 1, 0, 0) == 1);
@@ -189,7 +194,8 @@ static void test_pipe(void)
 /* What is asked of a file amid signals: a read, a write, more room, a no-op. */
 static int32_t ask(struct ring *ring, unsigned turn, int file, char *bytes)
 {
-    static const uint8_t codes[] = {IORING_OP_READ, IORING_OP_NOP, IORING_OP_READ, IORING_OP_WRITE, IORING_OP_READ, IORING_OP_FALLOCATE};
+    static const uint8_t codes[] = {IORING_OP_READ, IORING_OP_NOP, IORING_OP_READ, IORING_OP_WRITE,
+        IORING_OP_READ, IORING_OP_FALLOCATE};
     uint8_t code = codes[turn % sizeof codes];
     struct io_uring_sqe *entry = put_plain(ring, code, turn, file);
     if (code == IORING_OP_FALLOCATE) {
@@ -211,7 +217,7 @@ static void test_storm(void)
     struct ring ring;
     static char bytes[4096];
     int file = begin(&ring);
-    catch(SIGALRM);
+    catch (SIGALRM);
     check(setitimer(ITIMER_REAL, &often, NULL) == 0);
     for (unsigned i = 0; i < ROUNDS; i++) {
         int32_t wanted = ask(&ring, i, file, bytes);

@@ -1,6 +1,7 @@
-/* Tests of a ring's descriptor that polls, beside what others do while a call looks or sleeps. All hold under every policy. They are run with
- * WULGACH_TEST_POLLED. The layer's calls of poll, epoll_wait and epoll_pwait2 go through the wrapped ones of this program, after and before which it does what
- * another thread might do just then.
+/* Tests of a ring's descriptor that polls, beside what others do while a call looks or sleeps. All
+ * hold under every policy. They are run with WULGACH_TEST_POLLED. The layer's calls of poll,
+ * epoll_wait and epoll_pwait2 go through the wrapped ones of this program, after and before which
+ * it does what another thread might do just then.
  *
  *   raced [NAME]             with a name: that test alone
  */
@@ -9,7 +10,8 @@
 
 #include <semaphore.h>
 
-/* What a pipe had while nobody called makes the descriptor readable too, and wakes a thread that sleeps in a call. */
+/* What a pipe had while nobody called makes the descriptor readable too, and wakes a thread that
+ * sleeps in a call. */
 static unsigned later;
 
 static void *write_and_read_later(void *of)
@@ -57,8 +59,9 @@ static void test_come_and_gone(void)
     close_ring(&ring);
 }
 
-/* The pipe that another thread seems to use: it is written to after the first look of the layer that finds nothing after so many, and read
- * after the first that finds something after so many. A negative number: it isn't. */
+/* The pipe that another thread seems to use: it is written to after the first look of the layer
+ * that finds nothing after so many, and read after the first that finds something after so many. A
+ * negative number: it isn't. */
 static const int *raced;
 static int until_write, until_read;
 
@@ -66,7 +69,8 @@ static int until_write, until_read;
 static bool is_taking_edges;
 static unsigned count_edges(void);
 
-/* The ring's descriptor, which another thread closes in a call's first look, or -1: then its number is of an epoll instance of the program's own. */
+/* The ring's descriptor, which another thread closes in a call's first look, or -1: then its number
+ * is of an epoll instance of the program's own. */
 static int closed_in_look = -1;
 
 static void reopen(void)
@@ -102,8 +106,9 @@ int __wrap_epoll_wait(int fd, struct epoll_event *events, int most, int patience
     return use_pipe(__real_epoll_wait(fd, events, most, patience));
 }
 
-/* Whatever look of a call it is after which a pipe is read that was written to, before the call or in it: the poll ends, and until it has the
- * descriptor is readable. Beside so many that wait it is the same. */
+/* Whatever look of a call it is after which a pipe is read that was written to, before the call or
+ * in it: the poll ends, and until it has the descriptor is readable. Beside so many that wait it is
+ * the same. */
 static void gone_after_a_look(unsigned others)
 {
     struct ring ring;
@@ -125,7 +130,8 @@ static void gone_after_a_look(unsigned others)
         until_write = is_written_before ? -1 : 0;
         until_read = round / 4;
         raced = ends;
-        long result = is_waiting ? enter_for(&ring, 1, 1000000000) : enter(&ring, 0, 0, IORING_ENTER_GETEVENTS);
+        long result = is_waiting ? enter_for(&ring, 1, 1000000000)
+                                 : enter(&ring, 0, 0, IORING_ENTER_GETEVENTS);
         raced = NULL;
         check(result == 0);
         (void)!read(ends[0], &byte, 1);
@@ -150,8 +156,10 @@ static void test_gone_after_a_look(void)
 static sem_t begins, may_begin;
 static bool is_held;
 
-int __real_epoll_pwait2(int fd, struct epoll_event *events, int most, const struct timespec *time, const sigset_t *signals);
-int __wrap_epoll_pwait2(int fd, struct epoll_event *events, int most, const struct timespec *time, const sigset_t *signals)
+int __real_epoll_pwait2(int fd, struct epoll_event *events, int most, const struct timespec *time,
+    const sigset_t *signals);
+int __wrap_epoll_pwait2(int fd, struct epoll_event *events, int most, const struct timespec *time,
+    const sigset_t *signals)
 {
     if (__atomic_exchange_n(&is_held, false, __ATOMIC_ACQ_REL)) {
         check(sem_post(&begins) == 0);
@@ -166,7 +174,8 @@ static void *wait_long(void *ring)
     return NULL;
 }
 
-/* What comes and goes while one thread begins to sleep is heard in another's call: that wakes the first. */
+/* What comes and goes while one thread begins to sleep is heard in another's call: that wakes the
+ * first. */
 static void test_heard_by_another(void)
 {
     struct ring ring;
@@ -196,8 +205,8 @@ static void take_number(int fd)
     check(close(fd) == 0 && epoll_create1(EPOLL_CLOEXEC) == fd);
 }
 
-/* A ring is called by one of two descriptors while that is closed, or was called last by it: nobody waits for a pipe any more, so the other isn't readable
- * once it is written to. */
+/* A ring is called by one of two descriptors while that is closed, or was called last by it: nobody
+ * waits for a pipe any more, so the other isn't readable once it is written to. */
 static void test_two_descriptors(void)
 {
     struct io_uring_sync_cancel_reg any = {.flags = IORING_ASYNC_CANCEL_ANY, .timeout = {-1, -1}};
@@ -211,7 +220,8 @@ static void test_two_descriptors(void)
         other = ring;
         other.fd = dup(ring.fd);
         put_transfer(&ring, IORING_OP_READ, 0, 0, ends[0], &byte, 1, 0);
-        check(enter(&other, 1, 0, 0) == 1 && enter_for(&other, 1, 1000) == -ETIME && !is_readable(&ring, 0));
+        check(enter(&other, 1, 0, 0) == 1 && enter_for(&other, 1, 1000) == -ETIME &&
+              !is_readable(&ring, 0));
         if (is_asleep) {
             is_held = true;
             check(pthread_create(&thread, NULL, wait_long, &other) == 0);
@@ -231,7 +241,8 @@ static void test_two_descriptors(void)
     }
 }
 
-/* A completion is posted after the look of another thread that was told of the call by an edge: it is told by another. */
+/* A completion is posted after the look of another thread that was told of the call by an edge: it
+ * is told by another. */
 static int told_by_edges = -1;
 
 static unsigned count_edges(void)
@@ -279,7 +290,8 @@ static void test_edges(void)
 {
     pthread_t thread;
     tell_by_edges();
-    check(sem_init(&may_begin, 0, 0) == 0 && pthread_create(&thread, NULL, do_nothing, &may_begin) == 0);
+    check(sem_init(&may_begin, 0, 0) == 0 &&
+          pthread_create(&thread, NULL, do_nothing, &may_begin) == 0);
     tell_by_edges();
     check(sem_post(&may_begin) == 0 && pthread_join(thread, NULL) == 0);
 }
@@ -298,7 +310,8 @@ static unsigned count_polled(int instance)
     return count;
 }
 
-/* A call that doesn't sleep has its descriptor closed meanwhile, and its number is another's: that is left alone, however many wait. */
+/* A call that doesn't sleep has its descriptor closed meanwhile, and its number is another's: that
+ * is left alone, however many wait. */
 static void reopened(unsigned others)
 {
     struct ring ring;

@@ -1,4 +1,5 @@
-/* A test that asks the layer and a real ring the same: what is included after this asks one of them. */
+/* A test that asks the layer and a real ring the same: what is included after this asks one of
+ * them. */
 #ifndef REAL_H
 #define REAL_H
 
@@ -22,7 +23,9 @@ static long ask(long call, ...)
     for (int i = 0; i < 6; i++)
         words[i] = va_arg(arguments, long);
     va_end(arguments);
-    return is_real ? syscall(call, words[0], words[1], words[2], words[3], words[4], words[5]) : wulgach_syscall(call, words[0], words[1], words[2], words[3], words[4], words[5]);
+    return is_real
+               ? syscall(call, words[0], words[1], words[2], words[3], words[4], words[5])
+               : wulgach_syscall(call, words[0], words[1], words[2], words[3], words[4], words[5]);
 }
 
 #define wulgach_syscall ask

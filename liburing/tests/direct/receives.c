@@ -1,5 +1,5 @@
-/* Tests of receives, by direct calls: those that go on, take provided buffers or are polled first, and what counts as cut. All hold under every policy, which the
- * environment says.
+/* Tests of receives, by direct calls: those that go on, take provided buffers or are polled first,
+ * and what counts as cut. All hold under every policy, which the environment says.
  *
  *   receives [NAME]          with a name: that test alone
  */
@@ -57,7 +57,8 @@ static void test_multishot_receive(void)
         check(enter_for(&ring, 1, 1000) == -ETIME);
         check(send(ends[1], "piece", 5, 0) == 5);
         struct seen found = next_of(&ring);
-        check(found.res == 5 && found.flags == (IORING_CQE_F_MORE | IORING_CQE_F_BUFFER | i << IORING_CQE_BUFFER_SHIFT));
+        check(found.res == 5 && found.flags == (IORING_CQE_F_MORE | IORING_CQE_F_BUFFER |
+                                                   i << IORING_CQE_BUFFER_SHIFT));
     }
     check(send(ends[1], "piece", 5, 0) == 5);
     struct seen last = next_of(&ring);
@@ -88,8 +89,8 @@ static void test_multishot_length(void)
     close_ring(&ring);
 }
 
-/* A receive that finds no buffer when it starts ends so. One that has found one waits for its socket, and takes what its group has then: as
- * on a real ring. */
+/* A receive that finds no buffer when it starts ends so. One that has found one waits for its
+ * socket, and takes what its group has then: as on a real ring. */
 static void test_buffers_that_go(void)
 {
     static char memory[2][16];
@@ -109,7 +110,8 @@ static void test_buffers_that_go(void)
         provide(&ring, memory[1], 1, 3);
         check(send(ends[1], "piece", 5, 0) == 5);
         struct seen found = next_of(&ring);
-        check(found.res == 5 && (found.flags & ~(uint32_t)IORING_CQE_F_MORE) == (IORING_CQE_F_BUFFER | 3 << IORING_CQE_BUFFER_SHIFT));
+        check(found.res == 5 && (found.flags & ~(uint32_t)IORING_CQE_F_MORE) ==
+                                    (IORING_CQE_F_BUFFER | 3 << IORING_CQE_BUFFER_SHIFT));
         check(memcmp(memory[1], "piece", 5) == 0);
         provide(&ring, memory[0], 1, 0);
         if (!is_multishot)
@@ -124,8 +126,8 @@ static void test_buffers_that_go(void)
     }
 }
 
-/* What is to be polled first waits before anything else is looked at: it takes a buffer that was provided meanwhile, and has its faults once
- * something is there. As on a real ring. */
+/* What is to be polled first waits before anything else is looked at: it takes a buffer that was
+ * provided meanwhile, and has its faults once something is there. As on a real ring. */
 static void test_polled_first(void)
 {
     static char memory[16], text[8];
@@ -134,19 +136,22 @@ static void test_polled_first(void)
         int ends[2];
         make_pair(ends);
         make_ring(&ring, 8, 0, 0);
-        submit_receive_as(&ring, ends[0], IORING_RECVSEND_POLL_FIRST | (is_multishot ? IORING_RECV_MULTISHOT : 0));
+        submit_receive_as(&ring, ends[0],
+            IORING_RECVSEND_POLL_FIRST | (is_multishot ? IORING_RECV_MULTISHOT : 0));
         check(enter_for(&ring, 1, 1000) == -ETIME);
         provide(&ring, memory, 1, 3);
         check(enter_for(&ring, 1, 1000) == -ETIME);
         check(send(ends[1], "piece", 5, 0) == 5);
         struct seen found = next_of(&ring);
-        check(found.res == 5 && found.flags & IORING_CQE_F_BUFFER && memcmp(memory, "piece", 5) == 0);
+        check(
+            found.res == 5 && found.flags & IORING_CQE_F_BUFFER && memcmp(memory, "piece", 5) == 0);
         if (is_multishot) {
             check(send(ends[1], "piece", 5, 0) == 5);
             check(wait_for_one(&ring) == -ENOBUFS);
             check(recv(ends[0], text, 8, MSG_DONTWAIT) == 5);
         }
-        submit_receive_as(&ring, ends[0], IORING_RECVSEND_POLL_FIRST | (is_multishot ? IORING_RECV_MULTISHOT : 0));
+        submit_receive_as(&ring, ends[0],
+            IORING_RECVSEND_POLL_FIRST | (is_multishot ? IORING_RECV_MULTISHOT : 0));
         check(enter_for(&ring, 1, 1000) == -ETIME);
         check(send(ends[1], "piece", 5, 0) == 5);
         check(wait_for_one(&ring) == -ENOBUFS);
@@ -173,12 +178,14 @@ static void test_listener_polled_first(void)
     socklen_t size = sizeof address;
     char text[8];
     int listener = socket(AF_UNIX, SOCK_STREAM, 0), caller = socket(AF_UNIX, SOCK_STREAM, 0);
-    check(bind(listener, &address, sizeof(sa_family_t)) == 0 && listen(listener, 4) == 0 && getsockname(listener, &address, &size) == 0);
+    check(bind(listener, &address, sizeof(sa_family_t)) == 0 && listen(listener, 4) == 0 &&
+          getsockname(listener, &address, &size) == 0);
     make_ring(&ring, 8, 0, 0);
     put_transfer(&ring, IORING_OP_RECV, 0, 0, listener, text, 8, 0);
     int32_t plain = result_of_one(&ring, 1);
     check(plain < 0);
-    put_transfer(&ring, IORING_OP_RECV, 0, 0, listener, text, 8, 0)->ioprio = IORING_RECVSEND_POLL_FIRST;
+    put_transfer(&ring, IORING_OP_RECV, 0, 0, listener, text, 8, 0)
+        ->ioprio = IORING_RECVSEND_POLL_FIRST;
     check(enter(&ring, 1, 0, 0) == 1);
     check(enter_for(&ring, 1, 1000) == -ETIME);
     check(connect(caller, &address, size) == 0);
@@ -188,7 +195,8 @@ static void test_listener_polled_first(void)
     close_ring(&ring);
 }
 
-/* A message that goes on has no room in a buffer for what stands in front of it: that it is of no socket counts before. As on a real ring. */
+/* A message that goes on has no room in a buffer for what stands in front of it: that it is of no
+ * socket counts before. As on a real ring. */
 static void test_no_room_in_front(void)
 {
     struct ring ring;
@@ -201,7 +209,8 @@ static void test_no_room_in_front(void)
     make_ring(&ring, 8, 0, 0);
     provide(&ring, memory, 1, 0);
     for (int i = 0; i < 2; i++) {
-        struct io_uring_sqe *entry = put_transfer(&ring, IORING_OP_RECVMSG, 0, IOSQE_BUFFER_SELECT, i == 0 ? pipes[0] : ends[0], &message, 1, 0);
+        struct io_uring_sqe *entry = put_transfer(&ring, IORING_OP_RECVMSG, 0, IOSQE_BUFFER_SELECT,
+            i == 0 ? pipes[0] : ends[0], &message, 1, 0);
         entry->ioprio = IORING_RECV_MULTISHOT;
         check(result_of_one(&ring, 1) == (i == 0 ? -ENOTSOCK : -EFAULT));
     }
@@ -210,7 +219,8 @@ static void test_no_room_in_front(void)
     close_ring(&ring);
 }
 
-/* A receive that is to wait for all breaks its chain if what came was cut, and another doesn't: as on a real ring. */
+/* A receive that is to wait for all breaks its chain if what came was cut, and another doesn't: as
+ * on a real ring. */
 static void test_cut_receives(void)
 {
     struct ring ring;
@@ -224,7 +234,9 @@ static void test_cut_receives(void)
         struct msghdr message = {.msg_iov = &vector, .msg_iovlen = 1};
         bool is_whole = row & 1, is_short = row > 3;
         check(send(ends[1], "12345678", is_short ? 2 : 8, 0) > 0);
-        struct io_uring_sqe *entry = put_transfer(&ring, row & 2 ? IORING_OP_RECVMSG : IORING_OP_RECV, 0, IOSQE_IO_LINK, ends[0], row & 2 ? (void *)&message : text, row & 2 ? 1 : 4, 0);
+        struct io_uring_sqe *entry = put_transfer(&ring,
+            row & 2 ? IORING_OP_RECVMSG : IORING_OP_RECV, 0, IOSQE_IO_LINK, ends[0],
+            row & 2 ? (void *)&message : text, row & 2 ? 1 : 4, 0);
         entry->msg_flags = is_whole ? MSG_WAITALL : 0;
         put(&ring, IORING_OP_NOP, 1, 0);
         check(enter(&ring, 2, 0, 0) == 2);

@@ -1,5 +1,6 @@
-/* Tests by direct calls: the record of choices (WULGACH_CHOICES) is its process's, and no other file has its lines. Its policy is a seed, whichever the
- * surrounding has. A test that hangs ends by an alarm.
+/* Tests by direct calls: the record of choices (WULGACH_CHOICES) is its process's, and no other
+ * file has its lines. Its policy is a seed, whichever the surrounding has. A test that hangs ends
+ * by an alarm.
  */
 #define _GNU_SOURCE
 #include "engines.h"

@@ -1,9 +1,10 @@
-/* Each call of the C library that the layer makes and that can fail, refused in turn: it then fails once, in a run of its
- * own. Set-up may then fail, a call may submit less or fail, and an operation may end with an error. But nothing hangs or
- * crashes, the next call goes on, and each request that was accepted has one completion.
+/* Each call of the C library that the layer makes and that can fail, refused in turn: it then fails
+ * once, in a run of its own. Set-up may then fail, a call may submit less or fail, and an operation
+ * may end with an error. But nothing hangs or crashes, the next call goes on, and each request that
+ * was accepted has one completion.
  *
- *   refused          all of them, for a descriptor that is memory and for one that polls, of a ring on which few requests wait and of one on
- *                    which many do
+ *   refused          all of them, for a descriptor that is memory and for one that polls, of a ring
+ * on which few requests wait and of one on which many do
  */
 #define _GNU_SOURCE
 #include "ring.h"
@@ -21,8 +22,8 @@
 
 /* ---- the calls ---- */
 
-static bool is_in_layer;        /* a call of the layer's is under way */
-static long asked, refused;     /* how many it made so far, and which one is to fail, from 1 on */
+static bool is_in_layer; /* a call of the layer's is under way */
+static long asked, refused; /* how many it made so far, and which one is to fail, from 1 on */
 static const char *refused_name = "";
 
 static bool is_refused(const char *name, int error)
@@ -35,10 +36,10 @@ static bool is_refused(const char *name, int error)
 }
 
 #define WRAP(type, name, none, error, parameters, arguments) \
-    type __real_##name parameters;                           \
-    type __wrap_##name parameters;                           \
-    type __wrap_##name parameters                            \
-    {                                                        \
+    type __real_##name parameters; \
+    type __wrap_##name parameters; \
+    type __wrap_##name parameters \
+    { \
         return is_refused(#name, error) ? none : __real_##name arguments; \
     }
 
@@ -49,26 +50,49 @@ WRAP(int, memfd_create, -1, EMFILE, (const char *name, unsigned flags), (name, f
 WRAP(int, ftruncate, -1, ENOSPC, (int fd, off_t length), (fd, length))
 WRAP(int, eventfd, -1, EMFILE, (unsigned count, int flags), (count, flags))
 WRAP(int, epoll_create1, -1, EMFILE, (int flags), (flags))
-WRAP(int, epoll_ctl, -1, ENOMEM, (int at, int change, int fd, struct epoll_event *event), (at, change, fd, event))
-WRAP(int, epoll_wait, -1, EINVAL, (int at, struct epoll_event *events, int most, int limit), (at, events, most, limit))
-WRAP(int, epoll_pwait2, -1, ENOSYS, (int at, struct epoll_event *events, int most, const struct timespec *limit, const sigset_t *signals), (at, events, most, limit, signals))
+WRAP(int, epoll_ctl, -1, ENOMEM, (int at, int change, int fd, struct epoll_event *event),
+    (at, change, fd, event))
+WRAP(int, epoll_wait, -1, EINVAL, (int at, struct epoll_event *events, int most, int limit),
+    (at, events, most, limit))
+WRAP(int, epoll_pwait2, -1, ENOSYS,
+    (int at, struct epoll_event *events, int most, const struct timespec *limit,
+        const sigset_t *signals),
+    (at, events, most, limit, signals))
 WRAP(int, fstat, -1, EIO, (int fd, struct stat *status), (fd, status))
 WRAP(int, stat, -1, EACCES, (const char *path, struct stat *status), (path, status))
-WRAP(void *, mmap, MAP_FAILED, ENOMEM, (void *at, size_t size, int protection, int flags, int fd, off_t offset), (at, size, protection, flags, fd, offset))
-WRAP(int, poll, -1, ENOMEM, (struct pollfd * polled, nfds_t count, int limit), (polled, count, limit))
-WRAP(int, ppoll, -1, ENOMEM, (struct pollfd * polled, nfds_t count, const struct timespec *limit, const sigset_t *signals), (polled, count, limit, signals))
-WRAP(ssize_t, process_vm_readv, -1, EPERM, (pid_t process, const struct iovec *to, unsigned long to_count, const struct iovec *from, unsigned long from_count, unsigned long flags), (process, to, to_count, from, from_count, flags))
-WRAP(ssize_t, process_vm_writev, -1, EPERM, (pid_t process, const struct iovec *from, unsigned long from_count, const struct iovec *to, unsigned long to_count, unsigned long flags), (process, from, from_count, to, to_count, flags))
-WRAP(ssize_t, preadv, -1, EIO, (int fd, const struct iovec *vectors, int count, off_t offset), (fd, vectors, count, offset))
-WRAP(ssize_t, pwritev, -1, EIO, (int fd, const struct iovec *vectors, int count, off_t offset), (fd, vectors, count, offset))
-WRAP(ssize_t, preadv2, -1, EIO, (int fd, const struct iovec *vectors, int count, off_t offset, int flags), (fd, vectors, count, offset, flags))
-WRAP(ssize_t, pwritev2, -1, EIO, (int fd, const struct iovec *vectors, int count, off_t offset, int flags), (fd, vectors, count, offset, flags))
+WRAP(void *, mmap, MAP_FAILED, ENOMEM,
+    (void *at, size_t size, int protection, int flags, int fd, off_t offset),
+    (at, size, protection, flags, fd, offset))
+WRAP(int, poll, -1, ENOMEM, (struct pollfd * polled, nfds_t count, int limit),
+    (polled, count, limit))
+WRAP(int, ppoll, -1, ENOMEM,
+    (struct pollfd * polled, nfds_t count, const struct timespec *limit, const sigset_t *signals),
+    (polled, count, limit, signals))
+WRAP(ssize_t, process_vm_readv, -1, EPERM,
+    (pid_t process, const struct iovec *to, unsigned long to_count, const struct iovec *from,
+        unsigned long from_count, unsigned long flags),
+    (process, to, to_count, from, from_count, flags))
+WRAP(ssize_t, process_vm_writev, -1, EPERM,
+    (pid_t process, const struct iovec *from, unsigned long from_count, const struct iovec *to,
+        unsigned long to_count, unsigned long flags),
+    (process, from, from_count, to, to_count, flags))
+WRAP(ssize_t, preadv, -1, EIO, (int fd, const struct iovec *vectors, int count, off_t offset),
+    (fd, vectors, count, offset))
+WRAP(ssize_t, pwritev, -1, EIO, (int fd, const struct iovec *vectors, int count, off_t offset),
+    (fd, vectors, count, offset))
+WRAP(ssize_t, preadv2, -1, EIO,
+    (int fd, const struct iovec *vectors, int count, off_t offset, int flags),
+    (fd, vectors, count, offset, flags))
+WRAP(ssize_t, pwritev2, -1, EIO,
+    (int fd, const struct iovec *vectors, int count, off_t offset, int flags),
+    (fd, vectors, count, offset, flags))
 WRAP(int, fsync, -1, EIO, (int fd), (fd))
 WRAP(ssize_t, read, -1, EIO, (int fd, void *at, size_t size), (fd, at, size))
 WRAP(ssize_t, write, -1, EIO, (int fd, const void *at, size_t size), (fd, at, size))
 WRAP(DIR *, opendir, NULL, EMFILE, (const char *path), (path))
 WRAP(int, inotify_init1, -1, EMFILE, (int flags), (flags))
-WRAP(int, inotify_add_watch, -1, ENOSPC, (int fd, const char *path, uint32_t mask), (fd, path, mask))
+WRAP(
+    int, inotify_add_watch, -1, ENOSPC, (int fd, const char *path, uint32_t mask), (fd, path, mask))
 
 int __real_fcntl(int fd, int command, ...);
 int __wrap_fcntl(int fd, int command, ...);
@@ -88,7 +112,8 @@ int __wrap_open(const char *path, int flags, ...)
     return is_refused("open", EMFILE) ? -1 : __real_open(path, flags, 0666);
 }
 
-/* This one isn't refused: but the layer closes no number twice, which may be another file's by then. */
+/* This one isn't refused: but the layer closes no number twice, which may be another file's by
+ * then. */
 int __real_close(int fd);
 int __wrap_close(int fd);
 int __wrap_close(int fd)
@@ -105,7 +130,8 @@ static long enter_refused(struct ring *ring, unsigned to_submit, unsigned min_co
     struct __kernel_timespec time = {0, 2000000};
     struct io_uring_getevents_arg argument = {.ts = (uintptr_t)&time};
     is_in_layer = true;
-    long result = wulgach_syscall(SYS_io_uring_enter, ring->fd, to_submit, min_complete, IORING_ENTER_GETEVENTS | IORING_ENTER_EXT_ARG, &argument, sizeof argument);
+    long result = wulgach_syscall(SYS_io_uring_enter, ring->fd, to_submit, min_complete,
+        IORING_ENTER_GETEVENTS | IORING_ENTER_EXT_ARG, &argument, sizeof argument);
     is_in_layer = false;
     return result < 0 ? -errno : result;
 }
@@ -116,7 +142,8 @@ static bool open_refused(struct ring *ring, bool is_polled)
     memset(ring, 0, sizeof *ring);
     struct io_uring_params *params = &ring->params;
     is_in_layer = true;
-    ring->fd = (int)(is_polled ? wulgach_polled_syscall(SYS_io_uring_setup, 64u, params) : wulgach_syscall(SYS_io_uring_setup, 64u, params));
+    ring->fd = (int)(is_polled ? wulgach_polled_syscall(SYS_io_uring_setup, 64u, params)
+                               : wulgach_syscall(SYS_io_uring_setup, 64u, params));
     is_in_layer = false;
     check(ring->fd >= 0 || refused <= asked);
     if (ring->fd < 0)
@@ -129,7 +156,8 @@ static bool open_refused(struct ring *ring, bool is_polled)
     return true;
 }
 
-/* The requests, and the polls beside them where many wait, which have the user data after theirs. */
+/* The requests, and the polls beside them where many wait, which have the user data after theirs.
+ */
 enum { REQUESTS = 9, CROWD = 36 };
 
 static unsigned reap_refused(struct ring *ring, uint64_t *seen)
@@ -143,8 +171,10 @@ static unsigned reap_refused(struct ring *ring, uint64_t *seen)
     return reaped;
 }
 
-/* A chain on a file, a read of a pipe, which is fed later, and a poll of it, a timeout, and vectors. */
-static void put_all(struct ring *ring, int file, const int *ends, char *bytes, struct iovec *vectors, struct __kernel_timespec *time)
+/* A chain on a file, a read of a pipe, which is fed later, and a poll of it, a timeout, and
+ * vectors. */
+static void put_all(struct ring *ring, int file, const int *ends, char *bytes,
+    struct iovec *vectors, struct __kernel_timespec *time)
 {
     put_transfer(ring, IORING_OP_WRITE, 0, IOSQE_IO_LINK, file, bytes, 8, 0);
     put(ring, IORING_OP_FSYNC, 1, IOSQE_IO_LINK)->fd = file;
@@ -222,7 +252,8 @@ static long run_child(long number, bool is_polled, bool is_crowded)
     int status;
     check(waitpid(child, &status, 0) == child);
     if (status != 0) {
-        printf("refused: call %ld of the layer, %s, %s wait: status %#x\n", number, is_polled ? "polled" : "memory", is_crowded ? "many" : "few", (unsigned)status);
+        printf("refused: call %ld of the layer, %s, %s wait: status %#x\n", number,
+            is_polled ? "polled" : "memory", is_crowded ? "many" : "few", (unsigned)status);
         exit(1);
     }
     check(read(results[0], &told, sizeof told) == sizeof told);
@@ -238,7 +269,9 @@ int main(void)
         long number = 1;
         while (run_child(number, is_polled, is_crowded) >= number)
             number++;
-        printf("%s, %s wait: %ld calls, each refused in turn\n", is_polled ? "a descriptor that polls" : "memory", is_crowded ? "many" : "few", number - 1);
+        printf("%s, %s wait: %ld calls, each refused in turn\n",
+            is_polled ? "a descriptor that polls" : "memory", is_crowded ? "many" : "few",
+            number - 1);
         fflush(stdout);
     }
     return 0;

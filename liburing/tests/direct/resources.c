@@ -1,5 +1,6 @@
-/* Tests of what is registered, by direct calls, but files and rings: buffers and their tags, eventfds and restrictions; and of rings with SQPOLL and with large cells. All
- * hold under every policy, which the environment says.
+/* Tests of what is registered, by direct calls, but files and rings: buffers and their tags,
+ * eventfds and restrictions; and of rings with SQPOLL and with large cells. All hold under every
+ * policy, which the environment says.
  *
  *   resources [NAME]         with a name: that test alone
  */
@@ -37,7 +38,8 @@ static void test_buffers(void)
     close_ring(&ring);
 }
 
-/* A length that is below 0 as a signed one counts before its address, in each row, and of an update too: as on a real ring. */
+/* A length that is below 0 as a signed one counts before its address, in each row, and of an update
+ * too: as on a real ring. */
 static void test_length_below_zero(void)
 {
     struct ring ring;
@@ -50,7 +52,8 @@ static void test_length_below_zero(void)
         check(register_at(ring.fd, IORING_REGISTER_BUFFERS, &vectors[1], 1) == -EINVAL);
         check(register_at(ring.fd, IORING_REGISTER_BUFFERS, vectors, 2) == -EINVAL);
         check(register_at(ring.fd, IORING_REGISTER_BUFFERS, vectors, 1) == 0);
-        check(register_at(ring.fd, IORING_REGISTER_BUFFERS_UPDATE, &update, sizeof update) == -EINVAL);
+        check(register_at(ring.fd, IORING_REGISTER_BUFFERS_UPDATE, &update, sizeof update) ==
+              -EINVAL);
         check(register_at(ring.fd, IORING_UNREGISTER_BUFFERS, NULL, 0) == 0);
     }
     vectors[1] = (struct iovec){memory, SIZE_MAX >> 1};
@@ -65,7 +68,8 @@ static void test_tags_of_buffers(void)
     int ends[2];
     uint64_t tags[2] = {11, 12};
     struct iovec vectors[2] = {{memory[0], 16}, {memory[1], 16}}, none = {0};
-    struct io_uring_rsrc_register asked = {.nr = 2, .data = (uintptr_t)vectors, .tags = (uintptr_t)tags};
+    struct io_uring_rsrc_register asked = {
+        .nr = 2, .data = (uintptr_t)vectors, .tags = (uintptr_t)tags};
     struct io_uring_rsrc_update2 update = {.offset = 0, .data = (uintptr_t)&none, .nr = 1};
     check(pipe(ends) == 0);
     make_ring(&ring, 8, 0, 0);
@@ -112,7 +116,8 @@ static void test_eventfd(void)
     close_ring(&ring);
 }
 
-/* A call tells an eventfd once of all that it shows. One whose counter is full stays so, and no call waits for it. */
+/* A call tells an eventfd once of all that it shows. One whose counter is full stays so, and no
+ * call waits for it. */
 static void test_full_eventfd(void)
 {
     struct ring ring;
@@ -131,8 +136,8 @@ static void test_full_eventfd(void)
     close_ring(&ring);
 }
 
-/* An eventfd for what ends asynchronously alone isn't told of an event that is there when its request is submitted, but of later ones,
- * and of what a call of register ends. */
+/* An eventfd for what ends asynchronously alone isn't told of an event that is there when its
+ * request is submitted, but of later ones, and of what a call of register ends. */
 static void test_async_eventfd(void)
 {
     struct ring ring;
@@ -195,7 +200,8 @@ static void test_advice(void)
     make_ring(&ring, 8, 0, 0);
     for (uint64_t length = 0; length <= 2; length += 2) {
         memset(pages, 7, 3 * PAGE);
-        struct io_uring_sqe *entry = put_transfer(&ring, IORING_OP_MADVISE, 0, 0, -1, pages, PAGE, length * PAGE);
+        struct io_uring_sqe *entry = put_transfer(
+            &ring, IORING_OP_MADVISE, 0, 0, -1, pages, PAGE, length * PAGE);
         entry->fadvise_advice = MADV_DONTNEED;
         check(result_of_one(&ring, 1) == 0);
         check(pages[0] == 0 && pages[PAGE] == (length == 2 ? 0 : 7) && pages[2 * PAGE] == 7);
@@ -213,7 +219,9 @@ static void test_restrictions(void)
 {
     static struct io_uring_restriction many[104];
     struct ring ring;
-    struct io_uring_restriction rows[2] = {{.opcode = IORING_RESTRICTION_SQE_OP, .sqe_op = IORING_OP_NOP}, {.opcode = IORING_RESTRICTION_REGISTER_OP, .register_op = IORING_REGISTER_PROBE}};
+    struct io_uring_restriction rows[2] = {
+        {.opcode = IORING_RESTRICTION_SQE_OP, .sqe_op = IORING_OP_NOP},
+        {.opcode = IORING_RESTRICTION_REGISTER_OP, .register_op = IORING_REGISTER_PROBE}};
     int fd = make_file();
     make_ring(&ring, 8, 0, IORING_SETUP_R_DISABLED);
     check(enter(&ring, 0, 0, IORING_ENTER_GETEVENTS) == -EBADFD);
@@ -255,21 +263,27 @@ static void test_sqpoll(void)
     publish(&ring, 99);
     put(&ring, IORING_OP_NOP, 5, 0);
     check(enter(&ring, 3, 0, IORING_ENTER_SQ_WAKEUP) == 3);
-    check(*sq_word(&ring, ring.params.sq_off.dropped) == 2 && *sq_word(&ring, ring.params.sq_off.head) == *sq_word(&ring, ring.params.sq_off.tail));
+    check(*sq_word(&ring, ring.params.sq_off.dropped) == 2 &&
+          *sq_word(&ring, ring.params.sq_off.head) == *sq_word(&ring, ring.params.sq_off.tail));
     check(count_ready(&ring) == 1 && reap(&ring).user_data == 5);
     /* It returns what it was asked for, also where that is more than an int holds. */
-    check(enter(&ring, UINT32_MAX, 0, 0) == (long)UINT32_MAX && enter(&ring, (uint32_t)-EINVAL, 0, 0) == (long)(uint32_t)-EINVAL);
+    check(enter(&ring, UINT32_MAX, 0, 0) == (long)UINT32_MAX &&
+          enter(&ring, (uint32_t)-EINVAL, 0, 0) == (long)(uint32_t)-EINVAL);
     close_ring(&ring);
 }
 
-/* Entries and completions of twice the size: each stands after the other by so much. The second half of a completion is 0, whatever stood there. */
+/* Entries and completions of twice the size: each stands after the other by so much. The second
+ * half of a completion is 0, whatever stood there. */
 static void test_large_cells(void)
 {
     struct ring ring;
     make_ring(&ring, 4, 0, IORING_SETUP_SQE128 | IORING_SETUP_CQE32);
-    const size_t entry_size = 2 * sizeof(struct io_uring_sqe), completion_size = 2 * sizeof(struct io_uring_cqe);
-    size_t entries_size = ring.params.sq_entries * entry_size, cq_size = ring.params.cq_off.cqes + ring.params.cq_entries * completion_size;
-    char *entries = map(&ring, entries_size, IORING_OFF_SQES), *cq = map(&ring, cq_size, IORING_OFF_CQ_RING);
+    const size_t entry_size = 2 * sizeof(struct io_uring_sqe),
+                 completion_size = 2 * sizeof(struct io_uring_cqe);
+    size_t entries_size = ring.params.sq_entries * entry_size,
+           cq_size = ring.params.cq_off.cqes + ring.params.cq_entries * completion_size;
+    char *entries = map(&ring, entries_size, IORING_OFF_SQES),
+         *cq = map(&ring, cq_size, IORING_OFF_CQ_RING);
     memset(cq + ring.params.cq_off.cqes, 0xff, ring.params.cq_entries * completion_size);
     for (unsigned i = 0; i < 10; i++) {
         unsigned slot = i % ring.params.sq_entries;
@@ -279,7 +293,9 @@ static void test_large_cells(void)
         entry->user_data = i;
         publish(&ring, slot);
         check(enter(&ring, 1, 1, IORING_ENTER_GETEVENTS) == 1);
-        const struct io_uring_cqe *completion = (void *)(cq + ring.params.cq_off.cqes + i % ring.params.cq_entries * completion_size);
+        const struct io_uring_cqe *completion = (void *)(cq + ring.params.cq_off.cqes +
+                                                         i % ring.params.cq_entries *
+                                                             completion_size);
         check(completion->user_data == i && completion->res == (i % 2 ? 0 : -EINVAL));
         check(memcmp(&completion[1], (char[sizeof *completion]){0}, sizeof *completion) == 0);
         __atomic_store_n(cq_word(&ring, ring.params.cq_off.head), i + 1, __ATOMIC_RELEASE);

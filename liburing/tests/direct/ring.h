@@ -1,4 +1,5 @@
-/* Rings by direct calls, for tests that need no sources of liburing: set-up and mapping, entries, and completions. */
+/* Rings by direct calls, for tests that need no sources of liburing: set-up and mapping, entries,
+ * and completions. */
 #ifndef RING_H
 #define RING_H
 
@@ -35,7 +36,7 @@ struct completion {
     int32_t res;
 };
 
-static const char *test = "";        /* the one that runs */
+static const char *test = ""; /* the one that runs */
 
 static inline void check_at(bool is_so, const char *what, int line)
 {
@@ -63,13 +64,16 @@ static inline long set_up(unsigned entries, struct io_uring_params *params)
 {
     /* A descriptor that polls, or one that mmap maps. */
     bool is_polled = getenv("WULGACH_TEST_POLLED");
-    long result = is_polled ? wulgach_polled_syscall(SYS_io_uring_setup, entries, params) : wulgach_syscall(SYS_io_uring_setup, entries, params);
+    long result = is_polled ? wulgach_polled_syscall(SYS_io_uring_setup, entries, params)
+                            : wulgach_syscall(SYS_io_uring_setup, entries, params);
     return result < 0 ? -errno : result;
 }
 
-static inline long enter(const struct ring *ring, unsigned to_submit, unsigned min_complete, unsigned flags)
+static inline long enter(
+    const struct ring *ring, unsigned to_submit, unsigned min_complete, unsigned flags)
 {
-    long result = wulgach_syscall(SYS_io_uring_enter, ring->fd, to_submit, min_complete, flags, NULL, (size_t)0);
+    long result = wulgach_syscall(
+        SYS_io_uring_enter, ring->fd, to_submit, min_complete, flags, NULL, (size_t)0);
     return result < 0 ? -errno : result;
 }
 
@@ -77,7 +81,8 @@ static inline long enter_for(const struct ring *ring, unsigned min_complete, lon
 {
     struct __kernel_timespec time = {nanoseconds / 1000000000, nanoseconds % 1000000000};
     struct io_uring_getevents_arg argument = {.ts = (uintptr_t)&time};
-    long result = wulgach_syscall(SYS_io_uring_enter, ring->fd, 0u, min_complete, IORING_ENTER_GETEVENTS | IORING_ENTER_EXT_ARG, &argument, sizeof argument);
+    long result = wulgach_syscall(SYS_io_uring_enter, ring->fd, 0u, min_complete,
+        IORING_ENTER_GETEVENTS | IORING_ENTER_EXT_ARG, &argument, sizeof argument);
     return result < 0 ? -errno : result;
 }
 
@@ -101,12 +106,14 @@ static inline unsigned *cq_word(const struct ring *ring, unsigned offset)
 
 static inline void *map(const struct ring *ring, size_t size, unsigned long long offset)
 {
-    void *at = wulgach_mmap(NULL, size, PROT_READ | PROT_WRITE, MAP_SHARED | MAP_POPULATE, ring->fd, (off_t)offset);
+    void *at = wulgach_mmap(
+        NULL, size, PROT_READ | PROT_WRITE, MAP_SHARED | MAP_POPULATE, ring->fd, (off_t)offset);
     check(at != MAP_FAILED);
     return at;
 }
 
-static inline void make_ring(struct ring *ring, unsigned entries, unsigned completions, unsigned flags)
+static inline void make_ring(
+    struct ring *ring, unsigned entries, unsigned completions, unsigned flags)
 {
     memset(ring, 0, sizeof *ring);
     ring->params.flags = flags | (completions ? IORING_SETUP_CQSIZE : 0);
@@ -114,7 +121,8 @@ static inline void make_ring(struct ring *ring, unsigned entries, unsigned compl
     ring->fd = (int)set_up(entries, &ring->params);
     check(ring->fd >= 0);
     ring->sq_size = ring->params.sq_off.array + ring->params.sq_entries * sizeof(unsigned);
-    ring->cq_size = ring->params.cq_off.cqes + ring->params.cq_entries * sizeof(struct io_uring_cqe);
+    ring->cq_size = ring->params.cq_off.cqes +
+                    ring->params.cq_entries * sizeof(struct io_uring_cqe);
 #ifndef IS_ALSO_REAL
     check(!(ring->params.features & IORING_FEAT_SINGLE_MMAP) == !getenv("WULGACH_TEST_POLLED"));
 #endif
@@ -147,7 +155,8 @@ static inline struct io_uring_sqe *publish(struct ring *ring, unsigned word)
     return &ring->entries[word & mask];
 }
 
-static inline struct io_uring_sqe *put(struct ring *ring, uint8_t code, uint64_t user_data, uint8_t flags)
+static inline struct io_uring_sqe *put(
+    struct ring *ring, uint8_t code, uint64_t user_data, uint8_t flags)
 {
     unsigned tail = *sq_word(ring, ring->params.sq_off.tail);
     struct io_uring_sqe *entry = publish(ring, tail & (ring->params.sq_entries - 1));
@@ -159,14 +168,17 @@ static inline struct io_uring_sqe *put(struct ring *ring, uint8_t code, uint64_t
 }
 
 /* Writes an entry to a slot, and publishes it. */
-static inline struct io_uring_sqe *put_at(struct ring *ring, unsigned slot, uint8_t code, uint64_t user_data, uint8_t flags)
+static inline struct io_uring_sqe *put_at(
+    struct ring *ring, unsigned slot, uint8_t code, uint64_t user_data, uint8_t flags)
 {
     struct io_uring_sqe *entry = publish(ring, slot);
-    *entry = (struct io_uring_sqe){.opcode = code, .flags = flags, .fd = -1, .user_data = user_data};
+    *entry = (struct io_uring_sqe){
+        .opcode = code, .flags = flags, .fd = -1, .user_data = user_data};
     return entry;
 }
 
-static inline struct io_uring_sqe *put_transfer(struct ring *ring, uint8_t code, uint64_t user_data, uint8_t flags, int fd, void *bytes, unsigned length, uint64_t offset)
+static inline struct io_uring_sqe *put_transfer(struct ring *ring, uint8_t code, uint64_t user_data,
+    uint8_t flags, int fd, void *bytes, unsigned length, uint64_t offset)
 {
     struct io_uring_sqe *entry = put(ring, code, user_data, flags);
     entry->fd = fd;
@@ -181,15 +193,18 @@ static inline unsigned flags_of(const struct ring *ring)
     return *sq_word(ring, ring->params.sq_off.flags);
 }
 
-/* Whether nothing is outstanding, and nothing has overflowed. A descriptor that polls is readable until the next call. */
+/* Whether nothing is outstanding, and nothing has overflowed. A descriptor that polls is readable
+ * until the next call. */
 static inline bool is_at_rest(const struct ring *ring)
 {
-    return flags_of(ring) == 0 || (getenv("WULGACH_TEST_POLLED") && flags_of(ring) == IORING_SQ_TASKRUN);
+    return flags_of(ring) == 0 ||
+           (getenv("WULGACH_TEST_POLLED") && flags_of(ring) == IORING_SQ_TASKRUN);
 }
 
 static inline unsigned count_ready(const struct ring *ring)
 {
-    return __atomic_load_n(cq_word(ring, ring->params.cq_off.tail), __ATOMIC_ACQUIRE) - *cq_word(ring, ring->params.cq_off.head);
+    return __atomic_load_n(cq_word(ring, ring->params.cq_off.tail), __ATOMIC_ACQUIRE) -
+           *cq_word(ring, ring->params.cq_off.head);
 }
 
 static inline struct completion reap(struct ring *ring)

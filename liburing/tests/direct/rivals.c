@@ -1,5 +1,6 @@
-/* Tests of operations and polls that wait for one descriptor, by direct calls: what comes ends both, though the operation takes it, and so does room. All hold under every
- * policy, which the environment says, and on a real ring of Linux 6.18.
+/* Tests of operations and polls that wait for one descriptor, by direct calls: what comes ends
+ * both, though the operation takes it, and so does room. All hold under every policy, which the
+ * environment says, and on a real ring of Linux 6.18.
  *
  *   rivals [NAME]            with a name: that test alone
  */
@@ -16,7 +17,7 @@ enum kind { PIPE, STREAM, DATAGRAM, COUNTER, KINDS };
 enum { OPERATION = 1, POLL = 2, OTHER = 3 };
 
 static struct ring ring;
-static int ends[2];     /* what is read, and what it is written by */
+static int ends[2]; /* what is read, and what it is written by */
 static char bytes[8], other_bytes[8];
 
 static void begin(enum kind kind)
@@ -38,7 +39,9 @@ static void stop(void)
 
 static void put_operation(enum kind kind, bool receives)
 {
-    put_transfer(&ring, receives && kind != PIPE && kind != COUNTER ? IORING_OP_RECV : IORING_OP_READ, OPERATION, 0, ends[0], bytes, 8, 0);
+    put_transfer(&ring,
+        receives && kind != PIPE && kind != COUNTER ? IORING_OP_RECV : IORING_OP_READ, OPERATION, 0,
+        ends[0], bytes, 8, 0);
 }
 
 static void put_poll_of(int fd, bool goes_on)
@@ -59,13 +62,15 @@ static void expect_both(bool goes_on)
     for (int i = 0; i < 2; i++) {
         struct seen found = next_of(&ring);
         check(found.user_data == OPERATION || found.user_data == POLL);
-        check((found.flags & IORING_CQE_F_MORE) == (found.user_data == POLL && goes_on ? IORING_CQE_F_MORE : 0));
+        check((found.flags & IORING_CQE_F_MORE) ==
+              (found.user_data == POLL && goes_on ? IORING_CQE_F_MORE : 0));
         results[found.user_data] = found.res;
     }
     check(results[OPERATION] == 8 && results[POLL] == POLLIN);
 }
 
-/* Whichever was submitted first, in one call or two, by which descriptor of the file, and whether the poll goes on. */
+/* Whichever was submitted first, in one call or two, by which descriptor of the file, and whether
+ * the poll goes on. */
 static void test_both_end(void)
 {
     for (int way = 0; way < 32 * KINDS; way++) {
@@ -99,7 +104,8 @@ static void test_accept(void)
         socklen_t size = sizeof address;
         int32_t results[3] = {0};
         int listener = socket(AF_UNIX, SOCK_STREAM, 0), client = socket(AF_UNIX, SOCK_STREAM, 0);
-        check(bind(listener, (struct sockaddr *)&address, sizeof(sa_family_t)) == 0 && listen(listener, 4) == 0);
+        check(bind(listener, (struct sockaddr *)&address, sizeof(sa_family_t)) == 0 &&
+              listen(listener, 4) == 0);
         check(getsockname(listener, (struct sockaddr *)&address, &size) == 0);
         make_ring(&ring, 16, 0, 0);
         put_plain(&ring, IORING_OP_ACCEPT, OPERATION, listener);
@@ -149,8 +155,10 @@ static void fill(int fd)
     check(errno == EAGAIN && fcntl(fd, F_SETFL, 0) == 0);
 }
 
-/* Puts an operation and a poll, in either order, and has both end once a page was read of a pipe, or bytes were written to one. */
-static void expect_two(void (*put)(const int *to), const int to[2], int polled, short events, int way, int32_t result)
+/* Puts an operation and a poll, in either order, and has both end once a page was read of a pipe,
+ * or bytes were written to one. */
+static void expect_two(
+    void (*put)(const int *to), const int to[2], int polled, short events, int way, int32_t result)
 {
     static char page[4096];
     int32_t results[3] = {0};
@@ -235,13 +243,15 @@ static void test_others_wait(void)
         check(enter(&ring, 2, 0, 0) == 2 && enter_for(&ring, 1, 1000) == -ETIME);
         feed();
         struct seen found = next_of(&ring);
-        check(found.user_data == OPERATION && found.res == 8 && enter_for(&ring, 1, 1000) == -ETIME);
+        check(
+            found.user_data == OPERATION && found.res == 8 && enter_for(&ring, 1, 1000) == -ETIME);
         put_operation(kind, false);
         put_transfer(&ring, IORING_OP_READ, OPERATION, 0, ends[0], other_bytes, 8, 0);
         check(enter(&ring, 2, 0, 0) == 2 && enter_for(&ring, 1, 1000) == -ETIME);
         feed();
         found = next_of(&ring);
-        check(found.user_data == OPERATION && found.res == 8 && enter_for(&ring, 1, 1000) == -ETIME);
+        check(
+            found.user_data == OPERATION && found.res == 8 && enter_for(&ring, 1, 1000) == -ETIME);
         stop();
         close_pair(other);
     }
@@ -257,5 +267,7 @@ int main(int count, char **words)
         {"splice", test_splice},
         {"others wait", test_others_wait},
     };
-    return are_rings_there() ? run_tests(tests, sizeof tests / sizeof *tests, count > 1 ? words[1] : NULL) : 0;
+    return are_rings_there()
+               ? run_tests(tests, sizeof tests / sizeof *tests, count > 1 ? words[1] : NULL)
+               : 0;
 }

@@ -1,5 +1,6 @@
-/* Tests of what becomes of operations on sockets that are shut down, by direct calls: of receives, reads, sends, writes and accepts, before and while they wait. All hold under every
- * policy, which the environment says; and on a real ring, if the kernel gives one and it is built for that.
+/* Tests of what becomes of operations on sockets that are shut down, by direct calls: of receives,
+ * reads, sends, writes and accepts, before and while they wait. All hold under every policy, which
+ * the environment says; and on a real ring, if the kernel gives one and it is built for that.
  *
  *   shut_sockets [NAME]      with a name: that test alone
  */
@@ -14,8 +15,8 @@
 #include <sys/uio.h>
 #include <sys/un.h>
 
-/* A receive and a read of datagrams that wait end with 0 once the socket is shut down, or was before; not one that isn't to wait, and none that finds
- * a datagram. */
+/* A receive and a read of datagrams that wait end with 0 once the socket is shut down, or was
+ * before; not one that isn't to wait, and none that finds a datagram. */
 static void test_shut_datagrams(void)
 {
     struct ring ring;
@@ -33,7 +34,8 @@ static void test_shut_datagrams(void)
     put_transfer(&ring, IORING_OP_RECV, 0, 0, ends[0], text, 8, 0)->msg_flags = MSG_DONTWAIT;
     check(result_of_one(&ring, 1) == -EAGAIN);
     close_pair(ends);
-    check(socketpair(AF_UNIX, SOCK_DGRAM, 0, ends) == 0 && send(ends[1], "last", 4, 0) == 4 && shutdown(ends[0], SHUT_RD) == 0);
+    check(socketpair(AF_UNIX, SOCK_DGRAM, 0, ends) == 0 && send(ends[1], "last", 4, 0) == 4 &&
+          shutdown(ends[0], SHUT_RD) == 0);
     put_transfer(&ring, IORING_OP_RECV, 0, 0, ends[0], text, 8, 0);
     check(result_of_one(&ring, 1) == 4 && memcmp(text, "last", 4) == 0);
     put_transfer(&ring, IORING_OP_READ, 0, 0, ends[0], text, 8, 0);
@@ -42,7 +44,8 @@ static void test_shut_datagrams(void)
     close_ring(&ring);
 }
 
-/* By a descriptor that isn't to wait, a read and a receive of a message end so once the socket is shut down, where a receive of bytes ends with 0. */
+/* By a descriptor that isn't to wait, a read and a receive of a message end so once the socket is
+ * shut down, where a receive of bytes ends with 0. */
 static void test_shut_unwilling(void)
 {
     struct ring ring;
@@ -66,11 +69,11 @@ static void test_shut_unwilling(void)
     close_ring(&ring);
 }
 
-/* From now on no read of the calling thread can be asked not to wait, as in a kernel whose sockets don't know of that. */
+/* From now on no read of the calling thread can be asked not to wait, as in a kernel whose sockets
+ * don't know of that. */
 static void refuse_nowait(void)
 {
-    FILTER(
-        BPF_STMT(BPF_LD | BPF_W | BPF_ABS, offsetof(struct seccomp_data, nr)),
+    FILTER(BPF_STMT(BPF_LD | BPF_W | BPF_ABS, offsetof(struct seccomp_data, nr)),
         BPF_JUMP(BPF_JMP | BPF_JEQ | BPF_K, SYS_preadv2, 0, 3),
         BPF_STMT(BPF_LD | BPF_W | BPF_ABS, offsetof(struct seccomp_data, args[5])),
         BPF_JUMP(BPF_JMP | BPF_JSET | BPF_K, RWF_NOWAIT, 0, 1),
@@ -85,7 +88,8 @@ static void *read_shut(void *nothing)
     char text[8];
     refuse_nowait();
     make_ring(&ring, 8, 0, 0);
-    check(socketpair(AF_UNIX, SOCK_DGRAM, 0, ends) == 0 && send(ends[1], "last", 4, 0) == 4 && shutdown(ends[0], SHUT_RD) == 0);
+    check(socketpair(AF_UNIX, SOCK_DGRAM, 0, ends) == 0 && send(ends[1], "last", 4, 0) == 4 &&
+          shutdown(ends[0], SHUT_RD) == 0);
     put_transfer(&ring, IORING_OP_READ, 0, 0, ends[0], text, 8, 0);
     check(result_of_one(&ring, 1) == 4 && memcmp(text, "last", 4) == 0);
     put_transfer(&ring, IORING_OP_READ, 0, 0, ends[0], text, 8, 0);
@@ -96,21 +100,24 @@ static void *read_shut(void *nothing)
     return nothing;
 }
 
-/* A read of a socket of datagrams that was shut down ends with 0 too where no call can be asked not to wait. */
+/* A read of a socket of datagrams that was shut down ends with 0 too where no call can be asked not
+ * to wait. */
 static void test_shut_unasked(void)
 {
     pthread_t reader;
     check(pthread_create(&reader, NULL, read_shut, NULL) == 0 && pthread_join(reader, NULL) == 0);
 }
 
-/* With a sanitizer an epoll instance tells of all that waits, and none tells that a socket was shut down. */
+/* With a sanitizer an epoll instance tells of all that waits, and none tells that a socket was shut
+ * down. */
 #if defined __SANITIZE_ADDRESS__ || defined __SANITIZE_THREAD__
 enum { IS_TOLD_OF = false };
 #else
 enum { IS_TOLD_OF = true };
 #endif
 
-/* A send and a write that wait for room in a local socket of streams end once that is shut down for writing, or its peer for reading. */
+/* A send and a write that wait for room in a local socket of streams end once that is shut down for
+ * writing, or its peer for reading. */
 static void test_shut_writing(void)
 {
     if (!IS_TOLD_OF)
@@ -163,8 +170,9 @@ static void test_shut_asleep(void)
     close_ring(&ring);
 }
 
-/* Nobody connects any more to a local socket that was shut down: an accept by it ends with -22, or with -11 where it isn't to wait; and one that goes on
- * waits, whatever it is. A connection that came before is accepted. */
+/* Nobody connects any more to a local socket that was shut down: an accept by it ends with -22, or
+ * with -11 where it isn't to wait; and one that goes on waits, whatever it is. A connection that
+ * came before is accepted. */
 static void test_shut_listener(void)
 {
     struct ring ring;
@@ -174,9 +182,12 @@ static void test_shut_listener(void)
         bool is_hasty = i & 1, goes_on = i & 2, was_shut = i & 4;
         socklen_t size = sizeof address;
         int listener = make_local_listener(1), caller = socket(AF_UNIX, SOCK_STREAM, 0);
-        check(getsockname(listener, (void *)&address, &size) == 0 && fcntl(listener, F_SETFL, is_hasty ? O_NONBLOCK : 0) == 0);
-        check(!was_shut || (connect(caller, (void *)&address, size) == 0 && shutdown(listener, SHUT_RD) == 0));
-        put_plain(&ring, IORING_OP_ACCEPT, 0, listener)->ioprio = goes_on ? IORING_ACCEPT_MULTISHOT : 0;
+        check(getsockname(listener, (void *)&address, &size) == 0 &&
+              fcntl(listener, F_SETFL, is_hasty ? O_NONBLOCK : 0) == 0);
+        check(!was_shut ||
+              (connect(caller, (void *)&address, size) == 0 && shutdown(listener, SHUT_RD) == 0));
+        put_plain(&ring, IORING_OP_ACCEPT, 0, listener)->ioprio = goes_on ? IORING_ACCEPT_MULTISHOT
+                                                                          : 0;
         if (was_shut) {
             check(enter(&ring, 1, 0, 0) == 1);
             struct seen seen = next_of(&ring);
@@ -211,5 +222,7 @@ int main(int count, char **words)
         {"shut asleep", test_shut_asleep},
         {"shut listener", test_shut_listener},
     };
-    return !are_rings_there() ? 0 : run_tests(tests, sizeof tests / sizeof *tests, count > 1 ? words[1] : NULL);
+    return !are_rings_there()
+               ? 0
+               : run_tests(tests, sizeof tests / sizeof *tests, count > 1 ? words[1] : NULL);
 }

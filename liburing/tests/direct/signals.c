@@ -1,4 +1,5 @@
-/* Tests by direct calls: signals whose handler calls, or leaves a call. All hold under every policy. A test that hangs ends by an alarm.
+/* Tests by direct calls: signals whose handler calls, or leaves a call. All hold under every
+ * policy. A test that hangs ends by an alarm.
  *
  *   signals [NAME]           with a name: that test alone
  */
@@ -59,7 +60,8 @@ static void call_from_signal(int number)
 {
     int kept = errno;
     (void)number;
-    check(enter(called, 0, 0, 0) == 0 && register_at(-1, IORING_REGISTER_PROBE, NULL, 0) == -EINVAL);
+    check(
+        enter(called, 0, 0, 0) == 0 && register_at(-1, IORING_REGISTER_PROBE, NULL, 0) == -EINVAL);
     errno = kept;
 }
 
@@ -73,7 +75,8 @@ static void test_calls_from_signals(void)
     timer_t timer;
     make_ring(&ring, 4, 0, 0);
     called = &ring;
-    check(sigaction(SIGUSR2, &action, NULL) == 0 && timer_create(CLOCK_MONOTONIC, &event, &timer) == 0);
+    check(sigaction(SIGUSR2, &action, NULL) == 0 &&
+          timer_create(CLOCK_MONOTONIC, &event, &timer) == 0);
     for (unsigned i = 0; i < ROUNDS; i++) {
         struct itimerspec soon = {.it_value.tv_nsec = 500 + i * 997 % 15000};
         check(timer_settime(timer, 0, &soon, NULL) == 0);
@@ -95,7 +98,8 @@ static void submit_from_signal(int number)
     submit_nop(called, 7);
 }
 
-/* A handler's stack may lie in the thread's own: a sleep goes on after a handler that calls there. */
+/* A handler's stack may lie in the thread's own: a sleep goes on after a handler that calls there.
+ */
 static void test_stack_in_a_stack(void)
 {
     char room[65536];
@@ -163,12 +167,13 @@ static void hear_signal(int number)
 
 static long enter_with(const struct ring *ring, unsigned min_complete, const uint64_t *mask)
 {
-    long result = wulgach_syscall(SYS_io_uring_enter, ring->fd, 0u, min_complete, IORING_ENTER_GETEVENTS, mask, sizeof *mask);
+    long result = wulgach_syscall(
+        SYS_io_uring_enter, ring->fd, 0u, min_complete, IORING_ENTER_GETEVENTS, mask, sizeof *mask);
     return result < 0 ? -errno : result;
 }
 
-/* A signal that waits, and that the mask of a call lets come, ends the call: before time is moved on, and where nothing else could. So does one that
- * nobody hears. */
+/* A signal that waits, and that the mask of a call lets come, ends the call: before time is moved
+ * on, and where nothing else could. So does one that nobody hears. */
 static void test_waiting_signal(void)
 {
     struct sigaction action = {.sa_handler = hear_signal};
@@ -180,13 +185,15 @@ static void test_waiting_signal(void)
     sigemptyset(&blocked);
     sigaddset(&blocked, SIGUSR2);
     sigaddset(&blocked, SIGWINCH);
-    check(sigaction(SIGUSR2, &action, NULL) == 0 && pthread_sigmask(SIG_BLOCK, &blocked, &before) == 0);
+    check(sigaction(SIGUSR2, &action, NULL) == 0 &&
+          pthread_sigmask(SIG_BLOCK, &blocked, &before) == 0);
     check(raise(SIGUSR2) == 0 && enter_with(&ring, 1, &none) == -EINTR && heard == 1);
     put_transfer(&ring, IORING_OP_TIMEOUT, 5, 0, -1, &long_time, 1, 0);
     check(raise(SIGUSR2) == 0 && enter(&ring, 1, 0, 0) == 1);
     check(enter_with(&ring, 1, &none) == -EINTR && heard == 2 && count_ready(&ring) == 0);
     /* (valgrind drops it) */
-    check(is_under_valgrind() || (raise(SIGWINCH) == 0 && enter_with(&ring, 1, &none) == -EINTR && heard == 2 && count_ready(&ring) == 0));
+    check(is_under_valgrind() || (raise(SIGWINCH) == 0 && enter_with(&ring, 1, &none) == -EINTR &&
+                                     heard == 2 && count_ready(&ring) == 0));
     check(enter_with(&ring, 1, &none) == 0);
     struct completion found = reap(&ring);
     check(found.user_data == 5 && found.res == -ETIME);
@@ -203,7 +210,8 @@ static void *write_once_asleep(void *pipe)
     return NULL;
 }
 
-/* A signal that nobody hears ends no wait, also where it comes amid the call, as this does while it writes. */
+/* A signal that nobody hears ends no wait, also where it comes amid the call, as this does while it
+ * writes. */
 static void test_dropped_signal(void)
 {
     enum { SIZE = 1 << 26 };
@@ -220,7 +228,8 @@ static void test_dropped_signal(void)
     event._sigev_un._tid = gettid();
     check(timer_create(CLOCK_MONOTONIC, &event, &timer) == 0);
     put_transfer(&ring, IORING_OP_READ, 0, 0, ends[0], &byte, 1, 0);
-    check(enter(&ring, 1, 0, 0) == 1 && pthread_create(&thread, NULL, write_once_asleep, ends) == 0);
+    check(
+        enter(&ring, 1, 0, 0) == 1 && pthread_create(&thread, NULL, write_once_asleep, ends) == 0);
     put_transfer(&ring, IORING_OP_WRITEV, 1, 0, file, &vector, 1, 0);
     check(timer_settime(timer, 0, &soon, NULL) == 0);
     check(enter(&ring, 1, 2, IORING_ENTER_GETEVENTS) == 1 && count_ready(&ring) == 2);

@@ -1,5 +1,6 @@
-/* Tests of registered files and their slots, by direct calls: direct descriptors, slots that are given out, tags, and when a request finds
- * its slot. All hold under every policy, which the environment says.
+/* Tests of registered files and their slots, by direct calls: direct descriptors, slots that are
+ * given out, tags, and when a request finds its slot. All hold under every policy, which the
+ * environment says.
  *
  *   slots [NAME]         with a name: that test alone
  */
@@ -43,7 +44,8 @@ static void test_files(void)
     close_ring(&ring);
 }
 
-/* A chain that opens a file into a slot, writes to it there, and closes it; then slots that are given out. */
+/* A chain that opens a file into a slot, writes to it there, and closes it; then slots that are
+ * given out. */
 static void test_direct_descriptors(void)
 {
     struct ring ring;
@@ -55,7 +57,12 @@ static void test_direct_descriptors(void)
     check(register_at(ring.fd, IORING_REGISTER_FILES2, &sparse, 1) == -EINVAL);
     check(register_at(ring.fd, IORING_REGISTER_FILES2, &sparse, sizeof sparse) == 0);
     struct io_uring_sqe *open_entry = put(&ring, IORING_OP_OPENAT, 0, IOSQE_IO_LINK);
-    *open_entry = (struct io_uring_sqe){.opcode = IORING_OP_OPENAT, .flags = IOSQE_IO_LINK, .fd = AT_FDCWD, .addr = (uintptr_t)path, .open_flags = O_RDWR, .file_index = 1};
+    *open_entry = (struct io_uring_sqe){.opcode = IORING_OP_OPENAT,
+        .flags = IOSQE_IO_LINK,
+        .fd = AT_FDCWD,
+        .addr = (uintptr_t)path,
+        .open_flags = O_RDWR,
+        .file_index = 1};
     put_transfer(&ring, IORING_OP_WRITE, 1, IOSQE_FIXED_FILE | IOSQE_IO_LINK, 0, "direct", 6, 0);
     put(&ring, IORING_OP_CLOSE, 2, 0)->file_index = 1;
     check(result_of_one(&ring, 3) == 0);
@@ -74,7 +81,8 @@ static void test_direct_descriptors(void)
     close_ring(&ring);
 }
 
-/* Puts a socket into a slot, or into any. Returns its result, which is the slot if any was asked for. */
+/* Puts a socket into a slot, or into any. Returns its result, which is the slot if any was asked
+ * for. */
 static int open_in(struct ring *ring, uint32_t file_index)
 {
     struct io_uring_sqe *entry = put_plain(ring, IORING_OP_SOCKET, 0, AF_UNIX);
@@ -102,21 +110,30 @@ static void test_slots(void)
     struct ring ring;
     struct io_uring_rsrc_register sparse = {.nr = 4, .flags = IORING_RSRC_REGISTER_SPARSE};
     make_ring(&ring, 8, 0, 0);
-    check(open_in(&ring, (uint32_t)ANY) == -ENFILE && open_in(&ring, 1) == -ENXIO && close_slot(&ring, 0) == -ENXIO);
-    check(give_out(&ring, 0, 1) == -EINVAL && give_out(&ring, 0, 0) == 0 && register_at(ring.fd, IORING_REGISTER_FILE_ALLOC_RANGE, NULL, 0) == -EINVAL);
+    check(open_in(&ring, (uint32_t)ANY) == -ENFILE && open_in(&ring, 1) == -ENXIO &&
+          close_slot(&ring, 0) == -ENXIO);
+    check(give_out(&ring, 0, 1) == -EINVAL && give_out(&ring, 0, 0) == 0 &&
+          register_at(ring.fd, IORING_REGISTER_FILE_ALLOC_RANGE, NULL, 0) == -EINVAL);
     check(register_at(ring.fd, IORING_REGISTER_FILES2, &sparse, sizeof sparse) == 0);
-    check(close_slot(&ring, 0) == -EBADF && close_slot(&ring, 4) == -EINVAL && open_in(&ring, 5) == -EINVAL);
+    check(close_slot(&ring, 0) == -EBADF && close_slot(&ring, 4) == -EINVAL &&
+          open_in(&ring, 5) == -EINVAL);
     for (int i = 0; i < 4; i++)
         check(open_in(&ring, (uint32_t)ANY) == i);
     check(open_in(&ring, (uint32_t)ANY) == -ENFILE);
     check(close_slot(&ring, 1) == 0 && close_slot(&ring, 3) == 0 && open_in(&ring, 1) == 0);
     check(open_in(&ring, (uint32_t)ANY) == 3 && open_in(&ring, (uint32_t)ANY) == 1);
-    check(close_slot(&ring, 0) == 0 && close_slot(&ring, 1) == 0 && close_slot(&ring, 2) == 0 && close_slot(&ring, 3) == 0 && open_in(&ring, 2) == 0);
-    check(open_in(&ring, (uint32_t)ANY) == 2 && open_in(&ring, (uint32_t)ANY) == 3 && open_in(&ring, (uint32_t)ANY) == 0);
-    check(give_out(&ring, 1, 4) == -EINVAL && give_out(&ring, UINT32_MAX, 2) == -EOVERFLOW && give_out(&ring, 1, 2) == 0);
-    check(close_slot(&ring, 0) == 0 && close_slot(&ring, 3) == 0 && open_in(&ring, (uint32_t)ANY) == -ENFILE);
-    check(close_slot(&ring, 2) == 0 && open_in(&ring, 4) == 0 && open_in(&ring, (uint32_t)ANY) == 2);
-    check(register_at(ring.fd, IORING_UNREGISTER_FILES, NULL, 0) == 0 && open_in(&ring, (uint32_t)ANY) == -ENFILE);
+    check(close_slot(&ring, 0) == 0 && close_slot(&ring, 1) == 0 && close_slot(&ring, 2) == 0 &&
+          close_slot(&ring, 3) == 0 && open_in(&ring, 2) == 0);
+    check(open_in(&ring, (uint32_t)ANY) == 2 && open_in(&ring, (uint32_t)ANY) == 3 &&
+          open_in(&ring, (uint32_t)ANY) == 0);
+    check(give_out(&ring, 1, 4) == -EINVAL && give_out(&ring, UINT32_MAX, 2) == -EOVERFLOW &&
+          give_out(&ring, 1, 2) == 0);
+    check(close_slot(&ring, 0) == 0 && close_slot(&ring, 3) == 0 &&
+          open_in(&ring, (uint32_t)ANY) == -ENFILE);
+    check(
+        close_slot(&ring, 2) == 0 && open_in(&ring, 4) == 0 && open_in(&ring, (uint32_t)ANY) == 2);
+    check(register_at(ring.fd, IORING_UNREGISTER_FILES, NULL, 0) == 0 &&
+          open_in(&ring, (uint32_t)ANY) == -ENFILE);
     close_ring(&ring);
 }
 
@@ -129,7 +146,8 @@ static void test_tags_of_files(void)
     char text[4];
     check(pipe(ends) == 0);
     int list[2] = {ends[0], ends[1]}, empty[2] = {ends[0], -1};
-    struct io_uring_rsrc_register asked = {.nr = 2, .data = (uintptr_t)empty, .tags = (uintptr_t)tags};
+    struct io_uring_rsrc_register asked = {
+        .nr = 2, .data = (uintptr_t)empty, .tags = (uintptr_t)tags};
     make_ring(&ring, 8, 0, 0);
     check(ring.params.features & IORING_FEAT_RSRC_TAGS);
     check(register_at(ring.fd, IORING_REGISTER_FILES2, &asked, sizeof asked) == -EINVAL);
@@ -138,7 +156,8 @@ static void test_tags_of_files(void)
     check(register_at(ring.fd, IORING_REGISTER_FILES2, &asked, sizeof asked) == -EFAULT);
     asked.tags = (uintptr_t)tags;
     check(register_at(ring.fd, IORING_REGISTER_FILES2, &asked, sizeof asked) == 0);
-    struct io_uring_rsrc_update2 update = {.offset = 1, .data = (uintptr_t)&none, .tags = (uintptr_t)&tag, .nr = 1};
+    struct io_uring_rsrc_update2 update = {
+        .offset = 1, .data = (uintptr_t)&none, .tags = (uintptr_t)&tag, .nr = 1};
     check(register_at(ring.fd, IORING_REGISTER_FILES_UPDATE2, &update, sizeof update) == -EINVAL);
     update.data = (uintptr_t)&ends[1];
     check(register_at(ring.fd, IORING_REGISTER_FILES_UPDATE2, &update, sizeof update) == 1);
@@ -162,7 +181,8 @@ static void test_tags_of_table(void)
     struct ring ring;
     int list[3] = {0, -1, 0};
     uint64_t tags[3] = {11, 0, 13};
-    struct io_uring_rsrc_register asked = {.nr = 3, .data = (uintptr_t)list, .tags = (uintptr_t)tags};
+    struct io_uring_rsrc_register asked = {
+        .nr = 3, .data = (uintptr_t)list, .tags = (uintptr_t)tags};
     make_ring(&ring, 4, 0, 0);
     check(register_at(ring.fd, IORING_REGISTER_FILES2, &asked, sizeof asked) == 0);
     check(register_at(ring.fd, IORING_UNREGISTER_FILES, NULL, 0) == 0);
@@ -209,7 +229,8 @@ static void results_of_two(struct ring *ring, int32_t results[2])
     }
 }
 
-/* A slot is found by a request in its turn: in order after those of its call that change slots, and always before those after it. */
+/* A slot is found by a request in its turn: in order after those of its call that change slots, and
+ * always before those after it. */
 static void test_turns(void)
 {
     struct ring ring;
@@ -237,7 +258,8 @@ static void test_turns(void)
     close_ring(&ring);
 }
 
-/* One whose turn it was when its call returned has found its slot, whatever the application does then. */
+/* One whose turn it was when its call returned has found its slot, whatever the application does
+ * then. */
 static void test_turn_at_return(void)
 {
     struct ring ring;
@@ -262,40 +284,50 @@ static void test_turn_at_return(void)
 /* The results of operations on a descriptor that is open for its path alone. */
 static void use_path(struct ring *ring, int path)
 {
-    static const uint8_t codes[] = {IORING_OP_READ, IORING_OP_WRITE, IORING_OP_FSYNC, IORING_OP_FALLOCATE, IORING_OP_POLL_ADD, IORING_OP_SEND, IORING_OP_SHUTDOWN, IORING_OP_MSG_RING};
+    static const uint8_t codes[] = {IORING_OP_READ, IORING_OP_WRITE, IORING_OP_FSYNC,
+        IORING_OP_FALLOCATE, IORING_OP_POLL_ADD, IORING_OP_SEND, IORING_OP_SHUTDOWN,
+        IORING_OP_MSG_RING};
     static const char none;
     for (size_t i = 0; i < sizeof codes; i++) {
         struct io_uring_sqe *entry = put_plain(ring, codes[i], 0, path);
-        entry->addr = codes[i] == IORING_OP_READ || codes[i] == IORING_OP_WRITE || codes[i] == IORING_OP_SEND ? (uintptr_t)&none : 0;
+        entry->addr = codes[i] == IORING_OP_READ || codes[i] == IORING_OP_WRITE ||
+                              codes[i] == IORING_OP_SEND
+                          ? (uintptr_t)&none
+                          : 0;
         entry->poll32_events = codes[i] == IORING_OP_POLL_ADD;
         check(result_of_one(ring, 1) == -EBADF);
     }
     put_plain(ring, IORING_OP_NOP, 0, path);
     check(result_of_one(ring, 1) == 0);
-    put_plain(ring, IORING_OP_NOP, 0, path)->rw_flags = 2;      /* IORING_NOP_FILE */
+    put_plain(ring, IORING_OP_NOP, 0, path)->rw_flags = 2; /* IORING_NOP_FILE */
     check(result_of_one(ring, 1) == -EBADF);
-    put_plain(ring, IORING_OP_ASYNC_CANCEL, 0, path)->cancel_flags = IORING_ASYNC_CANCEL_FD | IORING_ASYNC_CANCEL_ALL;
+    put_plain(ring, IORING_OP_ASYNC_CANCEL, 0, path)->cancel_flags = IORING_ASYNC_CANCEL_FD |
+                                                                     IORING_ASYNC_CANCEL_ALL;
     check(result_of_one(ring, 1) == -EBADF);
 }
 
-/* By its number no file is found that is open for its path alone. A path begins at one, and it can be closed; and an open puts one into a
- * slot, which then holds it. */
+/* By its number no file is found that is open for its path alone. A path begins at one, and it can
+ * be closed; and an open puts one into a slot, which then holds it. */
 static void test_paths(void)
 {
     struct ring ring;
     int path = open("/dev/null", O_PATH), folder = open("/dev", O_PATH), none = -1;
     struct io_uring_files_update update = {.fds = (uintptr_t)&path};
-    struct io_uring_sync_cancel_reg now = {.fd = path, .flags = IORING_ASYNC_CANCEL_FD | IORING_ASYNC_CANCEL_ALL, .timeout = {-1, -1}};
+    struct io_uring_sync_cancel_reg now = {
+        .fd = path, .flags = IORING_ASYNC_CANCEL_FD | IORING_ASYNC_CANCEL_ALL, .timeout = {-1, -1}};
     make_ring(&ring, 8, 0, 0);
     use_path(&ring, path);
-    check(register_at(ring.fd, IORING_REGISTER_EVENTFD, &path, 1) == -EBADF && register_at(ring.fd, IORING_REGISTER_SYNC_CANCEL, &now, 1) == -EBADF);
-    check(register_at(ring.fd, IORING_REGISTER_FILES, &path, 1) == -EBADF && register_at(ring.fd, IORING_REGISTER_FILES, &none, 1) == 0);
+    check(register_at(ring.fd, IORING_REGISTER_EVENTFD, &path, 1) == -EBADF &&
+          register_at(ring.fd, IORING_REGISTER_SYNC_CANCEL, &now, 1) == -EBADF);
+    check(register_at(ring.fd, IORING_REGISTER_FILES, &path, 1) == -EBADF &&
+          register_at(ring.fd, IORING_REGISTER_FILES, &none, 1) == 0);
     check(register_at(ring.fd, IORING_REGISTER_FILES_UPDATE, &update, 1) == -EBADF);
     for (uint64_t offset = 0; offset <= UINT32_MAX; offset += UINT32_MAX) {
         put_transfer(&ring, IORING_OP_FILES_UPDATE, 0, 0, -1, &path, 1, offset);
         check(result_of_one(&ring, 1) == -EBADF);
     }
-    check(register_at(path, IORING_REGISTER_FILES, &none, 1) == -EBADF && enter(&(struct ring){.fd = path}, 0, 0, 0) == -EBADF);
+    check(register_at(path, IORING_REGISTER_FILES, &none, 1) == -EBADF &&
+          enter(&(struct ring){.fd = path}, 0, 0, 0) == -EBADF);
     struct io_uring_sqe *entry = put_transfer(&ring, IORING_OP_OPENAT, 0, 0, folder, "null", 0, 0);
     entry->open_flags = O_PATH;
     entry->file_index = 1;

@@ -1,5 +1,6 @@
-/* Tests of what a socket's state makes of an operation, by direct calls: whether it listens or isn't to wait, and how much room or how many bytes it has. All hold under every policy,
- * which the environment says; and on a real ring, if the kernel gives one and it is built for that.
+/* Tests of what a socket's state makes of an operation, by direct calls: whether it listens or
+ * isn't to wait, and how much room or how many bytes it has. All hold under every policy, which the
+ * environment says; and on a real ring, if the kernel gives one and it is built for that.
  *
  *   socket_states [NAME]     with a name: that test alone
  */
@@ -12,12 +13,14 @@
 #include <sys/uio.h>
 #include <sys/un.h>
 
-/* What a socket can't do ends with an error, and doesn't wait: an accept where it doesn't listen, and a send or a write where it does. */
+/* What a socket can't do ends with an error, and doesn't wait: an accept where it doesn't listen,
+ * and a send or a write where it does. */
 static void test_of_no_use(void)
 {
     struct ring ring;
     int stream[2], datagrams[2], listener = make_local_listener(1);
-    check(socketpair(AF_UNIX, SOCK_STREAM, 0, stream) == 0 && socketpair(AF_UNIX, SOCK_DGRAM, 0, datagrams) == 0);
+    check(socketpair(AF_UNIX, SOCK_STREAM, 0, stream) == 0 &&
+          socketpair(AF_UNIX, SOCK_DGRAM, 0, datagrams) == 0);
     make_ring(&ring, 8, 0, 0);
     put_plain(&ring, IORING_OP_ACCEPT, 0, stream[0]);
     check(result_of_one(&ring, 1) == -EINVAL);
@@ -35,7 +38,8 @@ static void test_of_no_use(void)
     close_ring(&ring);
 }
 
-/* A connect to a local socket that takes no more ends so if its own socket isn't to wait, and else waits until one was accepted. */
+/* A connect to a local socket that takes no more ends so if its own socket isn't to wait, and else
+ * waits until one was accepted. */
 static void test_full_backlog(void)
 {
     struct ring ring;
@@ -71,7 +75,8 @@ static void fill(int fd)
         check(send(fd, page, sizeof page, MSG_DONTWAIT) == sizeof page);
 }
 
-/* What there is some room for is sent and written at once, though no poll finds enough; but not what asks to be polled for first. */
+/* What there is some room for is sent and written at once, though no poll finds enough; but not
+ * what asks to be polled for first. */
 static void test_some_room(void)
 {
     static char page[4096];
@@ -85,7 +90,8 @@ static void test_some_room(void)
         check(result_of_one(&ring, 1) == sizeof page);
         put_transfer(&ring, IORING_OP_WRITE, 0, 0, ends[0], page, sizeof page, 0);
         check(result_of_one(&ring, 1) == sizeof page);
-        put_transfer(&ring, IORING_OP_SEND, 0, 0, ends[0], page, sizeof page, 0)->ioprio = IORING_RECVSEND_POLL_FIRST;
+        put_transfer(&ring, IORING_OP_SEND, 0, 0, ends[0], page, sizeof page, 0)
+            ->ioprio = IORING_RECVSEND_POLL_FIRST;
         expect_waiting(&ring);
         while (recv(ends[1], page, sizeof page, MSG_DONTWAIT) > 0)
             ;
@@ -95,7 +101,8 @@ static void test_some_room(void)
     close_ring(&ring);
 }
 
-/* What a socket has is received and read as that starts, though it counts as ready with more; one that waits waits for so much. */
+/* What a socket has is received and read as that starts, though it counts as ready with more; one
+ * that waits waits for so much. */
 static void test_low_mark(void)
 {
     struct ring ring;
@@ -119,7 +126,8 @@ static void test_low_mark(void)
     close_ring(&ring);
 }
 
-/* A write of no bytes sends an empty datagram, and waits for room; by a socket of streams it sends nothing, and finds who has gone. */
+/* A write of no bytes sends an empty datagram, and waits for room; by a socket of streams it sends
+ * nothing, and finds who has gone. */
 static void test_empty_writes(void)
 {
     struct ring ring;
@@ -154,7 +162,8 @@ static void test_empty_writes(void)
     close_ring(&ring);
 }
 
-/* A send and a message wait for room also in a socket that isn't to wait, as long as no poll finds any. */
+/* A send and a message wait for room also in a socket that isn't to wait, as long as no poll finds
+ * any. */
 static void test_no_room_unwilling(void)
 {
     static char page[4096];
@@ -182,7 +191,8 @@ static void test_no_room_unwilling(void)
     close_ring(&ring);
 }
 
-/* A datagram for a socket that takes no more, of which no poll tells: a message ends so if its own socket isn't to wait, and a send waits. */
+/* A datagram for a socket that takes no more, of which no poll tells: a message ends so if its own
+ * socket isn't to wait, and a send waits. */
 static void test_full_target(void)
 {
     struct ring ring;
@@ -191,15 +201,18 @@ static void test_full_target(void)
     char text[8];
     struct iovec vector = {"four", 4};
     struct msghdr message = {.msg_name = &address, .msg_iov = &vector, .msg_iovlen = 1};
-    int target = socket(AF_UNIX, SOCK_DGRAM, 0), sender = socket(AF_UNIX, SOCK_DGRAM | SOCK_NONBLOCK, 0);
-    check(bind(target, &(struct sockaddr){.sa_family = AF_UNIX}, sizeof(sa_family_t)) == 0 && getsockname(target, (void *)&address, &size) == 0);
+    int target = socket(AF_UNIX, SOCK_DGRAM, 0),
+        sender = socket(AF_UNIX, SOCK_DGRAM | SOCK_NONBLOCK, 0);
+    check(bind(target, &(struct sockaddr){.sa_family = AF_UNIX}, sizeof(sa_family_t)) == 0 &&
+          getsockname(target, (void *)&address, &size) == 0);
     message.msg_namelen = size;
     make_ring(&ring, 8, 0, 0);
     while (sendto(sender, "full", 4, 0, (void *)&address, size) == 4)
         ;
     put_transfer(&ring, IORING_OP_SENDMSG, 0, 0, sender, &message, 1, 0);
     check(result_of_one(&ring, 1) == -EAGAIN);
-    put_transfer(&ring, IORING_OP_SEND, 0, 0, sender, "four", 4, (uintptr_t)&address)->addr_len = (uint16_t)size;
+    put_transfer(&ring, IORING_OP_SEND, 0, 0, sender, "four", 4, (uintptr_t)&address)
+        ->addr_len = (uint16_t)size;
     expect_waiting(&ring);
     while (recv(target, text, 8, MSG_DONTWAIT) == 4)
         ;
@@ -215,7 +228,8 @@ static void put_receive(struct ring *ring, uint64_t user_data, int fd, char *tex
     put_transfer(ring, IORING_OP_RECV, user_data, 0, fd, text, 8, 0)->msg_flags = flags;
 }
 
-/* What a socket was told of errors is waited for, also of one that listens, until that is ready: then there is something, or isn't. */
+/* What a socket was told of errors is waited for, also of one that listens, until that is ready:
+ * then there is something, or isn't. */
 static void test_no_errors(void)
 {
     struct ring ring;
@@ -233,7 +247,8 @@ static void test_no_errors(void)
     close_ring(&ring);
 }
 
-/* A local socket has no such errors: what is received of it is what it has, or nothing once it was shut down. */
+/* A local socket has no such errors: what is received of it is what it has, or nothing once it was
+ * shut down. */
 static void test_no_errors_of_local(void)
 {
     struct ring ring;
@@ -245,7 +260,8 @@ static void test_no_errors_of_local(void)
     make_ring(&ring, 8, 0, 0);
     put_receive(&ring, 0, ends[0], text, MSG_ERRQUEUE);
     expect_waiting(&ring);
-    check(send(ends[1], "four", 4, 0) == 4 && wait_for_one(&ring) == 4 && shutdown(ends[0], SHUT_RD) == 0);
+    check(send(ends[1], "four", 4, 0) == 4 && wait_for_one(&ring) == 4 &&
+          shutdown(ends[0], SHUT_RD) == 0);
     put_receive(&ring, 0, ends[0], text, MSG_ERRQUEUE);
     check(result_of_one(&ring, 1) == 0);
     put_transfer(&ring, IORING_OP_RECVMSG, 0, 0, ends[0], &message, 1, 0)->msg_flags = MSG_ERRQUEUE;
@@ -254,7 +270,8 @@ static void test_no_errors_of_local(void)
     close_ring(&ring);
 }
 
-/* Urgent data of a socket of datagrams, which has none, is the next datagram, and is waited for though that isn't to wait. */
+/* Urgent data of a socket of datagrams, which has none, is the next datagram, and is waited for
+ * though that isn't to wait. */
 static void test_urgent_datagram(void)
 {
     struct ring ring;
@@ -284,5 +301,7 @@ int main(int count, char **words)
         {"no errors of a local socket", test_no_errors_of_local},
         {"urgent datagram", test_urgent_datagram},
     };
-    return !are_rings_there() ? 0 : run_tests(tests, sizeof tests / sizeof *tests, count > 1 ? words[1] : NULL);
+    return !are_rings_there()
+               ? 0
+               : run_tests(tests, sizeof tests / sizeof *tests, count > 1 ? words[1] : NULL);
 }

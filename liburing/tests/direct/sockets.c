@@ -1,5 +1,6 @@
-/* Tests of operations on sockets, by direct calls: those that end once, accepts that go on, what doesn't wait, and sends that
- * needn't copy. All hold under every policy, which the environment says.
+/* Tests of operations on sockets, by direct calls: those that end once, accepts that go on, what
+ * doesn't wait, and sends that needn't copy. All hold under every policy, which the environment
+ * says.
  *
  *   sockets [NAME]           with a name: that test alone
  */
@@ -51,8 +52,8 @@ static void test_sockets(void)
     close_ring(&ring);
 }
 
-/* What doesn't wait though nothing is there: a receive that says so, also of all that it asks for; and a call of sockets on a
- * pipe. */
+/* What doesn't wait though nothing is there: a receive that says so, also of all that it asks for;
+ * and a call of sockets on a pipe. */
 static void test_no_waiting(void)
 {
     struct ring ring;
@@ -64,7 +65,8 @@ static void test_no_waiting(void)
     put_transfer(&ring, IORING_OP_RECV, 0, 0, ends[0], text, 8, 0)->msg_flags = MSG_DONTWAIT;
     check(result_of_one(&ring, 1) == -EAGAIN);
     check(send(ends[1], "four", 4, 0) == 4);
-    put_transfer(&ring, IORING_OP_RECV, 0, 0, ends[0], text, 8, 0)->msg_flags = MSG_DONTWAIT | MSG_WAITALL;
+    put_transfer(&ring, IORING_OP_RECV, 0, 0, ends[0], text, 8, 0)->msg_flags = MSG_DONTWAIT |
+                                                                                MSG_WAITALL;
     check(result_of_one(&ring, 1) == 4 && memcmp(text, "four", 4) == 0);
     put_transfer(&ring, IORING_OP_RECV, 0, 0, pipes[0], text, 8, 0);
     check(result_of_one(&ring, 1) == -ENOTSOCK);
@@ -75,8 +77,8 @@ static void test_no_waiting(void)
     close_ring(&ring);
 }
 
-/* A receive that wants all of its bytes, and has got some, goes on in the next call in which the rest is there, also if that only looks, and
- * nothing else ends. */
+/* A receive that wants all of its bytes, and has got some, goes on in the next call in which the
+ * rest is there, also if that only looks, and nothing else ends. */
 static void test_all_by_looks(void)
 {
     struct ring ring;
@@ -149,30 +151,39 @@ static void test_zero_copy(void)
     make_ring(&ring, 8, 0, 0);
     check(register_at(ring.fd, IORING_REGISTER_BUFFERS, &vector, 1) == 0);
     for (int i = 0; i < 3; i++) {
-        struct io_uring_sqe *entry = put_transfer(&ring, i == 2 ? IORING_OP_SENDMSG_ZC : IORING_OP_SEND_ZC, 7, IOSQE_IO_LINK, ends[0], i == 2 ? (void *)&message : (void *)memory, 4, 0);
-        entry->ioprio = (uint16_t)(i == 1 ? IORING_RECVSEND_FIXED_BUF : i == 2 ? IORING_SEND_ZC_REPORT_USAGE : 0);
+        struct io_uring_sqe *entry = put_transfer(&ring,
+            i == 2 ? IORING_OP_SENDMSG_ZC : IORING_OP_SEND_ZC, 7, IOSQE_IO_LINK, ends[0],
+            i == 2 ? (void *)&message : (void *)memory, 4, 0);
+        entry->ioprio = (uint16_t)(i == 1   ? IORING_RECVSEND_FIXED_BUF
+                                   : i == 2 ? IORING_SEND_ZC_REPORT_USAGE
+                                            : 0);
         put(&ring, IORING_OP_NOP, 8, 0);
         check(enter(&ring, 2, 0, 0) == 2);
         struct seen first = next_of(&ring), second = next_of(&ring), third = next_of(&ring);
         check(first.user_data == 7 && first.res == 4 && first.flags == IORING_CQE_F_MORE);
-        check(second.user_data == 7 && second.res == (i == 2 ? (int32_t)IORING_NOTIF_USAGE_ZC_COPIED : 0) && second.flags == IORING_CQE_F_NOTIF);
+        check(second.user_data == 7 &&
+              second.res == (i == 2 ? (int32_t)IORING_NOTIF_USAGE_ZC_COPIED : 0) &&
+              second.flags == IORING_CQE_F_NOTIF);
         check(third.user_data == 8 && third.res == 0);
         check(read(ends[1], text, 16) == 4 && memcmp(text, "zero", 4) == 0);
     }
     put_transfer(&ring, IORING_OP_SEND_ZC, 0, IOSQE_CQE_SKIP_SUCCESS, ends[0], memory, 4, 0);
     check(result_of_one(&ring, 1) == -EINVAL);
-    struct io_uring_sqe *outside = put_transfer(&ring, IORING_OP_SEND_ZC, 0, 0, ends[0], text, 4, 0);
+    struct io_uring_sqe *outside = put_transfer(
+        &ring, IORING_OP_SEND_ZC, 0, 0, ends[0], text, 4, 0);
     outside->ioprio = IORING_RECVSEND_FIXED_BUF;
     check(enter(&ring, 1, 0, 0) == 1);
     check(next_of(&ring).res == -EFAULT && next_of(&ring).flags == IORING_CQE_F_NOTIF);
-    /* Beside a drain there is no second one, by the manual pages' rules. (The first ring has asked to skip success, so that none drains there.) */
+    /* Beside a drain there is no second one, by the manual pages' rules. (The first ring has asked
+     * to skip success, so that none drains there.) */
     close_ring(&ring);
     make_ring(&ring, 8, 0, 0);
     put_transfer(&ring, IORING_OP_SEND_ZC, 0, 0, ends[0], memory, 4, 0);
     put(&ring, IORING_OP_NOP, 1, IOSQE_IO_DRAIN);
     check(enter(&ring, 2, 0, 0) == 2);
     struct seen sent = next_of(&ring);
-    check(sent.user_data == 0 && sent.res == 4 && sent.flags == (is_by_manual() ? 0 : IORING_CQE_F_MORE));
+    check(sent.user_data == 0 && sent.res == 4 &&
+          sent.flags == (is_by_manual() ? 0 : IORING_CQE_F_MORE));
     check(is_by_manual() || next_of(&ring).flags == IORING_CQE_F_NOTIF);
     check(next_of(&ring).user_data == 1);
     close_pair(ends);

@@ -16,7 +16,8 @@ static inline void make_pair(int *ends)
 static inline int make_local_listener(int backlog)
 {
     int listener = socket(AF_UNIX, SOCK_STREAM, 0);
-    check(bind(listener, &(struct sockaddr){.sa_family = AF_UNIX}, sizeof(sa_family_t)) == 0 && listen(listener, backlog) == 0);
+    check(bind(listener, &(struct sockaddr){.sa_family = AF_UNIX}, sizeof(sa_family_t)) == 0 &&
+          listen(listener, backlog) == 0);
     return listener;
 }
 
@@ -25,7 +26,8 @@ static inline int bind_here(int type, struct sockaddr_in *address)
 {
     socklen_t size = sizeof *address;
     int fd = socket(AF_INET, type, 0);
-    *address = (struct sockaddr_in){.sin_family = AF_INET, .sin_addr.s_addr = htonl(INADDR_LOOPBACK)};
+    *address = (struct sockaddr_in){
+        .sin_family = AF_INET, .sin_addr.s_addr = htonl(INADDR_LOOPBACK)};
     check(bind(fd, (void *)address, size) == 0 && getsockname(fd, (void *)address, &size) == 0);
     return fd;
 }

@@ -1,5 +1,7 @@
-/* How reads and writes end by Linux's rules whose offset, flags or length their file doesn't take, and reads of signals and of a queue of messages, under each profile, which
- * WULGACH_PROFILE says. All hold under every policy; and Linux's on a real ring, if the kernel gives one and it is built for that.
+/* How reads and writes end by Linux's rules whose offset, flags or length their file doesn't take,
+ * and reads of signals and of a queue of messages, under each profile, which WULGACH_PROFILE says.
+ * All hold under every policy; and Linux's on a real ring, if the kernel gives one and it is built
+ * for that.
  */
 #define _GNU_SOURCE
 #include "profile.h"
@@ -37,10 +39,12 @@ static void expect_at(uint8_t code, uint8_t flags, int fd, uint64_t offset, int3
     EXPECT({0, res});
 }
 
-/* What has no offsets passes one over, but one from which the bytes would go past the last, and a socket any but 0: what is at such a one doesn't wait. */
+/* What has no offsets passes one over, but one from which the bytes would go past the last, and a
+ * socket any but 0: what is at such a one doesn't wait. */
 static void test_offsets_of_streams(void)
 {
-    static const uint64_t bad[] = {(uint64_t)-2, (uint64_t)1 << 63, ((uint64_t)1 << 63) - 4}, odd[] = {1, ((uint64_t)1 << 63) - 5}, none[] = {0, (uint64_t)-1};
+    static const uint64_t bad[] = {(uint64_t)-2, (uint64_t)1 << 63, ((uint64_t)1 << 63) - 4},
+                          odd[] = {1, ((uint64_t)1 << 63) - 5}, none[] = {0, (uint64_t)-1};
     int pair[2];
     begin(0);
     make_pair(pair);
@@ -69,7 +73,8 @@ static void test_offsets_of_no_file(void)
 {
     static const uint64_t bad[] = {(uint64_t)-2, (uint64_t)1 << 63};
     begin(0);
-    int path = open("/proc/self/exe", O_PATH), to_read = open("/proc/self/exe", O_RDONLY), to_write = open("/tmp", O_TMPFILE | O_WRONLY, 0600), folder = open("/", O_RDONLY);
+    int path = open("/proc/self/exe", O_PATH), to_read = open("/proc/self/exe", O_RDONLY),
+        to_write = open("/tmp", O_TMPFILE | O_WRONLY, 0600), folder = open("/", O_RDONLY);
     check(path >= 0 && to_read >= 0 && to_write >= 0 && folder >= 0);
     for (int i = 0; i < 2; i++) {
         expect_at(IORING_OP_READ, 0, 999, bad[i], -EBADF);
@@ -102,7 +107,8 @@ static void test_flags_of_streams(void)
     static const struct {
         uint32_t flags;
         int32_t res;
-    } bad[] = {{0x1000, -EOPNOTSUPP}, {0x40, -EOPNOTSUPP}, {0x30, -EINVAL}, {0x70, -EINVAL}, {RWF_HIPRI, -EINVAL}};
+    } bad[] = {{0x1000, -EOPNOTSUPP}, {0x40, -EOPNOTSUPP}, {0x30, -EINVAL}, {0x70, -EINVAL},
+        {RWF_HIPRI, -EINVAL}};
     int pair[2];
     begin(0);
     make_pair(pair);
@@ -183,5 +189,7 @@ int main(int count, char **words)
         {"reads of signals", test_reads_of_signals},
         {"reads of a queue", test_reads_of_a_queue},
     };
-    return are_rings_there() ? run_tests(tests, sizeof tests / sizeof *tests, count > 1 ? words[1] : NULL) : 0;
+    return are_rings_there()
+               ? run_tests(tests, sizeof tests / sizeof *tests, count > 1 ? words[1] : NULL)
+               : 0;
 }

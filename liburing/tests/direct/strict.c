@@ -1,5 +1,6 @@
-/* What this machine's kernel refuses a strict layer refuses too: the same is asked of a real ring and of the layer, and the
- * answers are the same. Without WULGACH_STRICT the layer is to serve what it served before.
+/* What this machine's kernel refuses a strict layer refuses too: the same is asked of a real ring
+ * and of the layer, and the answers are the same. Without WULGACH_STRICT the layer is to serve what
+ * it served before.
  *
  *   strict                   status 0, also where the kernel makes no rings: a line says so
  */
@@ -31,7 +32,8 @@ static void told(int32_t answer)
     answers[is_real][counts[is_real]++] = answer;
 }
 
-/* Submits entries, and tells their results by user data from 0 on. One whose success is skipped has none. */
+/* Submits entries, and tells their results by user data from 0 on. One whose success is skipped has
+ * none. */
 static void submit(struct ring *ring, unsigned count, unsigned completions)
 {
     int32_t results[8] = {0};
@@ -78,7 +80,8 @@ static void ask_operations(void)
     close_ring(&ring);
 }
 
-/* Puts a single entry on a ring, and tells its result, or 0 if it has none. Only a no-op that skips success is silent; a worker of the kernel's may take its time for others. */
+/* Puts a single entry on a ring, and tells its result, or 0 if it has none. Only a no-op that skips
+ * success is silent; a worker of the kernel's may take its time for others. */
 static void ask_entry(struct ring *ring, struct io_uring_sqe entry)
 {
     *put(ring, 0, 0, 0) = entry;
@@ -91,7 +94,8 @@ static void ask_entry(struct ring *ring, struct io_uring_sqe entry)
     told(res);
 }
 
-/* Which fault of an entry's operation, flags and fields comes first, and whether a drain is taken after it. */
+/* Which fault of an entry's operation, flags and fields comes first, and whether a drain is taken
+ * after it. */
 static void ask_flags(void)
 {
     static const uint8_t codes[] = {IORING_OP_NOP, 200, IORING_OP_READ, IORING_OP_FSYNC};
@@ -101,8 +105,13 @@ static void ask_flags(void)
             make_ring(&ring, 8, 0, IORING_SETUP_SUBMIT_ALL);
             if (i & 1)
                 ask_entry(&ring, (struct io_uring_sqe){.flags = IOSQE_CQE_SKIP_SUCCESS});
-            struct io_uring_sqe entry = {.opcode = codes[i / 4], .fd = -1, .personality = faults & 8 ? 3 : 0, .ioprio = i & 2 ? 0xffff : 0};
-            entry.flags = (uint8_t)((faults & 1 ? 128 : 0) | (faults & 2 ? IOSQE_BUFFER_SELECT : 0) | (faults & 4 ? IOSQE_CQE_SKIP_SUCCESS : 0) | IOSQE_IO_DRAIN);
+            struct io_uring_sqe entry = {.opcode = codes[i / 4],
+                .fd = -1,
+                .personality = faults & 8 ? 3 : 0,
+                .ioprio = i & 2 ? 0xffff : 0};
+            entry.flags = (uint8_t)((faults & 1 ? 128 : 0) |
+                                    (faults & 2 ? IOSQE_BUFFER_SELECT : 0) |
+                                    (faults & 4 ? IOSQE_CQE_SKIP_SUCCESS : 0) | IOSQE_IO_DRAIN);
             ask_entry(&ring, entry);
             ask_entry(&ring, (struct io_uring_sqe){.flags = IOSQE_IO_DRAIN});
             close_ring(&ring);
@@ -113,11 +122,14 @@ static void ask_flags(void)
 /* The same of a ring that allows reads alone. */
 static void ask_restricted(void)
 {
-    static const uint8_t flags[] = {0, 128, IOSQE_BUFFER_SELECT, IOSQE_CQE_SKIP_SUCCESS | IOSQE_IO_DRAIN};
-    struct io_uring_restriction row = {.opcode = IORING_RESTRICTION_SQE_OP, .sqe_op = IORING_OP_READ};
+    static const uint8_t flags[] = {
+        0, 128, IOSQE_BUFFER_SELECT, IOSQE_CQE_SKIP_SUCCESS | IOSQE_IO_DRAIN};
+    struct io_uring_restriction row = {
+        .opcode = IORING_RESTRICTION_SQE_OP, .sqe_op = IORING_OP_READ};
     struct ring ring;
     make_ring(&ring, 8, 0, IORING_SETUP_SUBMIT_ALL | IORING_SETUP_R_DISABLED);
-    check(register_at(ring.fd, IORING_REGISTER_RESTRICTIONS, &row, 1) == 0 && register_at(ring.fd, IORING_REGISTER_ENABLE_RINGS, NULL, 0) == 0);
+    check(register_at(ring.fd, IORING_REGISTER_RESTRICTIONS, &row, 1) == 0 &&
+          register_at(ring.fd, IORING_REGISTER_ENABLE_RINGS, NULL, 0) == 0);
     for (size_t i = 0; i < sizeof flags; i++) {
         ask_entry(&ring, (struct io_uring_sqe){.flags = flags[i], .ioprio = 1, .personality = 4});
         ask_entry(&ring, (struct io_uring_sqe){.opcode = 200, .flags = flags[i]});
@@ -133,16 +145,40 @@ static void ask_fields(void)
         uint32_t length, flags;
         uint64_t number, address;
     } rows[] = {
-        {1, 16, 0, 65535, 0}, {1, 16, 0, 65536, 0}, {2, 16, 0, 65535, 0}, {65536, 1, 0, 0, 0}, {65537, 1, 0, 0, 0}, {65536, 1, 0, 1, 0}, {0, 1, 0, 0, 0}, {-1, 1, 0, 0, 0},
-        {1, 0, 0, 65536, 0}, {0, 0, 0, 0, 0}, {1, 16, 0, 65536, UINT64_MAX}, {1, 16, 0, 65536, 1ull << 63}, {1, 16, 1, 65536, 0}, {0, 1, 1, 0, 0}, {1, 16, 0, 0, 0x7fffffffeff0}, {1, 16, 0, 0, 0x7fffffffeff1}, {2, 4097, 0, 0, 0x7fffffffdffe},
+        {1, 16, 0, 65535, 0},
+        {1, 16, 0, 65536, 0},
+        {2, 16, 0, 65535, 0},
+        {65536, 1, 0, 0, 0},
+        {65537, 1, 0, 0, 0},
+        {65536, 1, 0, 1, 0},
+        {0, 1, 0, 0, 0},
+        {-1, 1, 0, 0, 0},
+        {1, 0, 0, 65536, 0},
+        {0, 0, 0, 0, 0},
+        {1, 16, 0, 65536, UINT64_MAX},
+        {1, 16, 0, 65536, 1ull << 63},
+        {1, 16, 1, 65536, 0},
+        {0, 1, 1, 0, 0},
+        {1, 16, 0, 0, 0x7fffffffeff0},
+        {1, 16, 0, 0, 0x7fffffffeff1},
+        {2, 4097, 0, 0, 0x7fffffffdffe},
     };
     struct ring ring;
     make_ring(&ring, 8, 0, IORING_SETUP_SUBMIT_ALL);
     for (size_t i = 0; i < sizeof rows / sizeof *rows; i++)
-        ask_entry(&ring, (struct io_uring_sqe){.opcode = IORING_OP_PROVIDE_BUFFERS, .fd = rows[i].count, .len = rows[i].length, .rw_flags = (int)rows[i].flags, .off = rows[i].number, .addr = rows[i].address, .buf_group = (uint16_t)i});
+        ask_entry(&ring, (struct io_uring_sqe){.opcode = IORING_OP_PROVIDE_BUFFERS,
+                             .fd = rows[i].count,
+                             .len = rows[i].length,
+                             .rw_flags = (int)rows[i].flags,
+                             .off = rows[i].number,
+                             .addr = rows[i].address,
+                             .buf_group = (uint16_t)i});
     struct __kernel_timespec hour = {3600, 0};
     for (uint32_t flags = 0; flags < 64; flags++)
-        ask_entry(&ring, (struct io_uring_sqe){.opcode = IORING_OP_TIMEOUT_REMOVE, .addr = 5, .addr2 = (uintptr_t)&hour, .timeout_flags = flags});
+        ask_entry(&ring, (struct io_uring_sqe){.opcode = IORING_OP_TIMEOUT_REMOVE,
+                             .addr = 5,
+                             .addr2 = (uintptr_t)&hour,
+                             .timeout_flags = flags});
     close_ring(&ring);
 }
 
@@ -183,7 +219,8 @@ static void *call_elsewhere(void *argument)
 
 static void ask_other_threads(void)
 {
-    static const uint32_t flags[] = {IORING_SETUP_SINGLE_ISSUER, IORING_SETUP_SINGLE_ISSUER | IORING_SETUP_DEFER_TASKRUN};
+    static const uint32_t flags[] = {
+        IORING_SETUP_SINGLE_ISSUER, IORING_SETUP_SINGLE_ISSUER | IORING_SETUP_DEFER_TASKRUN};
     for (size_t i = 0; i < sizeof flags / sizeof *flags; i++) {
         struct ring ring;
         pthread_t other;
@@ -194,10 +231,12 @@ static void ask_other_threads(void)
     }
 }
 
-/* Calls of io_uring_register(2), each on a ring of its own: without an argument, by an address that can't be read, and of what is all zero. */
+/* Calls of io_uring_register(2), each on a ring of its own: without an argument, by an address that
+ * can't be read, and of what is all zero. */
 static void ask_calls(void)
 {
-    static const uint8_t codes[] = {0, 1, 2, 3, 4, 5, 6, 7, 8, 11, 12, 13, 14, 15, 16, 20, 21, 22, 23, 24, 25};
+    static const uint8_t codes[] = {
+        0, 1, 2, 3, 4, 5, 6, 7, 8, 11, 12, 13, 14, 15, 16, 20, 21, 22, 23, 24, 25};
     static const unsigned lengths[] = {0, 1, 2, 16, 17, 32, 33, 256, 257};
     static char zero[4096];
     for (size_t i = 0; i < sizeof codes; i++) {
@@ -227,7 +266,8 @@ static void ask_who_calls(void)
         told((int32_t)register_at(999, codes[i], NULL, 0));
         told((int32_t)register_at(ends[0], codes[i], NULL, 0));
     }
-    struct io_uring_restriction row = {.opcode = IORING_RESTRICTION_REGISTER_OP, .register_op = IORING_REGISTER_ENABLE_RINGS};
+    struct io_uring_restriction row = {
+        .opcode = IORING_RESTRICTION_REGISTER_OP, .register_op = IORING_REGISTER_ENABLE_RINGS};
     told((int32_t)register_at(ring.fd, IORING_REGISTER_RESTRICTIONS, &row, 1));
     told((int32_t)register_at(ring.fd, IORING_REGISTER_PROBE, NULL, 0));
     told((int32_t)register_at(ring.fd, IORING_REGISTER_ENABLE_RINGS, &row, 0));
@@ -250,24 +290,32 @@ static void ask_contents(void)
     memset(probe, 0, sizeof probe);
     probe[sizeof probe - 1] = 1;
     told((int32_t)register_at(ring.fd, IORING_REGISTER_PROBE, probe, 256));
-    struct io_uring_rsrc_register tables[] = {{0}, {.nr = 1, .flags = 2}, {.nr = 1, .resv2 = 1}, {.nr = 1, .flags = 1, .data = 8}, {.nr = 0, .flags = 1}, {.nr = 2, .flags = 1}, {.nr = 2, .flags = 1}};
+    struct io_uring_rsrc_register tables[] = {{0}, {.nr = 1, .flags = 2}, {.nr = 1, .resv2 = 1},
+        {.nr = 1, .flags = 1, .data = 8}, {.nr = 0, .flags = 1}, {.nr = 2, .flags = 1},
+        {.nr = 2, .flags = 1}};
     for (size_t i = 0; i < sizeof tables / sizeof *tables; i++) {
         told((int32_t)register_at(ring.fd, IORING_REGISTER_FILES2, &tables[i], sizeof *tables));
         told((int32_t)register_at(ring.fd, IORING_REGISTER_BUFFERS2, &tables[i], sizeof *tables));
     }
-    struct io_uring_rsrc_update2 updates[] = {{0}, {.nr = 1, .resv = 1}, {.nr = 1, .resv2 = 1}, {.nr = 1, .offset = UINT32_MAX}, {.nr = 3}, {.nr = 2}};
+    struct io_uring_rsrc_update2 updates[] = {{0}, {.nr = 1, .resv = 1}, {.nr = 1, .resv2 = 1},
+        {.nr = 1, .offset = UINT32_MAX}, {.nr = 3}, {.nr = 2}};
     for (size_t i = 0; i < sizeof updates / sizeof *updates; i++) {
-        told((int32_t)register_at(ring.fd, IORING_REGISTER_FILES_UPDATE2, &updates[i], sizeof *updates));
-        told((int32_t)register_at(ring.fd, IORING_REGISTER_BUFFERS_UPDATE, &updates[i], sizeof *updates));
+        told((int32_t)register_at(
+            ring.fd, IORING_REGISTER_FILES_UPDATE2, &updates[i], sizeof *updates));
+        told((int32_t)register_at(
+            ring.fd, IORING_REGISTER_BUFFERS_UPDATE, &updates[i], sizeof *updates));
     }
-    struct io_uring_sync_cancel_reg cancels[] = {{.addr = 5}, {.flags = 64}, {.flags = IORING_ASYNC_CANCEL_ALL}, {.flags = IORING_ASYNC_CANCEL_ANY}, {.flags = IORING_ASYNC_CANCEL_FD, .fd = 999}};
+    struct io_uring_sync_cancel_reg cancels[] = {{.addr = 5}, {.flags = 64},
+        {.flags = IORING_ASYNC_CANCEL_ALL}, {.flags = IORING_ASYNC_CANCEL_ANY},
+        {.flags = IORING_ASYNC_CANCEL_FD, .fd = 999}};
     for (size_t i = 0; i < sizeof cancels / sizeof *cancels; i++) {
         cancels[i].timeout.tv_sec = cancels[i].timeout.tv_nsec = -1;
         told((int32_t)register_at(ring.fd, IORING_REGISTER_SYNC_CANCEL, &cancels[i], 1));
     }
     close_ring(&ring);
     make_ring(&ring, 8, 0, 0);
-    told((int32_t)register_at(ring.fd, IORING_REGISTER_FILES_UPDATE2, &updates[3], sizeof *updates));
+    told(
+        (int32_t)register_at(ring.fd, IORING_REGISTER_FILES_UPDATE2, &updates[3], sizeof *updates));
     close_ring(&ring);
 }
 
@@ -279,7 +327,8 @@ static void ask_eventfds(void)
     make_ring(&ring, 8, 0, 0);
     int *numbers[] = {&none, &ends[0], &event, &event, &none, NULL};
     for (size_t i = 0; i < sizeof numbers / sizeof *numbers; i++)
-        told((int32_t)register_at(ring.fd, i == 3 ? IORING_REGISTER_EVENTFD_ASYNC : IORING_REGISTER_EVENTFD, numbers[i], 1));
+        told((int32_t)register_at(ring.fd,
+            i == 3 ? IORING_REGISTER_EVENTFD_ASYNC : IORING_REGISTER_EVENTFD, numbers[i], 1));
     told((int32_t)register_at(ring.fd, IORING_UNREGISTER_EVENTFD, &none, 0));
     told((int32_t)register_at(ring.fd, IORING_UNREGISTER_EVENTFD, NULL, 0));
     told((int32_t)register_at(ring.fd, IORING_UNREGISTER_EVENTFD, NULL, 0));
@@ -289,7 +338,8 @@ static void ask_eventfds(void)
 }
 
 /* Enrols a ring, or dismisses it, and tells which number it has. */
-static void enrol(struct ring *ring, unsigned code, unsigned offset, uint64_t data, uint32_t reserved)
+static void enrol(
+    struct ring *ring, unsigned code, unsigned offset, uint64_t data, uint32_t reserved)
 {
     struct io_uring_rsrc_update row = {.offset = offset, .resv = reserved, .data = data};
     told((int32_t)register_at(ring->fd, code, &row, 1));
@@ -308,13 +358,33 @@ static void ask_numbers(void)
         uint64_t data;
         uint32_t reserved;
     } rows[] = {
-        {20, 3, fd, 0}, {20, 3, fd, 0}, {20, 3, 999, 0}, {20, 3, other, 0}, {20, 16, 999, 0}, {20, 4, 999, 1}, {20, UINT32_MAX, fd, 0}, {20, UINT32_MAX, fd | 1ull << 32, 0},
-        {20, UINT32_MAX, 999, 0}, {20, UINT32_MAX, other, 0}, {21, 3, 1, 0}, {21, 3, 0, 1}, {21, 16, 0, 0}, {21, UINT32_MAX, 0, 0}, {21, 0, 0, 0}, {20, UINT32_MAX, fd, 0}, {20, UINT32_MAX, fd, 0}, {20, UINT32_MAX, fd, 0}, {20, 15, fd, 0},
+        {20, 3, fd, 0},
+        {20, 3, fd, 0},
+        {20, 3, 999, 0},
+        {20, 3, other, 0},
+        {20, 16, 999, 0},
+        {20, 4, 999, 1},
+        {20, UINT32_MAX, fd, 0},
+        {20, UINT32_MAX, fd | 1ull << 32, 0},
+        {20, UINT32_MAX, 999, 0},
+        {20, UINT32_MAX, other, 0},
+        {21, 3, 1, 0},
+        {21, 3, 0, 1},
+        {21, 16, 0, 0},
+        {21, UINT32_MAX, 0, 0},
+        {21, 0, 0, 0},
+        {20, UINT32_MAX, fd, 0},
+        {20, UINT32_MAX, fd, 0},
+        {20, UINT32_MAX, fd, 0},
+        {20, 15, fd, 0},
     };
     for (size_t i = 0; i < sizeof rows / sizeof *rows; i++) {
         enrol(&ring, rows[i].code, rows[i].offset, rows[i].data, rows[i].reserved);
         for (int number = 0; number < 18; number++)
-            told((int32_t)(ask(SYS_io_uring_enter, number, 0, 0, IORING_ENTER_REGISTERED_RING, NULL, (size_t)0) < 0 ? -errno : 0));
+            told((int32_t)(ask(SYS_io_uring_enter, number, 0, 0, IORING_ENTER_REGISTERED_RING, NULL,
+                               (size_t)0) < 0
+                               ? -errno
+                               : 0));
     }
     for (unsigned number = 0; number < 16; number++)
         enrol(&ring, IORING_UNREGISTER_RING_FDS, number, 0, 0);
@@ -356,7 +426,8 @@ int main(void)
     check(counts[0] == counts[1]);
     for (size_t i = 0; i < counts[0]; i++) {
         if (answers[0][i] != answers[1][i] && is_strict)
-            printf("answer %zu is %d here, and %d of the kernel\n", i, (int)answers[0][i], (int)answers[1][i]);
+            printf("answer %zu is %d here, and %d of the kernel\n", i, (int)answers[0][i],
+                (int)answers[1][i]);
         differing += answers[0][i] != answers[1][i];
     }
     printf("strict: %zu of %zu answers differ\n", differing, counts[0]);

@@ -1,5 +1,6 @@
-/* Tests of threads with descriptors of their own (unshare(2), CLONE_FILES), by direct calls: one number may be two rings', and one ring may be in two
- * tables. All hold under every policy. A test that hangs ends by an alarm.
+/* Tests of threads with descriptors of their own (unshare(2), CLONE_FILES), by direct calls: one
+ * number may be two rings', and one ring may be in two tables. All hold under every policy. A test
+ * that hangs ends by an alarm.
  *
  *   tables [NAME]            with a name: that test alone
  */
@@ -84,7 +85,8 @@ static void test_own_table(void)
     close_ring(&two);
 }
 
-/* A copy of a ring's descriptor in another table: it is closed there first, or used there after the other was closed. */
+/* A copy of a ring's descriptor in another table: it is closed there first, or used there after the
+ * other was closed. */
 static void *use_copy(void *at)
 {
     struct turns *turns = at;

@@ -1,5 +1,6 @@
-/* Tests by direct calls: threads with rings of their own and with one in common, which wait for each other, for signals and for
- * time. All hold under every policy. A test that hangs ends by an alarm.
+/* Tests by direct calls: threads with rings of their own and with one in common, which wait for
+ * each other, for signals and for time. All hold under every policy. A test that hangs ends by an
+ * alarm.
  */
 #define _GNU_SOURCE
 #include "asleep.h"
@@ -68,7 +69,7 @@ static void test_shared_ring(void)
 
 struct sleep {
     struct ring *ring;
-    pid_t thread;       /* once it runs */
+    pid_t thread; /* once it runs */
     long result;
 };
 
@@ -124,7 +125,8 @@ static void ignore_signal(int number)
     (void)number;
 }
 
-/* A thread that waits with nothing outstanding gets signals, also if its ring's descriptor is closed. */
+/* A thread that waits with nothing outstanding gets signals, also if its ring's descriptor is
+ * closed. */
 static void test_closed_while_idle(void)
 {
     struct sigaction action = {.sa_handler = ignore_signal};
@@ -160,7 +162,8 @@ static void test_woken(void)
     close_ring(&ring);
 }
 
-/* A signal ends a call that sleeps for a read of an empty eventfd: the read goes on waiting, and ends with what comes. */
+/* A signal ends a call that sleeps for a read of an empty eventfd: the read goes on waiting, and
+ * ends with what comes. */
 static void test_interrupted(void)
 {
     struct sigaction action = {.sa_handler = ignore_signal};
@@ -205,7 +208,8 @@ static void *read_until_cancelled(void *reader)
     return NULL;
 }
 
-/* A call isn't ended by a cancellation of its thread, and so the ring isn't left in the middle of one. */
+/* A call isn't ended by a cancellation of its thread, and so the ring isn't left in the middle of
+ * one. */
 static void test_cancelled(void)
 {
     for (int i = 0; i < 20; i++) {
@@ -216,7 +220,8 @@ static void test_cancelled(void)
         make_ring(&ring, 4, 0, 0);
         check(pthread_create(&thread, NULL, read_until_cancelled, &reader) == 0);
         usleep(2000);
-        check(pthread_cancel(thread) == 0 && pthread_join(thread, &result) == 0 && result == PTHREAD_CANCELED);
+        check(pthread_cancel(thread) == 0 && pthread_join(thread, &result) == 0 &&
+              result == PTHREAD_CANCELED);
         submit_nop(&ring, 2);
         check(wait_for_one(&ring) == 0 && is_at_rest(&ring));
         close(reader.file);
@@ -264,7 +269,8 @@ static void test_not_all_submitted(void)
     close_ring(&ring);
 }
 
-/* A cell is written before the tail that shows it: another thread looks at the newest cell at once. */
+/* A cell is written before the tail that shows it: another thread looks at the newest cell at once.
+ */
 static void *look_at_newest(void *of)
 {
     struct ring *ring = of;
@@ -295,7 +301,8 @@ static void test_cells_before_tail(void)
     close_ring(&ring);
 }
 
-/* The first thread of the process has ended: memory is copied, and descriptors are named, as before. */
+/* The first thread of the process has ended: memory is copied, and descriptors are named, as
+ * before. */
 static void *use_ring_alone(void *first)
 {
     struct ring ring, other;

@@ -1,5 +1,5 @@
-/* Tests by direct calls: timeouts and the limits of calls where time is virtual, up to the largest times. All hold under every
- * policy.
+/* Tests by direct calls: timeouts and the limits of calls where time is virtual, up to the largest
+ * times. All hold under every policy.
  */
 #define _GNU_SOURCE
 #include "engines.h"
@@ -13,8 +13,8 @@ static void put_timeout(struct ring *ring, uint64_t user_data, const struct __ke
     entry->len = 1;
 }
 
-/* Virtual time passes in a wait that ends without anything, and of equal timeouts the first ends first. A limit counts
- * beside a mask of signals. */
+/* Virtual time passes in a wait that ends without anything, and of equal timeouts the first ends
+ * first. A limit counts beside a mask of signals. */
 static void test_virtual_time(void)
 {
     struct ring ring;
@@ -34,8 +34,11 @@ static void test_virtual_time(void)
     for (unsigned i = 1; i <= 3; i++)
         check(reap(&ring).user_data == i);
     uint64_t signals = 0;
-    struct io_uring_getevents_arg argument = {.ts = (uintptr_t)&hour, .sigmask = (uintptr_t)&signals, .sigmask_sz = sizeof signals};
-    check(wulgach_syscall(SYS_io_uring_enter, ring.fd, 0u, 1u, IORING_ENTER_GETEVENTS | IORING_ENTER_EXT_ARG, &argument, sizeof argument) == -1 && errno == ETIME);
+    struct io_uring_getevents_arg argument = {
+        .ts = (uintptr_t)&hour, .sigmask = (uintptr_t)&signals, .sigmask_sz = sizeof signals};
+    check(wulgach_syscall(SYS_io_uring_enter, ring.fd, 0u, 1u,
+              IORING_ENTER_GETEVENTS | IORING_ENTER_EXT_ARG, &argument, sizeof argument) == -1 &&
+          errno == ETIME);
     close_ring(&ring);
 }
 
@@ -84,7 +87,8 @@ static void check_largest(struct ring *ring, const struct __kernel_timespec *lar
         entry->len = 1;
     }
     check(enter(ring, 2, 0, 0) == 2);
-    check(wulgach_syscall(SYS_io_uring_enter, ring->fd, 0u, 1u, flags, &argument, sizeof argument) == 0);
+    check(wulgach_syscall(
+              SYS_io_uring_enter, ring->fd, 0u, 1u, flags, &argument, sizeof argument) == 0);
     check(reap(ring).user_data == 1 && count_ready(ring) == 0);
     check(enter(ring, 0, 1, IORING_ENTER_GETEVENTS) == 0 && reap(ring).user_data == 0);
 }
@@ -102,11 +106,14 @@ static void test_largest_times(void)
     check(end_of_timeout(&ring, 3600, 0) == -ETIME);
     check(end_of_timeout(&ring, -1, 0) == -EINVAL);
     check(end_of_timeout(&ring, 0, -1) == -EINVAL);
-    static const struct __kernel_timespec limits[] = {{INT64_MAX, INT64_MAX}, {INT64_MIN, 0}, {0, INT64_MIN}, {-1, 0}};
+    static const struct __kernel_timespec limits[] = {
+        {INT64_MAX, INT64_MAX}, {INT64_MIN, 0}, {0, INT64_MIN}, {-1, 0}};
     for (int i = 0; i < 4; i++) {
         struct io_uring_getevents_arg argument = {.ts = (uintptr_t)&limits[i]};
         unsigned flags = IORING_ENTER_GETEVENTS | IORING_ENTER_EXT_ARG;
-        check(wulgach_syscall(SYS_io_uring_enter, ring.fd, 0u, 1u, flags, &argument, sizeof argument) == -1 && errno == ETIME);
+        check(wulgach_syscall(
+                  SYS_io_uring_enter, ring.fd, 0u, 1u, flags, &argument, sizeof argument) == -1 &&
+              errno == ETIME);
     }
     close_ring(&ring);
 }
@@ -117,15 +124,19 @@ static long wait_at_most(const struct ring *ring, int64_t seconds, int64_t nanos
     struct __kernel_timespec time = {seconds, nanoseconds};
     struct io_uring_getevents_arg argument = {.ts = (uintptr_t)&time};
     unsigned flags = IORING_ENTER_GETEVENTS | IORING_ENTER_EXT_ARG;
-    long result = wulgach_syscall(SYS_io_uring_enter, ring->fd, 0u, 1u, flags, &argument, sizeof argument);
+    long result = wulgach_syscall(
+        SYS_io_uring_enter, ring->fd, 0u, 1u, flags, &argument, sizeof argument);
     return result < 0 ? -errno : result;
 }
 
-/* The time of a wait is the sum of its seconds and nanoseconds, whichever is negative: so one of 20 ms ends before that of two seconds is over. */
+/* The time of a wait is the sum of its seconds and nanoseconds, whichever is negative: so one of 20
+ * ms ends before that of two seconds is over. */
 static void test_negative_parts(void)
 {
-    static const struct __kernel_timespec longer[] = {{-5, 7000000000}, {-1, INT64_MAX}, {7, -5000000000}, {INT64_MAX / 1000000000, INT64_MIN}};
-    static const struct __kernel_timespec over[] = {{-5, 4000000000}, {-5, 5000000000}, {5, -6000000000}, {-1, -1}, {-3600, 0}};
+    static const struct __kernel_timespec longer[] = {
+        {-5, 7000000000}, {-1, INT64_MAX}, {7, -5000000000}, {INT64_MAX / 1000000000, INT64_MIN}};
+    static const struct __kernel_timespec over[] = {
+        {-5, 4000000000}, {-5, 5000000000}, {5, -6000000000}, {-1, -1}, {-3600, 0}};
     struct __kernel_timespec moment = {0, 20000000};
     struct ring ring;
     make_ring(&ring, 4, 0, 0);

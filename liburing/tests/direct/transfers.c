@@ -1,8 +1,8 @@
-/* Tests by direct calls: transfers of files and pipes, when they wait, what they read when it is there, and injected faults. All
- * hold under every policy.
+/* Tests by direct calls: transfers of files and pipes, when they wait, what they read when it is
+ * there, and injected faults. All hold under every policy.
  *
- *   transfers [NAME]         one test alone. That of faults is run by its name, injection, alone: WULGACH_FAULTS is then
- *                            0=ENOSPC,2=SHORT,5=EIO,6=SHORT
+ *   transfers [NAME]         one test alone. That of faults is run by its name, injection, alone:
+ * WULGACH_FAULTS is then 0=ENOSPC,2=SHORT,5=EIO,6=SHORT
  */
 #define _GNU_SOURCE
 #include "engines.h"
@@ -21,10 +21,12 @@ static void test_files(void)
     int32_t results[8];
     char text[32] = "";
     int file = make_file();
-    struct iovec vectors[2] = {{(void *)(uintptr_t)"good ", 5}, {(void *)(uintptr_t)"morning", 7}};
+    struct iovec vectors[2] = {
+        {(void *)(uintptr_t) "good ", 5}, {(void *)(uintptr_t) "morning", 7}};
     make_ring(&ring, 8, 0, 0);
     put_transfer(&ring, IORING_OP_WRITEV, 0, IOSQE_IO_LINK, file, vectors, 2, 0);
-    put_transfer(&ring, IORING_OP_WRITE, 1, IOSQE_IO_LINK, file, (void *)(uintptr_t)"evening", 7, 5);
+    put_transfer(
+        &ring, IORING_OP_WRITE, 1, IOSQE_IO_LINK, file, (void *)(uintptr_t) "evening", 7, 5);
     put(&ring, IORING_OP_FSYNC, 2, IOSQE_IO_LINK)->fd = file;
     /* Short: its chain ends here. */
     put_transfer(&ring, IORING_OP_READ, 3, IOSQE_IO_LINK, file, text, 20, 0);
@@ -34,7 +36,8 @@ static void test_files(void)
     /* They were copied. */
     memset(vectors, 0, sizeof vectors);
     reap_all(&ring, 6, results);
-    check(results[0] == 12 && results[1] == 7 && results[2] == 0 && results[3] == 12 && results[4] == -ECANCELED && results[5] == -EBADF);
+    check(results[0] == 12 && results[1] == 7 && results[2] == 0 && results[3] == 12 &&
+          results[4] == -ECANCELED && results[5] == -EBADF);
     check(strcmp(text, "good evening") == 0);
     put(&ring, IORING_OP_CLOSE, 6, 0)->fd = ring.fd;
     put(&ring, IORING_OP_CLOSE, 7, 0)->fd = file;
@@ -160,8 +163,8 @@ static void test_without_offsets(void)
     close_ring(&ring);
 }
 
-/* What the number of a file was given to since is read as what it is now: a pipe and an eventfd, which have to wait, a device, a
- * folder, nothing, and another file. */
+/* What the number of a file was given to since is read as what it is now: a pipe and an eventfd,
+ * which have to wait, a device, a folder, nothing, and another file. */
 static void read_by_number(struct ring *ring, int fd, const char *bytes)
 {
     char text[8];
@@ -194,7 +197,8 @@ static void test_used_again(void)
 {
     struct ring ring;
     char text[8];
-    int ends[2], file = make_file(), other = open(".", O_RDWR | O_TMPFILE, 0600), number = dup(file);
+    int ends[2], file = make_file(), other = open(".", O_RDWR | O_TMPFILE, 0600),
+                 number = dup(file);
     check(other >= 0 && number >= 0 && pipe(ends) == 0);
     check(write(file, "foobar", 6) == 6 && write(other, "barfoo", 6) == 6);
     make_ring(&ring, 4, 0, 0);
@@ -228,7 +232,8 @@ static void test_used_again(void)
     close_ring(&ring);
 }
 
-/* Of the reads of a call each is of its own descriptor: a file, a pipe, or nothing, once, or twice in a row. */
+/* Of the reads of a call each is of its own descriptor: a file, a pipe, or nothing, once, or twice
+ * in a row. */
 static void test_in_turn(void)
 {
     struct ring ring;
@@ -242,7 +247,8 @@ static void test_in_turn(void)
     for (int round = 0; round < 2; round++) {
         check(write(ends[1], "123456", 6) == 6);
         for (uint64_t i = 0; i < 9; i++)
-            put_transfer(&ring, IORING_OP_READ, i, 0, turns[i], text[i], turns[i] == ends[0] ? 2 : 4, 0);
+            put_transfer(
+                &ring, IORING_OP_READ, i, 0, turns[i], text[i], turns[i] == ends[0] ? 2 : 4, 0);
         check(enter(&ring, 9, 9, IORING_ENTER_GETEVENTS) == 9);
         reap_all(&ring, 9, results);
         for (int i = 0; i < 9; i++)
@@ -262,7 +268,8 @@ static void test_injection(void)
     int32_t results[8];
     char bytes[8] = "12345678", text[8];
     int file = make_file();
-    struct iovec vectors[2] = {{(void *)(uintptr_t)"good ", 5}, {(void *)(uintptr_t)"morning", 7}};
+    struct iovec vectors[2] = {
+        {(void *)(uintptr_t) "good ", 5}, {(void *)(uintptr_t) "morning", 7}};
     make_ring(&ring, 8, 0, 0);
     put_transfer(&ring, IORING_OP_WRITE, 0, IOSQE_IO_LINK, file, bytes, 8, 0);
     put(&ring, IORING_OP_FSYNC, 1, 0)->fd = file;
@@ -274,7 +281,8 @@ static void test_injection(void)
     put_transfer(&ring, IORING_OP_WRITEV, 6, 0, file, vectors, 2, 100);
     check(enter(&ring, 7, 0, 0) == 7);
     reap_all(&ring, 7, results);
-    check(results[6] == 6 && lseek(file, 0, SEEK_END) == 106 && pread(file, text, 6, 100) == 6 && memcmp(text, "good m", 6) == 0);
+    check(results[6] == 6 && lseek(file, 0, SEEK_END) == 106 && pread(file, text, 6, 100) == 6 &&
+          memcmp(text, "good m", 6) == 0);
     check(results[0] == -ENOSPC && results[1] == -ECANCELED);
     check(results[2] == 4 && results[3] == -ECANCELED);
     check(results[4] == 8 && results[5] == -EIO);

@@ -1,5 +1,6 @@
-/* Tests of calls that would sleep within the layer, with its lock and with all signals blocked: each test is a process of its own, which is
- * killed if it does. After the layer's calls of poll, which go through the wrapped one of this program, what was there is taken as another process
+/* Tests of calls that would sleep within the layer, with its lock and with all signals blocked:
+ * each test is a process of its own, which is killed if it does. After the layer's calls of poll,
+ * which go through the wrapped one of this program, what was there is taken as another process
  * might take it just then. All hold under every policy.
  *
  *   unwilling [NAME]         with a name: that test alone
@@ -12,7 +13,8 @@
 #include <sys/eventfd.h>
 #include <sys/prctl.h>
 
-/* The descriptor of which others take what there is, after so many looks that find it ready: bytes of a pipe, or a connection. Or -1. */
+/* The descriptor of which others take what there is, after so many looks that find it ready: bytes
+ * of a pipe, or a connection. Or -1. */
 static int shared = -1;
 static unsigned until_taken;
 
@@ -20,7 +22,8 @@ static unsigned until_taken;
 static bool is_of(int fd, int file)
 {
     struct stat one, other;
-    return file >= 0 && fstat(fd, &one) == 0 && fstat(file, &other) == 0 && one.st_dev == other.st_dev && one.st_ino == other.st_ino;
+    return file >= 0 && fstat(fd, &one) == 0 && fstat(file, &other) == 0 &&
+           one.st_dev == other.st_dev && one.st_ino == other.st_ino;
 }
 
 static void take(void)
@@ -48,7 +51,8 @@ int __wrap_poll(struct pollfd *polled, nfds_t count, int patience)
 /* A descriptor whose flags another thread changes while it is asked not to wait. Or -1. */
 static int appended = -1;
 
-/* One of which another process, which has it from the same open, takes back just then that it isn't to wait. Or -1. */
+/* One of which another process, which has it from the same open, takes back just then that it isn't
+ * to wait. Or -1. */
 static int taken_back = -1;
 
 int __real_fcntl(int fd, int code, ...);
@@ -66,7 +70,8 @@ int __wrap_fcntl(int fd, int code, ...)
     return result;
 }
 
-/* A request waits for what another process takes once it was seen, after whichever look: it waits for the next. Its descriptor is as it was. */
+/* A request waits for what another process takes once it was seen, after whichever look: it waits
+ * for the next. Its descriptor is as it was. */
 static void wait_for_taken(struct ring *ring, int fd, void (*bring)(void))
 {
     for (unsigned looks = 0; looks < 3; looks++) {
@@ -75,7 +80,7 @@ static void wait_for_taken(struct ring *ring, int fd, void (*bring)(void))
         until_taken = looks;
         bring();
         if (enter_for(ring, 1, 1000) == 0 || count_ready(ring) > 0)
-            break;      /* it isn't looked at so often */
+            break; /* it isn't looked at so often */
         check(shared < 0 && !(fcntl(fd, F_GETFL) & O_NONBLOCK));
     }
     if (count_ready(ring) == 0) {
@@ -118,8 +123,8 @@ static void test_taken(void)
     close_ring(&ring);
 }
 
-/* A read end of a named pipe can't be locked: so another process that reads there by it too may have asked it not to wait just before, and take that
- * back amid the call. */
+/* A read end of a named pipe can't be locked: so another process that reads there by it too may
+ * have asked it not to wait just before, and take that back amid the call. */
 static void test_taken_back(void)
 {
     struct ring ring;
@@ -136,7 +141,8 @@ static void test_taken_back(void)
     close_ring(&ring);
 }
 
-/* Three processes accept on one listener, and each reads a pipe of its own beside: it always answers that. */
+/* Three processes accept on one listener, and each reads a pipe of its own beside: it always
+ * answers that. */
 static void answer(int listener, int questions, int answers)
 {
     struct ring ring;
@@ -180,7 +186,8 @@ static void test_herd(void)
             check(write(questions[i][1], "?", 1) == 1);
         for (int i = 0; i < PROCESSES; i++) {
             struct pollfd at = {.fd = answers[i][0], .events = POLLIN};
-            check(__real_poll(&at, 1, 2000 * patience()) == 1 && read(answers[i][0], &byte, 1) == 1);
+            check(
+                __real_poll(&at, 1, 2000 * patience()) == 1 && read(answers[i][0], &byte, 1) == 1);
         }
     }
     for (int i = 0; i < PROCESSES; i++)
@@ -197,7 +204,8 @@ static void fill(int fd)
     check(errno == EAGAIN && fcntl(fd, F_SETFL, flags) == 0);
 }
 
-/* A splice from a socket that has nothing, and one to a socket that takes no more, wait, and nobody sleeps. */
+/* A splice from a socket that has nothing, and one to a socket that takes no more, wait, and nobody
+ * sleeps. */
 static void test_splices(void)
 {
     struct ring ring;
@@ -218,8 +226,8 @@ static void test_splices(void)
     close_ring(&ring);
 }
 
-/* What would wait ends with -11 where its descriptor isn't to wait: of two pipes either, else that which it waits for. Seen at a ring of Linux
- * 6.18. */
+/* What would wait ends with -11 where its descriptor isn't to wait: of two pipes either, else that
+ * which it waits for. Seen at a ring of Linux 6.18. */
 static void test_wills(void)
 {
     struct ring ring;
@@ -241,7 +249,8 @@ static void test_wills(void)
     close_ring(&ring);
 }
 
-/* A named pipe takes of a write what it has room for, and a counter what it has room for only once that is there. */
+/* A named pipe takes of a write what it has room for, and a counter what it has room for only once
+ * that is there. */
 static void test_no_room(void)
 {
     struct ring ring;
@@ -271,14 +280,17 @@ static bool is_locked_whole(int fd)
     int status;
     pid_t child = fork();
     if (child == 0) {
-        struct flock lock = {.l_type = F_WRLCK, .l_whence = SEEK_SET, .l_start = (off_t)1 << 62, .l_len = 1};
-        _exit(fcntl(fd, F_GETLK, &lock) == 0 && lock.l_type == F_WRLCK && lock.l_start == 0 && lock.l_len == 0);
+        struct flock lock = {
+            .l_type = F_WRLCK, .l_whence = SEEK_SET, .l_start = (off_t)1 << 62, .l_len = 1};
+        _exit(fcntl(fd, F_GETLK, &lock) == 0 && lock.l_type == F_WRLCK && lock.l_start == 0 &&
+              lock.l_len == 0);
     }
     check(child > 0 && waitpid(child, &status, 0) == child);
     return status != 0;
 }
 
-/* What the application has set of a file stays: its lock of the whole, while no copy is closed, and flags that another thread sets amid a call. */
+/* What the application has set of a file stays: its lock of the whole, while no copy is closed, and
+ * flags that another thread sets amid a call. */
 static void test_kept(void)
 {
     struct ring ring;

@@ -1,5 +1,5 @@
-/* Tests of what waits for descriptors, by direct calls: polls, also of what a pipe had between two calls, and splices. All hold
- * under every policy, which the environment says.
+/* Tests of what waits for descriptors, by direct calls: polls, also of what a pipe had between two
+ * calls, and splices. All hold under every policy, which the environment says.
  *
  *   waits [NAME]             with a name: that test alone
  */
@@ -47,7 +47,8 @@ static void write_and_read(const int ends[2])
     check(write(ends[1], "b", 1) == 1 && read(ends[0], &byte, 1) == 1);
 }
 
-/* The poll of user data 1, whose descriptor is ready, gets another one, and is told by that at once. It is removed. */
+/* The poll of user data 1, whose descriptor is ready, gets another one, and is told by that at
+ * once. It is removed. */
 static void rename_poll(struct ring *ring)
 {
     struct io_uring_sqe *change = put(ring, IORING_OP_POLL_REMOVE, 2, 0);
@@ -68,7 +69,8 @@ static void rename_poll(struct ring *ring)
     next_of(ring);
 }
 
-/* An update changes what a poll waits for, and neither whether it goes on nor how: what is there is told at once, and again. */
+/* An update changes what a poll waits for, and neither whether it goes on nor how: what is there is
+ * told at once, and again. */
 static void test_updated_polls(void)
 {
     struct ring ring;
@@ -90,7 +92,8 @@ static void test_updated_polls(void)
         for (int round = 0; round < (goes_on ? 2 : 1); round++) {
             check(write(ends[1], "b", 1) == 1);
             struct seen found = next_of(&ring);
-            check(found.user_data == 1 && found.res == POLLIN && found.flags == (goes_on ? IORING_CQE_F_MORE : 0));
+            check(found.user_data == 1 && found.res == POLLIN &&
+                  found.flags == (goes_on ? IORING_CQE_F_MORE : 0));
             check(round == 1 || read(ends[0], &byte, 1) == 1);
         }
         if (goes_on)
@@ -100,7 +103,8 @@ static void test_updated_polls(void)
     close_ring(&ring);
 }
 
-/* A poll that is changed to what is there ends beside one that waits: in order, in the same call. */
+/* A poll that is changed to what is there ends beside one that waits: in order, in the same call.
+ */
 static void test_poll_of_what_is_there(void)
 {
     struct ring ring;
@@ -128,7 +132,8 @@ static void test_poll_of_what_is_there(void)
     close_ring(&ring);
 }
 
-/* A poll that runs is told of what a pipe had between two calls, and one that comes later isn't; nor is one of another pipe. */
+/* A poll that runs is told of what a pipe had between two calls, and one that comes later isn't;
+ * nor is one of another pipe. */
 static void test_come_and_gone(void)
 {
     struct ring ring;
@@ -146,7 +151,9 @@ static void test_come_and_gone(void)
         check(enter(&ring, 0, 2, IORING_ENTER_GETEVENTS) == 0 && count_ready(&ring) == 2);
         for (int i = 0; i < 2; i++) {
             struct seen found = next_of(&ring);
-            check(found.res == POLLIN && found.flags == (found.user_data == 2 ? IORING_CQE_F_MORE : 0) && found.user_data != 0);
+            check(found.res == POLLIN &&
+                  found.flags == (found.user_data == 2 ? IORING_CQE_F_MORE : 0) &&
+                  found.user_data != 0);
         }
         write_and_read(ends);
         struct seen more = next_of(&ring);
@@ -173,7 +180,8 @@ static void test_come_and_gone(void)
     close_ring(&ring);
 }
 
-/* One that starts after a write and a read of its pipe isn't told of them, though another was running before. */
+/* One that starts after a write and a read of its pipe isn't told of them, though another was
+ * running before. */
 static void test_gone_before(void)
 {
     struct ring ring;
@@ -204,8 +212,8 @@ static void test_gone_before(void)
     close_ring(&ring);
 }
 
-/* Polls that go on, and can at once, beside no-ops that run: in a turn of its own each is looked at while the ways of a choice are
- * listed, and may want room for its next event. */
+/* Polls that go on, and can at once, beside no-ops that run: in a turn of its own each is looked at
+ * while the ways of a choice are listed, and may want room for its next event. */
 static void test_events_in_choices(void)
 {
     int ends[2];
@@ -230,7 +238,8 @@ static void test_events_in_choices(void)
     close_pair(ends);
 }
 
-/* A read of a pipe's end for writing, and the other way round, end at once, where a pipe may be a registered file too. */
+/* A read of a pipe's end for writing, and the other way round, end at once, where a pipe may be a
+ * registered file too. */
 static void test_wrong_end(void)
 {
     struct ring ring;
@@ -262,7 +271,8 @@ static void test_splice(void)
     check(pipe(first) == 0 && pipe(second) == 0);
     make_ring(&ring, 8, 0, 0);
     for (int i = 0; i < 2; i++) {
-        struct io_uring_sqe *entry = put_plain(&ring, i == 0 ? IORING_OP_TEE : IORING_OP_SPLICE, 0, second[1]);
+        struct io_uring_sqe *entry = put_plain(
+            &ring, i == 0 ? IORING_OP_TEE : IORING_OP_SPLICE, 0, second[1]);
         entry->splice_fd_in = first[0];
         entry->len = 5;
         if (i == 1)
@@ -293,7 +303,8 @@ static void test_splice_of_nothing(void)
     make_ring(&ring, 8, 0, 0);
     for (int i = 0; i < 6; i++) {
         int of[][2] = {{ends[0], ends[1]}, {closed, ends[1]}, {ends[0], closed}};
-        struct io_uring_sqe *entry = put_plain(&ring, i < 3 ? IORING_OP_TEE : IORING_OP_SPLICE, 0, of[i % 3][1]);
+        struct io_uring_sqe *entry = put_plain(
+            &ring, i < 3 ? IORING_OP_TEE : IORING_OP_SPLICE, 0, of[i % 3][1]);
         entry->splice_fd_in = of[i % 3][0];
         entry->off = entry->splice_off_in = i < 3 ? 0 : UINT64_MAX;
         check(result_of_one(&ring, 1) == (i % 3 == 0 ? 0 : -EBADF));
@@ -322,7 +333,8 @@ static void test_splice_at_an_offset(void)
     close_ring(&ring);
 }
 
-/* A write to a pipe that shows no room ends, though, if the last page has room for it; one for which that has none waits until it was read. */
+/* A write to a pipe that shows no room ends, though, if the last page has room for it; one for
+ * which that has none waits until it was read. */
 static void test_last_page(void)
 {
     struct ring ring;

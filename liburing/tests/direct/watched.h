@@ -1,4 +1,5 @@
-/* What tests share each of which is a process of its own, since it would sleep within the layer, or wait without an end, if that had the bug. */
+/* What tests share each of which is a process of its own, since it would sleep within the layer, or
+ * wait without an end, if that had the bug. */
 #ifndef WATCHED_H
 #define WATCHED_H
 

@@ -1,4 +1,5 @@
-/* Two requests that may have faults: prints each completion with its result, in the order in which they come.
+/* Two requests that may have faults: prints each completion with its result, in the order in which
+ * they come.
  *
  *   faulted writes   two writes of 8 bytes, which don't meet
  *   faulted synced   a write and an fsync
@@ -29,7 +30,8 @@ static void prepare(struct io_uring *ring, unsigned number, int file, int is_syn
     entry->user_data = number;
 }
 
-/* Submits, and prints what comes until two have come, or nothing comes any more: time passes once nothing else can go on. */
+/* Submits, and prints what comes until two have come, or nothing comes any more: time passes once
+ * nothing else can go on. */
 static void print_both(struct io_uring *ring)
 {
     struct io_uring_cqe *completion;
@@ -47,7 +49,8 @@ static void print_both(struct io_uring *ring)
 
 int main(int argc, char **argv)
 {
-    int is_synced = argc > 1 && strcmp(argv[1], "synced") == 0, is_silent = argc > 1 && strcmp(argv[1], "silent") == 0;
+    int is_synced = argc > 1 && strcmp(argv[1], "synced") == 0,
+        is_silent = argc > 1 && strcmp(argv[1], "silent") == 0;
     int file = memfd_create("faulted", 0);
     struct io_uring ring;
     int result = io_uring_queue_init(8, &ring, 0);

@@ -1,8 +1,9 @@
-/* A program that one can't trust: `tests/exploring/trusted` and `tests/power/trusted` know how `explore` is to tell of it.
+/* A program that one can't trust: `tests/exploring/trusted` and `tests/power/trusted` know how
+ * `explore` is to tell of it.
  *
- *   flaky differs FILE     every second run, as FILE counts them, has one request, and the others three
- *   flaky until FILE N     the first N runs fail
- *   flaky dies|hangs       it writes a file by two requests, and if the second ends first it dies, or hangs
+ *   flaky differs FILE     every second run, as FILE counts them, has one request, and the others
+ * three flaky until FILE N     the first N runs fail flaky dies|hangs       it writes a file by two
+ * requests, and if the second ends first it dies, or hangs
  */
 #include <fcntl.h>
 #include <liburing.h>

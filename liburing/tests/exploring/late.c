@@ -1,9 +1,12 @@
-/* A sender whose timeout ends before its send has: taken for a send that failed, its buffer is used again, and the peer gets what it wasn't sent. The
- * send stands behind a chain of no-ops, so the timeout has to end many steps before it would where time passes only if nothing else can go on.
+/* A sender whose timeout ends before its send has: taken for a send that failed, its buffer is used
+ * again, and the peer gets what it wasn't sent. The send stands behind a chain of no-ops, so the
+ * timeout has to end many steps before it would where time passes only if nothing else can go on.
  *
  *   late planted|right timeout|count|wait [SECONDS]
  *
- * It is linked with the clocks that go with virtual time, and sees that they agree. right: waits for the send too. What ends: a timeout, one that counts completions besides, or the limit of a wait, each of so many seconds (1).
+ * It is linked with the clocks that go with virtual time, and sees that they agree. right: waits
+ * for the send too. What ends: a timeout, one that counts completions besides, or the limit of a
+ * wait, each of so many seconds (1).
  */
 #include <errno.h>
 #include <liburing.h>
@@ -29,7 +32,8 @@ static void demand(bool is_so, const char *what)
     exit(3);
 }
 
-static void submit_all(int socket, const char *buffer, const char *what, struct __kernel_timespec *time)
+static void submit_all(
+    int socket, const char *buffer, const char *what, struct __kernel_timespec *time)
 {
     for (int i = 0; i < NO_OPS; i++) {
         struct io_uring_sqe *entry = io_uring_get_sqe(&ring);
@@ -58,15 +62,18 @@ static int64_t now(void)
 static void wait_once(struct __kernel_timespec *limit)
 {
     struct io_uring_cqe *completion;
-    int result = limit ? io_uring_wait_cqe_timeout(&ring, &completion, limit) : io_uring_wait_cqe(&ring, &completion);
+    int result = limit ? io_uring_wait_cqe_timeout(&ring, &completion, limit)
+                       : io_uring_wait_cqe(&ring, &completion);
     is_over |= result == -ETIME;
-    demand(result != -ETIME || now() - begun >= lasts, "the clocks don't know that the time is over");
+    demand(
+        result != -ETIME || now() - begun >= lasts, "the clocks don't know that the time is over");
     demand(result == 0 || (result == -ETIME && limit), "waiting");
     if (result < 0)
         return;
     is_sent |= completion->user_data == SEND;
     is_over |= completion->user_data == TIMEOUT;
-    demand(completion->user_data != TIMEOUT || completion->res != -ETIME || now() - begun >= lasts, "the clocks don't know that the time is over");
+    demand(completion->user_data != TIMEOUT || completion->res != -ETIME || now() - begun >= lasts,
+        "the clocks don't know that the time is over");
     io_uring_cqe_seen(&ring, completion);
 }
 
@@ -77,7 +84,8 @@ int main(int argc, char **argv)
     struct __kernel_timespec time = {argc > 3 ? atol(argv[3]) : 1, 0};
     int pair[2];
     char buffer[SIZE], got[SIZE];
-    demand(io_uring_queue_init(64, &ring, 0) == 0 && socketpair(AF_UNIX, SOCK_STREAM, 0, pair) == 0, "a ring and sockets");
+    demand(io_uring_queue_init(64, &ring, 0) == 0 && socketpair(AF_UNIX, SOCK_STREAM, 0, pair) == 0,
+        "a ring and sockets");
     memset(buffer, 'a', sizeof buffer);
     begun = now();
     lasts = time.tv_sec * 1000000000;

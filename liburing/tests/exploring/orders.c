@@ -1,5 +1,6 @@
-/* Prints the order in which seven requests complete: a chain of 0, 1 and 2, the loose 3 and 4, a drain 5, and 6 after
- * it. The lawful orders are 5! / 3! = 20. Any argument: the requests are submitted, and then waited for by peeks.
+/* Prints the order in which seven requests complete: a chain of 0, 1 and 2, the loose 3 and 4, a
+ * drain 5, and 6 after it. The lawful orders are 5! / 3! = 20. Any argument: the requests are
+ * submitted, and then waited for by peeks.
  */
 #include <errno.h>
 #include <liburing.h>

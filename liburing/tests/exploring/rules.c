@@ -1,4 +1,5 @@
-/* Meets the rules of the core that a word names, and no others: `tests/exploring/covered` knows which.
+/* Meets the rules of the core that a word names, and no others: `tests/exploring/covered` knows
+ * which.
  */
 #include <liburing.h>
 #include <stdio.h>
@@ -7,7 +8,7 @@
 #include <unistd.h>
 
 static struct io_uring ring;
-static int ends[2];     /* of a pipe */
+static int ends[2]; /* of a pipe */
 static char byte;
 
 static struct io_uring_sqe *entry(unsigned flags, unsigned user_data)
@@ -83,13 +84,15 @@ static int meet(const char *word)
     else if (strcmp(word, "faults") == 0)
         entry(IOSQE_IO_LINK, 1)->opcode = 200, entry(0, 2), submit(2);
     else if (strcmp(word, "drain") == 0)
-        waiting(0, 1), entry(IOSQE_IO_DRAIN, 2), entry(0, 3), submit(0), write(ends[1], "x", 1), reap(3);
+        waiting(0, 1), entry(IOSQE_IO_DRAIN, 2), entry(0, 3), submit(0), write(ends[1], "x", 1),
+            reap(3);
     else if (strcmp(word, "nobody") == 0)
         cancelling(9, 1), submit(1);
     else if (strcmp(word, "running") == 0)
         waiting(0, 9), submit(0), cancelling(9, 1), submit(2);
     else if (strcmp(word, "cancelled") == 0)
-        waiting(IOSQE_IO_LINK, 1), entry(0, 9), cancelling(9, 2), submit(1), write(ends[1], "x", 1), reap(2);
+        waiting(IOSQE_IO_LINK, 1), entry(0, 9), cancelling(9, 2), submit(1), write(ends[1], "x", 1),
+            reap(2);
     else if (strcmp(word, "skipped") == 0)
         entry(IOSQE_CQE_SKIP_SUCCESS, 1), entry(0, 2), submit(1);
     else if (strcmp(word, "refused") == 0)
@@ -110,7 +113,8 @@ int main(int argc, char **argv)
     struct io_uring_params parameters = {0};
     if (argc > 1 && strcmp(argv[1], "overflow") == 0)
         parameters = (struct io_uring_params){.flags = IORING_SETUP_CQSIZE, .cq_entries = 2};
-    if (pipe(ends) < 0 || io_uring_queue_init_params(parameters.flags ? 2 : 8, &ring, &parameters) != 0)
+    if (pipe(ends) < 0 ||
+        io_uring_queue_init_params(parameters.flags ? 2 : 8, &ring, &parameters) != 0)
         return 3;
     return meet(argc > 1 ? argv[1] : "nothing");
 }

@@ -1,7 +1,8 @@
-/* A small program of a seed: one or two submissions of one to four requests in all, of which some are linked, drain, skip
- * success, fail, cancel others or meet in a file and in memory; under an even seed most move bytes and skip success. Under a
- * seed that 3 divides it is one submission, without links, whose first two requests meet in a way that is rolled. It prints all
- * that it sees. For runs of every order.
+/* A small program of a seed: one or two submissions of one to four requests in all, of which some
+ * are linked, drain, skip success, fail, cancel others or meet in a file and in memory; under an
+ * even seed most move bytes and skip success. Under a seed that 3 divides it is one submission,
+ * without links, whose first two requests meet in a way that is rolled. It prints all that it sees.
+ * For runs of every order.
  *
  *   small SEED
  */
@@ -20,11 +21,16 @@ static int file, appending, ends[2];
 static char bytes[24] = "abcdefghijklmnopqrstuvw";
 static struct __kernel_timespec times[4];
 static unsigned prepared;
-static int is_moving;   /* most move bytes and skip success */
+static int is_moving; /* most move bytes and skip success */
 
-/* Two that meet: in the file, in the place in memory, by their order at the file's end, as one lengthens the file, or as one
- * cancels the other (its length is 0). */
-struct transfer { int is_write, is_vector, is_appending; unsigned length; uint64_t offset; unsigned place; };
+/* Two that meet: in the file, in the place in memory, by their order at the file's end, as one
+ * lengthens the file, or as one cancels the other (its length is 0). */
+struct transfer {
+    int is_write, is_vector, is_appending;
+    unsigned length;
+    uint64_t offset;
+    unsigned place;
+};
 static const struct transfer meetings[][2] = {
     {{1, 0, 0, 8, 0, 0}, {1, 0, 0, 8, 4, 8}},
     {{1, 0, 0, 8, 0, 0}, {0, 0, 0, 8, 4, 8}},
@@ -78,10 +84,14 @@ static void prepare_operation(struct io_uring_sqe *entry)
 {
     struct __kernel_timespec *time = &times[prepared];
     switch (is_moving && roll(5) ? roll(6) : roll(12)) {
-    case 0: case 1: case 2:
+    case 0:
+    case 1:
+    case 2:
         prepare_transfer(entry, rolled_transfer(1));
         break;
-    case 3: case 4: case 5:
+    case 3:
+    case 4:
+    case 5:
         prepare_transfer(entry, rolled_transfer(0));
         break;
     case 6:
@@ -107,7 +117,8 @@ static void prepare_operation(struct io_uring_sqe *entry)
 
 static unsigned rolled_flags(void)
 {
-    static const unsigned flags[10] = {IOSQE_IO_LINK, IOSQE_IO_LINK, IOSQE_IO_HARDLINK, IOSQE_IO_DRAIN, IOSQE_CQE_SKIP_SUCCESS, IOSQE_CQE_SKIP_SUCCESS | IOSQE_IO_LINK};
+    static const unsigned flags[10] = {IOSQE_IO_LINK, IOSQE_IO_LINK, IOSQE_IO_HARDLINK,
+        IOSQE_IO_DRAIN, IOSQE_CQE_SKIP_SUCCESS, IOSQE_CQE_SKIP_SUCCESS | IOSQE_IO_LINK};
     if (meeting)
         return roll(4) ? IOSQE_CQE_SKIP_SUCCESS : 0;
     return is_moving && roll(3) ? IOSQE_CQE_SKIP_SUCCESS : flags[roll(10)];
@@ -174,7 +185,9 @@ int main(int argc, char **argv)
     char path[64];
     snprintf(path, sizeof path, "/proc/self/fd/%d", file);
     appending = open(path, O_RDWR | O_APPEND);
-    if (file < 0 || appending < 0 || write(file, "0123456789+-", meeting ? 12 : 4) < 4 || pipe(ends) < 0 || write(ends[1], "87654321", 8) != 8 || io_uring_queue_init(4, &ring, 0) != 0)
+    if (file < 0 || appending < 0 || write(file, "0123456789+-", meeting ? 12 : 4) < 4 ||
+        pipe(ends) < 0 || write(ends[1], "87654321", 8) != 8 ||
+        io_uring_queue_init(4, &ring, 0) != 0)
         return 3;
     unsigned first = meeting ? 2 + roll(2) : 1 + roll(3), second = meeting ? 0 : roll(3);
     for (unsigned i = 0; i < first; i++)

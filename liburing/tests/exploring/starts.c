@@ -1,14 +1,14 @@
-/* What runs must not take from one another, however they begin. It does something before it sets its ring up, which the word
- * says, and then writes to its file, reads another and prints what both are: the same in each run.
+/* What runs must not take from one another, however they begin. It does something before it sets
+ * its ring up, which the word says, and then writes to its file, reads another and prints what both
+ * are: the same in each run.
  *
  *   plain       opens a file for writing and one for reading, and reads part of it
  *   copied, high, folder, mode
- *               the same, and reads by a copy of a descriptor, or by one of a high number, makes a file in a folder that is open, or says which
- *               mode and time a folder has
- *   threads, children, signal, timer, shared, pipe, outside, locked, nameless, linked
- *               the same, and what stands against a fork at the set-up
- *   hang, stop, die
- *               the same, and never ends, also where it handles that a child stops, or dies by a signal
+ *               the same, and reads by a copy of a descriptor, or by one of a high number, makes a
+ * file in a folder that is open, or says which mode and time a folder has threads, children,
+ * signal, timer, shared, pipe, outside, locked, nameless, linked the same, and what stands against
+ * a fork at the set-up hang, stop, die the same, and never ends, also where it handles that a child
+ * stops, or dies by a signal
  */
 #include <fcntl.h>
 #include <liburing.h>
@@ -53,13 +53,17 @@ static void do_before(const char *word)
     else if (strcmp(word, "children") == 0 && fork() == 0)
         _exit(0);
     else if (strcmp(word, "signal") == 0)
-        demand(sigaddset(&set, SIGUSR1) == 0 && sigprocmask(SIG_BLOCK, &set, NULL) == 0 && raise(SIGUSR1) == 0, "a signal");
+        demand(sigaddset(&set, SIGUSR1) == 0 && sigprocmask(SIG_BLOCK, &set, NULL) == 0 &&
+                   raise(SIGUSR1) == 0,
+            "a signal");
     else if (strcmp(word, "stop") == 0)
         demand(signal(SIGCHLD, handle) != SIG_ERR, "a handler");
     else if (strcmp(word, "timer") == 0)
         alarm(1000);
     else if (strcmp(word, "shared") == 0)
-        demand(mmap(NULL, 4096, PROT_READ | PROT_WRITE, MAP_SHARED | MAP_ANONYMOUS, -1, 0) != MAP_FAILED, "memory");
+        demand(mmap(NULL, 4096, PROT_READ | PROT_WRITE, MAP_SHARED | MAP_ANONYMOUS, -1, 0) !=
+                   MAP_FAILED,
+            "memory");
     else if (strcmp(word, "pipe") == 0)
         demand(pipe(ends) == 0, "a pipe");
     else if (strcmp(word, "outside") == 0)
@@ -70,7 +74,8 @@ static void do_before(const char *word)
 static int make_file(const char *name)
 {
     int file = open(name, O_RDWR | O_CREAT, 0600);
-    demand(file >= 0 && write(file, "abcdefgh", 8) == 8 && lseek(file, 0, SEEK_SET) == 0, "one more file");
+    demand(file >= 0 && write(file, "abcdefgh", 8) == 8 && lseek(file, 0, SEEK_SET) == 0,
+        "one more file");
     return file;
 }
 
@@ -93,7 +98,9 @@ static void open_before(const char *word)
         kept.folder = open("folder", O_RDONLY | O_DIRECTORY);
     } else if (strcmp(word, "mode") == 0) {
         struct timespec times[2] = {{.tv_sec = 1000}, {.tv_sec = 1000}};
-        demand(mkdir("mode", 0700) == 0 && chmod("mode", 01777) == 0 && utimensat(AT_FDCWD, "mode", times, 0) == 0, "a folder");
+        demand(mkdir("mode", 0700) == 0 && chmod("mode", 01777) == 0 &&
+                   utimensat(AT_FDCWD, "mode", times, 0) == 0,
+            "a folder");
     } else if (strcmp(word, "locked") == 0) {
         demand(flock(make_file("locked"), LOCK_EX | LOCK_NB) == 0, "a lock");
     } else if (strcmp(word, "nameless") == 0) {
@@ -114,7 +121,8 @@ static void use_after(void)
     if (kept.other >= 0)
         demand(read(kept.other, &next, 1) == 1, "a read by the copy");
     if (kept.folder >= 0)
-        demand(openat(kept.folder, "made", O_RDWR | O_CREAT | O_EXCL, 0600) >= 0, "a file in the folder");
+        demand(openat(kept.folder, "made", O_RDWR | O_CREAT | O_EXCL, 0600) >= 0,
+            "a file in the folder");
     if (stat("mode", &about) == 0)
         printf("mode %o of %ld\n", about.st_mode & 07777, (long)about.st_mtim.tv_sec);
     printf("read %c and %c\n", byte, next);
@@ -145,8 +153,11 @@ int main(int argc, char **argv)
 {
     const char *word = argc > 1 ? argv[1] : "plain";
     char bytes[8] = "";
-    int file = open("written", O_RDWR | O_CREAT | O_APPEND, 0600), other = open("read", O_RDWR | O_CREAT, 0600);
-    demand(file >= 0 && other >= 0 && write(file, "abc", 3) == 3 && write(other, "0123456789", 10) == 10, "files");
+    int file = open("written", O_RDWR | O_CREAT | O_APPEND, 0600),
+        other = open("read", O_RDWR | O_CREAT, 0600);
+    demand(file >= 0 && other >= 0 && write(file, "abc", 3) == 3 &&
+               write(other, "0123456789", 10) == 10,
+        "files");
     close(other);
     other = open("read", O_RDONLY);
     demand(read(other, bytes, 2) == 2, "a read");
@@ -161,6 +172,7 @@ int main(int argc, char **argv)
         raise(SIGSTOP);
     if (strcmp(word, "die") == 0)
         raise(SIGTERM);
-    printf("%d bytes are written, and the next is %d\n", (int)lseek(file, 0, SEEK_END), (int)lseek(other, 0, SEEK_CUR));
+    printf("%d bytes are written, and the next is %d\n", (int)lseek(file, 0, SEEK_END),
+        (int)lseek(other, 0, SEEK_CUR));
     return 0;
 }

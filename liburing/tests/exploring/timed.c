@@ -1,5 +1,5 @@
-/* A chain of three no-ops and a timeout of a second, waited for by calls of two seconds at most: prints which completes when (9 is the timeout), and L where a
- * wait ends without any.
+/* A chain of three no-ops and a timeout of a second, waited for by calls of two seconds at most:
+ * prints which completes when (9 is the timeout), and L where a wait ends without any.
  */
 #include <errno.h>
 #include <liburing.h>

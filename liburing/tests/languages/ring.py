@@ -13,7 +13,14 @@ CELLS = 4096
 libc = ctypes.CDLL(None, use_errno=True)
 libc.syscall.restype = ctypes.c_long
 libc.mmap.restype = ctypes.c_void_p
-libc.mmap.argtypes = [ctypes.c_void_p, ctypes.c_size_t, ctypes.c_int, ctypes.c_int, ctypes.c_int, ctypes.c_long]
+libc.mmap.argtypes = [
+    ctypes.c_void_p,
+    ctypes.c_size_t,
+    ctypes.c_int,
+    ctypes.c_int,
+    ctypes.c_int,
+    ctypes.c_long,
+]
 
 
 class Ring:
@@ -23,7 +30,9 @@ class Ring:
         assert self.fd >= 0, os.strerror(ctypes.get_errno())
         self.sq_entries, self.cq_entries = params[0], params[1]
         self.sq, self.cq = params[10:20], params[20:30]
-        self.sq_at, self.cq_at, self.table = (self.map(offset) for offset in (0, 0x8000000, 0x10000000))
+        self.sq_at, self.cq_at, self.table = (
+            self.map(offset) for offset in (0, 0x8000000, 0x10000000)
+        )
 
     def map(self, offset):
         at = libc.mmap(None, CELLS, 3, 0x8001, self.fd, offset)
@@ -42,11 +51,23 @@ class Ring:
         tail.value += 1
 
     def submit_and_wait(self, count):
-        done = libc.syscall(ctypes.c_long(ENTER), ctypes.c_uint(self.fd), ctypes.c_uint(count), ctypes.c_uint(count), ctypes.c_uint(GETEVENTS), None, ctypes.c_long(0))
+        done = libc.syscall(
+            ctypes.c_long(ENTER),
+            ctypes.c_uint(self.fd),
+            ctypes.c_uint(count),
+            ctypes.c_uint(count),
+            ctypes.c_uint(GETEVENTS),
+            None,
+            ctypes.c_long(0),
+        )
         assert done == count, (done, ctypes.get_errno())
 
     def reap(self):
-        head, tail, results = self.word(self.cq_at, self.cq[0]), self.word(self.cq_at, self.cq[1]), {}
+        head, tail, results = (
+            self.word(self.cq_at, self.cq[0]),
+            self.word(self.cq_at, self.cq[1]),
+            {},
+        )
         while head.value != tail.value:
             cell = self.cq_at + self.cq[5] + 16 * (head.value % self.cq_entries)
             tag, result, _ = struct.unpack("=QiI", ctypes.string_at(cell, 16))

@@ -1,10 +1,11 @@
-/* One way after the other in which a program writes a file, syncs it and says so, and a check of what a crash has left.
+/* One way after the other in which a program writes a file, syncs it and says so, and a check of
+ * what a crash has left.
  *
- *   ways run WAY [unsynced]     8 KB go to `data`; once they are safe, or, `unsynced`, once they are written, a line is printed
- *   ways check                  status 1: the line was printed, and `data` isn't whole
- *   ways list                   prints the ways
- *   ways run CASE, ways check CASE   what a parameter of `explore crash` decides: unit, replace, retry; what nobody sees: killed; and two
- *                               folders, each of which has a name and is synced: folders
+ *   ways run WAY [unsynced]     8 KB go to `data`; once they are safe, or, `unsynced`, once they
+ * are written, a line is printed ways check                  status 1: the line was printed, and
+ * `data` isn't whole ways list                   prints the ways ways run CASE, ways check CASE
+ * what a parameter of `explore crash` decides: unit, replace, retry; what nobody sees: killed; and
+ * two folders, each of which has a name and is synced: folders
  */
 #define _GNU_SOURCE
 #include "ways.h"
@@ -17,7 +18,8 @@
 #include <sys/stat.h>
 #include <unistd.h>
 
-/* Memory that nobody sees written, since the process is killed: the comparison at the end tells of it. */
+/* Memory that nobody sees written, since the process is killed: the comparison at the end tells of
+ * it. */
 static void run_killed(void)
 {
     write_memory(make("data", 0));
@@ -45,7 +47,8 @@ static void run_unit(void)
     sync_file(file);
 }
 
-/* A file is replaced by a rename, without a sync of the new one: the old or the new is to be there, and never an empty one. */
+/* A file is replaced by a rename, without a sync of the new one: the old or the new is to be there,
+ * and never an empty one. */
 static void run_replace(void)
 {
     begin_with_sector();
@@ -70,7 +73,8 @@ static void sync_named(const char *folder)
     demand(opened >= 0 && fsync(opened) == 0 && close(opened) == 0, folder);
 }
 
-/* A name in each of two folders is safe once its folder was synced: the sync of one isn't that of the other. */
+/* A name in each of two folders is safe once its folder was synced: the sync of one isn't that of
+ * the other. */
 static void run_folders(void)
 {
     demand(mkdir("one", 0777) == 0 && mkdir("two", 0777) == 0, "mkdir");
@@ -118,7 +122,8 @@ static int check(const char *what)
     if (what && strcmp(what, "folders") == 0)
         return check_folders();
     bool is_half = what && (strcmp(what, "unit") == 0 || strcmp(what, "replace") == 0);
-    if (is_half ? !is_printed("begun") || is_whole(SECTOR, "xy") : !is_printed("safe") || is_whole(SIZE, "x"))
+    if (is_half ? !is_printed("begun") || is_whole(SECTOR, "xy")
+                : !is_printed("safe") || is_whole(SIZE, "x"))
         return 0;
     puts("data isn't whole");
     return 1;

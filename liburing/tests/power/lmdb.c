@@ -1,7 +1,9 @@
-/* Commits to Debian's LMDB in the folder where it runs, and checks what a power failure has left of it.
+/* Commits to Debian's LMDB in the folder where it runs, and checks what a power failure has left of
+ * it.
  *
- *   lmdb run [nosync | nometasync | writemap | mapasync] [COMMITS]     prints each commit that was acknowledged
- *   lmdb check             reads these; status 1: a commit is lost, or there by halves, or the environment can't be opened
+ *   lmdb run [nosync | nometasync | writemap | mapasync] [COMMITS]     prints each commit that was
+ * acknowledged lmdb check             reads these; status 1: a commit is lost, or there by halves,
+ * or the environment can't be opened
  */
 #include <lmdb.h>
 #include <stdio.h>
@@ -12,7 +14,11 @@ enum { PARTS = 3 };
 
 static unsigned flags_of(const char *word)
 {
-    return strcmp(word, "nosync") == 0 ? MDB_NOSYNC : strcmp(word, "nometasync") == 0 ? MDB_NOMETASYNC : strcmp(word, "writemap") == 0 ? MDB_WRITEMAP : strcmp(word, "mapasync") == 0 ? MDB_WRITEMAP | MDB_MAPASYNC : 0;
+    return strcmp(word, "nosync") == 0       ? MDB_NOSYNC
+           : strcmp(word, "nometasync") == 0 ? MDB_NOMETASYNC
+           : strcmp(word, "writemap") == 0   ? MDB_WRITEMAP
+           : strcmp(word, "mapasync") == 0   ? MDB_WRITEMAP | MDB_MAPASYNC
+                                             : 0;
 }
 
 static int open_environment(MDB_env **env, unsigned flags)
@@ -62,7 +68,8 @@ static unsigned count_parts(MDB_txn *txn, MDB_dbi table, unsigned commit)
     unsigned found = 0;
     for (unsigned key = commit * PARTS; key < (commit + 1) * PARTS; key++) {
         MDB_val name = {sizeof key, &key}, value;
-        if (mdb_get(txn, table, &name, &value) == 0 && value.mv_size == 900 && ((char *)value.mv_data)[899] == 'a' + (int)(key % 26))
+        if (mdb_get(txn, table, &name, &value) == 0 && value.mv_size == 900 &&
+            ((char *)value.mv_data)[899] == 'a' + (int)(key % 26))
             found++;
     }
     return found;
@@ -82,13 +89,15 @@ static int check(void)
     if (result == 0)
         result = mdb_dbi_open(txn, NULL, 0, &table);
     if (result) {
-        printf("%u commits were acknowledged, and LMDB says: %s\n", acknowledged, mdb_strerror(result));
+        printf("%u commits were acknowledged, and LMDB says: %s\n", acknowledged,
+            mdb_strerror(result));
         return acknowledged || result != MDB_NOTFOUND ? 1 : 0;
     }
     for (commit = 0; commit < acknowledged + 2; commit++) {
         unsigned found = count_parts(txn, table, commit);
         if (found != PARTS && (commit < acknowledged || found != 0)) {
-            printf("commit %u of %u acknowledged ones has %u of %u parts\n", commit, acknowledged, found, PARTS);
+            printf("commit %u of %u acknowledged ones has %u of %u parts\n", commit, acknowledged,
+                found, PARTS);
             return 1;
         }
     }

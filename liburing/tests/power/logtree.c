@@ -1,8 +1,9 @@
-/* Commits to Debian's LevelDB, or with -DROCKSDB to its RocksDB, in the folder where it runs, and checks what a power failure
- * has left of it.
+/* Commits to Debian's LevelDB, or with -DROCKSDB to its RocksDB, in the folder where it runs, and
+ * checks what a power failure has left of it.
  *
  *   logtree run sync|nosync [COMMITS]     prints each commit that was acknowledged
- *   logtree check                         reads these; status 1: a commit is lost, or there by halves, or it can't be opened
+ *   logtree check                         reads these; status 1: a commit is lost, or there by
+ * halves, or it can't be opened
  */
 #ifdef ROCKSDB
 #include <rocksdb/c.h>
@@ -89,7 +90,8 @@ static int check(void)
     for (commit = 0; !error && commit < acknowledged + 2; commit++) {
         unsigned found = count_parts(base, how, commit, &error);
         if (!error && found != PARTS && (commit < acknowledged || found != 0)) {
-            printf("commit %u of %u acknowledged ones has %u of %u parts\n", commit, acknowledged, found, PARTS);
+            printf("commit %u of %u acknowledged ones has %u of %u parts\n", commit, acknowledged,
+                found, PARTS);
             return 1;
         }
     }
@@ -101,6 +103,7 @@ static int check(void)
 int main(int argc, char **argv)
 {
     if (argc > 1 && strcmp(argv[1], "run") == 0)
-        return run(argc <= 2 || strcmp(argv[2], "sync") == 0, argc > 3 ? (unsigned)atoi(argv[3]) : 8);
+        return run(
+            argc <= 2 || strcmp(argv[2], "sync") == 0, argc > 3 ? (unsigned)atoi(argv[3]) : 8);
     return check();
 }

@@ -86,6 +86,7 @@ def renamed(sync):
 
 def grown():
     """An fdatasync after a write that makes the file longer reaches what was named before."""
+
     def sync(file):
         os.write(file, NEW)
         os.fdatasync(file)
@@ -168,7 +169,30 @@ def memory():
         os.pwrite(opened("data"), b"%d" % number, 0)
 
 
-RUNS = {"torn": torn, "cut": cut, "early": lambda: mapped(True), "late": lambda: mapped(False), "first": first, "fsync": lambda: renamed(os.fsync), "datasync": lambda: renamed(os.fdatasync), "grown": grown, "lengths": lengths, "longer": longer, "appended": lambda: appended(SIZE), "block": lambda: appended(SIZE), "across": lambda: appended(5000), "rewritten": rewritten, "patched": patched, "hasty": hasty, "nested": nested, "linked": linked, "exchanged": exchanged, "named": named, "memory": memory, "leaves": memory}
+RUNS = {
+    "torn": torn,
+    "cut": cut,
+    "early": lambda: mapped(True),
+    "late": lambda: mapped(False),
+    "first": first,
+    "fsync": lambda: renamed(os.fsync),
+    "datasync": lambda: renamed(os.fdatasync),
+    "grown": grown,
+    "lengths": lengths,
+    "longer": longer,
+    "appended": lambda: appended(SIZE),
+    "block": lambda: appended(SIZE),
+    "across": lambda: appended(5000),
+    "rewritten": rewritten,
+    "patched": patched,
+    "hasty": hasty,
+    "nested": nested,
+    "linked": linked,
+    "exchanged": exchanged,
+    "named": named,
+    "memory": memory,
+    "leaves": memory,
+}
 
 
 def check_memory():
@@ -179,7 +203,12 @@ def check_memory():
 
 
 def check_leaves():
-    subprocess.Popen(["sleep", os.environ["LEFT"]], start_new_session=True, stdout=subprocess.DEVNULL, stderr=subprocess.DEVNULL)
+    subprocess.Popen(
+        ["sleep", os.environ["LEFT"]],
+        start_new_session=True,
+        stdout=subprocess.DEVNULL,
+        stderr=subprocess.DEVNULL,
+    )
 
 
 def check(case):
@@ -194,7 +223,11 @@ def check(case):
     elif case in ("fsync", "datasync", "grown") and is_safe:
         assert os.path.exists("data") and read("data")[:SIZE] == NEW, "it hasn't its name"
     elif case == "lengths" and is_safe:
-        assert os.path.exists("log") and os.path.getsize("log") == 100 or os.path.getsize("log2") == 100, "neither is as long"
+        assert (
+            os.path.exists("log")
+            and os.path.getsize("log") == 100
+            or os.path.getsize("log2") == 100
+        ), "neither is as long"
     elif case in ("appended", "block", "across", "rewritten", "patched") and is_ended:
         assert b"\0" not in read("data"), "it is longer, and has zeros"
     elif case == "hasty" and is_safe:

@@ -84,7 +84,9 @@ def check_wal(done):
     data = open("data", "rb").read() if done else b""
     for number in done:
         at = PAGE * number
-        assert number in records("wal") or data[at : at + len(record(number))] == record(number), f"page {number} is lost"
+        assert number in records("wal") or data[at : at + len(record(number))] == record(
+            number
+        ), f"page {number} is lost"
 
 
 def manifest(bug):
@@ -114,7 +116,11 @@ def tree(bug):
     files = opened("double"), opened("tree")
     for version in range(4):
         for file in files:
-            os.pwrite(file, struct.pack("<I", zlib.crc32(b"%03d" % version * 40)) + b"%03d" % version * 40, 0)
+            os.pwrite(
+                file,
+                struct.pack("<I", zlib.crc32(b"%03d" % version * 40)) + b"%03d" % version * 40,
+                0,
+            )
             if bug != "unsynced" or not version:
                 os.fdatasync(file)
         if not version:
@@ -124,11 +130,20 @@ def tree(bug):
 
 def check_tree(done):
     pages = [open(name, "rb").read() for name in ("double", "tree")] if done else []
-    whole = [int(it[4:7]) for it in pages if len(it) == 124 and zlib.crc32(it[4:]) == struct.unpack("<I", it[:4])[0]]
+    whole = [
+        int(it[4:7])
+        for it in pages
+        if len(it) == 124 and zlib.crc32(it[4:]) == struct.unpack("<I", it[:4])[0]
+    ]
     assert not done or max(whole, default=-1) >= done[-1], f"of {done} there are {whole}"
 
 
-STORES = {"log": (log, check_log, ["nameless", "unsynced"]), "wal": (wal, check_wal, ["unsynced", "early"]), "manifest": (manifest, check_manifest, ["table", "file", "nameless"]), "tree": (tree, check_tree, ["unsynced"])}
+STORES = {
+    "log": (log, check_log, ["nameless", "unsynced"]),
+    "wal": (wal, check_wal, ["unsynced", "early"]),
+    "manifest": (manifest, check_manifest, ["table", "file", "nameless"]),
+    "tree": (tree, check_tree, ["unsynced"]),
+}
 
 if __name__ == "__main__":
     if sys.argv[1] == "list":

@@ -56,7 +56,8 @@ void put(int file, const char *from, size_t size, off_t offset)
 static void by_write(void)
 {
     int file = make("data", 0);
-    demand(write(file, bytes, 5000) == 5000 && write(file, bytes, SIZE - 5000) == SIZE - 5000, "write");
+    demand(write(file, bytes, 5000) == 5000 && write(file, bytes, SIZE - 5000) == SIZE - 5000,
+        "write");
     sync_file(file);
 }
 
@@ -229,7 +230,8 @@ static void by_exchange(void)
     put(make("data", 0), "old", 3, 0);
     put(file, bytes, SIZE, 0);
     sync_file(file);
-    demand(syscall(SYS_renameat2, AT_FDCWD, "new", AT_FDCWD, "data", 2) == 0 && unlink("new") == 0, "renameat2");
+    demand(syscall(SYS_renameat2, AT_FDCWD, "new", AT_FDCWD, "data", 2) == 0 && unlink("new") == 0,
+        "renameat2");
 }
 
 /* That a range is on its way to the disk makes nothing safe. */
@@ -237,7 +239,10 @@ static void by_range(void)
 {
     int file = make("data", 0);
     put(file, bytes, SIZE, 0);
-    demand(sync_file_range(file, 0, SIZE, SYNC_FILE_RANGE_WAIT_BEFORE | SYNC_FILE_RANGE_WRITE | SYNC_FILE_RANGE_WAIT_AFTER) == 0, "sync_file_range");
+    demand(
+        sync_file_range(file, 0, SIZE,
+            SYNC_FILE_RANGE_WAIT_BEFORE | SYNC_FILE_RANGE_WRITE | SYNC_FILE_RANGE_WAIT_AFTER) == 0,
+        "sync_file_range");
     sync_file(file);
 }
 
@@ -284,7 +289,10 @@ static void by_inline(void)
 {
     int file = make("data", 0);
     long result;
-    __asm__ volatile("syscall" : "=a"(result) : "a"((long)SYS_write), "D"((long)file), "S"(bytes), "d"((long)SIZE) : "rcx", "r11", "memory");
+    __asm__ volatile("syscall"
+                     : "=a"(result)
+                     : "a"((long)SYS_write), "D"((long)file), "S"(bytes), "d"((long)SIZE)
+                     : "rcx", "r11", "memory");
     demand(result == SIZE, "a call of its own");
     sync_file(file);
 }
@@ -314,18 +322,28 @@ static void by_splice(void)
 
 static void do_by_ring(const struct ring *ring, struct io_uring_sqe entry, int result)
 {
-    const struct io_uring_cqe *last = (const struct io_uring_cqe *)(ring->cq + ring->params.cq_off.cqes);
+    const struct io_uring_cqe *last = (const struct io_uring_cqe *)(ring->cq +
+                                                                    ring->params.cq_off.cqes);
     publish(ring, entry);
     demand(enter(ring, 1, 1, NULL) == 1 && last->res == result, "a ring");
 }
 
-/* The sync of a range that has all bytes, or of one with an offset and no length, which has none. */
+/* The sync of a range that has all bytes, or of one with an offset and no length, which has none.
+ */
 static void by_ring(void)
 {
     struct ring writes = set_up(0), syncs = set_up(0);
     int file = make("data", 0);
-    do_by_ring(&writes, (struct io_uring_sqe){.opcode = IORING_OP_WRITE, .fd = file, .addr = (uintptr_t)bytes, .len = SIZE}, SIZE);
-    do_by_ring(&syncs, (struct io_uring_sqe){.opcode = IORING_OP_FSYNC, .fd = file, .off = is_synced ? 0 : SIZE / 2, .len = is_synced ? SIZE : 0}, 0);
+    do_by_ring(&writes,
+        (struct io_uring_sqe){
+            .opcode = IORING_OP_WRITE, .fd = file, .addr = (uintptr_t)bytes, .len = SIZE},
+        SIZE);
+    do_by_ring(&syncs,
+        (struct io_uring_sqe){.opcode = IORING_OP_FSYNC,
+            .fd = file,
+            .off = is_synced ? 0 : SIZE / 2,
+            .len = is_synced ? SIZE : 0},
+        0);
 }
 
 /* Memory that a ring's sync makes safe, or, of a range that has half of it, doesn't. */
@@ -334,14 +352,43 @@ static void by_memory_and_ring(void)
     struct ring syncs = set_up(0);
     int file = make("data", 0);
     write_memory(file);
-    do_by_ring(&syncs, (struct io_uring_sqe){.opcode = IORING_OP_FSYNC, .fd = file, .len = is_synced ? SIZE : SIZE / 2}, 0);
+    do_by_ring(&syncs,
+        (struct io_uring_sqe){
+            .opcode = IORING_OP_FSYNC, .fd = file, .len = is_synced ? SIZE : SIZE / 2},
+        0);
 }
 
 const struct way ways[] = {
-    {"write", by_write}, {"creat", by_creat}, {"writev", by_vectors}, {"pwritev2", by_flags}, {"dsync", by_synced_file},
-    {"osync", by_wholly_synced_file}, {"direct", by_direct}, {"append", by_append}, {"stream", by_stream}, {"cut", by_cut},
-    {"length", by_length}, {"room", by_room}, {"copy", by_copy}, {"sendfile", by_sendfile}, {"memory", by_memory}, {"msync", by_synced_memory},
-    {"rename", by_rename}, {"link", by_link}, {"nameless", by_nameless}, {"symlink", by_symbolic_link},
-    {"folder", by_folder}, {"exchange", by_exchange}, {"range", by_range}, {"child", by_child}, {"threads", by_threads}, {"inline", by_inline},
-    {"sync", by_whole_sync}, {"syncfs", by_disk_sync}, {"splice", by_splice}, {"ring", by_ring}, {"both", by_memory_and_ring}, {NULL, NULL},
+    {"write", by_write},
+    {"creat", by_creat},
+    {"writev", by_vectors},
+    {"pwritev2", by_flags},
+    {"dsync", by_synced_file},
+    {"osync", by_wholly_synced_file},
+    {"direct", by_direct},
+    {"append", by_append},
+    {"stream", by_stream},
+    {"cut", by_cut},
+    {"length", by_length},
+    {"room", by_room},
+    {"copy", by_copy},
+    {"sendfile", by_sendfile},
+    {"memory", by_memory},
+    {"msync", by_synced_memory},
+    {"rename", by_rename},
+    {"link", by_link},
+    {"nameless", by_nameless},
+    {"symlink", by_symbolic_link},
+    {"folder", by_folder},
+    {"exchange", by_exchange},
+    {"range", by_range},
+    {"child", by_child},
+    {"threads", by_threads},
+    {"inline", by_inline},
+    {"sync", by_whole_sync},
+    {"syncfs", by_disk_sync},
+    {"splice", by_splice},
+    {"ring", by_ring},
+    {"both", by_memory_and_ring},
+    {NULL, NULL},
 };

@@ -1,4 +1,5 @@
-/* What the ways and the cases of `ways` share: bytes, and files that are made, written and synced. */
+/* What the ways and the cases of `ways` share: bytes, and files that are made, written and synced.
+ */
 #ifndef WAYS_H
 #define WAYS_H
 

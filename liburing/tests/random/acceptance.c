@@ -1,4 +1,5 @@
-/* Acceptance: which positions a call takes, and what becomes of the requests that it makes of them. */
+/* Acceptance: which positions a call takes, and what becomes of the requests that it makes of them.
+ */
 #include "model.h"
 
 #include <errno.h>
@@ -9,13 +10,15 @@ static bool is_faulty(const struct model *model, const struct action *action, bo
 {
     const struct action *before = has_before ? model->requests[model->count - 1].action : NULL;
     bool has_place = before && (before->code != IORING_OP_LINK_TIMEOUT || before->flaw == BAD_CODE);
-    return (action->flaw != NO_FLAW && action->flaw != BAD_DATA) || (action->code == IORING_OP_LINK_TIMEOUT && !has_place);
+    return (action->flaw != NO_FLAW && action->flaw != BAD_DATA) ||
+           (action->code == IORING_OP_LINK_TIMEOUT && !has_place);
 }
 
 /* What the start of a request finds out. */
 static int32_t failure_of(const struct model *model, const struct action *action, unsigned index)
 {
-    bool is_there = action->object != NO_FILE && action->object != PIPE_IN && (action->object != OTHER_LOG || model->has_file);
+    bool is_there = action->object != NO_FILE && action->object != PIPE_IN &&
+                    (action->object != OTHER_LOG || model->has_file);
     if (action->is_registered && !is_there)
         return -EBADF;
     if (action->code == IORING_OP_POLL_ADD && action->object == NO_FILE)
@@ -31,7 +34,15 @@ static void accept_one(struct model *model, unsigned index, bool has_before)
     uint16_t group = (uint16_t)(model->group_count - 1);
     bool is_fault = is_faulty(model, action, has_before);
     struct request *request = &model->requests[model->count++];
-    *request = (struct request){.action = action, .index = (uint16_t)index, .group = group, .since = -1, .is_faulty = is_fault, .was_open = !model->things->is_closed, .failure = failure_of(model, action, index), .call = model->call_number, .tally_least = model->tally};
+    *request = (struct request){.action = action,
+        .index = (uint16_t)index,
+        .group = group,
+        .since = -1,
+        .is_faulty = is_fault,
+        .was_open = !model->things->is_closed,
+        .failure = failure_of(model, action, index),
+        .call = model->call_number,
+        .tally_least = model->tally};
     model->has_drain[group] |= (action->flags & IOSQE_IO_DRAIN) != 0;
     if (model->is_linux)
         note_flags(model, request, !has_before);
@@ -71,7 +82,8 @@ static void note_loose(struct model *model, uint32_t first)
 void take(struct model *model, uint32_t to_submit)
 {
     uint32_t first = model->count;
-    bool has_before = false, is_all = model->program->rings[model->ring].flags & IORING_SETUP_SUBMIT_ALL;
+    bool has_before = false,
+         is_all = model->program->rings[model->ring].flags & IORING_SETUP_SUBMIT_ALL;
     while (to_submit-- > 0 && model->taken < model->published_count) {
         int32_t index = model->published[model->taken++];
         if (index < 0) {

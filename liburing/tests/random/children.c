@@ -1,5 +1,5 @@
-/* The layer reads its policy once for a process: so each program has one of its own. What a plain program comes to on the
- * layer is compared with what it comes to on a real ring.
+/* The layer reads its policy once for a process: so each program has one of its own. What a plain
+ * program comes to on the layer is compared with what it comes to on a real ring.
  */
 #define _GNU_SOURCE
 #include "children.h"
@@ -40,7 +40,8 @@ static struct outcome *shared_outcome(int which)
 {
     static struct outcome *outcomes;
     if (!outcomes) {
-        outcomes = mmap(NULL, 2 * sizeof *outcomes, PROT_READ | PROT_WRITE, MAP_SHARED | MAP_ANONYMOUS, -1, 0);
+        outcomes = mmap(
+            NULL, 2 * sizeof *outcomes, PROT_READ | PROT_WRITE, MAP_SHARED | MAP_ANONYMOUS, -1, 0);
         if (outcomes == MAP_FAILED)
             abort();
     }
@@ -53,11 +54,13 @@ static void read_said(int file, int status)
     said[length > 0 ? length : 0] = '\0';
     if (WIFSIGNALED(status)) {
         size_t at = strlen(said);
-        snprintf(said + at, sizeof said - at, "%s\n", WTERMSIG(status) == SIGKILL ? "it hangs" : strsignal(WTERMSIG(status)));
+        snprintf(said + at, sizeof said - at, "%s\n",
+            WTERMSIG(status) == SIGKILL ? "it hangs" : strsignal(WTERMSIG(status)));
     }
 }
 
-/* Waits for a child, and kills it if it takes longer: what loops in the layer has all signals blocked. */
+/* Waits for a child, and kills it if it takes longer: what loops in the layer has all signals
+ * blocked. */
 static int wait_for(pid_t child, unsigned seconds)
 {
     const struct timespec limit = {seconds, 0};
@@ -101,7 +104,9 @@ static bool is_same(const struct program *program)
     const struct outcome *one = shared_outcome(false), *other = shared_outcome(true);
     for (unsigned i = 0; i < program->count; i++)
         if (one->posts[i] != other->posts[i] || one->results[i] != other->results[i]) {
-            snprintf(said, sizeof said, "random: entry %u has %u completions, the last %d; on a real ring %u, the last %d\n", i, one->posts[i], one->results[i], other->posts[i], other->results[i]);
+            snprintf(said, sizeof said,
+                "random: entry %u has %u completions, the last %d; on a real ring %u, the last %d\n",
+                i, one->posts[i], one->results[i], other->posts[i], other->results[i]);
             return false;
         }
     snprintf(said, sizeof said, "random: the files differ from those of a real ring\n");

@@ -1,15 +1,15 @@
 /* Runs random programs on the layer, and judges what they see.
  *
- *   random [--alone] FIRST COUNT     runs the programs of these seeds, those that are plain on a real ring too, if there
- *                                    is one; with --alone on the layer alone. Of one that fails it prints what was seen,
- *                                    the program made short, and the words that run it again. Status 1: one failed
- *   random --threads FIRST COUNT    the same on the layer alone, and of these programs only those whose rings have a thread
- *                                    each: for the thread sanitizer, whose own thread the layer would take for another
- *   random --until-failed FIRST COUNT    the same on the layer alone, but ends with the first that fails
- *   random --show SEED               prints a program
- *   random --again SEED POLICY FAULTS NUMBERS    runs the actions of these numbers alone, separated by commas, under this
- *                                    policy ("-" for the seed's own), with what the seed has of faults ("faults"), of time
- *                                    that passes by choice ("times"), of both ("faults,times") or of none ("-")
+ *   random [--alone] FIRST COUNT     runs the programs of these seeds, those that are plain on a
+ * real ring too, if there is one; with --alone on the layer alone. Of one that fails it prints what
+ * was seen, the program made short, and the words that run it again. Status 1: one failed random
+ * --threads FIRST COUNT    the same on the layer alone, and of these programs only those whose
+ * rings have a thread each: for the thread sanitizer, whose own thread the layer would take for
+ * another random --until-failed FIRST COUNT    the same on the layer alone, but ends with the first
+ * that fails random --show SEED               prints a program random --again SEED POLICY FAULTS
+ * NUMBERS    runs the actions of these numbers alone, separated by commas, under this policy ("-"
+ * for the seed's own), with what the seed has of faults ("faults"), of time that passes by choice
+ * ("times"), of both ("faults,times") or of none ("-")
  */
 #define _GNU_SOURCE
 #include "children.h"
@@ -27,8 +27,11 @@ static void print_again(const struct program *program, const char *name)
     generate(&whole, program->seed);
     bool is_same_policy = strcmp(whole.policy, program->policy) == 0;
     bool has_faults = program->fault_rate || program->fault_count;
-    const char *parts = !program->timeout_rate ? has_faults ? "faults" : "-" : has_faults ? "faults,times" : "times";
-    printf("again: %s --again %" PRIu64 " %s %s ", name, program->seed, is_same_policy ? "-" : program->policy, parts);
+    const char *parts = !program->timeout_rate ? has_faults ? "faults" : "-"
+                        : has_faults           ? "faults,times"
+                                               : "times";
+    printf("again: %s --again %" PRIu64 " %s %s ", name, program->seed,
+        is_same_policy ? "-" : program->policy, parts);
     const char *comma = "";
     for (unsigned i = 0; i < program->count; i++)
         if (program->actions[i].kind != NOTHING) {
@@ -70,7 +73,9 @@ static int run_many(const char *name, uint64_t first, uint64_t count, enum manne
         }
         report(&program, name);
     }
-    printf("random: %" PRIu64 " programs with %" PRIu64 " entries, %" PRIu64 " failed; %u of them on a real ring too\n", run, entries, failed, compared_with_kernel);
+    printf("random: %" PRIu64 " programs with %" PRIu64 " entries, %" PRIu64
+           " failed; %u of them on a real ring too\n",
+        run, entries, failed, compared_with_kernel);
     return failed > 0;
 }
 
@@ -122,14 +127,17 @@ int main(int argc, char **argv)
     }
     if (argc == 6 && is_word(argv, 1, "--again"))
         return run_again(argv + 2);
-    static const char *const manners[] = {[ALONE] = "--alone", [THREADS] = "--threads", [UNTIL_FAILED] = "--until-failed"};
+    static const char *const manners[] = {
+        [ALONE] = "--alone", [THREADS] = "--threads", [UNTIL_FAILED] = "--until-failed"};
     enum manner manner = BESIDE_KERNEL;
     for (int i = ALONE; argc == 4 && i <= UNTIL_FAILED; i++)
         manner = is_word(argv, 1, manners[i]) ? (enum manner)i : manner;
     if (argc != 3 && manner == BESIDE_KERNEL) {
-        fprintf(stderr, "random: [--alone | --threads] FIRST COUNT, --until-failed FIRST COUNT, --show SEED, or --again SEED POLICY FAULTS NUMBERS\n");
+        fprintf(stderr,
+            "random: [--alone | --threads] FIRST COUNT, --until-failed FIRST COUNT, --show SEED, or --again SEED POLICY FAULTS NUMBERS\n");
         return 2;
     }
     has_kernel_rings = manner == BESIDE_KERNEL && look_for_kernel_rings();
-    return run_many(argv[0], strtoull(argv[argc - 2], NULL, 10), strtoull(argv[argc - 1], NULL, 10), manner);
+    return run_many(
+        argv[0], strtoull(argv[argc - 2], NULL, 10), strtoull(argv[argc - 1], NULL, 10), manner);
 }

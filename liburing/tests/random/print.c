@@ -10,13 +10,27 @@
 static const char *code_name(uint8_t code)
 {
     static const char *const names[] = {
-        [IORING_OP_NOP] = "no-op", [IORING_OP_READV] = "readv", [IORING_OP_WRITEV] = "writev", [IORING_OP_FSYNC] = "fsync",
-        [IORING_OP_SYNC_FILE_RANGE] = "sync_file_range", [IORING_OP_TIMEOUT] = "timeout", [IORING_OP_ASYNC_CANCEL] = "cancel",
-        [IORING_OP_FALLOCATE] = "fallocate", [IORING_OP_CLOSE] = "close", [IORING_OP_READ] = "read", [IORING_OP_WRITE] = "write",
+        [IORING_OP_NOP] = "no-op",
+        [IORING_OP_READV] = "readv",
+        [IORING_OP_WRITEV] = "writev",
+        [IORING_OP_FSYNC] = "fsync",
+        [IORING_OP_SYNC_FILE_RANGE] = "sync_file_range",
+        [IORING_OP_TIMEOUT] = "timeout",
+        [IORING_OP_ASYNC_CANCEL] = "cancel",
+        [IORING_OP_FALLOCATE] = "fallocate",
+        [IORING_OP_CLOSE] = "close",
+        [IORING_OP_READ] = "read",
+        [IORING_OP_WRITE] = "write",
         [IORING_OP_FADVISE] = "fadvise",
-        [IORING_OP_READ_FIXED] = "read_fixed", [IORING_OP_WRITE_FIXED] = "write_fixed", [IORING_OP_RECV] = "recv", [IORING_OP_SEND] = "send",
-        [IORING_OP_POLL_ADD] = "poll", [IORING_OP_POLL_REMOVE] = "removal of a poll", [IORING_OP_TIMEOUT_REMOVE] = "removal of a timeout",
-        [IORING_OP_LINK_TIMEOUT] = "linked timeout", [IORING_OP_MSG_RING] = "message",
+        [IORING_OP_READ_FIXED] = "read_fixed",
+        [IORING_OP_WRITE_FIXED] = "write_fixed",
+        [IORING_OP_RECV] = "recv",
+        [IORING_OP_SEND] = "send",
+        [IORING_OP_POLL_ADD] = "poll",
+        [IORING_OP_POLL_REMOVE] = "removal of a poll",
+        [IORING_OP_TIMEOUT_REMOVE] = "removal of a timeout",
+        [IORING_OP_LINK_TIMEOUT] = "linked timeout",
+        [IORING_OP_MSG_RING] = "message",
     };
     return code < sizeof names / sizeof *names && names[code] ? names[code] : "operation";
 }
@@ -36,7 +50,8 @@ static void print_transfer(FILE *out, const struct action *action)
         fprintf(out, "%s%u", i ? "+" : ", bytes ", action->sizes[i]);
 }
 
-static const char *const objects[] = {"log", "other log", "cells", "pipe", "pipe", "zeros", "no file"};
+static const char *const objects[] = {
+    "log", "other log", "cells", "pipe", "pipe", "zeros", "no file"};
 
 static void print_scope(FILE *out, const struct action *action)
 {
@@ -44,14 +59,16 @@ static void print_scope(FILE *out, const struct action *action)
     if (action->scope & IORING_ASYNC_CANCEL_ANY)
         fputs(is_all ? " of all" : " of any", out);
     else if (action->scope & IORING_ASYNC_CANCEL_FD)
-        fprintf(out, " of %s on %s %s", is_all ? "all" : "one", objects[action->object], action->object == PIPE_IN ? "to write" : "");
+        fprintf(out, " of %s on %s %s", is_all ? "all" : "one", objects[action->object],
+            action->object == PIPE_IN ? "to write" : "");
     else
         fprintf(out, "%s of %u", is_all ? " of all" : "", action->target);
 }
 
 static void print_entry(FILE *out, const struct action *action)
 {
-    static const char *const flaws[] = {"", ", bad code", ", bad flag", ", bad priority", ", bad pointer", ", bad time", ", bad data"};
+    static const char *const flaws[] = {"", ", bad code", ", bad flag", ", bad priority",
+        ", bad pointer", ", bad time", ", bad data"};
     fprintf(out, "put %s", code_name(action->code));
     switch (action->code) {
     case IORING_OP_TIMEOUT:
@@ -142,19 +159,26 @@ static void print_action(FILE *out, const struct action *action)
 void print_program(FILE *out, const struct program *program)
 {
     static const char *const kinds[] = {"", "EIO", "ENOSPC", "SHORT"};
-    fprintf(out, "seed %" PRIu64 ": policy %s, %s, by the %s rules", program->seed, program->policy, program->is_ends ? "ends" : "events", program->is_manual ? "manual pages'" : "kernel's");
-    fprintf(out, "%s%s", program->is_plain ? ", plain" : "", program->is_threaded ? ", a thread for each ring" : "");
+    fprintf(out, "seed %" PRIu64 ": policy %s, %s, by the %s rules", program->seed, program->policy,
+        program->is_ends ? "ends" : "events", program->is_manual ? "manual pages'" : "kernel's");
+    fprintf(out, "%s%s", program->is_plain ? ", plain" : "",
+        program->is_threaded ? ", a thread for each ring" : "");
     if (program->fault_rate)
         fprintf(out, ", faults one in %u", program->fault_rate);
     if (program->timeout_rate)
         fprintf(out, ", time passes one in %u", program->timeout_rate);
     for (int i = 0; i < program->fault_count; i++)
-        fprintf(out, ", fault %u:%u=%s", program->faults[i].ring, program->faults[i].number, kinds[program->faults[i].kind]);
+        fprintf(out, ", fault %u:%u=%s", program->faults[i].ring, program->faults[i].number,
+            kinds[program->faults[i].kind]);
     fputc('\n', out);
     for (int i = 0; i < program->ring_count; i++) {
         const struct ring_options *ring = &program->rings[i];
-        static const char *const tellings[] = {"", ", an eventfd", ", an eventfd of what ends later"};
-        fprintf(out, "  ring %d: %u entries, %u completions, flags %#x%s%s%s%s\n", i, ring->entries, ring->completions, ring->flags, ring->is_polled ? ", polls" : "", ring->has_registered ? ", with files and buffers" : "", ring->has_sockets ? ", sockets" : "", tellings[ring->telling]);
+        static const char *const tellings[] = {
+            "", ", an eventfd", ", an eventfd of what ends later"};
+        fprintf(out, "  ring %d: %u entries, %u completions, flags %#x%s%s%s%s\n", i, ring->entries,
+            ring->completions, ring->flags, ring->is_polled ? ", polls" : "",
+            ring->has_registered ? ", with files and buffers" : "",
+            ring->has_sockets ? ", sockets" : "", tellings[ring->telling]);
     }
     for (int i = 0; i < program->count; i++) {
         if (program->actions[i].kind == NOTHING)
@@ -174,7 +198,8 @@ void set_environment(const struct program *program)
     setenv("WULGACH_PROFILE", program->is_manual ? "manual" : "linux", 1);
     for (int i = 0; i < program->fault_count; i++) {
         const struct fault *fault = &program->faults[i];
-        snprintf(text + strlen(text), sizeof text - strlen(text), "%s%u:%u=%s", i ? "," : "", fault->ring, fault->number, kinds[fault->kind]);
+        snprintf(text + strlen(text), sizeof text - strlen(text), "%s%u:%u=%s", i ? "," : "",
+            fault->ring, fault->number, kinds[fault->kind]);
     }
     setenv("WULGACH_FAULTS", text, 1);
     snprintf(text, sizeof text, "%u", program->fault_rate);

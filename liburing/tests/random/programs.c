@@ -39,13 +39,15 @@ static void let_talk(struct world *worlds, unsigned count)
     }
 }
 
-/* Messages of a ring that came to rest later are seen now, unless one that posts nothing drains still. */
+/* Messages of a ring that came to rest later are seen now, unless one that posts nothing drains
+ * still. */
 static void judge_messages(struct world *world)
 {
     finish(world);
     for (unsigned i = 0; i < MOST_ACTIONS; i++) {
         const struct message *message = &world->model.messages[i];
-        if (message->is_sent && !message->is_seen && !has_drains(&world->model) && world->program->actions[i].target == world->index)
+        if (message->is_sent && !message->is_seen && !has_drains(&world->model) &&
+            world->program->actions[i].target == world->index)
             wrong(&world->model, "message %u is lost", i);
     }
 }

@@ -1,4 +1,5 @@
-/* What an operation gives, and what it does to the files, to the pipe and to the application's memory. */
+/* What an operation gives, and what it does to the files, to the pipe and to the application's
+ * memory. */
 #define _GNU_SOURCE
 #include "model.h"
 
@@ -33,11 +34,13 @@ static struct place place_of(struct model *model, const struct action *action)
         uint32_t start = action->cell * CELL + (uint32_t)action->offset;
         return (struct place){things->cells, start, sizeof things->cells};
     }
-    return (struct place){things->log, action->offset < 0 ? things->position : (uint32_t)action->offset, things->log_length};
+    return (struct place){things->log,
+        action->offset < 0 ? things->position : (uint32_t)action->offset, things->log_length};
 }
 
 /* The bytes that a read of at most so many gives, at most `most`. */
-static uint32_t read_bytes(struct model *model, const struct action *action, uint32_t length, uint8_t *bytes)
+static uint32_t read_bytes(
+    struct model *model, const struct action *action, uint32_t length, uint8_t *bytes)
 {
     struct things *things = model->things;
     if (action->object == ZEROS) {
@@ -58,7 +61,8 @@ static uint32_t read_bytes(struct model *model, const struct action *action, uin
 }
 
 /* Puts what was read where the application is to find it, and looks whether it is there. */
-static void deliver(struct model *model, const struct request *request, const uint8_t *bytes, uint32_t length)
+static void deliver(
+    struct model *model, const struct request *request, const uint8_t *bytes, uint32_t length)
 {
     struct vectors *wanted = &model->things->data[request->index];
     for (int i = 0; i < request->action->vectors && length > 0; i++) {
@@ -86,7 +90,9 @@ static void write_bytes(struct model *model, const struct request *request, uint
     struct things *things = model->things;
     if (action->object == ZEROS || length == 0)
         return;
-    struct place place = action->object == PIPE_IN ? (struct place){things->piped, things->written, 0} : place_of(model, action);
+    struct place place = action->object == PIPE_IN
+                             ? (struct place){things->piped, things->written, 0}
+                             : place_of(model, action);
     for (uint32_t at = 0; at < length; at++)
         place.at[place.start + at] = written_byte(request->index, at);
     if (action->object == PIPE_IN)
@@ -95,13 +101,15 @@ static void write_bytes(struct model *model, const struct request *request, uint
         things->log_length = place.start + length;
 }
 
-/* A registered file stays open, whatever is closed: that it isn't there is found out at the start. */
+/* A registered file stays open, whatever is closed: that it isn't there is found out at the start.
+ */
 bool is_no_file(const struct model *model, const struct action *action)
 {
     const struct things *things = model->things;
     if (action->is_registered)
         return false;
-    return action->object == NO_FILE || (action->object == OTHER_LOG && things->is_closed) || (action->object == PIPE_IN && things->is_fed_out);
+    return action->object == NO_FILE || (action->object == OTHER_LOG && things->is_closed) ||
+           (action->object == PIPE_IN && things->is_fed_out);
 }
 
 static bool has_sockets(const struct model *model)
@@ -116,8 +124,10 @@ static uint32_t most_of(const struct action *action)
     return is_selecting(action) && length > PROVIDED_SIZE ? PROVIDED_SIZE : length;
 }
 
-/* Puts what was read into the provided buffer that is next, and takes that. A socket that has no more to give takes none. */
-static void deliver_provided(struct model *model, const struct request *request, const uint8_t *bytes, uint32_t length)
+/* Puts what was read into the provided buffer that is next, and takes that. A socket that has no
+ * more to give takes none. */
+static void deliver_provided(
+    struct model *model, const struct request *request, const uint8_t *bytes, uint32_t length)
 {
     uint8_t buffer = model->queue[0];
     if (length == 0 && is_of_sockets(request->action))
@@ -125,12 +135,15 @@ static void deliver_provided(struct model *model, const struct request *request,
     memcpy(model->things->provided[buffer], bytes, length);
     memmove(model->queue, model->queue + 1, --model->queue_length);
     model->queue_flags = IORING_CQE_F_BUFFER | (uint32_t)buffer << IORING_CQE_BUFFER_SHIFT;
-    if (memcmp(model->things->provided[buffer], model->provided + buffer * PROVIDED_SIZE, PROVIDED_SIZE) != 0)
+    if (memcmp(model->things->provided[buffer], model->provided + buffer * PROVIDED_SIZE,
+            PROVIDED_SIZE) != 0)
         wrong(model, "entry %u has read something else into a provided buffer", request->index);
 }
 
-/* A transfer of the first `length` of its bytes. If `is_done`, it is carried out, else only its result is said. */
-static int32_t transfer(struct model *model, const struct request *request, uint32_t length, bool is_done)
+/* A transfer of the first `length` of its bytes. If `is_done`, it is carried out, else only its
+ * result is said. */
+static int32_t transfer(
+    struct model *model, const struct request *request, uint32_t length, bool is_done)
 {
     const struct action *action = request->action;
     uint8_t bytes[MOST_VECTORS * 256];
@@ -140,7 +153,8 @@ static int32_t transfer(struct model *model, const struct request *request, uint
         return -ENOTSOCK;
     if (is_selecting(action) && model->queue_length == 0)
         return -ENOBUFS;
-    if (action->is_impatient && model->things->read == model->things->written && !model->things->is_fed_out)
+    if (action->is_impatient && model->things->read == model->things->written &&
+        !model->things->is_fed_out)
         return length == 0 ? 0 : -EAGAIN;
     uint32_t moved = is_read(action) ? read_bytes(model, action, length, bytes) : length;
     if (action->flaw == BAD_DATA && moved > 0)
@@ -202,7 +216,8 @@ static int32_t poll_file(const struct model *model, const struct action *action)
     return (has_bytes ? POLLIN : 0) | (things->is_fed_out ? gone : 0);
 }
 
-static int32_t result_of(struct model *model, const struct request *request, uint32_t length, bool is_done)
+static int32_t result_of(
+    struct model *model, const struct request *request, uint32_t length, bool is_done)
 {
     if (request->failure != 0)
         return request->failure;
@@ -219,7 +234,8 @@ static int32_t result_of(struct model *model, const struct request *request, uin
         break;
     }
     bool is_transfer = is_read(request->action) || is_write(request->action);
-    return is_transfer ? transfer(model, request, length, is_done) : call_file(model, request->action, is_done);
+    return is_transfer ? transfer(model, request, length, is_done)
+                       : call_file(model, request->action, is_done);
 }
 
 static int32_t success_of(const struct request *request)
@@ -231,14 +247,17 @@ static int32_t success_of(const struct request *request)
     return is_transfer ? (int32_t)most_of(request->action) : 0;
 }
 
-/* Whether a failure of an operation is a success to links, and is skipped as one is: Linux doesn't mark it, once it is carried out. One with a
- * fault of the program's shows that as if it were, though its descriptor isn't open. */
+/* Whether a failure of an operation is a success to links, and is skipped as one is: Linux doesn't
+ * mark it, once it is carried out. One with a fault of the program's shows that as if it were,
+ * though its descriptor isn't open. */
 static bool is_forgiven(const struct model *model, const struct request *request, int32_t res)
 {
     const struct action *action = request->action;
-    bool is_of_kind = action->code == IORING_OP_FSYNC || action->code == IORING_OP_FALLOCATE || action->code == IORING_OP_SYNC_FILE_RANGE;
+    bool is_of_kind = action->code == IORING_OP_FSYNC || action->code == IORING_OP_FALLOCATE ||
+                      action->code == IORING_OP_SYNC_FILE_RANGE;
     bool has_found_none = res == -EBADF && is_no_file(model, action);
-    return (model->is_linux || model->is_kernel) && is_of_kind && request->failure == 0 && !has_found_none;
+    return (model->is_linux || model->is_kernel) && is_of_kind && request->failure == 0 &&
+           !has_found_none;
 }
 
 static bool is_success(const struct model *model, const struct request *request, int32_t res)
@@ -258,7 +277,8 @@ static bool is_success(const struct model *model, const struct request *request,
 static bool can_have(const struct model *model, const struct request *request, int fault)
 {
     const struct action *action = request->action;
-    bool is_transfer = (is_read(action) || is_write(action)) && !is_of_sockets(action), is_fallocate = action->code == IORING_OP_FALLOCATE;
+    bool is_transfer = (is_read(action) || is_write(action)) && !is_of_sockets(action),
+         is_fallocate = action->code == IORING_OP_FALLOCATE;
     if (fault != NO_FAULT && request->failure != 0)
         return false;
     switch (fault) {
@@ -279,7 +299,8 @@ static int listed_fault(const struct model *model, const struct request *request
     const struct program *program = model->program;
     long number = request - model->requests;
     for (int i = 0; i < program->fault_count && !model->is_kernel; i++)
-        if (program->faults[i].ring == model->layer_index && program->faults[i].number == number && can_have(model, request, program->faults[i].kind))
+        if (program->faults[i].ring == model->layer_index && program->faults[i].number == number &&
+            can_have(model, request, program->faults[i].kind))
             return program->faults[i].kind;
     return NO_FAULT;
 }
@@ -288,7 +309,8 @@ int32_t unseen_result(const struct model *model, const struct request *request)
 {
     int fault = is_forgiven(model, request, -EIO) ? listed_fault(model, request) : NO_FAULT;
     /* (where no descriptor is open, a fault alone is skipped) */
-    bool has_some = model->program->fault_rate && is_no_file(model, request->action) && can_have(model, request, FAULT_EIO);
+    bool has_some = model->program->fault_rate && is_no_file(model, request->action) &&
+                    can_have(model, request, FAULT_EIO);
     if (fault == NO_FAULT && has_some && is_forgiven(model, request, -EIO))
         return -EIO;
     return fault == FAULT_EIO ? -EIO : fault == FAULT_ENOSPC ? -ENOSPC : success_of(request);
@@ -303,14 +325,17 @@ static bool has_result(struct model *model, const struct request *request, int f
     if (fault == FAULT_EIO || fault == FAULT_ENOSPC)
         return res == (fault == FAULT_EIO ? -EIO : -ENOSPC);
     int32_t whole = result_of(model, request, fault == FAULT_SHORT ? length / 2 : length, false);
-    bool is_pipe_read = request->action->object == PIPE_OUT && (is_read(request->action) || request->action->code == IORING_OP_POLL_ADD) && whole >= 0;
+    bool is_pipe_read = request->action->object == PIPE_OUT &&
+                        (is_read(request->action) || request->action->code == IORING_OP_POLL_ADD) &&
+                        whole >= 0;
     /* What comes late may have found less in its pipe, or nothing. */
     bool is_less = res > 0 ? res < whole : request->action->is_impatient && res == -EAGAIN;
     bool is_told = request->may_be_told && res == POLLIN;
     return res == whole || (is_pipe_read && model->is_late && is_less) || is_told;
 }
 
-static void carry_out_with(struct model *model, const struct request *request, int fault, int32_t res)
+static void carry_out_with(
+    struct model *model, const struct request *request, int fault, int32_t res)
 {
     uint32_t length = most_of(request->action);
     if (fault == FAULT_EIO || fault == FAULT_ENOSPC || request->action->code == IORING_OP_POLL_ADD)
@@ -324,10 +349,14 @@ static void carry_out_with(struct model *model, const struct request *request, i
     result_of(model, request, length, true);
 }
 
-/* Whether it ends so with one of the faults that it can have. Then it does what it does, and that says whether it is a success. */
-static bool is_carried_out(struct model *model, const struct request *request, int32_t res, bool *is_done)
+/* Whether it ends so with one of the faults that it can have. Then it does what it does, and that
+ * says whether it is a success. */
+static bool is_carried_out(
+    struct model *model, const struct request *request, int32_t res, bool *is_done)
 {
-    int first = listed_fault(model, request), last = first == NO_FAULT && model->program->fault_rate && !model->is_kernel ? FAULT_SHORT : first;
+    int first = listed_fault(model, request),
+        last = first == NO_FAULT && model->program->fault_rate && !model->is_kernel ? FAULT_SHORT
+                                                                                    : first;
     for (int fault = first; fault <= last; fault++)
         if (has_result(model, request, fault, res)) {
             carry_out_with(model, request, fault, res);
@@ -337,13 +366,16 @@ static bool is_carried_out(struct model *model, const struct request *request, i
     return false;
 }
 
-/* One that was accepted before its descriptor was closed may have kept the file. A close goes by the number. */
+/* One that was accepted before its descriptor was closed may have kept the file. A close goes by
+ * the number. */
 static bool may_have_kept(const struct model *model, const struct request *request)
 {
-    return request->action->object == OTHER_LOG && request->was_open && model->things->is_closed && request->action->code != IORING_OP_CLOSE;
+    return request->action->object == OTHER_LOG && request->was_open && model->things->is_closed &&
+           request->action->code != IORING_OP_CLOSE;
 }
 
-static bool is_carried_out_on_kept(struct model *model, const struct request *request, int32_t res, bool *is_done)
+static bool is_carried_out_on_kept(
+    struct model *model, const struct request *request, int32_t res, bool *is_done)
 {
     model->things->is_closed = false;
     bool is_so = is_carried_out(model, request, res, is_done);
@@ -366,5 +398,6 @@ bool carry_out(struct model *model, const struct request *request, int32_t res)
         return is_done;
     if (may_have_kept(model, request) && is_carried_out_on_kept(model, request, res, &is_done))
         return is_done;
-    wrong(model, "entry %u ends with %" PRId32 ", and is to end with %" PRId32, request->index, res, result_of(model, request, length_of(request->action), false));
+    wrong(model, "entry %u ends with %" PRId32 ", and is to end with %" PRId32, request->index, res,
+        result_of(model, request, length_of(request->action), false));
 }

@@ -43,7 +43,8 @@ static void *map(const struct ring *ring, size_t size, uint64_t offset)
     return mmap(NULL, size, protection, flags, ring->fd, (off_t)offset);
 }
 
-int open_ring(struct ring *ring, enum way way, uint32_t entries, uint32_t completions, uint32_t flags)
+int open_ring(
+    struct ring *ring, enum way way, uint32_t entries, uint32_t completions, uint32_t flags)
 {
     memset(ring, 0, sizeof *ring);
     ring->way = way;
@@ -59,7 +60,8 @@ int open_ring(struct ring *ring, enum way way, uint32_t entries, uint32_t comple
     ring->sq = map(ring, ring->sq_size, IORING_OFF_SQ_RING);
     ring->cq = map(ring, ring->cq_size, IORING_OFF_CQ_RING);
     ring->entries = map(ring, ring->entries_size, IORING_OFF_SQES);
-    bool is_mapped = ring->sq != MAP_FAILED && ring->cq != MAP_FAILED && (void *)ring->entries != MAP_FAILED;
+    bool is_mapped = ring->sq != MAP_FAILED && ring->cq != MAP_FAILED &&
+                     (void *)ring->entries != MAP_FAILED;
     return is_mapped ? 0 : -errno;
 }
 
@@ -71,7 +73,8 @@ void close_ring(struct ring *ring)
     close(ring->fd);
 }
 
-long enter_ring(const struct ring *ring, uint32_t to_submit, uint32_t min_complete, bool is_getting, int64_t limit, bool has_mask)
+long enter_ring(const struct ring *ring, uint32_t to_submit, uint32_t min_complete, bool is_getting,
+    int64_t limit, bool has_mask)
 {
     uint64_t signals = 0;
     struct __kernel_timespec time = {limit / 1000000000, limit % 1000000000};
@@ -86,14 +89,18 @@ long enter_ring(const struct ring *ring, uint32_t to_submit, uint32_t min_comple
         last = &argument;
         size = sizeof argument;
     }
-    long result = ring->way == KERNEL ? syscall(SYS_io_uring_enter, ring->fd, to_submit, min_complete, flags, last, size)
-                                      : wulgach_syscall(SYS_io_uring_enter, ring->fd, to_submit, min_complete, flags, last, size);
+    long result = ring->way == KERNEL ? syscall(SYS_io_uring_enter, ring->fd, to_submit,
+                                            min_complete, flags, last, size)
+                                      : wulgach_syscall(SYS_io_uring_enter, ring->fd, to_submit,
+                                            min_complete, flags, last, size);
     return result < 0 ? -errno : result;
 }
 
 long register_at_ring(const struct ring *ring, unsigned code, const void *argument, unsigned count)
 {
-    long result = ring->way == KERNEL ? syscall(SYS_io_uring_register, ring->fd, code, argument, count) : wulgach_syscall(SYS_io_uring_register, ring->fd, code, argument, count);
+    long result = ring->way == KERNEL
+                      ? syscall(SYS_io_uring_register, ring->fd, code, argument, count)
+                      : wulgach_syscall(SYS_io_uring_register, ring->fd, code, argument, count);
     return result < 0 ? -errno : result;
 }
 
@@ -137,8 +144,10 @@ uint32_t cq_overflow(const struct ring *ring)
 bool tells_sizes(const struct ring *ring)
 {
     const struct io_uring_params *params = &ring->params;
-    return load(ring->sq, params->sq_off.ring_mask) == params->sq_entries - 1 && load(ring->sq, params->sq_off.ring_entries) == params->sq_entries &&
-           load(ring->cq, params->cq_off.ring_mask) == params->cq_entries - 1 && load(ring->cq, params->cq_off.ring_entries) == params->cq_entries;
+    return load(ring->sq, params->sq_off.ring_mask) == params->sq_entries - 1 &&
+           load(ring->sq, params->sq_off.ring_entries) == params->sq_entries &&
+           load(ring->cq, params->cq_off.ring_mask) == params->cq_entries - 1 &&
+           load(ring->cq, params->cq_off.ring_entries) == params->cq_entries;
 }
 
 bool is_readable(const struct ring *ring)

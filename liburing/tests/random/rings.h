@@ -1,4 +1,5 @@
-/* A ring as an application sees it: of the layer, whose descriptor is memory or polls, or of the kernel. */
+/* A ring as an application sees it: of the layer, whose descriptor is memory or polls, or of the
+ * kernel. */
 #ifndef RINGS_H
 #define RINGS_H
 
@@ -25,11 +26,14 @@ struct completion {
 };
 
 /* Makes a ring. Returns 0 or the negative of an error number. */
-int open_ring(struct ring *ring, enum way way, uint32_t entries, uint32_t completions, uint32_t flags);
+int open_ring(
+    struct ring *ring, enum way way, uint32_t entries, uint32_t completions, uint32_t flags);
 void close_ring(struct ring *ring);
 
-/* One call. A limit is in nanoseconds, or negative; a mask that blocks nothing is given if `has_mask`. */
-long enter_ring(const struct ring *ring, uint32_t to_submit, uint32_t min_complete, bool is_getting, int64_t limit, bool has_mask);
+/* One call. A limit is in nanoseconds, or negative; a mask that blocks nothing is given if
+ * `has_mask`. */
+long enter_ring(const struct ring *ring, uint32_t to_submit, uint32_t min_complete, bool is_getting,
+    int64_t limit, bool has_mask);
 
 /* One call of io_uring_register. */
 long register_at_ring(const struct ring *ring, unsigned code, const void *argument, unsigned count);

@@ -20,19 +20,23 @@ static uint32_t count_pending(const struct world *world)
     return world->model.published_count - world->model.taken;
 }
 
-/* By Linux's rules what is deferred depends on what has ended. So a ring that drains shows all: no entry is published whose success would be
- * skipped after a drain, or whose failure would end others unseen; nor one that drains, if a completion could overflow, unless it is refused. */
+/* By Linux's rules what is deferred depends on what has ended. So a ring that drains shows all: no
+ * entry is published whose success would be skipped after a drain, or whose failure would end
+ * others unseen; nor one that drains, if a completion could overflow, unless it is refused. */
 static bool hides(const struct world *world, const struct action *action)
 {
-    bool has_skipped = action->flags & IOSQE_CQE_SKIP_SUCCESS && counts(action), has_drained = false;
+    bool has_skipped = action->flags & IOSQE_CQE_SKIP_SUCCESS && counts(action),
+         has_drained = false;
     for (uint32_t i = 0; i < world->model.published_count; i++) {
         int32_t index = world->model.published[i];
         const struct action *before = index >= 0 ? &world->program->actions[index] : NULL;
         has_drained |= before && before->flags & IOSQE_IO_DRAIN;
         has_skipped |= before && before->flags & IOSQE_CQE_SKIP_SUCCESS && counts(before);
     }
-    bool is_unknown_drain = action->flags & IOSQE_IO_DRAIN && !has_skipped && !world->program->has_drains;
-    bool is_unseen = action->flags & IOSQE_CQE_SKIP_SUCCESS && world->program->has_drains && (has_drained || action->flags & LINKS);
+    bool is_unknown_drain = action->flags & IOSQE_IO_DRAIN && !has_skipped &&
+                            !world->program->has_drains;
+    bool is_unseen = action->flags & IOSQE_CQE_SKIP_SUCCESS && world->program->has_drains &&
+                     (has_drained || action->flags & LINKS);
     return !world->program->is_manual && (is_unknown_drain || is_unseen);
 }
 
@@ -41,7 +45,8 @@ static void put(struct world *world, unsigned index, bool is_entry)
     struct model *model = &world->model;
     const struct action *action = &world->program->actions[index];
     uint32_t position = model->published_count, size = model->sq_entries;
-    if (count_pending(world) >= size || position >= MOST_ACTIONS || (is_entry && hides(world, action)))
+    if (count_pending(world) >= size || position >= MOST_ACTIONS ||
+        (is_entry && hides(world, action)))
         return;
     model->published[position] = is_entry ? (int32_t)index : -1;
     world->slots[position] = -1;
@@ -93,7 +98,8 @@ static void reap(struct world *world, uint32_t count)
     uint32_t head = cq_head(&world->ring), ready = world->seen - head;
     for (uint32_t i = 0; i < count && i < ready; i++) {
         struct completion found = completion_at(&world->ring, head + i);
-        if (found.user_data != world->shown[head + i].user_data || found.res != world->shown[head + i].res)
+        if (found.user_data != world->shown[head + i].user_data ||
+            found.res != world->shown[head + i].res)
             wrong(&world->model, "a completion has changed");
     }
     store_head(&world->ring, head + (count < ready ? count : ready));
@@ -105,13 +111,14 @@ static void reap(struct world *world, uint32_t count)
 static bool may_have_unseen_ends(const struct model *model)
 {
     for (uint32_t i = 0; i < model->count; i++)
-        if (!model->requests[i].is_ended && model->requests[i].action->flags & IOSQE_CQE_SKIP_SUCCESS)
+        if (!model->requests[i].is_ended &&
+            model->requests[i].action->flags & IOSQE_CQE_SKIP_SUCCESS)
             return true;
     return false;
 }
 
-/* The limit that a call is given: where it would really sleep, a short one. A call that waits for one completion, which a
- * timeout will give, sleeps only for a pipe that is read already. */
+/* The limit that a call is given: where it would really sleep, a short one. A call that waits for
+ * one completion, which a timeout will give, sleeps only for a pipe that is read already. */
 static int64_t limit_of(const struct world *world, const struct call *call, int64_t limit)
 {
     const struct model *model = &world->model;
@@ -122,7 +129,8 @@ static int64_t limit_of(const struct world *world, const struct call *call, int6
     bool is_empty = world->things.read == world->things.written && !world->things.is_fed_out;
     bool may_sleep = has_pipe_reads(model, false) || world->program->is_threaded;
     if (may_sleep && call->min_complete == 1 && call->ready == 0 && has_timeouts(model))
-        may_sleep = has_pipe_reads(model, true) || (has_pipe_reads(model, false) && is_empty && may_have_unseen_ends(model));
+        may_sleep = has_pipe_reads(model, true) ||
+                    (has_pipe_reads(model, false) && is_empty && may_have_unseen_ends(model));
     return may_sleep && (limit < 0 || limit > SHORT_WAIT) ? SHORT_WAIT : limit;
 }
 
@@ -147,10 +155,14 @@ static void look(const struct world *world, struct call *call)
     call->ready = call->tail - cq_head(ring);
 }
 
-static void enter(struct world *world, uint32_t to_submit, uint32_t min_complete, bool is_getting, int64_t limit, bool has_mask)
+static void enter(struct world *world, uint32_t to_submit, uint32_t min_complete, bool is_getting,
+    int64_t limit, bool has_mask)
 {
     struct model *model = &world->model;
-    struct call call = {.to_submit = to_submit, .min_complete = min_complete, .is_getting = is_getting, .deadline = -1};
+    struct call call = {.to_submit = to_submit,
+        .min_complete = min_complete,
+        .is_getting = is_getting,
+        .deadline = -1};
     uint32_t taken = model->taken;
     look(world, &call);
     call.tail_before = call.tail;
@@ -165,7 +177,8 @@ static void enter(struct world *world, uint32_t to_submit, uint32_t min_complete
         call.deadline = add_times(model->now, call.limit);
     bool may_sleep = has_pipe_reads(model, false) || world->program->is_threaded;
     int64_t start = real_time();
-    call.result = enter_ring(&world->ring, to_submit, min_complete, is_getting, call.limit, has_mask);
+    call.result = enter_ring(
+        &world->ring, to_submit, min_complete, is_getting, call.limit, has_mask);
     if (may_sleep)
         model->slack = add_times(model->slack, real_time() - start);
     look(world, &call);
@@ -185,7 +198,8 @@ static void act_enter(struct world *world, const struct action *action)
         uint32_t most = count_awaited(&world->model) + world->seen - cq_head(&world->ring);
         min_complete = min_complete < most ? min_complete : most;
     }
-    enter(world, to_submit < 0 ? 0 : (uint32_t)to_submit, min_complete, action->is_getting, action->limit, action->has_mask);
+    enter(world, to_submit < 0 ? 0 : (uint32_t)to_submit, min_complete, action->is_getting,
+        action->limit, action->has_mask);
 }
 
 /* ---- other actions ---- */
@@ -196,11 +210,13 @@ static void act_fork(struct world *world)
     struct ring own;
     pid_t child = fork();
     if (child == 0) {
-        if (enter_ring(&world->ring, 0, 0, true, -1, false) != -EOPNOTSUPP || open_ring(&own, world->ring.way, 4, 0, 0) != 0)
+        if (enter_ring(&world->ring, 0, 0, true, -1, false) != -EOPNOTSUPP ||
+            open_ring(&own, world->ring.way, 4, 0, 0) != 0)
             _exit(1);
         own.entries[0] = (struct io_uring_sqe){.opcode = IORING_OP_NOP, .user_data = 77};
         publish(&own, 0);
-        bool is_right = enter_ring(&own, 1, 1, true, -1, false) == 1 && cq_tail(&own) == 1 && completion_at(&own, 0).user_data == 77;
+        bool is_right = enter_ring(&own, 1, 1, true, -1, false) == 1 && cq_tail(&own) == 1 &&
+                        completion_at(&own, 0).user_data == 77;
         _exit(is_right ? 0 : 1);
     }
     int status = 1;
@@ -223,7 +239,8 @@ static void act_reopen(struct world *world)
 static bool has_pipe_writes(const struct world *world)
 {
     for (uint32_t i = 0; i < world->model.count; i++)
-        if (!world->model.requests[i].is_ended && world->model.requests[i].action->object == PIPE_IN)
+        if (!world->model.requests[i].is_ended &&
+            world->model.requests[i].action->object == PIPE_IN)
             return true;
     return false;
 }
@@ -252,7 +269,8 @@ static void act_update(struct world *world)
         return;
     for (uint32_t i = 0; i < model->count; i++) {
         const struct request *request = &model->requests[i];
-        if (!request->is_ended && request->action->is_registered && request->action->object == OTHER_LOG && !request->is_loose)
+        if (!request->is_ended && request->action->is_registered &&
+            request->action->object == OTHER_LOG && !request->is_loose)
             return;
     }
     update_files(world);
@@ -314,7 +332,8 @@ void finish(struct world *world)
         reap(world, UINT32_MAX);
         bool is_idle = count == model->count && seen == world->seen && taken == model->taken;
         bool is_fed = passes_by_choice(model) && world->things.read < world->things.written;
-        if (is_idle && !is_fed && has_pipe_reads(model, false) && !(sq_flags(&world->ring) & IORING_SQ_CQ_OVERFLOW))
+        if (is_idle && !is_fed && has_pipe_reads(model, false) &&
+            !(sq_flags(&world->ring) & IORING_SQ_CQ_OVERFLOW))
             feed(world, CELL);
     }
     /* (a wait whose time is over by choice says nothing of what could go on) */

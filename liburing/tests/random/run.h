@@ -6,8 +6,8 @@
 
 /* What a plain program comes to, whatever the order. */
 struct outcome {
-    int32_t results[MOST_ACTIONS];      /* of each entry, or NO_RESULT */
-    uint32_t posts[MOST_ACTIONS];       /* how many completions it had */
+    int32_t results[MOST_ACTIONS]; /* of each entry, or NO_RESULT */
+    uint32_t posts[MOST_ACTIONS]; /* how many completions it had */
     uint8_t cells[MOST_RINGS][MOST_ACTIONS * CELL];
 };
 

@@ -1,4 +1,5 @@
-/* Makes a program that fails short: actions are left out, many at first and then one by one, as long as it still fails. */
+/* Makes a program that fails short: actions are left out, many at first and then one by one, as
+ * long as it still fails. */
 #include "shrink.h"
 #include "children.h"
 
@@ -12,7 +13,8 @@ static bool still_fails(const struct program *program)
     return !is_right(program, SECONDS_OF_RUN);
 }
 
-/* Leaves out `size` of the actions from one on that are there. False if none is left from there on. */
+/* Leaves out `size` of the actions from one on that are there. False if none is left from there on.
+ */
 static bool leave_out(struct program *program, unsigned *at, unsigned size)
 {
     bool is_any = false;

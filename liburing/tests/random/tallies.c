@@ -1,5 +1,6 @@
-/* Timeouts that end once so many completions were posted, and how often an eventfd is told of completions. A timeout counts from its start
- * on, which nobody sees, or what ends in its own submission too: so what is known are bounds.
+/* Timeouts that end once so many completions were posted, and how often an eventfd is told of
+ * completions. A timeout counts from its start on, which nobody sees, or what ends in its own
+ * submission too: so what is known are bounds.
  */
 #include "model.h"
 
@@ -29,23 +30,28 @@ bool may_have_counted(const struct model *model, const struct request *timeout)
 
 bool has_counted(const struct model *model, const struct request *timeout)
 {
-    return timeout->action->tally && timeout->has_begun && !may_be_early(model, timeout) && model->tally - timeout->tally_most >= timeout->action->tally;
+    return timeout->action->tally && timeout->has_begun && !may_be_early(model, timeout) &&
+           model->tally - timeout->tally_most >= timeout->action->tally;
 }
 
 /* In order nothing starts while one before it can end. */
 static bool is_held_up(const struct model *model, const struct request *timeout)
 {
-    for (const struct request *other = model->requests; other < timeout && is_in_order(model); other++)
-        if (!is_stream(model, other) && !(other->action->flags & IOSQE_CQE_SKIP_SUCCESS) && !other->is_silent && !may_be_early(model, timeout) && can_end(model, other))
+    for (const struct request *other = model->requests; other < timeout && is_in_order(model);
+         other++)
+        if (!is_stream(model, other) && !(other->action->flags & IOSQE_CQE_SKIP_SUCCESS) &&
+            !other->is_silent && !may_be_early(model, timeout) && can_end(model, other))
             return true;
     return false;
 }
 
 void note_tallies(struct model *model)
 {
-    for (struct request *request = model->requests; request < model->requests + model->count; request++) {
+    for (struct request *request = model->requests; request < model->requests + model->count;
+         request++) {
         bool may_begin = can_start(model, request) || may_be_after_unseen(model, request);
-        if (!is_counting(request) || !may_begin || request->may_have_begun || is_held_up(model, request))
+        if (!is_counting(request) || !may_begin || request->may_have_begun ||
+            is_held_up(model, request))
             continue;
         request->may_have_begun = true;
     }
@@ -86,10 +92,12 @@ void count_message(struct model *model)
     count_told(model, true, true);
 }
 
-/* Neither a timeout counts that its time or its count has ended, nor is one told of later ends alone what ends in the call that took it. */
+/* Neither a timeout counts that its time or its count has ended, nor is one told of later ends
+ * alone what ends in the call that took it. */
 void count_end(struct model *model, const struct request *request, bool is_by_itself)
 {
-    bool is_later = request->call != model->call_number, is_of_all = model->program->rings[model->ring].telling == OF_ALL;
+    bool is_later = request->call != model->call_number,
+         is_of_all = model->program->rings[model->ring].telling == OF_ALL;
     model->tally += !(is_by_itself && request->action->code == IORING_OP_TIMEOUT);
     count_told(model, is_of_all || (is_later && !model->is_late), is_of_all || is_later);
 }
@@ -98,6 +106,8 @@ void judge_told(struct model *model, uint64_t told, bool is_silenced)
 {
     uint32_t least = is_silenced ? 0 : model->told_least, most = is_silenced ? 0 : model->told_most;
     if (told > most || (told == 0 && least > 0))
-        wrong(model, "the eventfd is told %" PRIu64 " times of %" PRIu32 " to %" PRIu32 " completions", told, least, most);
+        wrong(model,
+            "the eventfd is told %" PRIu64 " times of %" PRIu32 " to %" PRIu32 " completions", told,
+            least, most);
     model->told_least = model->told_most = 0;
 }

@@ -18,7 +18,13 @@ enum { FIRST_FD = 200, FDS_OF_RING = 16 };
 
 enum { GROUP = 5, SLOTS = 8 };
 
-enum { REFUSED_CODE = 250, REFUSED_FLAG = 128, REFUSED_PRIORITY = 0x9000, BAD_ADDRESS = 8, NO_FD = 199 };
+enum {
+    REFUSED_CODE = 250,
+    REFUSED_FLAG = 128,
+    REFUSED_PRIORITY = 0x9000,
+    BAD_ADDRESS = 8,
+    NO_FD = 199
+};
 
 /* A descriptor moves to its number. */
 static int move(const struct world *world, int fd, int at)
@@ -47,7 +53,8 @@ static void make_files(struct world *world)
     world->feed = move(world, ends[1], OBJECTS);
     for (size_t at = 0; at < sizeof things->cells; at++)
         things->cells[at] = (uint8_t)(0x21 + at % 90);
-    if (pwrite(world->fds[CELLS], things->cells, sizeof things->cells, 0) != (ssize_t)sizeof things->cells)
+    if (pwrite(world->fds[CELLS], things->cells, sizeof things->cells, 0) !=
+        (ssize_t)sizeof things->cells)
         wrong(&world->model, "no file");
 }
 
@@ -81,8 +88,8 @@ void update_files(struct world *world)
     model->has_file = fd >= 0;
 }
 
-/* The files by their numbers; of the pipe's end that is written none, since it is to be closed. Few of the
- * buffers are provided. */
+/* The files by their numbers; of the pipe's end that is written none, since it is to be closed. Few
+ * of the buffers are provided. */
 static void register_all(struct world *world)
 {
     struct model *model = &world->model;
@@ -92,13 +99,16 @@ static void register_all(struct world *world)
     if (world->things.is_closed)
         fds[OTHER_LOG] = -1;
     model->has_file = fds[OTHER_LOG] >= 0;
-    struct iovec halves[] = {{world->data, sizeof world->data / 2}, {world->data + MOST_ACTIONS / 2, sizeof world->data / 2}};
+    struct iovec halves[] = {{world->data, sizeof world->data / 2},
+        {world->data + MOST_ACTIONS / 2, sizeof world->data / 2}};
     free(world->provided_ring);
     world->provided_ring = aligned_alloc(4096, 4096);
     memset(world->provided_ring, 0, 4096);
     memset(world->is_provided, 0, sizeof world->is_provided);
-    struct io_uring_buf_reg group = {.ring_addr = (uintptr_t)world->provided_ring, .ring_entries = SLOTS, .bgid = GROUP};
-    long files = register_at_ring(&world->ring, IORING_REGISTER_FILES, fds, OBJECTS), buffers = register_at_ring(&world->ring, IORING_REGISTER_BUFFERS, halves, 2);
+    struct io_uring_buf_reg group = {
+        .ring_addr = (uintptr_t)world->provided_ring, .ring_entries = SLOTS, .bgid = GROUP};
+    long files = register_at_ring(&world->ring, IORING_REGISTER_FILES, fds, OBJECTS),
+         buffers = register_at_ring(&world->ring, IORING_REGISTER_BUFFERS, halves, 2);
     long provided = register_at_ring(&world->ring, IORING_REGISTER_PBUF_RING, &group, 1);
     if (files != 0 || buffers != 0 || provided != 0)
         wrong(model, "registering ends with %ld, %ld and %ld", files, buffers, provided);
@@ -115,7 +125,9 @@ static void register_telling(struct world *world)
     if (telling == NO_EVENTFD)
         return;
     world->telling = move(world, eventfd(0, EFD_NONBLOCK), OBJECTS + 1);
-    long result = register_at_ring(&world->ring, telling == OF_ALL ? IORING_REGISTER_EVENTFD : IORING_REGISTER_EVENTFD_ASYNC, &world->telling, 1);
+    long result = register_at_ring(&world->ring,
+        telling == OF_ALL ? IORING_REGISTER_EVENTFD : IORING_REGISTER_EVENTFD_ASYNC,
+        &world->telling, 1);
     if (result != 0)
         wrong(&world->model, "registering an eventfd ends with %ld", result);
 }
@@ -143,10 +155,17 @@ void make_world_ring(struct world *world)
 {
     const struct ring_options *options = &world->program->rings[world->index];
     enum way way = world->is_kernel ? KERNEL : options->is_polled ? LAYER_POLLED : LAYER_MEMORY;
-    int result = open_ring(&world->ring, way, options->entries, options->completions, options->flags);
+    int result = open_ring(
+        &world->ring, way, options->entries, options->completions, options->flags);
     struct model *model = &world->model;
     memset(model, 0, sizeof *model);
-    *model = (struct model){.program = world->program, .ring = world->index, .is_kernel = world->is_kernel, .is_linux = !world->is_kernel && !world->program->is_manual, .things = &world->things, .data = world->data, .provided = world->provided[0]};
+    *model = (struct model){.program = world->program,
+        .ring = world->index,
+        .is_kernel = world->is_kernel,
+        .is_linux = !world->is_kernel && !world->program->is_manual,
+        .things = &world->things,
+        .data = world->data,
+        .provided = world->provided[0]};
     model->slack = passes_by_choice(model) ? INT64_MAX : 0;
     if (result < 0)
         wrong(model, "set-up ends with %d", result);
@@ -154,7 +173,8 @@ void make_world_ring(struct world *world)
     model->sq_entries = world->ring.params.sq_entries;
     model->cq_entries = world->ring.params.cq_entries;
     uint32_t least = options->completions ? options->completions : 2 * options->entries;
-    if (model->sq_entries < options->entries || model->sq_entries >= 2u * options->entries || model->cq_entries < least || model->cq_entries >= 4 * least)
+    if (model->sq_entries < options->entries || model->sq_entries >= 2u * options->entries ||
+        model->cq_entries < least || model->cq_entries >= 4 * least)
         wrong(model, "the ring has %u and %u entries", model->sq_entries, model->cq_entries);
     if (!tells_sizes(&world->ring))
         wrong(model, "the rings' words tell other sizes");
@@ -187,8 +207,10 @@ static void write_transfer(struct world *world, struct io_uring_sqe *entry, unsi
 {
     const struct action *action = &world->program->actions[index];
     for (int i = 0; i < action->vectors; i++)
-        world->vectors[index][i] = (struct iovec){world->data[index].at[i] + GUARD, action->sizes[i]};
-    entry->addr = (uintptr_t)(is_vectored(action) ? (void *)world->vectors[index] : world->data[index].at[0] + GUARD);
+        world->vectors[index][i] = (struct iovec){
+            world->data[index].at[i] + GUARD, action->sizes[i]};
+    entry->addr = (uintptr_t)(is_vectored(action) ? (void *)world->vectors[index]
+                                                  : world->data[index].at[0] + GUARD);
     entry->len = is_vectored(action) ? action->vectors : action->sizes[0];
     entry->buf_index = is_in_registered_memory(action) ? action->buffer : 0;
     if (is_selecting(action)) {
@@ -200,7 +222,9 @@ static void write_transfer(struct world *world, struct io_uring_sqe *entry, unsi
         return;
     }
     uint64_t start = action->object == CELLS ? action->cell * (uint64_t)CELL : 0;
-    entry->off = action->object == PIPE_OUT || action->object == PIPE_IN ? 0 : start + (uint64_t)(int64_t)action->offset;
+    entry->off = action->object == PIPE_OUT || action->object == PIPE_IN
+                     ? 0
+                     : start + (uint64_t)(int64_t)action->offset;
     entry->rw_flags = action->is_impatient ? RWF_NOWAIT : 0;
     if (action->flaw == BAD_DATA)
         entry->addr = BAD_ADDRESS;
@@ -209,12 +233,15 @@ static void write_transfer(struct world *world, struct io_uring_sqe *entry, unsi
 static void write_timeout(struct world *world, struct io_uring_sqe *entry, unsigned index)
 {
     const struct action *action = &world->program->actions[index];
-    world->times[index] = (struct __kernel_timespec){action->time / 1000000000, action->time % 1000000000};
+    world->times[index] = (struct __kernel_timespec){
+        action->time / 1000000000, action->time % 1000000000};
     if (action->flaw == BAD_TIME)
         world->times[index].tv_sec = -1;
     entry->addr = (uintptr_t)&world->times[index];
     entry->len = 1;
-    entry->timeout_flags = action->is_success && action->code == IORING_OP_TIMEOUT ? IORING_TIMEOUT_ETIME_SUCCESS : 0;
+    entry->timeout_flags = action->is_success && action->code == IORING_OP_TIMEOUT
+                               ? IORING_TIMEOUT_ETIME_SUCCESS
+                               : 0;
     entry->off = action->tally;
 }
 
@@ -259,8 +286,12 @@ void write_entry(struct world *world, struct io_uring_sqe *entry, unsigned index
     case IORING_OP_POLL_REMOVE:
     case IORING_OP_TIMEOUT_REMOVE:
         entry->fd = action->scope & IORING_ASYNC_CANCEL_FD ? entry->fd : 0;
-        entry->addr = action->scope & (IORING_ASYNC_CANCEL_FD | IORING_ASYNC_CANCEL_ANY) ? 0 : user_data_of(action->target);
-        entry->cancel_flags = action->scope | (action->is_registered && index % 2 ? IORING_ASYNC_CANCEL_FD_FIXED : 0);
+        entry->addr = action->scope & (IORING_ASYNC_CANCEL_FD | IORING_ASYNC_CANCEL_ANY)
+                          ? 0
+                          : user_data_of(action->target);
+        entry->cancel_flags = action->scope |
+                              (action->is_registered && index % 2 ? IORING_ASYNC_CANCEL_FD_FIXED
+                                                                  : 0);
         break;
     case IORING_OP_FALLOCATE:
         entry->off = (uint64_t)action->offset;
@@ -303,7 +334,8 @@ void feed(struct world *world, uint32_t count)
 static void check_read(struct world *world, const uint8_t *found, ssize_t got)
 {
     struct things *things = &world->things;
-    if (got <= 0 || got > things->written - things->read || memcmp(found, things->piped + things->read, (size_t)got) != 0)
+    if (got <= 0 || got > things->written - things->read ||
+        memcmp(found, things->piped + things->read, (size_t)got) != 0)
         wrong(&world->model, "the pipe holds something else");
     things->read += (uint32_t)got;
 }
@@ -313,7 +345,8 @@ void sip(struct world *world, uint32_t count)
     uint8_t found[256];
     if (world->things.read == world->things.written)
         return;
-    check_read(world, found, read(world->fds[PIPE_OUT], found, count < sizeof found ? count : sizeof found));
+    check_read(world, found,
+        read(world->fds[PIPE_OUT], found, count < sizeof found ? count : sizeof found));
     note_sip(&world->model);
 }
 
@@ -329,15 +362,18 @@ void end_feed(struct world *world)
 
 /* ---- at the end ---- */
 
-static void judge_file(const struct world *world, enum object object, const uint8_t *wanted, uint32_t length)
+static void judge_file(
+    const struct world *world, enum object object, const uint8_t *wanted, uint32_t length)
 {
     static _Thread_local uint8_t found[MOST_BYTES];
     ssize_t got = pread(world->fds[object], found, sizeof found, 0);
     if (got != (ssize_t)length)
-        wrong(&world->model, "%s has %zd bytes at the end, and is to have %u", object == LOG ? "the log" : "the cells' file", got, length);
+        wrong(&world->model, "%s has %zd bytes at the end, and is to have %u",
+            object == LOG ? "the log" : "the cells' file", got, length);
     for (uint32_t at = 0; at < length; at++)
         if (found[at] != wanted[at])
-            wrong(&world->model, "byte %u of %s is %u at the end, and is to be %u", at, object == LOG ? "the log" : "the cells' file", found[at], wanted[at]);
+            wrong(&world->model, "byte %u of %s is %u at the end, and is to be %u", at,
+                object == LOG ? "the log" : "the cells' file", found[at], wanted[at]);
 }
 
 static void judge_pipe(struct world *world)

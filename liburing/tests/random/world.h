@@ -1,4 +1,5 @@
-/* A ring of a program that runs, with the files, the pipe and the memory that its entries are about. */
+/* A ring of a program that runs, with the files, the pipe and the memory that its entries are
+ * about. */
 #ifndef WORLD_H
 #define WORLD_H
 
@@ -10,7 +11,7 @@
 
 struct world {
     const struct program *program;
-    unsigned index;                     /* the ring's in the program */
+    unsigned index; /* the ring's in the program */
     bool is_kernel;
     struct outcome *outcome;
     struct ring ring;
@@ -18,19 +19,19 @@ struct world {
     struct things things;
     struct vectors data[MOST_ACTIONS];
     uint8_t provided[PROVIDED][PROVIDED_SIZE];
-    struct io_uring_buf_ring *provided_ring;    /* where they are provided */
+    struct io_uring_buf_ring *provided_ring; /* where they are provided */
     bool is_provided[PROVIDED];
     struct iovec vectors[MOST_ACTIONS][MOST_VECTORS];
     struct __kernel_timespec times[MOST_ACTIONS];
     int fds[OBJECTS];
-    int feed;                           /* the pipe's end for the application, or negative */
-    int telling;                        /* the eventfd, or 0 */
-    bool is_silenced;                   /* it is to be told nothing */
-    bool *is_used;                      /* slots that a published position names */
-    int32_t slots[MOST_ACTIONS];        /* the slot of each position, or negative */
-    uint32_t seen;                      /* completions that the model has seen */
-    struct completion shown[2 * MOST_ACTIONS];  /* what they were, by position */
-    struct world *others;               /* all rings of the program */
+    int feed; /* the pipe's end for the application, or negative */
+    int telling; /* the eventfd, or 0 */
+    bool is_silenced; /* it is to be told nothing */
+    bool *is_used; /* slots that a published position names */
+    int32_t slots[MOST_ACTIONS]; /* the slot of each position, or negative */
+    uint32_t seen; /* completions that the model has seen */
+    struct completion shown[2 * MOST_ACTIONS]; /* what they were, by position */
+    struct world *others; /* all rings of the program */
 };
 
 /* Makes the files, the pipe and the ring, and looks at them at the end. */
@@ -41,7 +42,8 @@ void judge_world(struct world *world);
 /* Writes an entry of an action. */
 void write_entry(struct world *world, struct io_uring_sqe *entry, unsigned index);
 
-/* Carries an action out; and goes on until nothing is outstanding, after which a wait for one more is in vain. */
+/* Carries an action out; and goes on until nothing is outstanding, after which a wait for one more
+ * is in vain. */
 void act(struct world *world, unsigned index);
 void finish(struct world *world);
 

@@ -1,8 +1,9 @@
-/* What a call costs, in nanoseconds of the clock: the least of many rounds. Linked with the layer, or, compiled with -DRAW, by
- * inline assembler: then it is the kernel's, or, under uring-run, the layer's after a trap or where it is rewritten. tests/speed/costs prints all
- * four.
+/* What a call costs, in nanoseconds of the clock: the least of many rounds. Linked with the layer,
+ * or, compiled with -DRAW, by inline assembler: then it is the kernel's, or, under uring-run, the
+ * layer's after a trap or where it is rewritten. tests/speed/costs prints all four.
  *
- *   cost                     NANOSECONDS of a call that does nothing, of one with a no-op, and of a no-op in batches of 32
+ *   cost                     NANOSECONDS of a call that does nothing, of one with a no-op, and of a
+ * no-op in batches of 32
  */
 #define _GNU_SOURCE
 #include "../direct/clocks.h"
@@ -19,11 +20,18 @@ long wulgach_syscall(long call, ...)
     for (int i = 0; i < 6; i++)
         words[i] = va_arg(arguments, long);
     va_end(arguments);
-    register long r10 __asm__("r10") = words[3], r8 __asm__("r8") = words[4], r9 __asm__("r9") = words[5];
+    register long r10 __asm__("r10") = words[3], r8 __asm__("r8") = words[4],
+                      r9 __asm__("r9") = words[5];
     if (call == SYS_io_uring_enter)
-        __asm__ volatile("mov $426, %%eax\n\tsyscall" : "=a"(result) : "D"(words[0]), "S"(words[1]), "d"(words[2]), "r"(r10), "r"(r8), "r"(r9) : "rcx", "r11", "memory");
+        __asm__ volatile("mov $426, %%eax\n\tsyscall"
+                         : "=a"(result)
+                         : "D"(words[0]), "S"(words[1]), "d"(words[2]), "r"(r10), "r"(r8), "r"(r9)
+                         : "rcx", "r11", "memory");
     else
-        __asm__ volatile("syscall" : "+a"(result) : "D"(words[0]), "S"(words[1]), "d"(words[2]), "r"(r10), "r"(r8), "r"(r9) : "rcx", "r11", "memory");
+        __asm__ volatile("syscall"
+                         : "+a"(result)
+                         : "D"(words[0]), "S"(words[1]), "d"(words[2]), "r"(r10), "r"(r8), "r"(r9)
+                         : "rcx", "r11", "memory");
     if (result >= 0)
         return result;
     errno = (int)-result;
@@ -72,8 +80,10 @@ int main(void)
     ring.fd = (int)set_up(32, &params);
     check(ring.fd >= 0);
     ring.params = params;
-    ring.sq = map(&ring, params.sq_off.array + params.sq_entries * sizeof(unsigned), IORING_OFF_SQ_RING);
-    ring.cq = map(&ring, params.cq_off.cqes + params.cq_entries * sizeof(struct io_uring_cqe), IORING_OFF_CQ_RING);
+    ring.sq = map(
+        &ring, params.sq_off.array + params.sq_entries * sizeof(unsigned), IORING_OFF_SQ_RING);
+    ring.cq = map(&ring, params.cq_off.cqes + params.cq_entries * sizeof(struct io_uring_cqe),
+        IORING_OFF_CQ_RING);
     ring.entries = map(&ring, params.sq_entries * sizeof *ring.entries, IORING_OFF_SQES);
     printf("%.0f %.0f %.0f\n", least(&ring, 0), least(&ring, 1), least(&ring, 32) / 32);
     return 0;

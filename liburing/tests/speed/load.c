@@ -1,11 +1,11 @@
 /* The layer under load, by hand: `make -C liburing out/ours/load`.
  *
  *   load nops BATCH COUNT    no-ops in batches on one ring, and what each took
- *   load reads BATCH COUNT   reads of 4 KB of a file, at depth 64 as fio makes them: what is submitted was reaped just before
- *   load chain LENGTH        one chain of no-ops
- *   load rings COUNT         so many rings at once, each used in turn, and freed again
- *   load threads COUNT CALLS so many threads on one ring: each submits and reaps, and all completions are counted
- *   load long COUNT          so many requests of several kinds on one ring, and the memory that the process had
+ *   load reads BATCH COUNT   reads of 4 KB of a file, at depth 64 as fio makes them: what is
+ * submitted was reaped just before load chain LENGTH        one chain of no-ops load rings COUNT so
+ * many rings at once, each used in turn, and freed again load threads COUNT CALLS so many threads
+ * on one ring: each submits and reaps, and all completions are counted load long COUNT          so
+ * many requests of several kinds on one ring, and the memory that the process had
  */
 #define _GNU_SOURCE
 #include "../direct/ring.h"
@@ -19,7 +19,8 @@ static double processor_time(void)
 {
     struct rusage used;
     getrusage(RUSAGE_SELF, &used);
-    return (double)(used.ru_utime.tv_sec + used.ru_stime.tv_sec) + (double)(used.ru_utime.tv_usec + used.ru_stime.tv_usec) / 1e6;
+    return (double)(used.ru_utime.tv_sec + used.ru_stime.tv_sec) +
+           (double)(used.ru_utime.tv_usec + used.ru_stime.tv_usec) / 1e6;
 }
 
 static long most_memory(void)
@@ -48,7 +49,8 @@ static void run_nops(unsigned batch, uint64_t count)
     double start = processor_time();
     for (uint64_t done = 0; done < count; done += batch)
         run_batch(&ring, batch, 0);
-    printf("%" PRIu64 " no-ops in batches of %u: %.3f us each\n", count, batch, (processor_time() - start) / (double)count * 1e6);
+    printf("%" PRIu64 " no-ops in batches of %u: %.3f us each\n", count, batch,
+        (processor_time() - start) / (double)count * 1e6);
     close_ring(&ring);
 }
 
@@ -86,7 +88,8 @@ static void run_reads(unsigned batch, uint64_t count)
             check(reap(&ring).res == READ_SIZE);
         submit_reads(&ring, file, bytes, batch);
     }
-    printf("%" PRIu64 " reads in batches of %u: %.3f us each\n", count, batch, (processor_time() - start) / (double)count * 1e6);
+    printf("%" PRIu64 " reads in batches of %u: %.3f us each\n", count, batch,
+        (processor_time() - start) / (double)count * 1e6);
     close_ring(&ring);
     close(file);
 }
@@ -120,7 +123,8 @@ static void run_rings(unsigned count)
     make_ring(&last, 4, 0, 0);
     run_batch(&last, 4, 0);
     close_ring(&last);
-    printf("%u rings: made in %.3f s, 10 calls on each in %.3f s, closed in %.3f s, %ld KB\n", count, made - start, used - made, processor_time() - used, most_memory());
+    printf("%u rings: made in %.3f s, 10 calls on each in %.3f s, closed in %.3f s, %ld KB\n",
+        count, made - start, used - made, processor_time() - used, most_memory());
     free(rings);
 }
 
@@ -128,7 +132,8 @@ static void run_rings(unsigned count)
 
 static struct {
     struct ring ring;
-    pthread_mutex_t lock;           /* the application's own: submission and reaping are one thread's at a time */
+    pthread_mutex_t
+        lock; /* the application's own: submission and reaping are one thread's at a time */
     uint64_t calls, submitted, reaped;
     uint8_t *seen;
 } shared = {.lock = PTHREAD_MUTEX_INITIALIZER};
@@ -137,12 +142,14 @@ static void reap_shared(void)
 {
     while (count_ready(&shared.ring) > 0) {
         struct completion found = reap(&shared.ring);
-        check(found.res == 0 && found.user_data < shared.submitted && shared.seen[found.user_data]++ == 0);
+        check(found.res == 0 && found.user_data < shared.submitted &&
+              shared.seen[found.user_data]++ == 0);
         shared.reaped++;
     }
 }
 
-/* Entries are published and completions reaped under the application's lock; waiting is done without it. */
+/* Entries are published and completions reaped under the application's lock; waiting is done
+ * without it. */
 static void *work_on_shared(void *none)
 {
     for (uint64_t i = 0; i < shared.calls; i++) {
@@ -175,7 +182,9 @@ static void run_threads(unsigned count, uint64_t calls)
         reap_shared();
     }
     check(shared.submitted == count * calls);
-    printf("%u threads on one ring: %" PRIu64 " requests, each with one completion, %.3f s of a processor\n", count, shared.reaped, processor_time());
+    printf("%u threads on one ring: %" PRIu64
+           " requests, each with one completion, %.3f s of a processor\n",
+        count, shared.reaped, processor_time());
     close_ring(&shared.ring);
     free(shared.seen);
     free(threads);
@@ -183,7 +192,8 @@ static void run_threads(unsigned count, uint64_t calls)
 
 /* ---- for long ---- */
 
-/* A chain of a write, an fsync, a read and a no-op, a drain and a cancel of nothing, 6 requests in all. */
+/* A chain of a write, an fsync, a read and a no-op, a drain and a cancel of nothing, 6 requests in
+ * all. */
 static void run_round(struct ring *ring, int file, char *bytes)
 {
     int32_t results[6];
@@ -195,7 +205,8 @@ static void run_round(struct ring *ring, int file, char *bytes)
     put(ring, IORING_OP_ASYNC_CANCEL, 5, 0)->addr = 77;
     check(enter(ring, 6, 6, IORING_ENTER_GETEVENTS) == 6);
     reap_all(ring, 6, results);
-    check(results[0] == 16 && results[1] == 0 && results[2] == 16 && results[3] == 0 && results[4] == 0 && results[5] == -ENOENT);
+    check(results[0] == 16 && results[1] == 0 && results[2] == 16 && results[3] == 0 &&
+          results[4] == 0 && results[5] == -ENOENT);
     check(memcmp(bytes, bytes + 16, 16) == 0);
 }
 
@@ -213,7 +224,10 @@ static void run_long(uint64_t count)
             early = most_memory();
     }
     long last = most_memory();
-    printf("%" PRIu64 " requests: %ld KB after the first hundredth, %ld KB at the end, %.3f s of a processor\n", count, early, last, processor_time());
+    printf(
+        "%" PRIu64
+        " requests: %ld KB after the first hundredth, %ld KB at the end, %.3f s of a processor\n",
+        count, early, last, processor_time());
     check(last <= early + 64);
     close_ring(&ring);
     close(file);
@@ -238,6 +252,8 @@ int main(int argc, char **argv)
     else if (argc == 3 && strcmp(test, "long") == 0)
         run_long(numbers[0]);
     else
-        return fprintf(stderr, "load: nops BATCH COUNT, reads BATCH COUNT, chain LENGTH, rings COUNT, threads COUNT CALLS, or long COUNT\n"), 2;
+        return fprintf(stderr,
+                   "load: nops BATCH COUNT, reads BATCH COUNT, chain LENGTH, rings COUNT, threads COUNT CALLS, or long COUNT\n"),
+               2;
     return 0;
 }

@@ -1,4 +1,5 @@
-/* Calls of io_uring_enter(2), by set-ups: with each flag, each last argument, and more or less to submit and to wait for than there is. */
+/* Calls of io_uring_enter(2), by set-ups: with each flag, each last argument, and more or less to
+ * submit and to wait for than there is. */
 #include "sweeps.h"
 
 static uint64_t mask;
@@ -8,17 +9,21 @@ static void *const NOWHERE = (void *)8;
 static const struct {
     const char *name;
     unsigned flags;
-} setups[] = {{"plain", 0}, {"deferred", IORING_SETUP_SINGLE_ISSUER | IORING_SETUP_DEFER_TASKRUN}, {"disabled", IORING_SETUP_R_DISABLED}};
+} setups[] = {{"plain", 0}, {"deferred", IORING_SETUP_SINGLE_ISSUER | IORING_SETUP_DEFER_TASKRUN},
+    {"disabled", IORING_SETUP_R_DISABLED}};
 
 /* One call on a ring of its own, to which so many no-ops were published. */
-static void try(unsigned setup, unsigned published, unsigned to_submit, unsigned min_complete, unsigned flags, const void *argument, size_t size)
+static void try(unsigned setup, unsigned published, unsigned to_submit, unsigned min_complete,
+    unsigned flags, const void *argument, size_t size)
 {
     struct ring ring;
     make_ring(&ring, 4, 0, setups[setup].flags);
     for (unsigned i = 0; i < published; i++)
         put(&ring, IORING_OP_NOP, i, 0);
-    long result = wulgach_syscall(SYS_io_uring_enter, ring.fd, to_submit, min_complete, flags, argument, size);
-    printf(": %ld, head %u, %u completions\n", result < 0 ? -errno : result, *sq_word(&ring, ring.params.sq_off.head), count_ready(&ring));
+    long result = wulgach_syscall(
+        SYS_io_uring_enter, ring.fd, to_submit, min_complete, flags, argument, size);
+    printf(": %ld, head %u, %u completions\n", result < 0 ? -errno : result,
+        *sq_word(&ring, ring.params.sq_off.head), count_ready(&ring));
     close_ring(&ring);
 }
 
@@ -46,8 +51,10 @@ static void sweep_arguments(unsigned setup)
         for (unsigned published = 0; published < 3; published++)
             for (unsigned least = 0; least < 3; least++)
                 for (unsigned gets = 0; gets < 2; gets++) {
-                    printf("%s, %s, %u submitted, %u waited for%s", setups[setup].name, arguments[i].name, published, least, gets ? ", gets events" : "");
-                    try(setup, published, published, least, IORING_ENTER_EXT_ARG | gets, &arguments[i].it, arguments[i].size);
+                    printf("%s, %s, %u submitted, %u waited for%s", setups[setup].name,
+                        arguments[i].name, published, least, gets ? ", gets events" : "");
+                    try(setup, published, published, least, IORING_ENTER_EXT_ARG | gets,
+                        &arguments[i].it, arguments[i].size);
                 }
 }
 
@@ -60,7 +67,8 @@ static void sweep_flags(unsigned setup)
             printf("%s, flag %u, %u submitted", setups[setup].name, bit, published);
             try(setup, published, published, 0, 1u << bit, NULL, 0);
             printf("%s, flag %u, %u submitted and waited for", setups[setup].name, bit, published);
-            try(setup, published, published, published, 1u << bit | IORING_ENTER_GETEVENTS, &mask, 8);
+            try(setup, published, published, published, 1u << bit | IORING_ENTER_GETEVENTS, &mask,
+                8);
         }
 }
 
@@ -70,14 +78,18 @@ static void sweep_masks(unsigned setup)
         const char *name;
         const void *at;
         size_t size;
-    } masks[] = {{"no mask", NULL, 8}, {"a mask", &mask, 8}, {"a mask nowhere", NOWHERE, 8}, {"a mask of 4", &mask, 4}};
+    } masks[] = {{"no mask", NULL, 8}, {"a mask", &mask, 8}, {"a mask nowhere", NOWHERE, 8},
+        {"a mask of 4", &mask, 4}};
     for (unsigned i = 0; i < count_of(masks); i++)
         for (unsigned published = 0; published < 2; published++)
             for (unsigned to_submit = 0; to_submit < 4; to_submit++) {
-                printf("%s, %s beside %u, %u to submit", setups[setup].name, masks[i].name, published, to_submit);
+                printf("%s, %s beside %u, %u to submit", setups[setup].name, masks[i].name,
+                    published, to_submit);
                 try(setup, published, to_submit, 0, 0, masks[i].at, masks[i].size);
-                printf("%s, %s beside %u, %u to submit, gets events", setups[setup].name, masks[i].name, published, to_submit);
-                try(setup, published, to_submit, published && to_submit, IORING_ENTER_GETEVENTS, masks[i].at, masks[i].size);
+                printf("%s, %s beside %u, %u to submit, gets events", setups[setup].name,
+                    masks[i].name, published, to_submit);
+                try(setup, published, to_submit, published && to_submit, IORING_ENTER_GETEVENTS,
+                    masks[i].at, masks[i].size);
             }
 }
 

@@ -1,4 +1,5 @@
-/* Random steps on two rings, by seeds: each seed has a process of its own, and prints a line for each of its steps. */
+/* Random steps on two rings, by seeds: each seed has a process of its own, and prints a line for
+ * each of its steps. */
 #ifndef DICE_H
 #define DICE_H
 
@@ -80,7 +81,8 @@ static inline void submit(const char *what)
     long result = enter(&ring, 1, 0, 0);
     printf("%s %d: %ld", what, (int)next_number - 1, result);
     if (result <= 0)
-        __atomic_store_n(sq_word(&ring, ring.params.sq_off.tail), *sq_word(&ring, ring.params.sq_off.head), __ATOMIC_RELEASE);
+        __atomic_store_n(sq_word(&ring, ring.params.sq_off.tail),
+            *sq_word(&ring, ring.params.sq_off.head), __ATOMIC_RELEASE);
     else if (count_ready(&ring) == before)
         enter_for(&ring, 1, limit());
 }
@@ -107,7 +109,8 @@ static inline void set_out(uint64_t seed, unsigned flags)
     make_ring(&second, 32, 0, 0);
 }
 
-/* Makes so many steps of so many seeds, from the one on that the environment says: `make` prints what a step is and what its call says. */
+/* Makes so many steps of so many seeds, from the one on that the environment says: `make` prints
+ * what a step is and what its call says. */
 static inline int play(unsigned seeds, unsigned steps, unsigned flags, void (*make)(void))
 {
     const char *said = getenv("SWEEP_FIRST");

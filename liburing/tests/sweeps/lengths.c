@@ -1,4 +1,5 @@
-/* Reads and writes of some lengths of descriptors that are no files, plainly, without waiting and at an offset. */
+/* Reads and writes of some lengths of descriptors that are no files, plainly, without waiting and
+ * at an offset. */
 #include "sweeps.h"
 
 #include <sys/epoll.h>
@@ -6,9 +7,31 @@
 #include <sys/signalfd.h>
 #include <sys/timerfd.h>
 
-enum kind { SIGNALFD, EPOLL, PROCESS, INOTIFY, TIMERFD, TIMERFD_FIRED, TIMERFD_HASTY, EVENTFD_HASTY, FULL_DEVICE, RANDOM_DEVICE, PATH_ALONE, OWN_RING, OTHER_RING, READY_RING, DATAGRAMS, PACKETS, CLOSED, KINDS };
+enum kind {
+    SIGNALFD,
+    EPOLL,
+    PROCESS,
+    INOTIFY,
+    TIMERFD,
+    TIMERFD_FIRED,
+    TIMERFD_HASTY,
+    EVENTFD_HASTY,
+    FULL_DEVICE,
+    RANDOM_DEVICE,
+    PATH_ALONE,
+    OWN_RING,
+    OTHER_RING,
+    READY_RING,
+    DATAGRAMS,
+    PACKETS,
+    CLOSED,
+    KINDS
+};
 
-static const char *const kinds[KINDS] = {"signalfd", "epoll", "pidfd", "inotify", "timerfd", "timerfd that fired", "timerfd that isn't to wait", "eventfd that isn't to wait", "/dev/full", "/dev/urandom", "path", "own ring", "other ring", "ring with a completion", "datagrams", "packets", "nothing"};
+static const char *const kinds[KINDS] = {"signalfd", "epoll", "pidfd", "inotify", "timerfd",
+    "timerfd that fired", "timerfd that isn't to wait", "eventfd that isn't to wait", "/dev/full",
+    "/dev/urandom", "path", "own ring", "other ring", "ring with a completion", "datagrams",
+    "packets", "nothing"};
 
 static struct ring own, other, ready;
 
@@ -75,7 +98,8 @@ static void try(enum kind kind, uint8_t code, unsigned length, unsigned way)
     char bytes[128] = {1};
     int peer = -1, fd = descriptor_of(kind, &peer);
     begin(&own, code, fd, bytes, length, offsets[way])->rw_flags = way == 1 ? RWF_NOWAIT : 0;
-    printf("%s of %u, %s%s:", code == IORING_OP_READ ? "read" : "write", length, kinds[kind], ways[way]);
+    printf("%s of %u, %s%s:", code == IORING_OP_READ ? "read" : "write", length, kinds[kind],
+        ways[way]);
     tell_end(&own);
     if (fd >= 0)
         close(fd);

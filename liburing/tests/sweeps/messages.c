@@ -1,4 +1,5 @@
-/* Messages and addresses: which lengths of an address, of its place, of control data and of vectors are taken, and what is told of a message that is received. */
+/* Messages and addresses: which lengths of an address, of its place, of control data and of vectors
+ * are taken, and what is told of a message that is received. */
 #include "sweeps.h"
 
 static const unsigned lengths[] = {0, 1, 2, 15, 16, 17, 110, 128, 129, 4000, UINT32_MAX};
@@ -9,7 +10,8 @@ static int listener(struct sockaddr_in *at)
     socklen_t size = sizeof *at;
     int fd = socket(AF_INET, SOCK_STREAM, 0);
     *at = (struct sockaddr_in){.sin_family = AF_INET, .sin_addr.s_addr = htonl(INADDR_LOOPBACK)};
-    check(bind(fd, (void *)at, size) == 0 && listen(fd, 4) == 0 && getsockname(fd, (void *)at, &size) == 0);
+    check(bind(fd, (void *)at, size) == 0 && listen(fd, 4) == 0 &&
+          getsockname(fd, (void *)at, &size) == 0);
     return fd;
 }
 
@@ -62,7 +64,7 @@ static void try_connect(struct ring *ring, int type, uint64_t length, unsigned s
 /* A socket that is given a name, and listens then. */
 static void try_bind(struct ring *ring, int type, uint64_t length, unsigned short family)
 {
-    enum { BIND = 56, LISTEN };     /* (which most headers don't have) */
+    enum { BIND = 56, LISTEN }; /* (which most headers don't have) */
     struct {
         struct sockaddr_in at;
         char rest[4096];
@@ -87,7 +89,12 @@ static void try_send(struct ring *ring, unsigned length, unsigned vectors, unsig
     socklen_t size = sizeof at;
     int fd = socket(AF_INET, SOCK_DGRAM, 0), own = socket(AF_INET, SOCK_DGRAM, 0);
     check(bind(fd, (void *)&at, size) == 0 && getsockname(fd, (void *)&at, &size) == 0);
-    struct msghdr message = {.msg_name = &at, .msg_namelen = length, .msg_iov = list, .msg_iovlen = vectors, .msg_control = control ? more : NULL, .msg_controllen = control};
+    struct msghdr message = {.msg_name = &at,
+        .msg_namelen = length,
+        .msg_iov = list,
+        .msg_iovlen = vectors,
+        .msg_control = control ? more : NULL,
+        .msg_controllen = control};
     begin(ring, IORING_OP_SENDMSG, own, &message, 1, 0);
     printf("message sent to %u bytes, %u vectors, control %u:", length, vectors, control);
     tell_end(ring);
@@ -96,7 +103,8 @@ static void try_send(struct ring *ring, unsigned length, unsigned vectors, unsig
 }
 
 /* The same by a send, or by one without copies. */
-static void try_send_to(struct ring *ring, uint8_t code, unsigned length, unsigned bytes, int domain)
+static void try_send_to(
+    struct ring *ring, uint8_t code, unsigned length, unsigned bytes, int domain)
 {
     char text[8] = {0};
     struct {
@@ -118,22 +126,29 @@ static void try_receive(struct ring *ring, unsigned length, unsigned bytes, unsi
     char text[8] = {0};
     struct sockaddr_storage place = {0};
     struct iovec vector = {text, bytes};
-    struct msghdr message = {.msg_name = length ? &place : NULL, .msg_namelen = length, .msg_iov = &vector, .msg_iovlen = 1, .msg_flags = 0x55};
+    struct msghdr message = {.msg_name = length ? &place : NULL,
+        .msg_namelen = length,
+        .msg_iov = &vector,
+        .msg_iovlen = 1,
+        .msg_flags = 0x55};
     int ends[2];
     check(socketpair(AF_UNIX, SOCK_DGRAM, 0, ends) == 0 && write(ends[1], "abcdef", 6) == 6);
     begin(ring, IORING_OP_RECVMSG, ends[0], &message, 1, 0)->msg_flags = flags;
-    printf("message received, %u bytes for its address, %u for it, flags %x:", length, bytes, flags);
+    printf(
+        "message received, %u bytes for its address, %u for it, flags %x:", length, bytes, flags);
     check(enter(ring, 1, 0, 0) == 1);
     struct seen seen = {0};
     if (comes(ring, &seen))
         tell(&seen);
-    printf(", told %u, control %zu, flags %x\n", message.msg_namelen, message.msg_controllen, (unsigned)message.msg_flags);
+    printf(", told %u, control %zu, flags %x\n", message.msg_namelen, message.msg_controllen,
+        (unsigned)message.msg_flags);
     close_pair(ends);
 }
 
 int main(void)
 {
-    static const unsigned flags[] = {0, MSG_TRUNC, MSG_PEEK, MSG_DONTWAIT, MSG_WAITALL, MSG_CMSG_CLOEXEC};
+    static const unsigned flags[] = {
+        0, MSG_TRUNC, MSG_PEEK, MSG_DONTWAIT, MSG_WAITALL, MSG_CMSG_CLOEXEC};
     struct ring ring;
     signal(SIGPIPE, SIG_IGN);
     make_ring(&ring, 8, 0, 0);

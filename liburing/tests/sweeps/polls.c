@@ -1,4 +1,5 @@
-/* Polls of streams, with each kind of events, after what makes them ready; their updates; and polls of rings and of their eventfds. */
+/* Polls of streams, with each kind of events, after what makes them ready; their updates; and polls
+ * of rings and of their eventfds. */
 #include "sweeps.h"
 
 #include <poll.h>
@@ -7,12 +8,17 @@
 static const struct {
     const char *name;
     uint32_t events;
-} wanted[] = {{"in", POLLIN}, {"in, once", POLLIN | EPOLLONESHOT}, {"in, by edges", POLLIN | EPOLLET}, {"in, exclusively", POLLIN | EPOLLEXCLUSIVE}, {"in, waking up", POLLIN | EPOLLWAKEUP}, {"out", POLLOUT}, {"in and out", POLLIN | POLLOUT}, {"urgent", EPOLLPRI}, {"in and urgent", POLLIN | EPOLLPRI}, {"normal", EPOLLRDNORM}, {"band", EPOLLRDBAND}, {"hung up", EPOLLRDHUP}, {"nothing", 0}};
+} wanted[] = {{"in", POLLIN}, {"in, once", POLLIN | EPOLLONESHOT},
+    {"in, by edges", POLLIN | EPOLLET}, {"in, exclusively", POLLIN | EPOLLEXCLUSIVE},
+    {"in, waking up", POLLIN | EPOLLWAKEUP}, {"out", POLLOUT}, {"in and out", POLLIN | POLLOUT},
+    {"urgent", EPOLLPRI}, {"in and urgent", POLLIN | EPOLLPRI}, {"normal", EPOLLRDNORM},
+    {"band", EPOLLRDBAND}, {"hung up", EPOLLRDHUP}, {"nothing", 0}};
 
 static const struct {
     const char *name;
     uint32_t flags;
-} ways[] = {{"one", 0}, {"many", IORING_POLL_ADD_MULTI}, {"one, by levels", IORING_POLL_ADD_LEVEL}, {"many, by levels", IORING_POLL_ADD_MULTI | IORING_POLL_ADD_LEVEL}};
+} ways[] = {{"one", 0}, {"many", IORING_POLL_ADD_MULTI}, {"one, by levels", IORING_POLL_ADD_LEVEL},
+    {"many, by levels", IORING_POLL_ADD_MULTI | IORING_POLL_ADD_LEVEL}};
 
 enum { STREAM, DATAGRAMS, TCP, PIPE, KINDS };
 
@@ -23,7 +29,9 @@ static void make_ends(unsigned kind, int *ends)
     if (kind == TCP)
         make_tcp_pair(ends);
     else
-        check((kind == PIPE ? pipe(ends) : socketpair(AF_UNIX, kind == DATAGRAMS ? SOCK_DGRAM : SOCK_STREAM, 0, ends)) == 0);
+        check((kind == PIPE ? pipe(ends)
+                            : socketpair(AF_UNIX, kind == DATAGRAMS ? SOCK_DGRAM : SOCK_STREAM, 0,
+                                  ends)) == 0);
 }
 
 static void begin_poll(struct ring *ring, int fd, uint32_t events, uint32_t flags)
@@ -59,7 +67,8 @@ static void try(struct ring *ring, unsigned kind, unsigned events, unsigned way)
 }
 
 /* A poll that goes on or not is updated to one that does or doesn't, or to another number. */
-static void try_update(struct ring *ring, uint32_t from, uint32_t flags, uint32_t to, uint32_t update)
+static void try_update(
+    struct ring *ring, uint32_t from, uint32_t flags, uint32_t to, uint32_t update)
 {
     int ends[2];
     make_ends(STREAM, ends);
@@ -92,7 +101,8 @@ static void sweep_updates(struct ring *ring)
 }
 
 /* A poll of a ring's descriptor, or of its eventfd, after completions there. */
-static void try_ring(const char *name, bool is_own, bool has_eventfd, uint32_t events, uint32_t flags)
+static void try_ring(
+    const char *name, bool is_own, bool has_eventfd, uint32_t events, uint32_t flags)
 {
     struct ring own, other;
     int told = eventfd(0, EFD_NONBLOCK);

@@ -1,18 +1,47 @@
 /* Operations of sockets of each kind in each state, with each flag of a message. */
 #include "sweeps.h"
 
-enum { STREAMS, DATAGRAMS, PACKETS, TCP, UDP, TCP_ALONE, UDP_ALONE, STREAMS_ALONE, DATAGRAMS_ALONE, LISTENER, KINDS };
-enum { PLAIN, WITH_SOME, PEER_GONE, SHUT_TO_READ, SHUT_TO_WRITE, PEER_SHUT, HASTY, SOME_AND_GONE, STATES };
+enum {
+    STREAMS,
+    DATAGRAMS,
+    PACKETS,
+    TCP,
+    UDP,
+    TCP_ALONE,
+    UDP_ALONE,
+    STREAMS_ALONE,
+    DATAGRAMS_ALONE,
+    LISTENER,
+    KINDS
+};
+enum {
+    PLAIN,
+    WITH_SOME,
+    PEER_GONE,
+    SHUT_TO_READ,
+    SHUT_TO_WRITE,
+    PEER_SHUT,
+    HASTY,
+    SOME_AND_GONE,
+    STATES
+};
 
-static const char *const kinds[KINDS] = {"local stream", "local datagrams", "local packets", "TCP", "UDP", "TCP alone", "UDP alone", "local stream alone", "local datagrams alone", "TCP listener"};
-static const char *const states[STATES] = {"plain", "with some", "its peer gone", "shut to read", "shut to write", "its peer shut", "not to wait", "with some and its peer gone"};
+static const char *const kinds[KINDS] = {"local stream", "local datagrams", "local packets", "TCP",
+    "UDP", "TCP alone", "UDP alone", "local stream alone", "local datagrams alone", "TCP listener"};
+static const char *const states[STATES] = {"plain", "with some", "its peer gone", "shut to read",
+    "shut to write", "its peer shut", "not to wait", "with some and its peer gone"};
 
 static const struct {
     const char *name;
     uint8_t code;
-} operations[] = {{"send", IORING_OP_SEND}, {"receive", IORING_OP_RECV}, {"message sent", IORING_OP_SENDMSG}, {"message received", IORING_OP_RECVMSG}, {"send without a copy", IORING_OP_SEND_ZC}, {"read", IORING_OP_READ}, {"write", IORING_OP_WRITE}, {"accept", IORING_OP_ACCEPT}, {"poll", IORING_OP_POLL_ADD}, {"shutdown", IORING_OP_SHUTDOWN}};
+} operations[] = {{"send", IORING_OP_SEND}, {"receive", IORING_OP_RECV},
+    {"message sent", IORING_OP_SENDMSG}, {"message received", IORING_OP_RECVMSG},
+    {"send without a copy", IORING_OP_SEND_ZC}, {"read", IORING_OP_READ},
+    {"write", IORING_OP_WRITE}, {"accept", IORING_OP_ACCEPT}, {"poll", IORING_OP_POLL_ADD},
+    {"shutdown", IORING_OP_SHUTDOWN}};
 
-static const unsigned flags_of_messages[] = {0, MSG_DONTWAIT, MSG_WAITALL, MSG_PEEK, MSG_OOB, MSG_TRUNC, MSG_ERRQUEUE, MSG_NOSIGNAL, MSG_MORE, MSG_CONFIRM, MSG_EOR};
+static const unsigned flags_of_messages[] = {0, MSG_DONTWAIT, MSG_WAITALL, MSG_PEEK, MSG_OOB,
+    MSG_TRUNC, MSG_ERRQUEUE, MSG_NOSIGNAL, MSG_MORE, MSG_CONFIRM, MSG_EOR};
 
 static void udp_of(int *ends)
 {
@@ -24,7 +53,8 @@ static void udp_of(int *ends)
     for (int i = 0; i < 2; i++) {
         struct sockaddr_in at;
         socklen_t size = sizeof at;
-        check(getsockname(ends[!i], (void *)&at, &size) == 0 && connect(ends[i], (void *)&at, size) == 0);
+        check(getsockname(ends[!i], (void *)&at, &size) == 0 &&
+              connect(ends[i], (void *)&at, size) == 0);
     }
 }
 
@@ -40,7 +70,8 @@ static void make_socket(unsigned kind, int *ends)
     else if (kind == UDP)
         udp_of(ends);
     else
-        ends[0] = socket(kind == STREAMS_ALONE || kind == DATAGRAMS_ALONE ? AF_UNIX : AF_INET, kind == UDP_ALONE || kind == DATAGRAMS_ALONE ? SOCK_DGRAM : SOCK_STREAM, 0);
+        ends[0] = socket(kind == STREAMS_ALONE || kind == DATAGRAMS_ALONE ? AF_UNIX : AF_INET,
+            kind == UDP_ALONE || kind == DATAGRAMS_ALONE ? SOCK_DGRAM : SOCK_STREAM, 0);
     if (kind == LISTENER)
         check(listen(ends[0], 2) == 0);
 }
@@ -86,7 +117,8 @@ static void put_operation(struct ring *ring, uint8_t code, unsigned way, int fd)
     }
 }
 
-/* Prints as `tell_end` does, but of a socket that was accepted that it is one, and of a notice that it came. */
+/* Prints as `tell_end` does, but of a socket that was accepted that it is one, and of a notice that
+ * it came. */
 static void tell_of(struct ring *ring, uint8_t code)
 {
     struct seen seen = {0};
@@ -100,7 +132,8 @@ static void tell_of(struct ring *ring, uint8_t code)
     } else
         tell(&seen);
     if (seen.flags & IORING_CQE_F_MORE)
-        printf(comes(ring, &seen) && seen.flags & IORING_CQE_F_NOTIF ? ", then a notice" : ", and no notice");
+        printf(comes(ring, &seen) && seen.flags & IORING_CQE_F_NOTIF ? ", then a notice"
+                                                                     : ", and no notice");
     printf("\n");
 }
 
@@ -112,7 +145,8 @@ static void sweep_of(struct ring *ring, unsigned kind, unsigned state)
             make_socket(kind, ends);
             bring_into(state, ends);
             put_operation(ring, operations[i].code, way, ends[0]);
-            printf("%s, %s, %s, %s %x:", kinds[kind], states[state], operations[i].name, i < 5 ? "flags" : "way", i < 5 ? flags_of_messages[way] : way);
+            printf("%s, %s, %s, %s %x:", kinds[kind], states[state], operations[i].name,
+                i < 5 ? "flags" : "way", i < 5 ? flags_of_messages[way] : way);
             tell_of(ring, operations[i].code);
             close_pair(ends);
         }

@@ -1,9 +1,32 @@
-/* Splices and tees from each kind of descriptor to each, by offsets and without, of no bytes, and such as aren't to wait. */
+/* Splices and tees from each kind of descriptor to each, by offsets and without, of no bytes, and
+ * such as aren't to wait. */
 #include "sweeps.h"
 
-enum kind { EMPTY, SOME, ENDED, FULL, OTHER_END, DIGITS, APPENDED, READ_ONLY, SOCKET, SOCKET_WITH_SOME, SOCKET_ENDED, EVENTFD, NULL_DEVICE, FOLDER, ZERO_DEVICE, CLOSED, DATAGRAMS, KINDS };
+enum kind {
+    EMPTY,
+    SOME,
+    ENDED,
+    FULL,
+    OTHER_END,
+    DIGITS,
+    APPENDED,
+    READ_ONLY,
+    SOCKET,
+    SOCKET_WITH_SOME,
+    SOCKET_ENDED,
+    EVENTFD,
+    NULL_DEVICE,
+    FOLDER,
+    ZERO_DEVICE,
+    CLOSED,
+    DATAGRAMS,
+    KINDS
+};
 
-static const char *const kinds[KINDS] = {"empty pipe", "pipe with some", "pipe that ended", "full pipe", "pipe's other end", "file", "file to append to", "file to be read", "socket", "socket with some", "socket that ended", "eventfd", "/dev/null", "folder", "/dev/zero", "nothing", "datagrams"};
+static const char *const kinds[KINDS] = {"empty pipe", "pipe with some", "pipe that ended",
+    "full pipe", "pipe's other end", "file", "file to append to", "file to be read", "socket",
+    "socket with some", "socket that ended", "eventfd", "/dev/null", "folder", "/dev/zero",
+    "nothing", "datagrams"};
 
 static const struct {
     const char *name;
@@ -87,20 +110,23 @@ static int descriptor_of(enum kind kind, bool is_source)
 /* Where a file stands after it. */
 static long position(enum kind kind, int fd)
 {
-    return kind == DIGITS || kind == APPENDED || kind == READ_ONLY ? (long)lseek(fd, 0, SEEK_CUR) : 0;
+    return kind == DIGITS || kind == APPENDED || kind == READ_ONLY ? (long)lseek(fd, 0, SEEK_CUR)
+                                                                   : 0;
 }
 
 static void try(struct ring *ring, enum kind from, enum kind to, unsigned way)
 {
     count_kept = 0;
     int in = descriptor_of(from, true), out = descriptor_of(to, false);
-    struct io_uring_sqe *entry = begin(ring, ways[way].code, out, NULL, ways[way].length, ways[way].out);
+    struct io_uring_sqe *entry = begin(
+        ring, ways[way].code, out, NULL, ways[way].length, ways[way].out);
     entry->splice_fd_in = in;
     entry->splice_off_in = ways[way].in;
     entry->splice_flags = ways[way].flags;
     printf("%s, %s -> %s:", ways[way].name, kinds[from], kinds[to]);
     tell_end(ring);
-    printf("positions after %s, %s -> %s: %ld %ld\n", ways[way].name, kinds[from], kinds[to], position(from, in), position(to, out));
+    printf("positions after %s, %s -> %s: %ld %ld\n", ways[way].name, kinds[from], kinds[to],
+        position(from, in), position(to, out));
     close(in);
     close(out);
     while (count_kept > 0)

@@ -14,8 +14,14 @@ static const struct {
     uint8_t code;
     bool is_write, has_vector, has_message;
 } operations[] = {
-    {"send", IORING_OP_SEND, true, false, false}, {"message sent", IORING_OP_SENDMSG, true, false, true}, {"write", IORING_OP_WRITE, true, false, false}, {"writev", IORING_OP_WRITEV, true, true, false},
-    {"receive", IORING_OP_RECV, false, false, false}, {"message received", IORING_OP_RECVMSG, false, false, true}, {"read", IORING_OP_READ, false, false, false}, {"readv", IORING_OP_READV, false, true, false},
+    {"send", IORING_OP_SEND, true, false, false},
+    {"message sent", IORING_OP_SENDMSG, true, false, true},
+    {"write", IORING_OP_WRITE, true, false, false},
+    {"writev", IORING_OP_WRITEV, true, true, false},
+    {"receive", IORING_OP_RECV, false, false, false},
+    {"message received", IORING_OP_RECVMSG, false, false, true},
+    {"read", IORING_OP_READ, false, false, false},
+    {"readv", IORING_OP_READV, false, true, false},
 };
 
 static void make_ends(unsigned kind, int *ends)
@@ -29,8 +35,13 @@ static void make_ends(unsigned kind, int *ends)
 
 static void begin_transfer(struct ring *ring, unsigned operation, int fd, bool polls_first)
 {
-    bool has_message = operations[operation].has_message, has_vector = operations[operation].has_vector;
-    struct io_uring_sqe *entry = begin(ring, operations[operation].code, fd, has_message ? (void *)&message : has_vector ? (void *)&vector : bytes, has_message || has_vector ? 1 : sizeof bytes, 0);
+    bool has_message = operations[operation].has_message,
+         has_vector = operations[operation].has_vector;
+    struct io_uring_sqe *entry = begin(ring, operations[operation].code, fd,
+        has_message  ? (void *)&message
+        : has_vector ? (void *)&vector
+                     : bytes,
+        has_message || has_vector ? 1 : sizeof bytes, 0);
     entry->ioprio = polls_first ? IORING_RECVSEND_POLL_FIRST : 0;
 }
 
@@ -47,7 +58,8 @@ static void try_shut(struct ring *ring, unsigned kind, unsigned operation, bool 
 {
     int ends[2];
     make_ends(kind, ends);
-    printf("%s, %s, %s shut for %d:", kinds[kind], operations[operation].name, is_peer ? "the peer" : "it", how);
+    printf("%s, %s, %s shut for %d:", kinds[kind], operations[operation].name,
+        is_peer ? "the peer" : "it", how);
     if (operations[operation].is_write)
         fill(ends[0], 4096);
     begin_transfer(ring, operation, ends[0], false);
@@ -58,12 +70,14 @@ static void try_shut(struct ring *ring, unsigned kind, unsigned operation, bool 
 }
 
 /* A receive of a socket that counts as ready with 8 bytes alone. */
-static void try_few(struct ring *ring, unsigned kind, unsigned operation, bool polls_first, bool has_some)
+static void try_few(
+    struct ring *ring, unsigned kind, unsigned operation, bool polls_first, bool has_some)
 {
     int ends[2], least = 8;
     make_ends(kind, ends);
     setsockopt(ends[0], SOL_SOCKET, SO_RCVLOWAT, &least, sizeof least);
-    printf("%s, %s of a socket that wants 8%s%s:", kinds[kind], operations[operation].name, polls_first ? ", polled first" : "", has_some ? ", 4 there" : "");
+    printf("%s, %s of a socket that wants 8%s%s:", kinds[kind], operations[operation].name,
+        polls_first ? ", polled first" : "", has_some ? ", 4 there" : "");
     if (has_some)
         check(send(ends[1], bytes, 4, 0) == 4 && usleep(2000) == 0);
     begin_transfer(ring, operation, ends[0], polls_first);
@@ -81,7 +95,8 @@ static void try_room(struct ring *ring, unsigned kind, unsigned operation, bool 
     int ends[2];
     make_ends(kind, ends);
     fill(ends[0], 4096);
-    printf("%s, %s to a full socket%s:", kinds[kind], operations[operation].name, polls_first ? ", polled first" : "");
+    printf("%s, %s to a full socket%s:", kinds[kind], operations[operation].name,
+        polls_first ? ", polled first" : "");
     begin_transfer(ring, operation, ends[0], polls_first);
     tell_all(ring, "begun");
     empty(ends[1]);

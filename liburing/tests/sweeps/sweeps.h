@@ -1,4 +1,5 @@
-/* What sweeps share. A case is some requests on a ring, and prints one line: what it is, a colon, and what came of it, the same on any ring. */
+/* What sweeps share. A case is some requests on a ring, and prints one line: what it is, a colon,
+ * and what came of it, the same on any ring. */
 #ifndef SWEEPS_H
 #define SWEEPS_H
 
@@ -13,7 +14,8 @@
 
 #define count_of(list) (sizeof(list) / sizeof *(list))
 
-/* The user data of the request that a case is about, by which what is late of another case is passed over; and that of a cancel of it. */
+/* The user data of the request that a case is about, by which what is late of another case is
+ * passed over; and that of a cancel of it. */
 static uint64_t subject = 1000;
 #define ASIDE UINT64_MAX
 
@@ -61,7 +63,8 @@ static inline void tell_cancelled(struct ring *ring)
 }
 
 /* The entry of a case. */
-static inline struct io_uring_sqe *begin(struct ring *ring, uint8_t code, int fd, const void *at, unsigned length, uint64_t offset)
+static inline struct io_uring_sqe *begin(
+    struct ring *ring, uint8_t code, int fd, const void *at, unsigned length, uint64_t offset)
 {
     struct io_uring_sqe *entry = put(ring, code, ++subject, 0);
     entry->fd = fd;
@@ -71,7 +74,8 @@ static inline struct io_uring_sqe *begin(struct ring *ring, uint8_t code, int fd
     return entry;
 }
 
-/* Prints what the request of a case ends with: or that it waits, and what it ends with when it is cancelled. */
+/* Prints what the request of a case ends with: or that it waits, and what it ends with when it is
+ * cancelled. */
 static inline void tell_end(struct ring *ring)
 {
     struct seen seen = {.flags = IORING_CQE_F_MORE};

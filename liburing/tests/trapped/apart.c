@@ -1,4 +1,5 @@
-/* A program that is linked with nothing of ours, and closes rings, which reaches the layer beside its calls. It is run by uring-run.
+/* A program that is linked with nothing of ours, and closes rings, which reaches the layer beside
+ * its calls. It is run by uring-run.
  *
  *   apart closes | handlers | numbers
  *
@@ -52,7 +53,8 @@ static void accepts(void)
     struct sockaddr_in at = {.sin_family = AF_INET, .sin_addr.s_addr = htonl(INADDR_LOOPBACK)};
     socklen_t length = sizeof at;
     int listener = socket(AF_INET, SOCK_STREAM, 0);
-    WANT(listener >= 0 && bind(listener, (void *)&at, sizeof at) == 0 && listen(listener, 1) == 0 && getsockname(listener, (void *)&at, &length) == 0);
+    WANT(listener >= 0 && bind(listener, (void *)&at, sizeof at) == 0 && listen(listener, 1) == 0 &&
+         getsockname(listener, (void *)&at, &length) == 0);
     struct ring ring = set_up(0);
     publish(&ring, (struct io_uring_sqe){.opcode = IORING_OP_ACCEPT, .fd = listener});
     WANT(enter(&ring, 1, 0, NULL) == 1 && close(listener) == 0);
@@ -62,7 +64,7 @@ static void accepts(void)
     WANT(listener >= 0 && bind(listener, (void *)&at, sizeof at) == 0 && close(listener) == 0);
 }
 
-static pid_t waiter;     /* its thread, once it runs */
+static pid_t waiter; /* its thread, once it runs */
 
 static void *wait_in(void *of)
 {
@@ -81,8 +83,11 @@ static void closed_in_a_call(void)
     int registered[2];
     WANT(pipe(registered) == 0);
     read = registered[0];
-    WANT(call(SYS_io_uring_register, ring.fd, IORING_REGISTER_FILES, (long)&registered[1], 1, 0, 0) == 0 && close(registered[1]) == 0);
-    publish(&ring, (struct io_uring_sqe){.opcode = IORING_OP_POLL_ADD, .fd = ends[0], .poll32_events = POLLIN});
+    WANT(call(SYS_io_uring_register, ring.fd, IORING_REGISTER_FILES, (long)&registered[1], 1, 0,
+             0) == 0 &&
+         close(registered[1]) == 0);
+    publish(&ring, (struct io_uring_sqe){
+                       .opcode = IORING_OP_POLL_ADD, .fd = ends[0], .poll32_events = POLLIN});
     WANT(enter(&ring, 1, 0, NULL) == 1);
     WANT(pthread_create(&thread, NULL, wait_in, &ring) == 0);
     await_sleep(&waiter);
@@ -93,8 +98,8 @@ static void closed_in_a_call(void)
     unmap(&ring);
 }
 
-/* A ring is gone with its last descriptor, however that is closed, and lets go what it has. Liburing's own end of a ring is left to whichever library the
- * program loads. */
+/* A ring is gone with its last descriptor, however that is closed, and lets go what it has.
+ * Liburing's own end of a ring is left to whichever library the program loads. */
 static void closes(void)
 {
     int read;
@@ -137,7 +142,8 @@ static void want_no_op(const struct ring *ring)
     WANT(__atomic_load_n((uint32_t *)(ring->cq + ring->params.cq_off.tail), __ATOMIC_ACQUIRE) == 1);
 }
 
-/* After its close it is no ring's, or that of the next, or another file's, though a copy of its descriptor is open. */
+/* After its close it is no ring's, or that of the next, or another file's, though a copy of its
+ * descriptor is open. */
 static void numbers_of_one(bool has_copy)
 {
     int null = open("/dev/null", O_RDONLY);
@@ -149,12 +155,14 @@ static void numbers_of_one(bool has_copy)
     WANT(other.fd == fd);
     want_no_op(&other);
     WANT(dup2(null, fd) == fd && call_by_number(fd) == -95);
-    WANT(!has_copy || (dup2(copy, fd) == fd && call_by_number(fd) == 0 && call_by_number(copy) == 0));
+    WANT(!has_copy ||
+         (dup2(copy, fd) == fd && call_by_number(fd) == 0 && call_by_number(copy) == 0));
     WANT(close_range((unsigned)fd, (unsigned)fd, 0) == 0 && call_by_number(fd) == -9);
     if (has_copy) {
         ring.fd = copy;
         want_no_op(&ring);
-        WANT(dup3(null, copy, O_CLOEXEC) == copy && call_by_number(copy) == -95 && close(copy) == 0);
+        WANT(
+            dup3(null, copy, O_CLOEXEC) == copy && call_by_number(copy) == -95 && close(copy) == 0);
     }
     WANT(close(null) == 0);
     unmap(&ring);
@@ -267,6 +275,7 @@ static void handlers(void)
 
 int main(int argc, char **argv)
 {
-    static const struct mode modes[] = {{"closes", closes}, {"handlers", handlers}, {"numbers", numbers}};
+    static const struct mode modes[] = {
+        {"closes", closes}, {"handlers", handlers}, {"numbers", numbers}};
     return run_mode(modes, sizeof modes / sizeof *modes, argc, argv);
 }

@@ -1,5 +1,5 @@
-/* A program that is linked with nothing of ours, and blocks or catches SIGSYS in the ways that the C library has, or all signals, and calls io_uring
- * then. It is run by uring-run.
+/* A program that is linked with nothing of ours, and blocks or catches SIGSYS in the ways that the
+ * C library has, or all signals, and calls io_uring then. It is run by uring-run.
  *
  *   blocked masks | handlers | waits | contexts | jumps | spawn | timers
  *
@@ -42,7 +42,7 @@ static void call_in_handler(int number)
     call_once();
 }
 
-static void catch(int number)
+static void catch (int number)
 {
     (void)number;
 }
@@ -75,15 +75,19 @@ static void masks(void)
 static void handlers(void)
 {
     struct sigaction action, full = {.sa_handler = call_in_handler};
-    WANT(sigset(SIGSYS, catch) == SIG_DFL && sigignore(SIGSYS) == 0 && signal(SIGSYS, catch) == SIG_IGN);
-    WANT(bsd_signal(SIGSYS, SIG_IGN) == catch && ssignal(SIGSYS, catch) == SIG_IGN && sysv_signal(SIGSYS, SIG_IGN) == catch && __sysv_signal(SIGSYS, catch) == SIG_IGN);
-    WANT(sigaction(SIGSYS, NULL, &action) == 0 && action.sa_handler == catch && siginterrupt(SIGSYS, 1) == 0);
+    WANT(sigset(SIGSYS, catch) == SIG_DFL && sigignore(SIGSYS) == 0 &&
+         signal(SIGSYS, catch) == SIG_IGN);
+    WANT(bsd_signal(SIGSYS, SIG_IGN) == catch && ssignal(SIGSYS, catch) == SIG_IGN &&
+         sysv_signal(SIGSYS, SIG_IGN) == catch && __sysv_signal(SIGSYS, catch) == SIG_IGN);
+    WANT(sigaction(SIGSYS, NULL, &action) == 0 && action.sa_handler == catch &&
+         siginterrupt(SIGSYS, 1) == 0);
     call_once();
     WANT(signal(SIGUSR1, call_in_handler) == SIG_DFL && raise(SIGUSR1) == 0 && calls == 2);
     WANT(sigaction(SIGUSR1, NULL, &action) == 0 && action.sa_flags & SA_RESTART);
     WANT(siginterrupt(SIGUSR1, 1) == 0 && signal(SIGUSR1, call_in_handler) == call_in_handler);
     WANT(sigaction(SIGUSR1, NULL, &action) == 0 && !(action.sa_flags & SA_RESTART));
-    WANT(__sysv_signal(SIGUSR1, call_in_handler) == call_in_handler && raise(SIGUSR1) == 0 && calls == 3);
+    WANT(__sysv_signal(SIGUSR1, call_in_handler) == call_in_handler && raise(SIGUSR1) == 0 &&
+         calls == 3);
     WANT(sigaction(SIGUSR1, NULL, &action) == 0 && action.sa_handler == SIG_DFL);
     sigfillset(&full.sa_mask);
     WANT(__sigaction(SIGUSR1, &full, NULL) == 0 && raise(SIGUSR1) == 0 && calls == 4);
@@ -129,7 +133,8 @@ static void make(void (*function)(void))
     makecontext(&second, function, 0);
 }
 
-/* A context whose mask has all signals calls, and goes back to where the first one left, again and again. */
+/* A context whose mask has all signals calls, and goes back to where the first one left, again and
+ * again. */
 static void contexts(void)
 {
     volatile int turns = 0;
@@ -153,7 +158,8 @@ static void contexts(void)
         sigfillset(&first.uc_sigmask);
         setcontext(&first);
     }
-    WANT(calls == 2 && sigprocmask(SIG_SETMASK, NULL, &own) == 0 && sigismember(&own, SIGUSR1) == 1);
+    WANT(
+        calls == 2 && sigprocmask(SIG_SETMASK, NULL, &own) == 0 && sigismember(&own, SIGUSR1) == 1);
 }
 
 static sigjmp_buf back;
@@ -173,7 +179,8 @@ static void jumps(void)
     if (sigsetjmp(back, 1) == 0)
         raise(SIGUSR1);
     call_once();
-    WANT(sigprocmask(SIG_SETMASK, NULL, &own) == 0 && sigismember(&own, SIGUSR2) == 1 && sigismember(&own, SIGUSR1) == 0);
+    WANT(sigprocmask(SIG_SETMASK, NULL, &own) == 0 && sigismember(&own, SIGUSR2) == 1 &&
+         sigismember(&own, SIGUSR1) == 0);
 }
 
 /* A program that is started with all signals blocked. */
@@ -185,13 +192,17 @@ static void spawned(char *self)
     pid_t child;
     int status;
     sigfillset(&all);
-    WANT(posix_spawnattr_init(&attributes) == 0 && posix_spawnattr_setsigmask(&attributes, &all) == 0 && posix_spawnattr_setflags(&attributes, POSIX_SPAWN_SETSIGMASK) == 0);
-    WANT(posix_spawn(&child, self, NULL, &attributes, words, none) == 0 && waitpid(child, &status, 0) == child && status == 0);
+    WANT(posix_spawnattr_init(&attributes) == 0 &&
+         posix_spawnattr_setsigmask(&attributes, &all) == 0 &&
+         posix_spawnattr_setflags(&attributes, POSIX_SPAWN_SETSIGMASK) == 0);
+    WANT(posix_spawn(&child, self, NULL, &attributes, words, none) == 0 &&
+         waitpid(child, &status, 0) == child && status == 0);
 }
 
 static volatile sig_atomic_t told[2];
 
-/* A function of a timer's, which is told what it was given, calls, and shares memory with a file. */
+/* A function of a timer's, which is told what it was given, calls, and shares memory with a file.
+ */
 static void tell(union sigval value)
 {
     call_once();
@@ -203,10 +214,14 @@ static void tell(union sigval value)
 
 static timer_t start(int value, pthread_attr_t *attributes)
 {
-    struct sigevent event = {.sigev_notify = SIGEV_THREAD, .sigev_value.sival_int = value, .sigev_notify_function = tell, .sigev_notify_attributes = attributes};
+    struct sigevent event = {.sigev_notify = SIGEV_THREAD,
+        .sigev_value.sival_int = value,
+        .sigev_notify_function = tell,
+        .sigev_notify_attributes = attributes};
     const struct itimerspec soon = {.it_value.tv_nsec = 1000000};
     timer_t timer;
-    WANT(timer_create(CLOCK_MONOTONIC, &event, &timer) == 0 && timer_settime(timer, 0, &soon, NULL) == 0);
+    WANT(timer_create(CLOCK_MONOTONIC, &event, &timer) == 0 &&
+         timer_settime(timer, 0, &soon, NULL) == 0);
     return timer;
 }
 
@@ -219,12 +234,15 @@ static void timers(void)
     WANT(pthread_attr_init(&attributes) == 0);
     for (int i = 0; i < 8; i++)
         by_thread[i] = start(41 + i % 2, i < 4 ? &attributes : NULL);
-    while (__atomic_load_n(&told[0], __ATOMIC_SEQ_CST) < 4 || __atomic_load_n(&told[1], __ATOMIC_SEQ_CST) < 4)
+    while (__atomic_load_n(&told[0], __ATOMIC_SEQ_CST) < 4 ||
+           __atomic_load_n(&told[1], __ATOMIC_SEQ_CST) < 4)
         usleep(1000);
     for (int i = 0; i < 8; i++)
         WANT(timer_delete(by_thread[i]) == 0);
     calls = 0;
-    WANT(signal(SIGUSR1, call_in_handler) == SIG_DFL && timer_create(CLOCK_MONOTONIC, &raises, &timer) == 0 && timer_settime(timer, 0, &soon, NULL) == 0);
+    WANT(signal(SIGUSR1, call_in_handler) == SIG_DFL &&
+         timer_create(CLOCK_MONOTONIC, &raises, &timer) == 0 &&
+         timer_settime(timer, 0, &soon, NULL) == 0);
     while (calls == 0)
         usleep(1000);
 }

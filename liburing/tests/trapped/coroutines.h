@@ -10,7 +10,8 @@
 static char *make_stack(size_t size)
 {
     const size_t page = 4096;
-    char *memory = mmap(NULL, page + size, PROT_READ | PROT_WRITE, MAP_PRIVATE | MAP_ANONYMOUS, -1, 0);
+    char *memory = mmap(
+        NULL, page + size, PROT_READ | PROT_WRITE, MAP_PRIVATE | MAP_ANONYMOUS, -1, 0);
     WANT(memory != MAP_FAILED && mprotect(memory, page, PROT_NONE) == 0);
     return memory + page;
 }

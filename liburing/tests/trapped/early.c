@@ -1,4 +1,5 @@
-/* A library whose constructor calls io_uring and shares memory with a file. It is preloaded after uring-run's, so that constructors as they come would call it first.
+/* A library whose constructor calls io_uring and shares memory with a file. It is preloaded after
+ * uring-run's, so that constructors as they come would call it first.
  */
 #define _GNU_SOURCE
 #include "trapped.h"

@@ -1,4 +1,5 @@
-/* A program that is linked with nothing of ours, and has a filter of its own beside uring-run's, or signals of one. It is run by uring-run.
+/* A program that is linked with nothing of ours, and has a filter of its own beside uring-run's, or
+ * signals of one. It is run by uring-run.
  *
  *   filtered filter | answered
  *
@@ -38,7 +39,8 @@ static void answer(int number, siginfo_t *info, void *context)
         ((ucontext_t *)context)->uc_mcontext.gregs[REG_RAX] = 4321;
 }
 
-/* A child ends by SIGSYS, which isn't caught there: by a call that the program's filter traps, or else by a signal. */
+/* A child ends by SIGSYS, which isn't caught there: by a call that the program's filter traps, or
+ * else by a signal. */
 static void ends_child(bool is_by_filter, sighandler_t handler, bool is_ended)
 {
     int status = 0;
@@ -48,11 +50,12 @@ static void ends_child(bool is_by_filter, sighandler_t handler, bool is_ended)
         is_by_filter ? (void)syscall(SYS_getpgid, 0) : (void)raise(SIGSYS);
         _exit(0);
     }
-    WANT(waitpid(child, &status, 0) == child && (is_ended ? WIFSIGNALED(status) && WTERMSIG(status) == SIGSYS : WIFEXITED(status)));
+    WANT(waitpid(child, &status, 0) == child &&
+         (is_ended ? WIFSIGNALED(status) && WTERMSIG(status) == SIGSYS : WIFEXITED(status)));
 }
 
-/* A SIGSYS that isn't the trap's comes to the program's handler, or does what it does by itself: by a filter of the program's own that traps a call, or by a
- * signal. */
+/* A SIGSYS that isn't the trap's comes to the program's handler, or does what it does by itself: by
+ * a filter of the program's own that traps a call, or by a signal. */
 static void answered(void)
 {
     struct sigaction action = {.sa_sigaction = answer, .sa_flags = SA_SIGINFO};
@@ -63,7 +66,8 @@ static void answered(void)
         BPF_STMT(BPF_RET | BPF_K, SECCOMP_RET_ALLOW),
     };
     struct sock_fprog program = {.len = 4, .filter = lines};
-    WANT(sigaction(SIGSYS, &action, NULL) == 0 && prctl(PR_SET_NO_NEW_PRIVS, 1, 0, 0, 0) == 0 && prctl(PR_SET_SECCOMP, SECCOMP_MODE_FILTER, &program) == 0);
+    WANT(sigaction(SIGSYS, &action, NULL) == 0 && prctl(PR_SET_NO_NEW_PRIVS, 1, 0, 0, 0) == 0 &&
+         prctl(PR_SET_SECCOMP, SECCOMP_MODE_FILTER, &program) == 0);
     WANT(syscall(SYS_getpgid, 0) == 4321 && trapped_call == SYS_getpgid && answers == 1);
     WANT(raise(SIGSYS) == 0 && answers == 2);
     ends_child(true, SIG_DFL, true);

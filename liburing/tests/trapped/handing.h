@@ -26,9 +26,14 @@ union control {
 static inline void send_descriptor(int socket, int fd)
 {
     char byte = 'd';
-    union control control = {.head = {.cmsg_len = CMSG_LEN(sizeof fd), .cmsg_level = SOL_SOCKET, .cmsg_type = SCM_RIGHTS}};
+    union control control = {
+        .head = {
+            .cmsg_len = CMSG_LEN(sizeof fd), .cmsg_level = SOL_SOCKET, .cmsg_type = SCM_RIGHTS}};
     struct iovec vector = {&byte, 1};
-    struct msghdr message = {.msg_iov = &vector, .msg_iovlen = 1, .msg_control = &control, .msg_controllen = sizeof control};
+    struct msghdr message = {.msg_iov = &vector,
+        .msg_iovlen = 1,
+        .msg_control = &control,
+        .msg_controllen = sizeof control};
     memcpy(CMSG_DATA(&control.head), &fd, sizeof fd);
     WANT(sendmsg(socket, &message, 0) == 1);
 }
@@ -39,7 +44,10 @@ static inline int receive_descriptor(int socket)
     int fd = -1;
     union control control;
     struct iovec vector = {&byte, 1};
-    struct msghdr message = {.msg_iov = &vector, .msg_iovlen = 1, .msg_control = &control, .msg_controllen = sizeof control};
+    struct msghdr message = {.msg_iov = &vector,
+        .msg_iovlen = 1,
+        .msg_control = &control,
+        .msg_controllen = sizeof control};
     WANT(recvmsg(socket, &message, 0) == 1);
     memcpy(&fd, CMSG_DATA(&control.head), sizeof fd);
     return fd;

@@ -1,4 +1,5 @@
-/* A program that is linked with nothing of ours, whose signals' handlers call on its ring or leave a wait by a jump, or whose thread is cancelled. It is run by uring-run.
+/* A program that is linked with nothing of ours, whose signals' handlers call on its ring or leave
+ * a wait by a jump, or whose thread is cancelled. It is run by uring-run.
  *
  *   interrupted handlers | first | cancels | jumps
  *
@@ -23,7 +24,7 @@ static void raise_often(long microseconds, long again)
     WANT(setitimer(ITIMER_REAL, &often, NULL) == 0);
 }
 
-static void catch(void (*handler)(int))
+static void catch (void (*handler)(int))
 {
     const struct sigaction action = {.sa_handler = handler, .sa_flags = SA_RESTART};
     WANT(sigaction(SIGALRM, &action, NULL) == 0);
@@ -46,7 +47,7 @@ static void handlers(void)
     struct ring ring = set_up(0);
     called = &ring;
     WANT(pipe(ends) == 0);
-    catch(call_in_handler);
+    catch (call_in_handler);
     raise_often(53, 53);
     for (int i = 0; i < 3000; i++) {
         struct io_uring_params params = {0};
@@ -66,11 +67,12 @@ static void set_up_in_handler(int number)
     calls++;
 }
 
-/* A handler may make a ring while the program makes its first one. (a child that hangs takes the processor's time, and is ended for that) */
+/* A handler may make a ring while the program makes its first one. (a child that hangs takes the
+ * processor's time, and is ended for that) */
 static void first(void)
 {
     const struct rlimit limit = {5, 5};
-    catch(set_up_in_handler);
+    catch (set_up_in_handler);
     for (long after = 50; after <= 1000; after += 50) {
         int status;
         pid_t child = fork();
@@ -95,7 +97,8 @@ static void *set_up_until_cancelled(void *is_begun)
     return NULL;
 }
 
-/* A thread may be cancelled at any place of the program's first set-up, and others make rings then. */
+/* A thread may be cancelled at any place of the program's first set-up, and others make rings then.
+ */
 static void cancels(void)
 {
     const struct rlimit limit = {5, 5};
@@ -105,7 +108,8 @@ static void cancels(void)
         if (child == 0) {
             bool is_begun = false;
             pthread_t thread;
-            WANT(setrlimit(RLIMIT_CPU, &limit) == 0 && pthread_create(&thread, NULL, set_up_until_cancelled, &is_begun) == 0);
+            WANT(setrlimit(RLIMIT_CPU, &limit) == 0 &&
+                 pthread_create(&thread, NULL, set_up_until_cancelled, &is_begun) == 0);
             while (!__atomic_load_n(&is_begun, __ATOMIC_SEQ_CST))
                 continue;
             usleep((unsigned)after);
@@ -131,8 +135,9 @@ static void jumps(void)
     volatile int number = 0;
     struct ring ring = set_up(0);
     WANT(pipe(ends) == 0);
-    catch(jump);
-    publish(&ring, (struct io_uring_sqe){.opcode = IORING_OP_POLL_ADD, .fd = ends[0], .poll32_events = POLLIN});
+    catch (jump);
+    publish(&ring, (struct io_uring_sqe){
+                       .opcode = IORING_OP_POLL_ADD, .fd = ends[0], .poll32_events = POLLIN});
     WANT(enter(&ring, 1, 0, NULL) == 1);
     for (volatile int i = 0; i < 20; i++) {
         if (sigsetjmp(back, 1) == 0) {
@@ -148,6 +153,7 @@ static void jumps(void)
 
 int main(int argc, char **argv)
 {
-    static const struct mode modes[] = {{"handlers", handlers}, {"first", first}, {"cancels", cancels}, {"jumps", jumps}};
+    static const struct mode modes[] = {
+        {"handlers", handlers}, {"first", first}, {"cancels", cancels}, {"jumps", jumps}};
     return run_mode(modes, sizeof modes / sizeof *modes, argc, argv);
 }

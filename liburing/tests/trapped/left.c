@@ -1,4 +1,5 @@
-/* A program that is linked with nothing of ours, and leaves sleeping calls by jumps out of signals' handlers, on small stacks and in coroutines. It is run by uring-run.
+/* A program that is linked with nothing of ours, and leaves sleeping calls by jumps out of signals'
+ * handlers, on small stacks and in coroutines. It is run by uring-run.
  *
  *   left jumps
  *
@@ -24,9 +25,10 @@ static void jump_in_handler(int number)
 }
 
 static volatile sig_atomic_t has_left, jumps_of_one;
-static pid_t jumper;        /* its thread, once it may jump */
+static pid_t jumper; /* its thread, once it may jump */
 
-/* Sleeps that are left by a jump, each of which the next call notices; then the thread waits to be cancelled. */
+/* Sleeps that are left by a jump, each of which the next call notices; then the thread waits to be
+ * cancelled. */
 static void *jump_and_wait(void *of)
 {
     stack_t signals;
@@ -58,7 +60,8 @@ static void signal_soon(void)
     const struct itimerspec soon = {.it_value.tv_nsec = 5000000};
     timer_t timer;
     event._sigev_un._tid = gettid();
-    WANT(timer_create(CLOCK_MONOTONIC, &event, &timer) == 0 && timer_settime(timer, 0, &soon, NULL) == 0);
+    WANT(timer_create(CLOCK_MONOTONIC, &event, &timer) == 0 &&
+         timer_settime(timer, 0, &soon, NULL) == 0);
 }
 
 static struct ring *of_jumps;
@@ -103,10 +106,14 @@ static void leave_and_close(void)
 {
     int read, ends[2];
     struct ring ring = set_up(0);
-    WANT(pipe(ends) == 0 && call(SYS_io_uring_register, ring.fd, IORING_REGISTER_FILES, (long)&ends[1], 1, 0, 0) == 0 && close(ends[1]) == 0);
+    WANT(
+        pipe(ends) == 0 &&
+        call(SYS_io_uring_register, ring.fd, IORING_REGISTER_FILES, (long)&ends[1], 1, 0, 0) == 0 &&
+        close(ends[1]) == 0);
     read = ends[0];
     WANT(pipe(ends) == 0);
-    publish(&ring, (struct io_uring_sqe){.opcode = IORING_OP_POLL_ADD, .fd = ends[0], .poll32_events = POLLIN});
+    publish(&ring, (struct io_uring_sqe){
+                       .opcode = IORING_OP_POLL_ADD, .fd = ends[0], .poll32_events = POLLIN});
     WANT(enter(&ring, 1, 0, NULL) == 1);
     unmap(&ring);
     of_jumps = &ring;
@@ -116,7 +123,8 @@ static void leave_and_close(void)
     WANT(close(read) == 0 && close(ends[0]) == 0 && close(ends[1]) == 0);
 }
 
-/* A coroutine leaves sleeps by jumps: that takes no descriptors for long, and its thread calls and has no stack for signals after that. */
+/* A coroutine leaves sleeps by jumps: that takes no descriptors for long, and its thread calls and
+ * has no stack for signals after that. */
 static void jump_in_coroutines(struct ring *ring)
 {
     pthread_t thread;
@@ -124,11 +132,13 @@ static void jump_in_coroutines(struct ring *ring)
     int before = count_descriptors();
     leave_in_coroutines(ring);
     WANT(count_descriptors() <= before + 8);
-    WANT(pthread_create(&thread, NULL, leave_in_coroutines, ring) == 0 && pthread_join(thread, NULL) == 0);
+    WANT(pthread_create(&thread, NULL, leave_in_coroutines, ring) == 0 &&
+         pthread_join(thread, NULL) == 0);
     WANT(count_descriptors() <= before + 8);
 }
 
-/* A thread with a small stack leaves sleeps by a jump: its ring has no descriptor of theirs any more, and it can be cancelled. */
+/* A thread with a small stack leaves sleeps by a jump: its ring has no descriptor of theirs any
+ * more, and it can be cancelled. */
 static void jumps(void)
 {
     const struct sigaction action = {.sa_handler = jump_in_handler};
@@ -139,7 +149,8 @@ static void jumps(void)
     int ends[2];
     WANT(sigaction(SIGUSR1, &action, NULL) == 0 && pipe(ends) == 0);
     ring = set_up(0);
-    publish(&ring, (struct io_uring_sqe){.opcode = IORING_OP_POLL_ADD, .fd = ends[0], .poll32_events = POLLIN});
+    publish(&ring, (struct io_uring_sqe){
+                       .opcode = IORING_OP_POLL_ADD, .fd = ends[0], .poll32_events = POLLIN});
     WANT(enter(&ring, 1, 0, NULL) == 1);
     int before = count_descriptors();
     WANT(pthread_attr_init(&attributes) == 0 && pthread_attr_setstacksize(&attributes, 65536) == 0);

@@ -1,5 +1,6 @@
-/* What the programs share whose calls that change files are put into a log: files, a ring, and what stands in the log. They are linked with nothing of
- * ours, and run by uring-run, in a folder that counts as the disk.
+/* What the programs share whose calls that change files are put into a log: files, a ring, and what
+ * stands in the log. They are linked with nothing of ours, and run by uring-run, in a folder that
+ * counts as the disk.
  */
 #ifndef LOGGED_H
 #define LOGGED_H
@@ -34,10 +35,13 @@ static inline long do_by_ring(const struct ring *ring, struct io_uring_sqe entry
     __atomic_store_n((uint32_t *)(ring->sq + ring->params.sq_off.tail), ++tail, __ATOMIC_RELEASE);
     WANT(enter(ring, 1, 1, NULL) == 1);
     __atomic_store_n((uint32_t *)(ring->sq + ring->params.cq_off.head), tail, __ATOMIC_RELEASE);
-    return ((struct io_uring_cqe *)(ring->cq + ring->params.cq_off.cqes))[(tail - 1) % ring->params.cq_entries].res;
+    return ((struct io_uring_cqe *)(ring->cq +
+                                    ring->params.cq_off.cqes))[(tail - 1) % ring->params.cq_entries]
+        .res;
 }
 
-/* The last event of the log that is of this kind, and of an operation of a ring's or a call; how many there are; and where its bytes stand. */
+/* The last event of the log that is of this kind, and of an operation of a ring's or a call; how
+ * many there are; and where its bytes stand. */
 struct found_event {
     struct event event;
     size_t count;
@@ -55,7 +59,8 @@ static inline struct found_event find_event(uint16_t kind, bool is_of_ring)
     for (ssize_t at = 0; at < length; at += event.size) {
         memcpy(&event, log + at, sizeof event);
         if (event.kind == kind && (event.operation != 0) == is_of_ring)
-            found = (struct found_event){event, found.count + 1, log + at + event.size - event.bytes};
+            found = (struct found_event){
+                event, found.count + 1, log + at + event.size - event.bytes};
     }
     return found;
 }

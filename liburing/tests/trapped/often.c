@@ -1,9 +1,11 @@
-/* A program that is linked with nothing of ours and calls io_uring_enter often at one place, so that uring-run rewrites it: which calls are, and who
- * may call there: handlers, threads, small stacks, coroutines and children.
+/* A program that is linked with nothing of ours and calls io_uring_enter often at one place, so
+ * that uring-run rewrites it: which calls are, and who may call there: handlers, threads, small
+ * stacks, coroutines and children.
  *
  *   often places | signals | threads | small | fork | cancel | lines [WORD]
  *
- * With another word nothing is to be rewritten. Status 0: all was as it is to be. Else a line says what wasn't.
+ * With another word nothing is to be rewritten. Status 0: all was as it is to be. Else a line says
+ * what wasn't.
  */
 #define _GNU_SOURCE
 #include "rewritten.h"
@@ -27,9 +29,11 @@ static void try_places(void)
     no_ops(&ring, jumped, OFTEN);
     no_ops(&ring, plain, OFTEN);
     errno = 5;
-    WANT(plain(-1, 0, 0, 0, NULL, 8) == -EBADF && jumped(-1, 0, 0, 0, NULL, 8) == -EBADF && errno == 5);
+    WANT(plain(-1, 0, 0, 0, NULL, 8) == -EBADF && jumped(-1, 0, 0, 0, NULL, 8) == -EBADF &&
+         errno == 5);
     /* Code of the program's own making. */
-    uint8_t *made = mmap(NULL, 4096, PROT_READ | PROT_WRITE | PROT_EXEC, MAP_PRIVATE | MAP_ANONYMOUS, -1, 0);
+    uint8_t *made = mmap(
+        NULL, 4096, PROT_READ | PROT_WRITE | PROT_EXEC, MAP_PRIVATE | MAP_ANONYMOUS, -1, 0);
     WANT(made != MAP_FAILED);
     memcpy(made, "\x49\x89\xca\xb8\xaa\x01\x00\x00\x0f\x05\xc3", 11);
     no_ops(&ring, (call_function *)(uintptr_t)made, OFTEN);
@@ -48,7 +52,8 @@ static void call_in_handler(int number)
 
 static void every(long microseconds)
 {
-    const struct itimerval time = {.it_value.tv_usec = microseconds, .it_interval.tv_usec = microseconds};
+    const struct itimerval time = {
+        .it_value.tv_usec = microseconds, .it_interval.tv_usec = microseconds};
     WANT(setitimer(ITIMER_REAL, &time, NULL) == 0);
 }
 
@@ -66,7 +71,8 @@ static void meet_signals(void)
         want_registers(&ring, i);
     WANT(handled > 0);
     every(20000);
-    publish(&ring, (struct io_uring_sqe){.opcode = IORING_OP_POLL_ADD, .fd = ends[0], .poll32_events = POLLIN});
+    publish(&ring, (struct io_uring_sqe){
+                       .opcode = IORING_OP_POLL_ADD, .fd = ends[0], .poll32_events = POLLIN});
     WANT(plain(ring.fd, 1, 0, IORING_ENTER_GETEVENTS, NULL, 0) == 1);
     for (int i = 0; i < 5; i++) {
         handled = 0;
@@ -78,8 +84,10 @@ static void meet_signals(void)
     WANT(sigprocmask(SIG_SETMASK, &mask, NULL) == 0 && raise(SIGALRM) == 0);
     handled = 0;
     no_ops(&of_handler, plain, 1);
-    WANT(handled == 0 && plain(ring.fd, 0, 1, IORING_ENTER_GETEVENTS, &none, 8) == -EINTR && handled == 1);
-    WANT(sigprocmask(SIG_SETMASK, NULL, &none) == 0 && sigismember(&none, SIGALRM) && !sigismember(&none, SIGUSR1));
+    WANT(handled == 0 && plain(ring.fd, 0, 1, IORING_ENTER_GETEVENTS, &none, 8) == -EINTR &&
+         handled == 1);
+    WANT(sigprocmask(SIG_SETMASK, NULL, &none) == 0 && sigismember(&none, SIGALRM) &&
+         !sigismember(&none, SIGUSR1));
     want_rewritten(plain, true);
 }
 
@@ -98,22 +106,26 @@ static void *meet_signals_beside(void *none)
     return none;
 }
 
-/* Signals come at any time, and their handlers call too; one ends a call that waits. In a thread with a stack for signals they come once
- * on that one, and once on the one on which it calls; so in one with a stack that is small, which calls on another, too. */
+/* Signals come at any time, and their handlers call too; one ends a call that waits. In a thread
+ * with a stack for signals they come once on that one, and once on the one on which it calls; so in
+ * one with a stack that is small, which calls on another, too. */
 static void signals(void)
 {
     struct sigaction action = {.sa_handler = call_in_handler};
     pthread_attr_t attributes;
     pthread_t started;
     sigset_t all;
-    WANT(sigaction(SIGALRM, &action, NULL) == 0 && pthread_attr_init(&attributes) == 0 && pthread_attr_setstacksize(&attributes, 1 << 16) == 0);
+    WANT(sigaction(SIGALRM, &action, NULL) == 0 && pthread_attr_init(&attributes) == 0 &&
+         pthread_attr_setstacksize(&attributes, 1 << 16) == 0);
     meet_signals();
     sigfillset(&all);
     pthread_sigmask(SIG_SETMASK, &all, NULL);
     for (int i = 0; i < 4; i++) {
         action.sa_flags = i < 2 ? 0 : SA_ONSTACK;
         WANT(sigaction(SIGALRM, &action, NULL) == 0);
-        WANT(pthread_create(&started, i % 2 == 0 ? NULL : &attributes, meet_signals_beside, NULL) == 0 && pthread_join(started, NULL) == 0);
+        WANT(pthread_create(&started, i % 2 == 0 ? NULL : &attributes, meet_signals_beside, NULL) ==
+                 0 &&
+             pthread_join(started, NULL) == 0);
     }
 }
 
@@ -160,8 +172,10 @@ static void call_in_coroutine(void)
 static void run_coroutine(size_t size)
 {
     const size_t page = 4096, room = (size + page - 1) / page * page;
-    char *memory = mmap(NULL, page + room, PROT_READ | PROT_WRITE, MAP_PRIVATE | MAP_ANONYMOUS, -1, 0);
-    WANT(memory != MAP_FAILED && mprotect(memory, page, PROT_NONE) == 0 && getcontext(&inside) == 0);
+    char *memory = mmap(
+        NULL, page + room, PROT_READ | PROT_WRITE, MAP_PRIVATE | MAP_ANONYMOUS, -1, 0);
+    WANT(
+        memory != MAP_FAILED && mprotect(memory, page, PROT_NONE) == 0 && getcontext(&inside) == 0);
     inside.uc_stack = (stack_t){.ss_sp = memory + page, .ss_size = size};
     inside.uc_link = &outside;
     makecontext(&inside, call_in_coroutine, 0);
@@ -178,15 +192,18 @@ static void call_beside(char *memory, size_t size)
     WANT(sigaltstack(&none, NULL) == 0);
 }
 
-/* Its calls are rewritten on the stack that it was made with: then it calls at the same place on others, some so small that a trap has no room, and in the end
- * on that one again. */
+/* Its calls are rewritten on the stack that it was made with: then it calls at the same place on
+ * others, some so small that a trap has no room, and in the end on that one again. */
 static void *call_on_others(void *none)
 {
     enum { PAGE = 4096, ROOM = 3 * PAGE };
     const struct sigaction action = {.sa_handler = call_in_handler, .sa_flags = SA_ONSTACK};
-    char *memory = mmap(NULL, PAGE + ROOM, PROT_READ | PROT_WRITE, MAP_PRIVATE | MAP_ANONYMOUS, -1, 0), within[ROOM + 64];
+    char *memory = mmap(
+             NULL, PAGE + ROOM, PROT_READ | PROT_WRITE, MAP_PRIVATE | MAP_ANONYMOUS, -1, 0),
+         within[ROOM + 64];
     of_handler = set_up();
-    WANT(memory != MAP_FAILED && mprotect(memory, PAGE, PROT_NONE) == 0 && sigaction(SIGUSR1, &action, NULL) == 0);
+    WANT(memory != MAP_FAILED && mprotect(memory, PAGE, PROT_NONE) == 0 &&
+         sigaction(SIGUSR1, &action, NULL) == 0);
     memset(within, 7, sizeof within);
     no_ops(&of_handler, plain, OFTEN);
     call_beside(memory + PAGE, ROOM);
@@ -207,10 +224,12 @@ static void small(void)
     pthread_attr_init(&attributes);
     WANT(pthread_attr_setstacksize(&attributes, 16384) == 0);
     for (int i = 0; i < 3; i++)
-        WANT(pthread_create(&started, &attributes, call_on_small, NULL) == 0 && pthread_join(started, NULL) == 0);
+        WANT(pthread_create(&started, &attributes, call_on_small, NULL) == 0 &&
+             pthread_join(started, NULL) == 0);
     want_rewritten(plain, true);
     call_on_others(NULL);
-    WANT(pthread_create(&started, NULL, call_on_others, NULL) == 0 && pthread_join(started, NULL) == 0);
+    WANT(pthread_create(&started, NULL, call_on_others, NULL) == 0 &&
+         pthread_join(started, NULL) == 0);
 }
 
 static void want_success(pid_t child)
@@ -272,7 +291,8 @@ static void cancel(void)
         shared_ring = set_up();
         WANT(pthread_create(&started, NULL, call_for_ever, NULL) == 0);
         usleep(1000);
-        WANT(pthread_cancel(started) == 0 && pthread_join(started, &result) == 0 && result == PTHREAD_CANCELED);
+        WANT(pthread_cancel(started) == 0 && pthread_join(started, &result) == 0 &&
+             result == PTHREAD_CANCELED);
         no_ops(&shared_ring, plain, 4);
         close(shared_ring.fd);
     }
@@ -288,7 +308,9 @@ static void lines(void)
 
 int main(int argc, char **argv)
 {
-    static const struct mode modes[] = {{"places", try_places}, {"signals", signals}, {"threads", threads}, {"small", small}, {"fork", forked}, {"cancel", cancel}, {"lines", lines}};
+    static const struct mode modes[] = {{"places", try_places}, {"signals", signals},
+        {"threads", threads}, {"small", small}, {"fork", forked}, {"cancel", cancel},
+        {"lines", lines}};
     is_none_wanted = argc > 2;
     return run_mode(modes, sizeof modes / sizeof *modes, argc, argv);
 }

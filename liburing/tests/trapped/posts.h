@@ -1,4 +1,5 @@
-/* Calls in which a ring of such a program posts a completion, and how often the process has written. */
+/* Calls in which a ring of such a program posts a completion, and how often the process has
+ * written. */
 #ifndef POSTS_H
 #define POSTS_H
 
@@ -20,14 +21,16 @@ static inline void put(const struct ring *ring, struct io_uring_sqe entry)
 static inline int reap(const struct ring *ring)
 {
     uint32_t *head = (uint32_t *)(ring->cq + ring->params.cq_off.head);
-    uint32_t tail = __atomic_load_n((uint32_t *)(ring->cq + ring->params.cq_off.tail), __ATOMIC_ACQUIRE);
+    uint32_t tail = __atomic_load_n(
+        (uint32_t *)(ring->cq + ring->params.cq_off.tail), __ATOMIC_ACQUIRE);
     const struct io_uring_cqe *completions = (const void *)(ring->cq + ring->params.cq_off.cqes);
     WANT(tail != *head);
     __atomic_store_n(head, tail, __ATOMIC_RELEASE);
     return completions[(tail - 1) & (ring->params.cq_entries - 1)].res;
 }
 
-/* A call in which one completion is posted, which is reaped then: the descriptor stays readable, since no call has heard of that. */
+/* A call in which one completion is posted, which is reaped then: the descriptor stays readable,
+ * since no call has heard of that. */
 static inline void post(const struct ring *ring)
 {
     put(ring, (struct io_uring_sqe){.opcode = IORING_OP_NOP});

@@ -1,4 +1,5 @@
-/* Runs a program that dies if a call of io_uring reaches the kernel, so that what it shows is the layer's.
+/* Runs a program that dies if a call of io_uring reaches the kernel, so that what it shows is the
+ * layer's.
  *
  *   refuse PROGRAM WORD..    runs the program
  *   refuse --call            makes such a call itself, and so dies if it runs under another
@@ -24,7 +25,8 @@ static int refuse_calls(void)
         BPF_STMT(BPF_RET | BPF_K, SECCOMP_RET_KILL_PROCESS),
     };
     struct sock_fprog program = {.len = sizeof lines / sizeof *lines, .filter = lines};
-    return prctl(PR_SET_NO_NEW_PRIVS, 1, 0, 0, 0) || prctl(PR_SET_SECCOMP, SECCOMP_MODE_FILTER, &program);
+    return prctl(PR_SET_NO_NEW_PRIVS, 1, 0, 0, 0) ||
+           prctl(PR_SET_SECCOMP, SECCOMP_MODE_FILTER, &program);
 }
 
 int main(int argc, char **argv)

@@ -1,4 +1,5 @@
-/* Rings of a program that calls io_uring_enter often at one place, so that uring-run rewrites it, and what is wanted of such a place. */
+/* Rings of a program that calls io_uring_enter often at one place, so that uring-run rewrites it,
+ * and what is wanted of such a place. */
 #ifndef REWRITTEN_H
 #define REWRITTEN_H
 
@@ -14,12 +15,12 @@
 #include <sys/mman.h>
 #include <unistd.h>
 
-#define WANT(is_so)                                                                                                    \
-    do {                                                                                                               \
-        if (!(is_so)) {                                                                                                \
-            fprintf(stderr, "%s: line %d: %s\n", program_invocation_short_name, __LINE__, #is_so);                         \
-            _exit(1 + __LINE__ % 120);                                                                                 \
-        }                                                                                                              \
+#define WANT(is_so) \
+    do { \
+        if (!(is_so)) { \
+            fprintf(stderr, "%s: line %d: %s\n", program_invocation_short_name, __LINE__, #is_so); \
+            _exit(1 + __LINE__ % 120); \
+        } \
     } while (0)
 
 enum { OFTEN = 40, NUMBER_AT = 3, NUMBER = 0xb8, JUMP = 0xe9 };
@@ -39,8 +40,10 @@ static inline struct ring set_up(void)
     ring.fd = (int)syscall(SYS_io_uring_setup, 4, &ring.params);
     WANT(ring.fd >= 0);
     size_t size = ring.params.cq_off.cqes + ring.params.cq_entries * sizeof(struct io_uring_cqe);
-    ring.sq = ring.cq = mmap(NULL, size, PROT_READ | PROT_WRITE, MAP_SHARED, ring.fd, IORING_OFF_SQ_RING);
-    ring.entries = mmap(NULL, ring.params.sq_entries * sizeof *ring.entries, PROT_READ | PROT_WRITE, MAP_SHARED, ring.fd, IORING_OFF_SQES);
+    ring.sq = ring.cq = mmap(
+        NULL, size, PROT_READ | PROT_WRITE, MAP_SHARED, ring.fd, IORING_OFF_SQ_RING);
+    ring.entries = mmap(NULL, ring.params.sq_entries * sizeof *ring.entries, PROT_READ | PROT_WRITE,
+        MAP_SHARED, ring.fd, IORING_OFF_SQES);
     WANT(ring.sq != MAP_FAILED && ring.entries != MAP_FAILED);
     return ring;
 }
@@ -58,8 +61,10 @@ static inline void publish(const struct ring *ring, struct io_uring_sqe entry)
 static inline uint64_t reap(const struct ring *ring)
 {
     uint32_t *head = (uint32_t *)(ring->cq + ring->params.cq_off.head);
-    const struct io_uring_cqe *completions = (struct io_uring_cqe *)(ring->cq + ring->params.cq_off.cqes);
-    if (*head == __atomic_load_n((uint32_t *)(ring->cq + ring->params.cq_off.tail), __ATOMIC_ACQUIRE))
+    const struct io_uring_cqe *completions = (struct io_uring_cqe *)(ring->cq +
+                                                                     ring->params.cq_off.cqes);
+    if (*head ==
+        __atomic_load_n((uint32_t *)(ring->cq + ring->params.cq_off.tail), __ATOMIC_ACQUIRE))
         return 0;
     uint64_t found = completions[*head & (ring->params.cq_entries - 1)].user_data;
     __atomic_store_n(head, *head + 1, __ATOMIC_RELEASE);
@@ -106,7 +111,8 @@ __attribute__((noinline)) static void want_registers(const struct ring *ring, ui
     fill_vectors(is_whole, salt);
     publish(ring, (struct io_uring_sqe){.opcode = IORING_OP_NOP, .user_data = salt});
     call_with_registers(is_whole);
-    WANT(memcmp(seen.after, arguments, sizeof arguments) == 0 && seen.after[6] == seen.frame && memcmp(seen.after + 7, others, sizeof others) == 0);
+    WANT(memcmp(seen.after, arguments, sizeof arguments) == 0 && seen.after[6] == seen.frame &&
+         memcmp(seen.after + 7, others, sizeof others) == 0);
     WANT(memcmp(seen.vectors, seen.vectors_after, sizeof seen.vectors) == 0);
     WANT(reap(ring) == salt);
 }

@@ -1,4 +1,5 @@
-/* A program that is linked with nothing of ours, and calls where stacks are small, and waits with masks. It is run by uring-run.
+/* A program that is linked with nothing of ours, and calls where stacks are small, and waits with
+ * masks. It is run by uring-run.
  *
  *   stacks masks | small | deep | keys | memory
  *
@@ -57,7 +58,8 @@ static void masks(void)
     called = &other;
     sigemptyset(&own);
     sigaddset(&own, SIGUSR1);
-    WANT(sigaction(SIGUSR1, &action, NULL) == 0 && sigprocmask(SIG_BLOCK, &own, NULL) == 0 && raise(SIGUSR1) == 0);
+    WANT(sigaction(SIGUSR1, &action, NULL) == 0 && sigprocmask(SIG_BLOCK, &own, NULL) == 0 &&
+         raise(SIGUSR1) == 0);
     sigfillset(&all);
     sigdelset(&all, SIGUSR1);
     memcpy(&word, &all, sizeof word);
@@ -67,12 +69,14 @@ static void masks(void)
     want_call(epoll_pwait(instance, &event, 1, 10000, &all) < 0);
     want_call(epoll_pwait2(instance, &event, 1, &soon, &all) < 0);
     WANT(pipe(ends) == 0);
-    publish(&ring, (struct io_uring_sqe){.opcode = IORING_OP_POLL_ADD, .fd = ends[0], .poll32_events = POLLIN});
+    publish(&ring, (struct io_uring_sqe){
+                       .opcode = IORING_OP_POLL_ADD, .fd = ends[0], .poll32_events = POLLIN});
     WANT(enter(&ring, 1, 0, NULL) == 1);
     want_call(enter(&ring, 0, 1, &word) < 0);
     sigfillset(&all);
     WANT(pthread_attr_init(&attributes) == 0 && pthread_attr_setsigmask_np(&attributes, &all) == 0);
-    WANT(pthread_create(&thread, &attributes, call_once, NULL) == 0 && pthread_join(thread, NULL) == 0);
+    WANT(pthread_create(&thread, &attributes, call_once, NULL) == 0 &&
+         pthread_join(thread, NULL) == 0);
 }
 
 struct small {
@@ -81,21 +85,27 @@ struct small {
     int ends[2];
 };
 
-/* No function of the program's has room to spare: an open, a read that waits, and as many no-ops as it takes to have the call rewritten. */
+/* No function of the program's has room to spare: an open, a read that waits, and as many no-ops as
+ * it takes to have the call rewritten. */
 static void *call_on_small(void *of)
 {
     struct small *small = of;
     struct ring *ring = &small->ring;
     uint32_t *tail = (uint32_t *)(ring->sq + ring->params.sq_off.tail);
-    ring->entries[0] = (struct io_uring_sqe){.opcode = IORING_OP_OPENAT, .fd = AT_FDCWD, .addr = (uintptr_t)"/dev/null"};
+    ring->entries[0] = (struct io_uring_sqe){
+        .opcode = IORING_OP_OPENAT, .fd = AT_FDCWD, .addr = (uintptr_t) "/dev/null"};
     for (uint32_t i = 0; i < 40; i++) {
         if (i == 1)
-            ring->entries[0] = (struct io_uring_sqe){.opcode = IORING_OP_READ, .fd = small->ends[0], .addr = (uintptr_t)small->byte, .len = 1};
+            ring->entries[0] = (struct io_uring_sqe){.opcode = IORING_OP_READ,
+                .fd = small->ends[0],
+                .addr = (uintptr_t)small->byte,
+                .len = 1};
         else if (i > 1)
             ring->entries[0] = (struct io_uring_sqe){.opcode = IORING_OP_NOP};
         __atomic_store_n(tail, i + 1, __ATOMIC_RELEASE);
         WANT(call(SYS_io_uring_enter, ring->fd, 1, 1, IORING_ENTER_GETEVENTS, 0, 0) == 1);
-        __atomic_store_n((uint32_t *)(ring->sq + ring->params.cq_off.head), i + 1, __ATOMIC_RELEASE);
+        __atomic_store_n(
+            (uint32_t *)(ring->sq + ring->params.cq_off.head), i + 1, __ATOMIC_RELEASE);
     }
     return NULL;
 }
@@ -104,7 +114,8 @@ static void *call_on_small(void *of)
 static void *call_beside_signals(void *of)
 {
     const size_t least = getauxval(AT_MINSIGSTKSZ) + 512, size = least > 4096 ? least : 4096;
-    const stack_t signals = {.ss_sp = make_stack(size), .ss_size = size}, none = {.ss_flags = SS_DISABLE};
+    const stack_t signals = {.ss_sp = make_stack(size), .ss_size = size},
+                  none = {.ss_flags = SS_DISABLE};
     WANT(sigaltstack(&signals, NULL) == 0);
     call_on_small(of);
     WANT(sigaltstack(&none, NULL) == 0);
@@ -133,7 +144,8 @@ static void *write_soon(void *of)
     return NULL;
 }
 
-/* Calls on a small stack: a thread's of this size, or another one, in this thread or in one with a stack as it comes. */
+/* Calls on a small stack: a thread's of this size, or another one, in this thread or in one with a
+ * stack as it comes. */
 static void want_calls(void *(*function)(void *), bool is_here, size_t size)
 {
     static char byte;
@@ -142,12 +154,14 @@ static void want_calls(void *(*function)(void *), bool is_here, size_t size)
     pthread_t thread, writer;
     byte = '-';
     small = (struct small){.ring = set_up(0), .byte = &byte};
-    WANT(pipe(small.ends) == 0 && pthread_attr_init(&attributes) == 0 && (size == 0 || pthread_attr_setstacksize(&attributes, size) == 0));
+    WANT(pipe(small.ends) == 0 && pthread_attr_init(&attributes) == 0 &&
+         (size == 0 || pthread_attr_setstacksize(&attributes, size) == 0));
     WANT(pthread_create(&writer, NULL, write_soon, &small) == 0);
     if (is_here)
         function(&small);
     else
-        WANT(pthread_create(&thread, &attributes, function, &small) == 0 && pthread_join(thread, NULL) == 0);
+        WANT(pthread_create(&thread, &attributes, function, &small) == 0 &&
+             pthread_join(thread, NULL) == 0);
     WANT(pthread_join(writer, NULL) == 0 && byte == 'x');
 }
 
@@ -169,7 +183,8 @@ static void note_place(int number)
     handled_at = (uintptr_t)__builtin_frame_address(0);
 }
 
-/* How much of a stack the kernel's part of a signal takes, which may be less than it may take at most. */
+/* How much of a stack the kernel's part of a signal takes, which may be less than it may take at
+ * most. */
 static size_t size_of_signal(void)
 {
     const struct sigaction action = {.sa_handler = note_place};
@@ -184,8 +199,11 @@ static void *call_deep(void *of)
     pthread_attr_t attributes;
     void *lowest;
     size_t size;
-    WANT(pthread_getattr_np(pthread_self(), &attributes) == 0 && pthread_attr_getstack(&attributes, &lowest, &size) == 0 && pthread_attr_destroy(&attributes) == 0);
-    volatile char *taken = alloca((uintptr_t)__builtin_frame_address(0) - (uintptr_t)lowest - least);
+    WANT(pthread_getattr_np(pthread_self(), &attributes) == 0 &&
+         pthread_attr_getstack(&attributes, &lowest, &size) == 0 &&
+         pthread_attr_destroy(&attributes) == 0);
+    volatile char *taken = alloca(
+        (uintptr_t)__builtin_frame_address(0) - (uintptr_t)lowest - least);
     taken[0] = 1;
     return call_on_small(of);
 }
@@ -244,11 +262,13 @@ static void no_memory(void)
     pthread_t thread;
     called = &ring;
     WANT(pthread_attr_init(&attributes) == 0 && pthread_attr_setstacksize(&attributes, 65536) == 0);
-    WANT(pthread_create(&thread, &attributes, call_without_memory, &ring) == 0 && pthread_join(thread, NULL) == 0);
+    WANT(pthread_create(&thread, &attributes, call_without_memory, &ring) == 0 &&
+         pthread_join(thread, NULL) == 0);
 }
 
 int main(int argc, char **argv)
 {
-    static const struct mode modes[] = {{"masks", masks}, {"small", small_stacks}, {"deep", deep_stacks}, {"keys", all_keys}, {"memory", no_memory}};
+    static const struct mode modes[] = {{"masks", masks}, {"small", small_stacks},
+        {"deep", deep_stacks}, {"keys", all_keys}, {"memory", no_memory}};
     return run_mode(modes, sizeof modes / sizeof *modes, argc, argv);
 }

@@ -1,7 +1,9 @@
-/* A program that is linked with nothing of ours and calls io_uring by the processor's own instruction. Run by uring-run
- * its rings are the layer's, which it sees by their descriptors: those are epoll instances.
+/* A program that is linked with nothing of ours and calls io_uring by the processor's own
+ * instruction. Run by uring-run its rings are the layer's, which it sees by their descriptors:
+ * those are epoll instances.
  *
- *   trapped begins | nop | shared | blocked | signals | registers | issuers | threads | fork | vfork | exec | list | spawn | shell | preload | fifo | sqpoll | static PROGRAM
+ *   trapped begins | nop | shared | blocked | signals | registers | issuers | threads | fork |
+ * vfork | exec | list | spawn | shell | preload | fifo | sqpoll | static PROGRAM
  *
  * Status 0: all was as it is to be. Else a line says what wasn't.
  */
@@ -19,7 +21,8 @@
 #include <sys/wait.h>
 #include <wordexp.h>
 
-/* A program begins as it does by itself: with no error, with the signals that Python ignores, and without what Python sets. */
+/* A program begins as it does by itself: with no error, with the signals that Python ignores, and
+ * without what Python sets. */
 static void begins(int error)
 {
     WANT(error == 0);
@@ -34,9 +37,14 @@ static void mapped(void)
     void *place = mmap(NULL, 4096, PROT_NONE, MAP_PRIVATE | MAP_ANONYMOUS, -1, 0);
     void *words = mmap(NULL, 4096, PROT_READ, MAP_SHARED, ring.fd, IORING_OFF_SQ_RING);
     WANT(place != MAP_FAILED && words != MAP_FAILED && mprotect(words, 4096, PROT_NONE) == 0);
-    WANT(mmap(place, 4096, PROT_READ | PROT_WRITE, MAP_SHARED, ring.fd, IORING_OFF_SQES) == MAP_FAILED && errno == EINVAL);
-    WANT(mmap(place, 4096, PROT_READ | PROT_WRITE, MAP_SHARED | MAP_FIXED_NOREPLACE, ring.fd, IORING_OFF_SQES) == MAP_FAILED && errno == EINVAL);
-    WANT(mmap(NULL, 4096, PROT_READ, MAP_SHARED, ring.fd, 1 << 29) == MAP_FAILED && errno == ENOMEM);
+    WANT(mmap(place, 4096, PROT_READ | PROT_WRITE, MAP_SHARED, ring.fd, IORING_OFF_SQES) ==
+             MAP_FAILED &&
+         errno == EINVAL);
+    WANT(mmap(place, 4096, PROT_READ | PROT_WRITE, MAP_SHARED | MAP_FIXED_NOREPLACE, ring.fd,
+             IORING_OFF_SQES) == MAP_FAILED &&
+         errno == EINVAL);
+    WANT(
+        mmap(NULL, 4096, PROT_READ, MAP_SHARED, ring.fd, 1 << 29) == MAP_FAILED && errno == ENOMEM);
     WANT(close(ring.fd) == 0);
 }
 
@@ -52,8 +60,10 @@ static void shared(void)
     WANT(pread(file, &letter, 1, 4096) == 1 && letter == 's');
     const char *seen = mmap(NULL, 4096, PROT_READ, MAP_SHARED, file, 4096);
     WANT(seen != MAP_FAILED && *seen == 's');
-    WANT(mmap(NULL, 4096, PROT_READ | PROT_WRITE, MAP_SHARED, all, 0) == MAP_FAILED && errno == ENODEV);
-    WANT(mmap(NULL, 4096, PROT_READ | PROT_WRITE, MAP_SHARED, -1, 0) == MAP_FAILED && errno == EBADF);
+    WANT(mmap(NULL, 4096, PROT_READ | PROT_WRITE, MAP_SHARED, all, 0) == MAP_FAILED &&
+         errno == ENODEV);
+    WANT(mmap(NULL, 4096, PROT_READ | PROT_WRITE, MAP_SHARED, -1, 0) == MAP_FAILED &&
+         errno == EBADF);
     mapped();
     no_op();
 }
@@ -96,24 +106,28 @@ static void want_mask(const sigset_t *wanted)
         WANT(sigismember(&mask, number) == sigismember(wanted, number));
 }
 
-/* A trapped call leaves the thread's mask as it was, sleeps with it, or with the one that it is given, and is ended by a signal. */
+/* A trapped call leaves the thread's mask as it was, sleeps with it, or with the one that it is
+ * given, and is ended by a signal. */
 static void signals(void)
 {
     const uint64_t none = 0;
     const struct sigaction action = {.sa_handler = count_signal};
     sigset_t mask;
     int ends[2];
-    WANT(pipe(ends) == 0 && sigaction(SIGALRM, &action, NULL) == 0 && sigaction(SIGUSR1, &action, NULL) == 0);
+    WANT(pipe(ends) == 0 && sigaction(SIGALRM, &action, NULL) == 0 &&
+         sigaction(SIGUSR1, &action, NULL) == 0);
     sigemptyset(&mask);
     sigaddset(&mask, SIGUSR1);
     WANT(sigprocmask(SIG_SETMASK, &mask, NULL) == 0);
     WANT(raise(SIGUSR1) == 0);
     struct ring ring = set_up(0);
     want_mask(&mask);
-    publish(&ring, (struct io_uring_sqe){.opcode = IORING_OP_POLL_ADD, .fd = ends[0], .poll32_events = POLLIN});
+    publish(&ring, (struct io_uring_sqe){
+                       .opcode = IORING_OP_POLL_ADD, .fd = ends[0], .poll32_events = POLLIN});
     WANT(enter(&ring, 1, 0, NULL) == 1);
     want_mask(&mask);
-    const struct itimerval soon = {.it_value.tv_usec = 20000, .it_interval.tv_usec = 20000}, never = {.it_value.tv_usec = 0};
+    const struct itimerval soon = {.it_value.tv_usec = 20000, .it_interval.tv_usec = 20000},
+                           never = {.it_value.tv_usec = 0};
     WANT(setitimer(ITIMER_REAL, &soon, NULL) == 0);
     WANT(enter(&ring, 0, 1, NULL) == -EINTR);
     WANT(setitimer(ITIMER_REAL, &never, NULL) == 0);
@@ -125,7 +139,8 @@ static void signals(void)
     want_mask(&mask);
 }
 
-/* A trapped call changes the result's register and the two that every call changes, and nothing else. */
+/* A trapped call changes the result's register and the two that every call changes, and nothing
+ * else. */
 static void registers(void)
 {
     struct ring ring = set_up(0);
@@ -136,7 +151,8 @@ static void registers(void)
     fill_vectors(is_whole, 1);
     publish(&ring, (struct io_uring_sqe){.opcode = IORING_OP_NOP, .user_data = 77});
     call_with_registers(is_whole);
-    WANT(memcmp(seen.after, arguments, sizeof arguments) == 0 && seen.after[6] == seen.frame && memcmp(seen.after + 7, others, sizeof others) == 0);
+    WANT(memcmp(seen.after, arguments, sizeof arguments) == 0 && seen.after[6] == seen.frame &&
+         memcmp(seen.after + 7, others, sizeof others) == 0);
     WANT(memcmp(seen.vectors, seen.vectors_after, sizeof seen.vectors) == 0);
 }
 
@@ -148,7 +164,8 @@ static void *call_from_another(void *of)
     return NULL;
 }
 
-/* A ring that belongs to one thread: to another it says so; a child may have one too, and so may a thread of the child. */
+/* A ring that belongs to one thread: to another it says so; a child may have one too, and so may a
+ * thread of the child. */
 static void issuers(void)
 {
     pthread_t other;
@@ -250,14 +267,17 @@ static void expand(const char *self)
     char line[4200];
     wordexp_t words;
     snprintf(line, sizeof line, "$(%s nop && echo succeeds)", self);
-    WANT(wordexp(line, &words, 0) == 0 && words.we_wordc == 1 && strcmp(words.we_wordv[0], "succeeds") == 0);
+    WANT(wordexp(line, &words, 0) == 0 && words.we_wordc == 1 &&
+         strcmp(words.we_wordv[0], "succeeds") == 0);
     wordfree(&words);
 }
 
-/* A surrounding that preloads another library, or none, keeps what it has, and reaches the program that is started all the same. */
+/* A surrounding that preloads another library, or none, keeps what it has, and reaches the program
+ * that is started all the same. */
 static void preloaded(const char *self)
 {
-    static char *const lists[] = {"LD_PRELOAD=", "LD_PRELOAD=libm.so.6", "LD_PRELOAD=libc.so.6 libm.so.6"};
+    static char *const lists[] = {
+        "LD_PRELOAD=", "LD_PRELOAD=libm.so.6", "LD_PRELOAD=libc.so.6 libm.so.6"};
     for (int i = 0; i < 3; i++) {
         char *const surrounding[] = {lists[i], NULL};
         vforked(self, surrounding);
@@ -316,8 +336,16 @@ int main(int argc, char **argv)
 {
     int error = errno;
     static const struct mode modes[] = {
-        {"nop", no_op}, {"shared", shared}, {"blocked", blocked}, {"signals", signals}, {"registers", registers}, {"issuers", issuers}, {"threads", threads},
-        {"fork", forked}, {"fifo", started_fifo}, {"sqpoll", sqpoll},
+        {"nop", no_op},
+        {"shared", shared},
+        {"blocked", blocked},
+        {"signals", signals},
+        {"registers", registers},
+        {"issuers", issuers},
+        {"threads", threads},
+        {"fork", forked},
+        {"fifo", started_fifo},
+        {"sqpoll", sqpoll},
     };
     static char self[4096];
     const char *name = argc > 1 ? argv[1] : "";
@@ -326,7 +354,8 @@ int main(int argc, char **argv)
         begins(error);
     else if (strcmp(name, "static") == 0 && argc > 2)
         execl(argv[2], argv[2], "nop", NULL);
-    else if (run_mode(modes, sizeof modes / sizeof *modes, argc, argv) != 0 && !is_started(name, self))
+    else if (run_mode(modes, sizeof modes / sizeof *modes, argc, argv) != 0 &&
+             !is_started(name, self))
         return 2;
     return 0;
 }

@@ -16,12 +16,12 @@
 #include <sys/syscall.h>
 #include <unistd.h>
 
-#define WANT(is_so)                                                                                                    \
-    do {                                                                                                               \
-        if (!(is_so)) {                                                                                                \
-            fprintf(stderr, "%s: line %d: %s\n", __FILE__, __LINE__, #is_so);                                               \
-            _exit(1 + __LINE__ % 120);                                                                                 \
-        }                                                                                                              \
+#define WANT(is_so) \
+    do { \
+        if (!(is_so)) { \
+            fprintf(stderr, "%s: line %d: %s\n", __FILE__, __LINE__, #is_so); \
+            _exit(1 + __LINE__ % 120); \
+        } \
     } while (0)
 
 /* Ends the program if it hangs: after so many seconds, or as many times that as PATIENCE says. */
@@ -36,7 +36,10 @@ static inline long call(long number, long a, long b, long c, long d, long e, lon
 {
     long result;
     register long fourth __asm__("r10") = d, fifth __asm__("r8") = e, sixth __asm__("r9") = f;
-    __asm__ volatile("syscall" : "=a"(result) : "0"(number), "D"(a), "S"(b), "d"(c), "r"(fourth), "r"(fifth), "r"(sixth) : "rcx", "r11", "memory");
+    __asm__ volatile("syscall"
+                     : "=a"(result)
+                     : "0"(number), "D"(a), "S"(b), "d"(c), "r"(fourth), "r"(fifth), "r"(sixth)
+                     : "rcx", "r11", "memory");
     return result;
 }
 
@@ -102,9 +105,11 @@ static inline void publish(const struct ring *ring, struct io_uring_sqe entry)
     __atomic_store_n((uint32_t *)(ring->sq + ring->params.sq_off.tail), 1, __ATOMIC_RELEASE);
 }
 
-static inline long enter(const struct ring *ring, unsigned to_submit, unsigned min_complete, const uint64_t *signals)
+static inline long enter(
+    const struct ring *ring, unsigned to_submit, unsigned min_complete, const uint64_t *signals)
 {
-    return call(SYS_io_uring_enter, ring->fd, to_submit, min_complete, IORING_ENTER_GETEVENTS, (long)signals, signals ? sizeof *signals : 0);
+    return call(SYS_io_uring_enter, ring->fd, to_submit, min_complete, IORING_ENTER_GETEVENTS,
+        (long)signals, signals ? sizeof *signals : 0);
 }
 
 static inline void no_op_on(const struct ring *ring)

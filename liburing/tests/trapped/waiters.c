@@ -1,10 +1,11 @@
-/* A program that is linked with nothing of ours: who waits for edges of a ring's descriptor (EPOLLET) is told of each call that posts, however he has begun to wait. Until somebody
- * has, no call writes for that.
+/* A program that is linked with nothing of ours: who waits for edges of a ring's descriptor
+ * (EPOLLET) is told of each call that posts, however he has begun to wait. Until somebody has, no
+ * call writes for that.
  *
- *   waiters nobody | others | library | own | generic | copy | nested | changed | ring | poll | child | own_child | sent | started | kept | loaded | threads
- *   waiters starts PROGRAM       one that is linked statically, and is given `loop`
- *   waiters hears FD SOCKET      what `started` and `kept` start,
- *   waiters receives SOCKET      and `sent`
+ *   waiters nobody | others | library | own | generic | copy | nested | changed | ring | poll |
+ * child | own_child | sent | started | kept | loaded | threads waiters starts PROGRAM       one
+ * that is linked statically, and is given `loop` waiters hears FD SOCKET      what `started` and
+ * `kept` start, waiters receives SOCKET      and `sent`
  */
 #define _GNU_SOURCE
 #include "handing.h"
@@ -164,17 +165,25 @@ static void ring_adds(void)
     struct ring ring = used_ring(), other = used_ring();
     struct epoll_event event = {.events = EPOLLIN | EPOLLET};
     int loop = new_loop();
-    put(&other, (struct io_uring_sqe){.opcode = IORING_OP_EPOLL_CTL, .fd = loop, .off = (uint64_t)ring.fd, .len = EPOLL_CTL_ADD, .addr = (uintptr_t)&event});
+    put(&other, (struct io_uring_sqe){.opcode = IORING_OP_EPOLL_CTL,
+                    .fd = loop,
+                    .off = (uint64_t)ring.fd,
+                    .len = EPOLL_CTL_ADD,
+                    .addr = (uintptr_t)&event});
     WANT(enter(&other, 1, 1, NULL) == 1 && reap(&other) == 0);
     want_told(&ring, loop);
 }
 
-/* A ring's poll of another goes on: it tells of what is there, and waits for an edge then, with which it ends. */
+/* A ring's poll of another goes on: it tells of what is there, and waits for an edge then, with
+ * which it ends. */
 static void ring_polls(void)
 {
     struct ring ring = used_ring(), other = used_ring();
     for (int i = 0; i < ROUNDS; i++) {
-        put(&other, (struct io_uring_sqe){.opcode = IORING_OP_POLL_ADD, .fd = ring.fd, .poll32_events = POLLIN, .len = IORING_POLL_ADD_MULTI});
+        put(&other, (struct io_uring_sqe){.opcode = IORING_OP_POLL_ADD,
+                        .fd = ring.fd,
+                        .poll32_events = POLLIN,
+                        .len = IORING_POLL_ADD_MULTI});
         WANT(enter(&other, 1, 1, NULL) == 1 && reap(&other) == POLLIN);
         post(&ring);
         WANT(enter(&other, 0, 1, NULL) == 0 && reap(&other) == POLLIN);
@@ -198,7 +207,8 @@ static void *set_one_up(void *at)
     return NULL;
 }
 
-/* Threads set up rings at once; then one that was there before, and one that wasn't, wait for edges. */
+/* Threads set up rings at once; then one that was there before, and one that wasn't, wait for
+ * edges. */
 static void threads(void)
 {
     enum { MANY = 4 };
@@ -282,7 +292,8 @@ static void receives(int socket)
     hear_for(socket, receive_descriptor(socket), by_library);
 }
 
-/* A program that was there before the ring is sent its descriptor; a message without one tells nobody, and what can't be read is refused. */
+/* A program that was there before the ring is sent its descriptor; a message without one tells
+ * nobody, and what can't be read is refused. */
 static void sent(void)
 {
     int ends[2];
@@ -311,7 +322,8 @@ static pid_t start(int fd, int socket, posix_spawn_file_actions_t *actions)
     return start_with((char *[]){(char *)own_path, "hears", numbers[0], numbers[1], NULL}, actions);
 }
 
-/* A program that is started has no descriptor of the ring's; but one has that is given one as it starts. */
+/* A program that is started has no descriptor of the ring's; but one has that is given one as it
+ * starts. */
 static void started(void)
 {
     struct ring ring = used_ring();
@@ -319,10 +331,12 @@ static void started(void)
     posix_spawn_file_actions_t actions;
     pid_t process;
     make_ends(ends);
-    WANT(posix_spawnp(&process, "true", NULL, NULL, (char *[]){"true", NULL}, environ) == 0 && waitpid(process, &status, 0) == process);
+    WANT(posix_spawnp(&process, "true", NULL, NULL, (char *[]){"true", NULL}, environ) == 0 &&
+         waitpid(process, &status, 0) == process);
     want_writes(&ring, false);
     WANT(posix_spawn_file_actions_init(&actions) == 0);
-    WANT(posix_spawn_file_actions_adddup2(&actions, ends[1], given) == 0 && posix_spawn_file_actions_adddup2(&actions, ring.fd, given + 1) == 0);
+    WANT(posix_spawn_file_actions_adddup2(&actions, ends[1], given) == 0 &&
+         posix_spawn_file_actions_adddup2(&actions, ring.fd, given + 1) == 0);
     post_for(&ring, ends[0], start(given + 1, given, &actions));
 }
 
@@ -343,7 +357,8 @@ static void starts(const char *path)
     struct ring ring = used_ring();
     int status;
     pid_t process;
-    WANT(posix_spawn(&process, path, NULL, NULL, (char *[]){(char *)path, "loop", NULL}, environ) == 0);
+    WANT(posix_spawn(&process, path, NULL, NULL, (char *[]){(char *)path, "loop", NULL}, environ) ==
+         0);
     WANT(waitpid(process, &status, 0) == process && status == 0);
     want_writes(&ring, false);
 }
@@ -352,7 +367,8 @@ static void loop(void)
 {
     int ends[2];
     WANT(pipe(ends) == 0 && write(ends[1], "w", 1) == 1);
-    WANT(is_told(wait_on(ends[0], EPOLLET, by_library)) && is_told(wait_on(ends[0], 0, by_instruction)) && is_told(wait_on(ends[0], 0, by_generic)));
+    WANT(is_told(wait_on(ends[0], EPOLLET, by_library)) &&
+         is_told(wait_on(ends[0], 0, by_instruction)) && is_told(wait_on(ends[0], 0, by_generic)));
 }
 
 int main(int count, char **words)

@@ -1,5 +1,6 @@
-/* Waits of each kind, between two threads: one waits before the other has done what it waits for. Each has the result that the manual pages say, and no thread sleeps in
- * the kernel meanwhile. A word names the mode; without one all are gone through. */
+/* Waits of each kind, between two threads: one waits before the other has done what it waits for.
+ * Each has the result that the manual pages say, and no thread sleeps in the kernel meanwhile. A
+ * word names the mode; without one all are gone through. */
 #define _GNU_SOURCE
 #include <errno.h>
 #include <fcntl.h>
@@ -30,12 +31,12 @@
 #include <time.h>
 #include <unistd.h>
 
-#define DEMAND(it)                                                                  \
-    do {                                                                            \
-        if (!(it)) {                                                                \
-            printf("%s:%d: %s (%s)\n", __FILE__, __LINE__, #it, strerror(errno));   \
-            exit(1);                                                                \
-        }                                                                           \
+#define DEMAND(it) \
+    do { \
+        if (!(it)) { \
+            printf("%s:%d: %s (%s)\n", __FILE__, __LINE__, #it, strerror(errno)); \
+            exit(1); \
+        } \
     } while (0)
 
 /* What the other thread does, once the first waits. */
@@ -112,7 +113,8 @@ static void of_select(void)
     FD_ZERO(&set);
     FD_SET(ends[0], &set);
     pthread_t thread = begin(write_one);
-    DEMAND(select(ends[0] + 1, &set, NULL, NULL, &time) == 1 && FD_ISSET(ends[0], &set) && time.tv_sec == 9);
+    DEMAND(select(ends[0] + 1, &set, NULL, NULL, &time) == 1 && FD_ISSET(ends[0], &set) &&
+           time.tv_sec == 9);
     end(thread);
 }
 
@@ -164,7 +166,9 @@ static void of_messages(void)
     struct message message;
     queue = msgget(IPC_PRIVATE, 0600);
     pthread_t thread = begin(send_message);
-    DEMAND(queue >= 0 && msgrcv(queue, &message, sizeof message.text, 3, 0) == sizeof message.text && strcmp(message.text, "seven") == 0);
+    DEMAND(queue >= 0 &&
+           msgrcv(queue, &message, sizeof message.text, 3, 0) == sizeof message.text &&
+           strcmp(message.text, "seven") == 0);
     end(thread);
     msgctl(queue, IPC_RMID, NULL);
 }
@@ -182,7 +186,7 @@ static void of_queues(void)
     struct mq_attr about = {.mq_maxmsg = 1, .mq_msgsize = sizeof room};
     posix_queue = mq_open("/turns.of.awaits", O_RDWR | O_CREAT, 0600, &about);
     if (posix_queue == (mqd_t)-1)
-        return;     /* (a container may have none) */
+        return; /* (a container may have none) */
     pthread_t thread = begin(send_to_queue);
     DEMAND(mq_receive(posix_queue, room, sizeof room, NULL) == 5);
     end(thread);
@@ -209,7 +213,8 @@ static void of_fifo(void)
     DEMAND(mkfifo(path, 0600) == 0);
     pthread_t thread = begin(open_to_write);
     fd = open(path, O_RDONLY);
-    DEMAND(fd >= 0 && read(fd, &one, 1) == 1 && one == 'y' && read(fd, &one, 1) == 0 && close(fd) == 0);
+    DEMAND(fd >= 0 && read(fd, &one, 1) == 1 && one == 'y' && read(fd, &one, 1) == 0 &&
+           close(fd) == 0);
     end(thread);
     thread = begin(open_to_read);
     fd = open(path, O_WRONLY);
@@ -224,7 +229,8 @@ static void of_splice(void)
     char one;
     DEMAND(pipe(ends) == 0 && pipe(to) == 0);
     pthread_t thread = begin(write_one);
-    DEMAND(splice(ends[0], NULL, to[1], NULL, 100, 0) == 1 && read(to[0], &one, 1) == 1 && one == 'x');
+    DEMAND(
+        splice(ends[0], NULL, to[1], NULL, 100, 0) == 1 && read(to[0], &one, 1) == 1 && one == 'x');
     end(thread);
 }
 
@@ -245,7 +251,8 @@ static struct sockaddr_un address = {.sun_family = AF_UNIX, .sun_path = "turns.o
 static void connect_and_write(void)
 {
     int socket_of_other = socket(AF_UNIX, SOCK_STREAM, 0);
-    DEMAND(connect(socket_of_other, (struct sockaddr *)&address, sizeof address) == 0 && send(socket_of_other, "abc", 3, 0) == 3 && close(socket_of_other) == 0);
+    DEMAND(connect(socket_of_other, (struct sockaddr *)&address, sizeof address) == 0 &&
+           send(socket_of_other, "abc", 3, 0) == 3 && close(socket_of_other) == 0);
 }
 
 static void of_socket(void)
@@ -255,12 +262,14 @@ static void of_socket(void)
     unlink(address.sun_path);
     fd = socket(AF_UNIX, SOCK_STREAM, 0);
     DEMAND(bind(fd, (struct sockaddr *)&address, sizeof address) == 0 && listen(fd, 1) == 0);
-    DEMAND(setsockopt(fd, SOL_SOCKET, SO_RCVTIMEO, &time, sizeof time) == 0 && accept(fd, NULL, NULL) == -1 && errno == EAGAIN);
+    DEMAND(setsockopt(fd, SOL_SOCKET, SO_RCVTIMEO, &time, sizeof time) == 0 &&
+           accept(fd, NULL, NULL) == -1 && errno == EAGAIN);
     memset(&time, 0, sizeof time);
     DEMAND(setsockopt(fd, SOL_SOCKET, SO_RCVTIMEO, &time, sizeof time) == 0);
     pthread_t thread = begin(connect_and_write);
     int accepted = accept(fd, NULL, NULL);
-    DEMAND(accepted >= 0 && recv(accepted, room, sizeof room, MSG_WAITALL) == 3 && memcmp(room, "abc", 3) == 0);
+    DEMAND(accepted >= 0 && recv(accepted, room, sizeof room, MSG_WAITALL) == 3 &&
+           memcmp(room, "abc", 3) == 0);
     end(thread);
     unlink(address.sun_path);
 }
@@ -274,7 +283,8 @@ static void of_files(void)
 {
     fd = open(path, O_RDWR | O_CREAT, 0600);
     int again = open(path, O_RDWR);
-    DEMAND(flock(fd, LOCK_EX) == 0 && flock(again, LOCK_EX | LOCK_NB) == -1 && errno == EWOULDBLOCK);
+    DEMAND(
+        flock(fd, LOCK_EX) == 0 && flock(again, LOCK_EX | LOCK_NB) == -1 && errno == EWOULDBLOCK);
     pthread_t thread = begin(unlock_file);
     DEMAND(flock(again, LOCK_EX) == 0);
     end(thread);
@@ -294,7 +304,8 @@ static void of_time(void)
     const struct timespec hour = {1800, 0};
     uint64_t count, begun = now();
     int timer = timerfd_create(CLOCK_MONOTONIC, 0);
-    DEMAND(timerfd_settime(timer, 0, &spec, NULL) == 0 && read(timer, &count, 8) == 8 && count == 1);
+    DEMAND(
+        timerfd_settime(timer, 0, &spec, NULL) == 0 && read(timer, &count, 8) == 8 && count == 1);
     DEMAND(now() - begun >= 2000000000 && now() - begun < 2100000000);
     DEMAND(read(timer, &count, 8) == 8 && count == 1 && now() - begun >= 3000000000);
     close(timer);
@@ -324,9 +335,11 @@ static void of_signals(void)
     char one;
     signals = 0;
     first = pthread_self();
-    DEMAND(sigaction(SIGUSR1, &action, NULL) == 0 && sigaction(SIGALRM, &action, NULL) == 0 && pipe(ends) == 0);
+    DEMAND(sigaction(SIGUSR1, &action, NULL) == 0 && sigaction(SIGALRM, &action, NULL) == 0 &&
+           pipe(ends) == 0);
     pthread_t thread = begin(signal_first);
-    DEMAND(nanosleep(&long_time, &left) == -1 && errno == EINTR && signals == 1 && left.tv_sec == 99);
+    DEMAND(
+        nanosleep(&long_time, &left) == -1 && errno == EINTR && signals == 1 && left.tv_sec == 99);
     end(thread);
     thread = begin(signal_first);
     DEMAND(read(ends[0], &one, 1) == -1 && errno == EINTR && signals == 2);
@@ -346,7 +359,8 @@ static void of_masks(void)
     sigemptyset(&open);
     sigemptyset(&blocked);
     sigaddset(&blocked, SIGUSR1);
-    DEMAND(sigaction(SIGUSR1, &action, NULL) == 0 && pthread_sigmask(SIG_BLOCK, &blocked, NULL) == 0 && pipe(ends) == 0);
+    DEMAND(sigaction(SIGUSR1, &action, NULL) == 0 &&
+           pthread_sigmask(SIG_BLOCK, &blocked, NULL) == 0 && pipe(ends) == 0);
     struct pollfd polled = {ends[0], POLLIN, 0};
     raise(SIGUSR1);
     DEMAND(signals == 0 && sigsuspend(&open) == -1 && errno == EINTR && signals == 1);
@@ -369,12 +383,15 @@ static void note_expiry(union sigval value)
 
 static void of_timers(void)
 {
-    struct sigevent event = {.sigev_notify = SIGEV_THREAD, .sigev_notify_function = note_expiry, .sigev_value.sival_int = 7};
+    struct sigevent event = {.sigev_notify = SIGEV_THREAD,
+        .sigev_notify_function = note_expiry,
+        .sigev_value.sival_int = 7};
     const struct itimerspec spec = {.it_value = {3, 0}};
     timer_t timer;
     char one;
     signals = 0;
-    DEMAND(pipe(ends) == 0 && timer_create(CLOCK_MONOTONIC, &event, &timer) == 0 && timer_settime(timer, 0, &spec, NULL) == 0);
+    DEMAND(pipe(ends) == 0 && timer_create(CLOCK_MONOTONIC, &event, &timer) == 0 &&
+           timer_settime(timer, 0, &spec, NULL) == 0);
     DEMAND(read(ends[0], &one, 1) == 1 && one == 't' && signals == 7 && timer_delete(timer) == 0);
 }
 
@@ -387,7 +404,8 @@ static void of_cancels(void)
     DEMAND(pthread_create(&thread, NULL, other, NULL) == 0);
     const struct timespec moment = {0, 20000000};
     nanosleep(&moment, NULL);
-    DEMAND(pthread_cancel(thread) == 0 && pthread_join(thread, &result) == 0 && result == PTHREAD_CANCELED);
+    DEMAND(pthread_cancel(thread) == 0 && pthread_join(thread, &result) == 0 &&
+           result == PTHREAD_CANCELED);
 }
 
 static pthread_mutex_t lock;
@@ -414,10 +432,13 @@ static void of_locks(void)
         pthread_t thread;
         struct timespec time;
         pthread_mutexattr_init(&attributes);
-        DEMAND(pthread_mutexattr_setprotocol(&attributes, protocols[i]) == 0 && pthread_mutexattr_setrobust(&attributes, PTHREAD_MUTEX_ROBUST) == 0);
-        DEMAND(pthread_mutex_init(&lock, &attributes) == 0 && pthread_create(&thread, NULL, end_with_lock, NULL) == 0);
+        DEMAND(pthread_mutexattr_setprotocol(&attributes, protocols[i]) == 0 &&
+               pthread_mutexattr_setrobust(&attributes, PTHREAD_MUTEX_ROBUST) == 0);
+        DEMAND(pthread_mutex_init(&lock, &attributes) == 0 &&
+               pthread_create(&thread, NULL, end_with_lock, NULL) == 0);
         end(thread);
-        DEMAND(pthread_mutex_lock(&lock) == EOWNERDEAD && pthread_mutex_consistent(&lock) == 0 && pthread_mutex_unlock(&lock) == 0);
+        DEMAND(pthread_mutex_lock(&lock) == EOWNERDEAD && pthread_mutex_consistent(&lock) == 0 &&
+               pthread_mutex_unlock(&lock) == 0);
         thread = begin(lock_and_wait);
         while (pthread_mutex_trylock(&lock) == 0) {
             pthread_mutex_unlock(&lock);
@@ -426,7 +447,8 @@ static void of_locks(void)
         clock_gettime(CLOCK_REALTIME, &time);
         time.tv_nsec = (time.tv_nsec + 1000000) % 1000000000;
         time.tv_sec += time.tv_nsec < 1000000;
-        DEMAND(pthread_mutex_timedlock(&lock, &time) == ETIMEDOUT && pthread_mutex_lock(&lock) == 0);
+        DEMAND(
+            pthread_mutex_timedlock(&lock, &time) == ETIMEDOUT && pthread_mutex_lock(&lock) == 0);
         pthread_mutex_unlock(&lock);
         end(thread);
         pthread_mutex_destroy(&lock);
@@ -443,32 +465,43 @@ static void change_second(void)
 
 static void wake_by_bits(void)
 {
-    DEMAND(syscall(SYS_futex, words, FUTEX_WAKE_BITSET | FUTEX_PRIVATE_FLAG, 1, NULL, NULL, 2) == 0);
-    DEMAND(syscall(SYS_futex, words, FUTEX_WAKE_BITSET | FUTEX_PRIVATE_FLAG, 1, NULL, NULL, 4) == 1);
+    DEMAND(
+        syscall(SYS_futex, words, FUTEX_WAKE_BITSET | FUTEX_PRIVATE_FLAG, 1, NULL, NULL, 2) == 0);
+    DEMAND(
+        syscall(SYS_futex, words, FUTEX_WAKE_BITSET | FUTEX_PRIVATE_FLAG, 1, NULL, NULL, 4) == 1);
 }
 
 /* FUTEX_WAKE_OP: adds 5 to the second word, and wakes its waiters if it was 1. */
 static void wake_by_word(void)
 {
-    DEMAND(syscall(SYS_futex, words, FUTEX_WAKE_OP | FUTEX_PRIVATE_FLAG, 1, 1L, words + 1, FUTEX_OP(FUTEX_OP_ADD, 5, FUTEX_OP_CMP_EQ, 1)) == 1 && words[1] == 6);
+    DEMAND(syscall(SYS_futex, words, FUTEX_WAKE_OP | FUTEX_PRIVATE_FLAG, 1, 1L, words + 1,
+               FUTEX_OP(FUTEX_OP_ADD, 5, FUTEX_OP_CMP_EQ, 1)) == 1 &&
+           words[1] == 6);
 }
 
 static void requeue(void)
 {
-    DEMAND(syscall(SYS_futex, words, FUTEX_CMP_REQUEUE | FUTEX_PRIVATE_FLAG, 0, 1L, words + 1, 7) == -1 && errno == EAGAIN);
-    DEMAND(syscall(SYS_futex, words, FUTEX_CMP_REQUEUE | FUTEX_PRIVATE_FLAG, 0, 1L, words + 1, 0) == 1);
+    DEMAND(syscall(SYS_futex, words, FUTEX_CMP_REQUEUE | FUTEX_PRIVATE_FLAG, 0, 1L, words + 1, 7) ==
+               -1 &&
+           errno == EAGAIN);
+    DEMAND(syscall(SYS_futex, words, FUTEX_CMP_REQUEUE | FUTEX_PRIVATE_FLAG, 0, 1L, words + 1, 0) ==
+           1);
     DEMAND(syscall(SYS_futex, words, FUTEX_WAKE | FUTEX_PRIVATE_FLAG, 1, NULL, NULL, 0) == 0);
     DEMAND(syscall(SYS_futex, words + 1, FUTEX_WAKE | FUTEX_PRIVATE_FLAG, 1, NULL, NULL, 0) == 1);
 }
 
 static void of_futexes(void)
 {
-    struct futex_waitv waiters[2] = {{0, (uintptr_t)words, 2 | FUTEX_PRIVATE_FLAG, 0}, {0, (uintptr_t)(words + 1), 2 | FUTEX_PRIVATE_FLAG, 0}};
+    struct futex_waitv waiters[2] = {{0, (uintptr_t)words, 2 | FUTEX_PRIVATE_FLAG, 0},
+        {0, (uintptr_t)(words + 1), 2 | FUTEX_PRIVATE_FLAG, 0}};
     const struct timespec moment = {0, 1000000};
-    DEMAND(syscall(SYS_futex, words, FUTEX_WAIT | FUTEX_PRIVATE_FLAG, 1, NULL, NULL, 0) == -1 && errno == EAGAIN);
-    DEMAND(syscall(SYS_futex, words, FUTEX_WAIT | FUTEX_PRIVATE_FLAG, 0, &moment, NULL, 0) == -1 && errno == ETIMEDOUT);
+    DEMAND(syscall(SYS_futex, words, FUTEX_WAIT | FUTEX_PRIVATE_FLAG, 1, NULL, NULL, 0) == -1 &&
+           errno == EAGAIN);
+    DEMAND(syscall(SYS_futex, words, FUTEX_WAIT | FUTEX_PRIVATE_FLAG, 0, &moment, NULL, 0) == -1 &&
+           errno == ETIMEDOUT);
     pthread_t thread = begin(wake_by_bits);
-    DEMAND(syscall(SYS_futex, words, FUTEX_WAIT_BITSET | FUTEX_PRIVATE_FLAG, 0, NULL, NULL, 4) == 0);
+    DEMAND(
+        syscall(SYS_futex, words, FUTEX_WAIT_BITSET | FUTEX_PRIVATE_FLAG, 0, NULL, NULL, 4) == 0);
     end(thread);
     thread = begin(requeue);
     DEMAND(syscall(SYS_futex, words, FUTEX_WAIT | FUTEX_PRIVATE_FLAG, 0, NULL, NULL, 0) == 0);
@@ -477,7 +510,8 @@ static void of_futexes(void)
     DEMAND(syscall(449, waiters, 2, 0, NULL, 0) == 1);
     end(thread);
     thread = begin(wake_by_word);
-    DEMAND(syscall(SYS_futex, words, FUTEX_WAIT | FUTEX_PRIVATE_FLAG, 0, NULL, NULL, 0) == 0 && words[1] == 6);
+    DEMAND(syscall(SYS_futex, words, FUTEX_WAIT | FUTEX_PRIVATE_FLAG, 0, NULL, NULL, 0) == 0 &&
+           words[1] == 6);
     end(thread);
     memset(words, 0, sizeof words);
 }
@@ -486,9 +520,25 @@ static const struct {
     const char *name;
     void (*run)(void);
 } modes[] = {
-    {"pipe", of_pipe}, {"poll", of_poll}, {"select", of_select}, {"epoll", of_epoll}, {"semaphores", of_semaphores}, {"messages", of_messages}, {"queues", of_queues},
-    {"fifo", of_fifo}, {"splice", of_splice}, {"sendfile", of_sendfile}, {"socket", of_socket}, {"files", of_files}, {"time", of_time}, {"signals", of_signals},
-    {"masks", of_masks}, {"timers", of_timers}, {"cancels", of_cancels}, {"locks", of_locks}, {"futexes", of_futexes},
+    {"pipe", of_pipe},
+    {"poll", of_poll},
+    {"select", of_select},
+    {"epoll", of_epoll},
+    {"semaphores", of_semaphores},
+    {"messages", of_messages},
+    {"queues", of_queues},
+    {"fifo", of_fifo},
+    {"splice", of_splice},
+    {"sendfile", of_sendfile},
+    {"socket", of_socket},
+    {"files", of_files},
+    {"time", of_time},
+    {"signals", of_signals},
+    {"masks", of_masks},
+    {"timers", of_timers},
+    {"cancels", of_cancels},
+    {"locks", of_locks},
+    {"futexes", of_futexes},
 };
 
 int main(int count, char **names)

@@ -18,7 +18,8 @@
 
 enum { THREADS = 3, ROUNDS = 5 };
 
-static pthread_mutex_t locks[THREADS] = {PTHREAD_MUTEX_INITIALIZER, PTHREAD_MUTEX_INITIALIZER, PTHREAD_MUTEX_INITIALIZER};
+static pthread_mutex_t locks[THREADS] = {
+    PTHREAD_MUTEX_INITIALIZER, PTHREAD_MUTEX_INITIALIZER, PTHREAD_MUTEX_INITIALIZER};
 static pthread_cond_t condition = PTHREAD_COND_INITIALIZER;
 static atomic_int ready;
 static long accounts[THREADS] = {100, 100, 100}, balance = 100, lines;
@@ -108,7 +109,8 @@ static void run(void *(*first)(void *), void *(*others)(void *), void *argument)
 {
     pthread_t threads[THREADS];
     for (long i = 0; i < THREADS; i++)
-        if (pthread_create(threads + i, NULL, i == 0 ? first : others, argument ? argument : (void *)i) != 0)
+        if (pthread_create(
+                threads + i, NULL, i == 0 ? first : others, argument ? argument : (void *)i) != 0)
             exit(2);
     for (int i = 0; i < THREADS; i++)
         pthread_join(threads[i], NULL);
