@@ -1,14 +1,15 @@
 //! Whether a history is lawful by early effects.
 
-ghost use Rattle.std.specs.Prelude.{◌≡◌, IfOk};
+ghost use Rattle.std.specs.Prelude.{◌≡◌, ℕ, IfOk, IsOk};
 ghost use Rattle.uring_core.specs.Histories.{history_of};
 ghost use Rattle.uring_effect_points.specs.Decided as decided;
 ghost use Rattle.uring_effect_points.specs.Decided.{IsFound};
 
 use crate::marks::add_marks;
-use crate::search::{Fate, explain};
+use crate::search::{Fate, explain_in};
 use std::alloc::{AllocError, Global};
 use uring_core::{Answer, Core, Setup, Step};
+use uring_memory::Memory;
 
 /// What was found of a history.
 #[derive(Clone, Copy)]
@@ -37,14 +38,28 @@ pub fn find_effects(
 ) -> Result<EffectsFound, AllocError>
     ensures { IfOk result (IsFound setup.now (history_of events.now)) }
 {
-    let mut core = Core::new(alloc, setup)?;
+    find_effects_in(&alloc, alloc, setup, events, most)
+}
+
+/// As `find_effects`, by this memory. If it grants whatever is asked for, there is no error.
+pub fn find_effects_in<M: Memory>(
+    memory: &M,
+    alloc: Global,
+    setup: &Setup,
+    events: &[(Step, Answer)],
+    most: u64,
+) -> Result<EffectsFound, AllocError>
+    ensures found { IfOk result (IsFound setup.now (history_of events.now)) }
+    ensures granted { ((n : ℕ) → M.grants memory.now n) → IsOk result }
+{
+    let mut core = Core::new_in(memory, alloc, setup)?;
     let mut marks = Vec::new(alloc);
-    let lawful = add_marks(&mut core, events, &mut marks);
+    let lawful = add_marks(memory, &mut core, events, &mut marks);
     drop(core);
     if !lawful? {
         return Ok(EffectsFound::Unlawful);
     }
-    let fate = explain(alloc, setup.files(), marks.as_slice(), most)?;
+    let fate = explain_in(memory, alloc, setup.files(), marks.as_slice(), most)?;
     Ok(found_by(fate))
 }
 

@@ -1,6 +1,6 @@
 //! What a history has of operations, as far as the bytes at its finishes are known.
 
-ghost use Rattle.std.specs.Prelude.{◌≡◌, ◌↔◌, ◌++◌, [], true, false, map, IfOk, IsTrue, OnOk};
+ghost use Rattle.std.specs.Prelude.{◌≡◌, ◌↔◌, ◌++◌, ℕ, [], true, false, map, IfOk, IsOk, IsTrue, OnOk};
 ghost use Rattle.uring_core.specs.Core.{FitsApart};
 ghost use Rattle.uring_core.specs.Histories.{History, history_of, world, IsLawfulApart};
 ghost use Rattle.uring_effect_points.specs.Bare as bare;
@@ -10,15 +10,22 @@ use crate::mark::{End, Mark};
 use crate::marks::{follow_one, mark_of};
 use std::alloc::{AllocError, Global};
 use uring_core::{Answer, Core, Cqe, Step};
+use uring_memory::{Memory, push};
 
 /// The events without their bytes.
-pub(crate) fn blanks_of(
+pub(crate) fn blanks_of<M: Memory>(
+    memory: &M,
     alloc: Global,
     events: &[(Step, Answer)],
 ) -> Result<Vec<(Step, Answer)>, AllocError>
-    ensures { IfOk result (λ blanks. blanks.items ≡ map blank events.now) }
+    ensures blanks { IfOk result (λ blanks. blanks.items ≡ map blank events.now) }
+    ensures granted { ((n : ℕ) → M.grants memory.now n) → IsOk result }
 {
-    events.iter().map(|event| blank_of(event)).collect(alloc)
+    let mut blanks = Vec::new(alloc);
+    for event in events {
+        push(memory, &mut blanks, blank_of(event))?;
+    }
+    Ok(blanks)
 }
 
 /// An event without its bytes.
@@ -42,34 +49,39 @@ fn blank_of(event: &(Step, Answer)) -> (Step, Answer)
 }
 
 /// The bytes of all completions that are reaped.
-pub(crate) fn bytes_told(
+pub(crate) fn bytes_told<M: Memory>(
+    memory: &M,
     alloc: Global,
     events: &[(Step, Answer)],
 ) -> Result<Vec<[u8; 64]>, AllocError>
-    ensures { IfOk result (λ told. told.items ≡ bare.bytes_told events.now) }
+    ensures told { IfOk result (λ told. told.items ≡ bare.bytes_told events.now) }
+    ensures granted { ((n : ℕ) → M.grants memory.now n) → IsOk result }
 {
     let mut told = Vec::new(alloc);
     for event in events {
-        push_told(event, &mut told)?;
+        push_told(memory, event, &mut told)?;
     }
     Ok(told)
 }
 
 /// Appends the bytes of the completion that is reaped, if one is.
-fn push_told(event: &(Step, Answer), told: &mut Vec<[u8; 64]>) -> Result<(), AllocError>
-    ensures { OnOk result (told.new.items ≡ told.old.items ++ bytes_reaped event.now) }
+fn push_told<M: Memory>(
+    memory: &M,
+    event: &(Step, Answer),
+    told: &mut Vec<[u8; 64]>,
+) -> Result<(), AllocError>
+    ensures pushed { OnOk result (told.new.items ≡ told.old.items ++ bytes_reaped event.now) }
+    ensures granted { ((n : ℕ) → M.grants memory.now n) → IsOk result }
 {
     match event {
-        (Step::Reap, Answer::Reaped(completion)) => {
-            told.push(completion.payload())?;
-            Ok(())
-        }
+        (Step::Reap, Answer::Reaped(completion)) => { push(memory, told, completion.payload()) }
         _ => Ok(()),
     }
 }
 
 /// Follows these events without bytes on a new core, as far as each is called for, with the mark of each, and tells whether all were, and each end at an issue has the bytes that are known. These are the bytes of the completions that are reaped.
-pub(crate) fn add_known(
+pub(crate) fn add_known<M: Memory>(
+    memory: &M,
     core: &mut Core,
     events: &[(Step, Answer)],
     told: &[[u8; 64]],
@@ -86,17 +98,18 @@ pub(crate) fn add_known(
     ensures wrong { IfOk result
         (λ all. all ≡ false → IsLawfulApart core.old.setup (history_of events.now)
         → IssuesMeet core.old.setup told.now [] events.now → ⊥) }
+    ensures granted { ((n : ℕ) → M.grants memory.now n) → IsOk result }
 {
     for event in events {
         let before = posted(core);
-        if !follow_one(core, event)? {
+        if !follow_one(memory, core, event)? {
             return Ok(false);
         }
         let known = bytes_at(told, before, posted(core));
         if !issue_meets(&known, event) {
             return Ok(false);
         }
-        marks.push(mark_known(core, event, &known))?;
+        push(memory, marks, mark_known(core, event, &known))?;
     }
     Ok(true)
 }

@@ -19,9 +19,9 @@ mod decision;
 mod known;
 mod marks;
 
-pub use bytes::find_bytes;
-pub use decision::{EffectsFound, find_effects};
+pub use bytes::{find_bytes, find_bytes_in};
+pub use decision::{EffectsFound, find_effects, find_effects_in};
 pub use mark::{End, Mark};
 pub use running::Running;
-pub use search::{Fate, explain};
+pub use search::{Fate, explain, explain_in};
 pub use uring_core::Setup;

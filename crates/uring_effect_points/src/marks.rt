@@ -1,6 +1,6 @@
 //! What a history has of operations: which started and which ended, in order.
 
-ghost use Rattle.std.specs.Prelude.{◌≡◌, ◌∷◌, [], true, false, IfOk};
+ghost use Rattle.std.specs.Prelude.{◌≡◌, ◌∷◌, ℕ, [], true, false, IfOk, IsOk};
 ghost use Rattle.uring_core.specs.Core.{FitsApart};
 ghost use Rattle.uring_core.specs.Histories.{History, history_of, world, IsLawfulApart};
 ghost use Rattle.uring_core.specs.StepAnswers.{CalledForApart};
@@ -9,9 +9,11 @@ ghost use Rattle.uring_effect_points.specs.Marks.{mark_by, marks_after};
 use crate::mark::{End, Mark};
 use std::alloc::AllocError;
 use uring_core::{Answer, Core, Refusal, Step};
+use uring_memory::{Memory, push};
 
 /// Follows these events on a new core, as far as each is called for, with the mark of each, and tells whether all were: then they are a lawful history apart from what operations gave.
-pub(crate) fn add_marks(
+pub(crate) fn add_marks<M: Memory>(
+    memory: &M,
     core: &mut Core,
     events: &[(Step, Answer)],
     marks: &mut Vec<Mark>,
@@ -24,26 +26,33 @@ pub(crate) fn add_marks(
         (λ all. all ≡ true → marks.new.items ≡ marks_after core.old.setup [] events.now) }
     ensures wrong { IfOk result
         (λ all. all ≡ false → IsLawfulApart core.old.setup (history_of events.now) → ⊥) }
+    ensures granted { ((n : ℕ) → M.grants memory.now n) → IsOk result }
 {
     for event in events {
-        if !follow_one(core, event)? {
+        if !follow_one(memory, core, event)? {
             return Ok(false);
         }
-        marks.push(mark_of(core, event))?;
+        push(memory, marks, mark_of(core, event))?;
     }
     Ok(true)
 }
 
 /// Follows an event, if it is called for, and tells whether it is.
-pub(crate) fn follow_one(core: &mut Core, event: &(Step, Answer)) -> Result<bool, AllocError>
+pub(crate) fn follow_one<M: Memory>(
+    memory: &M,
+    core: &mut Core,
+    event: &(Step, Answer),
+) -> Result<bool, AllocError>
     ensures setup { core.new.setup ≡ core.old.setup }
     ensures called { IfOk result
         (λ called. called ≡ true → (h : History) → FitsApart core.old h → FitsApart core.new (event.now ∷ h)) }
     ensures wrong { IfOk result
         (λ called. called ≡ false → (h : History) → FitsApart core.old h
         → CalledForApart core.old.setup (world core.old.setup h) event.now.0 event.now.1 → ⊥) }
+    ensures granted { (h : History) → FitsApart core.old h
+        → ((n : ℕ) → M.grants memory.now n) → IsOk result }
 {
-    match core.follow(event.0, event.1) {
+    match core.follow_in(memory, event.0, event.1) {
         Ok(()) => Ok(true),
         Err(Refusal::Wrong(_)) => Ok(false),
         Err(Refusal::NoMemory) => Err(AllocError),

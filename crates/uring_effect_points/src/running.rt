@@ -1,11 +1,12 @@
 //! The operations that run, in the order in which they started.
 
-ghost use Rattle.std.specs.Prelude.{◌≡◌, ◌↔◌, IfOk, IsTrue};
+ghost use Rattle.std.specs.Prelude.{◌≡◌, ◌↔◌, ℕ, IfOk, IsOk, IsTrue};
 ghost use Rattle.uring_effect_points.specs.Moves as moves;
 
 use crate::mark::End;
 use std::alloc::{AllocError, Global};
 use uring_entry::{Op, Outcome};
+use uring_memory::{Memory, push};
 
 /// An operation that runs, and its outcome if it has taken effect.
 #[derive(Clone, Copy)]
@@ -42,35 +43,30 @@ pub(crate) fn took_effect_so(running: &[Running], number: u64, end: &End) -> boo
     }
 }
 
-/// All but that of a request.
-pub(crate) fn without(
-    alloc: Global,
-    running: &[Running],
-    number: u64,
-) -> Result<Vec<Running>, AllocError>
-    ensures { IfOk result (λ rest. rest.items ≡ moves.without running.now number) }
+/// Lets that of a request go.
+pub(crate) fn remove(running: &mut Vec<Running>, number: u64)
+    ensures { running.new.items ≡ moves.without running.old.items number }
 {
-    running
-        .iter()
-        .copied()
-        .filter(|one| one.number != number)
-        .collect(alloc)
+    running.retain(|one| one.number != number);
 }
 
 /// All, with that of a request having taken effect with this outcome.
-pub(crate) fn with_taken(
+pub(crate) fn with_taken<M: Memory>(
+    memory: &M,
     alloc: Global,
     running: &[Running],
     number: u64,
     outcome: &Outcome,
 ) -> Result<Vec<Running>, AllocError>
-    ensures { IfOk result
+    ensures all { IfOk result
         (λ all. all.items ≡ moves.with_taken running.now number outcome.now) }
+    ensures granted { ((n : ℕ) → M.grants memory.now n) → IsOk result }
 {
-    running
-        .iter()
-        .map(|one| taking(one, number, outcome))
-        .collect(alloc)
+    let mut all = Vec::new(alloc);
+    for one in running {
+        push(memory, &mut all, taking(one, number, outcome))?;
+    }
+    Ok(all)
 }
 
 /// One, which has taken effect with this outcome if it is that of the request.

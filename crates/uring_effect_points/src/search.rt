@@ -1,6 +1,6 @@
 //! The search for the moments at which operations took effect.
 
-ghost use Rattle.std.specs.Prelude.{◌≡◌, ◌<◌, ◌≤◌, ◌++◌, [], false, length, map, IfOk, OnOk, Contains};
+ghost use Rattle.std.specs.Prelude.{◌≡◌, ◌<◌, ◌≤◌, ◌++◌, ℕ, [], false, length, map, IfOk, IsOk, OnOk, Contains};
 ghost use Rattle.uring_effect_points.specs.declared.takers.Taker.{Taker};
 ghost use Rattle.uring_effect_points.specs.Search.{seat_of, seats_of, took_at, awaits_at, IsFated, HasFate, IsPlaced, IsSearch, MayTakeAt, Replaces};
 
@@ -8,6 +8,7 @@ use crate::mark::Mark;
 use crate::state::State;
 use crate::takers::Taker;
 use std::alloc::{AllocError, Global};
+use uring_memory::{Memory, push};
 
 /// Where a search is.
 #[derive(Clone, Copy)]
@@ -29,14 +30,30 @@ pub fn explain(alloc: Global, count: u32, marks: &[Mark], most: u64) -> Result<F
     requires { count ≤ 64 }
     ensures { IfOk result (IsFated count marks.now) }
 {
+    explain_in(&alloc, alloc, count, marks, most)
+}
+
+/// As `explain`, by this memory. If it grants whatever is asked for, there is no error.
+pub fn explain_in<M: Memory>(
+    memory: &M,
+    alloc: Global,
+    count: u32,
+    marks: &[Mark],
+    most: u64,
+) -> Result<Fate, AllocError>
+    requires { count ≤ 64 }
+    ensures fate { IfOk result (IsFated count marks.now) }
+    ensures granted { ((n : ℕ) → M.grants memory.now n) → IsOk result }
+{
     let mut todo = Vec::new(alloc);
-    let done = search_all(alloc, count, marks, most, &mut todo);
+    let done = search_all(memory, alloc, count, marks, most, &mut todo);
     drop(todo);
     done
 }
 
 /// Looks for them. Nothing is to be gone on from yet.
-fn search_all(
+fn search_all<M: Memory>(
+    memory: &M,
     alloc: Global,
     count: u32,
     marks: &[Mark],
@@ -45,11 +62,13 @@ fn search_all(
 ) -> Result<Fate, AllocError>
     requires limit { count ≤ 64 }
     requires none { todo.old.items ≡ [] }
-    ensures { IfOk result (IsFated count marks.now) }
+    ensures fate { IfOk result (IsFated count marks.now) }
+    ensures granted { ((n : ℕ) → M.grants memory.now n) → IsOk result }
 {
-    todo.push(State::new(alloc, count)?)?;
+    let first = State::new(memory, alloc, count)?;
+    push(memory, todo, first)?;
     'moves: for _ in 0..most {
-        match search_one(alloc, count, marks, todo)? {
+        match search_one(memory, alloc, count, marks, todo)? {
             Fate::Open => {}
             fate => return Ok(fate),
         }
@@ -58,7 +77,8 @@ fn search_all(
 }
 
 /// Goes on from the last state, if there is one, unless it stands after all marks.
-fn search_one(
+fn search_one<M: Memory>(
+    memory: &M,
     alloc: Global,
     count: u32,
     marks: &[Mark],
@@ -66,7 +86,8 @@ fn search_one(
 ) -> Result<Fate, AllocError>
     requires limit { count ≤ 64 }
     requires stands { IsSearch count marks.now (seats_of todo.old.items) }
-    ensures { IfOk result (HasFate count marks.now (seats_of todo.new.items)) }
+    ensures fate { IfOk result (HasFate count marks.now (seats_of todo.new.items)) }
+    ensures granted { ((n : ℕ) → M.grants memory.now n) → IsOk result }
 {
     let Some(state) = todo.pop() else {
         return Ok(Fate::Over);
@@ -75,12 +96,13 @@ fn search_one(
         drop(state);
         return Ok(Fate::Explained);
     }
-    replace(alloc, count, marks, state, todo)?;
+    replace(memory, alloc, count, marks, state, todo)?;
     Ok(Fate::Open)
 }
 
 /// Puts in place of a state before a mark those that are one move further: past the mark, or with each operation having taken effect that may, each in a state of its own.
-fn replace(
+fn replace<M: Memory>(
+    memory: &M,
     alloc: Global,
     count: u32,
     marks: &[Mark],
@@ -90,19 +112,20 @@ fn replace(
     requires limit { count ≤ 64 }
     requires placed { IsPlaced count marks.now (seat_of state) }
     requires before { state.place < length marks.now }
-    ensures { OnOk result (Replaces count marks.now (seat_of state) (seats_of todo.old.items) (seats_of todo.new.items)) }
+    ensures replaces { OnOk result (Replaces count marks.now (seat_of state) (seats_of todo.old.items) (seats_of todo.new.items)) }
+    ensures granted { ((n : ℕ) → M.grants memory.now n) → IsOk result }
 {
     let Some(awaited) = state.awaited(marks) else {
-        return pass(alloc, count, marks, state, todo);
+        return pass(memory, count, marks, state, todo);
     };
-    let takers = state.takers(alloc, marks, awaited)?;
-    push_all(alloc, count, marks, state, takers.as_slice(), todo)?;
+    let takers = state.takers(memory, alloc, marks, awaited)?;
+    push_all(memory, alloc, count, marks, state, takers.as_slice(), todo)?;
     Ok(())
 }
 
 /// Goes past the mark, if that may be.
-fn pass(
-    alloc: Global,
+fn pass<M: Memory>(
+    memory: &M,
     count: u32,
     marks: &[Mark],
     mut state: State,
@@ -111,10 +134,11 @@ fn pass(
     requires placed { IsPlaced count marks.now (seat_of state) }
     requires before { state.place < length marks.now }
     requires waits { awaits_at marks.now (seat_of state) ≡ false }
-    ensures { OnOk result (Replaces count marks.now (seat_of state) (seats_of todo.old.items) (seats_of todo.new.items)) }
+    ensures replaces { OnOk result (Replaces count marks.now (seat_of state) (seats_of todo.old.items) (seats_of todo.new.items)) }
+    ensures granted { ((n : ℕ) → M.grants memory.now n) → IsOk result }
 {
-    if state.pass(alloc, marks)? {
-        todo.push(state)?;
+    if state.pass(memory, marks)? {
+        push(memory, todo, state)?;
     } else {
         drop(state);
     }
@@ -122,7 +146,8 @@ fn pass(
 }
 
 /// Puts this state after each of these effects among those to be gone on from, the last in its own memory.
-fn push_all(
+fn push_all<M: Memory>(
+    memory: &M,
     alloc: Global,
     count: u32,
     marks: &[Mark],
@@ -133,8 +158,9 @@ fn push_all(
     requires limit { count ≤ 64 }
     requires placed { IsPlaced count marks.now (seat_of state) }
     requires may { (x : Taker) → Contains takers.now x → MayTakeAt marks.now (seat_of state) x }
-    ensures { OnOk result
+    ensures pushed { OnOk result
         (seats_of todo.new.items ≡ seats_of todo.old.items ++ map (took_at (seat_of state)) takers.now) }
+    ensures granted { ((n : ℕ) → M.grants memory.now n) → IsOk result }
 {
     if takers.is_empty() {
         drop(state);
@@ -142,14 +168,15 @@ fn push_all(
     }
     let before = takers.len() - 1;
     let last = takers[before];
-    push_others(alloc, count, marks, &state, &takers[..before], todo)?;
-    state.take(alloc, marks, &last)?;
-    todo.push(state)?;
+    push_others(memory, alloc, count, marks, &state, &takers[..before], todo)?;
+    state.take(memory, alloc, marks, &last)?;
+    push(memory, todo, state)?;
     Ok(())
 }
 
 /// Puts this state after each of these effects among those to be gone on from.
-fn push_others(
+fn push_others<M: Memory>(
+    memory: &M,
     alloc: Global,
     count: u32,
     marks: &[Mark],
@@ -160,13 +187,14 @@ fn push_others(
     requires limit { count ≤ 64 }
     requires placed { IsPlaced count marks.now (seat_of state.now) }
     requires may { (x : Taker) → Contains takers.now x → MayTakeAt marks.now (seat_of state.now) x }
-    ensures { OnOk result
+    ensures pushed { OnOk result
         (seats_of todo.new.items ≡ seats_of todo.old.items ++ map (took_at (seat_of state.now)) takers.now) }
+    ensures granted { ((n : ℕ) → M.grants memory.now n) → IsOk result }
 {
     for taker in takers {
-        let mut other = state.copied(alloc, count)?;
-        other.take(alloc, marks, taker)?;
-        todo.push(other)?;
+        let mut other = state.copied(memory, alloc, count)?;
+        other.take(memory, alloc, marks, taker)?;
+        push(memory, todo, other)?;
     }
     Ok(())
 }

@@ -1,6 +1,6 @@
 //! The operations that may take effect before an end.
 
-ghost use Rattle.std.specs.Prelude.{◌≡◌, true, map, IfOk, OnOk};
+ghost use Rattle.std.specs.Prelude.{◌≡◌, ℕ, true, map, IfOk, IsOk, OnOk};
 ghost use Rattle.uring_effect_points.specs.Moves.{FitsEnd, MayTake, awaits, end_in, plain};
 ghost use Rattle.uring_effect_points.specs.Search.{Adds, AreTakers};
 
@@ -10,6 +10,7 @@ use crate::running::{Running, look};
 use std::alloc::{AllocError, Global};
 use uring_entry::{Outcome, errno};
 use uring_files::{Files, is_for_files};
+use uring_memory::{Memory, push};
 
 /// An operation that takes effect, and its outcome.
 #[derive(Clone, Copy)]
@@ -19,7 +20,8 @@ pub(crate) struct Taker {
 }
 
 /// The operations that may take effect before the next mark, which is the end of one that has taken none. That of the request that is awaited is the last.
-pub(crate) fn takers_of(
+pub(crate) fn takers_of<M: Memory>(
+    memory: &M,
     alloc: Global,
     files: &mut Files,
     running: &[Running],
@@ -30,19 +32,21 @@ pub(crate) fn takers_of(
     ensures takers { IfOk result
         (λ takers. AreTakers (record { files = map plain files.old; running = running.now }) left.now takers.items) }
     ensures same { files.new ≡ files.old }
+    ensures granted { ((n : ℕ) → M.grants memory.now n) → IsOk result }
 {
     let mut takers = Vec::new(alloc);
     for one in running {
         if one.number != awaited {
-            add_takers(files, running, left, one.number, &mut takers)?;
+            add_takers(memory, files, running, left, one.number, &mut takers)?;
         }
     }
-    add_takers(files, running, left, awaited, &mut takers)?;
+    add_takers(memory, files, running, left, awaited, &mut takers)?;
     Ok(takers)
 }
 
 /// Adds the operation of a request with each outcome with which it may take effect.
-fn add_takers(
+fn add_takers<M: Memory>(
+    memory: &M,
     files: &mut Files,
     running: &[Running],
     left: &[Mark],
@@ -53,6 +57,7 @@ fn add_takers(
     ensures adds { OnOk result
         (Adds (λ x. (x.number ≡ number) × MayTake (record { files = map plain files.old; running = running.now }) left.now x.number x.outcome) takers.old.items takers.new.items) }
     ensures same { files.new ≡ files.old }
+    ensures granted { ((n : ℕ) → M.grants memory.now n) → IsOk result }
 {
     let Some(one) = look(running, number) else {
         return Ok(());
@@ -62,29 +67,31 @@ fn add_takers(
     }
     let wanted = end_of(left, number);
     let called = files.called_for(&one.op);
-    add_taker(&wanted, number, called, takers)?;
+    add_taker(memory, &wanted, number, called, takers)?;
     if files.lengthens(&one.op) {
-        add_taker(&wanted, number, ended_with(-errno::ENOMEM), takers)?;
+        add_taker(memory, &wanted, number, ended_with(-errno::ENOMEM), takers)?;
     }
     Ok(())
 }
 
 /// Adds the operation of a request with this outcome, if it ends in no other way.
-fn add_taker(
+fn add_taker<M: Memory>(
+    memory: &M,
     wanted: &Option<End>,
     number: u64,
     outcome: Outcome,
     takers: &mut Vec<Taker>,
 ) -> Result<(), AllocError>
-    ensures { OnOk result
+    ensures adds { OnOk result
         (Adds (λ x. (x ≡ record { number = number; outcome = outcome }) × FitsEnd wanted.now outcome) takers.old.items takers.new.items) }
+    ensures granted { ((n : ℕ) → M.grants memory.now n) → IsOk result }
 {
     let fits = match wanted {
         Some(end) => end.is_met_by(&outcome),
         None => true,
     };
     if fits {
-        takers.push(Taker { number, outcome })?;
+        push(memory, takers, Taker { number, outcome })?;
     }
     Ok(())
 }

@@ -1,10 +1,11 @@
 use Rattle.std.proofs.Common.{◌≡◌, ◌+◌, false, true, take, [], ◌∷◌, ◌++◌, List, ap, sym, subst, ◌∙◌, arith, rules}
-use Rattle.uring_effect_points.proofs.Common.{Event, FitsApart, IsLawfulApart, Mark, Setup, history_of, history_of_snoc, mark_by, marks_after, not-false, not-true, take_all, world}
+use Rattle.std.proofs.Math.Nat.{le_refl}
+use Rattle.uring_effect_points.proofs.Common.{false≢true, Event, FitsApart, IsLawfulApart, Mark, Setup, history_of, history_of_snoc, mark_by, marks_after, not-false, not-true, take_all, world}
 use Rattle.uring_effect_points.proofs.Marking.{marks_more, taken_next, wrong_from}
 use Rattle.uring_effect_points.proofs.marks.add_marks.Goals as goal
 
 pub loop-event-preserved : goal.loop-event-preserved
-loop-event-preserved c =
+loop-event-preserved g c =
     let made : c.in_ok-follow_one.field-0 ≡ true = search (rules, not-false) in
     let earlier = take c.loop-event.event-index c.args.events.now in
     let low = c.loop-event-test.true in
@@ -22,16 +23,19 @@ loop-event-preserved c =
     }
 
 pub returns-then-not-branch-clause-wrong : goal.returns-then-not-branch-clause-wrong
-returns-then-not-branch-clause-wrong c = λ is.
+returns-then-not-branch-clause-wrong g c = λ is.
     let made : c.in_ok-follow_one.field-0 ≡ false = search (rules, not-true) in
     wrong_from c.args.core.now.setup c.loop-event.core.setup c.args.events.now c.loop-event.event-index c.event-item.result (omega arith) c.event-item.is c.loop-event.invariant.setup
     (c.in_ok-follow_one.ensures.wrong made (history_of (take c.loop-event.event-index c.args.events.now)) c.loop-event.invariant.fits)
 
 pub returns-clause-lawful : goal.returns-clause-lawful
-returns-clause-lawful c = λ is.
+returns-clause-lawful g c = λ is.
     let all = take_all c.loop-event.event-index c.args.events.now (omega arith) in
     subst (λ (s : Setup). IsLawfulApart s (history_of c.args.events.now)) c.loop-event.invariant.setup (subst (λ (es : List Event). IsLawfulApart c.loop-event.core.setup (history_of es)) all c.loop-event.invariant.fits.lawful)
 
 pub returns-clause-marks : goal.returns-clause-marks
-returns-clause-marks c = λ is.
+returns-clause-marks g c = λ is.
     c.loop-event.invariant.marks ∙ ap (marks_after c.args.core.now.setup []) (take_all c.loop-event.event-index c.args.events.now (omega arith))
+
+pub returns-in_err-push-clause-granted : goal.returns-in_err-push-clause-granted
+returns-in_err-push-clause-granted g c = λ all. absurd (false≢true (c.in_err-push.ensures.granted _ (all _) (le_refl _)))

@@ -10,10 +10,10 @@ one_pushed s takers k d old mid new copy last low so_far same took is =
     ∙ ap (λ ps. old ++ ps) (sym (ap (map (took_at s)) (take_more takers k d low) ∙ map-append (took_at s) (take k takers) (get_or takers k d ∷ [])))
 
 pub loop-taker-preserved : goal.loop-taker-preserved
-loop-taker-preserved c =
-    one_pushed (seat_of c.args.state.now) c.args.takers.now c.loop-taker.taker-index _ (seats_of c.args.todo.now.items) (seats_of c.loop-taker.todo.items) _ (seat_of c.in_ok-other.other) _ (omega arith) c.loop-taker.invariant c.in_ok-other.ensures c.in_ok-take.ensures
+loop-taker-preserved g c =
+    one_pushed (seat_of c.args.state.now) c.args.takers.now c.loop-taker.taker-index _ (seats_of c.args.todo.now.items) (seats_of c.loop-taker.todo.items) _ (seat_of c.in_ok-other.other) _ (omega arith) c.loop-taker.invariant c.in_ok-other.ensures.same c.in_ok-take.ensures.took
     (ap seats_of c.in_ok-push.ensures.items ∙ map-append seat_of c.loop-taker.todo.items (c.take.new.self ∷ []))
 
-pub returns : goal.returns
-returns c =
+pub returns-clause-pushed : goal.returns-clause-pushed
+returns-clause-pushed g c =
     c.loop-taker.invariant ∙ ap (λ xs. seats_of c.args.todo.now.items ++ map (took_at (seat_of c.args.state.now)) xs) (take_all c.loop-taker.taker-index c.args.takers.now (omega arith))

@@ -10,11 +10,11 @@ fated count marks todo Over has = has
 fated count marks todo Open has = tt
 
 pub moves-init : goal.moves-init
-moves-init c =
-    subst (λ (xs : List State). IsSearch c.args.count c.args.marks.now (seats_of xs)) (sym (c.in_ok-push.ensures.items ∙ ap (λ (xs : List State). xs ++ c.in_ok-new.field-0 ∷ []) c.requires.none)) (begins c.args.count c.args.marks.now (seat_of c.in_ok-new.field-0) c.in_ok-new.ensures)
+moves-init g c =
+    subst (λ (xs : List State). IsSearch c.args.count c.args.marks.now (seats_of xs)) (sym (c.in_ok-push.ensures.items ∙ ap (λ (xs : List State). xs ++ c.in_ok-first.first ∷ []) c.requires.none)) (begins c.args.count c.args.marks.now (seat_of c.in_ok-first.first) c.in_ok-first.ensures.first)
 
 pub moves-preserved : goal.moves-preserved
-moves-preserved c = subst (HasFate c.args.count c.args.marks.now (seats_of c.search_one.new.todo.items)) c.in-Open.is c.in_ok-fate.ensures
+moves-preserved g c = subst (HasFate c.args.count c.args.marks.now (seats_of c.search_one.new.todo.items)) c.in-Open.is c.in_ok-fate.ensures.fate
 
-pub returns-in_default : goal.returns-in_default
-returns-in_default c = fated c.args.count c.args.marks.now (seats_of c.search_one.new.todo.items) _ c.in_ok-fate.ensures
+pub returns-in_default-clause-fate : goal.returns-in_default-clause-fate
+returns-in_default-clause-fate g c = fated c.args.count c.args.marks.now (seats_of c.search_one.new.todo.items) _ c.in_ok-fate.ensures.fate

@@ -8,19 +8,19 @@ popped : (count : ℕ) (marks : List Mark) (todo rest : List State) (s : State) 
 popped count marks todo rest s is =
     subst (IsSearch count marks) (ap seats_of is ∙ map-append seat_of rest (s ∷ []))
 
-pub returns-then-state-marks : goal.returns-then-state-marks
-returns-then-state-marks c =
+pub returns-then-state-marks-clause-fate : goal.returns-then-state-marks-clause-fate
+returns-then-state-marks-clause-fate g c =
     found c.args.count c.args.marks.now (seats_of c.pop.new.self.items) (seat_of c.in-Some.state) (popped _ _ _ _ _ c.in-Some.ensures.items c.requires.stands) c.if-state-marks.true
 
 pub replace-requires-clause-placed : goal.replace-requires-clause-placed
-replace-requires-clause-placed c =
+replace-requires-clause-placed g c =
     last_placed c.args.count c.args.marks.now (seats_of c.pop.new.self.items) (seat_of c.in-Some.state) (popped _ _ _ _ _ c.in-Some.ensures.items c.requires.stands)
 
 pub replace-requires-clause-before : goal.replace-requires-clause-before
-replace-requires-clause-before c =
+replace-requires-clause-before g c =
     let placed = last_placed c.args.count c.args.marks.now (seats_of c.pop.new.self.items) (seat_of c.in-Some.state) (popped _ _ _ _ _ c.in-Some.ensures.items c.requires.stands) in
     before_end c.in-Some.state.place (length c.args.marks.now) placed.within c.if-state-marks.false
 
-pub returns : goal.returns
-returns c =
-    goes_on c.args.count c.args.marks.now (seats_of c.pop.new.self.items) (seats_of c.replace.new.todo.items) (seat_of c.in-Some.state) (popped _ _ _ _ _ c.in-Some.ensures.items c.requires.stands) c.in_ok-replace.ensures
+pub returns-clause-fate : goal.returns-clause-fate
+returns-clause-fate g c =
+    goes_on c.args.count c.args.marks.now (seats_of c.pop.new.self.items) (seats_of c.replace.new.todo.items) (seat_of c.in-Some.state) (popped _ _ _ _ _ c.in-Some.ensures.items c.requires.stands) c.in_ok-replace.ensures.replaces

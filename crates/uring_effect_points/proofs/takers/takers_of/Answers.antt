@@ -9,7 +9,7 @@ abbrev none : Running
 none = record { number = 0; op = Nop; taken = None }
 
 pub loop-one-preserved : goal.loop-one-preserved
-loop-one-preserved c =
+loop-one-preserved g c =
     let grown : take (c.loop-one.one-index + 1) c.args.running.now ≡ take c.loop-one.one-index c.args.running.now ++ get_or c.args.running.now c.loop-one.one-index none ∷ [] =
     let low = c.loop-one-test.true in take_more c.args.running.now c.loop-one.one-index none (omega (arith, low)) in
     elim c.if-one-awaited.branch [
@@ -24,7 +24,7 @@ loop-one-preserved c =
     ]
 
 pub returns-clause-takers : goal.returns-clause-takers
-returns-clause-takers c =
+returns-clause-takers g c =
     let past = c.loop-one-test.false in
     so_far_all c.args.files.now c.args.running.now c.args.left.now c.args.awaited c.loop-one.takers.items c.add_takers-2.new.takers.items
     (subst (λ (some : List Running). SoFar c.args.files.now c.args.running.now c.args.left.now c.args.awaited some c.loop-one.takers.items) (take_all c.loop-one.one-index c.args.running.now (omega (arith, past))) c.loop-one.invariant.so_far)

@@ -4,7 +4,7 @@ use Rattle.std.proofs.Common.{List}
 use Rattle.uring_effect_points.proofs.Plain.{plain_new}
 use Rattle.uring_effect_points.proofs.state.State.new.Goals as goal
 
-pub returns : goal.returns
-returns c =
-    ap (λ (fs : List FileContents). record { standing = record { files = fs; running = c.new-2.result.items }; place = 0 }) (ap (map plain) c.in_ok-files.ensures.ok ∙ plain_new c.args.count)
-    ∙ ap (λ (rs : List Running). record { standing = record { files = empty_files c.args.count; running = rs }; place = 0 }) c.new-2.ensures.items
+pub returns-clause-first : goal.returns-clause-first
+returns-clause-first g c =
+    ap (λ (fs : List FileContents). record { standing = record { files = fs; running = c.new.result.items }; place = 0 }) (ap (map plain) c.in_ok-files.ensures.ok ∙ plain_new c.args.count)
+    ∙ ap (λ (rs : List Running). record { standing = record { files = empty_files c.args.count; running = rs }; place = 0 }) c.new.ensures.items
