@@ -29,5 +29,6 @@ pub mod Issuable
 pub mod WholeCalls
 pub mod Outstanding
 pub mod TakenEntries
+pub mod Elements
 -- By Linux's rules:
 pub mod LinuxHistories

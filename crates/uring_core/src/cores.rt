@@ -1,6 +1,6 @@
 //! The core: rings and dispatcher, moved step by step.
 
-ghost use Rattle.std.specs.Prelude.{◌≡◌, ℕ, ◌+◌, ◌<◌, ◌≤◌, ◌∷◌, [], true, length, IsOk, IfOk, None};
+ghost use Rattle.std.specs.Prelude.{◌≡◌, ℕ, ◌+◌, ◌*◌, ◌<◌, ◌≤◌, ◌∷◌, [], true, length, IsOk, IfOk, None};
 ghost use Rattle.uring_entry.specs.Setup.{Setup};
 ghost use Rattle.uring_entry.specs.Completions.{Completions};
 ghost use Rattle.uring_rings.specs.Cq.{ShowsCompletions};
@@ -124,6 +124,10 @@ impl Core {
         ensures memory { HasNoLessMemory self.old self.new }
         ensures granted { (h : History) (n : ℕ) → FitsApart self.old h → M.grants memory.now n
             → elements_for self.old (world self.old.setup h) step ≤ n → result ≡ answer.Again → ⊥ }
+
+        // By the steps so far and the ring's size alone, whatever memory is there.
+        ensures by_steps { (h : History) (n : ℕ) → FitsApart self.old h → M.grants memory.now n
+            → 3 * (length h + self.old.setup.sq) ≤ n → result ≡ answer.Again → ⊥ }
     {
         match &step {
             Step::Begin { count } => return self.begin(memory, *count),
@@ -208,6 +212,8 @@ impl Core {
         ensures granted { (h : History) (n : ℕ) → FitsApart self.old h → M.grants memory.now n
             → elements_for self.old (world self.old.setup h) (step.Begin count) ≤ n
             → result ≡ answer.Again → ⊥ }
+        ensures by_steps { (h : History) (n : ℕ) → FitsApart self.old h → M.grants memory.now n
+            → 3 * (length h + self.old.setup.sq) ≤ n → result ≡ answer.Again → ⊥ }
     {
         let wanted = self.would_begin(count);
         let Answer::Call(length) = wanted else {

@@ -1,6 +1,7 @@
 //! A core follows answers that were recorded elsewhere.
 
-ghost use Rattle.std.specs.Prelude.{◌≡◌, ℕ, ◌<◌, ◌≤◌, ◌∷◌, OnOk, IfErr, IsErrOf};
+ghost use Rattle.std.specs.Prelude.{◌≡◌, ℕ, ◌+◌, ◌*◌, ◌<◌, ◌≤◌, ◌∷◌, length, OnOk, IfErr, IsErrOf};
+ghost use Rattle.std.specs.Prelude as prelude;
 ghost use Rattle.uring_core.specs.Core.{FitsApart, IsNoFinish, IsShortOfMemory, HasNoLessMemory, elements_for};
 ghost use Rattle.uring_core.specs.Histories.{History, world};
 ghost use Rattle.uring_core.specs.Recorded.{IsOneAnswer, IsRefused, resumed};
@@ -59,6 +60,10 @@ impl Core {
         ensures granted { (h : History) (n : ℕ) → FitsApart self.old h → M.grants memory.now n
             → elements_for self.old (world self.old.setup h) step ≤ n
             → IsErrOf result Refusal.NoMemory → ⊥ }
+
+        // By the steps so far and the ring's size alone, whatever memory is there.
+        ensures by_steps { (h : History) (n : ℕ) → FitsApart self.old h → M.grants memory.now n
+            → 3 * (length h + self.old.setup.sq) ≤ n → IsErrOf result Refusal.NoMemory → ⊥ }
     {
         match step {
             Step::Begin { count } => match self.would_begin(count) {
@@ -120,6 +125,8 @@ impl Core {
         ensures granted { (h : History) (n : ℕ) → FitsApart self.old h → M.grants memory.now n
             → elements_for self.old (world self.old.setup h) (step.Begin count) ≤ n
             → IsErrOf result Refusal.NoMemory → ⊥ }
+        ensures by_steps { (h : History) (n : ℕ) → FitsApart self.old h → M.grants memory.now n
+            → 3 * (prelude.length h + self.old.setup.sq) ≤ n → IsErrOf result Refusal.NoMemory → ⊥ }
     {
         if same_answer(&given, &Answer::Again) {
             return Ok(());

@@ -1,7 +1,8 @@
 -- The first wrong answer of a list, and what is told of a list where an answer was refused.
-use Rattle.std.proofs.Common.{◌≡◌, ℕ, ◌+◌, ◌<◌, ◌≤◌, List, ◌∷◌, length, take, get_or, Option, Some, arith}
+use Rattle.std.proofs.Common.{◌≡◌, ℕ, ◌+◌, ◌*◌, ◌<◌, ◌≤◌, List, ◌∷◌, length, take, get_or, Option, Some, arith}
 use Rattle.uring_machine.proofs.Common.{CalledFor, CalledForApart, Event, IfOk, IsFirstWrongAnswer, IsFirstWrongApart, IsLawful, IsLawfulApart, IsOk, IsRefused, MatchOption, Ok, OnOk, Refusal, Result, Setup, history_of, history_of_snoc, take_more, world}
 use Rattle.std.specs.declared.alloc.AllocError.{AllocError}
+use Rattle.std.proofs.lemmas.List.{length-reverse, length-take-le}
 use Rattle.std.proofs.lemmas.Option.{slice_get_read}
 use Rattle.uring_core.specs.declared.wanted.Wanted.{Wanted}
 use Rattle.uring_core.specs.declared.wanted.Refusal.TheVariants.{Wrong, NoMemory}
@@ -12,8 +13,10 @@ pub stops : (refusal : Refusal) (place : ℕ) (r : Result (Option (ℕ × Wanted
     → IfOk r (λ found. MatchOption found P Q)
 stops refusal place r P Q told none q = grind arith
 
-pub no_more : (n : ℕ) → n ≤ n
-no_more n = omega arith
+-- the events before this one are so few
+pub few_before : (g k : Setup) (events : List Event) (place n : ℕ) → k ≡ g → place < length events
+    → 3 * (length events + g.sq) ≤ n → 3 * (length (history_of (take place events)) + k.sq) ≤ n
+few_before g k events place n same within few = grind (arith, length-reverse, length-take-le)
 
 -- unless memory was refused, there is an answer
 pub goes_on : (refusal : Refusal) (place : ℕ) (r : Result (Option (ℕ × Wanted)) AllocError)

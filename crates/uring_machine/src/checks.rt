@@ -1,6 +1,7 @@
 //! Lists of steps whose answers were recorded elsewhere.
 
-ghost use Rattle.std.specs.Prelude.{◌≡◌, ℕ, [], Ok, Some, IsOk, IfOk, OnOk, MatchOption};
+ghost use Rattle.std.specs.Prelude.{◌≡◌, ℕ, ◌+◌, ◌*◌, ◌≤◌, [], Ok, Some, length, IsOk, IfOk, OnOk, MatchOption};
+ghost use Rattle.uring_files.specs.Contents.{max_len};
 ghost use Rattle.uring_core.specs.CalledFor.{IsLawful};
 ghost use Rattle.uring_core.specs.Core.{FitsApart};
 ghost use Rattle.uring_core.specs.Histories.{IsLawfulApart, history_of};
@@ -24,7 +25,7 @@ pub fn check(
     check_in(&alloc, alloc, setup, events)
 }
 
-/// As `check`, by this memory. If it grants whatever is asked for, there is no error.
+/// As `check`, by this memory. There is no error if it grants as many elements as a file may have bytes, as there are files, as the completion ring's size, and thrice as many as there are events and entries in the submission ring.
 pub fn check_in<M: Memory>(
     memory: &M,
     alloc: Global,
@@ -33,7 +34,8 @@ pub fn check_in<M: Memory>(
 ) -> Result<Option<(usize, Wanted)>, AllocError>
     ensures found { IfOk result
         (λ found. MatchOption found (IsLawful setup.now (history_of events.now)) (λ at. IsFirstWrongAnswer setup.now events.now at.0 at.1)) }
-    ensures granted { ((n : ℕ) → M.grants memory.now n) → IsOk result }
+    ensures granted { (n : ℕ) → M.grants memory.now n → max_len ≤ n → setup.now.cq ≤ n
+        → setup.now.files ≤ n → 3 * (length events.now + setup.now.sq) ≤ n → IsOk result }
 {
     let mut machine = Machine::new_in(memory, alloc, setup)?;
     let found = first_wrong(memory, &mut machine, events);
@@ -53,7 +55,7 @@ pub fn check_apart(
     check_apart_in(&alloc, alloc, setup, events)
 }
 
-/// As `check_apart`, by this memory. If it grants whatever is asked for, there is no error.
+/// As `check_apart`, by this memory. There is no error if it grants as many elements as the completion ring's size, and thrice as many as there are events and entries in the submission ring.
 pub fn check_apart_in<M: Memory>(
     memory: &M,
     alloc: Global,
@@ -62,7 +64,8 @@ pub fn check_apart_in<M: Memory>(
 ) -> Result<Option<(usize, Wanted)>, AllocError>
     ensures found { IfOk result
         (λ found. MatchOption found (IsLawfulApart setup.now (history_of events.now)) (λ at. IsFirstWrongApart setup.now events.now at.0 at.1)) }
-    ensures granted { ((n : ℕ) → M.grants memory.now n) → IsOk result }
+    ensures granted { (n : ℕ) → M.grants memory.now n → setup.now.cq ≤ n
+        → 3 * (length events.now + setup.now.sq) ≤ n → IsOk result }
 {
     let mut core = Core::new_in(memory, alloc, setup)?;
     let found = first_wrong_apart(memory, &mut core, events);
@@ -79,7 +82,8 @@ fn first_wrong<M: Memory>(
     requires { Fits machine.old [] }
     ensures found { IfOk result
         (λ found. MatchOption found (IsLawful machine.old.core.setup (history_of events.now)) (λ at. IsFirstWrongAnswer machine.old.core.setup events.now at.0 at.1)) }
-    ensures granted { ((n : ℕ) → M.grants memory.now n) → IsOk result }
+    ensures granted { (n : ℕ) → M.grants memory.now n → max_len ≤ n
+        → 3 * (length events.now + machine.old.core.setup.sq) ≤ n → IsOk result }
 {
     for (place, event) in events.iter().enumerate() {
         let (step, given) = *event;
@@ -99,7 +103,8 @@ fn first_wrong_apart<M: Memory>(
     requires { FitsApart core.old [] }
     ensures found { IfOk result
         (λ found. MatchOption found (IsLawfulApart core.old.setup (history_of events.now)) (λ at. IsFirstWrongApart core.old.setup events.now at.0 at.1)) }
-    ensures granted { ((n : ℕ) → M.grants memory.now n) → IsOk result }
+    ensures granted { (n : ℕ) → M.grants memory.now n
+        → 3 * (length events.now + core.old.setup.sq) ≤ n → IsOk result }
 {
     for (place, event) in events.iter().enumerate() {
         let (step, given) = *event;

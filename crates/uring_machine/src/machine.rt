@@ -1,6 +1,6 @@
 //! The machine: a core and its files.
 
-ghost use Rattle.std.specs.Prelude.{◌≡◌, ℕ, ◌≤◌, ◌∷◌, [], true, Some, IsOk, IfOk, IfErr, IsErrOf, OnOk};
+ghost use Rattle.std.specs.Prelude.{◌≡◌, ℕ, ◌+◌, ◌*◌, ◌≤◌, ◌∷◌, [], true, Some, length, IsOk, IfOk, IfErr, IsErrOf, OnOk};
 ghost use Rattle.uring_entry.specs.Requests.{operation_running};
 ghost use Rattle.uring_files.specs.Contents.{max_len};
 ghost use Rattle.uring_files.specs.Operations.{IsForFiles, is_lengthening};
@@ -155,6 +155,10 @@ impl Machine {
         ensures granted { (h : History) (n : ℕ) → Fits self.old h → M.grants memory.now n
             → elements_for_step self.old.core (world self.old.core.setup h) step ≤ n
             → IsErrOf result Refusal.NoMemory → ⊥ }
+
+        // By the steps so far, the ring's size and the bytes of a file alone, whatever memory is there.
+        ensures by_steps { (h : History) (n : ℕ) → Fits self.old h → M.grants memory.now n → max_len ≤ n
+            → 3 * (length h + self.old.core.setup.sq) ≤ n → IsErrOf result Refusal.NoMemory → ⊥ }
     {
         match step {
             Step::Finish { number } => self.follow_finish(memory, number, given),

@@ -1,4 +1,4 @@
-use Rattle.std.proofs.Common.{◌+◌, subst, arith}
+use Rattle.std.proofs.Common.{subst, arith}
 use Rattle.uring_machine.proofs.Common.{IfOk, IsFirstWrongApart, IsLawfulApart, MatchOption, Setup, false≢true, history_of}
 use Rattle.uring_machine.proofs.checks.check_apart_in.Goals as goal
 
@@ -8,9 +8,9 @@ returns-clause-found g c =
     c.in_ok-core.ensures.setup c.first_wrong_apart-found.ensures.found
 
 pub returns-clause-granted : goal.returns-clause-granted
-returns-clause-granted g c = c.first_wrong_apart-found.ensures.granted
+returns-clause-granted g c = λ n grants cq few.
+    (rw c.in_ok-core.ensures.setup at c.first_wrong_apart-found.ensures.granted) n grants few
 
 pub returns-in_err-core-clause-granted : goal.returns-in_err-core-clause-granted
-returns-in_err-core-clause-granted g c = λ sure.
-    let s : Setup = c.args.setup.now in
-    absurd (false≢true (c.in_err-core.ensures.granted (s.sq + s.cq) (sure _) (omega arith) (omega arith)))
+returns-in_err-core-clause-granted g c = λ n grants cq few.
+    absurd (false≢true (c.in_err-core.ensures.granted n grants (omega (arith, few)) cq))

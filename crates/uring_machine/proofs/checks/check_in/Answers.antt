@@ -1,4 +1,4 @@
-use Rattle.std.proofs.Common.{◌+◌, subst, arith}
+use Rattle.std.proofs.Common.{subst, arith}
 use Rattle.uring_machine.proofs.Common.{IfOk, IsFirstWrongAnswer, IsLawful, MatchOption, Setup, false≢true, history_of}
 use Rattle.uring_machine.proofs.checks.check_in.Goals as goal
 
@@ -8,9 +8,9 @@ returns-clause-found g c =
     c.in_ok-machine.ensures.setup c.first_wrong-found.ensures.found
 
 pub returns-clause-granted : goal.returns-clause-granted
-returns-clause-granted g c = c.first_wrong-found.ensures.granted
+returns-clause-granted g c = λ n grants bytes cq files few.
+    (rw c.in_ok-machine.ensures.setup at c.first_wrong-found.ensures.granted) n grants bytes few
 
 pub returns-in_err-machine-clause-granted : goal.returns-in_err-machine-clause-granted
-returns-in_err-machine-clause-granted g c = λ sure.
-    let s : Setup = c.args.setup.now in
-    absurd (false≢true (c.in_err-machine.ensures.granted (s.sq + s.cq + s.files) (sure _) (omega arith) (omega arith) (omega arith)))
+returns-in_err-machine-clause-granted g c = λ n grants bytes cq files few.
+    absurd (false≢true (c.in_err-machine.ensures.granted n grants (omega (arith, few)) cq files))

@@ -1,6 +1,6 @@
 use Rattle.std.proofs.Common.{ap, arith, ◌∙◌}
 use Rattle.uring_machine.proofs.Common.{Err, take_all}
-use Rattle.uring_machine.proofs.FirstWrong.{history_next, stops, goes_on, no_more, first_wrong_at}
+use Rattle.uring_machine.proofs.FirstWrong.{history_next, stops, few_before, goes_on, first_wrong_at}
 use Rattle.uring_machine.proofs.checks.first_wrong.Goals as goal
 
 pub returns-in-Err-clause-found : goal.returns-in-Err-clause-found
@@ -11,9 +11,9 @@ returns-in-Err-clause-found g c =
     c.loop-place.invariant.fits.lawful (c.in-Err.ensures.refused _ c.loop-place.invariant.fits) is)
 
 pub returns-in-Err-clause-granted : goal.returns-in-Err-clause-granted
-returns-in-Err-clause-granted g c = λ sure.
+returns-in-Err-clause-granted g c = λ n grants files few.
     goes_on c.in-Err.refusal c.loop-place.place c.stopped.result c.stopped.ensures.wrong
-    (λ none. c.in-Err.ensures.granted _ _ c.loop-place.invariant.fits (sure _) (no_more _) (ap (λ r. Err r) none))
+    (λ none. c.in-Err.ensures.by_steps _ n c.loop-place.invariant.fits grants files (few_before c.args.machine.now.core.setup c.loop-place.machine.core.setup c.args.events.now c.loop-place.place n c.loop-place.invariant.setup c.loop-place-test.true few) (ap (λ r. Err r) none))
 
 pub returns-clause-found : goal.returns-clause-found
 returns-clause-found g c =

@@ -3,6 +3,7 @@ use Rattle.uring_core.specs.declared.answer.Answer.TheVariants as answer
 use Rattle.uring_core.proofs.Common.{requests_of, world}
 use Rattle.uring_core.proofs.CoreSteps.{core_after}
 use Rattle.uring_core.proofs.CoreCalls.{opens_within, opens_with, again_goes, call_goes, on_success, not_refused, on_failure}
+use Rattle.uring_core.proofs.Elements.{few_wanted}
 use Rattle.uring_core.proofs.cores.Core.begin.Goals as goal
 
 pub unreachable-requires : goal.unreachable-requires
@@ -65,3 +66,26 @@ returns-then-is_err-clause-fits g c =
     rw (← c.self.view_is) (again_goes _ c.reserve_in.new.self c.reserve_in-2.new.self c.args.count c.from-length.result
     (λ h f. sym (told h f) ∙ ap (λ k. answer.Call k) (sym c.from-length.ensures))
     c.reserve_in.ensures.counts c.reserve_in.ensures.between c.reserve_in.ensures.shows (on_failure c.reserve_in-2.result _ failed c.reserve_in-2.ensures.err) (inr (rw c.outstanding.ensures.value at short)))
+
+pub returns-in-Err-NoMemory-clause-by_steps : goal.returns-in-Err-NoMemory-clause-by_steps
+returns-in-Err-NoMemory-clause-by_steps g c =
+    let told = rw (← c.self.view_is) at c.in-Call.ensures in
+    rw (← c.self.view_is)
+    (λ h n f grants enough again.
+    let refused = c.in-Err-NoMemory.is ∙ ap Err c.in-Err-NoMemory.field-0-is in
+    let positions = opens_with _ c.args.count c.from-length.result (λ k fits. sym (told k fits) ∙ ap (λ j. answer.Call j) (sym c.from-length.ensures)) h f in
+    let few = few_wanted _ h c.args.count c.from-length.result f positions in
+    let some = c.reserve_in.ensures.no_memory refused in
+    c.reserve_in.ensures.granted (requests_of (world c.self.inside.setup h)) n f.shows.requests grants (omega (arith, enough, few.requests, some)) refused)
+
+pub returns-then-is_err-clause-by_steps : goal.returns-then-is_err-clause-by_steps
+returns-then-is_err-clause-by_steps g c =
+    let told = rw (← c.self.view_is) at c.in-Call.ensures in
+    let failed = sym c.is_err.ensures.value ∙ c.if-is_err.true in
+    let short = on_failure c.reserve_in-2.result _ failed c.reserve_in-2.ensures.short in
+    rw (← c.self.view_is)
+    (λ h n f grants enough again.
+    let positions = opens_with _ c.args.count c.from-length.result (λ k fits. sym (told k fits) ∙ ap (λ j. answer.Call j) (sym c.from-length.ensures)) h f in
+    let few = few_wanted _ h c.args.count c.from-length.result f positions in
+    let outstanding = c.outstanding.ensures.value in
+    not_refused c.reserve_in-2.result (c.reserve_in-2.ensures.granted n grants (omega (arith, enough, few.ends, short, outstanding))) failed)
