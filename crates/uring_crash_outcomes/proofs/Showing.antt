@@ -1,7 +1,11 @@
 -- What may be left of files, with one file more; and what is shown after moves, by the logs that they make.
-use Rattle.std.proofs.Common.{◌≡◌, ℕ, suc, ◌+◌, ◌<◌, pos, List, [], ◌∷◌, ◌++◌, length, get_or, map, Option, Some, None, Result, refl, sym, subst, ap, ◌∙◌, arith}
+use Rattle.std.proofs.Common.{◌≡◌, ℕ, suc, ◌+◌, ◌<◌, pos, List, [], ◌∷◌, ◌++◌, length, get_or, map, Option, Some, None, Result, Ok, Err, refl, sym, subst, ap, ◌∙◌, arith}
 use Rattle.uring_crash_outcomes.proofs.Common.{AreLeftOf, AreShown, Contains, Cqe, Crash, HasMade, IfErr, IsCrowdedBy, IsErrAnd, IsImage, IsShownAfter, IsTooMany, Log, Moment, Move, Op, Setup, Shows, Sqe, Widens, empty_log, file_at, first_at, first_files, first_many, get_or_append_left, length-append, length-map, log_along, log_moved, log_on, log_past, logs_after, logs_at, logs_on, moved, option_map, slice_get, slice_index_or, spread_over, starting, with_file}
 use Rattle.uring_crash_outcomes.specs.Found.{IsReason}
+use Rattle.uring_crash_outcomes.specs.Faults.{fault_of_walk}
+use Rattle.uring_outcomes.specs.Faults as runs
+use Rattle.uring_outcomes.specs.declared.fault.WalkFault.{WalkFault}
+use Rattle.uring_outcomes.specs.declared.fault.WalkFault.TheVariants as walk
 use Rattle.std.proofs.Math.Seq.{get_or-append_seam}
 use Rattle.std.proofs.lemmas.Option.{slice_get-map, slice_get_within, slice_get_read}
 use Rattle.uring_files.specs.Contents.{FileContents}
@@ -162,6 +166,24 @@ crowded logs k log most e low is many = grind (arith, slice_get_read)
 
 pub err_told : {T E : Type 0} (r : Result T E) (P : E → Type 0) (e : E) → IsErrAnd r (λ x. x ≡ e) → P e → IfErr r P
 err_told r P e is p = grind arith
+
+pub not_told : {T E : Type 0} (r : Result T E) (e other : E) → IsErrAnd r (λ x. x ≡ e) → (e ≡ other → ⊥)
+    → r ≡ Err other → ⊥
+not_told (Ok x) e other is not same = absurd cc
+not_told (Err x) e other is not same = not (let there : x ≡ other = cc in sym is ∙ there)
+
+-- what keeps a run from its end has its reason, and none is that memory was refused if all that may be asked for is granted
+pub walk_reason : (grants : ℕ → Type 0) (unit : ℕ) (g : Setup) (calls : List (List Sqe)) (most : ℕ) (e : WalkFault)
+    → runs.IsReason grants calls e → IsReason unit g calls most (fault_of_walk e)
+walk_reason grants unit g calls most walk.Memory reason = tt
+walk_reason grants unit g calls most walk.Spent reason = reason
+walk_reason grants unit g calls most walk.Paths reason = tt
+
+pub walk_granted : (grants : ℕ → Type 0) (calls : List (List Sqe)) (e : WalkFault) → runs.IsReason grants calls e
+    → ((n : ℕ) → grants n) → fault_of_walk e ≡ Memory → ⊥
+walk_granted grants calls walk.Memory reason all is = reason all
+walk_granted grants calls walk.Spent reason all is = absurd cc
+walk_granted grants calls walk.Paths reason all is = reason
 
 -- the reason, by the logs after moves
 pub reason_of : (unit : ℕ) (g : Setup) (calls : List (List Sqe)) (moves : List Move) (run : Run) (logs : List Log) (most : ℕ) (e : CrashFault)

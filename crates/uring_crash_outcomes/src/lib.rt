@@ -9,4 +9,4 @@ mod walk;
 
 pub use crash::Crash;
 pub use fault::CrashFault;
-pub use walk::{FoundCrashes, crashes_within};
+pub use walk::{FoundCrashes, crashes_within, crashes_within_in};

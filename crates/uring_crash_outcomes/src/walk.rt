@@ -1,6 +1,6 @@
 //! The walk over all lists of moves, with what a power failure may show after each.
 
-ghost use Rattle.std.specs.Prelude.{◌≡◌, ◌<◌, ◌∷◌, [], true, false, IfOk, IfErr, OnOk};
+ghost use Rattle.std.specs.Prelude.{◌≡◌, ◌≢◌, ◌<◌, ◌∷◌, [], ℕ, true, false, Err, IfOk, IfErr, IsOk, OnOk};
 ghost use Rattle.uring_outcomes.specs.declared.move_of_calls.Move.{Move};
 ghost use Rattle.uring_outcomes.specs.Runs.{entries_of};
 ghost use Rattle.uring_outcomes.specs.Walks.{paths_of};
@@ -13,6 +13,7 @@ use crate::trial::Trial;
 use std::alloc::{AllocError, Global};
 use uring_crash_machine::Setup;
 use uring_entry::Sqe;
+use uring_memory::{Memory, push};
 use uring_outcomes::{Move, all_next, push_longer};
 
 /// What was found of all that a power failure may show.
@@ -46,8 +47,30 @@ pub fn crashes_within(
         → AreAllCrashes unit setup.now (entries_of calls.now) found.crashes.items) }
     ensures fault { IfErr result (IsReason unit setup.now (entries_of calls.now) images) }
 {
-    let mut walk = Walk::new(alloc)?;
-    let is_all = walk.take_paths(alloc, setup, unit, calls, most, images)?;
+    crashes_within_in(&alloc, alloc, setup, unit, calls, most, images)
+}
+
+/// As `crashes_within`, by this memory. If it grants whatever is asked for, it never ends with `Memory`.
+pub fn crashes_within_in<M: Memory>(
+    memory: &M,
+    alloc: Global,
+    setup: &Setup,
+    unit: u64,
+    calls: &[Vec<Sqe>],
+    most: u64,
+    images: u32,
+) -> Result<FoundCrashes, CrashFault>
+    requires unit { 0 < unit }
+    requires manual { setup.now.linux ≡ false }
+    ensures right { IfOk result (λ found.
+        AreCrashes unit setup.now (entries_of calls.now) found.crashes.items) }
+    ensures all { IfOk result (λ found. found.is_all ≡ true
+        → AreAllCrashes unit setup.now (entries_of calls.now) found.crashes.items) }
+    ensures fault { IfErr result (IsReason unit setup.now (entries_of calls.now) images) }
+    ensures granted { ((n : ℕ) → M.grants memory.now n) → result ≢ Err CrashFault.Memory }
+{
+    let mut walk = Walk::new(memory, alloc)?;
+    let is_all = walk.take_paths(memory, alloc, setup, unit, calls, most, images)?;
     let Walk { todo, found } = walk;
     drop(todo);
     Ok(FoundCrashes {
@@ -65,12 +88,13 @@ struct Walk {
 
 impl Walk {
     /// Nothing was found, and the path of no move is to be taken.
-    fn new(alloc: Global) -> Result<Walk, AllocError>
+    fn new<M: Memory>(memory: &M, alloc: Global) -> Result<Walk, AllocError>
         ensures todo { IfOk result (λ walk. paths_of walk.todo.items ≡ [] ∷ []) }
         ensures found { IfOk result (λ walk. walk.found.items ≡ []) }
+        ensures granted { ((n : ℕ) → M.grants memory.now n) → IsOk result }
     {
         let mut todo = Vec::new(alloc);
-        todo.push(Vec::new(alloc))?;
+        push(memory, &mut todo, Vec::new(alloc))?;
         Ok(Walk {
             todo,
             found: Vec::new(alloc),
@@ -78,8 +102,9 @@ impl Walk {
     }
 
     /// Takes at most so many paths, and tells whether none is left.
-    fn take_paths(
+    fn take_paths<M: Memory>(
         &mut self,
+        memory: &M,
         alloc: Global,
         setup: &Setup,
         unit: u64,
@@ -93,19 +118,21 @@ impl Walk {
             (IsWalk unit setup.now (entries_of calls.now) (paths_of self.new.todo.items) self.new.found.items) }
         ensures over { IfOk result (λ is_all. is_all ≡ true → self.new.todo.items ≡ []) }
         ensures fault { IfErr result (IsReason unit setup.now (entries_of calls.now) images) }
+        ensures granted { ((n : ℕ) → M.grants memory.now n) → result ≢ Err CrashFault.Memory }
     {
         'paths: for _ in 0..most {
             let Some(path) = self.todo.pop() else {
                 return Ok(true);
             };
-            self.take(alloc, setup, unit, calls, path.as_slice(), images)?;
+            self.take(memory, alloc, setup, unit, calls, path.as_slice(), images)?;
         }
         Ok(self.todo.is_empty())
     }
 
     /// Takes a path: notes what a power failure may show after it, and leaves the paths that are longer by one move to be taken.
-    fn take(
+    fn take<M: Memory>(
         &mut self,
+        memory: &M,
         alloc: Global,
         setup: &Setup,
         unit: u64,
@@ -117,16 +144,18 @@ impl Walk {
         ensures takes { OnOk result
             (TakesPath unit setup.now (entries_of calls.now) path.now (paths_of self.old.todo.items) self.old.found.items (paths_of self.new.todo.items) self.new.found.items) }
         ensures fault { IfErr result (IsReason unit setup.now (entries_of calls.now) images) }
+        ensures granted { ((n : ℕ) → M.grants memory.now n) → result ≢ Err CrashFault.Memory }
     {
-        let mut trial = Trial::new(alloc, setup, unit)?;
-        let taken = self.try_path(alloc, setup, unit, calls, path, images, &mut trial);
+        let mut trial = Trial::new(memory, alloc, setup, unit)?;
+        let taken = self.try_path(memory, alloc, setup, unit, calls, path, images, &mut trial);
         drop(trial);
         taken
     }
 
     /// The same, on a trial in which nothing has happened.
-    fn try_path(
+    fn try_path<M: Memory>(
         &mut self,
+        memory: &M,
         alloc: Global,
         setup: &Setup,
         unit: u64,
@@ -139,20 +168,23 @@ impl Walk {
         ensures takes { OnOk result
             (TakesPath unit setup.now (entries_of calls.now) path.now (paths_of self.old.todo.items) self.old.found.items (paths_of self.new.todo.items) self.new.found.items) }
         ensures fault { IfErr result (IsReason unit setup.now (entries_of calls.now) images) }
+        ensures granted { ((n : ℕ) → M.grants memory.now n) → result ≢ Err CrashFault.Memory }
     {
-        if !trial.replay(alloc, calls, path)? {
+        if !trial.replay(memory, calls, path)? {
             return Ok(());
         }
         let mut shown = crashes_of(
+            memory,
             alloc,
             trial.run.posted.as_slice(),
             trial.logs.as_slice(),
             images,
         )?;
+        memory.reserve(&mut self.found, shown.len())?;
         self.found.append(&mut shown)?;
         drop(shown);
-        let moves = all_next(&alloc, alloc, &trial.run, calls)?;
-        let left = push_longer(&alloc, alloc, path, moves.as_slice(), &mut self.todo);
+        let moves = all_next(memory, alloc, &trial.run, calls)?;
+        let left = push_longer(memory, alloc, path, moves.as_slice(), &mut self.todo);
         drop(moves);
         Ok(left?)
     }

@@ -3,8 +3,8 @@ use Rattle.uring_crash_machine.specs.Epochs.{first_files, logs_on}
 use Rattle.uring_crash_outcomes.proofs.Trying.{has_made_none}
 use Rattle.uring_crash_outcomes.proofs.trial.Trial.new.Goals as goal
 
-pub returns : goal.returns
-returns c =
+pub returns-clause-made : goal.returns-clause-made
+returns-clause-made g c =
     let few : c.args.setup.now.files ≤ 64 = c.files.ensures.limits.files_limit in
     let same : c.files.result ≡ c.args.setup.now.files = c.files.ensures.value in
     let again : c.files-2.result ≡ c.args.setup.now.files = c.files-2.ensures.value in
