@@ -27,7 +27,7 @@ pub use check_loop::{check, check_in};
 pub use ends::Ends;
 pub use record_line::split_record;
 pub use setup_line::{Said, said_by, said_by_in};
-pub use setup_text::push_setup;
+pub use setup_text::{push_setup, push_setup_in};
 pub use uring_entry::Setup;
 pub use uring_text::TraceFault;
 pub use verdict::Verdict;

@@ -1,6 +1,6 @@
 use Rattle.std.proofs.Common.{◌≡◌, ◌++◌, List, ℕ, ap₂, ◌∙◌, append_assoc}
 use Rattle.uring_check.proofs.Common.{codes, decimal, end_text, on_ok_weaker, string_bytes}
-use Rattle.uring_check.proofs.setup_text.push_setup.Goals as goal
+use Rattle.uring_check.proofs.setup_text.push_setup_in.Goals as goal
 
 -- what is appended in five parts, four of a name and a number
 five_parts : (old a b c d new u k v l w m x n y z : List ℕ) → a ≡ old ++ u ++ k → b ≡ a ++ v ++ l
@@ -8,8 +8,8 @@ five_parts : (old a b c d new u k v l w m x n y z : List ℕ) → a ≡ old ++ u
     → new ≡ old ++ (u ++ k ++ v ++ l ++ w ++ m ++ x ++ n ++ z)
 five_parts old a b c d new u k v l w m x n y z e f g h i is = rw (i, is, h, g, f, e) (simp append_assoc)
 
-pub returns : goal.returns
-returns c =
+pub returns-clause-bytes : goal.returns-clause-bytes
+returns-clause-bytes g c =
     let g = c.args.setup.now in
     let stop : c.end_of.result.now ≡ end_text g.stops g.linux = c.end_of.ensures ∙ ap₂ end_text c.stops.ensures.value c.is_linux.ensures.value in
     on_ok_weaker c.push_text.result
