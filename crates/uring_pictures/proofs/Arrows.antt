@@ -1,6 +1,7 @@
 -- The parts of a graph, one by one.
-use Rattle.std.proofs.Common.{◌≡◌, ℕ, ◌+◌, List, ◌++◌, Bool, not, ◌||◌, Option, Some, None, refl, append_assoc, arith}
+use Rattle.std.proofs.Common.{◌≡◌, ℕ, ◌+◌, List, [], ◌++◌, Bool, not, ◌||◌, Option, Some, None, refl, append_assoc, arith}
 use Rattle.uring_pictures.proofs.Common.{Requests, Sqe, arrows_text, call_of, codes, decimal, entry_outstanding, first_of, if◌then◌else◌, in_chain, is_last, is_some, member_before, node_text, placed_text, row_text}
+use Rattle.std.proofs.lemmas.List.{append-nil}
 use Rattle.std.specs.Prelude.{nat_lt}
 use Rattle.uring_linux.specs.LinuxRequests.{LinuxRequests}
 use Rattle.uring_rules.specs.Rules.{why_of}
@@ -27,8 +28,8 @@ pub node_parts : (a b c d e f g p q r s t h i j k l : List ℕ)
 node_parts a b c d e f g p q r s t h i j k l = simp append_assoc refl
 
 -- the parts of an arrow
-pub arrow_parts : (a b c d e : List ℕ) → a ++ (b ++ (c ++ (d ++ e))) ≡ a ++ b ++ c ++ d ++ e
-arrow_parts a b c d e = simp append_assoc refl
+pub arrow_parts : (a b c d e : List ℕ) → a ++ (b ++ (c ++ (d ++ (e ++ [])))) ≡ a ++ b ++ c ++ d ++ e
+arrow_parts a b c d e = simp (append_assoc, append-nil)
 
 -- the first member of the next request's chain
 pub first_next : (r : Requests) (n : ℕ) (last : Bool) (first : ℕ) → last ≡ is_last r n → first ≡ first_of r n
