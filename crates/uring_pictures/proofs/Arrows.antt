@@ -1,6 +1,7 @@
 -- The parts of a graph, one by one.
-use Rattle.std.proofs.Common.{◌≡◌, ℕ, ◌+◌, List, ◌++◌, Bool, not, ◌||◌, Option, Some, None, refl, append_assoc, arith}
+use Rattle.std.proofs.Common.{◌≡◌, ℕ, ◌+◌, List, [], ◌++◌, Bool, not, ◌||◌, Option, Some, None, refl, append_assoc, arith}
 use Rattle.uring_pictures.proofs.Common.{Requests, Sqe, arrows_text, call_of, codes, decimal, entry_outstanding, first_of, if◌then◌else◌, in_chain, is_last, is_some, member_before, node_text, placed_text, row_text}
+use Rattle.std.proofs.lemmas.List.{append-nil}
 use Rattle.std.specs.Prelude.{nat_lt}
 use Rattle.uring_linux.specs.LinuxRequests.{LinuxRequests}
 use Rattle.uring_rules.specs.Rules.{why_of}
@@ -9,7 +10,6 @@ use Rattle.uring_entry.specs.declared.why.Since.TheVariants.{SameGroup, ItDrains
 use Rattle.uring_entry.specs.declared.why.Why.{Why}
 use Rattle.uring_entry.specs.declared.why.Why.TheVariants.{Waits}
 use Rattle.uring_pictures.specs.Graphs.{chain_arrow}
-use Rattle.uring_trace.specs.Reasons.{since_text}
 
 -- what stands in a cluster, whose beginning has five parts, and in two
 pub framed : (old so on new p q r s t part end : List ℕ) → so ≡ old ++ (p ++ (q ++ (r ++ (s ++ t))))
@@ -28,8 +28,8 @@ pub node_parts : (a b c d e f g p q r s t h i j k l : List ℕ)
 node_parts a b c d e f g p q r s t h i j k l = simp append_assoc refl
 
 -- the parts of an arrow
-pub arrow_parts : (a b c d e f g : List ℕ) → a ++ (b ++ (c ++ (d ++ (e ++ (f ++ g))))) ≡ a ++ b ++ c ++ d ++ e ++ f ++ g
-arrow_parts a b c d e f g = simp append_assoc refl
+pub arrow_parts : (a b c d e : List ℕ) → a ++ (b ++ (c ++ (d ++ (e ++ [])))) ≡ a ++ b ++ c ++ d ++ e
+arrow_parts a b c d e = simp (append_assoc, append-nil)
 
 -- the first member of the next request's chain
 pub first_next : (r : Requests) (n : ℕ) (last : Bool) (first : ℕ) → last ≡ is_last r n → first ≡ first_of r n
@@ -54,7 +54,7 @@ row_placed linux l n e call first last why before after is calls same ends stand
 -- the arrows from a request that waits for one of another group
 pub both_arrows : (old on new : List ℕ) (n m : ℕ) (before : Option ℕ) (since : Since) → (since ≡ SameGroup → ⊥)
     → on ≡ old ++ chain_arrow n before
-    → new ≡ on ++ (codes "  " ++ decimal n ++ codes " -> " ++ decimal m ++ codes " [style=dashed, label=\"" ++ since_text m since ++ codes "\"];\n")
+    → new ≡ on ++ (codes "  " ++ decimal n ++ codes " -> " ++ decimal m ++ codes " [style=dashed];\n")
     → new ≡ old ++ arrows_text n before (Waits m since)
 both_arrows old on new n m before SameGroup other chain line = absurd (other refl)
 both_arrows old on new n m before ItDrains other chain line = rw (line, chain) (append_assoc old _ _)

@@ -9,7 +9,7 @@ pub use Rattle.uring_entry.specs.Layout.{Sqe, user_data_of}
 pub use Rattle.uring_entry.specs.Requests.{Requests, entry_outstanding, has_ended, is_joined, is_last, with_call}
 pub use Rattle.uring_entry.specs.Setup.{Setup}
 pub use Rattle.uring_pictures.specs.Following.{Followed, Following, HasAll, HasFollowed, Keeps, MakesStep, ReadsLine, is_linux_at, linux_at, requests_at}
-pub use Rattle.uring_pictures.specs.Graphs.{arrows_below, arrows_text, call_of, first_of, flag_text, graph_of, in_chain, member_before, node_text, nodes_below, placed_text, row_text, shape_of, standing_text}
+pub use Rattle.uring_pictures.specs.Graphs.{arrows_below, arrows_text, call_of, first_of, flag_text, graph_of, in_chain, member_before, node_text, nodes_below, placed_text, row_text, shape_of}
 pub use Rattle.uring_pictures.specs.Moments.{does_count, up_to}
 pub use Rattle.uring_pictures.specs.Readings.{EndsLine, ReadsAll, TakesIn}
 pub use Rattle.uring_pictures.specs.declared.accepted.Accepted.{Accepted}

@@ -3,8 +3,7 @@ use Rattle.std.specs.Prelude.{ℕ, Bool, true, false, ◌&&◌, nat_lt, nat_eq, 
 use Rattle.std.specs.Fmt.{decimal, signed_decimal}
 use Rattle.uring_entry.specs.Layout.{has}
 use Rattle.uring_text.specs.Forms.{operation_text}
-use Rattle.uring_trace.specs.Reasons.{why_text, since_text}
-use Rattle.uring_pictures.specs.Graphs.{standing_text}
+use Rattle.uring_trace.specs.Reasons.{why_text}
 use Rattle.uring_pictures.specs.declared.form_text.Value.{Value}
 use Rattle.uring_pictures.specs.declared.form_text.Value.TheVariants as value
 
@@ -17,8 +16,6 @@ value_text (value.Operation e) = operation_text e.now
 value_text (value.Flag e flag name) = if has flag.0 e.now then name.now else []
 value_text (value.Member name (Some n)) = name.now ++ decimal n
 value_text (value.Reason why) = why_text why
-value_text (value.Standing why) = standing_text why
-value_text (value.Since m since) = since_text m since
 value_text _ = []
 
 abbrev pub is_known : Value → Bool
@@ -29,8 +26,6 @@ is_known (value.Operation e) = true
 is_known (value.Flag e flag name) = true
 is_known (value.Member name number) = true
 is_known (value.Reason why) = true
-is_known (value.Standing why) = true
-is_known (value.Since m since) = true
 is_known _ = false
 
 -- the next value, which a mark (64) stands for, and those after it

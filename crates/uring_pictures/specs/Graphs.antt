@@ -10,7 +10,7 @@ use Rattle.uring_entry.specs.declared.why.Why.{Why}
 use Rattle.uring_entry.specs.declared.why.Why.TheVariants.{Runs, IsDoomed, Waits}
 use Rattle.uring_entry.specs.declared.why.Since.{Since}
 use Rattle.uring_entry.specs.declared.why.Since.TheVariants.{SameGroup}
-use Rattle.uring_trace.specs.Reasons.{why_text, since_text}
+use Rattle.uring_trace.specs.Reasons.{why_text}
 use Rattle.uring_text.specs.Forms.{operation_text}
 
 -- Where a request stands.
@@ -43,11 +43,6 @@ shape_of (IsDoomed doom) = codes "octagon"
 shape_of (Waits m since) = codes "box"
 shape_of _ = codes "diamond"
 
--- how a request stands. For whom one waits is told at its arrows
-abbrev pub standing_text : Why → List ℕ
-standing_text (Waits m since) = codes "waits"
-standing_text why = why_text why
-
 -- the name of a flag after a comma, if it is set
 abbrev pub flag_text : ℕ → List ℕ → Sqe → List ℕ
 flag_text flag name e = if has flag e then codes ", " ++ name else []
@@ -58,11 +53,11 @@ flags_text e =
     flag_text io_drain (codes "drain") e ++ flag_text io_link (codes "link") e ++ flag_text io_hardlink (codes "hard link") e ++ flag_text 16 (codes "async") e
     ++ flag_text skip_success (codes "skip success") e
 
--- number, operation and flags, user data, and how it stands, a line each
+-- number, operation and flags, user data, and how it stands and why, a line each
 abbrev pub label_text : ℕ → Sqe → Why → List ℕ
 label_text n e why =
     decimal n ++ codes ": " ++ operation_text e ++ flags_text e ++ codes "\\nuser data " ++ decimal (user_data_of e) ++ codes "\\n"
-    ++ standing_text why
+    ++ why_text why
 
 abbrev pub node_text : ℕ → Sqe → Why → List ℕ
 node_text n e why =
@@ -99,13 +94,13 @@ nodes_below is_linux l (suc n) = nodes_below is_linux l n ++ row_text is_linux l
 abbrev pub chain_arrow : ℕ → Option ℕ → List ℕ
 chain_arrow n None = []
 chain_arrow n (Some m) =
-    codes "  " ++ decimal n ++ codes " -> " ++ decimal m ++ codes " [label=\"" ++ since_text m SameGroup ++ codes "\"];\n"
+    codes "  " ++ decimal n ++ codes " -> " ++ decimal m ++ codes ";\n"
 
 -- to the least request that it waits for, unless that is a member of its chain
 abbrev pub drain_arrow : ℕ → ℕ → Since → List ℕ
 drain_arrow n m SameGroup = []
 drain_arrow n m since =
-    codes "  " ++ decimal n ++ codes " -> " ++ decimal m ++ codes " [style=dashed, label=\"" ++ since_text m since ++ codes "\"];\n"
+    codes "  " ++ decimal n ++ codes " -> " ++ decimal m ++ codes " [style=dashed];\n"
 
 -- both, of a request that waits
 abbrev pub arrows_text : ℕ → Option ℕ → Why → List ℕ

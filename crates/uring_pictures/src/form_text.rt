@@ -6,11 +6,11 @@ ghost use Rattle.uring_pictures.specs.Forms.{form_text, is_known, is_told, value
 use itoa::Buffer;
 use std::alloc::{AllocError, Global};
 use uring_entry::{Sqe, SqeFlags};
-use uring_machine::{Since, Why};
+use uring_machine::Why;
 use uring_text::{
     TextMemory, push_named, push_number, push_operation, push_signed, push_text, push_visible_in,
 };
-use uring_trace::{push_since_in, push_why_in};
+use uring_trace::push_why_in;
 
 /// What stands in a form for a value.
 const MARK: u8 = b'@';
@@ -62,12 +62,6 @@ pub(crate) enum Value<'a> {
 
     /// Why a request stands as it does, in the words of `explain`.
     Reason(Why),
-
-    /// The same in a graph, where arrows tell for whom it waits.
-    Standing(Why),
-
-    /// Why this request is waited for.
-    Since(u64, Since),
 
     /// A number, or `-` for none, at the right end of a column.
     Wide(Option<u64>),
@@ -127,9 +121,6 @@ fn push_value<M: TextMemory>(
         Value::Flag(entry, flag, name) if entry.has(*flag) => push_text(memory, text, name),
         Value::Flag(..) => Ok(()),
         Value::Reason(why) => push_why_in(memory, text, *why),
-        Value::Standing(Why::Waits { .. }) => push_text(memory, text, "waits"),
-        Value::Standing(why) => push_why_in(memory, text, *why),
-        Value::Since(least, since) => push_since_in(memory, text, *least, *since),
         Value::Wide(number) => push_wide(memory, text, *number),
     }
 }

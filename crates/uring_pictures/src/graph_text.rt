@@ -2,7 +2,6 @@
 
 ghost use Rattle.std.specs.Prelude.{◌≡◌, ◌++◌, ◌-◌, ◌^◌, ◌<◌, ℕ, OnOk, IsOk, length, codes, string_bytes, decimal};
 ghost use Rattle.uring_core.specs.Histories.{History};
-ghost use Rattle.uring_trace.specs.Reasons.{since_text};
 ghost use Rattle.uring_pictures.specs.Following.{Keeps, is_linux_at, linux_at, requests_at};
 ghost use Rattle.uring_pictures.specs.Graphs.{graph_of, nodes_below, arrows_below, first_of, row_text, arrows_text, chain_arrow};
 
@@ -119,8 +118,7 @@ fn push_both<M: TextMemory>(
     if matches!(since, Since::SameGroup) {
         return Ok(());
     }
-    let style = " [style=dashed, label=\"";
-    push_arrow(memory, text, number, least, style, since)
+    push_arrow(memory, text, number, least, " [style=dashed];\n")
 }
 
 /// Appends the arrow to the member of its chain before it, if one is outstanding.
@@ -137,29 +135,26 @@ fn push_chain_arrow<M: TextMemory>(
     let Some(before) = before else {
         return Ok(());
     };
-    let style = " [label=\"";
-    push_arrow(memory, text, number, before, style, Since::SameGroup)
+    push_arrow(memory, text, number, before, ";\n")
 }
 
-/// Appends an arrow of this style, with the reason why the other request is waited for.
+/// Appends an arrow with this end of its line.
 fn push_arrow<M: TextMemory>(
     memory: &M,
     text: &mut String,
     number: u64,
     other: u64,
-    style: &str,
-    since: Since,
+    end: &str,
 ) -> Result<(), AllocError>
     ensures line { OnOk result
         (string_bytes text.new
-        ≡ string_bytes text.old ++ (codes "  " ++ decimal number ++ codes " -> " ++ decimal other ++ style.now ++ since_text other since ++ codes "\"];\n")) }
+        ≡ string_bytes text.old ++ (codes "  " ++ decimal number ++ codes " -> " ++ decimal other ++ end.now)) }
     ensures granted { ((n : ℕ) → M.grants memory.now n) → IsOk result }
 {
     let values = [
         Value::Number(number),
         Value::Number(other),
-        Value::Text(style),
-        Value::Since(other, since),
+        Value::Text(end),
     ];
-    push_form(memory, text, "  @ -> @@@\"];\n", &values)
+    push_form(memory, text, "  @ -> @@", &values)
 }

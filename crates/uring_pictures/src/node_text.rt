@@ -59,7 +59,7 @@ pub(crate) fn push_placed<M: TextMemory>(
     push_text(memory, text, after)
 }
 
-/// Appends a node: its shape tells how it stands, and its label number, operation and flags, user data, and how it stands.
+/// Appends a node: its shape tells how it stands, and its label number, operation and flags, user data, and how it stands and why.
 fn push_node<M: TextMemory>(
     memory: &M,
     text: &mut String,
@@ -82,7 +82,7 @@ fn push_node<M: TextMemory>(
         Value::Flag(entry, SqeFlags::ASYNC, ", async"),
         Value::Flag(entry, SqeFlags::CQE_SKIP_SUCCESS, ", skip success"),
         Value::Number(entry.user_data()),
-        Value::Standing(why),
+        Value::Reason(why),
     ];
     let form = "@ [shape=@, label=\"@: @@@@@@\\nuser data @\\n@\"];";
     push_form(memory, text, form, &values)
