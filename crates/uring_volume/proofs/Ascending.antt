@@ -1,5 +1,5 @@
 -- The writes that are kept ascend by their numbers, so that one is found by halves.
-use Rattle.std.proofs.Common.{◌≡◌, ℕ, ◌==◌, ◌<◌, ◌≤◌, ◌+◌, ◌-◌, zero, suc, Bool, false, List, [], ◌∷◌, ◌++◌, ◌⊎◌, length, map, take, drop, get_or, refl, sym, subst, ap, ◌∙◌, inl, inr, arith}
+use Rattle.std.proofs.Common.{◌≡◌, ℕ, ◌==◌, ◌<◌, ◌≤◌, zero, suc, Bool, false, List, [], ◌∷◌, ◌++◌, ◌⊎◌, length, map, take, drop, get_or, refl, sym, subst, ap, ◌∙◌, inl, inr, arith}
 use Rattle.uring_volume.proofs.Common.{cond_both, take-append-drop, named, IsIn, eqb-true, false_from_ne_true, filter, list_any}
 use Rattle.uring_volume.specs.declared.kept.Kept.{Kept}
 use Rattle.uring_volume.specs.Past.{IsAscending}

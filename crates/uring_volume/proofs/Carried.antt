@@ -1,6 +1,6 @@
 -- A volume that was folded from another stays one as the same happens to both.
-use Rattle.std.proofs.Common.{◌≡◌, ◌==◌, ◌||◌, ◌&&◌, ℕ, Bool, true, false, List, [], ◌∷◌, ◌++◌, ◌⊎◌, length, refl, sym, subst, ap, ◌∙◌, inl, inr, arith}
-use Rattle.uring_volume.proofs.Common.{Event, History, IsFoldedFrom, IsImage, IsIn, IsLawful, SyncEnded, SyncFailed, SyncIssued, Volume, Write, WriteEnded, WriteIssued, append_assoc, both_ways, ended, false_from_ne_true, has_ended, is_before, is_one_of, is_safe, issued, length_over, named, ne_eqb, or_right, running_syncs, running_writes, writes}
+use Rattle.std.proofs.Common.{◌≡◌, ◌==◌, ◌||◌, ℕ, true, false, [], ◌∷◌, ◌++◌, ◌⊎◌, length, refl, sym, subst, ap, ◌∙◌, inl, inr, arith}
+use Rattle.uring_volume.proofs.Common.{Event, History, IsFoldedFrom, IsIn, IsLawful, SyncEnded, SyncFailed, SyncIssued, Volume, Write, WriteEnded, WriteIssued, append_assoc, both_ways, ended, has_ended, is_before, is_one_of, is_safe, issued, length_over, named, ne_eqb, or_right, running_syncs, running_writes, writes}
 use Rattle.uring_volume.specs.Folds.{IsUnderSafe}
 use Rattle.uring_volume.proofs.Chosen.{not_before}
 use Rattle.uring_volume.proofs.Folded.{runs_still}

@@ -1,7 +1,7 @@
 -- How a write that is kept stands, and which syncs touch it, after each event.
-use Rattle.std.proofs.Common.{◌≡◌, ℕ, ◌==◌, ◌<◌, ◌+◌, ◌-◌, true, false, [], ◌∷◌, refl, sym, subst, inl, inr, arith}
+use Rattle.std.proofs.Common.{◌≡◌, ℕ, ◌==◌, ◌<◌, ◌+◌, true, false, [], ◌∷◌, refl, sym, subst, inl, inr, arith}
 use Rattle.std.specs.Prelude.{nat_le}
-use Rattle.uring_volume.proofs.Common.{ended, named, History, IsIn, SyncEnded, SyncFailed, SyncIssued, Write, WriteEnded, WriteIssued, eqb-false, eqb-true, false_from_ne_true, has_ended, is_before, is_covered, is_given_up, is_reached, is_safe, issued, le-leb, lt-ltb, ltb-true, ne_eqb, writes, cases_Bool}
+use Rattle.uring_volume.proofs.Common.{History, IsIn, SyncEnded, SyncFailed, SyncIssued, Write, WriteEnded, WriteIssued, eqb-false, eqb-true, false_from_ne_true, has_ended, is_before, is_covered, is_given_up, is_reached, is_safe, le-leb, lt-ltb, ltb-true, ne_eqb, writes, cases_Bool}
 use Rattle.uring_volume.specs.Volume.{IsNumbered}
 use Rattle.uring_volume.specs.declared.event.SyncRange.{SyncRange}
 use Rattle.uring_volume.specs.declared.kept.Kept.{Kept}

@@ -1,6 +1,6 @@
 -- How much is kept.
-use Rattle.std.proofs.Common.{◌≡◌, ℕ, ◌==◌, ◌<◌, ◌≤◌, ◌-◌, not, List, [], ◌∷◌, length, sym, subst, ap, ◌∙◌, arith}
-use Rattle.uring_volume.proofs.Common.{IsOneFolded, without, length-append, eq-eqb, length-map, History, IsIn, SyncEnded, SyncFailed, SyncIssued, Write, WriteEnded, WriteIssued, issued, running_syncs, running_writes, without_write}
+use Rattle.std.proofs.Common.{◌≡◌, ℕ, ◌==◌, ◌<◌, ◌≤◌, not, List, [], ◌∷◌, length, sym, subst, ap, ◌∙◌, arith}
+use Rattle.uring_volume.proofs.Common.{IsOneFolded, length-append, eq-eqb, length-map, History, IsIn, SyncEnded, SyncFailed, SyncIssued, Write, WriteEnded, WriteIssued, issued, running_syncs, running_writes, without_write}
 use Rattle.uring_volume.specs.Past.{IsPast, Past, end_list}
 use Rattle.uring_volume.specs.Folds.{IsOneLetGo}
 use Rattle.uring_volume.proofs.KeptLists.{filter_shorter}

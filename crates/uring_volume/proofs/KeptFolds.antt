@@ -1,6 +1,6 @@
 -- What a fold makes of the volume and of its images.
-use Rattle.std.proofs.Common.{◌≡◌, ℕ, ◌<◌, ◌≤◌, ◌-◌, List, [], length, map, min, sym, subst, ap, ◌∙◌}
-use Rattle.uring_volume.proofs.Common.{AreTheImages, IsFoldedFrom, IsSound, IsFoldable, History, IsHeld, IsLawful, Volume, Write, issued, running_syncs, running_writes, writes}
+use Rattle.std.proofs.Common.{◌≡◌, ℕ, ◌<◌, ◌≤◌, List, [], length, map, min, sym, subst, ap, ◌∙◌}
+use Rattle.uring_volume.proofs.Common.{AreTheImages, IsFoldedFrom, IsSound, IsFoldable, History, IsHeld, IsLawful, Volume, Write, issued, running_syncs, running_writes}
 use Rattle.uring_volume.specs.Volume.{IsNumbered}
 use Rattle.uring_volume.specs.Past.{IsPast, Past}
 use Rattle.uring_volume.specs.Folds.{IsUnderSafe}

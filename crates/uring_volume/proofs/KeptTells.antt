@@ -1,8 +1,8 @@
 -- What the writes that are kept tell of the history.
-use Rattle.std.proofs.Common.{◌≡◌, ℕ, ◌==◌, ◌-◌, true, false, ◌||◌, List, [], ◌∷◌, map, max, refl, sym, subst, ap, ◌∙◌, inl, inr, arith}
+use Rattle.std.proofs.Common.{◌≡◌, ℕ, ◌==◌, true, false, ◌||◌, List, [], ◌∷◌, map, max, refl, sym, subst, ap, ◌∙◌, inl, inr, arith}
 use Rattle.std.specs.Prelude.{IfSome, IfNone, Option, Some, None}
 use Rattle.std.specs.Option.{is_some}
-use Rattle.uring_volume.proofs.Common.{ended, IsFoldable, eq-eqb, can_fold, has_safe, is_in_way, named, History, IsIn, SyncEnded, SyncFailed, SyncIssued, Write, WriteEnded, WriteIssued, both_ways, eqb-true, false_from_ne_true, has_ended, is_before, is_one_of, is_safe, issued, list_any, ne_eqb, or_right, running_syncs, writes, ◌&&◌, cases_Bool}
+use Rattle.uring_volume.proofs.Common.{IsFoldable, eq-eqb, can_fold, has_safe, is_in_way, named, History, IsIn, SyncEnded, SyncFailed, SyncIssued, Write, WriteEnded, WriteIssued, both_ways, eqb-true, false_from_ne_true, has_ended, is_before, is_one_of, is_safe, issued, list_any, ne_eqb, or_right, running_syncs, writes, ◌&&◌, cases_Bool}
 use Rattle.uring_volume.specs.Images.{end_of, length_over}
 use Rattle.uring_volume.specs.Volume.{is_known}
 use Rattle.uring_volume.specs.declared.kept.Kept.{Kept}

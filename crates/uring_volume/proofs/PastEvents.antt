@@ -1,7 +1,7 @@
 -- What is kept of a file stands as its history says, after each event.
-use Rattle.std.proofs.Common.{◌≡◌, ℕ, ◌==◌, ◌<◌, ◌+◌, ◌-◌, true, false, not, List, [], ◌∷◌, ◌++◌, map, refl, sym, subst, ap, ◌∙◌, inl, inr, arith}
+use Rattle.std.proofs.Common.{◌≡◌, ℕ, ◌==◌, ◌<◌, ◌+◌, true, false, not, List, [], ◌∷◌, ◌++◌, map, refl, sym, subst, ap, ◌∙◌, inl, inr, arith}
 use Rattle.std.proofs.lemmas.List.Elements.{filter-append}
-use Rattle.uring_volume.proofs.Common.{ended, append-nil, named, History, IsHeld, IsIn, IsLawful, SyncEnded, SyncFailed, SyncIssued, Write, WriteEnded, WriteIssued, but, both_ways, eqb-false, eqb-true, filter, has_ended, is_one_of, issued, map-append, ne_eqb, not-true, running_writes, without_write, writes, cases_Bool}
+use Rattle.uring_volume.proofs.Common.{append-nil, named, History, IsHeld, IsIn, IsLawful, SyncEnded, SyncFailed, SyncIssued, Write, WriteEnded, WriteIssued, but, both_ways, eqb-false, eqb-true, filter, has_ended, is_one_of, issued, map-append, ne_eqb, not-true, running_writes, without_write, writes, cases_Bool}
 use Rattle.uring_volume.specs.Volume.{IsNumbered}
 use Rattle.uring_volume.specs.declared.event.SyncRange.{SyncRange}
 use Rattle.uring_volume.specs.declared.kept.Kept.{Kept}

@@ -1,11 +1,10 @@
 -- How long a file is that a read shows: as long as before if a write is folded or let go.
-use Rattle.std.proofs.Common.{◌≡◌, ◌==◌, ◌≤◌, ◌+◌, ℕ, max, Bool, true, false, not, cond, List, [], ◌∷◌, ◌++◌, length, refl, sym, subst, ap, ◌∙◌, inl, inr, arith}
-use Rattle.uring_volume.proofs.Common.{History, IsFoldable, IsIn, IsLawful, IsOver, IsSound, SyncEnded, SyncFailed, SyncIssued, Volume, Write, WriteEnded, WriteIssued, append-nil, both_ways, cases_Bool, cond-false, cond-true, end_of, ended, eq-eqb, eqb-true, filter, has_ended, is_before, is_safe, issued, length_over, named, ne_eqb, without_write, writes}
+use Rattle.std.proofs.Common.{◌≡◌, ◌==◌, ◌≤◌, ◌+◌, ℕ, max, true, false, cond, List, [], ◌∷◌, ◌++◌, length, refl, sym, subst, ap, ◌∙◌, inl, inr, arith}
+use Rattle.uring_volume.proofs.Common.{History, IsFoldable, IsIn, IsLawful, IsOver, SyncEnded, SyncFailed, SyncIssued, Write, WriteEnded, WriteIssued, append-nil, both_ways, cases_Bool, cond-false, cond-true, end_of, ended, eq-eqb, eqb-true, has_ended, is_before, issued, length_over, named, ne_eqb, without_write, writes}
 use Rattle.std.proofs.lemmas.List.Elements.{filter-append}
-use Rattle.uring_volume.proofs.ReadBack.{len_grows, end_within}
 use Rattle.uring_volume.proofs.Folding.{safe_ended}
 use Rattle.uring_volume.proofs.Lengths.{before_ended}
-use Rattle.uring_volume.proofs.Without.{writes_without, same_later, but_later}
+use Rattle.uring_volume.proofs.Without.{same_later, but_later}
 use Rattle.uring_volume.proofs.Chosen.{in_issued, issued_apart}
 use Rattle.uring_volume.specs.Folds.{IsUnderSafe}
 

@@ -1,5 +1,5 @@
-use Rattle.std.proofs.Common.{rules, arith, ◌≡◌, ◌==◌, ◌+◌, ℕ, true, false, length, ap, sym, subst, ◌∙◌}
-use Rattle.uring_volume.proofs.Common.{IsIn, cond-true, cond-false, end_of, issued, length_over, list_any, named}
+use Rattle.std.proofs.Common.{rules, arith, ◌≡◌, ◌==◌, ◌+◌, true, false, length, ap, sym, subst, ◌∙◌}
+use Rattle.uring_volume.proofs.Common.{IsIn, cond-true, cond-false, issued, length_over, list_any, named}
 use Rattle.uring_volume.specs.Past.{Past}
 use Rattle.uring_volume.proofs.KeptTells.{end_kept, end_unkept}
 use Rattle.uring_volume.proofs.past.Past.end_of.Goals as goal
