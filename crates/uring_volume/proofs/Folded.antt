@@ -8,6 +8,7 @@ use Rattle.uring_volume.proofs.Numbers.{is_in_but, one_more}
 use Rattle.uring_volume.proofs.Puts.{is_any}
 use Rattle.uring_volume.proofs.Folding.{safe_ended, fold_changes_none, letting_go_changes_none}
 use Rattle.uring_volume.proofs.Lengths.{before_ended}
+use Rattle.uring_volume.proofs.ShownLength.{shown_folded, shown_let_go}
 use Rattle.uring_volume.specs.Folds.{IsOneLetGo, IsUnderSafe}
 use Rattle.uring_volume.proofs.Without.{same_later, but_later}
 use Rattle.uring_volume.proofs.Foldable.{foldable_by, can_fold_it, under_by}
@@ -128,6 +129,12 @@ before_same v w m x sound issued am ax =
     let but_it = but_later [] v.history w sound.lawful issued in
     (same_later w.number [] v.history).before m.number x.number (but_it.of m am).1 (but_it.of x ax).1
 
+ended_same : (v : Volume) (w x : Write) → IsSound v → IsIn w (writes v.history)
+    → IsIn x (writes (without_write w.number v.history))
+    → has_ended (without_write w.number v.history) x.number ≡ has_ended v.history x.number
+ended_same v w x sound issued among =
+    (same_later w.number [] v.history).ended x.number ((but_later [] v.history w sound.lawful issued).of x among).1
+
 -- a write is gone, or it is the one that was left out
 gone_or_it : (v : Volume) (w x : Write) → IsSound v → IsIn w (writes v.history) → IsIn x (writes v.history)
     → IsIn x (writes (without_write w.number v.history)) ⊎ (x ≡ w)
@@ -145,6 +152,7 @@ folded_one v w over sound f is = record {
   safe = λ later x l among. (same_later w.number later v.history).safe x ((but_later later v.history w l f.issued).of x among).1;
   lawful = λ later l. lawful_later later v.history w f.issued l;
   before = λ m x am ax. before_same v w m x sound f.issued am ax;
+  have_ended = λ x among. ended_same v w x sound f.issued among;
   none_new = λ x among. writes_of w.number v.history x among;
   gone = λ x among. elim (gone_or_it v w x sound f.issued among) [
     | inl there ↦ inl there
@@ -152,6 +160,7 @@ folded_one v w over sound f is = record {
   ];
   writes_run = running_same v w.number sound (safe_ended v.history w f.safe);
   syncs_run = syncs_without w.number v.history;
+  shown = shown_folded v.first over v.history w sound.lawful f is;
 }
 
 pub one_let_go : (v : Volume) (w : Write) → IsSound v → IsUnderSafe v.history w
@@ -163,6 +172,7 @@ one_let_go v w sound s = record {
   safe = λ later x l among. (same_later w.number later v.history).safe x ((but_later later v.history w l s.issued).of x among).1;
   lawful = λ later l. lawful_later later v.history w s.issued l;
   before = λ m x am ax. before_same v w m x sound s.issued am ax;
+  have_ended = λ x among. ended_same v w x sound s.issued among;
   none_new = λ x among. writes_of w.number v.history x among;
   gone = λ x among. elim (gone_or_it v w x sound s.issued among) [
     | inl there ↦ inl there
@@ -170,6 +180,7 @@ one_let_go v w sound s = record {
   ];
   writes_run = running_same v w.number sound (before_ended v.history w.number s.over.number s.before);
   syncs_run = syncs_without w.number v.history;
+  shown = shown_let_go v.first v.history w sound.lawful (lawful_without w.number v.history sound.lawful) s;
 }
 
 -- Several writes folded.
@@ -207,6 +218,7 @@ folded_more old mid new l a b = record {
   lawful = λ later law. b.lawful later (a.lawful later law);
   none_new = λ w among. a.none_new w (b.none_new w among);
   before = λ m w am aw. b.before m w am aw ∙ a.before m w (b.none_new m am) (b.none_new w aw);
+  have_ended = λ w among. b.have_ended w among ∙ a.have_ended w (b.none_new w among);
   gone = λ w among. elim (a.gone w among) [
     | inl there ↦ elim (b.gone w there) as (λ _. IsIn w (writes new.history) ⊎ ((is_safe old.history w ≡ true) ⊎ IsUnderSafe old.history w)) [
       | inl still ↦ inl still
@@ -219,6 +231,7 @@ folded_more old mid new l a b = record {
   ];
   writes_run = b.writes_run ∙ a.writes_run;
   syncs_run = b.syncs_run ∙ a.syncs_run;
+  shown = b.shown ∙ a.shown;
 }
 
 -- What a call that folds one write, or none, makes of a volume.
@@ -254,7 +267,7 @@ pub none_result : (v : Volume) (r : Result Bool AllocError) (first : List ℕ) (
 none_result v r first h is none w foldable = grind (arith, both_ways, is_any, in_issued, can_fold_it)
 
 -- a volume is folded from itself
-folded_none : (v : Volume) → IsFoldedFrom v v
+pub folded_none : (v : Volume) → IsFoldedFrom v v
 folded_none v = record {
   unit = refl;
   next = refl;
@@ -262,10 +275,12 @@ folded_none v = record {
   safe = λ later w l among. refl;
   lawful = λ later l. l;
   before = λ m w am aw. refl;
+  have_ended = λ w among. refl;
   none_new = λ w among. among;
   gone = λ w among. inl among;
   writes_run = refl;
   syncs_run = refl;
+  shown = refl;
 }
 
 -- What a call that lets one write go, or none, makes of a volume.

@@ -29,8 +29,18 @@ pub mod Numbers
 pub mod Without
 pub mod Folding
 pub mod Foldable
+pub mod ShownLength
 pub mod Folded
 -- What is kept of a file:
-pub mod Keeping
+pub mod KeptLists
+pub mod Ascending
+pub mod HowItStands
+pub mod PastEvents
+pub mod KeptTells
+pub mod EndOrder
+pub mod KeptCounts
+pub mod IssuedWays
+pub mod KeptFolds
+pub mod Carried
 -- A count passes over what no write touches:
 pub mod Skipping

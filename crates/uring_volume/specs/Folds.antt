@@ -4,10 +4,10 @@ use Rattle.std.specs.List.{list_any, filter}
 use Rattle.uring_volume.specs.Writes.{Write}
 use Rattle.uring_volume.specs.declared.event.Event.{Event}
 use Rattle.uring_volume.specs.declared.event.Event.TheVariants.{WriteIssued, WriteEnded, SyncIssued, SyncEnded, SyncFailed}
-use Rattle.uring_volume.specs.Events.{History, writes, is_before, is_safe}
-use Rattle.uring_volume.specs.Images.{IsIn, is_under, end_of, byte_over, IsImage}
+use Rattle.uring_volume.specs.Events.{History, writes, has_ended, is_before, is_safe}
+use Rattle.uring_volume.specs.Images.{IsIn, is_under, end_of, byte_over, length_over, IsImage}
 use Rattle.uring_volume.specs.Choices.{IsLawful, issued}
-use Rattle.uring_volume.specs.Volume.{Volume, running_writes, running_syncs}
+use Rattle.uring_volume.specs.Volume.{Volume, ended, running_writes, running_syncs}
 
 -- A write that can be folded: it is safe, so is each write that is before it, and it is before each other write of a byte of it.
 pub record IsFoldable (h : History) (w : Write) : Type 0 where
@@ -110,6 +110,9 @@ pub record IsFoldedFrom (old new : Volume) : Type 0 where
   -- and the same is before the same
   pub before : (m w : Write) → IsIn m (writes new.history) → IsIn w (writes new.history)
       → is_before new.history m.number w.number ≡ is_before old.history m.number w.number
+  -- and the same have ended
+  pub have_ended : (w : Write) → IsIn w (writes new.history)
+      → has_ended new.history w.number ≡ has_ended old.history w.number
   -- no write has come, and each that is gone was safe, or lay under a safe one
   pub none_new : (w : Write) → IsIn w (writes new.history) → IsIn w (writes old.history)
   pub gone : (w : Write) → IsIn w (writes old.history)
@@ -117,3 +120,6 @@ pub record IsFoldedFrom (old new : Volume) : Type 0 where
   -- the same writes and syncs run
   pub writes_run : running_writes new.history ≡ running_writes old.history
   pub syncs_run : running_syncs new.history ≡ running_syncs old.history
+  -- a read shows as many bytes
+  pub shown : length_over (length new.first) (ended new.history)
+      ≡ length_over (length old.first) (ended old.history)

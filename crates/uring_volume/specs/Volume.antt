@@ -1,5 +1,5 @@
 -- A volume: one file with what happened to it, and what its calls make of it. All of it is our own structure.
-use Rattle.std.specs.Prelude.{◌≡◌, ℕ, ◌+◌, ◌<◌, Bool, true, not, ◌==◌, List, [], ◌∷◌, ◌++◌, length, slice_index}
+use Rattle.std.specs.Prelude.{◌≡◌, ℕ, ◌+◌, ◌<◌, Bool, true, not, ◌||◌, ◌==◌, List, [], ◌∷◌, ◌++◌, length, slice_index}
 use Rattle.std.specs.List.{list_any, filter}
 use Rattle.uring_volume.specs.Writes.{Write}
 use Rattle.uring_volume.specs.declared.event.SyncRange.{SyncRange}
@@ -41,6 +41,10 @@ running_syncs (SyncIssued s range ∷ earlier) = running_syncs earlier ++ s ∷ 
 running_syncs (SyncEnded s ∷ earlier) = but s (running_syncs earlier)
 running_syncs (SyncFailed s ∷ earlier) = but s (running_syncs earlier)
 running_syncs (_ ∷ earlier) = running_syncs earlier
+
+-- whether write n is there, or sync n runs
+abbrev pub is_known : ℕ → History → Bool
+is_known n h = list_any (λ w. w.number == n) (issued h) || is_one_of n (running_syncs h)
 
 -- the writes that have ended, in the order of their ends
 abbrev pub ended : History → List Write

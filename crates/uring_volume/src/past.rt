@@ -83,7 +83,8 @@ impl Past {
     ghost use Rattle.uring_volume.specs.Choices as choices;
     ghost use Rattle.uring_volume.specs.Events as events;
     ghost use Rattle.uring_volume.specs.Folds.{can_fold, can_let_go, without_write, IsOneFolded, IsOneLetGo};
-    ghost use Rattle.uring_volume.specs.Volume.{running_writes, running_syncs};
+    ghost use Rattle.uring_volume.specs.Images.{length_over};
+    ghost use Rattle.uring_volume.specs.Volume.{is_known, running_writes, running_syncs};
     ghost use Rattle.uring_volume.specs.declared.event.Event.TheVariants.{WriteIssued, WriteEnded, SyncIssued, SyncEnded, SyncFailed};
 
     /// Nothing has happened.
@@ -266,6 +267,31 @@ impl Past {
         match find(&self.kept, piece.number()) {
             Some(k) => k.safe_yet,
             None => false,
+        }
+    }
+
+    /// Whether write `n` is kept, or sync `n` runs.
+    pub fn knows(&self, n: u64) -> bool
+        ensures { result ≡ is_known n self.now.history }
+    {
+        if has_number(&self.kept, n) {
+            return true;
+        }
+        find_sync(&self.syncs, n).is_some()
+    }
+
+    /// Where write `n` ends: at 0 if it has no bytes, or none of this number is kept.
+    pub fn end_of(&self, n: u64) -> u64
+        ensures { result ≡ length_over 0 (named n (issued self.now.history)) }
+    {
+        match find(&self.kept, n) {
+            Some(k) => {
+                if k.piece.bytes().is_empty() {
+                    return 0;
+                }
+                k.piece.end()
+            }
+            None => 0,
         }
     }
 

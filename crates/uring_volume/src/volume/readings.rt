@@ -11,10 +11,10 @@ use std::alloc::{AllocError, Global};
 use uring_memory::Memory;
 
 impl Volume {
-    ghost use Rattle.uring_volume.specs.Volume.{IsShown, IsSound};
+    ghost use Rattle.uring_volume.specs.Volume.{IsShown, IsSound, is_known};
     ghost use Rattle.std.specs.Prelude.{List};
     ghost use Rattle.uring_volume.specs.Writes.{Write};
-    ghost use Rattle.uring_volume.specs.Images.{IsImage};
+    ghost use Rattle.uring_volume.specs.Images.{IsImage, length_over};
     ghost use Rattle.uring_volume.specs.Choices.{issued, named, has_safe, IsLeftBy, AreBelow};
     ghost use Rattle.uring_volume.specs.Laws.{IsKept, IsReadBack};
     ghost use Rattle.uring_volume.specs.Listing.{AreTheImages};
@@ -33,6 +33,20 @@ impl Volume {
         ensures { result ≡ has_safe self.now.history (named n (issued self.now.history)) }
     {
         self.past.is_number_safe(n)
+    }
+
+    /// Whether write `n` is there, which it isn't any more once it is folded, or sync `n` runs.
+    pub fn knows(&self, n: u64) -> bool
+        ensures { result ≡ is_known n self.now.history }
+    {
+        self.past.knows(n)
+    }
+
+    /// The offset after the last byte of write `n`: 0 if it has no bytes, or none is there of this number.
+    pub fn end_of(&self, n: u64) -> u64
+        ensures { result ≡ length_over 0 (named n (issued self.now.history)) }
+    {
+        self.past.end_of(n)
     }
 
     /// The bytes that a read of the whole file shows: the first ones with the writes over them that have ended, in the order of their ends.
@@ -178,6 +192,7 @@ impl Volume {
             Err(_) => Err(ImagesError::OutOfMemory),
         }
     }
+
     /// A copy in which what can be folded is: it has the same images, and they are soon found. If the memory grants whatever is asked for, there is no error.
     fn folded_copy<M: Memory>(&self, memory: &M, alloc: Global) -> Result<Volume, AllocError>
         ensures folded { IfOk result (λ copy. IsFoldedFrom self.now copy) }

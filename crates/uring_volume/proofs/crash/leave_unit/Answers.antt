@@ -1,6 +1,6 @@
 use Rattle.std.proofs.Common.{◌+◌, ◌*◌, inl, inr, map, ap, ◌∙◌, arith}
 use Rattle.uring_volume.specs.Images.{is_on}
-use Rattle.uring_volume.proofs.Keeping.{filter_issued}
+use Rattle.uring_volume.proofs.IssuedWays.{filter_issued}
 use Rattle.uring_volume.proofs.Painting.{below_or_from, in_unit}
 use Rattle.uring_volume.proofs.crash.leave_unit.Goals as goal
 

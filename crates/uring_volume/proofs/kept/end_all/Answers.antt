@@ -1,6 +1,6 @@
 use Rattle.std.proofs.Common.{◌+◌, arith}
 use Rattle.uring_volume.specs.Past.{ended_at}
-use Rattle.uring_volume.proofs.Keeping.{all_changed, one_changed}
+use Rattle.uring_volume.proofs.KeptLists.{all_changed, one_changed}
 use Rattle.uring_volume.proofs.kept.end_all.Goals as goal
 
 pub loop-i-preserved : goal.loop-i-preserved

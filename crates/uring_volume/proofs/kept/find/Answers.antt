@@ -1,6 +1,7 @@
 use Rattle.std.proofs.Common.{◌<◌, length, sym, ap, ◌∙◌, arith}
 use Rattle.uring_volume.specs.declared.kept.Kept.{Kept}
-use Rattle.uring_volume.proofs.Keeping.{in_at, not_past, not_there, same_at}
+use Rattle.uring_volume.proofs.KeptLists.{in_at}
+use Rattle.uring_volume.proofs.Ascending.{not_past, not_there, same_at}
 use Rattle.uring_volume.proofs.kept.find.Goals as goal
 use Rattle.uring_volume.proofs.kept.find.Goals.{else-i-kept-via-then-i-kept+else-number-n, else-i-kept-via-else-i-kept}
 

@@ -1,5 +1,5 @@
 use Rattle.std.proofs.Common.{arith, ◌<◌, length}
-use Rattle.uring_volume.proofs.Keeping.{in_at, none_more}
+use Rattle.uring_volume.proofs.KeptLists.{in_at, none_more}
 use Rattle.uring_volume.specs.Past.{can_be_folded}
 use Rattle.uring_volume.proofs.kept.first_foldable.Goals as goal
 use Rattle.uring_volume.proofs.kept.first_foldable.Goals.{else-k-via-then-k+else-not-has_one_in_way, else-k-via-else-k}

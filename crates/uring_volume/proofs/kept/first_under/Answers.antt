@@ -1,5 +1,5 @@
 use Rattle.std.proofs.Common.{arith, ◌<◌, length}
-use Rattle.uring_volume.proofs.Keeping.{in_at, none_more}
+use Rattle.uring_volume.proofs.KeptLists.{in_at, none_more}
 use Rattle.uring_volume.specs.Past.{can_be_let_go}
 use Rattle.uring_volume.proofs.kept.first_under.Goals as goal
 use Rattle.uring_volume.proofs.kept.first_under.Goals.{else-not-k-via-then-not-k+else-has_one_over, else-not-k-via-else-not-k}

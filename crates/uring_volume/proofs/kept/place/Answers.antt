@@ -1,7 +1,7 @@
 use Rattle.std.proofs.Common.{◌≡◌, ◌<◌, ◌≤◌, ◌+◌, ◌-◌, ◌/◌, suc, length, take, drop, subst, ap, arith}
 use Rattle.uring_volume.specs.Images.{IsIn}
 use Rattle.uring_volume.specs.declared.kept.Kept.{Kept}
-use Rattle.uring_volume.proofs.Keeping.{asc_drop, asc_take}
+use Rattle.uring_volume.proofs.Ascending.{asc_drop, asc_take}
 use Rattle.uring_volume.proofs.kept.place.Goals as goal
 
 pub loop-low-preserved-then-number-n : goal.loop-low-preserved-then-number-n

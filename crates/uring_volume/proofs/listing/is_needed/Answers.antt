@@ -1,7 +1,7 @@
 use Rattle.std.proofs.Common.{◌&&◌, ap, sym, ◌∙◌}
 use Rattle.uring_volume.proofs.Common.{and_from, and_left, and_right, goes_with, is_safe}
 use Rattle.uring_volume.proofs.Seeking.{one_is, none_more}
-use Rattle.uring_volume.proofs.Keeping.{ref_issued}
+use Rattle.uring_volume.proofs.IssuedWays.{ref_issued}
 use Rattle.uring_volume.proofs.listing.is_needed.Goals as goal
 use Rattle.uring_volume.proofs.listing.is_needed.Goals.{else-is_safe-via-else-is_safe, else-is_safe-via-then-is_safe+else-goes_with}
 

@@ -1,7 +1,7 @@
 use Rattle.std.proofs.Common.{◌≡◌, ◌*◌, map, subst, ap, ◌∙◌}
 use Rattle.uring_volume.proofs.Common.{false≢true, IfOk, bytes_from, contents_of, filter, is_on, issued}
 use Rattle.uring_volume.specs.Images.{is_on}
-use Rattle.uring_volume.proofs.Keeping.{filter_issued}
+use Rattle.uring_volume.proofs.IssuedWays.{filter_issued}
 use Rattle.uring_volume.proofs.listing.unit_contents.Goals as goal
 
 pub returns-in_err-bytes-clause-granted : goal.returns-in_err-bytes-clause-granted

@@ -3,7 +3,7 @@ use Rattle.uring_volume.proofs.Common.{chosen, drop_more, length-drop}
 use borrow.Rule.Slice.PartMut.{same_len_mid}
 use Rattle.uring_volume.proofs.Taking.{others_of, one_chosen, none_chosen, all_chosen}
 use Rattle.uring_volume.specs.Past.{AreIssued}
-use Rattle.uring_volume.proofs.Keeping.{left_issued}
+use Rattle.uring_volume.proofs.IssuedWays.{left_issued}
 use Rattle.uring_volume.proofs.order.choose.Goals as goal
 use Rattle.uring_volume.proofs.order.choose.Goals.{then-not-has_one_before, else-not-has_one_before}
 

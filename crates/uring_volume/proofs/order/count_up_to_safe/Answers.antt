@@ -1,7 +1,7 @@
 use Rattle.std.proofs.Common.{◌≡◌, ◌-◌, suc, arith, sym, ◌∙◌, subst, false, map, drop}
 use Rattle.uring_volume.proofs.Common.{has_safe, is_safe}
 use Rattle.uring_volume.proofs.Taking.{last_safe, one_less, none_safe}
-use Rattle.uring_volume.proofs.Keeping.{ref_issued}
+use Rattle.uring_volume.proofs.IssuedWays.{ref_issued}
 use Rattle.uring_volume.proofs.order.count_up_to_safe.Goals as goal
 
 pub returns-then-is_safe-clause-value : goal.returns-then-is_safe-clause-value

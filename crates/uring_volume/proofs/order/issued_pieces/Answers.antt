@@ -1,7 +1,7 @@
 use Rattle.std.proofs.Common.{map, sym, ap, ◌∙◌, arith}
 use Rattle.uring_volume.proofs.Common.{take_all}
 use Rattle.uring_volume.proofs.Taking.{push_map}
-use Rattle.uring_volume.proofs.Keeping.{mapped_more}
+use Rattle.uring_volume.proofs.KeptLists.{mapped_more}
 use Rattle.uring_volume.proofs.order.issued_pieces.Goals as goal
 
 pub loop-k-preserved : goal.loop-k-preserved

@@ -1,5 +1,5 @@
 use Rattle.std.proofs.Common.{arith}
-use Rattle.uring_volume.proofs.Keeping.{in_default}
+use Rattle.uring_volume.proofs.KeptLists.{in_default}
 use Rattle.uring_volume.proofs.past.find_sync.Goals as goal
 
 pub returns-then-sync-s-clause-found : goal.returns-then-sync-s-clause-found

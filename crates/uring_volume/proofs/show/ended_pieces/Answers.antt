@@ -1,6 +1,6 @@
 use Rattle.std.proofs.Common.{get_or, length, map, take, sym, ap, ◌∙◌, ◌++◌, arith}
 use Rattle.uring_volume.proofs.Common.{issued, named, false≢true, take_all}
-use Rattle.uring_volume.proofs.Keeping.{ended_is, ends_more, ends_of}
+use Rattle.uring_volume.proofs.EndOrder.{ended_is, ends_more, ends_of}
 use Rattle.uring_volume.proofs.show.ended_pieces.Goals as goal
 
 pub loop-n-preserved : goal.loop-n-preserved

@@ -1,6 +1,6 @@
 use Rattle.std.proofs.Common.{◌≡◌, map, take}
 use Rattle.uring_volume.proofs.Common.{issued}
-use Rattle.uring_volume.proofs.Keeping.{ends_of}
+use Rattle.uring_volume.proofs.EndOrder.{ends_of}
 use Rattle.uring_volume.proofs.show.ended_pieces.Given as goal
 
 abbrev pub invariant-loop-n : goal.invariant-loop-n

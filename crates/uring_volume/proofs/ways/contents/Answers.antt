@@ -2,7 +2,7 @@ use Rattle.std.proofs.Common.{suc, [], map, sym, subst, ap, ◌∙◌, arith}
 use Rattle.uring_volume.proofs.Common.{false≢true}
 use Rattle.uring_volume.specs.Ways.{way, next_ways, found_at, found_by}
 use Rattle.uring_volume.specs.Past.{AreWaysIssued}
-use Rattle.uring_volume.proofs.Keeping.{next_issued}
+use Rattle.uring_volume.proofs.IssuedWays.{next_issued}
 use Rattle.uring_volume.proofs.ways.contents.Goals as goal
 
 pub loop-step-preserved : goal.loop-step-preserved

@@ -1,7 +1,7 @@
 use Rattle.std.proofs.Common.{arith, ◌<◌, length, sym, ◌∙◌}
 use Rattle.uring_volume.specs.Events.{is_safe}
 use Rattle.uring_volume.proofs.Seeking.{one_is}
-use Rattle.uring_volume.proofs.Keeping.{ref_issued}
+use Rattle.uring_volume.proofs.IssuedWays.{ref_issued}
 use Rattle.uring_volume.proofs.ways.has_safe.Goals as goal
 
 pub returns-then-is_safe : goal.returns-then-is_safe

@@ -2,7 +2,7 @@ use Rattle.std.proofs.Common.{◌+◌, ◌≡◌, cond, map, drop, sym, subst, a
 use Rattle.uring_volume.proofs.Common.{cond-false, cond-true, found_at, has_safe, nat_eq, pointwise, put_by, way, false≢true, drop_all}
 use Rattle.uring_volume.proofs.Seeking.{dropped}
 use Rattle.uring_volume.specs.Past.{AreIssued}
-use Rattle.uring_volume.proofs.Keeping.{way_issued}
+use Rattle.uring_volume.proofs.IssuedWays.{way_issued}
 use Rattle.uring_volume.proofs.ways.put_found.Goals as goal
 use Rattle.uring_volume.proofs.ways.put_found.Goals.{then-not-has_safe+in_ok-put_bytes, else-not-has_safe}
 

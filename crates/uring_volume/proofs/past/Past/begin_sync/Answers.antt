@@ -1,7 +1,7 @@
 use Rattle.std.proofs.Common.{◌+◌, ◌++◌, [], ◌∷◌, refl, ap}
 use Rattle.uring_volume.proofs.Common.{SyncIssued}
 use Rattle.uring_volume.specs.Past.{Past}
-use Rattle.uring_volume.proofs.Keeping.{carried_past, past_sync}
+use Rattle.uring_volume.proofs.PastEvents.{carried_past, past_sync}
 use Rattle.uring_volume.proofs.past.Past.begin_sync.Goals as goal
 
 pub invariant_of-self-2 : goal.invariant_of-self-2

@@ -1,7 +1,7 @@
 use Rattle.std.proofs.Common.{◌+◌, ◌++◌, [], ◌∷◌, refl, ap, arith}
 use Rattle.uring_volume.proofs.Common.{Write, WriteIssued}
 use Rattle.uring_volume.specs.Past.{Past}
-use Rattle.uring_volume.proofs.Keeping.{carried_past, new_kept, past_write}
+use Rattle.uring_volume.proofs.PastEvents.{carried_past, new_kept, past_write}
 use Rattle.uring_volume.proofs.past.Past.begin_write.Goals as goal
 
 pub invariant_of-self-2 : goal.invariant_of-self-2

@@ -1,7 +1,9 @@
 use Rattle.std.proofs.Common.{◌∷◌, rules, refl, ◌==◌, not, map, ap, ◌∙◌, sym, subst, ◌≡◌, true}
 use Rattle.uring_volume.proofs.Common.{SyncEnded, filter, is_one_of, running_syncs}
 use Rattle.uring_volume.specs.Past.{Past, settled}
-use Rattle.uring_volume.proofs.Keeping.{carried_past, changed_whole, past_settled, runs_there}
+use Rattle.uring_volume.proofs.KeptLists.{changed_whole}
+use Rattle.uring_volume.proofs.PastEvents.{carried_past, past_settled}
+use Rattle.uring_volume.proofs.KeptTells.{runs_there}
 use Rattle.uring_volume.proofs.past.Past.end_sync.Goals as goal
 
 pub invariant_of-self-2 : goal.invariant_of-self-2

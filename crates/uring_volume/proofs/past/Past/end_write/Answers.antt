@@ -1,7 +1,8 @@
 use Rattle.std.proofs.Common.{◌∷◌, ◌++◌, [], arith, rules, refl, map, ap, ◌∙◌, sym, ◌≡◌, true}
 use Rattle.uring_volume.proofs.Common.{WriteEnded, but, cond-true, is_one_of}
 use Rattle.uring_volume.specs.Past.{Past, ended_at}
-use Rattle.uring_volume.proofs.Keeping.{carried_past, changed_whole, past_end}
+use Rattle.uring_volume.proofs.KeptLists.{changed_whole}
+use Rattle.uring_volume.proofs.PastEvents.{carried_past, past_end}
 use Rattle.uring_volume.proofs.past.Past.end_write.Goals as goal
 
 pub invariant_of-self-then-is_running-2 : goal.invariant_of-self-then-is_running-2

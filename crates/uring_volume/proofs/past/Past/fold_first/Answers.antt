@@ -1,7 +1,7 @@
 use Rattle.std.proofs.Common.{arith, rules, ◌≡◌, true, false, ap, ◌∙◌, sym, subst}
 use Rattle.uring_volume.proofs.Common.{IsIn, can_fold, has_ended, issued, list_any, without_write}
 use Rattle.uring_volume.specs.Past.{Past, can_be_folded}
-use Rattle.uring_volume.proofs.Keeping.{can_fold_kept, kept_issued, none_fold_kept, over_kept}
+use Rattle.uring_volume.proofs.KeptTells.{can_fold_kept, kept_issued, none_fold_kept, over_kept}
 use Rattle.uring_volume.proofs.Folding.{safe_ended}
 use Rattle.uring_volume.proofs.past.Past.fold_first.Goals as goal
 

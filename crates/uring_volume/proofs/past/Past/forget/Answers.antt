@@ -2,7 +2,7 @@ use Rattle.std.proofs.Common.{arith, rules, refl, ◌≡◌, ◌==◌, true, not
 use Rattle.std.proofs.lemmas.Fn.{filter_same}
 use Rattle.uring_volume.proofs.Common.{but, filter, has_ended, without_write}
 use Rattle.uring_volume.specs.Past.{Past}
-use Rattle.uring_volume.proofs.Keeping.{carried_past, past_without}
+use Rattle.uring_volume.proofs.PastEvents.{carried_past, past_without}
 use Rattle.uring_volume.proofs.past.Past.forget.Goals as goal
 
 pub invariant_of-self : goal.invariant_of-self

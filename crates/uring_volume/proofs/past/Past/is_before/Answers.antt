@@ -2,7 +2,7 @@ use Rattle.std.proofs.Common.{rules, ◌≡◌, ◌==◌, true, false, ap, sym, 
 use Rattle.std.specs.Prelude.{◌&&◌}
 use Rattle.uring_volume.proofs.Common.{IsIn, is_before, list_any}
 use Rattle.uring_volume.specs.Past.{Past, had_ended}
-use Rattle.uring_volume.proofs.Keeping.{before_kept, before_unkept}
+use Rattle.uring_volume.proofs.KeptTells.{before_kept, before_unkept}
 use Rattle.uring_volume.proofs.past.Past.is_before.Goals as goal
 
 pub returns-then-has_number : goal.returns-then-has_number

@@ -2,7 +2,7 @@ use Rattle.std.proofs.Common.{◌==◌, ap, sym, ◌∙◌}
 use Rattle.std.specs.Prelude.{◌&&◌}
 use Rattle.uring_volume.proofs.Common.{has_safe, issued, list_any, named}
 use Rattle.uring_volume.specs.Past.{Past}
-use Rattle.uring_volume.proofs.Keeping.{safe_kept}
+use Rattle.uring_volume.proofs.KeptTells.{safe_kept}
 use Rattle.uring_volume.proofs.past.Past.is_number_safe.Goals as goal
 
 pub returns : goal.returns

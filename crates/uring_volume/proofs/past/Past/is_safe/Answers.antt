@@ -1,7 +1,7 @@
 use Rattle.std.proofs.Common.{rules, ◌≡◌, ◌==◌, false, ap, sym, ◌∙◌, subst, arith}
 use Rattle.uring_volume.proofs.Common.{IsIn, is_safe, issued, list_any}
 use Rattle.uring_volume.specs.Past.{Past}
-use Rattle.uring_volume.proofs.Keeping.{safe_by_number, safe_is_kept}
+use Rattle.uring_volume.proofs.KeptTells.{safe_by_number, safe_is_kept}
 use Rattle.uring_volume.proofs.past.Past.is_safe.Goals as goal
 
 pub returns-in-Some : goal.returns-in-Some

@@ -3,7 +3,7 @@ use Rattle.uring_volume.proofs.Common.{IsIn, has_ended, issued, list_any, withou
 use Rattle.uring_volume.specs.Past.{Past, can_be_let_go}
 use Rattle.uring_volume.specs.Folds.{can_let_go}
 use Rattle.uring_volume.proofs.Lengths.{before_ended}
-use Rattle.uring_volume.proofs.Keeping.{can_let_go_kept, kept_issued, none_let_go_kept, under_kept}
+use Rattle.uring_volume.proofs.KeptTells.{can_let_go_kept, kept_issued, none_let_go_kept, under_kept}
 use Rattle.uring_volume.proofs.past.Past.let_go_first.Goals as goal
 
 pub returns-in_default-clause-none : goal.returns-in_default-clause-none

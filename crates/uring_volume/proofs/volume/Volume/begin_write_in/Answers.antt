@@ -1,6 +1,7 @@
 use Rattle.std.proofs.Common.{◌≤◌, subst, sym, ◌∙◌, arith}
 use Rattle.uring_volume.specs.Volume.{Volume, elements_to_begin}
-use Rattle.uring_volume.proofs.Keeping.{IsFew, are_few, err_ok}
+use Rattle.uring_volume.proofs.KeptLists.{err_ok}
+use Rattle.uring_volume.proofs.KeptCounts.{IsFew, are_few}
 use Rattle.uring_volume.proofs.volume.Volume.begin_write_in.Goals as goal
 
 pub returns-then-is_err-clause-granted : goal.returns-then-is_err-clause-granted

@@ -1,6 +1,6 @@
 use Rattle.std.proofs.Common.{◌-◌, ◌^◌}
 use Rattle.uring_volume.proofs.Results.{on_value}
-use Rattle.uring_volume.proofs.Keeping.{count_folded}
+use Rattle.uring_volume.proofs.KeptFolds.{count_folded}
 use Rattle.uring_volume.proofs.volume.Volume.count_images_in.Goals as goal
 
 pub returns-clause-count : goal.returns-clause-count

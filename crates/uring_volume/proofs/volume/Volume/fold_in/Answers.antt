@@ -1,7 +1,7 @@
 use Rattle.std.proofs.Common.{[], sym, ap, ◌∙◌, arith}
 use Rattle.uring_volume.proofs.Common.{IsSound, Ok}
 use Rattle.uring_volume.proofs.Folded.{folded_more, under_back}
-use Rattle.uring_volume.proofs.Keeping.{none_foldable}
+use Rattle.uring_volume.proofs.KeptFolds.{none_foldable}
 use Rattle.uring_volume.proofs.volume.Volume.fold_in.Goals as goal
 
 pub returns-in_err-fold_one-clause-folded : goal.returns-in_err-fold_one-clause-folded

@@ -1,7 +1,8 @@
 use Rattle.std.proofs.Common.{◌<◌, length, map, refl, sym, subst}
 use Rattle.uring_volume.proofs.Common.{IsFoldedFrom, Volume, issued}
 use Rattle.uring_volume.proofs.Folded.{IsResult, folded_result, none_result}
-use Rattle.uring_volume.proofs.Keeping.{fewer_of, held_volume}
+use Rattle.uring_volume.proofs.KeptCounts.{fewer_of}
+use Rattle.uring_volume.proofs.KeptFolds.{held_volume}
 use Rattle.uring_volume.proofs.volume.Volume.fold_one.Goals as goal
 
 pub returns-clause-folded : goal.returns-clause-folded

@@ -1,6 +1,6 @@
 use Rattle.std.proofs.Common.{map}
 use Rattle.uring_volume.proofs.Results.{on_value}
-use Rattle.uring_volume.proofs.Keeping.{images_folded, more_folded}
+use Rattle.uring_volume.proofs.KeptFolds.{images_folded, more_folded}
 use Rattle.uring_volume.proofs.volume.Volume.images_in.Goals as goal
 
 pub returns-in-Ok-clause-images : goal.returns-in-Ok-clause-images

@@ -1,7 +1,7 @@
 use Rattle.std.proofs.Common.{subst, arith}
 use Rattle.uring_volume.proofs.Common.{IsSound}
 use Rattle.uring_volume.proofs.Folded.{folded_more}
-use Rattle.uring_volume.proofs.Keeping.{none_under}
+use Rattle.uring_volume.proofs.KeptFolds.{none_under}
 use Rattle.uring_volume.proofs.volume.Volume.let_go.Goals as goal
 
 pub returns-then-not-let_one_go-clause-folded : goal.returns-then-not-let_one_go-clause-folded

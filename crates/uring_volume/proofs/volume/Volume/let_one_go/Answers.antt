@@ -3,7 +3,7 @@ use Rattle.uring_volume.proofs.Common.{IsFoldedFrom, IsSound, Volume, is_safe, i
 use Rattle.uring_volume.specs.Folds.{IsUnderSafe}
 use Rattle.uring_volume.proofs.Folded.{let_go_by}
 use Rattle.uring_volume.proofs.Foldable.{none_under_by}
-use Rattle.uring_volume.proofs.Keeping.{fewer_let_go}
+use Rattle.uring_volume.proofs.KeptCounts.{fewer_let_go}
 use Rattle.uring_volume.proofs.volume.Volume.let_one_go.Goals as goal
 
 pub returns-clause-folded : goal.returns-clause-folded
