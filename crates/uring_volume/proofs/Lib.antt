@@ -41,6 +41,5 @@ pub mod EndOrder
 pub mod KeptCounts
 pub mod IssuedWays
 pub mod KeptFolds
-pub mod Carried
 -- A count passes over what no write touches:
 pub mod Skipping
