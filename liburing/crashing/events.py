@@ -21,7 +21,7 @@ HEAD = struct.Struct("<IHHIIQQQqQqHHI")
     PRINT,
     MAPPED,
 ) = range(1, 17)
-SYNCS_ITS_RANGE, IS_OF_RANGE, IS_OF_DATA = 1, 2, 4
+SYNCS_ITS_RANGE, IS_OF_RANGE, IS_OF_DATA, WAS_REFUSED = 1, 2, 4, 8
 OF_NAMES = {CREATE, MAKE_FOLDER, MAKE_LINK, LINK, RENAME, REMOVE}
 
 
@@ -197,6 +197,9 @@ class Log:
         else:
             operation = self.open[thread].pop() if self.open.get(thread) else None
         if operation is None:
+            return
+        if event.flags & WAS_REFUSED:
+            self.operations.remove(operation)
             return
         operation.end, operation.result, operation.made = at, event.result, event.file
         if operation.kind in (SYNC, SYNC_ALL) and not event.operation:
