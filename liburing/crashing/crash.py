@@ -38,19 +38,18 @@ def begin_worker(options):
 def work(task):
     """A run of its own with some crashes, or some crashes of the run that all share."""
     policy, specs, count, seed = task
-    before = crasher.crashes, len(crasher.known)
+    before, crasher.remarks = (crasher.crashes, len(crasher.known), crasher.passed), []
     run = Run(crasher.options, policy) if policy else shared
     if crasher.options.all:
-        found, passed = crasher.crash_all(run)
+        found = crasher.crash_all(run)
     else:
-        found, passed = crasher.crash(run, specs or plan(run, count, seed)), 0
-    remarks, crasher.remarks = crasher.remarks, []
+        found = crasher.crash(run, specs or plan(run, count, seed))
     return (
         found,
         crasher.crashes - before[0],
         len(crasher.known) - before[1],
-        (policy, run.status, run.last_lines(), run.remarks, remarks),
-        passed,
+        (policy, run.status, run.last_lines(), run.remarks, crasher.remarks),
+        crasher.passed - before[2],
     )
 
 
@@ -161,13 +160,24 @@ def repeat(options, report):
         stop("--at names a crash of what recovers: crash wants PROGRAM.. -- RECOVER.. -- CHECK..")
     own = Crasher(options)
     try:
-        told = Told(options, own, Example(epochs, own.run_of(epochs, shared), shared))
+        run = own.run_of(epochs, shared)
+        look_for_losses(run, epochs[-1])
+        told = Told(options, own, Example(epochs, run, shared))
     finally:
         own.close()
     told.show()
     report.data = told.data(options)
     report.crashes = report.checked = 1
     return 1 if told.status != 0 else 0
+
+
+def look_for_losses(run, epoch):
+    """(a run that isn't the same each time may have other events)"""
+    if epoch.moment > run.log.count:
+        stop(f"--at {epoch.moment}: the run has {run.log.count} events")
+    for number in (it[0] for it in epoch.left.losses):
+        if number >= len(run.log.operations):
+            stop(f"--lose {number}: the run has {len(run.log.operations)} operations, from 0 on")
 
 
 def split_words(options):
@@ -182,6 +192,8 @@ def split_words(options):
     options.recover = recover[0] if recover else None
     if options.disk is not None and not os.path.isdir(options.disk):
         stop(f"--disk {options.disk}: there is no such folder")
+    if options.keep:
+        os.makedirs(options.keep, exist_ok=True)
     for path, target in ((PRELOADED, "out/uring-run.so"), (LIBRARY, "out/volumes.so")):
         if not os.path.exists(path):
             stop(f"{path} isn't there: make -C liburing {target}")

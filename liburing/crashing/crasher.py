@@ -20,15 +20,13 @@ REMEMBERED = 16  # runs that recover
 class Failure:
     """A crash after which a check fails, with those before it, and what has to be known of its run when that is gone."""
 
-    def __init__(self, run, moment, left, image, verdict, is_kept):
+    def __init__(self, run, disk, left, image, verdict, is_kept):
         self.policy, self.items, self.choices = run.policy, run.items(), len(run.choices)
-        self.epochs, self.moment, self.left = run.epochs, moment, left
+        self.epochs, self.moment, self.left = run.epochs, disk.now, left
         self.status, self.said = verdict
-        disk = run.begin()
-        disk.advance(moment)
         self.losses = pieces(image, image_of(disk, Chosen("most")))
         self.lost = names_of(disk, run, self.losses)
-        self.kept = (image, run.printed(moment), run.log.data) if is_kept else None
+        self.kept = (image, run.printed(disk.now), run.log.data) if is_kept else None
 
     def all_epochs(self):
         return (*self.epochs, Epoch(list_of(self.items), self.moment, self.left))
@@ -40,7 +38,7 @@ class Crasher:
     def __init__(self, options):
         self.options, self.room = options, Room(options.check, options.seconds, options.place)
         self.known, self.crashes, self.deadline = {}, 0, float("inf")
-        self.begun, self.recovered, self.remarks = set(), {}, []
+        self.begun, self.recovered, self.remarks, self.passed = set(), {}, [], 0
         self.run = self.disk = None
 
     def close(self):
@@ -93,16 +91,17 @@ class Crasher:
             disk.advance(moment)
             left = choose(disk, kind, seed)
             image = image_of(disk, left.chosen())
-            found += self.look_at(run, moment, left, image, seed)
+            found += self.look_at(run, disk, left, image, seed)
             if found and not self.options.keep_going:
                 break
         return found
 
-    def look_at(self, run, moment, left, image, seed):
+    def look_at(self, run, disk, left, image, seed):
         """The failures of one crash: its own, or those of the crashes in what recovers from it."""
+        moment = disk.now
         verdict = self.verdict(run, moment, left, image)
         if verdict[0] != 0:
-            return [Failure(run, moment, left, image, verdict, bool(self.options.keep))]
+            return [Failure(run, disk, left, image, verdict, bool(self.options.keep))]
         if not self.is_recovered(run) or (run.epochs and seed % GOES_ON):
             return []
         key = (image.key(), hash(run.printed(moment)), len(run.epochs))
@@ -113,22 +112,22 @@ class Crasher:
         if after.choices and seed % 2:
             after = self.recover(run, moment, left, image, f"seed:{seed}")
         if self.options.all:
-            return self.crash_all(after)[0]
+            return self.crash_all(after)
         return self.crash(after, plan(after, self.options.each or EACH, seed))
 
     def crash_all(self, run):
-        """Every image at every moment, where there are few; how many moments had too many."""
-        found, disk, passed = [], run.begin(), 0
+        """The failures of every image at every moment, where there are few; the moments that have too many are counted."""
+        found, disk = [], run.begin()
         for moment in run.moments():
             disk.advance(moment)
             images, whole = all_images(disk, self.options.most), image_of(disk, Chosen("most"))
-            passed += images is None
+            self.passed += images is None
             for number, image in enumerate(images or []):
                 left = lost(pieces(image, whole))
-                found += self.look_at(run, moment, left, image, number * GOES_ON)
+                found += self.look_at(run, disk, left, image, number * GOES_ON)
                 if found and not self.options.keep_going:
-                    return found, passed
-        return found, passed
+                    return found
+        return found
 
     def image(self, run, moment, left):
         """What a crash leaves: of the run that was asked about before from where it stands."""

@@ -54,7 +54,7 @@ def still_fails(crasher, example):
 
 
 def shorten_crash(crasher, example):
-    """Whole operations if that will do, then the fewest losses, then the earliest moment."""
+    """Whole operations if that will do, then the fewest losses, or none, then the earliest moment."""
     run, moment, losses = example.run, example.last.moment, list(example.last.left.losses)
     if example.last.left.kind != "lose":
         return example
@@ -65,7 +65,7 @@ def shorten_crash(crasher, example):
     whole = sorted({it[:1] for it in losses})
     if whole != losses and fails(whole):
         losses = whole
-    losses = fewest(fails, losses)
+    losses = [] if fails([]) else fewest(fails, losses)
     first = min((run.log.operations[it[0]].begin for it in losses), default=-1)
     for at in run.moments():
         if at >= moment or crasher.is_over():

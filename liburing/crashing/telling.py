@@ -62,7 +62,7 @@ def tell(options, it, place):
         )
     how = {"list:": "in order"}.get(failure.policy, failure.policy)
     crash = f"after event {failure.moment}, status {failure.status}"
-    where = "run " + how if not failure.epochs else f"the recovery from {len(failure.epochs)}"
+    where = f"recovery {len(failure.epochs)}" if failure.epochs else f"run {how}"
     print(f"a crash fails: {where}, {crash}", flush=True)
     if not it.told:
         print("that isn't so if it is made again: the program doesn't do the same in each run")
