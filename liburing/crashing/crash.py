@@ -128,7 +128,7 @@ def crash_in_place(options, report):
     )
     if failures:
         tell_kinds(options, failures if options.keep_going else failures[:1], report, run)
-    return 1 if failures or report.remarks.told else 0
+    return 1 if failures or report.remarks.told or report.passed else 0
 
 
 def crash_all_runs(options, run, report):

@@ -51,7 +51,9 @@ def read_loss(word):
         first, last = part.split("-")
         return int(number), int(first), int(last) + 1
     except ValueError:
-        stop(f"{word}: a loss is N, N:FIRST-LAST or N:length, or all of them are least, most or seed:N")
+        stop(
+            f"{word}: a loss is N, N:FIRST-LAST or N:length, or all of them are least, most or seed:N"
+        )
 
 
 def read_left(word):

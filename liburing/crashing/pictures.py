@@ -34,7 +34,9 @@ def draw(options, pictures, status, said):
     runs = [
         {
             "group": f"disk {at + 1}" if at else "disk",
-            "name": "what recovers, until the power fails" if at else "the run, until the power fails",
+            "name": "what recovers, until the power fails"
+            if at
+            else "the run, until the power fails",
             "told": f"the power fails after event {it[1]}{ended if it is pictures[-1] else ''}",
             "setup": {"sq": 0, "cq": 0, "start": 0, "stops": False},
             "headings": ["operations"],

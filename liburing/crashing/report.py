@@ -81,6 +81,8 @@ def cases(summary):
                 *([f"kept: {kind['kept']}"] if kind["kept"] else []),
             ]
         )
-        name = f"{kind['said'] or 'the check fails'} ({', '.join(kind['lost']) or 'nothing is lost'})"
+        name = (
+            f"{kind['said'] or 'the check fails'} ({', '.join(kind['lost']) or 'nothing is lost'})"
+        )
         found.append(Case(name, "failure", f"status {kind['status']}: {lost}", text))
     return found or [Case(f"{summary['crashes']} crashes")]

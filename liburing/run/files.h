@@ -14,8 +14,8 @@
 /* Traps them. False: the kernel refuses the filter. */
 bool trap_files(void);
 
-/* Whether a call is one of files; and serving a trapped one with these words: false if it isn't. Its
- * result is the kernel's. */
+/* Whether a call is one of files; and serving a trapped one with these words: false if it isn't.
+ * Its result is the kernel's. */
 bool is_file_call(long number);
 bool serve_file_call(long call, const long words[6], long *result);
 

@@ -34,9 +34,9 @@ enum event_kind {
                     mapped */
 };
 
-/* The flag of a write that a sync of its range follows; those of a sync which is of its range alone,
- * and of one that leaves out what no read needs; and that of the end of what was refused, and so
- * never began. */
+/* The flag of a write that a sync of its range follows; those of a sync which is of its range
+ * alone, and of one that leaves out what no read needs; and that of the end of what was refused,
+ * and so never began. */
 enum { SYNCS_ITS_RANGE = 1, IS_OF_RANGE = 2, IS_OF_DATA = 4, WAS_REFUSED = 8 };
 
 /* After it stand its path, its second path and its bytes. */

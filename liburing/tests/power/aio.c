@@ -60,8 +60,8 @@ void by_aio(void)
 {
     aio_context_t context = set_up_requests();
     int file = make("data", 0);
-    struct iocb entry = entry_of(file, IOCB_CMD_PWRITE, bytes, SIZE), sync = sync_of(file,
-                                                                          IOCB_CMD_FSYNC);
+    struct iocb entry = entry_of(file, IOCB_CMD_PWRITE, bytes, SIZE),
+                sync = sync_of(file, IOCB_CMD_FSYNC);
     submit(context, &entry, 1);
     take(context, 1, SIZE);
     if (is_synced) {
@@ -75,8 +75,8 @@ void by_aio_vectors(void)
     aio_context_t context = set_up_requests();
     int file = make("data", 0);
     struct iovec parts[] = {{bytes, 100}, {bytes, SIZE - 100}};
-    struct iocb entry = entry_of(file, IOCB_CMD_PWRITEV, parts, 2), sync = sync_of(file,
-                                                                        IOCB_CMD_FDSYNC);
+    struct iocb entry = entry_of(file, IOCB_CMD_PWRITEV, parts, 2),
+                sync = sync_of(file, IOCB_CMD_FDSYNC);
     submit(context, &entry, 1);
     take(context, 1, SIZE);
     if (is_synced) {

@@ -1,11 +1,11 @@
-/* A store that commits to a log alone, and brings it into its data where it recovers; right, or with
- * a bug planted in that.
+/* A store that commits to a log alone, and brings it into its data where it recovers; right, or
+ * with a bug planted in that.
  *
  *   redo run                        commits six values to the log, and says so of each
  *   redo recover [early | marked]   brings the log into the data, and cuts it. early: it is cut
- *                                   before the data are synced; marked: that it has begun is written
- *                                   first, and is taken for the end by who finds it
- *   redo check                      status 1: a value is lost that was acknowledged
+ *                                   before the data are synced; marked: that it has begun is
+ * written first, and is taken for the end by who finds it redo check                      status 1:
+ * a value is lost that was acknowledged
  */
 #define _GNU_SOURCE
 #include <fcntl.h>
