@@ -5,7 +5,7 @@ import time
 
 from crashing.epochs import Epoch, Left, lost
 from crashing.images import all_images, image_of, pieces, unsettled
-from crashing.kinds import names_of
+from crashing.kinds import key_of, names_of
 from crashing.labels import Chosen
 from crashing.rooms import Room
 from crashing.runs import Run, Start
@@ -20,13 +20,13 @@ REMEMBERED = 16  # runs that recover
 class Failure:
     """A crash after which a check fails, with those before it, and what has to be known of its run when that is gone."""
 
-    def __init__(self, run, disk, left, image, verdict, is_kept):
+    def __init__(self, run, disk, left, image, verdict):
         self.policy, self.items, self.choices = run.policy, run.items(), len(run.choices)
         self.epochs, self.moment, self.left = run.epochs, disk.now, left
         self.status, self.said = verdict
         self.losses = pieces(image, image_of(disk, Chosen("most")))
         self.lost = names_of(disk, run, self.losses)
-        self.kept = (image, run.printed(disk.now), run.log.data) if is_kept else None
+        self.kept = None
 
     def all_epochs(self):
         return (*self.epochs, Epoch(list_of(self.items), self.moment, self.left))
@@ -39,7 +39,7 @@ class Crasher:
         self.options, self.room = options, Room(options.check, options.seconds, options.place)
         self.known, self.crashes, self.deadline = {}, 0, float("inf")
         self.begun, self.recovered, self.remarks, self.passed = set(), {}, [], 0
-        self.run = self.disk = None
+        self.run, self.disk, self.kept = None, None, set()
 
     def close(self):
         self.room.close()
@@ -101,7 +101,7 @@ class Crasher:
         moment = disk.now
         verdict = self.verdict(run, moment, left, image)
         if verdict[0] != 0:
-            return [Failure(run, disk, left, image, verdict, bool(self.options.keep))]
+            return [self.failure(run, disk, left, image, verdict)]
         if not self.is_recovered(run) or (run.epochs and seed % GOES_ON):
             return []
         key = (image.key(), hash(run.printed(moment)), len(run.epochs))
@@ -114,6 +114,14 @@ class Crasher:
         if self.options.all:
             return self.crash_all(after)
         return self.crash(after, plan(after, self.options.each or EACH, seed))
+
+    def failure(self, run, disk, left, image, verdict):
+        """A failure. The first of a kind has its image, in case it can't be made again."""
+        found = Failure(run, disk, left, image, verdict)
+        if self.options.keep and key_of(found) not in self.kept:
+            self.kept.add(key_of(found))
+            found.kept = (image.bare(), run.printed(disk.now), run.log.data)
+        return found
 
     def crash_all(self, run):
         """The failures of every image at every moment, where there are few; the moments that have too many are counted."""

@@ -27,11 +27,12 @@ class Kind:
     """Some failures, and the one that is told: that in which the least is lost."""
 
     def __init__(self, failure):
-        self.failure, self.count = failure, 0
-        self.add(failure, 1)
+        self.failure, self.count, self.kept = failure, 0, None
+        self.add(failure)
 
-    def add(self, failure, count):
-        self.count += count
+    def add(self, failure):
+        self.count += 1
+        self.kept = self.kept or failure.kept
         if weight(failure) < weight(self.failure):
             self.failure = failure
 
@@ -46,7 +47,7 @@ def kinds_of(failures):
     for failure in failures:
         key = key_of(failure)
         if key in found:
-            found[key].add(failure, 1)
+            found[key].add(failure)
         else:
             found[key] = Kind(failure)
     return sorted(found.values(), key=lambda it: -it.count)

@@ -15,7 +15,7 @@ class Example:
     """A kind with what is told of it."""
 
     def __init__(self, kind, told, crasher):
-        self.failure, self.count, self.told = kind.failure, kind.count, told
+        self.failure, self.count, self.told, self.kept = kind.failure, kind.count, told, kind.kept
         self.failure.first = first_line(self.failure.said)
         self.is_over = crasher.is_over()
         if told:
@@ -88,7 +88,7 @@ def keep_one(options, crasher, it):
         text = f"{told.text().lstrip()}\n".encode(errors="surrogateescape") + told.said
         folder = keep(options, crasher, told.image, printed, logs, text)
     else:
-        image, printed, data = it.failure.kept
+        image, printed, data = it.kept
         folder = keep(options, crasher, image, printed, [data], text)
     print(f"kept in {folder}: ./replay there asks the check again", flush=True)
     return folder

@@ -100,18 +100,18 @@ void by_aio_ring(void)
     sync_file(file);
 }
 
-/* What the kernel refuses, before and after what it takes, is no write. */
+/* What the kernel refuses, after what it takes or alone, is no sync, and none that failed. */
 void by_aio_refused(void)
 {
     aio_context_t context = set_up_requests();
     int file = make("data", 0);
     struct iocb entries[2] = {
-        entry_of(file, IOCB_CMD_PWRITE, bytes, SIZE), entry_of(file, IOCB_CMD_PWRITE, bytes, SIZE)};
+        entry_of(file, IOCB_CMD_PWRITE, bytes, SIZE), sync_of(file, IOCB_CMD_FSYNC)};
     struct iocb *places[2] = {entries, entries + 1};
     entries[1].aio_reserved2 = 1;
-    demand(syscall(SYS_io_submit, context, 1, places + 1) < 0, "a refusal");
     demand(syscall(SYS_io_submit, context, 2, places) == 1, "io_submit");
     take(context, 1, SIZE);
+    demand(syscall(SYS_io_submit, context, 1, places + 1) < 0, "a refusal");
     sync_file(file);
 }
 
