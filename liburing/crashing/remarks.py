@@ -9,7 +9,7 @@ class Remarks:
     """Each thing is told once. A run that ends with another status than is wanted has failed, whatever its crashes leave: it refused something, has died, or hung. What was done in a way that wasn't seen hasn't been tested."""
 
     def __init__(self, wanted, run):
-        self.wanted, self.others, self.told = wanted, 0, []
+        self.wanted, self.others, self.told, self.lines = wanted, 0, [], {}
         if run.status != wanted:
             self.tell(f"the run in order ends with status {run.status}", run.last_lines())
         for remark in run.remarks:
@@ -20,8 +20,9 @@ class Remarks:
         if remark in self.told:
             return
         self.told.append(remark)
+        self.lines[remark] = lines.decode(errors="replace").splitlines()[-MOST:]
         print(f"explore: {remark}{after}{'; its last lines:' if lines else ''}", file=sys.stderr)
-        for line in lines.decode(errors="replace").splitlines()[-MOST:]:
+        for line in self.lines[remark]:
             print(f"    {line}", file=sys.stderr)
 
     def add(self, policy, status, lines, remarks, recovery):
@@ -33,6 +34,9 @@ class Remarks:
             self.tell(remark, after=f" (in the run {policy})")
         for remark in recovery:
             self.tell(remark, after=" (in a recovery)")
+
+    def for_report(self):
+        return [{"told": it, "lines": self.lines[it]} for it in self.told]
 
     def in_short(self):
         """Why the status isn't 0, as the line that counts says it."""

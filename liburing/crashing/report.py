@@ -37,7 +37,6 @@ class Report:
         self.kinds.append(kind)
 
     def summary(self):
-        remarks = self.remarks.told if self.remarks else []
         return {
             "program": getattr(self.options, "shown", self.options.words),
             "status": self.status,
@@ -48,7 +47,7 @@ class Report:
             "failures": self.failures,
             "moments_with_more": self.passed,
             "seconds": round(time.monotonic() - self.begun, 3),
-            "remarks": remarks,
+            "remarks": self.remarks.for_report() if self.remarks else [],
             "kinds": self.kinds,
         }
 
@@ -68,7 +67,9 @@ class Report:
 
 def cases(summary):
     """A test of all crashes, which has passed if nothing is to be told; else one for each thing that is."""
-    found = [Case("the run", "error", it, it) for it in summary["remarks"]]
+    found = [
+        Case("the run", "error", it["told"], "\n".join(it["lines"])) for it in summary["remarks"]
+    ]
     found += [Case("the run", "error", summary["stopped"])] if summary["stopped"] else []
     for kind in summary["kinds"]:
         example = kind["example"] or {"repeat": "", "lost": kind["lost"], "told": []}

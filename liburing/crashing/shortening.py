@@ -43,7 +43,7 @@ def shortened(options, crasher, failure, shared):
     crasher.deadline -= max(0, end - time.monotonic()) / 4
     if len(epochs) > 1:
         example = shorten_before(crasher, example)
-    elif first.items():
+    if example.run.items():
         example = shorten_choices(options, crasher, example)
     crasher.deadline = end
     return shorten_crash(crasher, example)
@@ -131,12 +131,10 @@ def shorten_choices(options, crasher, example):
     def fails(some):
         if crasher.is_over():
             return False
-        run = Run(options, list_of(some))
-        epochs = (Epoch(run.policy, found[0].last.moment, found[0].last.left),)
-        again = failing(crasher, Example(epochs, run, run))
+        again = failing(crasher, with_choices(options, crasher, found[0], some))
         if again:
-            again.epochs = (again.last._replace(policy=list_of(run.items())),)
-            found[0] = again
+            last = again.last._replace(policy=list_of(again.run.items()))
+            found[0] = Example((*again.epochs[:-1], last), again.run, again.first)
         return bool(again)
 
     def items():
@@ -151,6 +149,16 @@ def shorten_choices(options, crasher, example):
             fails(kept)
     fewest(fails, items())
     return found[0]
+
+
+def with_choices(options, crasher, example, some):
+    """The same crash of the run by these choices, of the program or of what recovers."""
+    epochs = (*example.epochs[:-1], example.last._replace(policy=list_of(some)))
+    if len(epochs) == 1:
+        run = first = Run(options, epochs[0].policy)
+    else:
+        run, first = crasher.run_of(epochs, example.first), example.first
+    return Example(epochs, run, first)
 
 
 def leave_end_out(fails, items):

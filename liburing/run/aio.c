@@ -42,31 +42,37 @@ struct waiting {
 };
 
 static struct {
-    atomic_flag is_taken;
+    _Atomic pid_t holder; /* who has it locked, or 0 */
     _Atomic size_t context_count;
     size_t used; /* places that aren't all free */
     uint64_t last; /* the last request's number */
     struct context contexts[MOST_CONTEXTS];
     struct waiting waiting[MOST_WAITING];
-} requests = {.is_taken = ATOMIC_FLAG_INIT};
-
-/* A signal's handler that comes while it is locked may make such calls too. */
-static void lock_requests(sigset_t *before)
-{
-    set_mask(~OPEN_IN_TRAP, before);
-    while (atomic_flag_test_and_set(&requests.is_taken))
-        sched_yield();
-}
-
-static void unlock_requests(const sigset_t *before)
-{
-    atomic_flag_clear(&requests.is_taken);
-    put_mask_back(before);
-}
+} requests;
 
 static pid_t own_number(void)
 {
     return (pid_t)pass(SYS_getpid, 0, 0, 0, 0, 0, 0);
+}
+
+/* A signal's handler that comes while it is locked may make such calls too. In a child of a fork it
+ * may be locked by a thread that isn't there. */
+static void lock_requests(sigset_t *before)
+{
+    pid_t own = own_number(), holder;
+    set_mask(~OPEN_IN_TRAP, before);
+    while (holder = 0, !atomic_compare_exchange_weak(&requests.holder, &holder, own)) {
+        if (holder != 0 && holder != own &&
+            atomic_compare_exchange_weak(&requests.holder, &holder, own))
+            return;
+        sched_yield();
+    }
+}
+
+static void unlock_requests(const sigset_t *before)
+{
+    requests.holder = 0;
+    put_mask_back(before);
 }
 
 static bool read_ring(uint64_t at, struct shared_ring *ring)
