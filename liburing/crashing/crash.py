@@ -95,6 +95,9 @@ def crash(options, program):
     except OSError as error:
         report.status, report.stopped = 2, told_error(error)
         raise
+    except KeyboardInterrupt:
+        report.stopped = "it was interrupted"
+        raise
     finally:
         report.write()
     return report.status

@@ -52,8 +52,6 @@ class Report:
         }
 
     def write(self):
-        if self.status is None and self.stopped is None:
-            self.stopped = "it was interrupted"
         summary = self.summary()
         if self.options.json:
             data = self.data or {"form": 2, "title": "A crash", "told": "no crash", "runs": []}

@@ -12,4 +12,5 @@ def first_line(said):
 
 
 def without_numbers(text):
-    return re.sub(r"\d+", "N", text)
+    """Where numbers stand one after the other, as in a list, so many count as one."""
+    return re.sub(r"\d+(?:[, ]+\d+)*", "N", text)

@@ -45,8 +45,6 @@ class Found:
 
     def write(self):
         options, progress = self.options, self.progress
-        if progress is None and self.stopped is None:
-            self.stopped = "it was interrupted"
         found = {
             "policy": self.policies.name if self.policies else options.policy,
             "start": self.program.start,
@@ -88,6 +86,9 @@ def seeds(options, program):
         raise
     except OSError as error:
         found.stopped = told_error(error)
+        raise
+    except KeyboardInterrupt:
+        found.stopped = "it was interrupted"
         raise
     finally:
         found.write()
