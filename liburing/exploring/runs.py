@@ -1,6 +1,7 @@
 """One run of a program on the layer, and the policies that it is run by."""
 
 import atexit
+import errno
 import os
 import shutil
 import struct
@@ -126,6 +127,8 @@ def told_error(error):
         there, _, why = error.args[0][0]
         return f"{there}: {why}"
     why = error.strerror or str(error)
+    if error.errno == errno.ENOSPC:
+        why += f" (what is made for runs lies in {ROOM or tempfile.gettempdir()}; TMPDIR says otherwise)"
     return why if error.filename is None else f"{error.filename}: {why}"
 
 
