@@ -40,7 +40,9 @@ class Told:
         sys.stdout.flush()
 
     def data(self, options):
-        """The page of it is written, if one is asked for, and its data are given."""
+        """The page of it is written and its data are given, if either is asked for."""
+        if not options.page and not options.json:
+            return None
         return draw(options, self.pictures, self.status, self.said)
 
 
