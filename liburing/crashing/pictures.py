@@ -87,12 +87,14 @@ def of_run(run, moment, image, whole, status):
             lines[-1]["answer"] = printing(printed[at].rstrip(b"\n")[-200:])
     disk.advance(moment)
     lines.append(line_of(moment, "the power fails", left_of(disk, begun, safe, image, whole)))
-    lines[-1]["notes"] = [printing(it.encode(errors="surrogateescape")) for it in losses(disk, image, whole)]
+    lines[-1]["notes"] = [
+        printing(it.encode(errors="surrogateescape")) for it in losses(disk, image, whole)
+    ]
     if status != 0:
         lines[-1]["wrong"] = f"the check ends with status {status}"
     lines[0]["notes"] = [
         *(
-            f"choice {at}: {printing(what.encode(errors="surrogateescape"))}, way {way} of 0 to {count - 1}"
+            f"choice {at}: {printing(what.encode())}, way {way} of 0 to {count - 1}"
             for at, way, count, what in run.choices
             if way
         ),
