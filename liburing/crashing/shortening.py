@@ -10,7 +10,7 @@ from crashing.images import image_of, pieces, unsettled
 from crashing.runs import Run
 from exploring.runs import list_of
 
-PART = 20  # one list of choices is looked at for one part of so many of the time, at most
+PART = 20  # one list of choices is looked at for one part of so many of the time, or for a second
 
 
 class Example:
@@ -46,15 +46,15 @@ def shortened(options, crasher, failure, shared):
     if example.run.items():
         example = shorten_choices(options, crasher, example)
     crasher.deadline = end
-    return shorten_crash(crasher, example)
+    return shorten_crash(crasher, example, may_lose_nothing=True)
 
 
 def still_fails(crasher, example):
     return crasher.fails(example.run, example.last.moment, example.last.left)
 
 
-def shorten_crash(crasher, example):
-    """Whole operations if that will do, then the fewest losses, or none, then the earliest moment."""
+def shorten_crash(crasher, example, may_lose_nothing=False):
+    """Whole operations if that will do, then the fewest losses, then the earliest moment. Without any loss more choices may be needed: so that comes last."""
     run, moment, losses = example.run, example.last.moment, list(example.last.left.losses)
     if example.last.left.kind != "lose":
         return example
@@ -65,7 +65,7 @@ def shorten_crash(crasher, example):
     whole = sorted({it[:1] for it in losses})
     if whole != losses and fails(whole):
         losses = whole
-    losses = [] if fails([]) else fewest(fails, losses)
+    losses = [] if may_lose_nothing and fails([]) else fewest(fails, losses)
     first = min((run.log.operations[it[0]].begin for it in losses), default=-1)
     for at in run.moments():
         if at >= moment or crasher.is_over():
@@ -124,31 +124,41 @@ def losses_of(crasher, example):
     return pieces(image, crasher.image(run, last.moment, Left("most")))
 
 
-def shorten_choices(options, crasher, example):
-    """The fewest choices of the run with which some crash of it fails: all are left out first, then those at the end, which come after the crash, then whole classes, as all that issue a request, then many and then few."""
-    found = [example]
+class Choices:
+    """The choices of an example's run, of which fewer and fewer are left."""
 
-    def fails(some):
-        if crasher.is_over():
+    def __init__(self, options, crasher, example):
+        self.options, self.crasher, self.example = options, crasher, example
+
+    def items(self):
+        return self.example.run.items()
+
+    def fails(self, some):
+        """Whether some crash of the run by these fails; it is the example then."""
+        if self.crasher.is_over():
             return False
-        again = failing(crasher, with_choices(options, crasher, found[0], some))
+        again = failing(self.crasher, with_choices(self.options, self.crasher, self.example, some))
         if again:
             last = again.last._replace(policy=list_of(again.run.items()))
-            found[0] = Example((*again.epochs[:-1], last), again.run, again.first)
+            self.example = Example((*again.epochs[:-1], last), again.run, again.first)
         return bool(again)
 
-    def items():
-        return found[0].run.items()
 
-    if fails([]):
-        return found[0]
-    leave_end_out(fails, items())
-    for some in classes(found[0].run.choices):
-        kept = [it for it in items() if it not in some]
-        if kept != items():
-            fails(kept)
-    fewest(fails, items())
-    return found[0]
+def shorten_choices(options, crasher, example):
+    """The fewest choices of the run with which some crash of it fails: all are left out first, then those at the end, which come after the crash, then whole classes, as all that issue a request, then many and then few. If more than one is left, that is tried without classes too: a choice that is left out changes which others there are."""
+    by_classes = Choices(options, crasher, example)
+    if by_classes.fails([]):
+        return by_classes.example
+    leave_end_out(by_classes.fails, by_classes.items())
+    for some in classes(by_classes.example.run.choices):
+        kept = [it for it in by_classes.items() if it not in some]
+        if kept != by_classes.items():
+            by_classes.fails(kept)
+    fewest(by_classes.fails, by_classes.items())
+    plain = Choices(options, crasher, example)
+    if len(by_classes.items()) > 1:
+        fewest(plain.fails, plain.items())
+    return min(by_classes.example, plain.example, key=lambda it: len(it.run.items()))
 
 
 def with_choices(options, crasher, example, some):
@@ -187,7 +197,7 @@ def failing(crasher, example):
         return example
     run, end = example.run, crasher.deadline
     now = time.monotonic()
-    crasher.deadline = min(end, now + max(0, end - now) / PART)
+    crasher.deadline = min(end, now + max(1, (end - now) / PART))
     try:
         for kind, tries in (("least", 1), ("single", 400), ("seed", 20)):
             disk = run.begin()
