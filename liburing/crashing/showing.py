@@ -93,6 +93,7 @@ def repeated(options, epochs):
         ("--unit", options.unit, 1),
         ("--fsync-fails", options.fsync_fails, None),
         ("--status", options.status, 0),
+        ("--depth", options.depth, 1),
     ):
         if value != usual:
             words += [name, str(value)]
