@@ -115,7 +115,7 @@ void by_aio_refused(void)
     sync_file(file);
 }
 
-/* A write and its sync at once: both have ended, and the sync was issued before the write had. */
+/* A write, and its sync before anybody has asked whether the write has ended: both have then. */
 void run_together(void)
 {
     aio_context_t context = set_up_requests();
@@ -123,6 +123,7 @@ void run_together(void)
     sync_folder();
     struct iocb entries[2] = {
         entry_of(file, IOCB_CMD_PWRITE, bytes, SIZE), sync_of(file, IOCB_CMD_FSYNC)};
-    submit(context, entries, 2);
+    submit(context, entries, 1);
+    submit(context, entries + 1, 1);
     take(context, 2, SIZE);
 }

@@ -6,7 +6,7 @@
  * `data` isn't whole ways list                   prints the ways ways run CASE, ways check CASE
  * what a parameter of `explore crash` decides: unit, replace, retry; what nobody sees: killed; and
  * two folders, each of which has a name and is synced: folders; a write and its sync that are given
- * to io_submit(2) at once: together
+ * to io_submit(2) before either is asked for: together
  */
 #define _GNU_SOURCE
 #include "ways.h"
