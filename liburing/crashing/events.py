@@ -21,8 +21,23 @@ HEAD = struct.Struct("<IHHIIQQQqQqHHI")
     PRINT,
     MAPPED,
 ) = range(1, 17)
-SYNCS_ITS_RANGE, IS_OF_RANGE, IS_OF_DATA = 1, 2, 4
+SYNCS_ITS_RANGE, IS_OF_RANGE, IS_OF_DATA, WAS_REFUSED = 1, 2, 4, 8
 OF_NAMES = {CREATE, MAKE_FOLDER, MAKE_LINK, LINK, RENAME, REMOVE}
+NAMES = {
+    WRITE: "write",
+    COPY: "copy",
+    SYNC: "fsync",
+    SYNC_ALL: "sync",
+    LENGTH: "length",
+    SPACE: "fallocate",
+    CREATE: "creation",
+    MAKE_FOLDER: "folder",
+    MAKE_LINK: "symbolic link",
+    LINK: "link",
+    RENAME: "rename",
+    REMOVE: "removal",
+    MAPPED: "write by shared memory",
+}
 
 
 class Event:
@@ -94,7 +109,6 @@ class Operation:
         "second_path",
         "bytes",
         "made",
-        "is_of_ring",
         "actual",
         "number",
         "nth",
@@ -109,13 +123,7 @@ class Operation:
             event.length,
         )
         self.path, self.second_path, self.bytes = event.path, event.second_path, event.bytes
-        self.result, self.made, self.is_of_ring, self.actual, self.number = (
-            None,
-            0,
-            event.operation != 0,
-            None,
-            0,
-        )
+        self.result, self.made, self.actual, self.number = None, 0, None, 0
         self.nth = 0
 
     def fails(self):
@@ -126,6 +134,7 @@ class Log:
     """A run: how many events there are, its operations in the order of their begins, and what was printed in which event."""
 
     def __init__(self, data):
+        self.data = data
         self.events, self.is_cut = read_events(data)
         self.count = len(self.events)
         self.operations, self.printed = [], []
@@ -197,6 +206,9 @@ class Log:
         else:
             operation = self.open[thread].pop() if self.open.get(thread) else None
         if operation is None:
+            return
+        if event.flags & WAS_REFUSED:
+            self.operations.remove(operation)
             return
         operation.end, operation.result, operation.made = at, event.result, event.file
         if operation.kind in (SYNC, SYNC_ALL) and not event.operation:

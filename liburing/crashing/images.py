@@ -24,6 +24,12 @@ class Image:
             )
         )
 
+    def bare(self):
+        """What has to be there, without what is read for words."""
+        bare = Image()
+        bare.tree, bare.links = self.tree, self.links
+        return bare
+
 
 def image_of(disk, chosen):
     return assemble(

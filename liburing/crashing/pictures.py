@@ -7,6 +7,7 @@ from crashing.events import (
     COPY,
     LENGTH,
     MAPPED,
+    NAMES,
     OF_NAMES,
     SPACE,
     SYNC,
@@ -22,44 +23,31 @@ sys.path[:0] = [f"{HERE}/page", f"{os.path.dirname(HERE)}/page"]
 from parts import write  # noqa: E402
 from recorded import printing  # noqa: E402
 
-NAMES = {
-    1: "write",
-    2: "copy",
-    3: "fsync",
-    4: "sync",
-    5: "length",
-    6: "fallocate",
-    7: "creation",
-    8: "folder",
-    9: "symbolic link",
-    10: "link",
-    11: "rename",
-    12: "removal",
-    16: "write by shared memory",
-}
 OF_BYTES = (WRITE, COPY, MAPPED)
 OF_FILES = (*OF_BYTES, LENGTH, SPACE)
 
 
-def draw(options, run, moment, image, whole, status, said):
-    """Writes the page of one crash, and its data."""
+def draw(options, pictures, status, said):
+    """The data of one crash, whose page is written if it is asked for. Each run up to it is a run, the moment at which the power failed in it, the image, and that in which nothing is lost."""
     last = printing(said.rstrip(b"\n").rsplit(b"\n", 1)[-1][-200:])
-    told = f"the power fails after event {moment}; the check ends with status {status}" + (
-        f": {last}" if last else ""
-    )
-    data = {
-        "group": "disk",
-        "name": "the run, until the power fails",
-        "told": told,
-        "setup": {"sq": 0, "cq": 0, "start": 0, "stops": False},
-        "headings": ["operations"],
-    }
-    data.update(of_run(run, moment, image, whole, status))
-    write(
-        {"form": 2, "title": "A crash", "told": " ".join(options.shown), "runs": [data]},
-        options.page,
-        options.json,
-    )
+    ended = f"; the check ends with status {status}" + (f": {last}" if last else "")
+    runs = [
+        {
+            "group": f"disk {at + 1}" if at else "disk",
+            "name": "what recovers, until the power fails"
+            if at
+            else "the run, until the power fails",
+            "told": f"the power fails after event {it[1]}{ended if it is pictures[-1] else ''}",
+            "setup": {"sq": 0, "cq": 0, "start": 0, "stops": False},
+            "headings": ["operations"],
+            **of_run(*it, status if it is pictures[-1] else 0),
+        }
+        for at, it in enumerate(pictures)
+    ]
+    data = {"form": 2, "title": "A crash", "told": " ".join(options.shown), "runs": runs}
+    if options.page:
+        write(data, options.page)
+    return data
 
 
 def of_run(run, moment, image, whole, status):
@@ -99,7 +87,9 @@ def of_run(run, moment, image, whole, status):
             lines[-1]["answer"] = printing(printed[at].rstrip(b"\n")[-200:])
     disk.advance(moment)
     lines.append(line_of(moment, "the power fails", left_of(disk, begun, safe, image, whole)))
-    lines[-1]["notes"] = [printing(it.encode()) for it in losses(disk, image, whole)]
+    lines[-1]["notes"] = [
+        printing(it.encode(errors="surrogateescape")) for it in losses(disk, image, whole)
+    ]
     if status != 0:
         lines[-1]["wrong"] = f"the check ends with status {status}"
     lines[0]["notes"] = [

@@ -5,8 +5,8 @@ import glob
 import os
 import shutil
 import stat
-import subprocess
 import tempfile
+from typing import NamedTuple
 
 from crashing.disk import Disk
 from crashing.events import Log
@@ -18,6 +18,9 @@ PRELOADED = next(
     (it for it in (f"{HERE}/out/uring-run.so", f"{HERE}/uring-run.so") if os.path.exists(it)),
     f"{HERE}/out/uring-run.so",
 )
+
+
+TAIL, LINES = 4096, 5  # of what a run printed: the bytes and the lines that are told
 
 
 def run_and_end(words, seconds, **how):
@@ -47,17 +50,27 @@ def copy_folder(there, folder):
     shutil.copytree(there, folder, symlinks=True, copy_function=copy_file)
 
 
+class Start(NamedTuple):
+    """With what a run begins: its words, and the folder that its disk is a copy of; if it recovers from a crash, what had been printed by then, and the crashes before it."""
+
+    words: list
+    disk: str
+    earlier: bytes = b""
+    epochs: tuple = ()
+
+
 class Run:
     """What a run did: its log, what it printed, its choices, and its disk as it was when it began."""
 
-    def __init__(self, options, policy):
-        self.policy = policy
+    def __init__(self, options, policy, start=None):
+        start = start or Start(options.words, options.disk)
+        self.policy, self.earlier, self.epochs = policy, start.earlier, start.epochs
         place = tempfile.mkdtemp(prefix="run-", dir=options.place)
         try:
             folder = os.path.realpath(f"{place}/disk")
-            copy_folder(options.disk, folder) if options.disk else os.mkdir(folder)
+            copy_folder(start.disk, folder) if start.disk else os.mkdir(folder)
             self.disk = Disk(folder, options.names == "ordered", options.unit, options.apart)
-            self.status, self.said = self.call(options, place, folder)
+            self.status, self.said, self.output = self.call(options, start.words, place, folder)
             with open(f"{place}/log", "rb") as file:
                 self.log = Log(file.read())
                 self.is_ended = not os.fstat(file.fileno()).st_mode & stat.S_IWUSR
@@ -66,8 +79,11 @@ class Run:
         finally:
             shutil.rmtree(place, ignore_errors=True)
 
-    def call(self, options, place, folder):
+    def call(self, options, words, place, folder):
+        """Its status, and what it said on its standard error and, at the end, on its standard output. One that recovers reads what had been printed."""
         open(f"{place}/log", "wb").close()
+        with open(f"{place}/earlier", "wb") as file:
+            file.write(self.earlier)
         own = dict(
             WULGACH_LOG=f"{place}/log",
             WULGACH_DISK=folder,
@@ -81,18 +97,29 @@ class Run:
         if options.fsync_fails:
             own["WULGACH_SYNC_FAILS"] = str(options.fsync_fails)
         own["LD_PRELOAD"] = ":".join([PRELOADED, *filter(None, [os.environ.get("LD_PRELOAD")])])
-        with open(f"{place}/printed", "wb") as printed, open(f"{place}/said", "wb") as said:
+        with open(f"{place}/earlier", "rb") as earlier, open(
+            f"{place}/printed", "wb"
+        ) as printed, open(f"{place}/said", "wb") as said:
             status = run_and_end(
-                options.words,
+                words,
                 options.seconds,
                 cwd=folder,
                 env={**os.environ, **own},
-                stdin=subprocess.DEVNULL,
+                stdin=earlier,
                 stdout=printed,
                 stderr=said,
             )
-        with open(f"{place}/said", "rb") as said:
-            return status, said.read()
+        with open(f"{place}/said", "rb") as said, open(f"{place}/printed", "rb") as printed:
+            printed.seek(max(0, os.path.getsize(f"{place}/printed") - TAIL))
+            return status, said.read(), printed.read()
+
+    def last_lines(self):
+        """The last lines that it said, on its standard output and on its standard error."""
+        return b"".join(
+            line.rstrip(b"\n") + b"\n"
+            for said in (self.output, self.said)
+            for line in said.splitlines()[-LINES:]
+        )
 
     def read_choices(self, place):
         found = []
@@ -121,7 +148,7 @@ class Run:
         return sorted(marks | {at + 1 for at, _ in self.log.printed})
 
     def printed(self, moment):
-        return b"".join(data for at, data in self.log.printed if at < moment)
+        return self.earlier + b"".join(data for at, data in self.log.printed if at < moment)
 
     def compare(self):
         """What the log makes of the disk, beside what is there: a difference was made in a way that the log doesn't see."""

@@ -3,11 +3,19 @@
 import collections
 import multiprocessing
 from multiprocessing.connection import wait
+from typing import NamedTuple
 
-from exploring.runs import stop
+from exploring.runs import Stopped, stop, told_error
 
 DIED = "a process that crashes and checks has died"
 FORK = multiprocessing.get_context("fork")
+
+
+class Refused(NamedTuple):
+    """Why a process can't go on, and whether it has told so."""
+
+    why: str
+    is_told: bool
 
 
 class Worker:
@@ -35,8 +43,12 @@ def serve(pipe, begin, work, others):
         begin()
         while True:
             pipe.send(work(pipe.recv()))
-    except (EOFError, KeyboardInterrupt):
+    except (EOFError, BrokenPipeError, KeyboardInterrupt):
         pass
+    except Stopped as why:
+        pipe.send(Refused(why.message, True))
+    except OSError as error:
+        pipe.send(Refused(told_error(error), False))
 
 
 def answers(tasks, count, begin, work):
@@ -72,6 +84,11 @@ def give(pipe, left, busy):
 
 def take(pipe):
     try:
-        return pipe.recv()
+        found = pipe.recv()
     except EOFError:
         stop(DIED)
+    if not isinstance(found, Refused):
+        return found
+    if found.is_told:
+        raise Stopped(found.why)
+    stop(found.why)

@@ -75,7 +75,10 @@ class Orders:
 
     def read(self, path, program):
         with open(path) as file:
-            found = json.load(file)
+            try:
+                found = json.load(file)
+            except ValueError:
+                stop(f"{path} is no list that an earlier call has left")
         if found.get("of") != what_is_run(program):
             stop(
                 f"{path} is left by a call of another program, or of another build of it, or with other words, variables or --ends"

@@ -1,6 +1,7 @@
 """One run of a program on the layer, and the policies that it is run by."""
 
 import atexit
+import errno
 import os
 import shutil
 import struct
@@ -106,10 +107,29 @@ def absolute(name):
     return os.path.abspath(shutil.which(name) or name)
 
 
+class Stopped(SystemExit):
+    """The end at what can't be served, which was told."""
+
+    def __init__(self, message):
+        super().__init__(2)
+        self.message = message
+
+
 def stop(message):
     """Ends at words that can't be served."""
     print(f"explore: {message}", file=sys.stderr)
-    sys.exit(2)
+    raise Stopped(message)
+
+
+def told_error(error):
+    """Why the system refused something, and of what."""
+    if isinstance(error, shutil.Error) and error.args and isinstance(error.args[0], list):
+        there, _, why = error.args[0][0]
+        return f"{there}: {why}"
+    why = error.strerror or str(error)
+    if error.errno == errno.ENOSPC:
+        why += f" (what is made for runs lies in {ROOM or tempfile.gettempdir()}; TMPDIR says otherwise)"
+    return why if error.filename is None else f"{error.filename}: {why}"
 
 
 class Hand:

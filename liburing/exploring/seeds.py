@@ -3,37 +3,112 @@
 import json
 import shlex
 import sys
+import time
 
 from exploring.coverage import added, print_rules
+from exploring.junit import Case, write_junit
 from exploring.keeping import keep
-from exploring.runs import Policies
+from exploring.kinds import first_line, without_numbers
+from exploring.runs import Policies, Stopped, list_of, stop, told_error
+from exploring.shrinking import shortest
 from exploring.side_by_side import Progress, in_turn, pool_of
 
 
+class Found:
+    """What is known of the runs so far; it is written however they end."""
+
+    def __init__(self, options, program):
+        self.options, self.program, self.begun = options, program, time.monotonic()
+        self.policies = self.progress = self.stopped = None
+        self.failed, self.kinds, self.rules = [], {}, {}
+
+    def add(self, seed, run):
+        """A run that fails is told, and counted among those of its kind."""
+        self.failed.append(told(self.options, self.program, seed, run))
+        said = first_line(run.output)
+        kind = self.kinds.setdefault(
+            (run.status, without_numbers(said)),
+            {"status": run.status, "said": said, "runs": 0, "seed": seed, "policy": run.policy},
+        )
+        kind["runs"] += 1
+
+    def shorten(self):
+        """One run of each kind is made short, as far as the time goes; what fails and doesn't fail again has no list."""
+        end = time.monotonic() + self.options.shorten
+        for left, kind in zip(range(len(self.kinds), 0, -1), self.kinds.values()):
+            last = time.monotonic() + max(0, end - time.monotonic()) / left
+            items = self.program.run(kind["policy"]).items()
+            kind["choices"] = None
+            if self.program.run(list_of(items)).fails():
+                fewer = shortest(self.program, items, (), lambda: time.monotonic() > last)
+                kind["choices"] = list_of(fewer).removeprefix("list:")
+
+    def write(self):
+        options, progress = self.options, self.progress
+        found = {
+            "policy": self.policies.name if self.policies else options.policy,
+            "start": self.program.start,
+            "first": options.first,
+            **(progress.summary() if progress else {"runs": 0}),
+            "failed": self.failed,
+            "kinds": list(self.kinds.values()),
+            "stopped": self.stopped,
+            "rules": self.rules,
+        }
+        write_summary(options, found)
+        if options.junit:
+            write_junit(
+                options.junit,
+                f"explore seeds {shlex.join(options.words)}",
+                time.monotonic() - self.begun,
+                cases(found),
+            )
+
+
+def cases(found):
+    """A test of all seeds, which has passed if nothing is to be told; else one for each kind of failure."""
+    told = [Case("the runs", "error", found["stopped"])] if found["stopped"] else []
+    for kind in found["kinds"]:
+        lines = [f"{kind['runs']} runs, the first by seed {kind['seed']} ({kind['policy']})"]
+        if kind.get("choices") is not None:
+            lines.append(f"explore show {kind['choices'] or 'order'}")
+        name = kind["said"] or f"status {kind['status']}"
+        told.append(Case(name, "failure", f"status {kind['status']}", "\n".join(lines)))
+    return told or [Case(f"{found['runs']} seeds from {found['first']} on")]
+
+
 def seeds(options, program):
-    policies = Policies(program, options.policy)
+    found = Found(options, program)
+    try:
+        return run_seeds(options, program, found)
+    except Stopped as why:
+        found.stopped = why.message
+        raise
+    except OSError as error:
+        found.stopped = told_error(error)
+        raise
+    except KeyboardInterrupt:
+        found.stopped = "it was interrupted"
+        raise
+    finally:
+        found.write()
+
+
+def run_seeds(options, program, found):
+    policies = found.policies = Policies(program, options.policy)
     numbers = range(options.first, options.first + options.count)
-    pool, progress, failed = pool_of(options, program), Progress(options, options.count), []
+    pool, progress = pool_of(options, program), Progress(options, options.count)
+    found.progress = progress
     for seed, run in in_turn(pool, policies.of, numbers):
         progress.add(run)
         if run.fails():
-            failed.append(told(options, program, seed, run))
+            found.add(seed, run)
             if not options.keep_going:
                 break
         if progress.is_over():
             break
     progress.end()
-    write_summary(
-        options,
-        {
-            "policy": policies.name,
-            "start": program.start,
-            "first": options.first,
-            **progress.summary(),
-            "failed": failed,
-            "rules": pool.rules,
-        },
-    )
+    found.rules, failed = pool.rules, found.failed
     if failed and not options.keep_going:
         sys.stdout.flush()
         sys.stdout.buffer.write(run.output)
@@ -44,6 +119,8 @@ def seeds(options, program):
         )
     if options.coverage:
         print_rules(pool.rules)
+    if options.json or options.junit:
+        found.shorten()
     pool.close()
     return 1 if failed else 0
 
@@ -73,7 +150,12 @@ def merged(options, program):
     parts = []
     for path in options.summaries:
         with open(path) as file:
-            parts.append(json.load(file))
+            try:
+                parts.append(json.load(file))
+            except ValueError:
+                stop(f"{path} is no JSON")
+        if "failed" not in parts[-1]:
+            stop(f"{path} isn't what `seeds --json` writes")
     counted = {}
     others = next(
         (part["program"] for part in parts if part["program"] != parts[0]["program"]), None

@@ -14,12 +14,12 @@ TIME = "time passes", "the wait's time"
 POLICY = re.compile(r"order|lazy|seed:\d+|pct:\d+:\d+(:\d+)?|list:(\d+(=\d+)?(,\d+(=\d+)?)*)?")
 
 
-def shortest(program, items, beside=()):
-    """Leaves choices out, so that they are made in order, as long as the run still fails with those beside."""
+def shortest(program, items, beside=(), is_over=lambda: False):
+    """Leaves choices out, so that they are made in order, as long as the run still fails with those beside, and there is time."""
     size = max(1, len(items) // 2)
     while True:
         at = 0
-        while at < len(items):
+        while at < len(items) and not is_over():
             fewer = items[:at] + items[at + size :]
             run = program.run(list_of(sorted([*fewer, *beside])))
             if run.fails():
@@ -27,7 +27,7 @@ def shortest(program, items, beside=()):
                 items = [it for it in run.items() if it in fewer]
             else:
                 at += size
-        if size == 1:
+        if size == 1 or is_over():
             return items
         size //= 2
 

@@ -3,7 +3,7 @@
  * (layer/process/passing.h) and passes.
  *
  * A sync isn't waited for: a run's disk doesn't lose power, only its log does.
- * WULGACH_SYNC_FAILS=N: the Nth sync of a process fails with EIO.
+ * WULGACH_SYNC_FAILS=N: the Nth sync of each process, counted from its own start, fails with EIO.
  */
 #define _GNU_SOURCE
 #include "files.h"
@@ -103,11 +103,19 @@ static long call_write(const struct file_call *call)
     return write_vectors(call, vectors, count);
 }
 
-static bool fails_now(void)
+/* (a child of a fork has its parent's count, and counts anew) */
+bool fails_now(void)
 {
-    static atomic_long count;
+    static _Atomic uint64_t counted; /* how many, and below them of which process */
     const char *word = getenv("WULGACH_SYNC_FAILS");
-    return word && *word && atomic_fetch_add(&count, 1) + 1 == atol(word);
+    if (!word || !*word)
+        return false;
+    const uint64_t one = (uint64_t)1 << 32, process = (uint32_t)pass(SYS_getpid, 0, 0, 0, 0, 0, 0);
+    uint64_t before = counted, now;
+    do
+        now = (uint32_t)before == process ? before + one : process + one;
+    while (!atomic_compare_exchange_weak(&counted, &before, now));
+    return (long)(now >> 32) == atol(word);
 }
 
 /* A sync of a file; of none: memory is compared (layer/traces/logged.c). */
@@ -189,15 +197,26 @@ static long (*const served[])(const struct file_call *call) = {
     [WULGACH_CALL_EXIT] = call_exit,
 };
 
+bool is_file_call(long number)
+{
+    return is_aio_call(number) ||
+           wulgach_seen_logged_call_of((uint64_t)number) != WULGACH_CALL_NOTHING;
+}
+
 bool serve_file_call(long number, const long words[6], long *result)
 {
+    if (!is_file_call(number))
+        return false;
+    log_taken();
+    if (is_aio_call(number)) {
+        *result = serve_aio_call(number, words);
+        return true;
+    }
     const struct wulgach_system_call whole = {(uint64_t)number, (uint64_t)words[0],
         (uint64_t)words[1], (uint64_t)words[2], (uint64_t)words[3], (uint64_t)words[4],
         (uint64_t)words[5]};
     struct file_call call = {
         .number = number, .words = words, .kind = wulgach_seen_logged_call_of((uint64_t)number)};
-    if (call.kind == WULGACH_CALL_NOTHING)
-        return false;
     wulgach_seen_words_of_call(&whole, &call.is);
     *result = served[call.kind](&call);
     return true;
@@ -232,7 +251,7 @@ bool trap_files(void)
     put_rows(&filter, before_calls, COUNT(before_calls));
     for (uint32_t call = 0; call < ALL_CALLS; call++) {
         struct filter_row row = row_of_call(call);
-        if (wulgach_seen_logged_call_of(call) != WULGACH_CALL_NOTHING)
+        if (is_file_call(call))
             put_rows(&filter, &row, 1);
     }
     return add_filter(&filter);

@@ -14,8 +14,9 @@
 /* Traps them. False: the kernel refuses the filter. */
 bool trap_files(void);
 
-/* Serves a trapped call with these words: false if it isn't one of files. Its result is the
- * kernel's. */
+/* Whether a call is one of files; and serving a trapped one with these words: false if it isn't.
+ * Its result is the kernel's. */
+bool is_file_call(long number);
 bool serve_file_call(long call, const long words[6], long *result);
 
 /* A trapped call: its number, its words, and what the library says of them. */
@@ -28,6 +29,16 @@ struct file_call {
 
 /* Carries it out as it stands. */
 long carry(const struct file_call *call);
+
+/* Those of io_submit(2) and its like (aio.c). */
+bool is_aio_call(long number);
+long serve_aio_call(long number, const long words[6]);
+
+/* Puts the ends into the log of what the program has been told of by now (aio.c). */
+void log_taken(void);
+
+/* Whether a sync that is made now is to fail: it is counted by that. */
+bool fails_now(void);
 
 /* Calls of names (names.c), of bytes from another file (copies.c) and of mapped memory (maps.c). */
 long call_on_name(const struct file_call *call);

@@ -26,7 +26,7 @@ enum event_kind {
     EVENT_LINK, /* a name of the file `second` */
     EVENT_RENAME, /* to the second path; `flags` are those of renameat2 */
     EVENT_REMOVE, /* a name of a file or a folder */
-    EVENT_END, /* of the thread's last operation that is open, or of a ring's */
+    EVENT_END, /* of the thread's last operation that is open, or of a request's */
     EVENT_CARRY, /* a ring's operation is carried out: what its thread does until its end is part of
                     it */
     EVENT_PRINT, /* bytes on the standard output */
@@ -34,16 +34,17 @@ enum event_kind {
                     mapped */
 };
 
-/* The flag of a write that a sync of its range follows; and those of a sync which is of its range
- * alone, and of one that leaves out what no read needs. */
-enum { SYNCS_ITS_RANGE = 1, IS_OF_RANGE = 2, IS_OF_DATA = 4 };
+/* The flag of a write that a sync of its range follows; those of a sync which is of its range
+ * alone, and of one that leaves out what no read needs; and that of the end of what was refused,
+ * and so never began. */
+enum { SYNCS_ITS_RANGE = 1, IS_OF_RANGE = 2, IS_OF_DATA = 4, WAS_REFUSED = 8 };
 
 /* After it stand its path, its second path and its bytes. */
 struct event {
     uint32_t size; /* with all that stands after it */
     uint16_t kind, flags;
     uint32_t process, thread;
-    uint64_t operation; /* of a ring: which; of a call: 0 */
+    uint64_t operation; /* of a ring's or an io_submit's request: which; of a call: 0 */
     uint64_t file; /* its inode; of a name that of its folder */
     uint64_t second; /* that of the second path's folder, or of the file that is linked */
     int64_t offset;

@@ -5,7 +5,8 @@
  * are written, a line is printed ways check                  status 1: the line was printed, and
  * `data` isn't whole ways list                   prints the ways ways run CASE, ways check CASE
  * what a parameter of `explore crash` decides: unit, replace, retry; what nobody sees: killed; and
- * two folders, each of which has a name and is synced: folders
+ * two folders, each of which has a name and is synced: folders; a write and its sync that are given
+ * to io_submit(2) before either is asked for: together
  */
 #define _GNU_SOURCE
 #include "ways.h"
@@ -141,6 +142,8 @@ static int run(const char *name)
         return run_folders(), 0;
     if (strcmp(name, "killed") == 0)
         return run_killed(), 0;
+    if (strcmp(name, "together") == 0)
+        return run_together(), puts("safe"), 0;
     for (const struct way *way = ways; way->name; way++)
         if (strcmp(way->name, name) == 0) {
             way->write();

@@ -169,6 +169,30 @@ def memory():
         os.pwrite(opened("data"), b"%d" % number, 0)
 
 
+def forked():
+    """A child's syncs are counted from its own start: which of them fail is printed."""
+    file = opened("data")
+    os.fsync(file)
+    child = os.fork()
+    for number in (1, 2):
+        try:
+            os.fsync(file)
+        except OSError:
+            print(f"{'parent' if child else 'child'} {number}", flush=True)
+    if child:
+        os.waitpid(child, 0)
+    else:
+        os._exit(0)
+
+
+def two():
+    """A file is acknowledged with neither its bytes nor its length synced, and another one with its bytes alone lost."""
+    os.pwrite(opened("data"), NEW, 0)
+    print("safe 1", flush=True)
+    os.truncate("other", SIZE // 2)
+    print("safe 2", flush=True)
+
+
 RUNS = {
     "torn": torn,
     "cut": cut,
@@ -192,6 +216,8 @@ RUNS = {
     "named": named,
     "memory": memory,
     "leaves": memory,
+    "forked": forked,
+    "two": two,
 }
 
 
@@ -238,6 +264,13 @@ def check(case):
         assert read("data") in (OLD, NEW), "it has neither's bytes"
     elif case == "named" and is_safe:
         assert os.path.exists(b"da\xffta") and read(b"da\xffta") == NEW, "it isn't whole"
+    elif case == "forked":
+        told = printed.splitlines()
+        assert "child 1" not in told, "the first sync of a child fails"
+        assert "child 2" not in told, "the second sync of a child fails"
+    elif case == "two":
+        assert "safe 1" not in printed or read("data") == NEW, "record 1 isn't there"
+        assert "safe 2" not in printed or len(read("other")) < SIZE, "34 bytes are too many"
     elif case == "memory":
         check_memory()
     elif case == "leaves":

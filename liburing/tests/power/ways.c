@@ -390,5 +390,9 @@ const struct way ways[] = {
     {"splice", by_splice},
     {"ring", by_ring},
     {"both", by_memory_and_ring},
+    {"aio", by_aio},
+    {"aiov", by_aio_vectors},
+    {"aio_ring", by_aio_ring},
+    {"aio_refused", by_aio_refused},
     {NULL, NULL},
 };

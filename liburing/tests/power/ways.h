@@ -30,4 +30,11 @@ extern const struct way {
     void (*write)(void);
 } ways[];
 
+/* Ways and a case of io_submit(2). */
+void by_aio(void);
+void by_aio_vectors(void);
+void by_aio_ring(void);
+void by_aio_refused(void);
+void run_together(void);
+
 #endif
