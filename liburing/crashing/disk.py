@@ -25,6 +25,7 @@ from crashing.events import (
     SYNCS_ITS_RANGE,
     WRITE,
 )
+from crashing.filesystems import Rules
 from crashing.labels import Bytes, Parts
 from crashing.order import settled
 
@@ -131,11 +132,17 @@ class File:
 
 
 class Disk:
+    rules = Rules()
+
     def __init__(self, folder, is_ordered, unit, is_apart=False):
         self.folder, self.is_ordered, self.unit, self.is_apart = folder, is_ordered, unit, is_apart
         self.files, self.by_inode, self.names, self.seen = [], {}, {}, {}
         self.namings, self.name_syncs, self.remarks, self.now = [], [], [], 0
         self.root = self.scan(folder)
+
+    def follow(self, rules):
+        """Takes the rules of a file system."""
+        self.rules, self.is_ordered = rules, rules.is_ordered
 
     def scan(self, path):
         about = os.lstat(path)
@@ -231,8 +238,7 @@ class Disk:
                         operation.begin,
                         operation.end,
                         not operation.fails(),
-                        covers=lambda naming: number in naming.files
-                        and is_met(operation, naming, grown),
+                        covers=lambda naming: is_met(operation, number, naming, grown),
                     )
                 )
         else:
@@ -460,12 +466,12 @@ class Disk:
         )
 
 
-def is_met(sync, naming, grown):
-    """Whether a sync of a file reaches an operation on its names, where names are ordered (ext4's journal): one of the data only its creation, and what came before the file's length last changed (i_datasync_tid)."""
-    return (
-        not sync.flags & IS_OF_DATA
-        or naming.operation.kind == CREATE
-        or (naming.end is not None and naming.end < grown)
+def is_met(sync, number, naming, grown):
+    """Whether a sync of a file reaches an operation on names, where names are ordered (ext4's journal): those of other files that had ended before the file's length last changed, since it commits what came before that; of its own all, but one of the data only its creation (i_datasync_tid)."""
+    if naming.end is not None and naming.end < grown:
+        return True
+    return number in naming.files and (
+        not sync.flags & IS_OF_DATA or naming.operation.kind == CREATE
     )
 
 

@@ -3,9 +3,8 @@
 import itertools
 
 from crashing.disk import Sync, is_open
+from crashing.filesystems import hidden_from, part_lost, part_of, parts
 from crashing.labels import Bytes, Chosen, Parts, hides, merged
-
-BLOCK = 4096  # of ext4
 
 
 class Image:
@@ -82,6 +81,7 @@ def crash_file(disk, file, syncs, chosen):
     if not file.changes:
         return bytes(file.contents[: file.length]).ljust(file.length, b"\0"), ([], file.length, [])
     left = Parts(file.changes, syncs, disk.now).crash(chosen)
+    left += part_of(disk, file, left, length_of(file, left), chosen)
     cells = with_length(disk, file, left, tears_of(file, disk.unit, chosen)).crash(chosen)
     return paint(file, left, cells)
 
@@ -89,17 +89,15 @@ def crash_file(disk, file, syncs, chosen):
 def with_length(disk, file, left, tears=()):
     """A file's bytes, once it is known which changes its length shows.
 
-    A truncation changes bytes and length as one (our own rule; `apart`: not): if its length isn't left, neither are its zeros, nor what was written after it once it had ended. Where names are ordered, a file that grew beyond its last block has the bytes with which it grew (ext4's data=ordered). What is there for certain is said to the volume as a sync of its range.
+    A truncation changes bytes and length as one (our own rule; `apart`: not), but for the block in which its place lies: if its length isn't left, neither are its zeros, nor what was written after it once it had ended. What is there for certain is said to the volume as a sync of its range.
     """
     kept, lost = list(file.syncs), [] if disk.is_apart else [
-        it for it in file.changes if it.is_exact and it not in left
+        (it, hidden_from(disk.rules, it))
+        for it in file.changes
+        if it.is_exact and it not in left
     ]
-    there = [
-        *(grown(file, left) if disk.is_ordered else []),
-        *(it for it in left if it.is_exact and not disk.is_apart),
-    ]
-    for change in there:
-        if change.last > change.first and not is_open(change, disk.now):
+    for change in [] if disk.is_apart else left:
+        if change.is_exact and change.last > change.first and not is_open(change, disk.now):
             kept.append(
                 Sync(
                     change.operation,
@@ -117,20 +115,6 @@ def with_length(disk, file, left, tears=()):
     return Bytes(changes, kept, disk.now, disk.unit, tears, lost)
 
 
-def grown(file, left):
-    """The changes by which a file ends beyond the block in which it ended before, of those that its length shows."""
-    found, length = [], file.length
-    for change in left:
-        if (
-            not change.is_exact
-            and change.length is not None
-            and change.last > -(-length // BLOCK) * BLOCK
-        ):
-            found.append(change)
-        length = change.lengthen(length)
-    return found
-
-
 def tears_of(file, unit, chosen):
     """Where writes are cut, by chance."""
     dice, found = chosen.dice, []
@@ -145,13 +129,18 @@ def tears_of(file, unit, chosen):
     return found
 
 
-def paint(file, left, cells):
+def length_of(file, left):
+    """What these changes make of a file's length, in the order of their ends."""
     length = file.length
     for change in sorted(
         left, key=lambda it: (it.end if it.end is not None else float("inf"), it.begin)
     ):
         length = change.lengthen(length)
-    contents = bytearray(file.contents)
+    return length
+
+
+def paint(file, left, cells):
+    length, contents = length_of(file, left), bytearray(file.contents)
     for first, last, change in cells:
         if change is not None:
             if len(contents) < last:
@@ -213,7 +202,7 @@ def all_images(disk, most):
 def ways_of(disk, file, syncs, most):
     """Each way in which a file may be left."""
     kept = {}
-    for left in Parts(file.changes, syncs, disk.now).images(most) or [None]:
+    for left in lengths_of(disk, file, syncs, most) or [None]:
         cells = left is not None and every_cell(
             disk, most, lambda tears: with_length(disk, file, left, tears)
         )
@@ -225,6 +214,17 @@ def ways_of(disk, file, syncs, most):
         if len(kept) > most:
             return None
     return list(kept.values())
+
+
+def lengths_of(disk, file, syncs, most):
+    """Each list of changes that a file's length may show, the last of them in part; none if these are too many."""
+    found = []
+    for left in Parts(file.changes, syncs, disk.now).images(most) or []:
+        found.append(left)
+        found += [[*left, it] for it in parts(disk, file, left, length_of(file, left))]
+        if len(found) > most:
+            return []
+    return found
 
 
 def every_cell(disk, most, bytes_of):
@@ -296,7 +296,9 @@ def pieces(image, whole):
                 for first, last in ranges
             ]
             found += [
-                (change.operation.number, "length") for change in left if change not in shorter
+                (change.operation.number, part_lost(change, shorter))
+                for change in left
+                if change not in shorter
             ]
     return found
 

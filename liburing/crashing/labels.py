@@ -25,7 +25,9 @@ class Chosen:
     def __init__(self, kind, losses=(), dice=None):
         self.kind, self.losses, self.dice = kind, tuple(losses), dice
         self.lost = {it[0] for it in self.losses if len(it) == 1}
-        self.short = self.lost | {it[0] for it in self.losses if it[1:] == ("length",)}
+        self.short = self.lost | {
+            it[0] for it in self.losses if len(it) == 2 and it[1].startswith("length")
+        }
         self.torn = {}
         for number, first, last in (it for it in self.losses if len(it) == 3):
             self.torn.setdefault(number, []).append((first, last))
@@ -201,7 +203,7 @@ class Bytes(History):
             unit,
             [
                 *tears,
-                *(place for cut in self.cuts for place in (cut.length, cut.length + unit - 1)),
+                *(at for _, place in self.cuts for at in (place, place + unit - 1)),
             ],
         )
         self.width = 2 if len(self.changes) < 1 << 16 else 4
@@ -360,9 +362,10 @@ class Bytes(History):
         )
 
 
-def hides(cut, change, last):
-    """Whether nothing of a change is left of units up to a place where a truncation's length isn't: of the truncation's zeros, and of what was written once it had ended, if they have bytes after its place."""
-    return last > cut.length and (change is cut or (cut.end is not None and cut.end < change.begin))
+def hides(lost, change, last):
+    """Whether nothing of a change is left of units up to a place where a truncation's length isn't: of the truncation's zeros, and of what was written once it had ended, if they have bytes after the place from which it hides them."""
+    cut, place = lost
+    return last > place and (change is cut or (cut.end is not None and cut.end < change.begin))
 
 
 def pairs(cell):
