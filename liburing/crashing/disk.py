@@ -10,7 +10,6 @@ import stat
 from crashing.events import (
     COPY,
     CREATE,
-    IS_OF_DATA,
     IS_OF_RANGE,
     LENGTH,
     LINK,
@@ -25,7 +24,7 @@ from crashing.events import (
     SYNCS_ITS_RANGE,
     WRITE,
 )
-from crashing.filesystems import Rules
+from crashing.filesystems import Rules, changed_at, covered_names, is_committed
 from crashing.labels import Bytes, Parts
 from crashing.order import settled
 
@@ -220,38 +219,31 @@ class Disk:
                 if operation.flags & IS_OF_RANGE
                 else None,
             )
-            if self.files[number].kind == "folder":
-                self.name_syncs.append(
-                    Sync(
-                        operation,
-                        operation.begin,
-                        operation.end,
-                        not operation.fails(),
-                        covers=lambda naming: number in naming.folders,
-                    )
-                )
-            elif self.is_ordered:
-                grown = self.grown_at(self.files[number], operation)
-                self.name_syncs.append(
-                    Sync(
-                        operation,
-                        operation.begin,
-                        operation.end,
-                        not operation.fails(),
-                        covers=lambda naming: is_met(operation, number, naming, grown),
-                    )
-                )
+            self.begin_name_sync(number, operation)
         else:
             self.begin_change(operation)
 
-    def grown_at(self, file, sync):
-        """Where the last change began that made a file longer or shorter, of those that have ended before a sync; -1: there is none."""
-        length, found = file.length, -1
-        for change in file.changes:
-            before, length = length, change.lengthen(length)
-            if length != before and change.end is not None and change.end < sync.begin:
-                found = change.begin
-        return found
+    def begin_name_sync(self, number, operation):
+        """What a sync of a file or a folder makes safe of names, and of lengths of other files: as the rules say."""
+        at = changed_at(self, number, operation)
+        covers = covered_names(self, number, operation, at)
+        if covers:
+            is_done = not operation.fails()
+            self.name_syncs.append(
+                Sync(operation, operation.begin, operation.end, is_done, covers=covers)
+            )
+        if self.is_ordered and not operation.fails():
+            for other, file in enumerate(self.files):
+                if other != number and any(is_committed(it, at) for it in file.changes):
+                    file.syncs.append(
+                        Sync(
+                            operation,
+                            operation.begin,
+                            operation.end,
+                            True,
+                            covers=lambda it: is_committed(it, at),
+                        )
+                    )
 
     def begin_sync(self, number, operation, range):
         file = self.files[number]
@@ -464,15 +456,6 @@ class Disk:
             if file.path.startswith(self.folder)
             else file.path or "a file without a name"
         )
-
-
-def is_met(sync, number, naming, grown):
-    """Whether a sync of a file reaches an operation on names, where names are ordered (ext4's journal): those of other files that had ended before the file's length last changed, since it commits what came before that; of its own all, but one of the data only its creation (i_datasync_tid)."""
-    if naming.end is not None and naming.end < grown:
-        return True
-    return number in naming.files and (
-        not sync.flags & IS_OF_DATA or naming.operation.kind == CREATE
-    )
 
 
 def is_open(sync, now):

@@ -2,33 +2,74 @@
 
 from typing import NamedTuple
 
+from crashing.events import CREATE, IS_OF_DATA, LENGTH, SPACE
 from crashing.order import first_end
 
 
 class Rules(NamedTuple):
     is_ordered: bool = False  # names are lost from the end, in one order for the whole disk
+    syncs_names: bool = False  # a sync of a file makes its own names safe
+    flushes_renamed: bool = False  # a rename over a file waits for the new file's length
     block: int = 512  # a write's length may be left up to each multiple of so many bytes in it
+    cut_block: int = 4096  # in a block of so many bytes a truncation writes its zeros in place
 
 
-BLOCKS = {"any": 512, "ext4": 4096, "xfs": 512, "btrfs": 4096}
 RULES = {
     "any": Rules(),
-    "ext4": Rules(is_ordered=True, block=4096),
-    "xfs": Rules(),
-    "btrfs": Rules(block=4096),
+    "ext4": Rules(is_ordered=True, syncs_names=True, flushes_renamed=True, block=4096),
+    "xfs": Rules(is_ordered=True, syncs_names=True, block=4096),
+    "btrfs": Rules(syncs_names=True, block=4096),
 }
+RULES["ordered"] = RULES["ext4"]
 
 
 def rules_of(word):
     """By a name, which may have the size of a block after it: ext4:1024."""
     name, _, block = word.partition(":")
-    rules = RULES["ext4" if name == "ordered" else name]
-    return rules._replace(block=int(block)) if block else rules
+    if not block:
+        return RULES[name]
+    return RULES[name]._replace(block=int(block), cut_block=max(4096, int(block)))
+
+
+def changed_at(disk, number, sync):
+    """Where the last change began, of those that had ended before a sync of a file or a folder, that the sync commits to the journal; -1: there is none. It may be of the file's length, or of names: of an fdatasync its creation alone."""
+    own = [it for it in disk.namings if number in it.folders or names_whole(it, number, sync)]
+    own += lengthening(disk.files[number])
+    return max((it.begin for it in own if it.end is not None and it.end < sync.begin), default=-1)
+
+
+def names_whole(naming, number, sync):
+    """Whether a sync of a file waits for an operation on its names."""
+    is_of_data = sync.flags & IS_OF_DATA
+    return number in naming.files and (not is_of_data or naming.operation.kind == CREATE)
+
+
+def lengthening(file):
+    """The changes that made a file longer or shorter."""
+    length = file.length
+    for change in file.changes:
+        before, length = length, change.lengthen(length)
+        if length != before:
+            yield change
+
+
+def covered_names(disk, number, sync, at):
+    """Which operations on names a sync of a file or a folder makes safe, as a call; None: none. In a journal those that had ended before the last change began which it commits."""
+    if disk.files[number].kind == "folder":
+        return lambda naming: number in naming.folders
+    if disk.is_ordered:
+        return lambda it: names_whole(it, number, sync) or (it.end is not None and it.end < at)
+    return (lambda it: names_whole(it, number, sync)) if disk.rules.syncs_names else None
+
+
+def is_committed(change, at):
+    """Whether the length that a change made had been given to the journal by then: that of a truncation or of fallocate is, as it ends; that of a write once its blocks are."""
+    return change.operation.kind in (LENGTH, SPACE) and change.end is not None and change.end < at
 
 
 def hidden_from(rules, cut):
     """From which place on nothing is left of a truncation whose length isn't, nor of what was written once it had ended: in the block in which it cuts, bytes are written in their place."""
-    return -(-cut.length // rules.block) * rules.block
+    return -(-cut.length // rules.cut_block) * rules.cut_block
 
 
 class Part:
@@ -51,9 +92,16 @@ def boundaries(disk, file, left, length):
     first, block = first_end(lost), disk.rules.block
     for it in lost:
         if it.begin <= first and it.length is not None and not it.is_exact:
-            low = max(length, it.first) // block * block + block
-            if low < it.length:
-                yield it, range(low, it.length, block)
+            low = max(length, it.first)
+            own = range(low // block * block + block, it.length, block)
+            punched = [at for at in ends_of_holes(file) if low < at < it.length]
+            if own or punched:
+                yield it, sorted({*own, *punched}) if punched else own
+
+
+def ends_of_holes(file):
+    """Where fallocate has ended that put zeros into a file and kept its length: ext4 has given the length up to there to its journal by then."""
+    return [it.last for it in file.changes if it.length is None and it.last > it.first]
 
 
 def parts(disk, file, left, length):

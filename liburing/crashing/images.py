@@ -66,9 +66,9 @@ def assemble(disk, groups, contents_of):
 
 
 def flushed(disk, left):
-    """Where names are ordered, a rename that replaces a file isn't left without the length of the one that takes its place: as if that had been synced before it (ext4's auto_da_alloc). With the length come the bytes by which it grew."""
+    """A rename that replaces a file isn't left without the length of the one that takes its place, where the rules say so: as if that had been synced before it (ext4's auto_da_alloc). Its bytes may be lacking: they are written once the length is there."""
     found = {}
-    for naming in left if disk.is_ordered else []:
+    for naming in left if disk.rules.flushes_renamed else []:
         if naming.replaced is not None:
             for number in naming.files:
                 found.setdefault(number, []).append(

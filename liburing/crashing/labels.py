@@ -273,6 +273,9 @@ class Bytes(History):
         )
 
     def synced(self, sync):
+        if sync.covers is not None:
+            # (of lengths alone)
+            return []
         if sync.range is None:
             return [None]
         first, last = sync.range

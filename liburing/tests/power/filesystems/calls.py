@@ -20,7 +20,7 @@ from crashing.events import (
 )
 
 libc = ctypes.CDLL(None, use_errno=True)
-SIZES = (1, 60, 100, 900, 1000, 2000, 4000, 6000, 9000)
+SIZES = (1, 60, 100, 900, 1000, 2000, 4000, 6000, 9000, 30000)
 FILES = {"a": 100, "b": 4096, "c": 6000, "d/e": 50, "d/f": 0}
 
 
@@ -128,7 +128,9 @@ class Calls:
     def overwrite(self):
         name = self.any_file()
         length = os.fstat(self.files[name]).st_size
-        self.write(name, self.dice.randrange(length + 1), self.dice.choice(SIZES), "write")
+        beyond = self.dice.choice([0, 0, 0, 1000, 20000])
+        place = self.dice.randrange(length + beyond + 1)
+        self.write(name, place, self.dice.choice(SIZES), "write")
 
     def sync(self):
         name, is_data = self.any_file(), self.dice.random() < 0.5

@@ -18,7 +18,6 @@ MAKES = {
     "xfs": (320 * MB, "mkfs.xfs -q -f", "xfs", ""),
     "btrfs": (128 * MB, "mkfs.btrfs -q -f", "btrfs", ""),
 }
-MOMENTS = 10  # at which the power fails in a sequence
 
 
 class Sequence:
@@ -37,6 +36,19 @@ class Sequence:
             else:
                 return begun + 1 if position > before and ended > begun else found
         return found
+
+    def told_until(self, moment, position):
+        """The calls up to a crash, in words."""
+        for told, (before, _, begun, ended) in zip(self.told, self.marks):
+            if begun < moment or (begun == ended == moment and before <= position):
+                yield told if ended <= moment else f"{told} (which runs)"
+
+    def crashes(self, dice, count):
+        """Crashes in the order of their moments: each with its place in the disk's log, and what is kept."""
+        return sorted(
+            ((self.moment(it[0]), *it) for it in (self.kept(dice) for _ in range(count))),
+            key=lambda it: it[0],
+        )
 
     def kept(self, dice):
         """One crash: where in the disk's log, and the writes that it has kept: all, or of those since the last flush some."""
@@ -106,10 +118,12 @@ class Filesystem:
 
         def act(folder):
             disk = make_disk(f"{folder}/disk")
+            self.served.delay[0] = dice.choice([0, 0, 1, 5])
             calls = Calls(f"{folder}/disk", dice, self.served.position)
             for _ in range(dice.randrange(2, 12)):
                 calls.step()
                 self.pass_time(folder, calls, dice)
+            self.served.delay[0] = 0
             calls.close()
             return Sequence(disk, calls, self.served.records())
 

@@ -2,10 +2,12 @@
 
 import ctypes
 import errno
+import mmap
 import os
 import signal
 import stat
 import struct
+import time
 
 HEAD = struct.Struct("<IIQQIIII")
 ATTRIBUTES = struct.Struct("<QQQQQQIIIIIIIIII")
@@ -53,6 +55,7 @@ class Served:
         self.store = os.open(f"{folder}/store", os.O_RDWR | os.O_CREAT, 0o600)
         os.ftruncate(self.store, size)
         self.log = os.open(f"{folder}/log", os.O_RDWR | os.O_CREAT | os.O_APPEND, 0o600)
+        self.delay = mmap.mmap(-1, 1)  # how many milliseconds a write takes
         device = os.open("/dev/fuse", os.O_RDWR)
         mount("disk", self.folder, "fuse", 0, f"fd={device},rootmode=40000,user_id=0,group_id=0")
         self.process = os.fork()
@@ -128,6 +131,8 @@ class Served:
         return ATTRIBUTES.pack(node, size, size // 512, *[0] * 6, mode, 1, 0, 0, 0, 4096, 0)
 
     def write(self, offset, data):
+        if self.delay[0]:
+            time.sleep(self.delay[0] / 1000)
         os.write(self.log, RECORD.pack(offset, len(data)) + bytes(data))
         os.pwrite(self.store, data, offset)
         return struct.pack("<II", len(data), 0)
