@@ -96,13 +96,18 @@ class Naming:
         "folders",
         "replaced",
         "is_folded",
+        "part",
     )
 
     def __init__(self, operation, effects, files, replaced=None):
         self.operation, self.begin, self.end = operation, operation.begin, operation.end
         self.effects, self.files, self.replaced = effects, files, replaced
         self.folders = {folder for folder, _, _ in effects}
-        self.is_folded = False
+        self.is_folded, self.part = False, ""
+
+    def is_over(self, at):
+        """Whether its operation had ended by then, with all that it does."""
+        return self.operation.end is not None and self.operation.end < at
 
     def apply(self, names):
         for folder, name, file in self.effects:
@@ -350,6 +355,7 @@ class Disk:
         group_of, groups = {}, {}
         for at, naming in enumerate(self.namings):
             keys, members = {(folder, name) for folder, name, _ in naming.effects}, [naming]
+            keys |= {naming.operation} if naming.part else set()
             for number in {group_of[it] for it in keys if it in group_of}:
                 others = groups.pop(number)
                 keys |= others[0]
@@ -430,6 +436,10 @@ class Disk:
         if self.is_apart:
             for effect in effects:
                 self.name(operation, [effect], moved)
+        elif self.rules.parts_renames and folder != other and not operation.flags & EXCHANGE:
+            self.name(operation, effects[:1], moved, replaced)
+            self.name(operation, effects[1:], moved)
+            in_turn(self.namings[-2:])
         else:
             self.name(operation, effects, moved, None if operation.flags & EXCHANGE else replaced)
 
@@ -456,6 +466,14 @@ class Disk:
             if file.path.startswith(self.folder)
             else file.path or "a file without a name"
         )
+
+
+def in_turn(namings):
+    """Of a rename that is left in parts the new name comes before the end of the old one."""
+    if len(namings) == 2 and namings[0].operation is namings[1].operation:
+        new, old = namings
+        new.end, old.begin = new.begin + 0.25, new.begin + 0.5
+        new.part, old.part = "new", "old"
 
 
 def is_open(sync, now):

@@ -9,16 +9,17 @@ from crashing.order import first_end
 class Rules(NamedTuple):
     is_ordered: bool = False  # names are lost from the end, in one order for the whole disk
     syncs_names: bool = False  # a sync of a file makes its own names safe
+    parts_renames: bool = False  # a rename to another folder may leave the old name there too
     flushes_renamed: bool = False  # a rename over a file waits for the new file's length
     block: int = 512  # a write's length may be left up to each multiple of so many bytes in it
     cut_block: int = 4096  # in a block of so many bytes a truncation writes its zeros in place
 
 
 RULES = {
-    "any": Rules(),
+    "any": Rules(parts_renames=True),
     "ext4": Rules(is_ordered=True, syncs_names=True, flushes_renamed=True, block=4096),
     "xfs": Rules(is_ordered=True, syncs_names=True, block=4096),
-    "btrfs": Rules(syncs_names=True, block=4096),
+    "btrfs": Rules(syncs_names=True, parts_renames=True, block=4096),
 }
 RULES["ordered"] = RULES["ext4"]
 
@@ -56,10 +57,12 @@ def lengthening(file):
 def covered_names(disk, number, sync, at):
     """Which operations on names a sync of a file or a folder makes safe, as a call; None: none. In a journal those that had ended before the last change began which it commits."""
     if disk.files[number].kind == "folder":
-        return lambda naming: number in naming.folders
+        return lambda naming: number in naming.folders and naming.is_over(sync.begin)
     if disk.is_ordered:
         return lambda it: names_whole(it, number, sync) or (it.end is not None and it.end < at)
-    return (lambda it: names_whole(it, number, sync)) if disk.rules.syncs_names else None
+    if disk.rules.syncs_names:
+        return lambda it: names_whole(it, number, sync) and it.is_over(sync.begin)
+    return None
 
 
 def is_committed(change, at):

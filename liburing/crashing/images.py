@@ -286,7 +286,7 @@ def are_lost(lost, first, last):
 
 def pieces(image, whole):
     """The losses that make an image of the one in which nothing is lost."""
-    found = [(it.operation.number,) for it in whole.left if it not in image.left]
+    found = names_lost(image, whole)
     for number in sorted(whole.shown):
         if number in image.shown:
             (cells, _, left), (shown, _, shorter) = whole.shown[number], image.shown[number]
@@ -301,6 +301,14 @@ def pieces(image, whole):
                 if change not in shorter
             ]
     return found
+
+
+def names_lost(image, whole):
+    """The operations on names that are lost; of a rename perhaps the end of its old name alone."""
+    lost = [it for it in whole.left if it not in image.left]
+    found = {(it.operation.number,) for it in lost if it.part != "old"}
+    found |= {(it.operation.number, "old") for it in lost if it.part == "old"}
+    return sorted(it for it in found if len(it) == 1 or it[:1] not in found)
 
 
 def lost_ranges(cells, shown):
@@ -329,6 +337,8 @@ def told_ranges(ranges):
 
 def told_naming(disk, naming):
     operation = naming.operation
+    if naming.part == "old":
+        return f"the end of the old name {relative(disk, operation.path)}"
     words = {
         7: "the name {0}",
         8: "the folder {0}",

@@ -41,7 +41,14 @@ class Chosen:
         return (
             []
             if self.kind == "least"
-            else [it for it in changes if it.operation.number not in self.short]
+            else [it for it in changes if not self.loses_whole(it)]
+        )
+
+    def loses_whole(self, change):
+        """Whether an operation on names is lost, or a write's length."""
+        number = change.operation.number
+        return number in self.short or (
+            getattr(change, "part", "") == "old" and (number, "old") in self.losses
         )
 
     def everywhere(self, changes):

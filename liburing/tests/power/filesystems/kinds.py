@@ -30,7 +30,9 @@ def of_names(image, whole):
     for naming in whole.left:
         if naming not in kept:
             after = ", a later change of names isn't" if naming.begin < last else ""
-            yield f"{NAMES[naming.operation.kind]} is lost{after}"
+            what = "the old name's end" if naming.part == "old" else NAMES[naming.operation.kind]
+            if naming.part != "old" or any(it.operation is naming.operation for it in kept):
+                yield f"{what} is lost{after}"
     # (a replaced file's bytes)
     for naming in image.left:
         if naming.replaced is not None:

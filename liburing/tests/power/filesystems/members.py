@@ -21,7 +21,7 @@ class Moment:
 
     def find(self, tree):
         """The image that this tree is; or None, and why it is none, of the names that come nearest."""
-        nearest = -1, "no such names"
+        nearest = -1, f"no such names: {', '.join(sorted(tree))}"
         for left in self.ways:
             numbers = self.numbers(left, tree)
             if numbers is None:
