@@ -24,7 +24,7 @@ from crashing.events import (
     SYNCS_ITS_RANGE,
     WRITE,
 )
-from crashing.filesystems import Rules, changed_at, covered_names, is_committed
+from crashing.filesystems import Rules, changed_at, committed, covered_names
 from crashing.labels import Bytes, Parts
 from crashing.order import settled
 
@@ -238,15 +238,16 @@ class Disk:
                 Sync(operation, operation.begin, operation.end, is_done, covers=covers)
             )
         if self.is_ordered and not operation.fails():
-            for other, file in enumerate(self.files):
-                if other != number and any(is_committed(it, at) for it in file.changes):
+            for own, file in enumerate(self.files):
+                lengths = committed(file, at) if own != number and file.changes else ()
+                if lengths:
                     file.syncs.append(
                         Sync(
                             operation,
                             operation.begin,
                             operation.end,
                             True,
-                            covers=lambda it: is_committed(it, at),
+                            covers=lengths.__contains__,
                         )
                     )
 

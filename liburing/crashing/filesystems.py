@@ -65,9 +65,10 @@ def covered_names(disk, number, sync, at):
     return None
 
 
-def is_committed(change, at):
-    """Whether the length that a change made had been given to the journal by then: that of a truncation or of fallocate is, as it ends; that of a write once its blocks are."""
-    return change.operation.kind in (LENGTH, SPACE) and change.end is not None and change.end < at
+def committed(file, at):
+    """The changes of a file's length that had been given to the journal by then: those of a truncation and of fallocate are as they end, those of a write once its blocks are."""
+    own = [it for it in lengthening(file) if it.operation.kind in (LENGTH, SPACE)]
+    return {it for it in own if it.end is not None and it.end < at}
 
 
 def hidden_from(rules, cut):
@@ -97,14 +98,15 @@ def boundaries(disk, file, left, length):
         if it.begin <= first and it.length is not None and not it.is_exact:
             low = max(length, it.first)
             own = range(low // block * block + block, it.length, block)
-            punched = [at for at in ends_of_holes(file) if low < at < it.length]
-            if own or punched:
-                yield it, sorted({*own, *punched}) if punched else own
+            more = [at for at in ends_of_spaces(file) if low < at < it.length]
+            if own or more:
+                yield it, sorted({*own, *more}) if more else own
 
 
-def ends_of_holes(file):
-    """Where fallocate has ended that put zeros into a file and kept its length: ext4 has given the length up to there to its journal by then."""
-    return [it.last for it in file.changes if it.length is None and it.last > it.first]
+def ends_of_spaces(file):
+    """Where what fallocate was called for ends: ext4 gives the length up to there to its journal, if the file was longer by then."""
+    own = [it.operation for it in file.changes if it.operation.kind == SPACE]
+    return [it.offset + it.length for it in own]
 
 
 def parts(disk, file, left, length):

@@ -19,7 +19,7 @@ OLD, NEW = b"a" * SIZE, b"b" * SIZE
 def begin(case):
     for name in "data", "other", "long", "log", "log2":
         with open(name, "wb") as file:
-            file.write(OLD if case != "block" else b"a" * 4096)
+            file.write({"block": b"a" * 4096, "cut": b"a" * 4096 + OLD}.get(case, OLD))
             if name == "long" and case == "memory":
                 file.truncate(6000000)
     if case == "datasync":
@@ -48,8 +48,8 @@ def torn():
 
 def cut():
     """A file is cut, and written to across where it was cut: the bytes before that place may be left without the cut."""
-    os.ftruncate(opened("data"), 4)
-    os.pwrite(opened("data"), b"bbbb", 2)
+    os.ftruncate(opened("data"), 4096)
+    os.pwrite(opened("data"), b"bbbb", 4094)
 
 
 def mapped(is_early):
@@ -268,7 +268,7 @@ def check(case):
     if case == "torn" and is_safe:
         assert len(set(read("data")[64:])) == 1, "the end is torn"
     elif case == "cut":
-        assert read("data") != b"aabb" + OLD[4:], "it is written to, and not cut"
+        assert read("data") != b"a" * 4094 + b"bb" + OLD, "it is written to, and not cut"
     elif case in ("early", "late", "first"):
         assert read("data") == OLD or read("other") == NEW, "what it relies on isn't there"
     elif case in ("fsync", "datasync", "grown") and is_safe:

@@ -1,15 +1,15 @@
 """Loop devices, without a program for each."""
 
-import array
 import fcntl
 import os
 import time
 
-SET_FD, CLR_FD, GET_FREE = 0x4C00, 0x4C01, 0x4C82
+SET_FD, CLR_FD, ADD, REMOVE = 0x4C00, 0x4C01, 0x4C80, 0x4C81
+FIRST = 1000  # of the numbers that are tried: no other program takes one of these by itself
 
 
 class Loop:
-    """A device on a file, which is detached when it is closed."""
+    """A device on a file, which is detached and goes when it is closed. Its number is this process's own."""
 
     def __init__(self, path):
         backing = os.open(path, os.O_RDWR)
@@ -19,22 +19,30 @@ class Loop:
             os.close(backing)
 
     def attach(self, backing):
-        for _ in range(200):
-            with open("/dev/loop-control", "rb") as control:
-                number = fcntl.ioctl(control, GET_FREE)
-            self.path = f"/dev/loop{number}"
+        for at in range(200):
+            self.number = FIRST + (os.getpid() * 7 + at) % 500000
+            self.path = f"/dev/loop{self.number}"
+            self.control(ADD)
             if not os.path.exists(self.path):
-                os.mknod(self.path, 0o600 | 0o060000, os.makedev(7, number))
+                os.mknod(self.path, 0o600 | 0o060000, os.makedev(7, self.number))
             self.device = os.open(self.path, os.O_RDWR)
             try:
                 fcntl.ioctl(self.device, SET_FD, backing)
                 return
             except OSError:
-                # (another process has taken it)
                 os.close(self.device)
                 time.sleep(0.005)
         raise OSError("there is no loop device")
 
+    def control(self, what):
+        with open("/dev/loop-control", "rb") as control:
+            try:
+                fcntl.ioctl(control, what, self.number)
+            except OSError:
+                # (it is there, or is still open)
+                return
+
     def close(self):
         fcntl.ioctl(self.device, CLR_FD, 0)
         os.close(self.device)
+        self.control(REMOVE)

@@ -77,7 +77,11 @@ class Filesystem:
         self.size, self.folder, self.copy = size, f"{room}/folder", f"{room}/copy"
         os.mkdir(self.folder)
         self.served = Served(room, size)
-        subprocess.run([*make.split(), f"{room}/store"], check=True)
+        for at in range(5):
+            # (mkfs.btrfs looks at all loop devices, of which one may just go)
+            words = [*make.split(), f"{room}/store"]
+            if subprocess.run(words, check=at == 4, capture_output=True).returncode == 0:
+                break
         self.mounted(f"{room}/store", self.begin)
         self.first = extents(self.served.store)
         self.image = os.open(self.copy, os.O_RDWR | os.O_CREAT, 0o600)
