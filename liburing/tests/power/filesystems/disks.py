@@ -5,7 +5,7 @@ import subprocess
 import time
 
 from devices import Loop
-from server import Served, libc, mount, unmount
+from server import Served, mount, unmount
 
 from calls import Calls, fill
 from crashing.events import Log
@@ -91,8 +91,8 @@ class Filesystem:
         os.close(self.image)
 
     def begin(self, folder):
-        fill(f"{folder}/disk")
         open(f"{folder}/other", "wb").close()
+        fill(f"{folder}/disk")
 
     def mounted(self, path, act):
         loop = Loop(path)

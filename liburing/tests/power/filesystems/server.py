@@ -31,11 +31,12 @@ BIG_WRITES, MAX_PAGES, DIRECT = 1 << 5, 1 << 22, 1
 ROOT, DISK = 1, 2
 
 libc = ctypes.CDLL(None, use_errno=True)
+libc.mount.argtypes = [ctypes.c_char_p] * 3 + [ctypes.c_ulong, ctypes.c_char_p]
 
 
 def mount(source, target, kind, flags=0, data=""):
     words = [it.encode() for it in (source, target, kind)]
-    if libc.mount(*words, ctypes.c_ulong(flags), data.encode()) != 0:
+    if libc.mount(*words, flags, data.encode()) != 0:
         error = ctypes.get_errno()
         raise OSError(error, f"mount of {kind}: {os.strerror(error)}", target)
 
@@ -44,6 +45,16 @@ def unmount(target, flags=0):
     if libc.umount2(target.encode(), flags) != 0:
         error = ctypes.get_errno()
         raise OSError(error, os.strerror(error), target)
+
+
+NEW_MOUNTS, PRIVATE_BELOW = 0x20000, 0x44000  # CLONE_NEWNS; MS_PRIVATE | MS_REC
+
+
+def stand_apart():
+    """Mounts of this process are its own from now on: a program that copies those of the machine would keep a file system mounted once it isn't here."""
+    if libc.unshare(NEW_MOUNTS) != 0 or libc.mount(b"none", b"/", None, PRIVATE_BELOW, None) != 0:
+        error = ctypes.get_errno()
+        raise OSError(error, f"mounts of its own: {os.strerror(error)}")
 
 
 class Served:
