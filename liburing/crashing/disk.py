@@ -212,7 +212,7 @@ class Disk:
                     operation.begin,
                     operation.end,
                     not operation.fails(),
-                    covers=lambda naming: True,
+                    covers=lambda naming: naming.is_over(operation.begin),
                 )
             )
         elif kind == SYNC:
@@ -230,26 +230,24 @@ class Disk:
 
     def begin_name_sync(self, number, operation):
         """What a sync of a file or a folder makes safe of names, and of lengths of other files: as the rules say."""
-        at = changed_at(self, number, operation)
+        is_done = not operation.fails()
+        # (one that fails commits nothing, and gives up no more than the file's own names)
+        at = changed_at(self, number, operation) if is_done else -1
         covers = covered_names(self, number, operation, at)
         if covers:
-            is_done = not operation.fails()
             self.name_syncs.append(
                 Sync(operation, operation.begin, operation.end, is_done, covers=covers)
             )
-        if self.is_ordered and not operation.fails():
-            for own, file in enumerate(self.files):
-                lengths = committed(file, at) if own != number and file.changes else ()
-                if lengths:
-                    file.syncs.append(
-                        Sync(
-                            operation,
-                            operation.begin,
-                            operation.end,
-                            True,
-                            covers=lengths.__contains__,
-                        )
-                    )
+        if self.is_ordered and is_done:
+            self.commit_lengths(number, operation, at)
+
+    def commit_lengths(self, number, operation, at):
+        """What a sync of a file or a folder commits of other files' lengths."""
+        for other, file in enumerate(self.files):
+            covers = committed(file, at, operation) if other != number and file.changes else None
+            if covers:
+                sync = Sync(operation, operation.begin, operation.end, True, covers=covers)
+                file.syncs.append(sync)
 
     def begin_sync(self, number, operation, range):
         file = self.files[number]

@@ -65,10 +65,18 @@ def covered_names(disk, number, sync, at):
     return None
 
 
-def committed(file, at):
-    """The changes of a file's length that had been given to the journal by then: those of a truncation and of fallocate are as they end, those of a write once its blocks are."""
+class Lengths(frozenset):
+    """Changes of a file's length that a commit of the journal makes safe; called, whether one is among them."""
+
+    __call__ = frozenset.__contains__
+
+
+def committed(file, at, sync):
+    """The changes of a file's length that had been given to the journal by then, if no sync before has made them safe: those of a truncation and of fallocate are as they end, those of a write once its blocks are."""
     own = [it for it in lengthening(file) if it.operation.kind in (LENGTH, SPACE)]
-    return {it for it in own if it.end is not None and it.end < at}
+    found = Lengths(it for it in own if it.end is not None and it.end < at)
+    before = [it.covers for it in file.syncs if it.end is not None and it.end < sync.begin]
+    return None if any(isinstance(it, Lengths) and found <= it for it in before) else found
 
 
 def hidden_from(rules, cut):
@@ -92,7 +100,8 @@ class Part:
 
 def boundaries(disk, file, left, length):
     """Of each write whose length isn't left, and may come next: up to which lengths it may be left in part. `length` is what the others make."""
-    lost = [it for it in file.changes if it not in left]
+    there = set(left)
+    lost = [it for it in file.changes if it not in there]
     first, block = first_end(lost), disk.rules.block
     for it in lost:
         if it.begin <= first and it.length is not None and not it.is_exact:
@@ -130,7 +139,9 @@ def part_of(disk, file, left, length, chosen):
 
 def part_lost(change, shorter):
     """The loss of a write's length that is left in part, or not at all."""
-    found = [it.length for it in shorter if isinstance(it, Part) and it.operation is change.operation]
+    found = [
+        it.length for it in shorter if isinstance(it, Part) and it.operation is change.operation
+    ]
     return f"length={found[0]}" if found else "length"
 
 

@@ -92,9 +92,7 @@ def with_length(disk, file, left, tears=()):
     A truncation changes bytes and length as one (our own rule; `apart`: not), but for the block in which its place lies: if its length isn't left, neither are its zeros, nor what was written after it once it had ended. What is there for certain is said to the volume as a sync of its range.
     """
     kept, lost = list(file.syncs), [] if disk.is_apart else [
-        (it, hidden_from(disk.rules, it))
-        for it in file.changes
-        if it.is_exact and it not in left
+        (it, hidden_from(disk.rules, it)) for it in file.changes if it.is_exact and it not in left
     ]
     for change in [] if disk.is_apart else left:
         if change.is_exact and change.last > change.first and not is_open(change, disk.now):

@@ -38,11 +38,7 @@ class Chosen:
         """The changes of one list that aren't lost, in the order of their begins."""
         if self.kind == "seed":
             return sorted(self.some(changes), key=lambda it: it.begin)
-        return (
-            []
-            if self.kind == "least"
-            else [it for it in changes if not self.loses_whole(it)]
-        )
+        return [] if self.kind == "least" else [it for it in changes if not self.loses_whole(it)]
 
     def loses_whole(self, change):
         """Whether an operation on names is lost, or a write's length."""

@@ -76,9 +76,7 @@ class Moment:
     def why(self, number, path, contents):
         file = self.disk.files[number]
         lengths = sorted({it[0] for it in lengths_of(self.disk, file, file.syncs)})
-        runs = [
-            f"{len(list(own))} of {byte}" for byte, own in itertools.groupby(contents[:20000])
-        ]
+        runs = [f"{len(list(own))} of {byte}" for byte, own in itertools.groupby(contents[:20000])]
         return f"{path} has {len(contents)} bytes ({', '.join(runs[:12])}); lengths {lengths}"
 
 
