@@ -24,7 +24,7 @@ from crashing.events import (
     SYNCS_ITS_RANGE,
     WRITE,
 )
-from crashing.filesystems import Rules, changed_at, committed, covered_names
+from crashing.filesystems import Rules, changed_at, committed, covered_names, in_turn
 from crashing.labels import Bytes, Parts
 from crashing.order import settled
 
@@ -97,13 +97,14 @@ class Naming:
         "replaced",
         "is_folded",
         "part",
+        "new",
     )
 
     def __init__(self, operation, effects, files, replaced=None):
         self.operation, self.begin, self.end = operation, operation.begin, operation.end
         self.effects, self.files, self.replaced = effects, files, replaced
         self.folders = {folder for folder, _, _ in effects}
-        self.is_folded, self.part = False, ""
+        self.is_folded, self.part, self.new = False, "", None
 
     def is_over(self, at):
         """Whether its operation had ended by then, with all that it does."""
@@ -354,7 +355,6 @@ class Disk:
         group_of, groups = {}, {}
         for at, naming in enumerate(self.namings):
             keys, members = {(folder, name) for folder, name, _ in naming.effects}, [naming]
-            keys |= {naming.operation} if naming.part else set()
             for number in {group_of[it] for it in keys if it in group_of}:
                 others = groups.pop(number)
                 keys |= others[0]
@@ -436,11 +436,18 @@ class Disk:
             for effect in effects:
                 self.name(operation, [effect], moved)
         elif self.rules.parts_renames and folder != other and not operation.flags & EXCHANGE:
-            self.name(operation, effects[:1], moved, replaced)
-            self.name(operation, effects[1:], moved)
-            in_turn(self.namings[-2:])
+            self.name_in_parts(operation, effects, moved, replaced)
         else:
             self.name(operation, effects, moved, None if operation.flags & EXCHANGE else replaced)
+
+    def name_in_parts(self, operation, effects, moved, replaced):
+        """A rename to another folder, as what is left in turn: what it replaces goes, the new name comes, and the old one ends."""
+        before = len(self.namings)
+        if replaced is not None:
+            self.name(operation, [(*it[:2], None) for it in effects[:-1]], moved)
+        self.name(operation, effects[:-1], moved, replaced)
+        self.name(operation, effects[-1:], moved)
+        in_turn(self.namings[before:])
 
     def current(self, folder, name):
         """The file that has a name, as the program sees it."""
@@ -465,14 +472,6 @@ class Disk:
             if file.path.startswith(self.folder)
             else file.path or "a file without a name"
         )
-
-
-def in_turn(namings):
-    """Of a rename that is left in parts the new name comes before the end of the old one."""
-    if len(namings) == 2 and namings[0].operation is namings[1].operation:
-        new, old = namings
-        new.end, old.begin = new.begin + 0.25, new.begin + 0.5
-        new.part, old.part = "new", "old"
 
 
 def is_open(sync, now):

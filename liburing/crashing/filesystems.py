@@ -9,7 +9,7 @@ from crashing.order import first_end
 class Rules(NamedTuple):
     is_ordered: bool = False  # names are lost from the end, in one order for the whole disk
     syncs_names: bool = False  # a sync of a file makes its own names safe
-    parts_renames: bool = False  # a rename to another folder may leave the old name there too
+    parts_renames: bool = False  # a rename to another folder is left in parts
     flushes_renamed: bool = False  # a rename over a file waits for the new file's length
     block: int = 512  # a write's length may be left up to each multiple of so many bytes in it
     cut_block: int = 4096  # in a block of so many bytes a truncation writes its zeros in place
@@ -30,6 +30,54 @@ def rules_of(word):
     if not block:
         return RULES[name]
     return RULES[name]._replace(block=int(block), cut_block=max(4096, int(block)))
+
+
+def in_turn(namings):
+    """The parts of a rename, each of which ends before the next one begins. A sync of either folder makes the new name safe, and one of the old folder alone the end of the old name."""
+    *before, new, old = namings
+    for at, (it, part) in enumerate(zip(namings, ["gone", "new", "old"][-len(namings) :])):
+        it.begin, it.part, it.new = it.begin + at / 4, part, new
+    for it in (*before, new):
+        it.end, it.folders = it.begin + 0.125, new.folders | old.folders
+
+
+def with_new_names(groups, left):
+    """What is left of operations on names, by groups: the end of an old name isn't left without the new one, and what came before that."""
+    found = {it for own in left for it in own}
+    while True:
+        lacking = [it.new for it in found if it.part == "old" and lacks_new(it, found)]
+        if not lacking:
+            return [[it for it in group if it in found] for group in groups]
+        for new in lacking:
+            group = next(it for it in groups if new in it)
+            found |= {it for it in group if it is new or (it.end is not None and it.end < new.begin)}
+
+
+def lacks_new(old, found):
+    return old.new not in found and not old.new.is_folded
+
+
+def are_whole(left):
+    """Whether each old name that has ended has its new one."""
+    found = {it for own in left for it in own}
+    return not any(it.part == "old" and lacks_new(it, found) for it in found)
+
+
+def names_lost(image, whole):
+    """The operations on names that are lost, as losses; of a rename in parts all of it, its new name or the end of its old one."""
+    lost, found = {it for it in whole.left if it not in image.left}, set()
+    for it in lost:
+        is_whole = all(one in lost for one in whole.left if one.operation is it.operation)
+        is_new = it.part == "old" and it.new in lost
+        part = () if is_whole or not it.part else ("new",) if is_new else (it.part,)
+        found.add((it.operation.number, *part))
+    return sorted(found)
+
+
+def names_told(image, whole):
+    """The operations on names of which it is told that they are lost: of a rename in parts one."""
+    lost = [it for it in whole.left if it not in image.left]
+    return [it for it in lost if not it.part or it is it.new or it.new not in lost]
 
 
 def changed_at(disk, number, sync):

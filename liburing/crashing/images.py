@@ -3,7 +3,16 @@
 import itertools
 
 from crashing.disk import Sync, is_open
-from crashing.filesystems import hidden_from, part_lost, part_of, parts
+from crashing.filesystems import (
+    are_whole,
+    hidden_from,
+    names_lost,
+    names_told,
+    part_lost,
+    part_of,
+    parts,
+    with_new_names,
+)
 from crashing.labels import Bytes, Chosen, Parts, hides, merged
 
 
@@ -25,9 +34,11 @@ class Image:
 
 
 def image_of(disk, chosen):
+    groups = disk.name_groups()
+    left = [Parts(group, disk.name_syncs, disk.now).crash(chosen) for group in groups]
     return assemble(
         disk,
-        [Parts(group, disk.name_syncs, disk.now).crash(chosen) for group in disk.name_groups()],
+        with_new_names(groups, left),
         lambda file, syncs: crash_file(disk, file, syncs, chosen),
     )
 
@@ -173,7 +184,7 @@ def all_images(disk, most):
     if None in groups:
         return None
     kept = {}
-    for left in itertools.product(*groups):
+    for left in filter(are_whole, itertools.product(*groups)):
         synced = flushed(disk, [naming for it in left for naming in it])
         kinds = {}
         for number, file in enumerate(disk.files):
@@ -240,11 +251,10 @@ def every_cell(disk, most, bytes_of):
 def losses(disk, image, whole):
     """What an image lacks of the one in which nothing is lost, in words."""
     found = []
-    for naming in whole.left:
-        if naming not in image.left:
-            found.append(
-                f"{told_naming(disk, naming)} is lost: {why_lost(disk, naming, disk.name_syncs, 'its folder')}"
-            )
+    for naming in names_told(image, whole):
+        found.append(
+            f"{told_naming(disk, naming)} is lost: {why_lost(disk, naming, disk.name_syncs, 'its folder')}"
+        )
     for number in sorted(whole.shown):
         if number not in image.shown:
             continue
@@ -299,14 +309,6 @@ def pieces(image, whole):
                 if change not in shorter
             ]
     return found
-
-
-def names_lost(image, whole):
-    """The operations on names that are lost; of a rename perhaps the end of its old name alone."""
-    lost = [it for it in whole.left if it not in image.left]
-    found = {(it.operation.number,) for it in lost if it.part != "old"}
-    found |= {(it.operation.number, "old") for it in lost if it.part == "old"}
-    return sorted(it for it in found if len(it) == 1 or it[:1] not in found)
 
 
 def lost_ranges(cells, shown):

@@ -42,9 +42,11 @@ class Chosen:
 
     def loses_whole(self, change):
         """Whether an operation on names is lost, or a write's length."""
-        number = change.operation.number
-        return number in self.short or (
-            getattr(change, "part", "") == "old" and (number, "old") in self.losses
+        number, part = change.operation.number, getattr(change, "part", "")
+        return (
+            number in self.short
+            or (part in ("new", "old") and (number, "new") in self.losses)
+            or (part == "old" and (number, "old") in self.losses)
         )
 
     def everywhere(self, changes):

@@ -1,7 +1,7 @@
 """Of which kinds an image is: in what ways it differs from the one in which nothing is lost."""
 
 from crashing.events import CREATE, LINK, MAKE_FOLDER, REMOVE, RENAME
-from crashing.filesystems import Part
+from crashing.filesystems import Part, names_told
 from crashing.images import lost_ranges
 
 NAMES = {
@@ -24,19 +24,18 @@ def kinds(disk, image, whole):
     return found
 
 
+PARTS = {"gone": "what a rename replaces is gone", "new": "a rename has both names"}
+
+
 def of_names(image, whole):
     kept = set(image.left)
     last = max((it.begin for it in kept), default=-1)
-    for naming in whole.left:
-        if naming not in kept:
-            after = ", a later change of names isn't" if naming.begin < last else ""
-            what = "the old name's end" if naming.part == "old" else NAMES[naming.operation.kind]
-            if naming.part != "old" or any(it.operation is naming.operation for it in kept):
-                yield f"{what} is lost{after}"
-    # (a replaced file's bytes)
-    for naming in image.left:
-        if naming.replaced is not None:
-            yield "a rename over a file is left"
+    for naming in names_told(image, whole):
+        after = ", a later change of names isn't" if naming.begin < last else ""
+        parts = [it.part for it in image.left if it.operation is naming.operation]
+        yield PARTS[parts[-1]] if parts else f"{NAMES[naming.operation.kind]} is lost{after}"
+    if any(it.replaced is not None for it in image.left):
+        yield "a rename over a file is left"
 
 
 def of_bytes(disk, file, cells, shown, length):

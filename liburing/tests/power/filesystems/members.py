@@ -3,6 +3,7 @@
 import itertools
 
 from crashing import images
+from crashing.filesystems import are_whole
 from crashing.images import assemble, flushed, paint, with_length
 from crashing.labels import Parts
 
@@ -17,7 +18,8 @@ class Moment:
         groups = [
             Parts(group, disk.name_syncs, disk.now).images(MOST) for group in disk.name_groups()
         ]
-        self.ways = [[it for own in way for it in own] for way in itertools.product(*groups)]
+        ways = filter(are_whole, itertools.product(*groups))
+        self.ways = [[it for own in way for it in own] for way in ways]
 
     def find(self, tree):
         """The image that this tree is; or None, and why it is none, of the names that come nearest."""
