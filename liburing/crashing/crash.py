@@ -241,7 +241,7 @@ def read_loss(word):
     """N, N:FIRST-LAST or N:length."""
     number, _, part = word.partition(":")
     try:
-        if part in ("", "length", "new", "old") or part.startswith("length="):
+        if part in ("", "length", "gone", "new", "old") or part.startswith("length="):
             return (int(number), part) if part else (int(number),)
         first, last = part.split("-")
         return int(number), int(first), int(last) + 1

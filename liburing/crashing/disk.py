@@ -97,14 +97,14 @@ class Naming:
         "replaced",
         "is_folded",
         "part",
-        "new",
+        "needs",
     )
 
     def __init__(self, operation, effects, files, replaced=None):
         self.operation, self.begin, self.end = operation, operation.begin, operation.end
         self.effects, self.files, self.replaced = effects, files, replaced
         self.folders = {folder for folder, _, _ in effects}
-        self.is_folded, self.part, self.new = False, "", None
+        self.is_folded, self.part, self.needs = False, "", None
 
     def is_over(self, at):
         """Whether its operation had ended by then, with all that it does."""
@@ -435,19 +435,31 @@ class Disk:
         if self.is_apart:
             for effect in effects:
                 self.name(operation, [effect], moved)
-        elif self.rules.parts_renames and folder != other and not operation.flags & EXCHANGE:
+        elif self.is_in_parts(operation, folder == other, moved):
             self.name_in_parts(operation, effects, moved, replaced)
         else:
             self.name(operation, effects, moved, None if operation.flags & EXCHANGE else replaced)
 
+    def is_new(self, number):
+        """Whether a file's creation isn't settled."""
+        return any(it.operation.kind == CREATE and number in it.files for it in self.namings)
+
+    def is_in_parts(self, operation, is_within, moved):
+        """Whether a rename is left in parts: one to another folder, or of a new file."""
+        is_exchange = operation.flags & EXCHANGE
+        parts = self.rules.parts_renames and not is_exchange
+        return parts and (not is_within or self.is_new(moved))
+
     def name_in_parts(self, operation, effects, moved, replaced):
-        """A rename to another folder, as what is left in turn: what it replaces goes, the new name comes, and the old one ends."""
-        before = len(self.namings)
-        if replaced is not None:
-            self.name(operation, [(*it[:2], None) for it in effects[:-1]], moved)
-        self.name(operation, effects[:-1], moved, replaced)
-        self.name(operation, effects[-1:], moved)
-        in_turn(self.namings[before:])
+        """A rename as its parts; what it replaces goes by itself where the new name is in another folder."""
+        is_new, before = self.is_new(moved), len(self.namings)
+        is_within = len({folder for folder, _, _ in effects}) == 1
+        if replaced is not None and not is_within:
+            self.name(operation, [(*effects[0][:2], None)], moved)
+        for effect in effects:
+            self.name(operation, [effect], moved, replaced if effect[2] == moved else None)
+        if len(effects) == 2:
+            in_turn(self.namings[before:], is_new, is_within)
 
     def current(self, folder, name):
         """The file that has a name, as the program sees it."""

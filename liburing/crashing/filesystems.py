@@ -9,7 +9,7 @@ from crashing.order import first_end
 class Rules(NamedTuple):
     is_ordered: bool = False  # names are lost from the end, in one order for the whole disk
     syncs_names: bool = False  # a sync of a file makes its own names safe
-    parts_renames: bool = False  # a rename to another folder is left in parts
+    parts_renames: bool = False  # a rename to another folder, or of a new file, is left in parts
     flushes_renamed: bool = False  # a rename over a file waits for the new file's length
     block: int = 512  # a write's length may be left up to each multiple of so many bytes in it
     cut_block: int = 4096  # in a block of so many bytes a truncation writes its zeros in place
@@ -32,20 +32,26 @@ def rules_of(word):
     return RULES[name]._replace(block=int(block), cut_block=max(4096, int(block)))
 
 
-def in_turn(namings):
-    """The parts of a rename, each of which ends before the next one begins. A sync of either folder makes the new name safe, and one of the old folder alone the end of the old name."""
-    *before, new, old = namings
-    for at, (it, part) in enumerate(zip(namings, ["gone", "new", "old"][-len(namings) :])):
-        it.begin, it.part, it.new = it.begin + at / 4, part, new
-    for it in (*before, new):
-        it.end, it.folders = it.begin + 0.125, new.folders | old.folders
+def in_turn(namings, is_new, is_within):
+    """The parts of a rename: what it replaces goes, the new name comes, and the old one ends. A sync of either folder makes the new name safe, and one of the old folder alone the end of the old name.
+
+    The old name doesn't end without the new one, but of a file whose creation isn't settled: then another file may have its old name, and it none. Within a folder such a one doesn't have both.
+    """
+    *gone, new, old = namings
+    new.part, old.part, new.folders = "new", "old", new.folders | old.folders
+    for it in gone:
+        it.part, it.end, it.folders, new.begin = "gone", it.begin + 0.125, new.folders, it.begin + 0.25
+    if is_new:
+        new.needs = old if is_within else None
+    else:
+        new.end, old.begin, old.needs = new.begin + 0.125, new.begin + 0.25, new
 
 
-def with_new_names(groups, left):
-    """What is left of operations on names, by groups: the end of an old name isn't left without the new one, and what came before that."""
+def with_needed(groups, left):
+    """What is left of operations on names, by groups: each part of a rename with the one that it needs, and what came before that."""
     found = {it for own in left for it in own}
     while True:
-        lacking = [it.new for it in found if it.part == "old" and lacks_new(it, found)]
+        lacking = [it.needs for it in found if lacks(it, found)]
         if not lacking:
             return [[it for it in group if it in found] for group in groups]
         for new in lacking:
@@ -53,31 +59,30 @@ def with_new_names(groups, left):
             found |= {it for it in group if it is new or (it.end is not None and it.end < new.begin)}
 
 
-def lacks_new(old, found):
-    return old.new not in found and not old.new.is_folded
+def lacks(naming, found):
+    return naming.needs and naming.needs not in found and not naming.needs.is_folded
 
 
 def are_whole(left):
-    """Whether each old name that has ended has its new one."""
+    """Whether each part of a rename has the one that it needs."""
     found = {it for own in left for it in own}
-    return not any(it.part == "old" and lacks_new(it, found) for it in found)
+    return not any(lacks(it, found) for it in found)
 
 
 def names_lost(image, whole):
-    """The operations on names that are lost, as losses; of a rename in parts all of it, its new name or the end of its old one."""
+    """The operations on names that are lost, as losses; of a rename in parts all of it, or some."""
     lost, found = {it for it in whole.left if it not in image.left}, set()
     for it in lost:
         is_whole = all(one in lost for one in whole.left if one.operation is it.operation)
-        is_new = it.part == "old" and it.new in lost
-        part = () if is_whole or not it.part else ("new",) if is_new else (it.part,)
-        found.add((it.operation.number, *part))
+        found.add((it.operation.number,) if is_whole else (it.operation.number, it.part))
     return sorted(found)
 
 
 def names_told(image, whole):
     """The operations on names of which it is told that they are lost: of a rename in parts one."""
     lost = [it for it in whole.left if it not in image.left]
-    return [it for it in lost if not it.part or it is it.new or it.new not in lost]
+    news = {it.operation for it in lost if it.part == "new"}
+    return [it for it in lost if it.part in ("", "new") or it.operation not in news]
 
 
 def changed_at(disk, number, sync):

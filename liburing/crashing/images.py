@@ -11,7 +11,7 @@ from crashing.filesystems import (
     part_lost,
     part_of,
     parts,
-    with_new_names,
+    with_needed,
 )
 from crashing.labels import Bytes, Chosen, Parts, hides, merged
 
@@ -38,7 +38,7 @@ def image_of(disk, chosen):
     left = [Parts(group, disk.name_syncs, disk.now).crash(chosen) for group in groups]
     return assemble(
         disk,
-        with_new_names(groups, left),
+        with_needed(groups, left),
         lambda file, syncs: crash_file(disk, file, syncs, chosen),
     )
 

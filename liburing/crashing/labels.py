@@ -43,11 +43,7 @@ class Chosen:
     def loses_whole(self, change):
         """Whether an operation on names is lost, or a write's length."""
         number, part = change.operation.number, getattr(change, "part", "")
-        return (
-            number in self.short
-            or (part in ("new", "old") and (number, "new") in self.losses)
-            or (part == "old" and (number, "old") in self.losses)
-        )
+        return number in self.short or (part and (number, part) in self.losses)
 
     def everywhere(self, changes):
         """What a seed leaves of a file where writes aren't torn: each with its place in the order."""

@@ -24,7 +24,11 @@ def kinds(disk, image, whole):
     return found
 
 
-PARTS = {"gone": "what a rename replaces is gone", "new": "a rename has both names"}
+PARTS = {
+    "gone": "what a rename replaces is gone",
+    "new": "a rename has both names",
+    "old": "a rename has neither name",
+}
 
 
 def of_names(image, whole):
