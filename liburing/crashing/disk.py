@@ -411,6 +411,7 @@ class Disk:
         elif kind == LINK:
             self.name(operation, [(folder, name, self.known(operation.second, operation.path))])
         elif kind == REMOVE:
+            self.untie(self.current(folder, name))
             self.name(operation, [(folder, name, None)])
         else:
             self.rename(operation, folder, name)
@@ -431,6 +432,8 @@ class Disk:
         else:
             effects = [(other, second, moved), (folder, name, None)]
         self.files[moved].path = operation.second_path or self.files[moved].path
+        if not operation.flags & EXCHANGE:
+            self.untie(replaced)
         effects = [it for it in effects if it[0] is not None]
         if self.is_apart:
             for effect in effects:
@@ -439,6 +442,12 @@ class Disk:
             self.name_in_parts(operation, effects, moved, replaced)
         else:
             self.name(operation, effects, moved, None if operation.flags & EXCHANGE else replaced)
+
+    def untie(self, number):
+        """Of a file that loses a name the parts of renames are left each by itself: that it is gone may be left alone."""
+        for it in self.namings:
+            if it.needs and number in it.files:
+                it.needs = None
 
     def is_new(self, number):
         """Whether a file's creation isn't settled."""

@@ -114,8 +114,15 @@ def covered_names(disk, number, sync, at):
     if disk.is_ordered:
         return lambda it: names_whole(it, number, sync) or (it.end is not None and it.end < at)
     if disk.rules.syncs_names:
-        return lambda it: names_whole(it, number, sync) and it.is_over(sync.begin)
+        now = {name for name, file in disk.seen.items() if file == number}
+        return lambda it: names_whole(it, number, sync) and is_name(it, number, now, sync)
     return None
+
+
+def is_name(naming, number, names, sync):
+    """Whether an operation that has ended gave a file one of these names, which it has as it is synced. Those that it had before aren't reached."""
+    given = {effect[:2] for effect in naming.effects if effect[2] == number}
+    return naming.is_over(sync.begin) and not given.isdisjoint(names)
 
 
 class Lengths(frozenset):
