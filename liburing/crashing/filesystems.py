@@ -40,7 +40,12 @@ def in_turn(namings, is_new, is_within):
     *gone, new, old = namings
     new.part, old.part, new.folders = "new", "old", new.folders | old.folders
     for it in gone:
-        it.part, it.end, it.folders, new.begin = "gone", it.begin + 0.125, new.folders, it.begin + 0.25
+        it.part, it.end, it.folders, new.begin = (
+            "gone",
+            it.begin + 0.125,
+            new.folders,
+            it.begin + 0.25,
+        )
     if is_new:
         new.needs = old if is_within else None
     else:
@@ -56,7 +61,9 @@ def with_needed(groups, left):
             return [[it for it in group if it in found] for group in groups]
         for new in lacking:
             group = next(it for it in groups if new in it)
-            found |= {it for it in group if it is new or (it.end is not None and it.end < new.begin)}
+            found |= {
+                it for it in group if it is new or (it.end is not None and it.end < new.begin)
+            }
 
 
 def lacks(naming, found):

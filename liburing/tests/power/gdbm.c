@@ -37,8 +37,8 @@ static int run(int is_synced, unsigned commits)
 static int is_there(GDBM_FILE file, unsigned commit)
 {
     datum key = {(char *)&commit, sizeof commit}, value = gdbm_fetch(file, key);
-    int is_right =
-        value.dptr && value.dsize == SIZE && value.dptr[SIZE - 1] == 'a' + (int)(commit % 26);
+    int is_right = value.dptr && value.dsize == SIZE &&
+                   value.dptr[SIZE - 1] == 'a' + (int)(commit % 26);
     free(value.dptr);
     return is_right;
 }
@@ -68,7 +68,7 @@ static int check(void)
 int main(int argc, char **argv)
 {
     if (argc > 1 && strcmp(argv[1], "run") == 0)
-        return run(argc < 3 || strcmp(argv[2], "nosync") != 0,
-            argc > 3 ? (unsigned)atoi(argv[3]) : 8);
+        return run(
+            argc < 3 || strcmp(argv[2], "nosync") != 0, argc > 3 ? (unsigned)atoi(argv[3]) : 8);
     return check();
 }
