@@ -174,7 +174,7 @@ def boundaries(disk, file, left, length):
         if it.begin <= first and it.length is not None and not it.is_exact:
             low = max(length, it.first)
             own = range(low // block * block + block, it.length, block)
-            more = [at for at in ends_of_spaces(file) if low < at < it.length]
+            more = [at for at in ends_of_spaces(file) if length < at < it.length]
             if own or more:
                 yield it, sorted({*own, *more}) if more else own
 
