@@ -10,7 +10,6 @@ import stat
 from crashing.events import (
     COPY,
     CREATE,
-    IS_OF_DATA,
     IS_OF_RANGE,
     LENGTH,
     LINK,
@@ -25,6 +24,7 @@ from crashing.events import (
     SYNCS_ITS_RANGE,
     WRITE,
 )
+from crashing.filesystems import Rules, changed_at, committed, covered_names, in_turn
 from crashing.labels import Bytes, Parts
 from crashing.order import settled
 
@@ -96,13 +96,19 @@ class Naming:
         "folders",
         "replaced",
         "is_folded",
+        "part",
+        "needs",
     )
 
     def __init__(self, operation, effects, files, replaced=None):
         self.operation, self.begin, self.end = operation, operation.begin, operation.end
         self.effects, self.files, self.replaced = effects, files, replaced
         self.folders = {folder for folder, _, _ in effects}
-        self.is_folded = False
+        self.is_folded, self.part, self.needs = False, "", None
+
+    def is_over(self, at):
+        """Whether its operation had ended by then, with all that it does."""
+        return self.operation.end is not None and self.operation.end < at
 
     def apply(self, names):
         for folder, name, file in self.effects:
@@ -131,11 +137,17 @@ class File:
 
 
 class Disk:
+    rules = Rules()
+
     def __init__(self, folder, is_ordered, unit, is_apart=False):
         self.folder, self.is_ordered, self.unit, self.is_apart = folder, is_ordered, unit, is_apart
         self.files, self.by_inode, self.names, self.seen = [], {}, {}, {}
         self.namings, self.name_syncs, self.remarks, self.now = [], [], [], 0
         self.root = self.scan(folder)
+
+    def follow(self, rules):
+        """Takes the rules of a file system."""
+        self.rules, self.is_ordered = rules, rules.is_ordered
 
     def scan(self, path):
         about = os.lstat(path)
@@ -201,7 +213,7 @@ class Disk:
                     operation.begin,
                     operation.end,
                     not operation.fails(),
-                    covers=lambda naming: True,
+                    covers=lambda naming: naming.is_over(operation.begin),
                 )
             )
         elif kind == SYNC:
@@ -213,39 +225,30 @@ class Disk:
                 if operation.flags & IS_OF_RANGE
                 else None,
             )
-            if self.files[number].kind == "folder":
-                self.name_syncs.append(
-                    Sync(
-                        operation,
-                        operation.begin,
-                        operation.end,
-                        not operation.fails(),
-                        covers=lambda naming: number in naming.folders,
-                    )
-                )
-            elif self.is_ordered:
-                grown = self.grown_at(self.files[number], operation)
-                self.name_syncs.append(
-                    Sync(
-                        operation,
-                        operation.begin,
-                        operation.end,
-                        not operation.fails(),
-                        covers=lambda naming: number in naming.files
-                        and is_met(operation, naming, grown),
-                    )
-                )
+            self.begin_name_sync(number, operation)
         else:
             self.begin_change(operation)
 
-    def grown_at(self, file, sync):
-        """Where the last change began that made a file longer or shorter, of those that have ended before a sync; -1: there is none."""
-        length, found = file.length, -1
-        for change in file.changes:
-            before, length = length, change.lengthen(length)
-            if length != before and change.end is not None and change.end < sync.begin:
-                found = change.begin
-        return found
+    def begin_name_sync(self, number, operation):
+        """What a sync of a file or a folder makes safe of names, and of lengths of other files: as the rules say."""
+        is_done = not operation.fails()
+        # (one that fails commits nothing, and gives up no more than the file's own names)
+        at = changed_at(self, number, operation) if is_done else -1
+        covers = covered_names(self, number, operation, at)
+        if covers:
+            self.name_syncs.append(
+                Sync(operation, operation.begin, operation.end, is_done, covers=covers)
+            )
+        if self.is_ordered and is_done:
+            self.commit_lengths(number, operation, at)
+
+    def commit_lengths(self, number, operation, at):
+        """What a sync of a file or a folder commits of other files' lengths."""
+        for other, file in enumerate(self.files):
+            covers = committed(file, at, operation) if other != number and file.changes else None
+            if covers:
+                sync = Sync(operation, operation.begin, operation.end, True, covers=covers)
+                file.syncs.append(sync)
 
     def begin_sync(self, number, operation, range):
         file = self.files[number]
@@ -408,6 +411,7 @@ class Disk:
         elif kind == LINK:
             self.name(operation, [(folder, name, self.known(operation.second, operation.path))])
         elif kind == REMOVE:
+            self.untie(self.current(folder, name))
             self.name(operation, [(folder, name, None)])
         else:
             self.rename(operation, folder, name)
@@ -428,12 +432,43 @@ class Disk:
         else:
             effects = [(other, second, moved), (folder, name, None)]
         self.files[moved].path = operation.second_path or self.files[moved].path
+        if not operation.flags & EXCHANGE:
+            self.untie(replaced)
         effects = [it for it in effects if it[0] is not None]
         if self.is_apart:
             for effect in effects:
                 self.name(operation, [effect], moved)
+        elif self.is_in_parts(operation, folder == other, moved):
+            self.name_in_parts(operation, effects, moved, replaced)
         else:
             self.name(operation, effects, moved, None if operation.flags & EXCHANGE else replaced)
+
+    def untie(self, number):
+        """Of a file that loses a name the parts of renames are left each by itself: that it is gone may be left alone."""
+        for it in self.namings:
+            if it.needs and number in it.files:
+                it.needs = None
+
+    def is_new(self, number):
+        """Whether a file's creation isn't settled."""
+        return any(it.operation.kind == CREATE and number in it.files for it in self.namings)
+
+    def is_in_parts(self, operation, is_within, moved):
+        """Whether a rename is left in parts: one to another folder, or of a new file."""
+        is_exchange = operation.flags & EXCHANGE
+        parts = self.rules.parts_renames and not is_exchange
+        return parts and (not is_within or self.is_new(moved))
+
+    def name_in_parts(self, operation, effects, moved, replaced):
+        """A rename as its parts; what it replaces goes by itself where the new name is in another folder."""
+        is_new, before = self.is_new(moved), len(self.namings)
+        is_within = len({folder for folder, _, _ in effects}) == 1
+        if replaced is not None and not is_within:
+            self.name(operation, [(*effects[0][:2], None)], moved)
+        for effect in effects:
+            self.name(operation, [effect], moved, replaced if effect[2] == moved else None)
+        if len(effects) == 2:
+            in_turn(self.namings[before:], is_new, is_within)
 
     def current(self, folder, name):
         """The file that has a name, as the program sees it."""
@@ -458,15 +493,6 @@ class Disk:
             if file.path.startswith(self.folder)
             else file.path or "a file without a name"
         )
-
-
-def is_met(sync, naming, grown):
-    """Whether a sync of a file reaches an operation on its names, where names are ordered (ext4's journal): one of the data only its creation, and what came before the file's length last changed (i_datasync_tid)."""
-    return (
-        not sync.flags & IS_OF_DATA
-        or naming.operation.kind == CREATE
-        or (naming.end is not None and naming.end < grown)
-    )
 
 
 def is_open(sync, now):

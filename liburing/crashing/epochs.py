@@ -43,10 +43,10 @@ def told_loss(loss):
 
 
 def read_loss(word):
-    """N, N:FIRST-LAST or N:length."""
+    """N, N:FIRST-LAST, or N with a part of it: its length, that up to a byte, or one of a rename's names."""
     number, _, part = word.partition(":")
     try:
-        if part in ("", "length"):
+        if part in ("", "length", "gone", "new", "old") or part.startswith("length="):
             return (int(number), part) if part else (int(number),)
         first, last = part.split("-")
         return int(number), int(first), int(last) + 1

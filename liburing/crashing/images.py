@@ -3,9 +3,17 @@
 import itertools
 
 from crashing.disk import Sync, is_open
+from crashing.filesystems import (
+    are_whole,
+    hidden_from,
+    names_lost,
+    names_told,
+    part_lost,
+    part_of,
+    parts,
+    with_needed,
+)
 from crashing.labels import Bytes, Chosen, Parts, hides, merged
-
-BLOCK = 4096  # of ext4
 
 
 class Image:
@@ -32,9 +40,11 @@ class Image:
 
 
 def image_of(disk, chosen):
+    groups = disk.name_groups()
+    left = [Parts(group, disk.name_syncs, disk.now).crash(chosen) for group in groups]
     return assemble(
         disk,
-        [Parts(group, disk.name_syncs, disk.now).crash(chosen) for group in disk.name_groups()],
+        with_needed(groups, left),
         lambda file, syncs: crash_file(disk, file, syncs, chosen),
     )
 
@@ -73,9 +83,9 @@ def assemble(disk, groups, contents_of):
 
 
 def flushed(disk, left):
-    """Where names are ordered, a rename that replaces a file isn't left without the length of the one that takes its place: as if that had been synced before it (ext4's auto_da_alloc). With the length come the bytes by which it grew."""
+    """A rename that replaces a file isn't left without the length of the one that takes its place, where the rules say so: as if that had been synced before it (ext4's auto_da_alloc). Its bytes may be lacking: they are written once the length is there."""
     found = {}
-    for naming in left if disk.is_ordered else []:
+    for naming in left if disk.rules.flushes_renamed else []:
         if naming.replaced is not None:
             for number in naming.files:
                 found.setdefault(number, []).append(
@@ -88,6 +98,7 @@ def crash_file(disk, file, syncs, chosen):
     if not file.changes:
         return bytes(file.contents[: file.length]).ljust(file.length, b"\0"), ([], file.length, [])
     left = Parts(file.changes, syncs, disk.now).crash(chosen)
+    left += part_of(disk, file, left, length_of(file, left), chosen)
     cells = with_length(disk, file, left, tears_of(file, disk.unit, chosen)).crash(chosen)
     return paint(file, left, cells)
 
@@ -95,17 +106,13 @@ def crash_file(disk, file, syncs, chosen):
 def with_length(disk, file, left, tears=()):
     """A file's bytes, once it is known which changes its length shows.
 
-    A truncation changes bytes and length as one (our own rule; `apart`: not): if its length isn't left, neither are its zeros, nor what was written after it once it had ended. Where names are ordered, a file that grew beyond its last block has the bytes with which it grew (ext4's data=ordered). What is there for certain is said to the volume as a sync of its range.
+    A truncation changes bytes and length as one (our own rule; `apart`: not), but for the block in which its place lies: if its length isn't left, neither are its zeros, nor what was written after it once it had ended. What is there for certain is said to the volume as a sync of its range.
     """
     kept, lost = list(file.syncs), [] if disk.is_apart else [
-        it for it in file.changes if it.is_exact and it not in left
+        (it, hidden_from(disk.rules, it)) for it in file.changes if it.is_exact and it not in left
     ]
-    there = [
-        *(grown(file, left) if disk.is_ordered else []),
-        *(it for it in left if it.is_exact and not disk.is_apart),
-    ]
-    for change in there:
-        if change.last > change.first and not is_open(change, disk.now):
+    for change in [] if disk.is_apart else left:
+        if change.is_exact and change.last > change.first and not is_open(change, disk.now):
             kept.append(
                 Sync(
                     change.operation,
@@ -123,20 +130,6 @@ def with_length(disk, file, left, tears=()):
     return Bytes(changes, kept, disk.now, disk.unit, tears, lost)
 
 
-def grown(file, left):
-    """The changes by which a file ends beyond the block in which it ended before, of those that its length shows."""
-    found, length = [], file.length
-    for change in left:
-        if (
-            not change.is_exact
-            and change.length is not None
-            and change.last > -(-length // BLOCK) * BLOCK
-        ):
-            found.append(change)
-        length = change.lengthen(length)
-    return found
-
-
 def tears_of(file, unit, chosen):
     """Where writes are cut, by chance."""
     dice, found = chosen.dice, []
@@ -151,13 +144,18 @@ def tears_of(file, unit, chosen):
     return found
 
 
-def paint(file, left, cells):
+def length_of(file, left):
+    """What these changes make of a file's length, in the order of their ends."""
     length = file.length
     for change in sorted(
         left, key=lambda it: (it.end if it.end is not None else float("inf"), it.begin)
     ):
         length = change.lengthen(length)
-    contents = bytearray(file.contents)
+    return length
+
+
+def paint(file, left, cells):
+    length, contents = length_of(file, left), bytearray(file.contents)
     for first, last, change in cells:
         if change is not None:
             if len(contents) < last:
@@ -192,7 +190,7 @@ def all_images(disk, most):
     if None in groups:
         return None
     kept = {}
-    for left in itertools.product(*groups):
+    for left in filter(are_whole, itertools.product(*groups)):
         synced = flushed(disk, [naming for it in left for naming in it])
         kinds = {}
         for number, file in enumerate(disk.files):
@@ -219,7 +217,7 @@ def all_images(disk, most):
 def ways_of(disk, file, syncs, most):
     """Each way in which a file may be left."""
     kept = {}
-    for left in Parts(file.changes, syncs, disk.now).images(most) or [None]:
+    for left in lengths_of(disk, file, syncs, most) or [None]:
         cells = left is not None and every_cell(
             disk, most, lambda tears: with_length(disk, file, left, tears)
         )
@@ -231,6 +229,17 @@ def ways_of(disk, file, syncs, most):
         if len(kept) > most:
             return None
     return list(kept.values())
+
+
+def lengths_of(disk, file, syncs, most):
+    """Each list of changes that a file's length may show, the last of them in part; none if these are too many."""
+    found = []
+    for left in Parts(file.changes, syncs, disk.now).images(most) or []:
+        found.append(left)
+        found += [[*left, it] for it in parts(disk, file, left, length_of(file, left))]
+        if len(found) > most:
+            return []
+    return found
 
 
 def every_cell(disk, most, bytes_of):
@@ -248,11 +257,10 @@ def every_cell(disk, most, bytes_of):
 def losses(disk, image, whole):
     """What an image lacks of the one in which nothing is lost, in words."""
     found = []
-    for naming in whole.left:
-        if naming not in image.left:
-            found.append(
-                f"{told_naming(disk, naming)} is lost: {why_lost(disk, naming, disk.name_syncs, 'its folder')}"
-            )
+    for naming in names_told(image, whole):
+        found.append(
+            f"{told_naming(disk, naming)} is lost: {why_lost(disk, naming, disk.name_syncs, 'its folder')}"
+        )
     for number in sorted(whole.shown):
         if number not in image.shown:
             continue
@@ -292,7 +300,7 @@ def are_lost(lost, first, last):
 
 def pieces(image, whole):
     """The losses that make an image of the one in which nothing is lost."""
-    found = [(it.operation.number,) for it in whole.left if it not in image.left]
+    found = names_lost(image, whole)
     for number in sorted(whole.shown):
         if number in image.shown:
             (cells, _, left), (shown, _, shorter) = whole.shown[number], image.shown[number]
@@ -302,7 +310,9 @@ def pieces(image, whole):
                 for first, last in ranges
             ]
             found += [
-                (change.operation.number, "length") for change in left if change not in shorter
+                (change.operation.number, part_lost(change, shorter))
+                for change in left
+                if change not in shorter
             ]
     return found
 
@@ -333,6 +343,8 @@ def told_ranges(ranges):
 
 def told_naming(disk, naming):
     operation = naming.operation
+    if naming.part == "old":
+        return f"the end of the old name {relative(disk, operation.path)}"
     words = {
         7: "the name {0}",
         8: "the folder {0}",

@@ -10,7 +10,8 @@ def names_of(disk, run, losses):
     found = set()
     for loss in losses:
         operation = run.log.operations[loss[0]]
-        what = "length" if loss[1:] == ("length",) else NAMES[operation.kind]
+        is_length = len(loss) == 2 and loss[1].startswith("length")
+        what = "length" if is_length else NAMES[operation.kind]
         path = operation.path
         if path.startswith(disk.folder):
             path = path[len(disk.folder) + 1 :]

@@ -25,7 +25,9 @@ class Chosen:
     def __init__(self, kind, losses=(), dice=None):
         self.kind, self.losses, self.dice = kind, tuple(losses), dice
         self.lost = {it[0] for it in self.losses if len(it) == 1}
-        self.short = self.lost | {it[0] for it in self.losses if it[1:] == ("length",)}
+        self.short = self.lost | {
+            it[0] for it in self.losses if len(it) == 2 and it[1].startswith("length")
+        }
         self.torn = {}
         for number, first, last in (it for it in self.losses if len(it) == 3):
             self.torn.setdefault(number, []).append((first, last))
@@ -36,11 +38,12 @@ class Chosen:
         """The changes of one list that aren't lost, in the order of their begins."""
         if self.kind == "seed":
             return sorted(self.some(changes), key=lambda it: it.begin)
-        return (
-            []
-            if self.kind == "least"
-            else [it for it in changes if it.operation.number not in self.short]
-        )
+        return [] if self.kind == "least" else [it for it in changes if not self.loses_whole(it)]
+
+    def loses_whole(self, change):
+        """Whether an operation on names is lost, or a write's length."""
+        number, part = change.operation.number, getattr(change, "part", "")
+        return number in self.short or (part and (number, part) in self.losses)
 
     def everywhere(self, changes):
         """What a seed leaves of a file where writes aren't torn: each with its place in the order."""
@@ -201,7 +204,7 @@ class Bytes(History):
             unit,
             [
                 *tears,
-                *(place for cut in self.cuts for place in (cut.length, cut.length + unit - 1)),
+                *(at for _, place in self.cuts for at in (place, place + unit - 1)),
             ],
         )
         self.width = 2 if len(self.changes) < 1 << 16 else 4
@@ -271,6 +274,9 @@ class Bytes(History):
         )
 
     def synced(self, sync):
+        if sync.covers is not None:
+            # (of lengths alone)
+            return []
         if sync.range is None:
             return [None]
         first, last = sync.range
@@ -360,9 +366,10 @@ class Bytes(History):
         )
 
 
-def hides(cut, change, last):
-    """Whether nothing of a change is left of units up to a place where a truncation's length isn't: of the truncation's zeros, and of what was written once it had ended, if they have bytes after its place."""
-    return last > cut.length and (change is cut or (cut.end is not None and cut.end < change.begin))
+def hides(lost, change, last):
+    """Whether nothing of a change is left of units up to a place where a truncation's length isn't: of the truncation's zeros, and of what was written once it had ended, if they have bytes after the place from which it hides them."""
+    cut, place = lost
+    return last > place and (change is cut or (cut.end is not None and cut.end < change.begin))
 
 
 def pairs(cell):

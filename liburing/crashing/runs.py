@@ -10,6 +10,7 @@ from typing import NamedTuple
 
 from crashing.disk import Disk
 from crashing.events import Log
+from crashing.filesystems import rules_of
 from exploring.ending import children, end_adopted, run_to_end
 from exploring.runs import stop
 
@@ -74,6 +75,7 @@ class Run:
             with open(f"{place}/log", "rb") as file:
                 self.log = Log(file.read())
                 self.is_ended = not os.fstat(file.fileno()).st_mode & stat.S_IWUSR
+            self.disk.follow(rules_of(options.names))
             self.choices = self.read_choices(place)
             self.remarks = self.compare() + self.compare_output(f"{place}/printed")
         finally:

@@ -89,7 +89,7 @@ def repeated(options, epochs):
     words = [sys.argv[0], "crash"]
     for name, value, usual in (
         ("--disk", options.disk, None),
-        ("--names", options.names, "any"),
+        ("--fs", options.names, "any"),
         ("--unit", options.unit, 1),
         ("--fsync-fails", options.fsync_fails, None),
         ("--status", options.status, 0),

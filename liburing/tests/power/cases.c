@@ -48,8 +48,8 @@ static void run_unit(void)
     sync_file(file);
 }
 
-/* A file is replaced by a rename, without a sync of the new one: the old or the new is to be there,
- * and never an empty one. */
+/* A file is replaced by a rename, without a sync of the new one: one that is as long as the old or
+ * the new is to be there, and never an empty one. */
 static void run_replace(void)
 {
     begin_with_sector();
@@ -118,11 +118,22 @@ static int check_folders(void)
     return 1;
 }
 
+static int check_replace(void)
+{
+    struct stat about;
+    if (!is_printed("begun") || (stat("data", &about) == 0 && about.st_size == SECTOR))
+        return 0;
+    puts("data isn't as long");
+    return 1;
+}
+
 static int check(const char *what)
 {
     if (what && strcmp(what, "folders") == 0)
         return check_folders();
-    bool is_half = what && (strcmp(what, "unit") == 0 || strcmp(what, "replace") == 0);
+    if (what && strcmp(what, "replace") == 0)
+        return check_replace();
+    bool is_half = what && strcmp(what, "unit") == 0;
     if (is_half ? !is_printed("begun") || is_whole(SECTOR, "xy")
                 : !is_printed("safe") || is_whole(SIZE, "x"))
         return 0;

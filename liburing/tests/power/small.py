@@ -19,12 +19,12 @@ OLD, NEW = b"a" * SIZE, b"b" * SIZE
 def begin(case):
     for name in "data", "other", "long", "log", "log2":
         with open(name, "wb") as file:
-            file.write(OLD if case != "block" else b"a" * 4096)
+            file.write({"block": b"a" * 4096, "cut": b"a" * 4096 + OLD}.get(case, OLD))
             if name == "long" and case == "memory":
                 file.truncate(6000000)
     if case == "datasync":
         os.remove("data")
-    elif case == "nested":
+    elif case in ("nested", "moved"):
         os.makedirs("one/two")
     elif case == "linked":
         os.link("data", "second")
@@ -48,8 +48,8 @@ def torn():
 
 def cut():
     """A file is cut, and written to across where it was cut: the bytes before that place may be left without the cut."""
-    os.ftruncate(opened("data"), 4)
-    os.pwrite(opened("data"), b"bbbb", 2)
+    os.ftruncate(opened("data"), 4096)
+    os.pwrite(opened("data"), b"bbbb", 4094)
 
 
 def mapped(is_early):
@@ -142,6 +142,51 @@ def nested():
     os.rename("one", "three/one")
 
 
+def between():
+    """A file gets longer by several blocks."""
+    os.pwrite(opened("data"), b"b" * 6000, SIZE)
+
+
+def lengthen_safely(name):
+    """A file gets longer, and is safe: its sync commits the journal."""
+    file = os.open(name, os.O_WRONLY | os.O_APPEND)
+    os.write(file, NEW)
+    os.fdatasync(file)
+    print("safe")
+
+
+def committed():
+    """A file gets another's name, and then another one longer."""
+    os.rename("log", "log2")
+    lengthen_safely("other")
+
+
+def early_commit():
+    """A file gets longer and is renamed, and only then synced: the journal may have been committed in between."""
+    file = os.open("other", os.O_WRONLY | os.O_APPEND)
+    os.write(file, NEW)
+    os.rename("log", "log2")
+    os.fdatasync(file)
+    print("safe")
+
+
+def sized():
+    """A file's length is set, and then another one gets longer."""
+    os.ftruncate(opened("log"), 100)
+    lengthen_safely("other")
+
+
+def moved():
+    """A file goes into another folder, which is synced."""
+    os.rename("log", "one/log")
+    os.fsync(os.open("one", os.O_RDONLY))
+
+
+def cut_within():
+    """A file is cut within a block."""
+    os.ftruncate(opened("data"), 4)
+
+
 def exchange(one, other):
     assert ctypes.CDLL(None).renameat2(-100, one, -100, other, 2) == 0
 
@@ -211,6 +256,12 @@ RUNS = {
     "patched": patched,
     "hasty": hasty,
     "nested": nested,
+    "between": between,
+    "committed": committed,
+    "early_commit": early_commit,
+    "sized": sized,
+    "moved": moved,
+    "cut_within": cut_within,
     "linked": linked,
     "exchanged": exchanged,
     "named": named,
@@ -243,7 +294,7 @@ def check(case):
     if case == "torn" and is_safe:
         assert len(set(read("data")[64:])) == 1, "the end is torn"
     elif case == "cut":
-        assert read("data") != b"aabb" + OLD[4:], "it is written to, and not cut"
+        assert read("data") != b"a" * 4094 + b"bb" + OLD, "it is written to, and not cut"
     elif case in ("early", "late", "first"):
         assert read("data") == OLD or read("other") == NEW, "what it relies on isn't there"
     elif case in ("fsync", "datasync", "grown") and is_safe:
@@ -258,6 +309,16 @@ def check(case):
         assert b"\0" not in read("data"), "it is longer, and has zeros"
     elif case == "hasty" and is_safe:
         assert read("data") == NEW, "it isn't there"
+    elif case == "between":
+        assert os.path.getsize("data") in (SIZE, SIZE + 6000), "it ends within what was written"
+    elif case in ("committed", "early_commit") and is_safe:
+        assert not os.path.exists("log"), "it has its old name"
+    elif case == "sized" and is_safe:
+        assert os.path.getsize("log") == 100, "it isn't as long"
+    elif case == "moved":
+        assert not (os.path.exists("log") and os.path.exists("one/log")), "it has both names"
+    elif case == "cut_within":
+        assert read("data") in (OLD, OLD[:4]), "it has zeros, and its old length"
     elif case == "linked":
         assert os.path.samefile("data", "second"), "the second name isn't the file's"
     elif case == "exchanged":
