@@ -195,7 +195,7 @@ bool serve_file_call(long number, const long words[6], long *result)
         (uint64_t)words[1], (uint64_t)words[2], (uint64_t)words[3], (uint64_t)words[4],
         (uint64_t)words[5]};
     struct file_call call = {
-        .number = number, .words = words, .kind = wulgach_seen_logged_call((uint64_t)number)};
+        .number = number, .words = words, .kind = wulgach_seen_logged_call_of((uint64_t)number)};
     if (call.kind == WULGACH_CALL_NOTHING)
         return false;
     wulgach_seen_words_of_call(&whole, &call.is);
@@ -232,7 +232,7 @@ bool trap_files(void)
     put_rows(&filter, before_calls, COUNT(before_calls));
     for (uint32_t call = 0; call < ALL_CALLS; call++) {
         struct filter_row row = row_of_call(call);
-        if (wulgach_seen_logged_call(call) != WULGACH_CALL_NOTHING)
+        if (wulgach_seen_logged_call_of(call) != WULGACH_CALL_NOTHING)
             put_rows(&filter, &row, 1);
     }
     return add_filter(&filter);

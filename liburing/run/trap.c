@@ -198,7 +198,7 @@ static bool is_of_trap(long call, const ucontext_t *at)
         return is_logging() && (int)registers[REG_RDI] != SIGSYS && registers[REG_RSI] &&
                !is_our_own(call, registers);
     default:
-        return wulgach_seen_logged_call((uint64_t)call) != WULGACH_CALL_NOTHING &&
+        return wulgach_seen_logged_call_of((uint64_t)call) != WULGACH_CALL_NOTHING &&
                !is_our_own(call, registers);
     }
 }

@@ -229,7 +229,9 @@ static FILE *record_of_process(void)
 {
     char path[4096];
     snprintf(path, sizeof path, "%s.%d", chosen_by.recorded_at, (int)getpid());
+    begin_low_number();
     int fd = moved_high(open(path, O_WRONLY | O_CREAT | O_APPEND | O_CLOEXEC, 0666));
+    end_low_number();
     FILE *file = fd < 0 ? NULL : fdopen(fd, "a");
     demand(file != NULL, "the file of WULGACH_CHOICES can't be written");
     return file;

@@ -1,4 +1,5 @@
 /* Turns among the choices of policy.c. */
+#define _GNU_SOURCE
 #include "choices/turns.h"
 #include "choices/policy.h"
 #include "wulgach_enter.h"

@@ -5,6 +5,7 @@
 
 #include <stdbool.h>
 #include <stdint.h>
+#include <time.h>
 
 /* The program's threads take turns from here on: whether these are chosen by the policy. The record
  * and the account are there, as if a ring had been set up. */
@@ -18,6 +19,10 @@ void wulgach_record_turn(uint64_t at, uint32_t count, uint32_t way, const char *
 /* Calls that the layer makes for its record and its trace are begun and have ended: no thread hears
  * of them. NULL where none take turns. */
 extern void (*wulgach_tell_own_calls)(bool begin);
+
+/* What a clock says, in nanoseconds, amid such calls; 0: the kernel is asked. NULL where none take
+ * turns. */
+extern uint64_t (*wulgach_tell_time)(clockid_t clock);
 
 static inline void tell_own_calls(bool begin)
 {

@@ -38,7 +38,7 @@ SEEN bool wulgach_is_synced_number(int fd);
 /* The library's own functions under names that are seen; the last two are of a call without memory
  * and of a signal, and not of the log. */
 #define LOGGING_CALLS(CALL) \
-    CALL(uint32_t, logged_call, (uint64_t number), (number)) \
+    CALL(uint32_t, logged_call_of, (uint64_t number), (number)) \
     CALL(bool, bits_of_call, (uint64_t number, struct wulgach_bits * bits), (number, bits)) \
     CALL(bool, is_made, (uint64_t number), (number)) \
     CALL(uint32_t, written_as, (uint64_t length, bool is_on_disk, bool is_output), \

@@ -173,10 +173,13 @@ static void serve_ring(struct trap *trap)
     struct beginning beginning = {trap, false};
     call_on(own_stack(), point_before_ring, trap);
     int kept = errno;
+    self->ring_calls++;
     if (!self->is_in_ring)
         call_on(own_stack() - SERVING_STACK, begin_apart, &beginning);
     if (!beginning.is_served)
         serve_by_layer(trap->at, trap->call);
+    self->ring_calls--;
+    world->has_rings |= trap->call == SYS_io_uring_setup;
     errno = kept;
     note_call(trap, trap->at->uc_mcontext.gregs[REG_RAX]);
     change_world();
@@ -235,14 +238,14 @@ static void catch_signal(
 void catch_calls(void)
 {
     kernel(SYS_prctl, PR_SET_SYSCALL_USER_DISPATCH, PR_SYS_DISPATCH_ON, passing_begins,
-        passing_ends - passing_begins);
+        passing_ends - passing_begins, &self->is_trapped);
 }
 
 /* Without it nothing can be done: the kernel says so here. */
 static void demand_dispatch(void)
 {
     if (kernel(SYS_prctl, PR_SET_SYSCALL_USER_DISPATCH, PR_SYS_DISPATCH_ON, passing_begins,
-            passing_ends - passing_begins) == 0)
+            passing_ends - passing_begins, &self->is_trapped) == 0)
         return;
     enum { STOPPED = 125 };
     say_line("--threads: this kernel has no Syscall User Dispatch (prctl(2), Linux 5.11)");

@@ -117,7 +117,7 @@ bool is_restarted(void)
     return actions[self->by].flags & SA_RESTART;
 }
 
-static struct thread *thread_of_number(int number)
+struct thread *thread_of_number(int number)
 {
     for (int i = 0; i < world->count; i++) {
         struct thread *thread = world->threads + i;

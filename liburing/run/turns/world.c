@@ -70,7 +70,7 @@ struct thread *take_slot(void)
         end_run(STOPPED);
     }
     struct thread *thread = world->threads + slot;
-    *thread = (struct thread){.state = READY, .is_alive = 1};
+    *thread = (struct thread){.state = READY, .is_alive = 1, .is_trapped = 1};
     place_new_thread(thread);
     if (slot >= world->count)
         world->count = slot + 1;
