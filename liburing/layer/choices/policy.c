@@ -306,6 +306,8 @@ void record_choice(uint64_t at, uint32_t count, uint32_t chosen, const char *wha
 {
     pthread_mutex_lock(&chosen_by.lock);
     note_choice(what);
+    if (wulgach_hear_choice)
+        wulgach_hear_choice(at, count, chosen, what);
     record("%" PRIu64 " %" PRIu32 " %" PRIu32 " %s\n", at, chosen, count, what);
     pthread_mutex_unlock(&chosen_by.lock);
 }
@@ -323,6 +325,8 @@ void record_turn(uint64_t at, uint32_t count, uint32_t way, const char *what)
 {
     tell_own_calls(true);
     note_choice(what);
+    if (wulgach_hear_choice)
+        wulgach_hear_choice(at, count, way, what);
     record("%" PRIu64 " %" PRIu32 " %" PRIu32 " %s\n", at, way, count, what);
     tell_own_calls(false);
 }

@@ -89,13 +89,35 @@ static int chosen_way(const int *candidates, int count, int first, int rolled)
     return way;
 }
 
+/* What is met, for `explore --coverage`. */
+static void note_kind_of_turn(int picked)
+{
+    bool stays = picked == slot_of(self);
+    switch (self->call) {
+    case POINT_AT_LOCK:
+    case YIELD_AT_LOCK:
+    case SYS_futex:
+        wulgach_note_turn(stays ? WULGACH_STAYS_AT_LOCK : WULGACH_PASSES_AT_LOCK);
+        return;
+    case SYS_io_uring_setup:
+    case SYS_io_uring_enter:
+    case SYS_io_uring_register:
+        wulgach_note_turn(stays ? WULGACH_STAYS_AT_RING : WULGACH_PASSES_AT_RING);
+        return;
+    default:
+        wulgach_note_turn(stays ? WULGACH_STAYS_AT_CALL : WULGACH_PASSES_AT_CALL);
+    }
+}
+
 int pick_of(const int *candidates, int count)
 {
     if (count == 1)
         return candidates[0];
     int first = first_way(candidates, count), rolled = rolled_way(candidates, count, first);
     world->choices++;
-    return candidates[(first + chosen_way(candidates, count, first, rolled)) % count];
+    int picked = candidates[(first + chosen_way(candidates, count, first, rolled)) % count];
+    note_kind_of_turn(picked);
+    return picked;
 }
 
 void change_world(void)
@@ -144,6 +166,7 @@ static struct thread *take_turn(int count)
         next->reason = is_over && !(next->is_ready && next->is_ready(next->argument)) ? TIME_IS_OVER
                                                                                       : IS_READY;
         next->state = READY;
+        wulgach_note_turn(next->reason == IS_READY ? WULGACH_WAIT_ENDS : WULGACH_LIMIT_ENDS);
     }
     return next;
 }
@@ -223,6 +246,7 @@ enum reason wait_until(bool (*is_ready)(void *), void *argument, bool is_outside
     self->reason = NO_REASON;
     self->ticket = world->tickets++;
     self->state = WAITS;
+    note_wait();
     go_on_as(choose_next());
     while (self->goes_on_with) {
         go_on_with_ring();

@@ -183,6 +183,7 @@ void tell_end(void);
 void begin_log(void);
 void note_call(const struct trap *trap, long result);
 void note_event(const char *what, long number);
+void note_wait(void);
 void end_log(void);
 void compare_end(void);
 

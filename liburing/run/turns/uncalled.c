@@ -4,6 +4,7 @@
 #define _GNU_SOURCE
 #include "uncalled.h"
 #include "../../layer/calls/uncalled.h"
+#include "../../layer/choices/turns.h"
 #include "descriptors.h"
 #include "dispatch.h"
 
@@ -111,6 +112,7 @@ void go_on_with_ring(void)
     world->points++;
     world->now += 1000;
     note_event("ring goes on:", self->goes_on_with - 1);
+    wulgach_note_turn(WULGACH_RING_GOES_ON);
     note_own_calls(true);
     call_on(top, go_on, NULL);
     note_own_calls(false);
