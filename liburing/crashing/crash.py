@@ -14,7 +14,7 @@ from crashing.labels import Chosen
 from crashing.pictures import NAMES, draw, printing
 from crashing.remarks import Remarks
 from crashing.rooms import Room
-from crashing.runs import PRELOADED, Run
+from crashing.runs import PRELOADED, TURNING, Run
 from crashing.volumes import LIBRARY
 from crashing.workers import answers
 from exploring.ending import adopt, children, end_adopted
@@ -232,7 +232,11 @@ def split_words(options):
     options.words = [real(options.words[0]), *options.words[1:]]
     options.check = [real(options.check[0]), *options.check[1:]]
     options.lose = [read_loss(it) for it in options.lose.split(",") if it]
-    for path, target in ((PRELOADED, "out/uring-run.so"), (LIBRARY, "out/volumes.so")):
+    if options.threads:
+        needed = TURNING, "out/uring-threads.so"
+    else:
+        needed = PRELOADED, "out/uring-run.so"
+    for path, target in (needed, (LIBRARY, "out/volumes.so")):
         if not os.path.exists(path):
             stop(f"{path} isn't there: make -C liburing {target}")
 
@@ -428,6 +432,7 @@ def repeated(options, moment, chosen):
     ):
         if value != usual:
             words += [name, str(value)]
+    words += ["--threads"] if options.threads else []
     words += ["--apart"] if options.apart else []
     words += ["--ends"] if options.ends else []
     words += ["--list", options.list] if options.list else []

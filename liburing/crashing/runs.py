@@ -14,10 +14,14 @@ from exploring.ending import children, end_adopted, run_to_end
 from exploring.runs import stop
 
 HERE = os.path.dirname(os.path.dirname(os.path.realpath(__file__)))
-PRELOADED = next(
-    (it for it in (f"{HERE}/out/uring-run.so", f"{HERE}/uring-run.so") if os.path.exists(it)),
-    f"{HERE}/out/uring-run.so",
+PRELOADED, TURNING = (
+    next(
+        (it for it in (f"{HERE}/out/{name}", f"{HERE}/{name}") if os.path.exists(it)),
+        f"{HERE}/out/{name}",
+    )
+    for name in ("uring-run.so", "uring-threads.so")
 )
+RUNNER = f"{HERE}/uring-run"
 
 
 def run_and_end(words, seconds, **how):
@@ -80,10 +84,12 @@ class Run:
         )
         if options.fsync_fails:
             own["WULGACH_SYNC_FAILS"] = str(options.fsync_fails)
-        own["LD_PRELOAD"] = ":".join([PRELOADED, *filter(None, [os.environ.get("LD_PRELOAD")])])
+        if not options.threads:
+            own["LD_PRELOAD"] = ":".join([PRELOADED, *filter(None, [os.environ.get("LD_PRELOAD")])])
+        words = [*([RUNNER, "--threads", "--"] if options.threads else []), *options.words]
         with open(f"{place}/printed", "wb") as printed, open(f"{place}/said", "wb") as said:
             status = run_and_end(
-                options.words,
+                words,
                 options.seconds,
                 cwd=folder,
                 env={**os.environ, **own},

@@ -16,7 +16,7 @@ class Lanes:
     """What the lines of a log make of the threads, which are the requests of the page: who runs, who waits, who could go on."""
 
     def __init__(self):
-        self.lines, self.threads, self.lane_of, self.running, self.coming = [], [], {}, None, []
+        self.lines, self.threads, self.lane_of, self.running = [], [], {}, None
 
     def take(self, text):
         found = LINE.fullmatch(text)
@@ -26,18 +26,23 @@ class Lanes:
         thread, rest = int(found[1]), found[3]
         choice = CHOICE.fullmatch(rest)
         if choice:
-            self.coming.append(
-                {
-                    "choice": int(choice[1]),
-                    "way": int(choice[2]),
-                    "of": int(choice[3]),
-                    "what": printing(choice[4].encode()),
-                }
-            )
+            self.choose(thread, choice)
         elif found[2] == " ":
             self.add_of(thread, rest, "waits")
         else:
             self.add_of(thread, rest, "runs")
+
+    def choose(self, thread, choice):
+        """A turn is a line of its own, since a lock may make no call; a ring's choice belongs to the step before it."""
+        told = {
+            "choice": int(choice[1]),
+            "way": int(choice[2]),
+            "of": int(choice[3]),
+            "what": printing(choice[4].encode()),
+        }
+        if choice[4].startswith("thread "):
+            self.add_of(thread, choice[4], "runs")
+        self.lines[-1].setdefault("choices", []).append(told)
 
     def add_of(self, thread, text, state):
         """A line of a thread, which has run until then."""
@@ -72,8 +77,6 @@ class Lanes:
             line["answer"] = answer
         if changes:
             line["changes"] = changes
-        if self.coming:
-            line["choices"], self.coming = self.coming, []
         self.lines.append(line)
 
     def requests(self):

@@ -13,6 +13,7 @@
 #include "chance.h"
 #include "clocks.h"
 #include "dates.h"
+#include "logged.h"
 #include "notices.h"
 #include "turns.h"
 #include "watch.h"
@@ -81,6 +82,9 @@ static long serve_row(struct trap *trap)
     const struct row *row = row_of(trap->call);
     if (is_point(trap->call, row))
         make_point(trap->call == SYS_sched_yield || trap->call == YIELD_AT_LOCK);
+    long result;
+    if (serve_logged(trap, &result))
+        return result;
     if (row && row->serve)
         return row->serve(trap);
     change_world();
@@ -197,7 +201,7 @@ static void on_call(int number, siginfo_t *info, void *context)
         give_signal(number, info, at, info->si_code == BY_FILTER);
     else if (trap.call == SYS_rt_sigreturn)
         return_from_program(registers[REG_RSP]);
-    else if (!self || self->own_calls > 0 || asks_kernel(&trap))
+    else if (!self || self->own_calls > 0 || asks_kernel(&trap) || is_of_log(&trap))
         registers[REG_RAX] = pass_on(&trap);
     else if (is_of_ring(&trap))
         serve_ring(&trap);
