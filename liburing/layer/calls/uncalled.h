@@ -1,6 +1,6 @@
 /* Rings with requests on which no thread has a call: these go on all the same, as the kernel's do.
- * When, whoever chooses: the turns of a program's threads (run/turns), or who watches that no thread
- * calls (waiting/watch.c).
+ * When, whoever chooses: the turns of a program's threads (run/turns), or who watches that no
+ * thread calls (waiting/watch.c).
  */
 #ifndef UNCALLED_H
 #define UNCALLED_H

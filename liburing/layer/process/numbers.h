@@ -19,8 +19,8 @@ static inline int lowest_of_own(rlim_t limit)
     return limit > MANY ? HIGH_NUMBER : (int)(limit - limit / SHARE);
 }
 
-/* A descriptor of the layer's own stands under whatever number is free, from here to there: as it is
- * made, or while it is used. */
+/* A descriptor of the layer's own stands under whatever number is free, from here to there: as it
+ * is made, or while it is used. */
 void begin_low_number(void);
 void end_low_number(void);
 

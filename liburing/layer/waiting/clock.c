@@ -13,8 +13,8 @@
 #include <time.h>
 #include <unistd.h>
 
-__attribute__((visibility("default"), externally_visible)) uint64_t (*wulgach_tell_time)(
-    clockid_t clock);
+__attribute__((visibility("default"), externally_visible))
+uint64_t (*wulgach_tell_time)(clockid_t clock);
 
 static bool is_real; /* read when the process's first ring is set up */
 

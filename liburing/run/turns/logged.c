@@ -58,8 +58,7 @@ static void call_on_large(void (*function)(void *), void *argument)
 static void serve(void *argument)
 {
     struct logged *logged = argument;
-    logged->is_served = serve_file_call(
-        logged->trap->call, logged->trap->words, &logged->result);
+    logged->is_served = serve_file_call(logged->trap->call, logged->trap->words, &logged->result);
 }
 
 bool serve_logged(const struct trap *trap, long *result)

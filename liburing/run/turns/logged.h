@@ -1,4 +1,5 @@
-/* Calls that change files, where the run has a log of these for power failures (layer/traces/log.h). */
+/* Calls that change files, where the run has a log of these for power failures
+ * (layer/traces/log.h). */
 #ifndef TURNS_LOGGED_H
 #define TURNS_LOGGED_H
 

@@ -12,8 +12,8 @@
 #include <ucontext.h>
 
 /* Of a slot's memory the lowest part is for signals while a call of a ring begins, the next for
- * going on with a ring while the thread waits, then one for that beginning, and the last for serving
- * a call. */
+ * going on with a ring while the thread waits, then one for that beginning, and the last for
+ * serving a call. */
 enum {
     MOST_THREADS = 1024,
     MOST_RINGS = 64,

@@ -1,5 +1,5 @@
-/* Rings on which no thread calls: a request that was submitted goes on all the same. One that can is
- * a candidate as a thread is, once the thread that has called on it last waits elsewhere or has
+/* Rings on which no thread calls: a request that was submitted goes on all the same. One that can
+ * is a candidate as a thread is, once the thread that has called on it last waits elsewhere or has
  * ended; a thread that waits goes on with it. */
 #ifndef TURNS_UNCALLED_H
 #define TURNS_UNCALLED_H

@@ -43,7 +43,7 @@ static void *sync_for_others(void *unused)
 /* A record is its number, and is committed once so many are synced. */
 static void commit(void)
 {
-    char record[SIZE + 1], line[32];
+    char record[32], line[32];
     pthread_mutex_lock(&lock);
     int own = ++written;
     snprintf(record, sizeof record, "%07d\n", own);

@@ -66,8 +66,8 @@ static void end(void)
 static void hear_ends(void)
 {
     told = eventfd(0, 0);
-    WANT(told >= 0 && call(SYS_io_uring_register, ring.fd, IORING_REGISTER_EVENTFD, (long)&told, 1,
-                          0, 0) == 0);
+    WANT(told >= 0 &&
+         call(SYS_io_uring_register, ring.fd, IORING_REGISTER_EVENTFD, (long)&told, 1, 0, 0) == 0);
 }
 
 static void want_end(void)
@@ -117,8 +117,7 @@ static void of_timed(void)
     struct __kernel_timespec time = {0, 5000000};
     begin();
     hear_ends();
-    push((struct io_uring_sqe){
-        .opcode = IORING_OP_TIMEOUT, .addr = (uintptr_t)&time, .len = 1});
+    push((struct io_uring_sqe){.opcode = IORING_OP_TIMEOUT, .addr = (uintptr_t)&time, .len = 1});
     submit(1);
     want_end();
     end();
@@ -161,8 +160,7 @@ static void of_ended(void)
 {
     pthread_t thread;
     begin();
-    WANT(pthread_create(&thread, NULL, submit_alone, NULL) == 0 &&
-         pthread_join(thread, NULL) == 0);
+    WANT(pthread_create(&thread, NULL, submit_alone, NULL) == 0 && pthread_join(thread, NULL) == 0);
     want_letters("e");
     end();
 }
