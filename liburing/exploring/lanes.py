@@ -16,7 +16,8 @@ class Lanes:
     """What the lines of a log make of the threads, which are the requests of the page: who runs, who waits, who could go on."""
 
     def __init__(self):
-        self.lines, self.threads, self.lane_of, self.running = [], [], {}, None
+        self.lines, self.threads, self.running = [], [], None
+        self.lane_of, self.state_of = {}, {}
 
     def take(self, text):
         found = LINE.fullmatch(text)
@@ -40,18 +41,20 @@ class Lanes:
             "of": int(choice[3]),
             "what": printing(choice[4].encode()),
         }
-        if choice[4].startswith("thread "):
-            self.add_of(thread, choice[4], "runs")
+        if choice[4].startswith("thread ") and thread in self.lane_of:
+            self.add_of(thread, choice[4].split(" ", 2)[2], self.state_of.get(thread, "runs"))
         self.lines[-1].setdefault("choices", []).append(told)
 
     def add_of(self, thread, text, state):
         """A line of a thread, which has run until then."""
         changes = self.turn_to(thread)
         lane, call = self.lane_of[thread], CALL.fullmatch(text)
-        changes.append({"request": lane, "is": state, "why": call[1] if call else text})
+        if state == "runs" or self.state_of.get(thread) != state:
+            changes.append({"request": lane, "is": state, "why": call[1] if call else text})
+        self.state_of[thread] = state
         if text.startswith(LAST):
             changes.append({"request": lane, "is": "ended", "result": 0})
-            del self.lane_of[thread]
+            del self.lane_of[thread], self.state_of[thread]
             self.running = None
         self.add(f"thread {thread}: {call[1] if call else text}", changes, call and call[2])
         if state == "waits":
@@ -72,9 +75,8 @@ class Lanes:
         return changes
 
     def add(self, text, changes, answer=None):
-        line = {"line": len(self.lines) + 1, "text": printing(text.encode()), "answer": ""}
-        if answer is not None:
-            line["answer"] = answer
+        line = {"line": len(self.lines) + 1, "text": printing(text.encode())}
+        line["answer"] = "" if answer is None else answer
         if changes:
             line["changes"] = changes
         self.lines.append(line)

@@ -157,7 +157,8 @@ def draw(options, program, run, title):
         ]
         if run.turns:
             passing = other and other.turns and lanes_of(other.turns)
-            runs = [*pair_of("threads", lanes_of(run.turns), passing, run, other, name), *runs]
+            lanes = list(pair_of("threads", lanes_of(run.turns), passing, run, other, name))
+            runs = [*map(without_empty, lanes), *runs]
     except (Differs, OSError) as why:
         stop(f"no page: {why}")
     write(
@@ -165,6 +166,14 @@ def draw(options, program, run, title):
         options.page,
         options.json,
     )
+
+
+def without_empty(run):
+    """Not each line of threads has an answer."""
+    for line in run["lines"]:
+        if not line["answer"]:
+            del line["answer"]
+    return run
 
 
 def pair_of(group, data, passing, run, other, name):
