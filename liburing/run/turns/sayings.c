@@ -222,8 +222,8 @@ static long mounts_numbered_anew(const char *path)
         int own = number_of_mount(strtol(line, &end, 10), mounts, &count),
             above = number_of_mount(strtol(end, &end, 10), mounts, &count);
         size_t rest = strcspn(end, "\n") + 1;
-        put += snprintf(said + put, sizeof said - (size_t)put, "%d %d%.*s", own, above, (int)rest,
-            end);
+        put += snprintf(
+            said + put, sizeof said - (size_t)put, "%d %d%.*s", own, above, (int)rest, end);
         end += end[rest - 1] == '\n' ? rest : rest - 1;
     }
     return file_with(said, put < (long)sizeof said ? put : (long)sizeof said - 1);

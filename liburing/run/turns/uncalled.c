@@ -29,10 +29,12 @@ static bool is_amid_call(const struct thread *thread)
            !is_asleep(thread);
 }
 
+/* (one that waits for the ring itself, by its descriptor, can go on) */
 static bool is_elsewhere(int32_t caller)
 {
     const struct thread *thread = thread_of_number(caller);
-    return !thread || thread->state == WAITS;
+    return !thread || (thread->state == WAITS && thread->limit > world->now &&
+                          !(thread->is_ready && thread->is_met));
 }
 
 /* Who goes on with a ring: who has called on it last, or else the first that waits. */
