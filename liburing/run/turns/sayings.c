@@ -123,7 +123,7 @@ static long read_whole(const char *path, char *room, size_t size)
 static bool is_count(const char *line, bool is_of_memory)
 {
     static const char *const counts[] = {
-        "Vm", "Rss", "Hugetlb", "voluntary", "nonvoluntary", "Cpus_", "Mems_", "x86_"};
+        "Vm", "Rss", "Hugetlb", "SigQ", "voluntary", "nonvoluntary", "Cpus_", "Mems_", "x86_"};
     if (is_of_memory && strncmp(line, "hierarchical", 12) != 0)
         return true;
     for (size_t i = 0; i < sizeof counts / sizeof *counts; i++)
