@@ -97,7 +97,7 @@ class Program:
         if not run.has_ring:
             sys.stdout.buffer.write(run.output)
             stop(
-                f"{self.words[0]} set no ring up on the layer (status {run.status}): is it linked with it, or run by uring-run?"
+                f"{self.words[0]} set no ring up on the layer (status {run.status}): try `liburing/uring-run` before it, or link it with the layer"
             )
         return run
 

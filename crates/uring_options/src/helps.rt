@@ -52,6 +52,8 @@ The reasons:
   doomed: a cancel chose it
   of a cancel of one: chose M, M is running, found none
   of a cancel of all: chose M M .., found none
+With --linux also waits for M: its group is deferred (a drain waits before it),
+and doomed: a drain, which this ring refuses.
 A line that is empty or begins with # is passed over. Any other that is no step
 is answered bad line, and told on standard error with its number and what is
 wrong with it; the status at the end is then 4. The first line may say the
