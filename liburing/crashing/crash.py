@@ -12,7 +12,7 @@ from crashing.epochs import Left, read_epochs
 from crashing.images import image_of
 from crashing.remarks import Remarks
 from crashing.report import Report
-from crashing.runs import PRELOADED, Run
+from crashing.runs import PRELOADED, TURNING, Run
 from crashing.shortening import Example
 from crashing.showing import Told
 from crashing.telling import tell_kinds
@@ -197,7 +197,11 @@ def split_words(options):
         stop(f"--disk {options.disk}: there is no such folder")
     if options.keep:
         os.makedirs(options.keep, exist_ok=True)
-    for path, target in ((PRELOADED, "out/uring-run.so"), (LIBRARY, "out/volumes.so")):
+    if options.threads:
+        needed = TURNING, "out/uring-threads.so"
+    else:
+        needed = PRELOADED, "out/uring-run.so"
+    for path, target in (needed, (LIBRARY, "out/volumes.so")):
         if not os.path.exists(path):
             stop(f"{path} isn't there: make -C liburing {target}")
 

@@ -15,10 +15,14 @@ from exploring.ending import children, end_adopted, run_to_end
 from exploring.runs import stop
 
 HERE = os.path.dirname(os.path.dirname(os.path.realpath(__file__)))
-PRELOADED = next(
-    (it for it in (f"{HERE}/out/uring-run.so", f"{HERE}/uring-run.so") if os.path.exists(it)),
-    f"{HERE}/out/uring-run.so",
+PRELOADED, TURNING = (
+    next(
+        (it for it in (f"{HERE}/out/{name}", f"{HERE}/{name}") if os.path.exists(it)),
+        f"{HERE}/out/{name}",
+    )
+    for name in ("uring-run.so", "uring-threads.so")
 )
+RUNNER = f"{HERE}/uring-run"
 
 
 TAIL, LINES = 4096, 5  # of what a run printed: the bytes and the lines that are told
@@ -98,7 +102,10 @@ class Run:
         )
         if options.fsync_fails:
             own["WULGACH_SYNC_FAILS"] = str(options.fsync_fails)
-        own["LD_PRELOAD"] = ":".join([PRELOADED, *filter(None, [os.environ.get("LD_PRELOAD")])])
+        if options.threads:
+            words = [RUNNER, "--threads", "--", *words]
+        else:
+            own["LD_PRELOAD"] = ":".join([PRELOADED, *filter(None, [os.environ.get("LD_PRELOAD")])])
         with open(f"{place}/earlier", "rb") as earlier, open(
             f"{place}/printed", "wb"
         ) as printed, open(f"{place}/said", "wb") as said:

@@ -97,6 +97,7 @@ def repeated(options, epochs):
     ):
         if value != usual:
             words += [name, str(value)]
+    words += ["--threads"] if options.threads else []
     words += ["--apart"] if options.apart else []
     words += ["--ends"] if options.ends else []
     lists = "/".join(it.policy.removeprefix("list:") for it in epochs)

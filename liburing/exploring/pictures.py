@@ -10,6 +10,7 @@ from exploring.traces import URING
 HERE = os.path.dirname(os.path.dirname(os.path.realpath(__file__)))
 # Where the page's parts lie: in the repository, or where the package has them.
 sys.path[:0] = [f"{HERE}/page", f"{os.path.dirname(HERE)}/page"]
+from exploring.lanes import lanes_of  # noqa: E402
 from parts import write  # noqa: E402
 from recorded import Differs, explained, printing, put_beside  # noqa: E402
 
@@ -145,8 +146,19 @@ def draw(options, program, run, title):
         runs = [
             it
             for index, (trace, passing) in enumerate(pairs)
-            for it in pair_of(index, trace, passing, run, other, name)
+            for it in pair_of(
+                f"ring {index}",
+                data_of(trace),
+                passing and data_of(passing),
+                run,
+                other,
+                name,
+            )
         ]
+        if run.turns:
+            passing = other and other.turns and lanes_of(other.turns)
+            lanes = list(pair_of("threads", lanes_of(run.turns), passing, run, other, name))
+            runs = [*map(without_empty, lanes), *runs]
     except (Differs, OSError) as why:
         stop(f"no page: {why}")
     write(
@@ -156,21 +168,29 @@ def draw(options, program, run, title):
     )
 
 
-def pair_of(index, trace, passing, run, other, name):
-    """The data of one ring in both runs."""
+def without_empty(run):
+    """Not each line of threads has an answer."""
+    for line in run["lines"]:
+        if not line["answer"]:
+            del line["answer"]
+    return run
+
+
+def pair_of(group, data, passing, run, other, name):
+    """The data of one ring, or of the threads, in both runs."""
     first = {
-        "group": f"ring {index}",
+        "group": group,
         "name": "the run that fails" if run.fails() else "the run",
         "told": told_of(run),
-        **data_of(trace),
+        **data,
     }
     yield first
-    if passing is not None:
+    if passing:
         second = {
-            "group": f"ring {index}",
+            "group": group,
             "name": f"one that passes: {name}",
             "told": told_of(other),
-            **data_of(passing),
+            **passing,
         }
         put_beside(first, second)
         yield second

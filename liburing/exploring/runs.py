@@ -195,6 +195,9 @@ class Hand:
             variables["WULGACH_CHOICES"] = f"{self.room}/{index}-choices"
         if is_tracing:
             variables["WULGACH_TRACE"] = f"{self.room}/{index}-trace"
+            # (only a program whose threads take turns writes it)
+            variables["WULGACH_TURNS"] = f"{self.room}/{index}-turns"
+            variables["WULGACH_LANES"] = "yes"
         return variables
 
     def run_all(self, policies, is_tracing, is_recorded, more):
@@ -261,6 +264,9 @@ class Hand:
             if kind.startswith("trace."):
                 with open(path, errors="replace") as file:
                     run.traces.append(file.read())
+            elif kind == "turns":
+                with open(path, errors="replace") as file:
+                    run.turns = file.read()
             elif os.path.getsize(path):
                 run.read_choices(path)
             os.unlink(path)
@@ -280,7 +286,7 @@ def read_rules(account):
 
 
 class Run:
-    """A run: its status, what it printed, how many choices it made and in which order; and where they were recorded, its choices (number, way, of how many, in words) and its traces."""
+    """A run: its status, what it printed, how many choices it made and in which order; and where they were recorded, its choices (number, way, of how many, in words), its traces, and the log of its turns."""
 
     def __init__(self, environment, told, output):
         status, is_late, rings, choosers, self.choice_count, self.order = told
@@ -291,7 +297,7 @@ class Run:
         )
         self.status = "none: it took too long" if is_late else status
         self.has_ring = rings > 0
-        self.choices, self.record, self.traces = [], [], []
+        self.choices, self.record, self.traces, self.turns = [], [], [], ""
         if choosers > 1:
             stop("more than one process of the program chooses, and a list is one process's")
 

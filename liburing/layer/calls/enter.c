@@ -20,6 +20,7 @@
 #include "rings/ring.h"
 #include "traces/trace.h"
 #include "waiting/waiting.h"
+#include "waiting/watch.h"
 #include "wulgach_enter.h"
 #include "wulgach_sleeps.h"
 #include "wulgach_taking.h"
@@ -330,6 +331,8 @@ static int64_t enter_ring(struct ring *ring, struct waiting *waiting, uint32_t s
             break;
         default:
             do_duties_at_return(ring);
+            if (policy() != IN_ORDER && ring->requests.count > 0)
+                watch_for_calls();
         }
     return result;
 }
@@ -344,13 +347,14 @@ static int do_next(struct ring **ring, int *fd, const struct waiting *waiting, u
         return *fd;
     case WULGACH_CHECKS_DESCRIPTOR:
         *ring = lock_ring(*fd);
-        return *ring ? 0 : wulgach_no_ring_fault(counts_as_open(*fd, false));
+        return *ring ? 0 : wulgach_no_ring_fault(is_open_besides(*fd));
     case WULGACH_COUNTS_CALL:
         (*ring)->call_number++;
         return 0;
     default:
-        return wulgach_entering_fault(&(*ring)->issuer, (uint32_t)this_thread(), waiting->to_submit,
-            waiting->flags & IORING_ENTER_GETEVENTS);
+        (*ring)->caller = this_thread();
+        return wulgach_entering_fault(&(*ring)->issuer, (uint32_t)(*ring)->caller,
+            waiting->to_submit, waiting->flags & IORING_ENTER_GETEVENTS);
     }
 }
 

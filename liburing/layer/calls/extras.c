@@ -223,9 +223,9 @@ static struct ring *find_receiver(
 {
     *to = (struct wulgach_receiver){0};
     struct ring *target = wulgach_may_be_ring(submission_of(entry)) ? hold_ring(entry->fd) : NULL;
-    to->is_open = target || (wulgach_message_is_by_slot(submission_of(entry))
-                                    ? has_slot(ring, entry)
-                                    : counts_as_open(entry->fd, false));
+    to->is_open = target ||
+                  (wulgach_message_is_by_slot(submission_of(entry)) ? has_slot(ring, entry)
+                                                                    : is_open_besides(entry->fd));
     to->is_ring = target;
     to->is_sender = target == ring;
     to->is_disabled = target && target->issuer.is_disabled;

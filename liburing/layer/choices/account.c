@@ -36,6 +36,19 @@ static const char *const names[RULE_COUNT] = {
     [ENTRY_HAS_FAULT] = "call: takes an entry with a fault",
 };
 
+static const char *const names_of_turns[WULGACH_TURN_COUNT] = {
+    [WULGACH_STAYS_AT_LOCK] = "turn at a lock: the thread goes on",
+    [WULGACH_PASSES_AT_LOCK] = "turn at a lock: another goes on",
+    [WULGACH_STAYS_AT_RING] = "turn at a call of a ring: the thread goes on",
+    [WULGACH_PASSES_AT_RING] = "turn at a call of a ring: another goes on",
+    [WULGACH_STAYS_AT_CALL] = "turn at another call: the thread goes on",
+    [WULGACH_PASSES_AT_CALL] = "turn at another call: another goes on",
+    [WULGACH_WAIT_ENDS] = "turn: what a thread waits for has come",
+    [WULGACH_LIMIT_ENDS] = "turn: the time of a wait is over",
+    [WULGACH_SIGNAL_ENDS] = "turn: a signal ends a wait",
+    [WULGACH_RING_GOES_ON] = "turn: a ring goes on though nobody calls",
+};
+
 static struct account *shared;
 static uint64_t hash; /* of this process's choices */
 static pid_t hashing_process; /* a forked child has choices of its own */
@@ -106,6 +119,18 @@ void note_rules(enum rule rule, uint64_t count)
 void note_rule(enum rule rule)
 {
     note_rules(rule, 1);
+}
+
+void begin_turn_rules(void)
+{
+    for (int i = 0; account() && i < WULGACH_TURN_COUNT; i++)
+        memcpy(shared->rules[RULE_COUNT + i].name, names_of_turns[i], strlen(names_of_turns[i]));
+}
+
+void note_turn_rule(enum wulgach_kind_of_turn turn)
+{
+    if (has_account())
+        shared->rules[RULE_COUNT + (int)turn].count++;
 }
 
 _Static_assert(sizeof(struct account) <= ACCOUNT_SIZE, "an account fits its file");

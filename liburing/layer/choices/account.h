@@ -6,6 +6,8 @@
 #ifndef ACCOUNT_H
 #define ACCOUNT_H
 
+#include "choices/turns.h"
+
 #include <stdbool.h>
 #include <stdint.h>
 
@@ -36,6 +38,9 @@ enum rule {
     RULE_COUNT
 };
 
+/* What is met besides where the program's threads take turns (enum wulgach_kind_of_turn). */
+enum { ROW_COUNT = RULE_COUNT + WULGACH_TURN_COUNT };
+
 enum { ACCOUNT_SIZE = 4096, RULE_NAME = 56 };
 
 /* The file, as `explore` reads it. What stands before the rules is of one run, and whoever begins a
@@ -49,7 +54,7 @@ struct account {
     struct {
         char name[RULE_NAME];
         _Atomic uint64_t count;
-    } rules[RULE_COUNT];
+    } rules[ROW_COUNT];
 };
 
 /* The account, mapped when it is first asked for; or NULL: none is wanted. */
@@ -63,5 +68,9 @@ void note_made_ring(void);
 void note_choice(const char *what);
 void note_rule(enum rule rule);
 void note_rules(enum rule rule, uint64_t count);
+
+/* The program's threads take turns: so there are rows of these; and what was met of them. */
+void begin_turn_rules(void);
+void note_turn_rule(enum wulgach_kind_of_turn turn);
 
 #endif

@@ -229,7 +229,9 @@ static FILE *record_of_process(void)
 {
     char path[4096];
     snprintf(path, sizeof path, "%s.%d", chosen_by.recorded_at, (int)getpid());
+    begin_low_number();
     int fd = moved_high(open(path, O_WRONLY | O_CREAT | O_APPEND | O_CLOEXEC, 0666));
+    end_low_number();
     FILE *file = fd < 0 ? NULL : fdopen(fd, "a");
     demand(file != NULL, "the file of WULGACH_CHOICES can't be written");
     return file;
@@ -304,6 +306,8 @@ void record_choice(uint64_t at, uint32_t count, uint32_t chosen, const char *wha
 {
     pthread_mutex_lock(&chosen_by.lock);
     note_choice(what);
+    if (wulgach_hear_choice)
+        wulgach_hear_choice(at, count, chosen, what);
     record("%" PRIu64 " %" PRIu32 " %" PRIu32 " %s\n", at, chosen, count, what);
     pthread_mutex_unlock(&chosen_by.lock);
 }
@@ -321,6 +325,8 @@ void record_turn(uint64_t at, uint32_t count, uint32_t way, const char *what)
 {
     tell_own_calls(true);
     note_choice(what);
+    if (wulgach_hear_choice)
+        wulgach_hear_choice(at, count, way, what);
     record("%" PRIu64 " %" PRIu32 " %" PRIu32 " %s\n", at, way, count, what);
     tell_own_calls(false);
 }

@@ -119,8 +119,7 @@ static uint32_t count_requests(const struct ways *ways)
     return ways->of.ready + ways->of.issuable;
 }
 
-/* Says what going on with a request means: before it is done, since it may free the request. */
-static void describe(char *text, size_t size, const struct request *request)
+void describe_way(char *text, size_t size, const struct request *request)
 {
     snprintf(text, size, "%s request %" PRIu64 " (%s)",
         request->course.has_started ? "finish" : "issue", request->number,
@@ -131,7 +130,7 @@ static void take_way(
     struct ring *ring, struct request *way, uint64_t at, uint32_t chosen, uint32_t count)
 {
     char what[96];
-    describe(what, sizeof what, way);
+    describe_way(what, sizeof what, way);
     trace_note(
         ring, "choice %" PRIu64 " is %" PRIu32 " of %" PRIu32 ": %s", at, chosen, count, what);
     go_on_with(ring, way);

@@ -15,6 +15,9 @@ bool reserve_ways(struct ring *ring, size_t count);
 void note_running(struct ring *ring, struct request *request);
 void note_patient(struct ring *ring, struct request *request);
 
+/* Says what going on with a request means: before it is done, since it may free the request. */
+void describe_way(char *text, size_t size, const struct request *request);
+
 /* Goes on by one choice between all that can go on, of which this is first in order, and, if
  * `may_return`, returning. */
 enum progress go_on_by_choice(struct ring *ring, struct request *first, bool may_return);

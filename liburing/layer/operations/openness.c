@@ -2,11 +2,13 @@
  * decision. */
 #define _GNU_SOURCE
 #include "operations/openness.h"
+#include "process/numbers.h"
 #include "process/process.h"
 #include "wulgach_setup.h"
 
 #include <fcntl.h>
 #include <linux/kcmp.h>
+#include <sched.h>
 #include <stdio.h>
 #include <sys/syscall.h>
 #include <unistd.h>
@@ -27,6 +29,20 @@ bool counts_as_open(int fd, bool is_of_slot)
 {
     struct wulgach_openness openness = openness_of(fd);
     return wulgach_counts_as_open(&openness, is_of_slot);
+}
+
+/* (a handler may have come amid that: so it is asked so often at most) */
+bool is_open_besides(int fd)
+{
+    enum { MOST_ASKED = 1000 };
+    for (int asked = 1;; asked++) {
+        uint64_t before = count_low_numbers();
+        if (!counts_as_open(fd, false))
+            return false;
+        if (asked == MOST_ASKED || !has_had_low_number(before))
+            return true;
+        sched_yield();
+    }
 }
 
 size_t name_of_descriptor(int fd, char name[MOST_OF_NAME])

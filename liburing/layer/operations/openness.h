@@ -13,6 +13,10 @@ struct wulgach_openness openness_of(int fd);
 /* Whether it counts as open, by its number or as what a slot holds. */
 bool counts_as_open(int fd, bool is_of_slot);
 
+/* The same of a number under which no ring was found: the layer's own, which other threads make and
+ * close meanwhile, don't count. */
+bool is_open_besides(int fd);
+
 /* Writes the name in /proc of what it is open on, which isn't ended, and returns how long that is;
  * 0: it has none. */
 enum { MOST_OF_NAME = 64 };

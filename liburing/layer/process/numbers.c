@@ -45,6 +45,30 @@ static int copy_from(int fd, int lowest)
     return copy < 0 ? -errno : copy;
 }
 
+/* ---- numbers that were free ---- */
+
+static uint64_t begun, ended;
+
+void begin_low_number(void)
+{
+    __atomic_add_fetch(&begun, 1, __ATOMIC_SEQ_CST);
+}
+
+void end_low_number(void)
+{
+    __atomic_add_fetch(&ended, 1, __ATOMIC_SEQ_CST);
+}
+
+uint64_t count_low_numbers(void)
+{
+    return __atomic_load_n(&ended, __ATOMIC_SEQ_CST);
+}
+
+bool has_had_low_number(uint64_t before)
+{
+    return __atomic_load_n(&begun, __ATOMIC_SEQ_CST) != before;
+}
+
 /* ---- numbers that the program hardly has, or can't have ---- */
 
 /* The program's limit (getrlimit(2)), and what stands in its place meanwhile. */
@@ -147,10 +171,15 @@ static int made_beyond(int (*make)(void))
 
 int made_high(int (*make)(void))
 {
+    begin_low_number();
     int fd = make();
     if (fd < 0 && errno == EMFILE)
         fd = made_beyond(make);
-    return moved_high(fd);
+    int error = errno;
+    fd = moved_high(fd);
+    end_low_number();
+    errno = error;
+    return fd;
 }
 
 static int make_instance(void)
@@ -233,6 +262,7 @@ void close_parents(void)
         for (; kept[i]; kept[i] &= kept[i] - 1)
             close(i * BITS + __builtin_ctzll(kept[i]));
     left.count = 0;
+    __atomic_store_n(&ended, begun, __ATOMIC_SEQ_CST);
 }
 
 /* ---- locks ---- */
@@ -269,11 +299,13 @@ static bool is_locked(int fd)
     struct wulgach_told_lock told = ask_lock(fd, F_OFD_GETLK, 0, 0);
     if (!wulgach_asks_list_of_locks(&told))
         return wulgach_is_own_lock(&told);
+    begin_low_number();
     int locks = open("/proc/locks", O_RDONLY | O_CLOEXEC);
     bool is_so = wulgach_is_taken_so(
         WULGACH_IS_LOCKED, locks >= 0, locks >= 0 && lists_lock(locks, fd));
     if (locks >= 0)
         close(locks);
+    end_low_number();
     return is_so;
 }
 

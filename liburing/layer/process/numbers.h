@@ -6,6 +6,7 @@
 #define NUMBERS_H
 
 #include <stdbool.h>
+#include <stdint.h>
 #include <sys/resource.h>
 
 /* Where a program may have more than MANY, there is room for the layer's numbers beside its own;
@@ -17,6 +18,15 @@ static inline int lowest_of_own(rlim_t limit)
 {
     return limit > MANY ? HIGH_NUMBER : (int)(limit - limit / SHARE);
 }
+
+/* A descriptor of the layer's own stands under whatever number is free, from here to there: as it
+ * is made, or while it is used. */
+void begin_low_number(void);
+void end_low_number(void);
+
+/* How often that was over; and whether one has stood so since. */
+uint64_t count_low_numbers(void);
+bool has_had_low_number(uint64_t before);
 
 /* A descriptor that was made just now, under such a number in the place of its own; or as it is,
  * where there is none to be had, or it is negative. */

@@ -153,8 +153,9 @@ struct enrolling {
 static int judge(const struct io_uring_rsrc_update *asked)
 {
     int fd = (int)asked->data;
-    bool is_open = counts_as_open(fd, false);
-    return wulgach_enrolling_fault(asked->offset, asked->resv, is_open, is_open && is_ring(fd));
+    bool is_found = is_ring(fd);
+    return wulgach_enrolling_fault(
+        asked->offset, asked->resv, is_found || is_open_besides(fd), is_found);
 }
 
 static int do_next(struct enrolling *enrolling, uint32_t next)

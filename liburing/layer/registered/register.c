@@ -189,9 +189,9 @@ struct calling {
 static void find_called(struct calling *calling)
 {
     struct wulgach_caller *caller = &calling->caller;
-    caller->is_open = counts_as_open(caller->fd, false);
-    calling->ring = caller->is_open ? lock_ring(caller->fd) : NULL;
+    calling->ring = lock_ring(caller->fd);
     caller->is_ring = calling->ring;
+    caller->is_open = caller->is_ring || is_open_besides(caller->fd);
     if (!calling->ring)
         return;
     caller->is_another = wulgach_issuer_is_another(&calling->ring->issuer, (uint32_t)this_thread());

@@ -69,10 +69,12 @@ static int64_t copy_by_pipe(const struct copy *copy)
 {
     sigset_t signals;
     block_signals(&signals);
+    begin_low_number();
     int reader = made_high(make_pipe);
     int64_t copied = -errno;
+    int writer = reader >= 0 ? moved_high(made[1]) : -1;
+    end_low_number();
     if (reader >= 0) {
-        int writer = moved_high(made[1]);
         copied = copy_through(reader, writer, copy);
         close(writer);
         close(reader);

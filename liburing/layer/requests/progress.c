@@ -11,6 +11,7 @@
 #include "choices/outlook.h"
 #include "choices/passing_time.h"
 #include "choices/policy.h"
+#include "choices/turns.h"
 #include "choices/ways.h"
 #include "operations/openness.h"
 #include "operations/operations.h"
@@ -238,8 +239,17 @@ static void finish_running(struct ring *ring, struct request *request)
         do_step_of_finish(ring, &at, (enum wulgach_finish_step)__builtin_ctz(steps));
 }
 
+static void tell_step(const struct ring *ring, const struct request *request)
+{
+    char what[96];
+    describe_way(what, sizeof what, request);
+    wulgach_hear_step(ring->index, what);
+}
+
 void go_on_with(struct ring *ring, struct request *request)
 {
+    if (wulgach_hear_step)
+        tell_step(ring, request);
     if (request->course.has_started)
         finish_running(ring, request);
     else if (issue_waiting(ring, request) && is_one_choice() && can_finish(ring, request))

@@ -338,6 +338,38 @@ struct ring *hold_ring(int fd)
     return ring;
 }
 
+struct ring *hold_uncalled(uint32_t from, bool (*is_elsewhere)(int32_t caller))
+{
+    struct ring *found = NULL;
+    if (pthread_mutex_trylock(&rings_lock) != 0)
+        return NULL;
+    for (struct ring *ring = rings; ring; ring = ring->next)
+        if (is_own(ring) && ring->index >= from && (!found || ring->index < found->index) &&
+            __atomic_load_n(&ring->calls, __ATOMIC_SEQ_CST) == 0 && ring->requests.count > 0 &&
+            is_elsewhere(ring->caller))
+            found = ring;
+    if (found)
+        __atomic_add_fetch(&found->calls, 1, __ATOMIC_SEQ_CST);
+    pthread_mutex_unlock(&rings_lock);
+    return found;
+}
+
+void release_uncalled(struct ring *ring)
+{
+    __atomic_sub_fetch(&ring->calls, 1, __ATOMIC_SEQ_CST);
+}
+
+uint64_t count_calls(void)
+{
+    uint64_t count = 1;
+    if (pthread_mutex_trylock(&rings_lock) != 0)
+        return 0;
+    for (const struct ring *ring = rings; ring; ring = ring->next)
+        count += 1 + __atomic_load_n(&ring->call_number, __ATOMIC_RELAXED);
+    pthread_mutex_unlock(&rings_lock);
+    return count;
+}
+
 static uint64_t last_look; /* when it was last looked as a call ended, in nanoseconds */
 
 static uint64_t coarse_time(void)

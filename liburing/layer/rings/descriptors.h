@@ -12,6 +12,13 @@ void add_ring(struct ring *ring);
 struct ring *hold_ring(int fd);
 void release_ring(struct ring *ring);
 
+/* Those with requests on which no call is, by rising numbers: the first from this one on whose last
+ * caller is elsewhere, as this says. NULL: there is none, or another thread has the lock. And how
+ * many calls there were on all, or 0 then. */
+struct ring *hold_uncalled(uint32_t from, bool (*is_elsewhere)(int32_t caller));
+void release_uncalled(struct ring *ring);
+uint64_t count_calls(void);
+
 /* What this process leaves undone with a ring, as the library says. */
 uint32_t what_is_left(const struct ring *ring);
 

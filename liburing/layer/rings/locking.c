@@ -19,6 +19,31 @@ struct ring *lock_ring(int fd)
     return ring;
 }
 
+/* (where it has no descriptor any more it is closed, which isn't known yet) */
+struct ring *lock_uncalled(uint32_t from, bool (*is_elsewhere)(int32_t caller))
+{
+    struct ring *ring;
+    for (; (ring = hold_uncalled(from, is_elsewhere)); from = ring->index + 1) {
+        if (pthread_mutex_trylock(&ring->lock) == 0) {
+            ring->called_fd = find_descriptor(ring);
+            if (ring->called_fd >= 0)
+                return ring;
+            pthread_mutex_unlock(&ring->lock);
+        }
+        release_uncalled(ring);
+    }
+    return NULL;
+}
+
+void unlock_uncalled(struct ring *ring)
+{
+    int fd = ring->called_fd;
+    wake_sleepers(ring);
+    pthread_mutex_unlock(&ring->lock);
+    visit_ring(ring, fd);
+    release_uncalled(ring);
+}
+
 void call_by(struct ring *ring, int fd)
 {
     if (ring->ready_fd >= 0)

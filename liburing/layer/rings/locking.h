@@ -9,6 +9,12 @@
 struct ring *lock_ring(int fd);
 void unlock_ring(struct ring *ring);
 
+/* The ring of the least number from this on that has requests, a descriptor, and no call on it, and
+ * whose last caller is elsewhere, as this says; with its lock. NULL: there is none, or another
+ * thread has the lock of all rings. No lock is waited for. */
+struct ring *lock_uncalled(uint32_t from, bool (*is_elsewhere)(int32_t caller));
+void unlock_uncalled(struct ring *ring);
+
 /* The lock of a ring is held again in a call by this descriptor, which another thread may have
  * closed: then another that is open stands for it. */
 void call_by(struct ring *ring, int fd);

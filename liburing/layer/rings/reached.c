@@ -5,6 +5,7 @@
  */
 #define _GNU_SOURCE
 #include "rings/reached.h"
+#include "process/numbers.h"
 #include "process/process.h"
 #include "rings/readiness.h"
 #include "rings/waiters.h"
@@ -90,9 +91,23 @@ static enum wulgach_knowledge look_through(struct look *look, is_it *is_it, int 
     return known;
 }
 
+/* (what one thread has open here another one's call isn't to find) */
 static int open_folder(const char *path)
 {
-    return open(path, O_RDONLY | O_DIRECTORY | O_CLOEXEC);
+    begin_low_number();
+    int folder = open(path, O_RDONLY | O_DIRECTORY | O_CLOEXEC), error = errno;
+    if (folder < 0)
+        end_low_number();
+    errno = error;
+    return folder;
+}
+
+static void close_folder(int folder)
+{
+    if (folder < 0)
+        return;
+    close(folder);
+    end_low_number();
 }
 
 static enum wulgach_knowledge is_reached_here(struct look *look, int fd)
@@ -108,8 +123,7 @@ int find_descriptor(const struct ring *ring)
     struct look look = {.ring = ring};
     int folder = open_folder("/proc/thread-self/fd");
     bool is_found = folder >= 0 && look_through(&look, is_reached_here, folder) == WULGACH_IS_SO;
-    if (folder >= 0)
-        close(folder);
+    close_folder(folder);
     if (is_found)
         return look.found;
     return wulgach_is_taken_so(WULGACH_IS_REACHED, folder >= 0, false) ? last : -1;
@@ -128,8 +142,7 @@ bool is_instance_kept_open(void)
     struct look look = {0};
     int folder = open_folder("/proc/thread-self/fd");
     bool is_kept = folder < 0 || look_through(&look, is_kept_open, folder) != WULGACH_IS_NOT_SO;
-    if (folder >= 0)
-        close(folder);
+    close_folder(folder);
     return is_kept;
 }
 
@@ -198,7 +211,7 @@ static enum wulgach_knowledge has_descriptor(struct look *look, int thread)
         return errno == ENOENT || errno == ESRCH ? WULGACH_IS_NOT_SO : WULGACH_IS_NOT_KNOWN;
     look->thread = thread;
     enum wulgach_knowledge known = look_through(look, is_reached_there, folder);
-    close(folder);
+    close_folder(folder);
     return known;
 }
 
@@ -215,8 +228,7 @@ static bool has_any(pid_t thread)
     struct path path = path_of(thread, -1);
     int folder = open_folder(path.letters);
     bool has_any = folder >= 0 && look_through(&look, is_any, folder) == WULGACH_IS_SO;
-    if (folder >= 0)
-        close(folder);
+    close_folder(folder);
     return has_any;
 }
 
@@ -232,7 +244,7 @@ void note_table(struct ring *ring)
         ring->table_of = this_thread();
         ring->is_table_apart = has_any(this_process());
     }
-    close(own);
+    close_folder(own);
 }
 
 bool is_reached_elsewhere(const struct ring *ring)
@@ -243,7 +255,7 @@ bool is_reached_elsewhere(const struct ring *ring)
     uint32_t elsewhere = look_through(&look, has_descriptor, look.own);
     bool is_here = wulgach_was_made_here(
         shares_table(ring->table_of, look.own), ring->is_table_apart, look.is_apart);
-    close(look.own);
+    close_folder(look.own);
     return !wulgach_is_gone(
         WULGACH_IS_NOT_SO, is_here ? WULGACH_IS_SO : WULGACH_IS_NOT_SO, elsewhere);
 }

@@ -106,7 +106,8 @@ struct ring {
     bool has_shown; /* what has ended was shown since the call began, or last slept, as nothing
                        could go on; */
     int eventfd; /* then one of the layer's own */
-    uint64_t call_number; /* how many calls were made on it */
+    uint64_t call_number; /* how many calls were made on it, */
+    pid_t caller; /* and the thread that has called last */
     struct wulgach_issuer issuer; /* the one thread that may call, or submit, if there is one; and
                                      whether the ring is disabled */
     struct wulgach_strict strict; /* where the layer is strict, or goes by Linux's rules: what it

@@ -88,8 +88,8 @@ static struct wulgach_asked_ring asked_ring(uint32_t entries, const struct io_ur
         asked.is_online = is_online(params->sq_thread_cpu);
     if (wulgach_asks_shared(params->flags)) {
         struct ring *shared = hold_ring((int)params->wq_fd);
-        asked.is_open = counts_as_open((int)params->wq_fd, false);
         asked.is_ring = shared || is_ring((int)params->wq_fd);
+        asked.is_open = asked.is_ring || is_open_besides((int)params->wq_fd);
         asked.has_thread = shared && shared->has_thread;
         if (shared)
             release_ring(shared);

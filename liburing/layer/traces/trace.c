@@ -22,7 +22,12 @@
 /* A file for writing. */
 static int open_written(const char *path)
 {
-    return moved_high(open(path, O_WRONLY | O_CREAT | O_TRUNC | O_APPEND | O_CLOEXEC, 0666));
+    begin_low_number();
+    int file = moved_high(open(path, O_WRONLY | O_CREAT | O_TRUNC | O_APPEND | O_CLOEXEC, 0666));
+    int error = errno;
+    end_low_number();
+    errno = error;
+    return file;
 }
 
 /* Writes the line. A process whose files may get no longer isn't ended by that. */

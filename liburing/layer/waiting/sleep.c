@@ -15,6 +15,7 @@
 #include "waiting/clock.h"
 #include "waiting/glance.h"
 #include "waiting/sleepers.h"
+#include "waiting/watch.h"
 #include "wulgach_sleeps.h"
 
 #include <errno.h>
@@ -28,7 +29,7 @@ bool has_threads(void)
 {
     struct stat status = {0};
     bool knows = stat("/proc/self/task", &status) == 0;
-    return wulgach_may_have_others(knows, status.st_nlink);
+    return wulgach_may_have_others(knows, status.st_nlink - (nlink_t)watches());
 }
 
 /* Adds what has passed since `start` to the ring's time. */

@@ -4,8 +4,10 @@
 #define _GNU_SOURCE
 #include "turns.h"
 #include "../../layer/choices/turns.h"
+#include "clocks.h"
 #include "dates.h"
 #include "notices.h"
+#include "uncalled.h"
 
 #include <stdio.h>
 #include <stdlib.h>
@@ -41,17 +43,23 @@ static bool is_fall(uint64_t choice)
     return false;
 }
 
+static uint64_t *priority_of(int candidate)
+{
+    return candidate < MOST_THREADS ? &world->threads[candidate].priority
+                                    : priority_of_ring(candidate - MOST_THREADS);
+}
+
 /* The highest goes on; at some choices it falls first. Who yields has fallen. */
 static int pick_by_priorities(const int *candidates, int count)
 {
     for (;;) {
         int best = 0;
         for (int i = 1; i < count; i++)
-            if (world->threads[candidates[i]].priority > world->threads[candidates[best]].priority)
+            if (*priority_of(candidates[i]) > *priority_of(candidates[best]))
                 best = i;
         if (!is_fall(world->choices))
             return best;
-        world->threads[candidates[best]].priority = world->lowest--;
+        *priority_of(candidates[best]) = world->lowest--;
         world->choices++;
     }
 }
@@ -74,10 +82,31 @@ static int chosen_way(const int *candidates, int count, int first, int rolled)
         return rolled;
     int way = (int)wulgach_choose_turn((uint32_t)count, (uint32_t)rolled, &at),
         next = candidates[(first + way) % count];
-    snprintf(what, sizeof what, "thread %d at %s, then thread %d", slot_of(self) + 1,
-        name_of_call(self->call), next + 1);
+    snprintf(what, sizeof what, "thread %d at %s, then %s %d", slot_of(self) + 1,
+        name_of_call(self->call), next < MOST_THREADS ? "thread" : "ring",
+        next < MOST_THREADS ? next + 1 : (int)number_of_ring(next - MOST_THREADS));
     wulgach_record_turn(at, (uint32_t)count, (uint32_t)way, what);
     return way;
+}
+
+/* What is met, for `explore --coverage`. */
+static void note_kind_of_turn(int picked)
+{
+    bool stays = picked == slot_of(self);
+    switch (self->call) {
+    case POINT_AT_LOCK:
+    case YIELD_AT_LOCK:
+    case SYS_futex:
+        wulgach_note_turn(stays ? WULGACH_STAYS_AT_LOCK : WULGACH_PASSES_AT_LOCK);
+        return;
+    case SYS_io_uring_setup:
+    case SYS_io_uring_enter:
+    case SYS_io_uring_register:
+        wulgach_note_turn(stays ? WULGACH_STAYS_AT_RING : WULGACH_PASSES_AT_RING);
+        return;
+    default:
+        wulgach_note_turn(stays ? WULGACH_STAYS_AT_CALL : WULGACH_PASSES_AT_CALL);
+    }
 }
 
 int pick_of(const int *candidates, int count)
@@ -86,7 +115,9 @@ int pick_of(const int *candidates, int count)
         return candidates[0];
     int first = first_way(candidates, count), rolled = rolled_way(candidates, count, first);
     world->choices++;
-    return candidates[(first + chosen_way(candidates, count, first, rolled)) % count];
+    int picked = candidates[(first + chosen_way(candidates, count, first, rolled)) % count];
+    note_kind_of_turn(picked);
+    return picked;
 }
 
 void change_world(void)
@@ -121,17 +152,21 @@ static int find_candidates(uint64_t *moment, bool *is_outside)
             *is_outside |= thread->is_ready && thread->is_outside;
         }
     }
-    return count;
+    return find_rings(count, moment);
 }
 
 static struct thread *take_turn(int count)
 {
-    struct thread *next = world->threads + pick_of(world->candidates, count);
+    int picked = pick_of(world->candidates, count);
+    if (picked >= MOST_THREADS)
+        return thread_for_ring(picked - MOST_THREADS);
+    struct thread *next = world->threads + picked;
     if (next->state == WAITS) {
         bool is_over = next->limit <= world->now;
         next->reason = is_over && !(next->is_ready && next->is_ready(next->argument)) ? TIME_IS_OVER
                                                                                       : IS_READY;
         next->state = READY;
+        wulgach_note_turn(next->reason == IS_READY ? WULGACH_WAIT_ENDS : WULGACH_LIMIT_ENDS);
     }
     return next;
 }
@@ -211,7 +246,13 @@ enum reason wait_until(bool (*is_ready)(void *), void *argument, bool is_outside
     self->reason = NO_REASON;
     self->ticket = world->tickets++;
     self->state = WAITS;
+    note_wait();
     go_on_as(choose_next());
+    while (self->goes_on_with) {
+        go_on_with_ring();
+        self->asked = 0;
+        go_on_as(choose_next());
+    }
     self->state = READY;
     self->is_ready = NULL;
     self->wanted = NULL;
@@ -240,10 +281,18 @@ static void roll_falls(const char *words)
 }
 
 /* The layer's record and its traces are written as if nobody had called. */
-static void note_own_calls(bool begin)
+void note_own_calls(bool begin)
 {
-    if (self)
-        self->own_calls += begin ? 1 : -1;
+    if (!self)
+        return;
+    self->own_calls += begin ? 1 : -1;
+    self->is_trapped = self->own_calls == 0;
+}
+
+/* (a call that is trapped asks for it itself) */
+static uint64_t tell_time(clockid_t clock)
+{
+    return self && self->own_calls > 0 ? time_at_clock(clock) : 0;
 }
 
 /* By the policy of the rings: under a seed, by priorities, or as a list says; else a thread goes on
@@ -255,6 +304,7 @@ void begin_choices(void)
     world->lowest = 1ul << 40;
     world->stay = 1;
     wulgach_tell_own_calls = note_own_calls;
+    wulgach_tell_time = tell_time;
     world->chooses = wulgach_begin_turns();
     if (policy && strncmp(policy, "seed:", 5) == 0) {
         world->how = BY_SEED;

@@ -48,6 +48,11 @@ uint64_t look_at_clock(int clock)
     world->now += LOOK;
     if (self)
         self->looks++;
+    return time_at_clock(clock);
+}
+
+uint64_t time_at_clock(int clock)
+{
     switch (clock) {
     case CLOCK_REALTIME:
     case CLOCK_REALTIME_COARSE:

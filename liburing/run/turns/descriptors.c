@@ -17,6 +17,7 @@ enum { MOST = 1 << 16 };
 
 static uint8_t kinds[MOST];
 static uint8_t hears_outside[MOST]; /* an instance of epoll */
+static int end_of_kinds; /* all that are set are below */
 static bool has_child;
 
 static bool has_place(long fd)
@@ -33,12 +34,19 @@ static enum kind_of_descriptor look_at(int fd)
                                                                                       : OUTSIDE;
 }
 
+static void note_kind(long fd, enum kind_of_descriptor kind)
+{
+    if (end_of_kinds <= fd)
+        end_of_kinds = (int)fd + 1;
+    kinds[fd] = (uint8_t)kind;
+}
+
 enum kind_of_descriptor kind_of(int fd)
 {
     if (!has_place(fd))
         return OUTSIDE;
     if (kinds[fd] == UNKNOWN)
-        kinds[fd] = (uint8_t)look_at(fd);
+        note_kind(fd, look_at(fd));
     return kinds[fd];
 }
 
@@ -46,9 +54,17 @@ void set_kind(long fd, enum kind_of_descriptor kind)
 {
     if (!has_place(fd))
         return;
-    kinds[fd] = (uint8_t)kind;
+    note_kind(fd, kind);
     hears_outside[fd] = 0;
     forget_timer((int)fd);
+}
+
+/* (those that are closed at any number count as met) */
+void forget_closed(void)
+{
+    for (int fd = 0; fd < end_of_kinds; fd++)
+        if (kinds[fd] != UNKNOWN && kernel(SYS_fcntl, fd, F_GETFD) < 0)
+            set_kind(fd, UNKNOWN);
 }
 
 bool is_outside(int fd)

@@ -14,6 +14,9 @@ void set_kind(long fd, enum kind_of_descriptor kind);
 bool is_outside(int fd);
 bool is_blocking(int fd);
 
+/* Descriptors may have been closed unheard. */
+void forget_closed(void);
+
 /* A process was started: from here on every descriptor may be its. */
 void say_child(void);
 

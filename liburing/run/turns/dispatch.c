@@ -13,6 +13,7 @@
 #include "chance.h"
 #include "clocks.h"
 #include "dates.h"
+#include "logged.h"
 #include "notices.h"
 #include "turns.h"
 #include "watch.h"
@@ -81,6 +82,9 @@ static long serve_row(struct trap *trap)
     const struct row *row = row_of(trap->call);
     if (is_point(trap->call, row))
         make_point(trap->call == SYS_sched_yield || trap->call == YIELD_AT_LOCK);
+    long result;
+    if (serve_logged(trap, &result))
+        return result;
     if (row && row->serve)
         return row->serve(trap);
     change_world();
@@ -173,10 +177,13 @@ static void serve_ring(struct trap *trap)
     struct beginning beginning = {trap, false};
     call_on(own_stack(), point_before_ring, trap);
     int kept = errno;
+    self->ring_calls++;
     if (!self->is_in_ring)
         call_on(own_stack() - SERVING_STACK, begin_apart, &beginning);
     if (!beginning.is_served)
         serve_by_layer(trap->at, trap->call);
+    self->ring_calls--;
+    world->has_rings |= trap->call == SYS_io_uring_setup;
     errno = kept;
     note_call(trap, trap->at->uc_mcontext.gregs[REG_RAX]);
     change_world();
@@ -194,7 +201,7 @@ static void on_call(int number, siginfo_t *info, void *context)
         give_signal(number, info, at, info->si_code == BY_FILTER);
     else if (trap.call == SYS_rt_sigreturn)
         return_from_program(registers[REG_RSP]);
-    else if (!self || self->own_calls > 0 || asks_kernel(&trap))
+    else if (!self || self->own_calls > 0 || asks_kernel(&trap) || is_of_log(&trap))
         registers[REG_RAX] = pass_on(&trap);
     else if (is_of_ring(&trap))
         serve_ring(&trap);
@@ -235,14 +242,14 @@ static void catch_signal(
 void catch_calls(void)
 {
     kernel(SYS_prctl, PR_SET_SYSCALL_USER_DISPATCH, PR_SYS_DISPATCH_ON, passing_begins,
-        passing_ends - passing_begins);
+        passing_ends - passing_begins, &self->is_trapped);
 }
 
 /* Without it nothing can be done: the kernel says so here. */
 static void demand_dispatch(void)
 {
     if (kernel(SYS_prctl, PR_SET_SYSCALL_USER_DISPATCH, PR_SYS_DISPATCH_ON, passing_begins,
-            passing_ends - passing_begins) == 0)
+            passing_ends - passing_begins, &self->is_trapped) == 0)
         return;
     enum { STOPPED = 125 };
     say_line("--threads: this kernel has no Syscall User Dispatch (prctl(2), Linux 5.11)");

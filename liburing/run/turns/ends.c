@@ -1,5 +1,6 @@
 /* Threads that end, and the process. */
 #define _GNU_SOURCE
+#include "logged.h"
 #include "turns.h"
 
 #include <linux/futex.h>
@@ -30,6 +31,7 @@ long serve_exit(struct trap *trap)
 {
     note_call(trap, 0);
     if (is_last()) {
+        end_logged();
         tell_end();
         end_run((int)trap->words[0]);
     }
@@ -45,6 +47,7 @@ long serve_exit(struct trap *trap)
 long serve_exit_group(struct trap *trap)
 {
     note_call(trap, 0);
+    end_logged();
     tell_end();
     end_run((int)trap->words[0]);
 }

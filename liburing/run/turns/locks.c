@@ -3,6 +3,7 @@
  * lock that spins is tried. */
 #define _GNU_SOURCE
 #include "locks.h"
+#include "uncalled.h"
 #include "../run.h"
 
 #include <dlfcn.h>
@@ -37,7 +38,7 @@ int owner_of_lock(const struct thread *thread)
 static int find_ready(int *ready, uint64_t now)
 {
     int count = 0;
-    if ((world->points + 1) % LOOK_AGAIN == 0 || world->due <= now)
+    if ((world->points + 1) % LOOK_AGAIN == 0 || world->due <= now || has_uncalled())
         return -1;
     for (int i = 0; i < world->count; i++) {
         const struct thread *thread = world->threads + i;

@@ -1,5 +1,6 @@
 /* Masks, actions, the stack of signals; waits for signals, and who hears of one. */
 #define _GNU_SOURCE
+#include "../../layer/choices/turns.h"
 #include "notices.h"
 #include "chance.h"
 #include "dispatch.h"
@@ -110,6 +111,7 @@ static void interrupt(struct thread *thread, int signal)
     thread->reason = is_awaited ? IS_READY : INTERRUPTED;
     thread->by = signal;
     thread->state = READY;
+    wulgach_note_turn(WULGACH_SIGNAL_ENDS);
 }
 
 bool is_restarted(void)
@@ -117,7 +119,7 @@ bool is_restarted(void)
     return actions[self->by].flags & SA_RESTART;
 }
 
-static struct thread *thread_of_number(int number)
+struct thread *thread_of_number(int number)
 {
     for (int i = 0; i < world->count; i++) {
         struct thread *thread = world->threads + i;

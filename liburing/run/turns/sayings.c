@@ -8,6 +8,7 @@
 #include <dirent.h>
 #include <fcntl.h>
 #include <stdio.h>
+#include <stdlib.h>
 #include <string.h>
 #include <sys/stat.h>
 #include <unistd.h>
@@ -122,7 +123,7 @@ static long read_whole(const char *path, char *room, size_t size)
 static bool is_count(const char *line, bool is_of_memory)
 {
     static const char *const counts[] = {
-        "Vm", "Rss", "Hugetlb", "voluntary", "nonvoluntary", "Cpus_", "Mems_", "x86_"};
+        "Vm", "Rss", "Hugetlb", "SigQ", "voluntary", "nonvoluntary", "Cpus_", "Mems_", "x86_"};
     if (is_of_memory && strncmp(line, "hierarchical", 12) != 0)
         return true;
     for (size_t i = 0; i < sizeof counts / sizeof *counts; i++)
@@ -181,6 +182,53 @@ static long stat_of_process(const char *path)
     return file_with(said, put);
 }
 
+/* /proc/stat: which processors there are, and nothing that they have done. */
+static long processors_at_rest(const char *path)
+{
+    static char text[ROOM], said[ROOM];
+    long length = read_whole(path, text, sizeof text), put = 0;
+    if (length < 0)
+        return length;
+    for (char *line = text; strncmp(line, "cpu", 3) == 0; line += strcspn(line, "\n") + 1)
+        put += snprintf(said + put, sizeof said - (size_t)put, "%.*s 0 0 0 0 0 0 0 0 0 0\n",
+            (int)strcspn(line, " "), line);
+    put += snprintf(said + put, sizeof said - (size_t)put,
+        "intr 0\nctxt 0\nbtime %lu\nprocesses 1\nprocs_running 1\nprocs_blocked 0\n",
+        FIRST_DATE / SECOND - 1000);
+    return file_with(said, put);
+}
+
+/* The number of a mount, as it is met: a namespace has numbers of its own. */
+static int number_of_mount(long mount, long *mounts, int *count)
+{
+    enum { MOST_MOUNTS = 1024 };
+    int at = 0;
+    while (at < *count && mounts[at] != mount)
+        at++;
+    if (at == *count && at < MOST_MOUNTS)
+        mounts[(*count)++] = mount;
+    return at + 1;
+}
+
+static long mounts_numbered_anew(const char *path)
+{
+    static char text[1 << 16], said[1 << 16];
+    static long mounts[1024];
+    int count = 0;
+    long length = read_whole(path, text, sizeof text), put = 0;
+    if (length < 0)
+        return length;
+    for (char *line = text, *end; *line && put < (long)sizeof said - 1; line = end) {
+        int own = number_of_mount(strtol(line, &end, 10), mounts, &count),
+            above = number_of_mount(strtol(end, &end, 10), mounts, &count);
+        size_t rest = strcspn(end, "\n") + 1;
+        put += snprintf(
+            said + put, sizeof said - (size_t)put, "%d %d%.*s", own, above, (int)rest, end);
+        end += end[rest - 1] == '\n' ? rest : rest - 1;
+    }
+    return file_with(said, put < (long)sizeof said ? put : (long)sizeof said - 1);
+}
+
 static long uuid_by_chance(void)
 {
     char line[64];
@@ -225,8 +273,12 @@ long open_saying(const char *path)
         return NO_SAYING;
     if (ends_with(path, "/status"))
         return lines_without_counts(path, false);
-    if (ends_with(path, "/stat") && strcmp(path, "/proc/stat") != 0)
+    if (strcmp(path, "/proc/stat") == 0)
+        return processors_at_rest(path);
+    if (ends_with(path, "/stat"))
         return stat_of_process(path);
+    if (ends_with(path, "/mountinfo"))
+        return mounts_numbered_anew(path);
     if (ends_with(path, "/statm"))
         return file_with("20000 10000 5000 100 0 5000 0\n", 30);
     return NO_SAYING;

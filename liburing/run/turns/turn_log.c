@@ -2,10 +2,12 @@
  * that WULGACH_TURNS names. Two runs of one seed have one log: it is compared with the one that
  * WULGACH_RECORDED_TURNS names, and the first line that differs is told. */
 #define _GNU_SOURCE
+#include "../../layer/choices/turns.h"
 #include "turns.h"
 
 #include <fcntl.h>
 #include <linux/futex.h>
+#include <stdarg.h>
 #include <stdio.h>
 #include <stdlib.h>
 #include <string.h>
@@ -21,6 +23,9 @@ static size_t length;
 
 /* The recorded log: what is left of it. */
 static const char *recorded, *recorded_end;
+
+/* Whether it shows a page's lanes: choices, steps of rings, and who waits. */
+static bool has_lanes;
 
 static bool is_logging_turns(void)
 {
@@ -111,6 +116,47 @@ void compare_end(void)
     recorded = NULL;
 }
 
+static void put_line(const char *line, int size);
+
+static void __attribute__((format(printf, 1, 2))) put_of_thread(const char *form, ...)
+{
+    char line[MOST_LINE];
+    va_list words;
+    va_start(words, form);
+    int size = snprintf(line, sizeof line, "%lu: thread %d", world->points, slot_of(self) + 1);
+    size += vsnprintf(line + size, sizeof line - (size_t)size - 1, form, words);
+    va_end(words);
+    size = size < MOST_LINE - 1 ? size : MOST_LINE - 2;
+    line[size] = '\n';
+    put_line(line, size + 1);
+}
+
+static void hear_step(uint32_t ring, const char *what)
+{
+    put_of_thread(": ring %u: %s", ring, what);
+}
+
+static void hear_choice(uint64_t at, uint32_t count, uint32_t way, const char *what)
+{
+    put_of_thread(": choice %lu is %u of %u: %s", at, way, count, what);
+}
+
+void note_wait(void)
+{
+    if (has_lanes)
+        put_of_thread(" waits in %s", name_of_call(self->call));
+}
+
+static void begin_lanes(void)
+{
+    const char *word = getenv("WULGACH_LANES");
+    has_lanes = file >= 0 && word && *word;
+    if (!has_lanes)
+        return;
+    wulgach_hear_step = hear_step;
+    wulgach_hear_choice = hear_choice;
+}
+
 void begin_log(void)
 {
     const char *path = getenv("WULGACH_TURNS"), *other = getenv("WULGACH_RECORDED_TURNS");
@@ -124,6 +170,7 @@ void begin_log(void)
     enum { FIRST_HIGH = 900 };
     long opened = kernel(SYS_open, path, O_WRONLY | O_CREAT | O_TRUNC | O_CLOEXEC, 0666);
     file = opened < 0 ? -1 : (int)kernel(SYS_fcntl, opened, F_DUPFD_CLOEXEC, FIRST_HIGH);
+    begin_lanes();
     if (opened >= 0)
         kernel(SYS_close, opened);
     if (file < 0)
@@ -181,6 +228,7 @@ static int words_of(long call, const long *words)
     case SYS_pipe:
     case POINT_AT_LOCK:
     case SYS_timer_delete:
+    case SYS_mq_unlink:
         return 1;
     case SYS_futex:
         return (words[1] & FUTEX_CMD_MASK) == FUTEX_UNLOCK_PI ||
@@ -229,6 +277,7 @@ static int words_of(long call, const long *words)
     case SYS_getgroups:
     case SYS_timer_gettime:
     case SYS_timerfd_gettime:
+    case GO_ON_AS:
         return 2;
     default:
         return 3;

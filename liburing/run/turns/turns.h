@@ -12,13 +12,16 @@
 #include <ucontext.h>
 
 /* Of a slot's memory the lowest part is for signals while a call of a ring begins, the next for
- * that, and the last for serving a call. */
+ * going on with a ring while the thread waits, then one for that beginning, and the last for
+ * serving a call. */
 enum {
     MOST_THREADS = 1024,
+    MOST_RINGS = 64,
     SIGNALS_STACK = 1 << 15,
+    GOING_ON_STACK = 1 << 17,
     RING_STACK = 1 << 16,
     SERVING_STACK = 1 << 16,
-    STACKS = SIGNALS_STACK + RING_STACK + SERVING_STACK
+    STACKS = SIGNALS_STACK + GOING_ON_STACK + RING_STACK + SERVING_STACK
 };
 
 #define NEVER UINT64_MAX
@@ -60,8 +63,11 @@ struct thread {
     const void *place; /* of the program, if that is known */
     uintptr_t stack;
     uint64_t looks; /* at the clock since its last point */
-    int own_calls; /* it makes calls of this library's own, of which nobody hears */
-    bool is_in_ring; /* whether a call of a ring has begun on the slot's stack for that */
+    int own_calls; /* it makes calls of this library's own, of which nobody hears: */
+    char is_trapped; /* what the kernel looks at for that */
+    bool is_in_ring; /* whether a call of a ring has begun on the slot's stack for that, */
+    int ring_calls; /* how many calls of rings it is in, */
+    int goes_on_with; /* and, and 1, with which uncalled ring it goes on while it waits */
 
     uint64_t cleared; /* where the kernel would put 0 as it ends */
     uint64_t robust; /* the list of its robust locks */
@@ -90,7 +96,8 @@ struct world {
     /* As it stands. */
     int count, running;
     bool yields;
-    int candidates[MOST_THREADS];
+    int candidates[MOST_THREADS + MOST_RINGS];
+    bool has_rings;
     uint64_t now, due, changes, tickets, points, choices, switches;
     uint64_t turns_random, chance_random;
     uint64_t falls[64], fall_count, lowest;
@@ -138,6 +145,8 @@ const struct row *row_of(long call);
 const char *name_of_call(long call);
 void tell_unserved(const struct trap *trap, const char *why);
 
+struct thread *thread_of_number(int number);
+
 /* Calls that nobody makes, at which a thread may be stopped, told by this library to its own trap.
  */
 enum { POINT_AT_LOOK = 0x7001, POINT_AT_LOCK, YIELD_AT_LOCK, GO_ON_AS };
@@ -161,6 +170,9 @@ void place_new_thread(struct thread *thread);
 enum reason wait_until(bool (*is_ready)(void *), void *argument, bool is_outside, uint64_t limit);
 void change_world(void);
 
+/* Calls of this library's own begin and end: they go to the kernel, and aren't told of. */
+void note_own_calls(bool begin);
+
 /* What a thread is asked for: a deadlock, or a run in which only clocks go on, is told with each
  * thread's place (telling.c). */
 __attribute__((noreturn)) void tell_deadlock(void);
@@ -171,6 +183,7 @@ void tell_end(void);
 void begin_log(void);
 void note_call(const struct trap *trap, long result);
 void note_event(const char *what, long number);
+void note_wait(void);
 void end_log(void);
 void compare_end(void);
 

@@ -4,7 +4,6 @@
  * outside. */
 #define _GNU_SOURCE
 #include "turns.h"
-#include "../../layer/traces/logging.h"
 #include "../run.h"
 
 #include <dlfcn.h>
@@ -70,7 +69,7 @@ struct thread *take_slot(void)
         end_run(STOPPED);
     }
     struct thread *thread = world->threads + slot;
-    *thread = (struct thread){.state = READY, .is_alive = 1};
+    *thread = (struct thread){.state = READY, .is_alive = 1, .is_trapped = 1};
     place_new_thread(thread);
     if (slot >= world->count)
         world->count = slot + 1;
@@ -152,8 +151,6 @@ bool begin_turns(void)
     enum { REAL_MILLISECONDS = 20, PROCESSOR_MILLISECONDS = 500 };
     if (!is_wanted())
         return false;
-    if (is_logging())
-        stop("--threads can't be with the log of files that power failures want");
     if (!make_world())
         stop("--threads: there is no memory for the world");
     world->grace = number_in("WULGACH_OUTSIDE", REAL_MILLISECONDS) * 1000000;

@@ -4,12 +4,14 @@
  *   crossed   three threads take two of three locks in different orders
  *   balance   a balance is looked at under a lock, and taken under it anew
  *   order     none: threads write down in which order they ran, and print it
+ *   stacked   the same of threads that have a stack for signals
  *   spinning  none: a thread spins until another has run, without a call
  *   pushed    semaphores that nobody posts: a deadlock at once
  */
 #define _GNU_SOURCE
 #include <pthread.h>
 #include <semaphore.h>
+#include <signal.h>
 #include <stdatomic.h>
 #include <stdio.h>
 #include <stdlib.h>
@@ -92,6 +94,15 @@ static void *write_order(void *number)
     return NULL;
 }
 
+static void *write_order_stacked(void *number)
+{
+    static char rooms[THREADS][1 << 15];
+    stack_t stack = {.ss_sp = rooms[(long)number], .ss_size = sizeof rooms[0]};
+    if (sigaltstack(&stack, NULL) != 0)
+        exit(2);
+    return write_order(number);
+}
+
 static void *spin(void *unused)
 {
     while (!ready)
@@ -129,6 +140,8 @@ int main(int count, char **words)
         run(take, take, NULL);
     else if (strcmp(mode, "order") == 0)
         run(write_order, write_order, NULL);
+    else if (strcmp(mode, "stacked") == 0)
+        run(write_order_stacked, write_order_stacked, NULL);
     else if (strcmp(mode, "spinning") == 0)
         run(spin, produce, NULL);
     else if (strcmp(mode, "pushed") == 0)
