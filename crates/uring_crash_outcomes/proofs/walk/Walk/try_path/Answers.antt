@@ -56,7 +56,7 @@ returns-clause-takes g c =
     subst (λ (ps : List Cqe). AreShown ps (logs_after c.args.unit c.args.setup.now calls path) shown) posted
     (subst (λ (ls : List Log). AreShown c.as_slice.result.now ls shown) logs c.in_ok-shown.ensures.shown) in
     let pushed : paths_of c.push_longer-left.new.todo.items ≡ todo ++ map (λ x. path ++ x ∷ []) moves = c.in_ok-left.ensures.pushed ∙ ap (λ (xs : List Move). todo ++ map (λ x. path ++ x ∷ []) xs) c.as_slice-3.ensures.value in
-    let noted : c.append.new.self.items ≡ found ++ shown = c.in_ok-append.ensures.items in
+    let noted : c.append.new.self.items ≡ found ++ shown = c.in_ok-append.ensures.items ∙ ap (λ (xs : List Crash). xs ++ shown) c.reserve.ensures.items in
     subst (λ (t : List (List Move)). TakesPath c.args.unit c.args.setup.now calls path todo found t c.append.new.self.items) (sym pushed)
     (subst (λ (f : List Crash). TakesPath c.args.unit c.args.setup.now calls path todo found (todo ++ map (λ x. path ++ x ∷ []) moves) f) (sym noted)
     (path_taken c.args.unit c.args.setup.now calls path h.last h.leads todo moves shown found (c.in_ok-moves.ensures.all h.last h.at) are))
