@@ -5,6 +5,7 @@
 
 #include <errno.h>
 #include <linux/futex.h>
+#include <sys/uio.h>
 
 static uint32_t word_at(uint64_t at)
 {
@@ -260,20 +261,30 @@ static void mark_ended(uint64_t word, bool inherits)
         wake_futex(word, 1, FUTEX_BITSET_MATCH_ANY);
 }
 
-/* The list of set_robust_list(2), whose lowest bits say which inherit. */
+/* Whether a word of the list is there. */
+static bool reads(uint64_t at, uint64_t *word)
+{
+    struct iovec to = {word, sizeof *word}, from = {(void *)at, sizeof *word};
+    return kernel(SYS_process_vm_readv, self->number, &to, 1, &from, 1, 0) == sizeof *word;
+}
+
+/* The list of set_robust_list(2), whose lowest bits say which inherit. It ends where it can't be
+ * read, as the kernel's walk does. */
 void free_robust_locks(void)
 {
     enum { INHERITS = 1, MOST = 2048 };
     const struct robust_list_head *head = (const struct robust_list_head *)self->robust;
-    if (!head)
+    uint64_t at, next, offset, pending;
+    if (!head || !reads((uint64_t)&head->list.next, &at) ||
+        !reads((uint64_t)&head->futex_offset, &offset) ||
+        !reads((uint64_t)&head->list_op_pending, &pending))
         return;
-    uint64_t pending = (uint64_t)head->list_op_pending, at = (uint64_t)head->list.next, next;
     for (int i = 0; i < MOST && (at & ~(uint64_t)INHERITS) != self->robust; i++, at = next) {
-        next = (uint64_t)((const struct robust_list *)(at & ~(uint64_t)INHERITS))->next;
+        if (!reads(at & ~(uint64_t)INHERITS, &next))
+            return;
         if (at != pending)
-            mark_ended((at & ~(uint64_t)INHERITS) + (uint64_t)head->futex_offset, at & INHERITS);
+            mark_ended((at & ~(uint64_t)INHERITS) + offset, at & INHERITS);
     }
     if (pending & ~(uint64_t)INHERITS)
-        mark_ended(
-            (pending & ~(uint64_t)INHERITS) + (uint64_t)head->futex_offset, pending & INHERITS);
+        mark_ended((pending & ~(uint64_t)INHERITS) + offset, pending & INHERITS);
 }
