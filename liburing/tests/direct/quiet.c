@@ -40,10 +40,11 @@ enum place { NOWHERE, AT_LOCK, AT_POLL, AT_CALL };
 static enum place raised_at;
 static bool came_at_once;
 
+/* (the layer's own thread, which watches whether anybody calls, makes calls too) */
 static void raise_at(enum place place)
 {
     int before = comings;
-    if (raised_at != place)
+    if (raised_at != place || gettid() != getpid())
         return;
     raised_at = NOWHERE;
     check(raise(SIGUSR1) == 0);
