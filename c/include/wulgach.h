@@ -30,31 +30,36 @@
  *
  * What a caller owes. The library can't check these, and breaking one is undefined behaviour.
  *   - A place (struct wulgach_core, _machine, _volume, _crash_machine, _outcomes) is zero before
- * its first use: `= { 0 }`. After that its bytes are left alone, and never copied to be used twice.
- * A place may be moved (memcpy) if the old one isn't used again.
+ *     its first use: `= { 0 }`. After that its bytes are left alone, and never copied to be used
+ *     twice. A place may be moved (memcpy) if the old one isn't used again.
  *   - No pointer is null, each points to a whole struct of its type, and those of one call don't
- * overlap.
+ *     overlap.
  *   - A place is used by one thread at a time. It may pass from one thread to another, as by a
- * lock: nothing in it is tied to a thread. That is a theorem of nobody, since the proof says
- * nothing of threads.
+ *     lock: nothing in it is tied to a thread. That is a theorem of nobody, since the proof says
+ *     nothing of threads.
  *   - No call from a signal handler, nor in the forked child of a process with threads.
  *   - malloc, realloc and free are one allocator, and align a block as C demands.
  *
  * Results. Each function but wulgach_setup_fault returns 0, or the negative of an error number; if
- * it isn't 0, nothing has changed, but for a `step` of a crash machine that returns -12: -9 (EBADF)
- * the place is empty. Returned by every function of a place but `new` and `on`, and only then. -22
- * (EINVAL)  from `step`: the words give no step. From `new` and `on`: a number of the set-up is out
- * of its range, and wulgach_setup_fault says which; of a volume and a crash machine, the unit is 0;
- * of a crash machine, more files are given than it has; of outcomes, the ring doesn't take each
- * call whole. From `begin_..`: no number is left. -12  (ENOMEM)  from `new` and `on`, from `submit`
- * and `reap_all` of a core, from `begin_..`, `contents`, `crash`, `count_images`, `images` and
- * `fold` of a volume, and from `step`, `crash`, `image`, `count_images` and `images` of a crash
- * machine: memory was refused. -27  (EFBIG)   from `begin_write`: the write would end above 2^63
- * - 1. From `images`: there are more than room for their lengths. From `on`: a file is longer than
- * 65,536 bytes. -2   (ENOENT)  from a function that reads: there is no such completion, request,
- * outcome, file or byte. From `end_..` and `fail_..` of a volume: no write or sync of this number
- * runs. -131 (ENOTRECOVERABLE)  from `step` and from all calls on what a crash leaves of a crash
- * machine: memory was refused for one of its steps.
+ * it isn't 0, nothing has changed, but for a `step` of a crash machine that returns -12:
+ *   -9   (EBADF)   the place is empty. Returned by every function of a place but `new` and `on`,
+ *                  and only then.
+ *   -22  (EINVAL)  from `step`: the words give no step. From `new` and `on`: a number of the set-up
+ *                  is out of its range, and wulgach_setup_fault says which; of a volume and a crash
+ *                  machine, the unit is 0; of a crash machine, more files are given than it has; of
+ *                  outcomes, the ring doesn't take each call whole. From `begin_..`: no number is
+ *                  left.
+ *   -12  (ENOMEM)  from `new` and `on`, from `submit` and `reap_all` of a core, from `begin_..`,
+ *                  `contents`, `crash`, `count_images`, `images` and `fold` of a volume, and from
+ *                  `step`, `crash`, `image`, `count_images` and `images` of a crash machine: memory
+ *                  was refused.
+ *   -27  (EFBIG)   from `begin_write`: the write would end above 2^63 - 1. From `images`: there are
+ *                  more than room for their lengths. From `on`: a file is longer than 65,536 bytes.
+ *   -2   (ENOENT)  from a function that reads: there is no such completion, request, outcome, file
+ *                  or byte. From `end_..` and `fail_..` of a volume: no write or sync of this
+ *                  number runs.
+ *   -131 (ENOTRECOVERABLE)  from `step` and from all calls on what a crash leaves of a crash
+ *                           machine: memory was refused for one of its steps.
  */
 #ifndef WULGACH_H
 #define WULGACH_H

@@ -82,7 +82,7 @@ enum wulgach_form {
  *   -22                flags that the operation doesn't know, or what else its fields may not be
  *   -7, -22, -75, -14  buffers that it provides
  *   -14 (EFAULT)       the buffer of a READ, a WRITE, a SEND or a RECV ends where no program has
- * memory
+ *                      memory
  *
  * What the entry points to isn't looked at. */
 uint32_t wulgach_form_of(

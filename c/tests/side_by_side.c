@@ -3,8 +3,9 @@
  *   - the answers of machine and core, field by field;
  *   - both answers, as text, with those of a program that has the trace language;
  *   - counts, completions that wait, running operations, files and bytes with what the answers so
- * far say. At the end every kind of step and of answer must have come, but for those that need
- * memory to be refused or 2^63 requests.
+ *     far say.
+ * At the end every kind of step and of answer must have come, but for those that need memory to be
+ * refused or 2^63 requests.
  *
  *   side_by_side TRACE FIRST_SEED SEEDS STEPS
  *

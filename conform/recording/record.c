@@ -3,14 +3,18 @@
  * The scenario comes on standard input, a line each:
  *
  *   an item of the play language     stages it: nop, fsync, read, write, cancel, cancelall, op (of
- * a code from 100 on), bad fault KIND OPERATION UD FLAGS    stages an operation with a fault: flag
- * (the highest bit), priority, operation (its flag 2^31) or byte (42) hold UD FLAGS stages a read
- * of an empty pipe, so that it waits until it is released (an empty line)                  a call
- * that submits what is staged call N                           a call that submits N of it events
- * a call that submits nothing and asks for events release UD                       writes a byte
- * into that pipe head off, head on                from here on the head isn't stored after a look,
- * or is wait N                           waits until N more completions are seen, or half a second
- * has passed
+ *                                    a code from 100 on), bad
+ *   fault KIND OPERATION UD FLAGS    stages an operation with a fault: flag (the highest bit),
+ *                                    priority, operation (its flag 2^31) or byte (42)
+ *   hold UD FLAGS                    stages a read of an empty pipe, so that it waits until it is
+ *                                    released
+ *   (an empty line)                  a call that submits what is staged
+ *   call N                           a call that submits N of it
+ *   events                           a call that submits nothing and asks for events
+ *   release UD                       writes a byte into that pipe
+ *   head off, head on                from here on the head isn't stored after a look, or is
+ *   wait N                           waits until N more completions are seen, or half a second has
+ *                                    passed
  *
  * With the word `features` it writes what the ring says that it can do, as a number, and reads
  * nothing.
@@ -19,9 +23,11 @@
  * written a line each:
  *
  *   call ASKED RETURNED HEAD DROPPED     a call, what it returned, and the words head and dropped
- * after it tail WORD                            a look at the completion ring, if something new is
- * there cqe UD RES                           each completion that is new then head WORD the head
- * was stored events                               the call just told, or to come, asked for events
+ *                                        after it
+ *   tail WORD                            a look at the completion ring, if something new is there
+ *   cqe UD RES                           each completion that is new then
+ *   head WORD                            the head was stored
+ *   events                               the call just told, or to come, asked for events
  *   released UD                          a byte was written
  *
  * After the last line each pipe gets its byte, and the ring is looked at until nothing comes any

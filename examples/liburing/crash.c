@@ -3,7 +3,7 @@
  * to be there.
  *
  *   crash [COMMITS [RECORDS]]      4 commits of 3 records each, if they aren't given. Status 1: an
- * acknowledged value is lost.
+ *                                  acknowledged value is lost.
  */
 #include "store.h"
 

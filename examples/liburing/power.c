@@ -1,8 +1,9 @@
 /* A test of the store for power failures, by `liburing/explore crash`:
  *
  *   power run [COMMITS [RECORDS]]   commits to `log` in the folder where it runs, and prints each
- * commit that is acknowledged power check                     reads what was printed, and opens the
- * log that a crash has left. Status 1: an acknowledged value is lost
+ *                                   commit that is acknowledged
+ *   power check                     reads what was printed, and opens the log that a crash has
+ *                                   left. Status 1: an acknowledged value is lost
  */
 #include "store.h"
 

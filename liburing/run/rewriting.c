@@ -4,14 +4,14 @@
  * trapped. All is left as it is, and trapped,
  *
  * - where those bytes aren't an instruction, read from the function's beginning on
- * (instructions.c), or where no table for unwinders says where it begins, as in code that a program
- * makes;
+ *   (instructions.c), or where no table for unwinders says where it begins, as in code that a
+ *   program makes;
  * - where what stands between them and the call isn't a few moves between registers, or of numbers
- * into them;
+ *   into them;
  * - where they cross a line of the cache: other threads may run there, and have to see all five or
- * none;
+ *   none;
  * - where they aren't a file's, mapped privately and not to be written, the page can't be made
- * writable for a moment, or none within 2 GB below is free;
+ *   writable for a moment, or none within 2 GB below is free;
  * - where the processor can't save its vectors in parts (xsavec);
  * - after the 64th place that was trapped; and everywhere, if WULGACH_REWRITING is `no`.
  *

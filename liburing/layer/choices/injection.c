@@ -1,9 +1,10 @@
 /* Chooses the faults to inject.
  *
  *   WULGACH_FAULTS      ITEMS, separated by commas: [RING:]NUMBER=KIND, for request NUMBER of ring
- * RING (0 if it isn't given); KIND is EIO, ENOSPC or SHORT WULGACH_FAULT_RATE  N: each request that
- * can have a fault is given one with a chance of one in N under a seed, of those that it can have.
- * That is a choice, so a list replays it.
+ *                       RING (0 if it isn't given); KIND is EIO, ENOSPC or SHORT
+ *   WULGACH_FAULT_RATE  N: each request that can have a fault is given one with a chance of one in
+ *                       N under a seed, of those that it can have. That is a choice, so a list
+ *                       replays it.
  */
 #include "choices/injection.h"
 #include "choices/outlook.h"

@@ -2,9 +2,10 @@
  * run, or the limit of a call that waits, is over.
  *
  *   WULGACH_TIMEOUTS    RATE or RATE:MOST. Under a seed, and by priorities, time passes so at one
- * in RATE of the moments at which a ring goes on; roll: RATE is drawn once of a seed, of 4, 16, 64
- * and 256. MOST: so often at most in a run. It is a choice of its own, of which way 0 is that no
- * time passes: so a list replays it.
+ *                       in RATE of the moments at which a ring goes on; roll: RATE is drawn once of
+ *                       a seed, of 4, 16, 64 and 256. MOST: so often at most in a run. It is a
+ *                       choice of its own, of which way 0 is that no time passes: so a list replays
+ *                       it.
  *
  * What isn't over within a minute is taken for what says that a program is stuck: it is over only
  * where nothing else can go on.

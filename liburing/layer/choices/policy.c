@@ -1,13 +1,14 @@
 /* Reads the policy from the environment, and chooses by it.
  *
  *   WULGACH_POLICY    order (the default), lazy, seed:N, pct:SEED:DEPTH[:CHOICES], or list:ITEMS.
- * An item is the next choice's number, or AT=NUMBER for choice AT; items are separated by commas. A
- * choice that isn't listed is 0, which is what "order" would do; so is one that is beyond what
- * there is to choose from. WULGACH_CHOOSE    events (the default): issuing and finishing a request
- * are two choices; ends: they are one WULGACH_CHOICES   PREFIX: a process that sets a ring up makes
- * a file PREFIX.PID, and writes a line there for each choice: its number, which way, of how many,
- * and in words WULGACH_WAYS      if it is set, what could go on at each choice stands there too
- * (outlook.h)
+ *                     An item is the next choice's number, or AT=NUMBER for choice AT; items are
+ *                     separated by commas. A choice that isn't listed is 0, which is what "order"
+ *                     would do; so is one that is beyond what there is to choose from.
+ *   WULGACH_CHOOSE    events (the default): issuing and finishing a request are two choices; ends:
+ *                     they are one
+ *   WULGACH_CHOICES   PREFIX: a process that sets a ring up makes a file PREFIX.PID, and writes a
+ *                     line there for each choice: its number, which way, of how many, and in words
+ *   WULGACH_WAYS      if it is set, what could go on at each choice stands there too (outlook.h)
  */
 #define _GNU_SOURCE
 #include "choices/policy.h"

@@ -3,8 +3,8 @@
  * nothing of what the program did before.
  *
  *   WULGACH_SERVER    SOCKET:OUTPUT:main or SOCKET:OUTPUT:ring, and :fresh after it if each run is
- * to find the working folder as it was at the fork. SOCKET is a descriptor of a stream to
- * `explore`, OUTPUT one of a file that takes what the program prints.
+ *                     to find the working folder as it was at the fork. SOCKET is a descriptor of a
+ *                     stream to `explore`, OUTPUT one of a file that takes what the program prints.
  *
  * The server says 'ok PID', or 'no', and why a fork wouldn't be the same as a new process. Then it
  * is asked for runs: a length of 32 bits and so many bytes, which are the seconds that the run may

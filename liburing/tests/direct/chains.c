@@ -2,7 +2,7 @@
  * each once; and small calls beside as many that wait.
  *
  *   chains [KIND [LENGTH]]       one call of a kind, of so many requests, or small calls beside so
- * many; tests/speed/growth counts its instructions
+ *                                many; tests/speed/growth counts its instructions
  */
 #define _GNU_SOURCE
 #include "engines.h"

@@ -4,8 +4,8 @@
  * stands in the table at the end, with the reason; docs/LIBURING.md tells of each.
  *
  *   entries [PAIRS]          with so many entries of two changes; status 1 if a difference isn't
- * known. Status 0 also where the kernel makes no rings, or isn't Linux 6.18, of which the table is:
- * a line says so
+ *                            known. Status 0 also where the kernel makes no rings, or isn't Linux
+ *                            6.18, of which the table is: a line says so
  */
 #define _GNU_SOURCE
 #include <errno.h>

@@ -3,7 +3,7 @@
  * environment says, and on a real ring of Linux 6.18.
  *
  *   multishot_ends [NAME]    with a name: that test alone. Status 0 also where the kernel makes no
- * rings, or doesn't know the operation
+ *                            rings, or doesn't know the operation
  */
 #define _GNU_SOURCE
 #include "multishot.h"

@@ -1,6 +1,6 @@
-/* Tests of provided buffers, by direct calls: of lists and of rings in memory. All hold
- * under every policy, which the environment says; and on a real ring, if the kernel gives one and
- * it is built for that.
+/* Tests of provided buffers, by direct calls: of lists and of rings in memory. All hold under every
+ * policy, which the environment says; and on a real ring, if the kernel gives one and it is built
+ * for that.
  *
  *   provided [NAME]          with a name: that test alone
  */

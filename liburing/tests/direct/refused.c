@@ -4,7 +4,7 @@
  * was accepted has one completion.
  *
  *   refused          all of them, for a descriptor that is memory and for one that polls, of a ring
- * on which few requests wait and of one on which many do
+ *                    on which few requests wait and of one on which many do
  */
 #define _GNU_SOURCE
 #include "ring.h"

@@ -2,7 +2,7 @@
  * there, and injected faults. All hold under every policy.
  *
  *   transfers [NAME]         one test alone. That of faults is run by its name, injection, alone:
- * WULGACH_FAULTS is then 0=ENOSPC,2=SHORT,5=EIO,6=SHORT
+ *                            WULGACH_FAULTS is then 0=ENOSPC,2=SHORT,5=EIO,6=SHORT
  */
 #define _GNU_SOURCE
 #include "engines.h"

@@ -2,8 +2,10 @@
  * `explore` is to tell of it.
  *
  *   flaky differs FILE     every second run, as FILE counts them, has one request, and the others
- * three flaky until FILE N     the first N runs fail flaky dies|hangs       it writes a file by two
- * requests, and if the second ends first it dies, or hangs
+ *                          three
+ *   flaky until FILE N     the first N runs fail
+ *   flaky dies|hangs       it writes a file by two requests, and if the second ends first it dies,
+ *                          or hangs
  */
 #include <fcntl.h>
 #include <liburing.h>

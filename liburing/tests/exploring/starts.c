@@ -5,10 +5,12 @@
  *   plain       opens a file for writing and one for reading, and reads part of it
  *   copied, high, folder, mode
  *               the same, and reads by a copy of a descriptor, or by one of a high number, makes a
- * file in a folder that is open, or says which mode and time a folder has threads, children,
- * signal, timer, shared, pipe, outside, locked, nameless, linked the same, and what stands against
- * a fork at the set-up hang, stop, die the same, and never ends, also where it handles that a child
- * stops, or dies by a signal
+ *               file in a folder that is open, or says which mode and time a folder has
+ *   threads, children, signal, timer, shared, pipe, outside, locked, nameless, linked
+ *               the same, and what stands against a fork at the set-up
+ *   hang, stop, die
+ *               the same, and never ends, also where it handles that a child stops, or dies by a
+ *               signal
  */
 #include <fcntl.h>
 #include <liburing.h>

@@ -2,8 +2,9 @@
  * it.
  *
  *   lmdb run [nosync | nometasync | writemap | mapasync] [COMMITS]     prints each commit that was
- * acknowledged lmdb check             reads these; status 1: a commit is lost, or there by halves,
- * or the environment can't be opened
+ *     acknowledged
+ *   lmdb check             reads these; status 1: a commit is lost, or there by halves, or the
+ *                          environment can't be opened
  */
 #include <lmdb.h>
 #include <stdio.h>

@@ -3,7 +3,7 @@
  *
  *   logtree run sync|nosync [COMMITS]     prints each commit that was acknowledged
  *   logtree check                         reads these; status 1: a commit is lost, or there by
- * halves, or it can't be opened
+ *                                         halves, or it can't be opened
  */
 #ifdef ROCKSDB
 #include <rocksdb/c.h>

@@ -1,15 +1,20 @@
 /* Runs random programs on the layer, and judges what they see.
  *
  *   random [--alone] FIRST COUNT     runs the programs of these seeds, those that are plain on a
- * real ring too, if there is one; with --alone on the layer alone. Of one that fails it prints what
- * was seen, the program made short, and the words that run it again. Status 1: one failed random
- * --threads FIRST COUNT    the same on the layer alone, and of these programs only those whose
- * rings have a thread each: for the thread sanitizer, whose own thread the layer would take for
- * another random --until-failed FIRST COUNT    the same on the layer alone, but ends with the first
- * that fails random --show SEED               prints a program random --again SEED POLICY FAULTS
- * NUMBERS    runs the actions of these numbers alone, separated by commas, under this policy ("-"
- * for the seed's own), with what the seed has of faults ("faults"), of time that passes by choice
- * ("times"), of both ("faults,times") or of none ("-")
+ *                                    real ring too, if there is one; with --alone on the layer
+ *                                    alone. Of one that fails it prints what was seen, the program
+ *                                    made short, and the words that run it again. Status 1: one
+ *                                    failed
+ *   random --threads FIRST COUNT    the same on the layer alone, and of these programs only those
+ *                                    whose rings have a thread each: for the thread sanitizer,
+ *                                    whose own thread the layer would take for another
+ *   random --until-failed FIRST COUNT    the same on the layer alone, but ends with the first that
+ *                                        fails
+ *   random --show SEED               prints a program
+ *   random --again SEED POLICY FAULTS NUMBERS    runs the actions of these numbers alone, separated
+ *                                    by commas, under this policy ("-" for the seed's own), with
+ *                                    what the seed has of faults ("faults"), of time that passes by
+ *                                    choice ("times"), of both ("faults,times") or of none ("-")
  */
 #define _GNU_SOURCE
 #include "children.h"

@@ -3,7 +3,7 @@
  * layer's after a trap or where it is rewritten. tests/speed/costs prints all four.
  *
  *   cost                     NANOSECONDS of a call that does nothing, of one with a no-op, and of a
- * no-op in batches of 32
+ *                            no-op in batches of 32
  */
 #define _GNU_SOURCE
 #include "../direct/clocks.h"

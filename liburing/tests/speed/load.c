@@ -2,10 +2,13 @@
  *
  *   load nops BATCH COUNT    no-ops in batches on one ring, and what each took
  *   load reads BATCH COUNT   reads of 4 KB of a file, at depth 64 as fio makes them: what is
- * submitted was reaped just before load chain LENGTH        one chain of no-ops load rings COUNT so
- * many rings at once, each used in turn, and freed again load threads COUNT CALLS so many threads
- * on one ring: each submits and reaps, and all completions are counted load long COUNT          so
- * many requests of several kinds on one ring, and the memory that the process had
+ *                            submitted was reaped just before
+ *   load chain LENGTH        one chain of no-ops
+ *   load rings COUNT         so many rings at once, each used in turn, and freed again
+ *   load threads COUNT CALLS so many threads on one ring: each submits and reaps, and all
+ *                            completions are counted
+ *   load long COUNT          so many requests of several kinds on one ring, and the memory that the
+ *                            process had
  */
 #define _GNU_SOURCE
 #include "../direct/ring.h"

@@ -3,7 +3,7 @@
  * disk.
  *
  *   kept opens | names | memory | locks | handlers | forks | numbers | unread | renamed | limits |
- * masks | actions | spawned
+ *   masks | actions | spawned
  *
  * Status 0: all was as it is to be. Else a line says what wasn't.
  */

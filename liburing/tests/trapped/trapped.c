@@ -3,7 +3,7 @@
  * those are epoll instances.
  *
  *   trapped begins | nop | shared | blocked | signals | registers | issuers | threads | fork |
- * vfork | exec | list | spawn | shell | preload | fifo | sqpoll | static PROGRAM
+ *   vfork | exec | list | spawn | shell | preload | fifo | sqpoll | static PROGRAM
  *
  * Status 0: all was as it is to be. Else a line says what wasn't.
  */

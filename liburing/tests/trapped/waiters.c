@@ -3,9 +3,10 @@
  * call writes for that.
  *
  *   waiters nobody | others | library | own | generic | copy | nested | changed | ring | poll |
- * child | own_child | sent | started | kept | loaded | threads waiters starts PROGRAM       one
- * that is linked statically, and is given `loop` waiters hears FD SOCKET      what `started` and
- * `kept` start, waiters receives SOCKET      and `sent`
+ *   child | own_child | sent | started | kept | loaded | threads
+ *   waiters starts PROGRAM       one that is linked statically, and is given `loop`
+ *   waiters hears FD SOCKET      what `started` and `kept` start,
+ *   waiters receives SOCKET      and `sent`
  */
 #define _GNU_SOURCE
 #include "handing.h"
