@@ -1,21 +1,18 @@
 """The command: runs, says what became of each, and what differs by which rule."""
 
-import glob
 import os
-import platform
-import subprocess
+import signal
 import sys
 from collections import Counter
 
-from conforming import litmus, planted
+from conforming import litmus, machines, planted
 from conforming.differences import DIFFERENCES, untold
-from conforming.features import named
+from conforming.machines import NO_RING, TOP, Here, NoMachine, NoRing, NoTrace, features, record
 from conforming.making import random_linux_scenario, random_scenario
-from conforming.runs import RECORDER, TOP, NoRing, NoTrace, explain, features, judged, record
+from conforming.runs import explain, judged
 from conforming.scenarios import Scenario, scenarios
 from conforming.shrinking import shortened
 
-NO_RING = 77
 AS_FORESEEN, DIFFERS, UNFORESEEN, UNEXPLAINED, APART, REFUSED, GAVE_UP, NOT_TRIED = (
     "as foreseen",
     "differs as told",
@@ -27,31 +24,8 @@ AS_FORESEEN, DIFFERS, UNFORESEEN, UNEXPLAINED, APART, REFUSED, GAVE_UP, NOT_TRIE
     "not tried",
 )
 MOST_TRIES = 10
-
-
-def build():
-    """Builds the recorder. Where it is installed there is no source."""
-    sources = glob.glob(f"{TOP}/conform/recording/*.[ch]")
-    if (
-        not sources
-        or os.path.exists(RECORDER)
-        and os.path.getmtime(RECORDER) >= max(map(os.path.getmtime, sources))
-    ):
-        return
-    os.makedirs(os.path.dirname(RECORDER), exist_ok=True)
-    subprocess.run(
-        [
-            "cc",
-            "-O2",
-            "-Wall",
-            "-Wextra",
-            "-Wno-unused-result",
-            "-o",
-            RECORDER,
-            *(it for it in sources if it.endswith(".c")),
-        ],
-        check=True,
-    )
+NO_MACHINE = 3  # the status where a guest can't be had, or is gone
+MINUTES = 30  # of a guest, if no others are asked for
 
 
 def program():
@@ -165,10 +139,10 @@ class Report:
         for outcome in self.bad:
             self.say(outcome.text())
         self.say(
-            f"Linux {platform.release()}: "
+            f"Linux {machines.machine.release}: "
             + ", ".join(f"{count} {kind}" for kind, count in sorted(self.counts.items()))
         )
-        self.say("features: " + " ".join(named(features())))
+        self.say("features: " + " ".join(features()))
         return 1 if self.bad else 0
 
     def draw(self):
@@ -274,39 +248,77 @@ def is_told():
     return not missing
 
 
+def machine_of(words):
+    """The machine that is asked: this one, or a guest with the kernel that is named."""
+    if not words.kernel:
+        return Here()
+    from conforming.guest import Guest
+
+    return Guest(words.kernel, words.disk, words.emulated)
+
+
+def asked(words, report):
+    """Asks the machine, and returns the status."""
+    if words.planted:
+        return planted.find(report, scenarios(), None if words.no_check else program(), words.linux)
+    if words.litmus:
+        return litmus.run(words, report, program())
+    them = chosen(words)
+    if not them:
+        print(f"conform: no scenario has {words.scenario} in its name", file=sys.stderr)
+        return 2
+    if not program() and not words.no_check:
+        print(
+            "conform: the proved program isn't built, so all is judged by the quick search alone: ./uring prove",
+            file=sys.stderr,
+        )
+    run_all(them, words, report)
+    return report.end()
+
+
+def fault_of(words):
+    """Why these words can't be obeyed, if they can't."""
+    if words.linux and (words.page or words.json or words.litmus):
+        return "--page, --json and --litmus are of the profile's rules, and not of Linux's own"
+    if not program() and (words.page or words.json):
+        return "a page takes the proved program: ./uring prove"
+    if not words.kernel and (words.disk or words.emulated or words.minutes):
+        return "--disk, --emulated and --minutes are of a guest: name its --kernel"
+    return None
+
+
+def be_over(*_):
+    raise NoMachine("its minutes are over")
+
+
 def conform(words):
     if not is_told():
         return 2
-    if words.linux and (words.page or words.json or words.litmus):
-        print(
-            "conform: --page, --json and --litmus are of the profile's rules, and not of Linux's own",
-            file=sys.stderr,
-        )
+    fault = fault_of(words)
+    if fault:
+        print(f"conform: {fault}", file=sys.stderr)
         return 2
-    if not program() and (words.page or words.json):
-        print("conform: a page takes the proved program: ./uring prove", file=sys.stderr)
-        return 2
-    build()
-    report = Report(words)
+    if words.kernel:
+        signal.signal(signal.SIGALRM, be_over)
+        signal.alarm(60 * (words.minutes or MINUTES))
+    machine = None
     try:
+        machine = machine_of(words)
+        machines.ask(machine)
         features()
-        if words.planted:
-            return planted.find(
-                report, scenarios(), None if words.no_check else program(), words.linux
-            )
-        if words.litmus:
-            return litmus.run(words, report, program())
-        them = chosen(words)
-        if not them:
-            print(f"conform: no scenario has {words.scenario} in its name", file=sys.stderr)
-            return 2
-        if not program() and not words.no_check:
-            print(
-                "conform: the proved program isn't built, so all is judged by the quick search alone: ./uring prove",
-                file=sys.stderr,
-            )
-        run_all(them, words, report)
-        return report.end()
+        return asked(words, Report(words))
     except NoRing as why:
-        print(f"conform: this machine gives no ring: {why}\n{how_to_get_one()}", file=sys.stderr)
+        hint = "" if words.kernel else f"\n{how_to_get_one()}"
+        print(f"conform: {named(words)} gives no ring: {why}{hint}", file=sys.stderr)
         return NO_RING
+    except NoMachine as why:
+        print(f"conform: {named(words)}: {why}", file=sys.stderr)
+        return NO_MACHINE
+    finally:
+        signal.alarm(0)
+        if machine:
+            machine.close()
+
+
+def named(words):
+    return words.kernel or "this machine"

@@ -15,6 +15,7 @@ DIFFERENCES = {
     "drain beside skipped success": "Once a ring has used skipped success, the kernel refuses a drain with -95 (EOPNOTSUPP).",
     "a cancel takes back": "Four things are our own. A cancel takes nothing back, since no read waits here.",
     "a cancel finds itself": "Such a cancel may also find itself, and end with -114.",
+    "drains go by a count": "Kernels 6.1 and 6.12 drain by a count of completions:",
 }
 
 

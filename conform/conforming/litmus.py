@@ -9,7 +9,7 @@ import sys
 from collections import Counter
 
 from conforming.differences import DIFFERENCES
-from conforming.runs import TOP, NoTrace, record
+from conforming.machines import TOP, NoTrace, record
 
 sys.path.insert(0, f"{TOP}/litmus")
 REPEAT = 20

@@ -1,6 +1,7 @@
 """Plants mistakes in recorded runs: each kind has to be found."""
 
-from conforming.runs import explain, record
+from conforming.machines import record
+from conforming.runs import explain
 
 
 def changed(seen, change):

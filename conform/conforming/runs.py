@@ -1,52 +1,17 @@
-"""Runs a scenario on this machine's ring, and judges what was seen: where the proved program is built by `uring fill`, and by a quick search, that of fill.py or by Linux's rules that of linux.py."""
+"""Judges what was seen of a scenario: where the proved program is built by `uring fill`, and by a quick search, that of fill.py or by Linux's rules that of linux.py."""
 
-import os
 import subprocess
 
-from conforming import gaps
+from conforming import by_count, gaps, machines
 from conforming.fill import Fill, GaveUp
 from conforming.linux import BEYOND
 from conforming.linux_fill import LinuxFill
+from conforming.machines import NoTrace
 from conforming.seen import events_of
 from conforming.setup import Setup
 
-TOP = os.path.dirname(os.path.dirname(os.path.dirname(os.path.abspath(__file__))))
-RECORDER = f"{TOP}/conform/out/record"
-NO_RING = 77
-LIMIT = 600  # seconds of a recorder, which takes one or two where it doesn't hang
 MOST_HISTORIES = 500_000
 KINDS = {0: "lawful", 1: "unexplained", 3: "gave up"}
-
-
-class NoRing(Exception):
-    pass
-
-
-class NoTrace(Exception):
-    """What stands in a scenario is none."""
-
-
-def record(scenario):
-    """What the recorder saw of a scenario."""
-    try:
-        ran = subprocess.run(
-            [RECORDER], input=scenario, capture_output=True, text=True, timeout=LIMIT
-        )
-    except subprocess.TimeoutExpired as late:
-        raise NoTrace(f"it took more than {LIMIT} s") from late
-    if ran.returncode == NO_RING:
-        raise NoRing(ran.stderr.strip())
-    if ran.returncode:
-        raise NoTrace(ran.stderr.strip())
-    return ran.stdout
-
-
-def features():
-    """The bits of what the ring says that it can do."""
-    ran = subprocess.run([RECORDER, "features"], capture_output=True, text=True, timeout=LIMIT)
-    if ran.returncode == NO_RING:
-        raise NoRing(ran.stderr.strip())
-    return int(ran.stdout, 0)
 
 
 class Verdict:
@@ -87,16 +52,13 @@ def filled(uring, setup, events, is_linux):
     )
 
 
-def told_of(setup, events):
-    """The name of what cancels of the kernel do beyond Linux's rules, if the quick search finds a history with it, and else nothing. It differs from the search by the rules in nothing else."""
-    return next(
-        (
-            names[-1]
-            for names in BEYOND
-            if quick(setup, LinuxFill(setup, events, names), True).kind == "lawful"
-        ),
-        "",
-    )
+def told_of(setup, events, is_linux):
+    """The name of what the kernel does beyond the rules, if the quick search finds a history with it, and else nothing: by Linux's rules what its cancels do, and by either the drains of a kernel that counts. It differs from the search by the rules in nothing else."""
+    for names in BEYOND if is_linux else []:
+        if quick(setup, LinuxFill(setup, events, names), True).kind == "lawful":
+            return names[-1]
+    is_counting = machines.machine is not None and by_count.counts(machines.machine.release)
+    return by_count.BY_COUNT if is_counting and by_count.explains(setup, events, quick) else ""
 
 
 def agreed(found, proved, told):
@@ -121,7 +83,8 @@ def explain(scenario, recorded, uring=None, is_linux=False):
     setup, events = Setup(scenario), events_of(scenario, recorded)
     found = quick(setup, (LinuxFill if is_linux else Fill)(setup, events), is_linux)
     proved = filled(uring, setup, events, is_linux) if uring else found
-    told = told_of(setup, events) if is_linux and "unexplained" in (found.kind, proved.kind) else ""
+    is_unexplained = "unexplained" in (found.kind, proved.kind)
+    told = told_of(setup, events, is_linux) if is_unexplained else ""
     return agreed(found, proved, told)
 
 
