@@ -305,6 +305,7 @@ def conform(words):
     try:
         machine = machine_of(words)
         machines.ask(machine)
+        machines.flags = int(words.flags, 0) if words.flags else 0
         features()
         return asked(words, Report(words))
     except NoRing as why:

@@ -105,6 +105,7 @@ class Here:
 
 
 machine = None
+flags = 0  # of io_uring_setup, of each ring that is asked, beside those of its scenario
 
 
 def ask(it):
@@ -114,7 +115,15 @@ def ask(it):
 
 
 def record(scenario):
-    return machine.record(scenario)
+    """What the recorder saw of a scenario, on a ring with these flags."""
+    return machine.record(with_flags(scenario) if flags else scenario)
+
+
+def with_flags(scenario):
+    first, _, rest = scenario.partition("\n")
+    if first.startswith("# setup"):
+        return f"{first} --flags {flags}\n{rest}"
+    return f"# setup --flags {flags}\n{scenario}"
 
 
 def features():

@@ -19,8 +19,8 @@
  * With the word `features` it writes what the ring says that it can do, as a number, and reads
  * nothing.
  *
- * A first line `# setup --sq N --cq N --files N --stop` has the options of `uring`. What is seen is
- * written a line each:
+ * A first line `# setup --sq N --cq N --files N --stop` has the options of `uring`; `--flags N`
+ * there are more flags of the ring. What is seen is written a line each:
  *
  *   call ASKED RETURNED HEAD DROPPED     a call, what it returned, and the words head and dropped
  *                                        after it
@@ -72,6 +72,8 @@ static struct setup setup_of(int count, char **words)
             it.cq = (unsigned)atoi(words[++at]);
         else if (at + 1 < count && !strcmp(words[at], "--files"))
             it.files = (unsigned)atoi(words[++at]);
+        else if (at + 1 < count && !strcmp(words[at], "--flags"))
+            it.flags = (unsigned)strtoul(words[++at], NULL, 0);
     }
     if (!it.cq)
         it.cq = 2 * it.sq;

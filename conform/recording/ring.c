@@ -38,7 +38,7 @@ void must(bool is_well, const char *what)
 void open_ring(struct setup asked)
 {
     struct io_uring_params parameters = {
-        .flags = IORING_SETUP_CQSIZE | (asked.is_stop ? 0 : IORING_SETUP_SUBMIT_ALL),
+        .flags = IORING_SETUP_CQSIZE | (asked.is_stop ? 0 : IORING_SETUP_SUBMIT_ALL) | asked.flags,
         .cq_entries = asked.cq};
     ring.descriptor = (int)syscall(__NR_io_uring_setup, asked.sq, &parameters);
     if (ring.descriptor < 0)

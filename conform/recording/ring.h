@@ -11,6 +11,7 @@ enum { MOST_FILES = 64, MOST_ITEMS = 4096, NO_RING = 77, BAD_LINE = 2 };
 
 struct setup {
     unsigned sq, cq, files;
+    unsigned flags; /* of io_uring_setup, beside those that each ring has */
     bool is_stop;
 };
 
