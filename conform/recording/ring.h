@@ -32,8 +32,9 @@ extern struct ring ring;
 _Noreturn void stop(int status, const char *why);
 void must(bool is_well, const char *what);
 
-/* Sets the ring up, with so many files. */
+/* Sets the ring up, with so many files, and ends the process if there is none; whether it can. */
 void open_ring(struct setup asked);
+bool can_open_ring(struct setup asked);
 
 /* The descriptor of a file of this number, or -1. */
 int descriptor_of(const char *word);
