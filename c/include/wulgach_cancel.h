@@ -143,30 +143,31 @@ bool wulgach_is_due_first(const struct wulgach_outstanding *request);
  * go on. If not, is_ready may be anything. */
 bool wulgach_asks_wait(const struct wulgach_outstanding *request);
 
-/* A cancel that looks at requests, in the order of wulgach_first_rank. It is the caller's memory,
+/* A cancel, as it looks at requests in the order of wulgach_first_rank. It is the caller's memory,
  * and its fields are the library's. */
-struct wulgach_cancel {
+struct wulgach_cancel_look {
     struct wulgach_sought sought;
     uint32_t count;
 };
 
 /* A cancel that hasn't looked at any request. */
-void wulgach_cancel_begin(struct wulgach_cancel *cancel, const struct wulgach_sought *sought);
+void wulgach_cancel_begin(struct wulgach_cancel_look *cancel, const struct wulgach_sought *sought);
 
 /* Whether it matters to the cancel if the next request, which doesn't run, could start now. If not,
  * may_start may be anything. */
 bool wulgach_cancel_asks(
-    const struct wulgach_cancel *cancel, const struct wulgach_outstanding *request);
+    const struct wulgach_cancel_look *cancel, const struct wulgach_outstanding *request);
 
 /* Looks at the next request, and says whether it is cancelled: it fits, it is neither a cancel
  * itself nor a timeout that is linked to a request, none has chosen it before, and it waits for
  * something or could start now, one that was issued first only if it runs, and has to wait or goes
  * on; and the cancel is of all, or has found none before. */
-bool wulgach_cancel_sees(struct wulgach_cancel *cancel, const struct wulgach_outstanding *request);
+bool wulgach_cancel_sees(
+    struct wulgach_cancel_look *cancel, const struct wulgach_outstanding *request);
 
 /* What the cancel ends with, once it has looked at all: how many it has cancelled, or of one 0, or
  * -2 (ENOENT) if there was none. */
-int32_t wulgach_cancel_result(const struct wulgach_cancel *cancel);
+int32_t wulgach_cancel_result(const struct wulgach_cancel_look *cancel);
 
 /* ---- a cancel by user data for which the core has found a request that runs ---- */
 

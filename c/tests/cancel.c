@@ -26,7 +26,7 @@ static int32_t look(const struct wulgach_sought *sought, const bool *wanted)
             .is_token = true,
             .may_start = true},
     };
-    struct wulgach_cancel cancel;
+    struct wulgach_cancel_look cancel;
     wulgach_cancel_begin(&cancel, sought);
     for (int i = 0; i < 3; i++)
         demand(
@@ -39,7 +39,7 @@ static void seek(void)
 {
     enum { POLL_REMOVE = 7, TIMEOUT = 11, CANCEL = 14 };
     struct wulgach_sought sought;
-    struct wulgach_cancel cancel;
+    struct wulgach_cancel_look cancel;
     struct wulgach_outstanding read = {.user_data = 5,
                                    .is_token = true,
                                    .runs = true,
@@ -103,7 +103,7 @@ static void compare(void)
         .is_token = true,
         .runs = true,
         .is_stream = true};
-    struct wulgach_cancel cancel;
+    struct wulgach_cancel_look cancel;
     demand(wulgach_asks_file(&fd, &request) && !wulgach_asks_file(&any, &request) &&
                !wulgach_asks_file(&by_user_data, &request),
         "to whom a file matters");
@@ -141,7 +141,7 @@ static void issued_before(void)
 {
     struct wulgach_sought sought = {.user_data = 1};
     for (int i = 0; i < 16; i++) {
-        struct wulgach_cancel cancel;
+        struct wulgach_cancel_look cancel;
         struct wulgach_search search;
         struct wulgach_outstanding seen = {.user_data = 1,
             .is_token = true,
@@ -201,7 +201,7 @@ int main(void)
     order();
     ranks();
     issued_before();
-    struct wulgach_cancel cancel;
+    struct wulgach_cancel_look cancel;
     struct wulgach_outstanding waits = {.user_data = 1, .is_token = true};
     struct wulgach_sought one = {.user_data = 1}, nobody = {.user_data = 3}, any = {.is_any = true},
                           all = {.user_data = 1, .is_all = true};

@@ -1,5 +1,5 @@
-// The header in C++, and a core moved from place to place.
-#include "wulgach.h"
+// The headers in C++, and a core moved from place to place.
+#include "all_headers.hpp"
 
 #include <cstdio>
 #include <utility>

@@ -107,8 +107,8 @@ static struct wulgach_outstanding seen_by(
 /* Has the cancel of a seeker, or of a call of io_uring_register(2), which comes after all (NULL),
  * look at a request. Whether that is carried out on the file of this descriptor, and whether the
  * core lets it start, is asked only where it matters. */
-static bool look_for(struct ring *ring, struct wulgach_cancel *cancel, const struct request *seeker,
-    struct request *request, int on)
+static bool look_for(struct ring *ring, struct wulgach_cancel_look *cancel,
+    const struct request *seeker, struct request *request, int on)
 {
     struct wulgach_outstanding seen = seen_by(ring, seeker, request);
     if (wulgach_asks_file(&cancel->sought, &seen))
@@ -125,7 +125,7 @@ static bool look_for(struct ring *ring, struct wulgach_cancel *cancel, const str
 static int32_t cancel_all(
     struct ring *ring, const struct request *canceller, const struct wulgach_sought *sought, int on)
 {
-    struct wulgach_cancel cancel;
+    struct wulgach_cancel_look cancel;
     struct seeking seeking;
     wulgach_cancel_begin(&cancel, sought);
     begin_seeking(&seeking, ring, sought);
@@ -175,7 +175,7 @@ int32_t cancel_by(struct ring *ring, const struct request *canceller)
 struct request *find_request(struct ring *ring, const struct request *seeker)
 {
     struct wulgach_sought sought;
-    struct wulgach_cancel cancel;
+    struct wulgach_cancel_look cancel;
     wulgach_sought_of(submission_of(&seeker->entry), &sought);
     struct seeking seeking;
     wulgach_cancel_begin(&cancel, &sought);

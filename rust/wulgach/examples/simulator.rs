@@ -41,12 +41,12 @@ impl Disk {
         let on_volume = self.numbers[number as usize];
         match op {
             Operation::Write { len, .. } => {
-                self.volume.end_write(on_volume);
+                assert!(self.volume.end_write(on_volume));
                 self.has_ended[number as usize / 2] = true;
                 *len as i32
             }
             _ => {
-                self.volume.end_sync(on_volume);
+                assert!(self.volume.end_sync(on_volume));
                 self.is_synced = self.has_ended;
                 0
             }
@@ -130,8 +130,10 @@ fn go_on(core: &mut Core, disk: &mut Disk, rng: &mut Rng, bad: u64) -> Result<bo
     } else {
         disk.carry_out(number, &op)
     };
-    core.finish(number, res, [0; 64]);
-    Ok(true)
+    Ok(matches!(
+        core.finish(number, res, [0; 64]),
+        Answer::Ended { .. }
+    ))
 }
 
 /// Reaps all completions, and returns which commits the store has acknowledged.

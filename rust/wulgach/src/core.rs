@@ -85,7 +85,7 @@ impl Core {
     /// assert_eq!(core.submit(&entries)?, Answer::Taken { accepted: 2, dropped: 0, head: 2 });
     /// for number in 0..2 {
     ///     core.step(Step::Issue { number })?;
-    ///     core.finish(number, 0, [0; 64]);
+    ///     assert!(matches!(core.finish(number, 0, [0; 64]), Answer::Ended { .. }));
     /// }
     /// let completions = core.reap_all(16)?;
     /// assert_eq!(completions.iter().map(|c| c.user_data).collect::<Vec<_>>(), [7, 8]);
@@ -138,6 +138,7 @@ impl Core {
     }
 
     /// Ends the running request of this number with any result and any bytes: `Ended` with these, or `NotRunning`.
+    #[must_use]
     pub fn finish(&mut self, number: u64, res: i32, bytes: [u8; 64]) -> Answer {
         let mut answer = ffi::Answer::ZERO;
         // SAFETY: as in `step`.

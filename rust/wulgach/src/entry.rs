@@ -59,6 +59,13 @@ impl Entry {
         self
     }
 
+    /// Its first 64 bytes, a kernel's `struct io_uring_sqe`. The data of a write isn't among them: a kernel finds that at the address which the entry names.
+    #[must_use]
+    pub fn without_data(&self) -> [u8; 64] {
+        let bytes = <[u8; 128]>::from(*self);
+        bytes[..64].try_into().expect("64 bytes")
+    }
+
     pub(crate) fn bare(code: u8, user_data: u64, flags: u8, fd: i32) -> Entry {
         let mut words = [0; 16];
         words[0] = u64::from(code) | u64::from(flags) << 8 | u64::from(fd as u32) << 32;
@@ -99,7 +106,9 @@ impl From<[u8; 128]> for Entry {
 /// bytes[0] = 23; // IORING_OP_WRITE
 /// bytes[24] = 3; // len
 /// bytes[32] = 7; // user_data
-/// assert_eq!(Entry::from(bytes).with_data(b"abc"), Entry::write(7, 0, 0, 0, b"abc"));
+/// let entry = Entry::from(bytes).with_data(b"abc");
+/// assert_eq!(entry, Entry::write(7, 0, 0, 0, b"abc"));
+/// assert_eq!(entry.without_data(), bytes);
 /// ```
 impl From<[u8; 64]> for Entry {
     fn from(bytes: [u8; 64]) -> Entry {

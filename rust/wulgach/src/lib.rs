@@ -16,7 +16,11 @@
 //!
 //! # Other crates
 //!
-//! None is needed. An [`Entry`] has the bytes of the kernel's `struct io_uring_sqe`, and its [`flags`] are those of `io-uring`, `rustix` and `linux-raw-sys`: it is made from 64 or 128 bytes, and gives 128. A [`Completion`] gives what a completion of those has, user data and result, and [`Completion::result`] the result as `std::io` has it. [`Error`] becomes a `std::io::Error`.
+//! None is needed. An [`Entry`] has the bytes of the kernel's `struct io_uring_sqe`, and its [`flags`] are those of `io-uring`, `rustix` and `linux-raw-sys`: it is made from 64 or 128 bytes, and gives both. A [`Completion`] gives what a completion of those has, user data and result, and [`Completion::result`] the result as `std::io` has it. [`Error`] becomes a `std::io::Error`.
+//!
+//! # Buffers
+//!
+//! A core copies: what a write puts into a file comes out of its entry, and a read's bytes come with its end. It keeps no address of yours. So a buffer that moves, or is freed while a request uses it, isn't found here: a real ring would read or write what lies there by then.
 //!
 //! # Building
 //!

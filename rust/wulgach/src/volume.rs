@@ -14,10 +14,10 @@ use std::ops::Range;
 /// let mut volume = Volume::new(1, b"....")?;
 /// let one = volume.begin_write(0, b"aa")?;
 /// let two = volume.begin_write(2, b"bb")?;
-/// volume.end_write(one);
+/// assert!(volume.end_write(one));
 /// let sync = volume.begin_sync()?;
-/// volume.end_write(two);
-/// volume.end_sync(sync);
+/// assert!(volume.end_write(two));
+/// assert!(volume.end_sync(sync));
 ///
 /// assert_eq!(volume.contents()?, b"aabb");
 /// assert!(volume.is_safe(one) && !volume.is_safe(two));
@@ -85,6 +85,7 @@ impl Volume {
     }
 
     /// Ends a write. Returns whether it ran. One that failed is best left running: then any part of it may be found.
+    #[must_use]
     pub fn end_write(&mut self, number: u64) -> bool {
         // SAFETY: as in `begin_write`.
         unsafe { ffi::wulgach_volume_end_write(self.place.get_mut(), number) == 0 }
@@ -109,10 +110,10 @@ impl Volume {
     /// # fn main() -> Result<(), wulgach::Error> {
     /// let mut volume = Volume::new(1, b"....")?;
     /// let (one, two) = (volume.begin_write(0, b"aa")?, volume.begin_write(1, b"bb")?);
-    /// volume.end_write(one);
-    /// volume.end_write(two);
+    /// assert!(volume.end_write(one));
+    /// assert!(volume.end_write(two));
     /// let sync = volume.begin_range_sync(0..2)?;
-    /// volume.end_sync(sync);
+    /// assert!(volume.end_sync(sync));
     /// assert!(volume.is_safe(one) && !volume.is_safe(two));
     /// # Ok(())
     /// # }
@@ -137,12 +138,14 @@ impl Volume {
     }
 
     /// Ends a sync with success. Returns whether it ran.
+    #[must_use]
     pub fn end_sync(&mut self, number: u64) -> bool {
         // SAFETY: as in `begin_write`.
         unsafe { ffi::wulgach_volume_end_sync(self.place.get_mut(), number) == 0 }
     }
 
     /// Ends a sync with an error: no later sync then makes safe what it had reached. Returns whether it ran.
+    #[must_use]
     pub fn fail_sync(&mut self, number: u64) -> bool {
         // SAFETY: as in `begin_write`.
         unsafe { ffi::wulgach_volume_fail_sync(self.place.get_mut(), number) == 0 }
@@ -252,9 +255,9 @@ impl Volume {
     /// # fn main() -> Result<(), wulgach::Error> {
     /// let mut volume = Volume::new(1, b"....")?;
     /// let write = volume.begin_write(0, b"ab")?;
-    /// volume.end_write(write);
+    /// assert!(volume.end_write(write));
     /// let sync = volume.begin_sync()?;
-    /// volume.end_sync(sync);
+    /// assert!(volume.end_sync(sync));
     /// volume.fold()?;
     /// assert_eq!(volume.images(1)?, Some(vec![b"ab..".to_vec()]));
     /// # Ok(())
