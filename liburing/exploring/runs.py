@@ -194,9 +194,9 @@ class Hand:
             stop(f"{self.program.words[0]}: {error.strerror}")
 
     def settle_start(self):
-        """Where runs begin: at the first set-up where each has a folder of its own and nothing else stands against it, else before main, else by a new process. What stands against the place that was asked for is told."""
+        """Where runs begin: before main, or, if that is asked for, at the first set-up; by a new process where something stands against both. What stands against a place that was asked for is told."""
         wanted = {
-            "auto": ["ring", "main"] if self.program.is_fresh else ["main"],
+            "auto": ["main"],
             "ring": ["ring", "main"],
             "main": ["main"],
             "new": [],

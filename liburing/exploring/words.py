@@ -23,7 +23,7 @@ def add_program(it):
         "--start",
         choices=["auto", "ring", "main", "new"],
         default="auto",
-        help="where runs begin: by a fork at the first set-up of a ring, by a fork before main, or as a new process each; auto: the first of these that is sound",
+        help="where runs begin: by a fork at the first set-up of a ring, by a fork before main, or as a new process each; auto: before main, where that is sound",
     )
 
 
