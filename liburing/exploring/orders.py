@@ -6,11 +6,10 @@ import os
 import shutil
 import sys
 
-from exploring.coverage import print_rules
 from exploring.reducing import Request, Way, unfold
 from exploring.runs import APART, list_of_ways, stop
 from exploring.seeds import write_summary
-from exploring.side_by_side import MOST_AT_ONCE, Progress, pool_of
+from exploring.side_by_side import MOST_AT_ONCE, Progress, pool_of, print_rules
 
 
 def is_turn(choice):

@@ -5,13 +5,11 @@ import shlex
 import sys
 import time
 
-from exploring.coverage import added, print_rules
-from exploring.junit import Case, write_junit
 from exploring.keeping import keep
-from exploring.kinds import first_line, without_numbers
+from exploring.kinds import Case, first_line, without_numbers, write_junit
 from exploring.runs import APART, Policies, Stopped, list_of, stop, told_error
 from exploring.shrinking import least
-from exploring.side_by_side import Progress, in_turn, pool_of
+from exploring.side_by_side import Progress, added, in_turn, pool_of, print_rules
 
 
 class Found:
