@@ -2,7 +2,7 @@
 
 import itertools
 
-from crashing.disk import Sync, is_open
+from crashing.changes import Sync, is_open
 from crashing.filesystems import (
     are_whole,
     hidden_from,
