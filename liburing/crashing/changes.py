@@ -67,17 +67,19 @@ class Naming:
         "effects",
         "files",
         "folders",
+        "sources",
         "replaced",
         "is_folded",
         "part",
         "needs",
+        "new",
     )
 
     def __init__(self, operation, effects, files, replaced=None):
         self.operation, self.begin, self.end = operation, operation.begin, operation.end
         self.effects, self.files, self.replaced = effects, files, replaced
-        self.folders = {folder for folder, _, _ in effects}
-        self.is_folded, self.part, self.needs = False, "", None
+        self.folders, self.sources = {folder for folder, _, _ in effects}, set()
+        self.is_folded, self.part, self.needs, self.new = False, "", [], None
 
     def is_over(self, at):
         """Whether its operation had ended by then, with all that it does."""
@@ -89,10 +91,6 @@ class Naming:
                 names.setdefault(folder, {}).pop(name, None)
             else:
                 names.setdefault(folder, {})[name] = file
-
-
-def is_open(sync, now):
-    return sync.end is None or sync.end >= now
 
 
 def written(operation):

@@ -6,7 +6,7 @@ What is settled is in every image. A change is settled once the volume folds it:
 import os
 import stat
 
-from crashing.changes import Change, Naming, Sync, is_open, written
+from crashing.changes import Change, Naming, Sync, written
 from crashing.events import (
     COPY,
     CREATE,
@@ -24,9 +24,17 @@ from crashing.events import (
     SYNCS_ITS_RANGE,
     WRITE,
 )
-from crashing.filesystems import Rules, changed_at, committed, covered_names, in_turn
+from crashing.filesystems import (
+    Held,
+    Rules,
+    changed_at,
+    committed,
+    covered_names,
+    held_names,
+    in_turn,
+)
 from crashing.labels import Bytes, Parts
-from crashing.order import settled
+from crashing.order import is_open, settled
 
 # Modes of fallocate, and a flag of renameat2.
 KEEP_SIZE, PUNCH_HOLE, COLLAPSE_RANGE, ZERO_RANGE, INSERT_RANGE = 1, 2, 8, 16, 32
@@ -150,10 +158,11 @@ class Disk:
         # (one that fails commits nothing, and gives up no more than the file's own names)
         at = changed_at(self, number, operation) if is_done else -1
         covers = covered_names(self, number, operation, at)
-        if covers:
-            self.name_syncs.append(
-                Sync(operation, operation.begin, operation.end, is_done, covers=covers)
-            )
+        for own in covers, held_names(self, number, operation):
+            if own:
+                self.name_syncs.append(
+                    Sync(operation, operation.begin, operation.end, is_done, covers=own)
+                )
         if self.is_ordered and is_done:
             self.commit_lengths(number, operation, at)
 
@@ -279,8 +288,10 @@ class Disk:
         return [sorted(members, key=lambda it: it.begin) for _, members in groups.values()]
 
     def fold_names(self):
+        # (what is safe while a file has its names isn't settled)
+        syncs = [it for it in self.name_syncs if not isinstance(it.covers, Held)]
         for group in self.name_groups():
-            found = settled(group, lambda some: Parts(some, self.name_syncs, self.now).folded())
+            found = settled(group, lambda some: Parts(some, syncs, self.now).folded())
             for naming in group:
                 if naming in found:
                     naming.apply(self.names)
@@ -353,26 +364,34 @@ class Disk:
         if self.is_apart:
             for effect in effects:
                 self.name(operation, [effect], moved)
-        elif self.is_in_parts(operation, folder == other, moved):
+        elif self.rules.parts_renames and not operation.flags & EXCHANGE:
             self.name_in_parts(operation, effects, moved, replaced)
         else:
             self.name(operation, effects, moved, None if operation.flags & EXCHANGE else replaced)
 
     def untie(self, number):
-        """Of a file that loses a name the parts of renames are left each by itself: that it is gone may be left alone."""
+        """Of a file that loses a name to another or is removed: that it is gone may be left alone, and so may what its syncs made safe."""
         for it in self.namings:
-            if it.needs and number in it.files:
-                it.needs = None
+            if it.needs and not it.new and number in it.files:
+                it.needs = []
+        for own in self.held():
+            own.names.pop(number, None)
+
+    def held(self):
+        return [it.covers for it in self.name_syncs if isinstance(it.covers, Held)]
+
+    def add_name(self, naming, number):
+        """A file has another name in the place of an earlier one."""
+        for it in self.namings:
+            if it.needs and it is not naming and number in it.files:
+                it.needs.append(naming)
+        for own in self.held():
+            if number in own.names:
+                own.names[number].append(naming)
 
     def is_new(self, number):
         """Whether a file's creation isn't settled."""
         return any(it.operation.kind == CREATE and number in it.files for it in self.namings)
-
-    def is_in_parts(self, operation, is_within, moved):
-        """Whether a rename is left in parts: one to another folder, or of a new file."""
-        is_exchange = operation.flags & EXCHANGE
-        parts = self.rules.parts_renames and not is_exchange
-        return parts and (not is_within or self.is_new(moved))
 
     def name_in_parts(self, operation, effects, moved, replaced):
         """A rename as its parts; what it replaces goes by itself where the new name is in another folder."""
@@ -383,7 +402,9 @@ class Disk:
         for effect in effects:
             self.name(operation, [effect], moved, replaced if effect[2] == moved else None)
         if len(effects) == 2:
-            in_turn(self.namings[before:], is_new, is_within)
+            has_one = is_within or self.files[moved].kind == "folder"
+            in_turn(self.namings[before:], is_new, has_one)
+            self.add_name(self.namings[-2], moved)
 
     def current(self, folder, name):
         """The file that has a name, as the program sees it."""
