@@ -341,7 +341,7 @@ class Run:
 
     def read_choices(self, path):
         with open(path) as lines:
-            self.record = [line.rstrip("\n") for line in lines if line.endswith("\n")]
+            self.record += [line.rstrip("\n") for line in lines if line.endswith("\n")]
         found = [line.split(" ", 3) for line in self.record if line[0].isdecimal()]
         # (a fault is chosen amid the end of its request, and recorded before that)
         self.choices = sorted(
