@@ -1,13 +1,18 @@
 -- The lines of what a power failure may show, and claims of them.
-use Rattle.std.proofs.Common.{◌≡◌, ◌↔◌, ℕ, ◌+◌, ◌<◌, ◌≤◌, Bool, true, false, List, [], ◌∷◌, ◌++◌, length, map, take, get_or, Option, Ok, sym, ap, subst, ◌∙◌, inl, inr, arith, append_assoc, length-take}
-use Rattle.uring_litmus.proofs.Common.{Contains, Contains-push_cases, Global, IsSortedOnce, ReadsCalls, StandsSome, String, Vec, accepted_of, is_so, length-map, lists_of, map-append, string_bytes, take_all, texts_of}
+use Rattle.std.proofs.Common.{◌≡◌, ◌↔◌, ℕ, ◌+◌, ◌^◌, ◌<◌, ◌≤◌, Bool, true, false, List, [], ◌∷◌, ◌++◌, length, map, take, get_or, Option, if◌then◌else◌, sym, ap, subst, ◌∙◌, inl, inr, arith, append_assoc, length-take}
+use Rattle.uring_litmus.proofs.Common.{Contains, Contains-push_cases, Global, IsSortedOnce, StandsSome, String, Vec, codes, is_so, length-map, lines_text, map-append, string_bytes, take_all, texts_of, told_count}
 use Rattle.uring_entry.specs.Setup.{Setup}
 use Rattle.uring_entry.specs.Layout.{Sqe}
-use Rattle.uring_ports.specs.declared.item.Item.{Item}
 use Rattle.uring_crash_outcomes.specs.Shown.{Crash}
-use Rattle.uring_crash_outcomes.specs.Found.{AreCrashes, AreAllCrashes}
+use Rattle.uring_crash_outcomes.specs.Found.{AreCrashes, AreAllCrashes, IsReason}
+use Rattle.uring_crash_outcomes.specs.declared.fault.CrashFault.{CrashFault}
+use Rattle.uring_crash_outcomes.specs.declared.fault.CrashFault.TheVariants as fault
+use Rattle.uring_outcomes.specs.Faults.{entry_count}
 use Rattle.uring_litmus.specs.declared.claims.Claim.{Claim}
-use Rattle.uring_litmus.specs.Crashes.{AreCrashLines, FailsOfLine, HoldsOfLines, IsSoOfParts, IsSoOfLine, IsNotSoOfLine, ReadsEntries, crash_line, left_text, left_texts}
+use Rattle.std.specs.Io.KnownBytes.{Appends}
+use Rattle.uring_litmus.specs.declared.crashes.CrashesListed.TheVariants as listed
+use Rattle.uring_litmus.specs.Items.{ReadsEntries}
+use Rattle.uring_litmus.specs.Crashes.{AreCrashLines, FailsOfLine, HoldsOfLines, IsSoOfParts, IsSoOfLine, IsNotSoOfLine, ListsCrashes, crash_line, left_text, left_texts}
 use Rattle.uring_litmus.specs.Wanted.{IsCut}
 use Rattle.uring_litmus.proofs.Places.{from_map, to_map}
 use Rattle.uring_litmus.proofs.Texts.{next_taken}
@@ -42,10 +47,6 @@ are_lines unit g calls is_all crashes lines right all once = record {
   all = λ done c can. once.kept (crash_line c) (to_map crash_line crashes c ((all done c).1 can));
   once = once.sorted;
 }
-
-pub reads : (g : Setup) (items : Vec (Vec Item Global) Global) (a a' : Option (List ℕ))
-    → ReadsCalls g (Ok items) a a' → ReadsEntries g (map accepted_of (lists_of items.items)) a a'
-reads g items a a' read = grind arith
 
 -- A claim of a line.
 
@@ -99,3 +100,33 @@ pub fails_line : (unit : ℕ) (g : Setup) (calls : List (List Sqe)) (claim : Cla
     → FailsOfLine unit g calls claim wanted line
 fails_line unit g calls claim wanted is_all lines line are has against =
     let c = are.right line has in record { crash = c.0; can = c.1; shown = c.2; against = against }
+
+-- what ends a walk where the calls have too many entries
+pub crash_spent : (unit : ℕ) (g : Setup) (calls : List (List Sqe)) (most : ℕ) (why : CrashFault) → why ≡ fault.Spent
+    → IsReason unit g calls most why → 2 ^ 63 ≤ entry_count calls
+crash_spent unit g calls most why is reason = subst (IsReason unit g calls most) is reason
+
+-- What was written of the lines.
+pub lists_crashes : (unit : ℕ) (g : Setup) (most : ℕ) (calls : List (List Sqe)) (is_all : Bool) (lines : List (String Global)) (text : List ℕ) (a a' b b' : Option (List ℕ))
+    → ReadsEntries g calls a a' → AreCrashLines unit g calls is_all (texts_of lines)
+    → text ≡ lines_text (texts_of lines) ++ codes "crashes " ++ told_count (length lines) is_all most
+    → Appends b b' text
+    → ListsCrashes unit g most (if is_all then listed.All else listed.Stopped) a a' b b'
+lists_crashes unit g most calls true lines text a a' b b' reads are is written = record {
+  calls = calls;
+  reads = reads;
+  listing = record {
+    text = text;
+    list = record { lines = texts_of lines; are = are; is = is ∙ ap (λ n. lines_text (texts_of lines) ++ codes "crashes " ++ told_count n true most) (sym (length-map lines string_bytes)) };
+    written = written;
+  };
+}
+lists_crashes unit g most calls false lines text a a' b b' reads are is written = record {
+  calls = calls;
+  reads = reads;
+  listing = record {
+    text = text;
+    list = record { lines = texts_of lines; are = are; is = is ∙ ap (λ n. lines_text (texts_of lines) ++ codes "crashes " ++ told_count n false most) (sym (length-map lines string_bytes)) };
+    written = written;
+  };
+}

@@ -1,8 +1,13 @@
 -- What is listed of calls, and shows what they may come to.
-use Rattle.std.proofs.Common.{◌≡◌, ℕ, zero, suc, Bool, List, [], ◌∷◌, ◌++◌, length, map, Option, Ok, arith, append_assoc}
+use Rattle.std.proofs.Common.{◌≡◌, ◌≤◌, ◌^◌, ℕ, zero, suc, Bool, List, [], ◌∷◌, ◌++◌, length, map, Option, Ok, arith, append_assoc}
 use Rattle.uring_litmus.proofs.Common.{AllZip, AreFound, AreLinesOf, Contains, Ending, Finds, Form, Global, IsLineOf, IsListOf, IsNoted, IsSortedOnce, ReadsCalls, ShowAll, String, Vec, accepted_of, codes, length-map, lines_text, lists_of, order_text, texts_of, told_count}
 use Rattle.uring_entry.specs.Setup.{Setup}
+use Rattle.uring_entry.specs.Layout.{Sqe}
 use Rattle.uring_ports.specs.declared.item.Item.{Item}
+use Rattle.uring_outcomes.specs.Faults.{IsReason, entry_count}
+use Rattle.uring_outcomes.specs.declared.fault.WalkFault.{WalkFault}
+use Rattle.uring_outcomes.specs.declared.fault.WalkFault.TheVariants as fault
+use Rattle.uring_litmus.specs.Items.{ReadsEntries, ReadsTooMany}
 
 -- each line is that of an outcome
 of_line : (form : Form) (endings : List Ending) (lines : List (List ℕ)) → AreLinesOf form endings lines
@@ -45,3 +50,25 @@ pub finds : (setup : Setup) (items : Vec (Vec Item Global) Global) (endings : Li
     → ReadsCalls setup (Ok items) a a'
     → AreFound setup (map accepted_of (lists_of items.items)) endings is_all → Finds setup endings is_all a a'
 finds setup items endings is_all a a' read found = grind arith
+
+pub reads : (g : Setup) (items : Vec (Vec Item Global) Global) (a a' : Option (List ℕ))
+    → ReadsCalls g (Ok items) a a' → ReadsEntries g (map accepted_of (lists_of items.items)) a a'
+reads g items a a' read = grind arith
+
+-- Calls that have more entries than requests have numbers.
+
+pub too_many : (g : Setup) (items : Vec (Vec Item Global) Global) (a a' : Option (List ℕ))
+    → ReadsCalls g (Ok items) a a' → 2 ^ 63 ≤ entry_count (map accepted_of (lists_of items.items))
+    → ReadsTooMany g a a'
+too_many g items a a' read many = record {
+  calls = map accepted_of (lists_of items.items);
+  reads = reads g items a a' read;
+  many = many;
+}
+
+-- where all is granted, nothing else ends a walk
+pub is_spent : (grants : ℕ → Type 0) (calls : List (List Sqe)) (why : WalkFault) → IsReason grants calls why
+    → ((n : ℕ) → grants n) → 2 ^ 63 ≤ entry_count calls
+is_spent grants calls fault.Memory reason all = absurd (reason all)
+is_spent grants calls fault.Spent reason all = reason
+is_spent grants calls fault.Paths reason all = absurd reason

@@ -1,15 +1,13 @@
 -- What a power failure may show of calls, line by line, and claims of the lines. Our own rule.
-use Rattle.std.specs.Prelude.{◌≡◌, ℕ, ◌+◌, Bool, true, false, List, [], ◌∷◌, ◌++◌, length, map, Contains, Option, Ok, codes, string_bytes}
+use Rattle.std.specs.Prelude.{◌≡◌, ℕ, ◌+◌, Bool, true, false, List, [], ◌∷◌, ◌++◌, length, Contains, Option, codes, string_bytes}
 use Rattle.std.specs.Fmt.{decimal}
 use Rattle.std.specs.Ordering.{nat_cmp}
 use Rattle.std.specs.Cmp.Lexicographic.{slice_cmp}
-use Rattle.std.specs.Io.KnownBytes.{Consumes, IsAtEnd}
+use Rattle.std.specs.Io.KnownBytes.{Appends}
 use Rattle.std.specs.List.Sorted.{IsStrictlySortedBy}
 use Rattle.uring_entry.specs.Setup.{Setup}
 use Rattle.uring_entry.specs.Layout.{Sqe}
 use Rattle.uring_text.specs.Tokens.{hex_or_dash}
-use Rattle.uring_ports.specs.declared.item.Item.{Item}
-use Rattle.uring_play_text.specs.Inputs.{IsTold}
 use Rattle.uring_crash_outcomes.specs.Shown.{Crash}
 use Rattle.uring_crash_outcomes.specs.Moves.{CanShow}
 use Rattle.uring_crash_outcomes.specs.Found.{MayBeMany}
@@ -17,9 +15,12 @@ use Rattle.uring_litmus.specs.declared.claims.Claim.{Claim}
 use Rattle.uring_litmus.specs.declared.claims.Claim.TheVariants as claims
 use Rattle.uring_litmus.specs.declared.crashes.CrashesJudged.{CrashesJudged}
 use Rattle.uring_litmus.specs.declared.crashes.CrashesJudged.TheVariants as judged
+use Rattle.uring_litmus.specs.declared.crashes.CrashesListed.{CrashesListed}
+use Rattle.uring_litmus.specs.declared.crashes.CrashesListed.TheVariants as listed
 use Rattle.uring_litmus.specs.Claims.{StandsSome}
-use Rattle.uring_litmus.specs.Items.{accepted_of}
+use Rattle.uring_litmus.specs.Items.{ReadsEntries}
 use Rattle.uring_litmus.specs.Lines.{joined}
+use Rattle.uring_litmus.specs.Listings.{lines_text, told_count}
 use Rattle.uring_litmus.specs.Parts.{completion_parts}
 use Rattle.uring_litmus.specs.Wanted.{IsCut}
 
@@ -88,11 +89,31 @@ IsCrashVerdict unit g calls claim wanted (judged.Fails line) =
     FailsOfLine unit g calls claim wanted (string_bytes line)
 IsCrashVerdict unit g calls claim wanted judged.TooMany = MayBeMany unit g calls 1000
 
--- Calls were read to the end of the input, and these are the entries that they accept.
-pub record ReadsEntries (g : Setup) (calls : List (List Sqe)) (left_before left_after : Option (List ℕ)) : Type 0 where
-  pub bytes : List ℕ
-  pub consumed : Consumes left_before left_after bytes
-  pub at_end : IsAtEnd left_after
-  pub items : List (List Item)
-  pub told : IsTold g.sq bytes (Ok items)
-  pub are : calls ≡ map accepted_of items
+-- The text of what a power failure may show of these calls: lines of it, sorted by their bytes, each once, and how many these are. If the walk went to its end, nothing is left out.
+pub record IsCrashListOf (unit : ℕ) (g : Setup) (calls : List (List Sqe)) (is_all : Bool) (most : ℕ) (text : List ℕ) : Type 0 where
+  pub lines : List (List ℕ)
+  pub are : AreCrashLines unit g calls is_all lines
+  pub is : text ≡ lines_text lines ++ codes "crashes " ++ told_count (length lines) is_all most
+
+-- such a text was written
+pub record WritesCrashList (unit : ℕ) (g : Setup) (calls : List (List Sqe)) (is_all : Bool) (most : ℕ) (held_before held_after : Option (List ℕ)) : Type 0 where
+  pub text : List ℕ
+  pub list : IsCrashListOf unit g calls is_all most text
+  pub written : Appends held_before held_after text
+
+-- A file may be left in more ways than are listed, and nothing was written.
+pub record ListsNone (unit : ℕ) (g : Setup) (calls : List (List Sqe)) (held_before held_after : Option (List ℕ)) : Type 0 where
+  pub many : MayBeMany unit g calls 1000
+  pub kept : held_after ≡ held_before
+
+-- what became of a list of all that a power failure may show of these calls
+abbrev pub IsCrashListing : ℕ → Setup → List (List Sqe) → ℕ → CrashesListed → Option (List ℕ) → Option (List ℕ) → Type 0
+IsCrashListing unit g calls most listed.All = WritesCrashList unit g calls true most
+IsCrashListing unit g calls most listed.Stopped = WritesCrashList unit g calls false most
+IsCrashListing unit g calls most listed.TooMany = ListsNone unit g calls
+
+-- Calls were read to the end of the input, and this became of a list of all that a power failure may show of them.
+pub record ListsCrashes (unit : ℕ) (g : Setup) (most : ℕ) (said : CrashesListed) (left_before left_after held_before held_after : Option (List ℕ)) : Type 0 where
+  pub calls : List (List Sqe)
+  pub reads : ReadsEntries g calls left_before left_after
+  pub listing : IsCrashListing unit g calls most said held_before held_after

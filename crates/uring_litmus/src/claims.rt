@@ -1,6 +1,6 @@
 //! Claims of what calls may come to.
 
-ghost use Rattle.std.specs.Prelude.{◌≡◌, ◌↔◌, IsTrue, IfOk, MatchOption, Contains};
+ghost use Rattle.std.specs.Prelude.{◌≡◌, ◌↔◌, ℕ, IsTrue, IfOk, IsOk, MatchOption, Contains};
 ghost use Rattle.uring_outcomes.specs.Outcomes.{Ending};
 ghost use Rattle.uring_litmus.specs.Parts.{texts_of};
 ghost use Rattle.uring_litmus.specs.Claims.{lines_in, AreAmong, StandsSome, IsSoOf, IsAgainst, is_so};
@@ -10,6 +10,7 @@ use crate::lines::is_same_text;
 use crate::parts::parts_of;
 use std::alloc::{AllocError, Global};
 use uring_outcomes::Ending;
+use uring_text::TextMemory;
 
 /// What is claimed of lines.
 #[derive(Clone, Copy)]
@@ -28,18 +29,20 @@ const WHOLE: Form = Form {
 };
 
 /// The first of these outcomes of which the claim isn't so, if there is one.
-pub(crate) fn first_against(
+pub(crate) fn first_against<M: TextMemory>(
+    memory: &M,
     alloc: Global,
     endings: &[Ending],
     claim: Claim,
     lines: &[Vec<String>],
 ) -> Result<Option<usize>, AllocError>
-    ensures { IfOk result
+    ensures found { IfOk result
         (λ found. MatchOption found ((e : Ending) → Contains endings.now e → IsSoOf claim (lines_in lines.now) e)
         (λ at. IsAgainst claim (lines_in lines.now) endings.now at)) }
+    ensures granted { ((n : ℕ) → M.grants memory.now n) → IsOk result }
 {
     for (at, ending) in endings.iter().enumerate() {
-        let parts = parts_of(alloc, ending, WHOLE)?;
+        let parts = parts_of(memory, alloc, ending, WHOLE)?;
         let is_shown = shows_some(parts.as_slice(), lines);
         drop(parts);
         let so = so_by(claim, is_shown);

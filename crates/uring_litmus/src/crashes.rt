@@ -1,24 +1,27 @@
 //! What a power failure may show of calls, as text: line by line, and claims about the lines.
 
-ghost use Rattle.std.specs.Prelude.{◌≡◌, ◌++◌, ◌∷◌, ℕ, List, max, false, IfOk, OnOk, MatchOption, Contains, map, string_bytes};
+ghost use Rattle.std.specs.Prelude.{◌≡◌, ◌++◌, ◌∷◌, ℕ, List, Err, max, false, IfOk, OnOk, IsOk, MatchOption, Contains, map, string_bytes};
 ghost use Rattle.uring_entry.specs.Layout.{Sqe};
 ghost use Rattle.uring_crash_outcomes.specs.Found.{MayBeMany};
 ghost use Rattle.uring_litmus.specs.Claims.{lines_in};
-ghost use Rattle.uring_litmus.specs.Crashes.{AreCrashLines, IsCrashVerdict, IsSoOfLine, IsNotSoOfLine, ReadsEntries, crash_line, crash_parts, left_text, left_texts};
+ghost use Rattle.uring_litmus.specs.Crashes.{AreCrashLines, IsCrashVerdict, IsSoOfLine, IsNotSoOfLine, ListsCrashes, crash_line, crash_parts, left_text, left_texts};
+ghost use Rattle.uring_litmus.specs.Items.{ReadsEntries, ReadsTooMany};
 ghost use Rattle.uring_litmus.specs.Lines.{IsSortedOnce};
 ghost use Rattle.uring_litmus.specs.Parts.{texts_of};
 
 use crate::calls::entries_in;
 use crate::claims::{Claim, shows_some, so_by};
-use crate::lines::{join, sort_once};
+use crate::lines::{copy_of, join, sort_once};
 use crate::listing::{listed, write_text};
-use crate::parts::{add_completions, push_hex};
+use crate::parts::add_completions;
 use crate::wanted::split_parts;
 use std::alloc::{AllocError, Global};
 use std::io::{Read, Write};
-use uring_crash_outcomes::{Crash, CrashFault, FoundCrashes, crashes_within};
+use uring_crash_outcomes::{Crash, CrashFault, FoundCrashes, crashes_within_in};
 use uring_entry::Setup;
-use uring_play_text::{PlayFault, read_calls};
+use uring_memory::push;
+use uring_play_text::{PlayFault, read_calls_in};
+use uring_text::{TextMemory, push_data, push_named, push_text};
 
 /// The most images that may be left of one file at one moment.
 pub const MOST_IMAGES: u32 = 1_000;
@@ -64,11 +67,32 @@ pub fn list_crashes<R: Read, W: Write>(
     most: u64,
 ) -> Result<CrashesListed, PlayFault>
     requires { setup.now.linux ≡ false }
+    ensures { IfOk result
+        (λ listed. ListsCrashes (max unit 1) setup.now most listed (R.remaining reader.old) (R.remaining reader.new) (W.contents writer.old) (W.contents writer.new)) }
 {
-    let Some((lines, is_all)) = crash_lines(alloc, reader, setup, unit, most)? else {
+    list_crashes_in(&alloc, alloc, reader, writer, setup, unit, most)
+}
+
+/// As `list_crashes`, by this memory. If it grants whatever is asked for, `Memory` comes only as of `list_in`.
+pub fn list_crashes_in<M: TextMemory, R: Read, W: Write>(
+    memory: &M,
+    alloc: Global,
+    reader: &mut R,
+    writer: &mut W,
+    setup: &Setup,
+    unit: u32,
+    most: u64,
+) -> Result<CrashesListed, PlayFault>
+    requires { setup.now.linux ≡ false }
+    ensures lists { IfOk result
+        (λ listed. ListsCrashes (max unit 1) setup.now most listed (R.remaining reader.old) (R.remaining reader.new) (W.contents writer.old) (W.contents writer.new)) }
+    ensures granted { ((n : ℕ) → M.grants memory.now n) → result ≡ Err PlayFault.Memory
+        → ReadsTooMany setup.now (R.remaining reader.old) (R.remaining reader.new) }
+{
+    let Some((lines, is_all)) = crash_lines(memory, alloc, reader, setup, unit, most)? else {
         return Ok(CrashesListed::TooMany);
     };
-    let text = listed(alloc, "crashes ", lines.as_slice(), is_all, most);
+    let text = listed(memory, alloc, "crashes ", lines.as_slice(), is_all, most);
     drop(lines);
     let text = text?;
     write_text(writer, text.as_str())?;
@@ -96,10 +120,31 @@ pub fn judge_crashes<R: Read>(
         × ReadsEntries setup.now calls (R.remaining reader.old) (R.remaining reader.new)
         × IsCrashVerdict (max unit 1) setup.now calls claim (lines_in lines.now) judged) }
 {
-    let Some((shown, is_all)) = crash_lines(alloc, reader, setup, unit, most)? else {
+    judge_crashes_in(&alloc, alloc, reader, setup, unit, claim, lines, most)
+}
+
+/// As `judge_crashes`, by this memory. If it grants whatever is asked for, `Memory` comes only as of `list_in`.
+pub fn judge_crashes_in<M: TextMemory, R: Read>(
+    memory: &M,
+    alloc: Global,
+    reader: &mut R,
+    setup: &Setup,
+    unit: u32,
+    claim: Claim,
+    lines: &[Vec<String>],
+    most: u64,
+) -> Result<CrashesJudged, PlayFault>
+    requires { setup.now.linux ≡ false }
+    ensures judges { IfOk result (λ judged. (calls : List (List Sqe))
+        × ReadsEntries setup.now calls (R.remaining reader.old) (R.remaining reader.new)
+        × IsCrashVerdict (max unit 1) setup.now calls claim (lines_in lines.now) judged) }
+    ensures granted { ((n : ℕ) → M.grants memory.now n) → result ≡ Err PlayFault.Memory
+        → ReadsTooMany setup.now (R.remaining reader.old) (R.remaining reader.new) }
+{
+    let Some((shown, is_all)) = crash_lines(memory, alloc, reader, setup, unit, most)? else {
         return Ok(CrashesJudged::TooMany);
     };
-    let against = first_against(alloc, shown.as_slice(), claim, lines);
+    let against = first_against(memory, alloc, shown.as_slice(), claim, lines);
     let count = shown.len();
     drop(shown);
     let Some(line) = against? else {
@@ -113,7 +158,8 @@ pub fn judge_crashes<R: Read>(
 }
 
 /// The lines of what a power failure may show of the calls that are read, sorted by their bytes, each once, and whether they are all; none if too many images may be left of a file.
-fn crash_lines<R: Read>(
+fn crash_lines<M: TextMemory, R: Read>(
+    memory: &M,
     alloc: Global,
     reader: &mut R,
     setup: &Setup,
@@ -121,113 +167,160 @@ fn crash_lines<R: Read>(
     most: u64,
 ) -> Result<Option<(Vec<String>, bool)>, PlayFault>
     requires { setup.now.linux ≡ false }
-    ensures { IfOk result (λ found. (calls : List (List Sqe))
+    ensures lines { IfOk result (λ found. (calls : List (List Sqe))
         × ReadsEntries setup.now calls (R.remaining reader.old) (R.remaining reader.new)
         × MatchOption found (MayBeMany (max unit 1) setup.now calls 1000)
         (λ lines. AreCrashLines (max unit 1) setup.now calls lines.1 (texts_of lines.0.items))) }
+    ensures granted { ((n : ℕ) → M.grants memory.now n) → result ≡ Err PlayFault.Memory
+        → ReadsTooMany setup.now (R.remaining reader.old) (R.remaining reader.new) }
 {
-    let items = read_calls(alloc, reader, setup)?;
-    let calls = entries_in(alloc, items.as_slice());
+    let items = read_calls_in(memory, alloc, reader, setup)?;
+    let calls = entries_in(memory, alloc, items.as_slice());
     drop(items);
     let calls = calls?;
     let unit = u64::from(unit).max(1);
-    let found = crashes_within(alloc, setup, unit, calls.as_slice(), most, MOST_IMAGES);
+    let found = crashes_within_in(
+        memory,
+        alloc,
+        setup,
+        unit,
+        calls.as_slice(),
+        most,
+        MOST_IMAGES,
+    );
     drop(calls);
     match found {
         Ok(FoundCrashes { crashes, is_all }) => {
-            let lines = sorted_lines(alloc, crashes.as_slice());
+            let lines = sorted_lines(memory, alloc, crashes.as_slice());
             drop(crashes);
             let lines = lines?;
             Ok(Some((lines, is_all)))
         }
         Err(CrashFault::Images) => Ok(None),
-        Err(CrashFault::Memory | CrashFault::Spent) => Err(PlayFault::Memory),
+        Err(CrashFault::Memory) => Err(PlayFault::Memory),
+        Err(CrashFault::Spent) => Err(PlayFault::Memory),
     }
 }
 
 /// The lines of what power failures show, sorted by their bytes, each once.
-fn sorted_lines(alloc: Global, crashes: &[Crash]) -> Result<Vec<String>, AllocError>
-    ensures { IfOk result
+fn sorted_lines<M: TextMemory>(
+    memory: &M,
+    alloc: Global,
+    crashes: &[Crash],
+) -> Result<Vec<String>, AllocError>
+    ensures lines { IfOk result
         (λ lines. IsSortedOnce (map crash_line crashes.now) (texts_of lines.items)) }
+    ensures granted { ((n : ℕ) → M.grants memory.now n) → IsOk result }
 {
-    let mut lines = each_line(alloc, crashes)?;
+    let mut lines = each_line(memory, alloc, crashes)?;
     sort_once(&mut lines);
     Ok(lines)
 }
 
 /// The line of what each power failure shows.
-fn each_line(alloc: Global, crashes: &[Crash]) -> Result<Vec<String>, AllocError>
-    ensures { IfOk result (λ lines. texts_of lines.items ≡ map crash_line crashes.now) }
+fn each_line<M: TextMemory>(
+    memory: &M,
+    alloc: Global,
+    crashes: &[Crash],
+) -> Result<Vec<String>, AllocError>
+    ensures lines { IfOk result (λ lines. texts_of lines.items ≡ map crash_line crashes.now) }
+    ensures granted { ((n : ℕ) → M.grants memory.now n) → IsOk result }
 {
     let mut lines = Vec::new(alloc);
     for crash in crashes {
-        let line = line_of_crash(alloc, crash)?;
-        lines.push(line)?;
+        let line = line_of_crash(memory, alloc, crash)?;
+        push(memory, &mut lines, line)?;
     }
     Ok(lines)
 }
 
 /// The line of what a power failure shows.
-fn line_of_crash(alloc: Global, crash: &Crash) -> Result<String, AllocError>
-    ensures { IfOk result (λ line. string_bytes line ≡ crash_line crash.now) }
+fn line_of_crash<M: TextMemory>(
+    memory: &M,
+    alloc: Global,
+    crash: &Crash,
+) -> Result<String, AllocError>
+    ensures line { IfOk result (λ line. string_bytes line ≡ crash_line crash.now) }
+    ensures granted { ((n : ℕ) → M.grants memory.now n) → IsOk result }
 {
-    let parts = parts_of_crash(alloc, crash)?;
-    let line = join(alloc, parts.as_slice());
+    let parts = parts_of_crash(memory, alloc, crash)?;
+    let line = join(memory, alloc, parts.as_slice());
     drop(parts);
     line
 }
 
 /// The parts of what a power failure shows, in order: the completions, and what is left of each file.
-fn parts_of_crash(alloc: Global, crash: &Crash) -> Result<Vec<String>, AllocError>
-    ensures { IfOk result (λ parts. texts_of parts.items ≡ crash_parts crash.now) }
+fn parts_of_crash<M: TextMemory>(
+    memory: &M,
+    alloc: Global,
+    crash: &Crash,
+) -> Result<Vec<String>, AllocError>
+    ensures parts { IfOk result (λ parts. texts_of parts.items ≡ crash_parts crash.now) }
+    ensures granted { ((n : ℕ) → M.grants memory.now n) → IsOk result }
 {
     let mut parts = Vec::new(alloc);
-    add_completions(alloc, &mut parts, crash.posted())?;
-    add_left(alloc, &mut parts, crash.left())?;
+    add_completions(memory, alloc, &mut parts, crash.posted())?;
+    add_left(memory, alloc, &mut parts, crash.left())?;
     Ok(parts)
 }
 
 /// Adds the text of each file of which these bytes are left, from descriptor 0 on.
-fn add_left(alloc: Global, parts: &mut Vec<String>, left: &[Vec<u8>]) -> Result<(), AllocError>
-    ensures { OnOk result (texts_of parts.new.items
+fn add_left<M: TextMemory>(
+    memory: &M,
+    alloc: Global,
+    parts: &mut Vec<String>,
+    left: &[Vec<u8>],
+) -> Result<(), AllocError>
+    ensures parts { OnOk result (texts_of parts.new.items
         ≡ texts_of parts.old.items ++ left_texts 0 (map (λ bytes. bytes.items) left.now)) }
+    ensures granted { ((n : ℕ) → M.grants memory.now n) → IsOk result }
 {
     for (fd, bytes) in left.iter().enumerate() {
-        let text = text_of_left(alloc, fd, bytes.as_slice())?;
-        parts.push(text)?;
+        let text = text_of_left(memory, alloc, fd, bytes.as_slice())?;
+        push(memory, parts, text)?;
     }
     Ok(())
 }
 
 /// The text of a file of which these bytes are left.
-fn text_of_left(alloc: Global, fd: usize, bytes: &[u8]) -> Result<String, AllocError>
-    ensures { IfOk result (λ text. string_bytes text ≡ left_text fd bytes.now) }
+fn text_of_left<M: TextMemory>(
+    memory: &M,
+    alloc: Global,
+    fd: usize,
+    bytes: &[u8],
+) -> Result<String, AllocError>
+    ensures text { IfOk result (λ text. string_bytes text ≡ left_text fd bytes.now) }
+    ensures granted { ((n : ℕ) → M.grants memory.now n) → IsOk result }
 {
-    let len = bytes.len();
-    let mut text = format!(in alloc; "file {fd} len {len} data ")?;
-    push_hex(alloc, &mut text, bytes)?;
+    let mut text = String::new(alloc);
+    push_named(memory, &mut text, "file ", fd as u64)?;
+    push_named(memory, &mut text, " len ", bytes.len() as u64)?;
+    push_text(memory, &mut text, " data ")?;
+    push_data(memory, &mut text, bytes)?;
     Ok(text)
 }
 
 /// The first of these lines of which the claim isn't so, if there is one.
-fn first_against(
+fn first_against<M: TextMemory>(
+    memory: &M,
     alloc: Global,
     shown: &[String],
     claim: Claim,
     lines: &[Vec<String>],
 ) -> Result<Option<String>, AllocError>
-    ensures { IfOk result (λ found. MatchOption found
+    ensures found { IfOk result (λ found. MatchOption found
         ((line : List ℕ) → Contains (texts_of shown.now) line → IsSoOfLine claim (lines_in lines.now) line)
         (λ text. Contains (texts_of shown.now) (string_bytes text)
         × IsNotSoOfLine claim (lines_in lines.now) (string_bytes text))) }
+    ensures granted { ((n : ℕ) → M.grants memory.now n) → IsOk result }
 {
     for line in shown {
-        let parts = split_parts(alloc, line.as_str())?;
+        let parts = split_parts(memory, alloc, line.as_str())?;
         let is_shown = shows_some(parts.as_slice(), lines);
         drop(parts);
         let so = so_by(claim, is_shown);
         if !so {
-            let copy = String::from_str(alloc, line.as_str())?;
+            let copy = copy_of(memory, alloc, line.as_str())?;
             return Ok(Some(copy));
         }
     }

@@ -1,6 +1,7 @@
 //! Claims that are judged, and outcomes that are chosen.
 
-ghost use Rattle.std.specs.Prelude.{◌≡◌, ◌<◌, Some, false, IfOk, length, slice_get};
+ghost use Rattle.std.specs.Prelude.{◌≡◌, ◌<◌, ℕ, Some, Err, false, IfOk, IsOk, length, slice_get};
+ghost use Rattle.uring_litmus.specs.Items.{ReadsTooMany};
 ghost use Rattle.uring_litmus.specs.Parts.{texts_of};
 ghost use Rattle.uring_litmus.specs.Lines.{IsSortedOnce};
 ghost use Rattle.uring_litmus.specs.Claims.{lines_in, Judges};
@@ -15,6 +16,7 @@ use std::io::Read;
 use uring_entry::Setup;
 use uring_outcomes::{Ending, EndingsFound};
 use uring_play_text::PlayFault;
+use uring_text::TextMemory;
 
 /// What became of a claim.
 #[derive(Drop)]
@@ -54,9 +56,28 @@ pub fn judge<R: Read>(
     ensures { IfOk result
         (λ judged. Judges setup.now claim (lines_in lines.now) judged (R.remaining reader.old) (R.remaining reader.new)) }
 {
-    let found = endings_in(alloc, reader, setup, most)?;
+    judge_in(&alloc, alloc, reader, setup, claim, lines, most)
+}
+
+/// As `judge`, by this memory. If it grants whatever is asked for, `Memory` comes only as of `list_in`.
+pub fn judge_in<M: TextMemory, R: Read>(
+    memory: &M,
+    alloc: Global,
+    reader: &mut R,
+    setup: &Setup,
+    claim: Claim,
+    lines: &[Vec<String>],
+    most: u64,
+) -> Result<Judged, PlayFault>
+    requires { setup.now.linux ≡ false }
+    ensures judges { IfOk result
+        (λ judged. Judges setup.now claim (lines_in lines.now) judged (R.remaining reader.old) (R.remaining reader.new)) }
+    ensures granted { ((n : ℕ) → M.grants memory.now n) → result ≡ Err PlayFault.Memory
+        → ReadsTooMany setup.now (R.remaining reader.old) (R.remaining reader.new) }
+{
+    let found = endings_in(memory, alloc, reader, setup, most)?;
     let EndingsFound { endings, is_all } = found;
-    let against = first_against(alloc, endings.as_slice(), claim, lines);
+    let against = first_against(memory, alloc, endings.as_slice(), claim, lines);
     let count = endings.len();
     match against {
         Ok(Some(at)) => Ok(Judged::Fails {
@@ -103,9 +124,28 @@ pub fn choose<R: Read>(
     ensures { IfOk result
         (λ chosen. Chooses form setup.now number chosen (R.remaining reader.old) (R.remaining reader.new)) }
 {
-    let found = endings_in(alloc, reader, setup, most)?;
+    choose_in(&alloc, alloc, reader, setup, form, most, number)
+}
+
+/// As `choose`, by this memory. If it grants whatever is asked for, `Memory` comes only as of `list_in`.
+pub fn choose_in<M: TextMemory, R: Read>(
+    memory: &M,
+    alloc: Global,
+    reader: &mut R,
+    setup: &Setup,
+    form: Form,
+    most: u64,
+    number: u32,
+) -> Result<Chosen, PlayFault>
+    requires { setup.now.linux ≡ false }
+    ensures chooses { IfOk result
+        (λ chosen. Chooses form setup.now number chosen (R.remaining reader.old) (R.remaining reader.new)) }
+    ensures granted { ((n : ℕ) → M.grants memory.now n) → result ≡ Err PlayFault.Memory
+        → ReadsTooMany setup.now (R.remaining reader.old) (R.remaining reader.new) }
+{
+    let found = endings_in(memory, alloc, reader, setup, most)?;
     let EndingsFound { endings, is_all } = found;
-    let place = place_of(alloc, endings.as_slice(), form, number);
+    let place = place_of(memory, alloc, endings.as_slice(), form, number);
     match place {
         Ok(Ok(at)) => Ok(Chosen::Outcome {
             ending: taken(endings, at),
@@ -123,16 +163,18 @@ pub fn choose<R: Read>(
 }
 
 /// The place of an outcome that the line of this number shows, or how many lines there are.
-fn place_of(
+fn place_of<M: TextMemory>(
+    memory: &M,
     alloc: Global,
     endings: &[Ending],
     form: Form,
     number: u32,
 ) -> Result<Result<usize, usize>, AllocError>
-    ensures { IfOk result (λ found. IsPlaceOf form endings.now number found) }
+    ensures place { IfOk result (λ found. IsPlaceOf form endings.now number found) }
+    ensures granted { ((n : ℕ) → M.grants memory.now n) → IsOk result }
 {
-    let each = each_line(alloc, endings, form)?;
-    let lines = sorted_of(alloc, each.as_slice())?;
+    let each = each_line(memory, alloc, endings, form)?;
+    let lines = sorted_of(memory, alloc, each.as_slice())?;
     let found = place_by(each.as_slice(), lines.as_slice(), number);
     drop(lines);
     drop(each);

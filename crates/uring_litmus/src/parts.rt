@@ -1,6 +1,6 @@
 //! The parts of an outcome as text: its completions, and its files.
 
-ghost use Rattle.std.specs.Prelude.{◌≡◌, ◌++◌, ◌<◌, pos, IfOk, OnOk, Some, length, string_bytes};
+ghost use Rattle.std.specs.Prelude.{◌≡◌, ◌++◌, ◌<◌, ◌≤◌, ℕ, pos, IfOk, OnOk, IsOk, Some, length, string_bytes};
 ghost use Rattle.uring_files.specs.Contents.{FileContents};
 ghost use Rattle.uring_files.specs.Operations.{file_of, state_of};
 ghost use Rattle.uring_text.specs.Tokens.{hex_or_dash};
@@ -11,120 +11,128 @@ use crate::lines::push_copy;
 use std::alloc::{AllocError, Global};
 use uring_entry::Setup;
 use uring_files::FileState;
+use uring_memory::{Memory, copied, push};
 use uring_outcomes::{Cqe, Ending, Files};
 use uring_play_text::sort;
-use uring_text::push_completion;
-
-/// A descriptor that no file has.
-const PAST_FILES: u32 = Setup::MAX_FILES + 1;
+use uring_text::{TextMemory, push_completion_in, push_data, push_named, push_text};
 
 /// The parts of an outcome, in order: its completions, and its files if they are asked for.
-pub(crate) fn parts_of(
+pub(crate) fn parts_of<M: TextMemory>(
+    memory: &M,
     alloc: Global,
     ending: &Ending,
     form: Form,
 ) -> Result<Vec<String>, AllocError>
-    ensures { IfOk result (λ parts. IsShown form ending.now (texts_of parts.items)) }
+    ensures parts { IfOk result (λ parts. IsShown form ending.now (texts_of parts.items)) }
+    ensures granted { ((n : ℕ) → M.grants memory.now n) → IsOk result }
 {
-    let mut completions = Vec::from_slice(alloc, ending.posted())?;
+    let mut completions = copied(memory, alloc, ending.posted())?;
     if form.is_sorted {
         sort(completions.as_mut_slice());
     }
     let mut parts = Vec::new(alloc);
-    add_completions(alloc, &mut parts, completions.as_slice())?;
+    add_completions(memory, alloc, &mut parts, completions.as_slice())?;
     if form.has_files {
-        add_files(alloc, &mut parts, ending.files())?;
+        add_files(memory, alloc, &mut parts, ending.files())?;
     }
     Ok(parts)
 }
 
 /// Adds the text of each completion, or `none` if there is none.
-pub(crate) fn add_completions(
+pub(crate) fn add_completions<M: TextMemory>(
+    memory: &M,
     alloc: Global,
     parts: &mut Vec<String>,
     completions: &[Cqe],
 ) -> Result<(), AllocError>
-    ensures { OnOk result
+    ensures parts { OnOk result
         (texts_of parts.new.items ≡ texts_of parts.old.items ++ completion_parts completions.now) }
+    ensures granted { ((n : ℕ) → M.grants memory.now n) → IsOk result }
 {
     if completions.is_empty() {
-        return push_copy(alloc, parts, "none");
+        return push_copy(memory, alloc, parts, "none");
     }
     for completion in completions {
         let mut text = String::new(alloc);
-        push_completion(alloc, &mut text, completion)?;
-        parts.push(text)?;
+        push_completion_in(memory, &mut text, completion)?;
+        push(memory, parts, text)?;
     }
     Ok(())
 }
 
-/// Adds the text of each file. There are no more than a set-up has: of others none is told.
-fn add_files(alloc: Global, parts: &mut Vec<String>, files: &Files) -> Result<(), AllocError>
-    ensures { OnOk result
+/// Adds the text of each file. Condition: there are no more than a set-up may have.
+fn add_files<M: TextMemory>(
+    memory: &M,
+    alloc: Global,
+    parts: &mut Vec<String>,
+    files: &Files,
+) -> Result<(), AllocError>
+    requires { length files.now ≤ 64 }
+    ensures parts { OnOk result
         (texts_of parts.new.items ≡ texts_of parts.old.items ++ files_texts 0 files.now) }
+    ensures granted { ((n : ℕ) → M.grants memory.now n) → IsOk result }
 {
-    for fd in 0..PAST_FILES {
+    for fd in 0..Setup::MAX_FILES {
         let Some(state) = state_at(files, fd) else {
             return Ok(());
         };
-        let bytes = bytes_of(alloc, files, fd, state.len)?;
-        let text = text_of_file(alloc, fd, &state, bytes.as_slice());
+        let bytes = bytes_of(memory, alloc, files, fd, state.len)?;
+        let text = text_of_file(memory, alloc, fd, &state, bytes.as_slice());
         drop(bytes);
         let text = text?;
-        parts.push(text)?;
+        push(memory, parts, text)?;
     }
-    Err(AllocError)
+    Ok(())
 }
 
 /// How the file of this descriptor stands.
 fn state_at(files: &Files, fd: u32) -> Option<FileState>
-    requires { fd < 65 }
+    requires { fd < 64 }
     ensures { result ≡ state_of files.now (pos fd) }
 {
     files.state(fd as i32)
 }
 
 /// The text of a file that stands so and has these bytes.
-fn text_of_file(
+fn text_of_file<M: TextMemory>(
+    memory: &M,
     alloc: Global,
     fd: u32,
     state: &FileState,
     bytes: &[u8],
 ) -> Result<String, AllocError>
-    ensures { IfOk result
+    ensures text { IfOk result
         (λ text. string_bytes text ≡ state_text fd state.now ++ hex_or_dash bytes.now) }
+    ensures granted { ((n : ℕ) → M.grants memory.now n) → IsOk result }
 {
-    let (len, writes, synced) = (state.len, state.writes, state.synced);
-    let mut text = format!(in alloc; "file {fd} len {len} writes {writes} synced {synced} data ")?;
-    push_hex(alloc, &mut text, bytes)?;
+    let mut text = String::new(alloc);
+    push_named(memory, &mut text, "file ", u64::from(fd))?;
+    push_named(memory, &mut text, " len ", u64::from(state.len))?;
+    push_named(memory, &mut text, " writes ", state.writes)?;
+    push_named(memory, &mut text, " synced ", state.synced)?;
+    push_text(memory, &mut text, " data ")?;
+    push_data(memory, &mut text, bytes)?;
     Ok(text)
 }
 
 /// The bytes of the file of this descriptor, which has so many.
-fn bytes_of(alloc: Global, files: &Files, fd: u32, len: u32) -> Result<Vec<u8>, AllocError>
-    requires { fd < 65 }
-    ensures { (file : FileContents) → file_of files.now (pos fd) ≡ Some file
+fn bytes_of<M: Memory>(
+    memory: &M,
+    alloc: Global,
+    files: &Files,
+    fd: u32,
+    len: u32,
+) -> Result<Vec<u8>, AllocError>
+    requires { fd < 64 }
+    ensures bytes { (file : FileContents) → file_of files.now (pos fd) ≡ Some file
         → length file.bytes ≡ len → IfOk result (λ bytes. bytes.items ≡ file.bytes) }
+    ensures granted { ((n : ℕ) → M.grants memory.now n) → IsOk result }
 {
     let mut bytes = Vec::new(alloc);
     for at in 0..len {
         if let Some(byte) = files.byte(fd as i32, u64::from(at)) {
-            bytes.push(byte)?;
+            push(memory, &mut bytes, byte)?;
         }
     }
     Ok(bytes)
-}
-
-/// Appends bytes as two lower case hexadecimal digits each, or `-` for none.
-pub(crate) fn push_hex(alloc: Global, text: &mut String, bytes: &[u8]) -> Result<(), AllocError>
-    ensures { OnOk result
-        (string_bytes text.new ≡ string_bytes text.old ++ hex_or_dash bytes.now) }
-{
-    if bytes.is_empty() {
-        return text.push_str("-");
-    }
-    let digits = hex::encode(alloc, bytes)?;
-    let pushed = text.push_str(digits.as_str());
-    drop(digits);
-    pushed
 }

@@ -1,12 +1,13 @@
 //! The lines of which something is claimed.
 
-ghost use Rattle.std.specs.Prelude.{◌≡◌, ◌↔◌, ◌^◌, ℕ, List, IsTrue, IfOk, MatchOption, All, map, codes};
+ghost use Rattle.std.specs.Prelude.{◌≡◌, ◌↔◌, ◌^◌, ℕ, List, IsTrue, IfOk, IsOk, MatchOption, All, map, codes};
 ghost use Rattle.uring_litmus.specs.Parts.{texts_of};
 ghost use Rattle.uring_litmus.specs.Wanted.{IsCut, IsData, IsHex, IsHexDigit, IsPart, IsCompletion, IsFileLeft, IsFileShown, IsNumber};
 
 use crate::lines::push_copy;
 use std::alloc::{AllocError, Global};
-use uring_text::{spelled_long, spelled_number, spelled_signed, split_tokens};
+use uring_memory::Memory;
+use uring_text::{TextMemory, spelled_long, spelled_number, spelled_signed, split_tokens_in};
 
 /// The parts of a line, if each is one that an outcome may have, or what a power failure shows: a completion, a file, or `none`.
 pub fn parts_of_line(alloc: Global, line: &str) -> Result<Option<Vec<String>>, AllocError>
@@ -14,9 +15,23 @@ pub fn parts_of_line(alloc: Global, line: &str) -> Result<Option<Vec<String>>, A
         × MatchOption found (All IsPart parts → ⊥)
         (λ held. (texts_of held.items ≡ parts) × All IsPart parts)) }
 {
-    let parts = split_parts(alloc, line)?;
+    parts_of_line_in(&alloc, alloc, line)
+}
+
+/// As `parts_of_line`, by this memory. If it grants whatever is asked for, there is no error.
+pub fn parts_of_line_in<M: TextMemory>(
+    memory: &M,
+    alloc: Global,
+    line: &str,
+) -> Result<Option<Vec<String>>, AllocError>
+    ensures parts { IfOk result (λ found. (parts : List (List ℕ)) × IsCut line.now parts
+        × MatchOption found (All IsPart parts → ⊥)
+        (λ held. (texts_of held.items ≡ parts) × All IsPart parts)) }
+    ensures granted { ((n : ℕ) → M.grants memory.now n) → IsOk result }
+{
+    let parts = split_parts(memory, alloc, line)?;
     for part in parts.as_slice() {
-        if !is_part(alloc, part.as_str())? {
+        if !is_part(memory, alloc, part.as_str())? {
             return Ok(None);
         }
     }
@@ -24,24 +39,30 @@ pub fn parts_of_line(alloc: Global, line: &str) -> Result<Option<Vec<String>>, A
 }
 
 /// A line cut at each comma with a blank after it.
-pub(crate) fn split_parts(alloc: Global, line: &str) -> Result<Vec<String>, AllocError>
-    ensures { IfOk result (λ parts. IsCut line.now (texts_of parts.items)) }
+pub(crate) fn split_parts<M: TextMemory>(
+    memory: &M,
+    alloc: Global,
+    line: &str,
+) -> Result<Vec<String>, AllocError>
+    ensures parts { IfOk result (λ parts. IsCut line.now (texts_of parts.items)) }
+    ensures granted { ((n : ℕ) → M.grants memory.now n) → IsOk result }
 {
     let mut parts = Vec::new(alloc);
     let mut rest = line;
     while let Some((part, after)) = rest.split_once(", ") {
-        push_copy(alloc, &mut parts, part)?;
+        push_copy(memory, alloc, &mut parts, part)?;
         rest = after;
     }
-    push_copy(alloc, &mut parts, rest)?;
+    push_copy(memory, alloc, &mut parts, rest)?;
     Ok(parts)
 }
 
 /// Whether an outcome may have this part, or a power failure show it.
-fn is_part(alloc: Global, part: &str) -> Result<bool, AllocError>
-    ensures { IfOk result (λ is. IsTrue is ↔ IsPart part.now) }
+fn is_part<M: Memory>(memory: &M, alloc: Global, part: &str) -> Result<bool, AllocError>
+    ensures part { IfOk result (λ is. IsTrue is ↔ IsPart part.now) }
+    ensures granted { ((n : ℕ) → M.grants memory.now n) → IsOk result }
 {
-    let tokens = split_tokens(alloc, part.as_bytes())?;
+    let tokens = split_tokens_in(memory, alloc, part.as_bytes())?;
     let is = part == "none"
         || is_completion(tokens.as_slice())
         || is_file_left(tokens.as_slice())

@@ -10,13 +10,13 @@ ghost use Rattle.uring_outcomes.specs.Index.{IsIndexed};
 ghost use Rattle.uring_outcomes.specs.Walks.{HasNoted};
 
 use crate::endings::Endings;
-use crate::map_memory::MapMemory;
 use crate::run::Run;
 use std::alloc::{AllocError, Global};
 use std::marker::Model;
 use std::mem;
 use uring_entry::{Cqe, Setup};
 use uring_files::Files;
+use uring_memory::Memory;
 
 /// What calls came to: the completions posted, in order, and the files that are left.
 #[derive(Drop)]
@@ -46,14 +46,15 @@ impl Ending {
 
     /// The files that are left.
     pub fn files(&self) -> &Files
-        ensures { result.now ≡ self.now.files }
+        ensures files { result.now ≡ self.now.files }
+        ensures few { length result.now ≤ 64 }
     {
         &self.files
     }
 }
 
 /// Notes what the calls came to, which is over, if it isn't there yet. The run is used up.
-pub(crate) fn note<M: MapMemory>(
+pub(crate) fn note<M: Memory>(
     memory: &M,
     alloc: Global,
     run: &mut Run,

@@ -6,7 +6,6 @@ ghost use Rattle.uring_outcomes.specs.Index.{mark_of, HasPlace, IsIndexed, Notes
 ghost use Rattle.uring_outcomes.specs.Walks.{AddsOnce};
 
 use crate::ending::{Ending, is_same};
-use crate::map_memory::MapMemory;
 use std::alloc::{AllocError, Global};
 use std::collections::HashMap;
 use uring_entry::Cqe;
@@ -32,7 +31,7 @@ impl Endings {
     }
 
     /// Adds an ending, unless it is there.
-    pub(crate) fn add_once<M: MapMemory>(
+    pub(crate) fn add_once<M: Memory>(
         &mut self,
         memory: &M,
         alloc: Global,
@@ -84,7 +83,7 @@ fn is_at(list: &[Ending], places: &[usize], ending: &Ending) -> bool
 }
 
 /// Notes one more place for a mark.
-fn note_place<M: MapMemory>(
+fn note_place<M: Memory>(
     memory: &M,
     alloc: Global,
     places: &mut HashMap<u64, Vec<usize>>,
@@ -94,7 +93,7 @@ fn note_place<M: MapMemory>(
     ensures noted { OnOk result (NotesPlace places.old places.new mark place) }
     ensures granted { ((n : ℕ) → M.grants memory.now n) → IsOk result }
 {
-    memory.reserve_map(places, 1)?;
+    memory.reserve_keys(places, 1)?;
     let mut known = take_known(alloc, places, mark);
     memory.reserve(&mut known, 1)?;
     known.push_reserved(place);

@@ -10,7 +10,6 @@ mod ending;
 mod endings;
 mod fault;
 pub mod laws;
-mod map_memory;
 mod names;
 mod next;
 mod paths;
@@ -20,7 +19,6 @@ mod walk;
 
 pub use ending::Ending;
 pub use fault::WalkFault;
-pub use map_memory::MapMemory;
 pub use move_of_calls::Move;
 pub use next::all_next;
 pub use paths::{longer, push_longer};

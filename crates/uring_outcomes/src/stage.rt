@@ -7,7 +7,6 @@ ghost use Rattle.uring_outcomes.specs.Walks.{IsStage, IsSpot, IsDue, CanCome, Ha
 use crate::ending::note;
 use crate::endings::Endings;
 use crate::fault::WalkFault;
-use crate::map_memory::MapMemory;
 use crate::move_of_calls::Move;
 use crate::next::next_moves;
 use crate::paths::longer;
@@ -35,7 +34,7 @@ pub(crate) struct Stage {
     pub path: Vec<Move>,
 }
 
-impl<'a, M: MapMemory> Moves for CallMoves<'a, M> {
+impl<'a, M: Memory> Moves for CallMoves<'a, M> {
     type Move = Move;
 
     type Place = Stage;

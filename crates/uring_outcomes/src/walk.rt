@@ -10,12 +10,12 @@ ghost use Rattle.uring_outcomes.specs.Runs.{entries_of, Stands, StandsAt};
 use crate::ending::Ending;
 use crate::endings::Endings;
 use crate::fault::WalkFault;
-use crate::map_memory::MapMemory;
 use crate::names::add_names;
 use crate::run::Run;
 use crate::stage::CallMoves;
 use std::alloc::Global;
 use uring_entry::{Setup, Sqe};
+use uring_memory::Memory;
 use uring_walk::walk;
 
 /// What was found of all that calls may come to.
@@ -46,7 +46,7 @@ pub fn outcomes(alloc: Global, setup: &Setup, calls: &[Vec<Sqe>]) -> Result<Vec<
 }
 
 /// As `outcomes`, by this memory. If it grants whatever is asked for, it never ends with `Memory`.
-pub fn outcomes_in<M: MapMemory>(
+pub fn outcomes_in<M: Memory>(
     memory: &M,
     alloc: Global,
     setup: &Setup,
@@ -94,7 +94,7 @@ pub fn outcomes_within(
 }
 
 /// As `outcomes_within`, by this memory. If it grants whatever is asked for, it never ends with `Memory`.
-pub fn outcomes_within_in<M: MapMemory>(
+pub fn outcomes_within_in<M: Memory>(
     memory: &M,
     alloc: Global,
     setup: &Setup,

@@ -1,10 +1,10 @@
 //! Memory that boxes come from.
 
 use std::alloc::{AllocError, Global};
-use uring_outcomes::MapMemory;
+use uring_memory::Memory;
 
 /// Memory that also grants boxes, each as a list of one element. Our own rule.
-pub trait BoxMemory: MapMemory {
+pub trait BoxMemory: Memory {
     ghost use Rattle.std.specs.Prelude.{◌≡◌, ℕ, ◌≤◌, IfOk, IsOk};
 
     /// A box with this value. `AllocError`: out of memory.

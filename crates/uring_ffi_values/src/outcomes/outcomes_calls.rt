@@ -12,7 +12,8 @@ use crate::outcomes::outcome_list::OutcomeList;
 use crate::outcomes::outcomes_place::OutcomesPlace;
 use std::alloc::{AllocError, Global};
 use uring_machine::{FileState, Setup, Sqe};
-use uring_outcomes::{EndingsFound, MapMemory, WalkFault, outcomes_within_in};
+use uring_memory::Memory;
+use uring_outcomes::{EndingsFound, WalkFault, outcomes_within_in};
 
 impl OutcomesPlace {
     /// How many outcomes there are.
@@ -98,7 +99,7 @@ impl OutcomesPlace {
 }
 
 /// What these calls may come to, as far as so many paths show, by this memory. `AllocError`: out of memory.
-pub fn found_in<M: MapMemory>(
+pub fn found_in<M: Memory>(
     memory: &M,
     alloc: Global,
     setup: &Setup,

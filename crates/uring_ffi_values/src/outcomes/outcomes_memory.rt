@@ -17,7 +17,7 @@ use crate::outcomes::outcomes_place::OutcomesPlace;
 use std::alloc::{AllocError, Global};
 use uring_entry::errno;
 use uring_machine::Setup;
-use uring_outcomes::MapMemory;
+use uring_memory::Memory;
 
 /// What `wulgach_outcomes_new` does, by this memory. If it grants whatever is asked for, -12 isn't returned.
 #[tactic(auto, using(crate::proofs::Starts::is_walk))]
@@ -75,7 +75,7 @@ fn ring_of(setup: &SetupWords, lens: &[u64]) -> Option<Setup>
 }
 
 /// What these calls may come to, as far as so many paths show.
-fn walk<M: MapMemory>(
+fn walk<M: Memory>(
     memory: &M,
     alloc: Global,
     setup: &Setup,

@@ -11,4 +11,4 @@ returns-then-has_files c =
     (λ h fits none. rw c.posted.ensures at (c.has_come-has_come.ensures h fits none (search rules))) in
     let reaped = c.in_ok-reap_all.ensures g calls c.args.ending.now.posted done in
     history_shown g c.reap_all.new.recording calls c.args.ending.now reaped
-    (λ h fits. rw c.files.ensures at (c.has_files.ensures h fits (rw reaped.recorded.setup c.cq.ensures.limits.files_limit) c.if-has_files.true))
+    (λ h fits. rw c.files.ensures.files at (c.has_files.ensures h fits (rw reaped.recorded.setup c.cq.ensures.limits.files_limit) c.if-has_files.true))

@@ -4,5 +4,5 @@ use Rattle.uring_litmus.specs.Crashes.{IsSoOfLine}
 use Rattle.uring_litmus.proofs.crashes.first_against.Given as goal
 
 abbrev pub invariant-loop-line : goal.invariant-loop-line
-invariant-loop-line l = (line : List ℕ) → Contains (texts_of (take l.line-index l.shown)) line
+invariant-loop-line g l = (line : List ℕ) → Contains (texts_of (take l.line-index l.shown)) line
     → IsSoOfLine l.claim (lines_in l.lines) line

@@ -1,5 +1,6 @@
-use Rattle.std.proofs.Common.{append_assoc}
+use Rattle.std.proofs.Common.{refl}
 use Rattle.uring_litmus.proofs.crashes.text_of_left.Goals as goal
 
-pub returns : goal.returns
-returns c = simp append_assoc (simp append_assoc at (rw c.in_ok-text.ensures.ok at c.in_ok-push_hex.ensures))
+pub returns-clause-text : goal.returns-clause-text
+returns-clause-text g c =
+    rw (c.in_ok-push_data.ensures.bytes, c.in_ok-push_text.ensures.bytes, c.in_ok-push_named-2.ensures.bytes, c.in_ok-push_named.ensures.bytes, c.new-text.ensures.bytes) refl

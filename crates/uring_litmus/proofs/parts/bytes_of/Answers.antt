@@ -4,11 +4,11 @@ use Rattle.uring_litmus.proofs.FileTexts.{byte_more}
 use Rattle.uring_litmus.proofs.parts.bytes_of.Goals as goal
 
 pub loop-at-preserved : goal.loop-at-preserved
-loop-at-preserved c = λ file is len.
+loop-at-preserved g c = λ file is len.
     let low : c.loop-at.at < length file.bytes = omega arith in
     byte_more c.args.files.now c.args.fd file c.loop-at.at _ _ is low (c.loop-at.invariant file is len) (search rules)
 
-pub returns : goal.returns
-returns c = λ file is len.
+pub returns-clause-bytes : goal.returns-clause-bytes
+returns-clause-bytes g c = λ file is len.
     let past : length file.bytes ≤ c.loop-at.at = omega arith in
     c.loop-at.invariant file is len ∙ take_all c.loop-at.at file.bytes past

@@ -5,7 +5,7 @@ use Rattle.uring_outcomes.proofs.endings.note_place.Goals as goal
 
 pub returns-clause-noted : goal.returns-clause-noted
 returns-clause-noted g c =
-    let values = c.in_ok-reserve_map.ensures.values in
+    let values = c.in_ok-reserve_keys.ensures.entries.2 in
     noted_more c.args.places.now c.take_known-known.new.places c.insert.new.self c.take_known-known.result c.push_reserved.new.self c.args.mark c.args.place
     (λ k has. c.take_known-known.ensures.known k (subst (λ o. IsSomeAnd o (λ v. Contains v.items k)) (sym (values c.args.mark)) has))
     (λ m other. c.take_known-known.ensures.others m other ∙ values m)
