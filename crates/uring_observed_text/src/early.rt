@@ -1,17 +1,17 @@
 //! Whether a recorded trace is that of a history that is lawful by early effects.
 
-ghost use Rattle.std.specs.Prelude.{◌≡◌, ◌+◌, ◌-◌, ◌^◌, ◌<◌, IfOk, map, reverse};
+ghost use Rattle.std.specs.Prelude.{◌≡◌, ◌+◌, ◌-◌, ◌^◌, ◌<◌, ℕ, IfOk, IsOk, map, reverse};
 ghost use Rattle.uring_observed_text.specs.Written.{IsEarlyOf, IsEarlyText};
 ghost use Rattle.uring_observed_text.specs.Written as spec;
 
 use crate::filling::said_of;
-use crate::lines::lines_of;
 use crate::reading::Done;
 use crate::written_reading::read_written;
 use std::alloc::{AllocError, Global};
 use uring_check::Said;
 use uring_core::{Core, Setup};
-use uring_effect_points::{EffectsFound, find_bytes};
+use uring_effect_points::{EffectsFound, find_bytes_in};
+use uring_text::{TextMemory, split_pieces_in};
 
 /// What was found of a recorded trace.
 #[derive(Clone, Copy)]
@@ -46,32 +46,48 @@ pub fn check_early(
 ) -> Result<Early, AllocError>
     ensures { IfOk result (IsEarlyText setup.now input.now) }
 {
-    let held = lines_of(alloc, input)?;
+    check_early_in(&alloc, alloc, setup, input, most)
+}
+
+/// As `check_early`, by this memory. If it grants whatever is asked for, there is no error.
+pub fn check_early_in<M: TextMemory>(
+    memory: &M,
+    alloc: Global,
+    setup: &Setup,
+    input: &[u8],
+    most: u64,
+) -> Result<Early, AllocError>
+    ensures early { IfOk result (IsEarlyText setup.now input.now) }
+    ensures granted { ((n : ℕ) → M.grants memory.now n) → IsOk result }
+{
+    let held = split_pieces_in(memory, alloc, input, b'\n')?;
     let lines = held.as_slice();
-    let said = said_of(alloc, lines)?;
+    let said = said_of(memory, alloc, lines)?;
     match said {
-        Said::Nothing => check_lines(alloc, setup, lines, most),
-        Said::Says(own) => check_lines(alloc, &own, lines, most),
+        Said::Nothing => check_lines(memory, alloc, setup, lines, most),
+        Said::Says(own) => check_lines(memory, alloc, &own, lines, most),
         Said::Misses => Ok(Early::Bad(1)),
     }
 }
 
 /// Whether these lines are, over this set-up.
-fn check_lines(
+fn check_lines<M: TextMemory>(
+    memory: &M,
     alloc: Global,
     setup: &Setup,
     lines: &[&[u8]],
     most: u64,
 ) -> Result<Early, AllocError>
-    ensures { IfOk result (IsEarlyOf setup.now (reverse (map (λ line. line.now) lines.now))) }
+    ensures early { IfOk result (IsEarlyOf setup.now (reverse (map (λ line. line.now) lines.now))) }
+    ensures granted { ((n : ℕ) → M.grants memory.now n) → IsOk result }
 {
-    let mut core = Core::new(alloc, setup)?;
+    let mut core = Core::new_in(memory, alloc, setup)?;
     let mut events = Vec::new(alloc);
-    let done = read_written(alloc, &mut core, lines, &mut events);
+    let done = read_written(memory, alloc, &mut core, lines, &mut events);
     drop(core);
     match done? {
         Done::All => {
-            let found = find_bytes(alloc, setup, events.as_slice(), most)?;
+            let found = find_bytes_in(memory, alloc, setup, events.as_slice(), most)?;
             Ok(early_of(found, events.len() as u64))
         }
         Done::Bad(place) => Ok(Early::Bad(number_of(place))),

@@ -1,21 +1,21 @@
 //! A history that shows what was seen, from text to text.
 
-ghost use Rattle.std.specs.Prelude.{◌≡◌, [], ◌<◌, ◌+◌, ◌^◌, IfOk, MatchOption, map, reverse, slice_get};
+ghost use Rattle.std.specs.Prelude.{◌≡◌, [], ◌<◌, ◌+◌, ◌^◌, ℕ, IfOk, IsOk, MatchOption, map, reverse, slice_get};
 ghost use Rattle.uring_core.specs.Histories.{history_of};
 ghost use Rattle.uring_text.specs.KeptLine.{kept_of};
 ghost use Rattle.uring_reconstruct.specs.Filling.{Begins, seen_in};
 ghost use Rattle.uring_observed_text.specs.Sights.{ArePaired, IsRead, Reads, ShowsNever};
 ghost use Rattle.uring_observed_text.specs.Told.{IsAnswered, IsFar, IsToldOf, Names, SaysFirst, Tells, TellsFar};
 
-use crate::lines::lines_of;
 use crate::reading::{Done, read};
 use crate::writing::push_events;
 use std::alloc::{AllocError, Global};
-use uring_check::{Said, push_setup, said_by};
+use uring_check::{Said, push_setup_in, said_by_in};
 use uring_core::{Answer, Core, Setup, Step};
-use uring_reconstruct::{Filled, Reach, fill};
-use uring_text::{KeptLine, push_bytes, push_named, push_text};
-use uring_trace::{Language, push_line_flaw};
+use uring_memory::Memory;
+use uring_reconstruct::{Filled, Reach, fill_in};
+use uring_text::{KeptLine, TextMemory, push_bytes, push_named, push_text, split_pieces_in};
+use uring_trace::{Language, push_line_flaw_in};
 
 /// What was found of what was seen.
 #[derive(Clone, Copy)]
@@ -58,31 +58,51 @@ struct Seen<'a> {
 pub fn fill_text(alloc: Global, setup: &Setup, input: &[u8], most: u64) -> Result<Told, AllocError>
     ensures { IfOk result (IsAnswered setup.now input.now) }
 {
-    let held = lines_of(alloc, input)?;
+    fill_text_in(&alloc, alloc, setup, input, most)
+}
+
+/// As `fill_text`, by this memory. If it grants whatever is asked for, there is no error.
+pub fn fill_text_in<M: TextMemory>(
+    memory: &M,
+    alloc: Global,
+    setup: &Setup,
+    input: &[u8],
+    most: u64,
+) -> Result<Told, AllocError>
+    ensures answered { IfOk result (IsAnswered setup.now input.now) }
+    ensures granted { ((n : ℕ) → M.grants memory.now n) → IsOk result }
+{
+    let held = split_pieces_in(memory, alloc, input, b'\n')?;
     let lines = held.as_slice();
-    let said = said_of(alloc, lines)?;
+    let said = said_of(memory, alloc, lines)?;
     match said {
-        Said::Nothing => fill_lines(alloc, setup, lines, most),
-        Said::Says(own) => fill_lines(alloc, &own, lines, most),
-        Said::Misses => told_bad(alloc, 0, "no set-up"),
+        Said::Nothing => fill_lines(memory, alloc, setup, lines, most),
+        Said::Says(own) => fill_lines(memory, alloc, &own, lines, most),
+        Said::Misses => told_bad(memory, alloc, 0, "no set-up"),
     }
 }
 
 /// What the first line says of a set-up.
-pub(crate) fn said_of(alloc: Global, lines: &[&[u8]]) -> Result<Said, AllocError>
-    ensures { IfOk result (SaysFirst (map (λ line. line.now) lines.now)) }
+pub(crate) fn said_of<M: Memory>(
+    memory: &M,
+    alloc: Global,
+    lines: &[&[u8]],
+) -> Result<Said, AllocError>
+    ensures said { IfOk result (SaysFirst (map (λ line. line.now) lines.now)) }
+    ensures granted { ((n : ℕ) → M.grants memory.now n) → IsOk result }
 {
     match lines {
-        [first, ..] => said_by(alloc, &kept(alloc, first)?),
+        [first, ..] => said_by_in(memory, alloc, &kept(memory, alloc, first)?),
         [] => Ok(Said::Nothing),
     }
 }
 
 /// A line as it is kept.
-fn kept(alloc: Global, line: &[u8]) -> Result<KeptLine, AllocError>
-    ensures { IfOk result (λ kept. kept ≡ kept_of line.now) }
+fn kept<M: Memory>(memory: &M, alloc: Global, line: &[u8]) -> Result<KeptLine, AllocError>
+    ensures kept { IfOk result (λ kept. kept ≡ kept_of line.now) }
+    ensures granted { ((n : ℕ) → M.grants memory.now n) → IsOk result }
 {
-    let mut kept = KeptLine::new(alloc)?;
+    let mut kept = KeptLine::new_in(memory, alloc)?;
     for byte in line {
         kept.push(*byte);
     }
@@ -90,21 +110,29 @@ fn kept(alloc: Global, line: &[u8]) -> Result<KeptLine, AllocError>
 }
 
 /// Looks for a history over this set-up that shows lines.
-fn fill_lines(alloc: Global, setup: &Setup, lines: &[&[u8]], most: u64) -> Result<Told, AllocError>
-    ensures { IfOk result
+fn fill_lines<M: TextMemory>(
+    memory: &M,
+    alloc: Global,
+    setup: &Setup,
+    lines: &[&[u8]],
+    most: u64,
+) -> Result<Told, AllocError>
+    ensures told { IfOk result
         (λ told. IsToldOf setup.now (map (λ line. line.now) lines.now) told.verdict told.text.items) }
+    ensures granted { ((n : ℕ) → M.grants memory.now n) → IsOk result }
 {
     let mut seen = Seen {
         events: Vec::new(alloc),
         shown: Vec::new(alloc),
     };
-    let told = fill_seen(alloc, setup, lines, &mut seen, most);
+    let told = fill_seen(memory, alloc, setup, lines, &mut seen, most);
     drop(seen);
     told
 }
 
 /// Reads lines, and looks for a history that shows what they show. Nothing was read yet.
-fn fill_seen<'a>(
+fn fill_seen<'a, M: TextMemory>(
+    memory: &M,
     alloc: Global,
     setup: &Setup,
     lines: &[&'a [u8]],
@@ -113,26 +141,28 @@ fn fill_seen<'a>(
 ) -> Result<Told, AllocError>
     requires no_event { seen.old.events.items ≡ [] }
     requires no_line { seen.old.shown.items ≡ [] }
-    ensures { IfOk result
+    ensures told { IfOk result
         (λ told. IsToldOf setup.now (map (λ line. line.now) lines.now) told.verdict told.text.items) }
+    ensures granted { ((n : ℕ) → M.grants memory.now n) → IsOk result }
 {
-    let done = read_seen(alloc, setup, lines, seen)?;
+    let done = read_seen(memory, alloc, setup, lines, seen)?;
     match done {
-        Done::All => told_of(alloc, setup, lines, seen, most),
-        Done::Wrong(place) => told_wrong(alloc, setup, lines, seen, place, most),
-        Done::Hidden(place) => told_bad(alloc, place, "a step that can't be seen"),
+        Done::All => told_of(memory, alloc, setup, lines, seen, most),
+        Done::Wrong(place) => told_wrong(memory, alloc, setup, lines, seen, place, most),
+        Done::Hidden(place) => told_bad(memory, alloc, place, "a step that can't be seen"),
         Done::Bad(place) => {
-            let kept = kept(alloc, line_at(lines, place))?;
+            let kept = kept(memory, alloc, line_at(lines, place))?;
             let mut flaw = String::new(alloc);
-            push_line_flaw(alloc, &mut flaw, &kept, Language::Records)?;
+            push_line_flaw_in(memory, alloc, &mut flaw, &kept, Language::Records)?;
             drop(kept);
-            told_bad(alloc, place, flaw.as_str())
+            told_bad(memory, alloc, place, flaw.as_str())
         }
     }
 }
 
 /// Reads lines.
-fn read_seen<'a>(
+fn read_seen<'a, M: TextMemory>(
+    memory: &M,
     alloc: Global,
     setup: &Setup,
     lines: &[&'a [u8]],
@@ -144,15 +174,24 @@ fn read_seen<'a>(
         (λ read. IsRead setup.now (map (λ line. line.now) lines.now) seen.new.events.items read) }
     ensures paired { IfOk result
         (λ read. ArePaired (map (λ line. line.now) seen.new.shown.items) seen.new.events.items) }
+    ensures granted { ((n : ℕ) → M.grants memory.now n) → IsOk result }
 {
-    let mut core = Core::new(alloc, setup)?;
-    let done = read(alloc, &mut core, lines, &mut seen.events, &mut seen.shown);
+    let mut core = Core::new_in(memory, alloc, setup)?;
+    let done = read(
+        memory,
+        alloc,
+        &mut core,
+        lines,
+        &mut seen.events,
+        &mut seen.shown,
+    );
     drop(core);
     done
 }
 
 /// Looks for a history that shows what all lines show.
-fn told_of(
+fn told_of<M: TextMemory>(
+    memory: &M,
     alloc: Global,
     setup: &Setup,
     lines: &[&[u8]],
@@ -162,25 +201,42 @@ fn told_of(
     requires reads { Reads setup.now (reverse (map (λ line. line.now) lines.now))
         (history_of seen.now.events.items) }
     requires paired { ArePaired (map (λ line. line.now) seen.now.shown.items) seen.now.events.items }
-    ensures { IfOk result
+    ensures told { IfOk result
         (λ told. IsToldOf setup.now (map (λ line. line.now) lines.now) told.verdict told.text.items) }
+    ensures granted { ((n : ℕ) → M.grants memory.now n) → IsOk result }
 {
-    let filled = fill(alloc, setup, seen.events.as_slice(), most)?;
+    let filled = fill_in(memory, alloc, setup, seen.events.as_slice(), most)?;
     match filled {
         Filled::Whole(events) => {
-            let text = text_of(alloc, setup, seen, events.as_slice());
+            let text = text_of(memory, alloc, setup, seen, events.as_slice());
             drop(events);
             let text = text?;
             let verdict = Verdict::Found;
             Ok(Told { verdict, text })
         }
         Filled::Nothing(reach) => {
-            let text = far_text(alloc, setup, seen, reach, b"the end", "none shows: ")?;
+            let text = far_text(
+                memory,
+                alloc,
+                setup,
+                seen,
+                reach,
+                b"the end",
+                "none shows: ",
+            )?;
             let verdict = Verdict::Nothing;
             Ok(Told { verdict, text })
         }
         Filled::GaveUp(reach) => {
-            let text = far_text(alloc, setup, seen, reach, b"the end", "gave up before: ")?;
+            let text = far_text(
+                memory,
+                alloc,
+                setup,
+                seen,
+                reach,
+                b"the end",
+                "gave up before: ",
+            )?;
             let verdict = Verdict::GaveUp;
             Ok(Told { verdict, text })
         }
@@ -188,7 +244,8 @@ fn told_of(
 }
 
 /// Looks for a history that shows what the lines show before the one of this place, which no history shows.
-fn told_wrong(
+fn told_wrong<M: TextMemory>(
+    memory: &M,
     alloc: Global,
     setup: &Setup,
     lines: &[&[u8]],
@@ -198,10 +255,11 @@ fn told_wrong(
 ) -> Result<Told, AllocError>
     requires never { ShowsNever setup.now (reverse (map (λ line. line.now) lines.now)) }
     requires paired { ArePaired (map (λ line. line.now) seen.now.shown.items) seen.now.events.items }
-    ensures { IfOk result
+    ensures told { IfOk result
         (λ told. IsToldOf setup.now (map (λ line. line.now) lines.now) told.verdict told.text.items) }
+    ensures granted { ((n : ℕ) → M.grants memory.now n) → IsOk result }
 {
-    let filled = fill(alloc, setup, seen.events.as_slice(), most)?;
+    let filled = fill_in(memory, alloc, setup, seen.events.as_slice(), most)?;
     let reach = match filled {
         Filled::Whole(events) => Reach {
             events,
@@ -211,7 +269,7 @@ fn told_wrong(
         Filled::GaveUp(reach) => reach,
     };
     let last = line_at(lines, place);
-    let text = far_text(alloc, setup, seen, reach, last, "none shows: ")?;
+    let text = far_text(memory, alloc, setup, seen, reach, last, "none shows: ")?;
     Ok(Told {
         verdict: Verdict::Nothing,
         text,
@@ -230,7 +288,8 @@ fn line_at<'a>(lines: &[&'a [u8]], place: usize) -> &'a [u8]
 }
 
 /// The text of a history that comes so far, with a remark on a line after it: on the first one that it doesn't show, or if it shows all that was read on this one.
-fn far_text(
+fn far_text<M: TextMemory>(
+    memory: &M,
     alloc: Global,
     setup: &Setup,
     seen: &Seen<'_>,
@@ -240,24 +299,26 @@ fn far_text(
 ) -> Result<Vec<u8>, AllocError>
     requires far { IsFar setup.now seen.now.events.items (history_of reach.events.items) }
     requires paired { ArePaired (map (λ line. line.now) seen.now.shown.items) seen.now.events.items }
-    ensures { IfOk result (λ text. TellsFar setup.now text.items) }
+    ensures far { IfOk result (λ text. TellsFar setup.now text.items) }
+    ensures granted { ((n : ℕ) → M.grants memory.now n) → IsOk result }
 {
     let line = match seen.shown.get(reach.place) {
         Some(line) => *line,
         None => last,
     };
-    let text = text_of(alloc, setup, seen, reach.events.as_slice());
+    let text = text_of(memory, alloc, setup, seen, reach.events.as_slice());
     drop(reach);
     let mut text = text?;
-    push_bytes(&alloc, &mut text, b"# ")?;
-    push_bytes(&alloc, &mut text, remark.as_bytes())?;
-    push_bytes(&alloc, &mut text, line)?;
-    push_bytes(&alloc, &mut text, b"\n")?;
+    push_bytes(memory, &mut text, b"# ")?;
+    push_bytes(memory, &mut text, remark.as_bytes())?;
+    push_bytes(memory, &mut text, line)?;
+    push_bytes(memory, &mut text, b"\n")?;
     Ok(text)
 }
 
 /// The text of a history, which shows the first ones of the steps that were seen.
-fn text_of(
+fn text_of<M: TextMemory>(
+    memory: &M,
     alloc: Global,
     setup: &Setup,
     seen: &Seen<'_>,
@@ -265,25 +326,32 @@ fn text_of(
 ) -> Result<Vec<u8>, AllocError>
     requires begins { Begins (seen_in (history_of events.now)) seen.now.events.items }
     requires paired { ArePaired (map (λ line. line.now) seen.now.shown.items) seen.now.events.items }
-    ensures { IfOk result (λ text. Tells setup.now (history_of events.now) text.items []) }
+    ensures tells { IfOk result (λ text. Tells setup.now (history_of events.now) text.items []) }
+    ensures granted { ((n : ℕ) → M.grants memory.now n) → IsOk result }
 {
     let mut line = String::new(alloc);
-    push_setup(alloc, &mut line, setup)?;
+    push_setup_in(memory, &mut line, setup)?;
     let mut text = line.into_bytes();
-    push_events(alloc, &mut text, events, seen.shown.as_slice())?;
+    push_events(memory, alloc, &mut text, events, seen.shown.as_slice())?;
     Ok(text)
 }
 
 /// What is told of a bad line, and why it is one.
-fn told_bad(alloc: Global, place: usize, flaw: &str) -> Result<Told, AllocError>
+fn told_bad<M: TextMemory>(
+    memory: &M,
+    alloc: Global,
+    place: usize,
+    flaw: &str,
+) -> Result<Told, AllocError>
     requires { place + 1 < 2 ^ 64 }
     ensures verdict { IfOk result (λ told. told.verdict ≡ Verdict.Bad) }
     ensures text { IfOk result (λ told. Names place told.text.items) }
+    ensures granted { ((n : ℕ) → M.grants memory.now n) → IsOk result }
 {
     let mut line = String::new(alloc);
-    push_named(&alloc, &mut line, "line ", place as u64 + 1)?;
-    push_text(&alloc, &mut line, ": bad line: ")?;
-    push_text(&alloc, &mut line, flaw)?;
+    push_named(memory, &mut line, "line ", place as u64 + 1)?;
+    push_text(memory, &mut line, ": bad line: ")?;
+    push_text(memory, &mut line, flaw)?;
     Ok(Told {
         verdict: Verdict::Bad,
         text: line.into_bytes(),

@@ -4,7 +4,6 @@
 mod early;
 mod filling;
 mod guess;
-mod lines;
 mod payload;
 mod reading;
 mod sight;
@@ -12,6 +11,6 @@ mod writing;
 mod written;
 mod written_reading;
 
-pub use early::{Early, check_early};
-pub use filling::{Told, Verdict, fill_text};
+pub use early::{Early, check_early, check_early_in};
+pub use filling::{Told, Verdict, fill_text, fill_text_in};
 pub use uring_reconstruct::Setup;

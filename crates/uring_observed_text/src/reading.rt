@@ -1,12 +1,14 @@
 //! The steps that lines show.
 
-ghost use Rattle.std.specs.Prelude.{◌≡◌, [], IfOk, map};
+ghost use Rattle.std.specs.Prelude.{◌≡◌, ℕ, [], IfOk, IsOk, map};
 ghost use Rattle.uring_core.specs.Core.{FitsApart};
 ghost use Rattle.uring_observed_text.specs.Sights.{ArePaired, IsRead};
 
 use crate::sight::{Sight, see};
 use std::alloc::{AllocError, Global};
 use uring_core::{Answer, Core, Step};
+use uring_memory::push;
+use uring_text::TextMemory;
 
 /// What became of a reading.
 #[derive(Clone, Copy)]
@@ -25,7 +27,8 @@ pub(crate) enum Done {
 }
 
 /// Reads lines on a new core: the steps that they show with their answers, in order, and the lines that show them.
-pub(crate) fn read<'a>(
+pub(crate) fn read<'a, M: TextMemory>(
+    memory: &M,
     alloc: Global,
     core: &mut Core,
     lines: &[&'a [u8]],
@@ -39,15 +42,16 @@ pub(crate) fn read<'a>(
         (λ read. IsRead core.old.setup (map (λ line. line.now) lines.now) events.new.items read) }
     ensures paired { IfOk result
         (λ read. ArePaired (map (λ line. line.now) shown.new.items) events.new.items) }
+    ensures granted { ((n : ℕ) → M.grants memory.now n) → IsOk result }
 {
     for place in 0..lines.len() {
         let line = lines[place];
-        let sight = see(alloc, core, line)?;
+        let sight = see(memory, alloc, core, line)?;
         match sight {
             Sight::Passed => continue,
             Sight::Shown(step, answer) => {
-                events.push((step, answer))?;
-                shown.push(line)?;
+                push(memory, events, (step, answer))?;
+                push(memory, shown, line)?;
             }
             Sight::Wrong => return Ok(Done::Wrong(place)),
             Sight::Hidden => return Ok(Done::Hidden(place)),

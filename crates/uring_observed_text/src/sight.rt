@@ -1,6 +1,6 @@
 //! What a line of what was seen shows.
 
-ghost use Rattle.std.specs.Prelude.{◌≡◌, ◌≤◌, IfOk, MatchOption, length};
+ghost use Rattle.std.specs.Prelude.{◌≡◌, ◌≤◌, ℕ, IfOk, IsOk, MatchOption, length};
 ghost use Rattle.uring_core.specs.Core.{FitsApart, IsNoFinish};
 ghost use Rattle.uring_core.specs.Histories.{History};
 ghost use Rattle.uring_core.specs.declared.answer.Answer.{Answer};
@@ -14,7 +14,9 @@ use crate::guess::{completion_of, head_of, next_of, tail_of};
 use std::alloc::{AllocError, Global};
 use uring_check::split_record;
 use uring_core::{Answer, Core, Refusal, Step};
-use uring_trace::{push_answer, read_step};
+use uring_memory::Memory;
+use uring_text::TextMemory;
+use uring_trace::{push_answer_in, read_step_in};
 
 /// Most bytes of a line that is a step with an answer.
 const LONGEST: usize = 300;
@@ -39,18 +41,25 @@ pub(crate) enum Sight {
 }
 
 /// What the next line shows, of a core that followed the lines before it as far as the submission ring and the calls tell them.
-pub(crate) fn see(alloc: Global, core: &mut Core, line: &[u8]) -> Result<Sight, AllocError>
+pub(crate) fn see<M: TextMemory>(
+    memory: &M,
+    alloc: Global,
+    core: &mut Core,
+    line: &[u8],
+) -> Result<Sight, AllocError>
     ensures setup { core.new.setup ≡ core.old.setup }
     ensures sight { IfOk result
         (λ seen. (events : History) → FitsApart core.old (submitted events)
         → IsSight core.new events line.now seen) }
+    ensures granted { (events : History) → FitsApart core.old (submitted events)
+        → ((n : ℕ) → M.grants memory.now n) → IsOk result }
 {
     let Some((before, text)) = split_short(line) else {
         return Ok(sight_of_none(line));
     };
-    let read = read_step(alloc, before)?;
+    let read = read_step_in(memory, alloc, before)?;
     match read {
-        Some(step) => sight_of_step(alloc, core, &step, text),
+        Some(step) => sight_of_step(memory, alloc, core, &step, text),
         None => Ok(sight_of_none(line)),
     }
 }
@@ -81,7 +90,8 @@ pub(crate) fn sight_of_none(line: &[u8]) -> Sight
 }
 
 /// What a step with this text for its answer shows.
-fn sight_of_step(
+fn sight_of_step<M: TextMemory>(
+    memory: &M,
     alloc: Global,
     core: &mut Core,
     step: &Step,
@@ -91,6 +101,8 @@ fn sight_of_step(
     ensures sight { IfOk result
         (λ seen. (events : History) → FitsApart core.old (submitted events)
         → IsSeenAs core.new events step.now text.now seen) }
+    ensures granted { (events : History) → FitsApart core.old (submitted events)
+        → ((n : ℕ) → M.grants memory.now n) → IsOk result }
 {
     match step {
         Step::Issue { .. } | Step::Finish { .. } | Step::Flush => Ok(Sight::Hidden),
@@ -100,12 +112,13 @@ fn sight_of_step(
                 None => Ok(Sight::Wrong),
             }
         }
-        _ => answered(alloc, core, step, text),
+        _ => answered(memory, alloc, core, step, text),
     }
 }
 
 /// What a step but a finish comes to of which this is the text of its answer. A Begin may be said to be refused for want of memory.
-pub(crate) fn answered(
+pub(crate) fn answered<M: TextMemory>(
+    memory: &M,
     alloc: Global,
     core: &mut Core,
     step: &Step,
@@ -115,25 +128,34 @@ pub(crate) fn answered(
     ensures setup { core.new.setup ≡ core.old.setup }
     ensures sight { IfOk result
         (λ seen. (h : History) → FitsApart core.old h → IsAnsweredAs core.new h step.now text.now seen) }
+    ensures granted { (h : History) → FitsApart core.old h
+        → ((n : ℕ) → M.grants memory.now n) → IsOk result }
 {
     let refused = text == b"again".as_slice();
     if refused {
-        return followed(core, step, &Answer::Again);
+        return followed(memory, core, step, &Answer::Again);
     }
-    let answer = core.step(*step);
+    let answer = core.step_in(memory, *step);
     match answer {
         Answer::Again => Err(AllocError),
-        _ => shown_if(alloc, step, &answer, text),
+        _ => shown_if(memory, alloc, step, &answer, text),
     }
 }
 
 /// Follows a step with an answer, if that is called for.
-pub(crate) fn followed(core: &mut Core, step: &Step, given: &Answer) -> Result<Sight, AllocError>
+pub(crate) fn followed<M: Memory>(
+    memory: &M,
+    core: &mut Core,
+    step: &Step,
+    given: &Answer,
+) -> Result<Sight, AllocError>
     ensures setup { core.new.setup ≡ core.old.setup }
     ensures followed { IfOk result
         (λ seen. (h : History) → FitsApart core.old h → IsFollowed core.new h step.now given.now seen) }
+    ensures granted { (h : History) → FitsApart core.old h
+        → ((n : ℕ) → M.grants memory.now n) → IsOk result }
 {
-    match core.follow(*step, *given) {
+    match core.follow_in(memory, *step, *given) {
         Ok(()) => Ok(Sight::Shown(*step, *given)),
         Err(Refusal::Wrong(_)) => Ok(Sight::Wrong),
         Err(Refusal::NoMemory) => Err(AllocError),
@@ -141,16 +163,18 @@ pub(crate) fn followed(core: &mut Core, step: &Step, given: &Answer) -> Result<S
 }
 
 /// A step with its answer, if this is the text of the answer.
-pub(crate) fn shown_if(
+pub(crate) fn shown_if<M: TextMemory>(
+    memory: &M,
     alloc: Global,
     step: &Step,
     given: &Answer,
     text: &[u8],
 ) -> Result<Sight, AllocError>
-    ensures { IfOk result (IsShownIf step.now given.now text.now) }
+    ensures shown { IfOk result (IsShownIf step.now given.now text.now) }
+    ensures granted { ((n : ℕ) → M.grants memory.now n) → IsOk result }
 {
     let mut told = String::new(alloc);
-    push_answer(alloc, &mut told, given)?;
+    push_answer_in(memory, &mut told, given)?;
     let same = told.as_bytes() == text;
     if same {
         Ok(Sight::Shown(*step, *given))

@@ -1,6 +1,6 @@
 //! The ends of requests that may come next.
 
-ghost use Rattle.std.specs.Prelude.{◌≡◌, ◌↔◌, ◌<◌, ℕ, ℤ, true, false, List, Option, IsTrue, OnOk, Some, Contains, length};
+ghost use Rattle.std.specs.Prelude.{◌≡◌, ◌↔◌, ◌<◌, ℕ, ℤ, true, false, List, Option, IsTrue, IsOk, OnOk, Some, Contains, length};
 ghost use Rattle.uring_entry.specs.Success as success;
 ghost use Rattle.uring_entry.specs.Layout.{Sqe, Cqe};
 ghost use Rattle.uring_entry.specs.Requests.{entry_of, is_running, no_bytes};
@@ -14,12 +14,14 @@ use crate::issued::add_issues;
 use std::alloc::AllocError;
 use uring_core::{Answer, Core, Cqe, Sqe, SqeFlags, Step};
 use uring_entry::{greatest_result, may_end, posts_completion, succeeded};
+use uring_memory::{Memory, push};
 
 /// The bytes of an end that gives none.
 pub(crate) const NO_BYTES: [u8; 64] = [0; 64];
 
 /// Adds the ends of all requests that may come next.
-pub(crate) fn add_ends(
+pub(crate) fn add_ends<M: Memory>(
+    memory: &M,
     core: &Core,
     wanted: &Option<Cqe>,
     next: &mut Vec<(Step, Answer)>,
@@ -28,16 +30,18 @@ pub(crate) fn add_ends(
     ensures all { OnOk result
         ((seen : List Event) (h : History) (n : ℕ) → StandsAt core.now seen wanted.now h
         → HasEndsOf core.now.setup seen h n next.new.items) }
+    ensures granted { ((n : ℕ) → M.grants memory.now n) → IsOk result }
 {
     let accepted = core.counts().accepted;
     for place in 0..accepted {
-        add_ends_of(core, wanted, accepted, accepted - 1 - place, next)?;
+        add_ends_of(memory, core, wanted, accepted, accepted - 1 - place, next)?;
     }
     Ok(())
 }
 
 /// Adds the ends of a request that may come next.
-fn add_ends_of(
+fn add_ends_of<M: Memory>(
+    memory: &M,
     core: &Core,
     wanted: &Option<Cqe>,
     accepted: u64,
@@ -50,14 +54,15 @@ fn add_ends_of(
     ensures all { OnOk result
         ((seen : List Event) (h : History) → StandsAt core.now seen wanted.now h
         → HasEndsOf core.now.setup seen h number next.new.items) }
+    ensures granted { ((n : ℕ) → M.grants memory.now n) → IsOk result }
 {
     let Some(entry) = core.entry(number) else {
         return Ok(());
     };
     if runs(core, number) {
-        add_finishes(core, &entry, wanted, number, next)
+        add_finishes(memory, core, &entry, wanted, number, next)
     } else {
-        add_issues(core, &entry, wanted, accepted, number, next)
+        add_issues(memory, core, &entry, wanted, accepted, number, next)
     }
 }
 
@@ -70,7 +75,8 @@ fn runs(core: &Core, number: u64) -> bool
 }
 
 /// Adds the finishes of a request of this entry that may come next: one that posts nothing, and one that posts the completion to be posted next.
-fn add_finishes(
+fn add_finishes<M: Memory>(
+    memory: &M,
     core: &Core,
     entry: &Sqe,
     wanted: &Option<Cqe>,
@@ -83,19 +89,21 @@ fn add_finishes(
     ensures all { OnOk result
         ((res : ℤ) (bytes : List ℕ) → FinishFits entry.now wanted.now res bytes
         → Contains next.new.items (step.Finish number, answer.Ended res bytes)) }
+    ensures granted { ((n : ℕ) → M.grants memory.now n) → IsOk result }
 {
-    add_quiet_finish(core, entry, wanted, number, next)?;
+    add_quiet_finish(memory, core, entry, wanted, number, next)?;
     let Some(completion) = wanted else {
         return Ok(());
     };
     let res = completion.res();
     let bytes = completion.payload();
-    add_finish(core, entry, wanted, number, res, bytes, next)?;
+    add_finish(memory, core, entry, wanted, number, res, bytes, next)?;
     Ok(())
 }
 
 /// Adds the finish of a request of this entry that posts nothing, if there is one: with the greatest result that it may give.
-fn add_quiet_finish(
+fn add_quiet_finish<M: Memory>(
+    memory: &M,
     core: &Core,
     entry: &Sqe,
     wanted: &Option<Cqe>,
@@ -109,17 +117,21 @@ fn add_quiet_finish(
         ((res : ℤ) (bytes : List ℕ) → success.posts_completion entry.now res ≡ false
         → FinishFits entry.now wanted.now res bytes
         → Contains next.new.items (step.Finish number, answer.Ended res bytes)) }
+    ensures granted { ((n : ℕ) → M.grants memory.now n) → IsOk result }
 {
     if !entry.has(SqeFlags::CQE_SKIP_SUCCESS) {
         return Ok(());
     }
     let greatest = greatest_result(entry);
-    add_finish(core, entry, wanted, number, greatest, NO_BYTES, next)?;
+    add_finish(
+        memory, core, entry, wanted, number, greatest, NO_BYTES, next,
+    )?;
     Ok(())
 }
 
 /// Adds a finish, if it fits.
-fn add_finish(
+fn add_finish<M: Memory>(
+    memory: &M,
     core: &Core,
     entry: &Sqe,
     wanted: &Option<Cqe>,
@@ -134,9 +146,14 @@ fn add_finish(
     ensures added { OnOk result
         (FinishFits entry.now wanted.now res bytes
         → Contains next.new.items (step.Finish number, answer.Ended res bytes)) }
+    ensures granted { ((n : ℕ) → M.grants memory.now n) → IsOk result }
 {
     if finish_fits(entry, wanted, res, bytes) {
-        next.push((Step::Finish { number }, Answer::ended(res, bytes)))?;
+        push(
+            memory,
+            next,
+            (Step::Finish { number }, Answer::ended(res, bytes)),
+        )?;
     }
     Ok(())
 }

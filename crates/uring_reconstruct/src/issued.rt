@@ -1,6 +1,6 @@
 //! The ends of requests as they are issued that may come next.
 
-ghost use Rattle.std.specs.Prelude.{◌≡◌, ◌<◌, ◌≤◌, ◌+◌, ◌∷◌, ℕ, ℤ, pos, true, false, List, Option, OnOk, Some, Contains, length};
+ghost use Rattle.std.specs.Prelude.{◌≡◌, ◌<◌, ◌≤◌, ◌+◌, ◌∷◌, ℕ, ℤ, pos, true, false, List, Option, IsOk, OnOk, Some, Contains, length};
 ghost use Rattle.uring_entry.specs.Success as success;
 ghost use Rattle.uring_entry.specs.Layout.{Sqe, Cqe};
 ghost use Rattle.uring_entry.specs.Preparation.{is_cancel_all};
@@ -21,9 +21,11 @@ use std::alloc::AllocError;
 use uring_core::{Answer, Core, Cqe, Sqe, SqeFlags, Step};
 use uring_entry::errno::{ECANCELED, EINVAL, EOPNOTSUPP};
 use uring_entry::prepare;
+use uring_memory::{Memory, push};
 
 /// Adds the ends of a request of this entry as it is issued that may come next: those that post nothing, and one that posts the completion to be posted next.
-pub(crate) fn add_issues(
+pub(crate) fn add_issues<M: Memory>(
+    memory: &M,
     core: &Core,
     entry: &Sqe,
     wanted: &Option<Cqe>,
@@ -40,18 +42,20 @@ pub(crate) fn add_issues(
         ((seen : List Event) (h : History) (res : ℤ) (bytes : List ℕ) → StandsAt core.now seen wanted.now h
         → IsPart core.now.setup seen ((step.Issue number, answer.Ended res bytes) ∷ h)
         → Contains next.new.items (step.Issue number, answer.Ended res bytes)) }
+    ensures granted { ((n : ℕ) → M.grants memory.now n) → IsOk result }
 {
     if !can_issue(core, number) {
         return Ok(());
     }
-    add_errors(core, entry, number, next)?;
-    add_skipped(core, entry, accepted, number, next)?;
-    add_told_issue(core, entry, wanted, number, next)?;
+    add_errors(memory, core, entry, number, next)?;
+    add_skipped(memory, core, entry, accepted, number, next)?;
+    add_told_issue(memory, core, entry, wanted, number, next)?;
     Ok(())
 }
 
 /// Adds the end of a request of this entry as it is issued with the completion that is to be posted next, if it may post that.
-fn add_told_issue(
+fn add_told_issue<M: Memory>(
+    memory: &M,
     core: &Core,
     entry: &Sqe,
     wanted: &Option<Cqe>,
@@ -67,16 +71,18 @@ fn add_told_issue(
         → rules.posts core.now.setup.linux (world core.now.setup h).requests number res ≡ true
         → wanted.now ≡ Some (completion_for entry.now res no_bytes)
         → Contains next.new.items (step.Issue number, answer.Ended res no_bytes)) }
+    ensures granted { ((n : ℕ) → M.grants memory.now n) → IsOk result }
 {
     let Some(completion) = wanted else {
         return Ok(());
     };
-    add_told(core, entry, wanted, number, completion.res(), next)?;
+    add_told(memory, core, entry, wanted, number, completion.res(), next)?;
     Ok(())
 }
 
 /// Adds the end of a request of this entry as it is issued with this result, if it posts the completion that is to be posted next.
-fn add_told(
+fn add_told<M: Memory>(
+    memory: &M,
     core: &Core,
     entry: &Sqe,
     wanted: &Option<Cqe>,
@@ -93,15 +99,21 @@ fn add_told(
         → rules.posts core.now.setup.linux (world core.now.setup h).requests number res ≡ true
         → wanted.now ≡ Some (completion_for entry.now res no_bytes)
         → Contains next.new.items (step.Issue number, answer.Ended res no_bytes)) }
+    ensures granted { ((n : ℕ) → M.grants memory.now n) → IsOk result }
 {
     if posts(core, number, res) && is_wanted(wanted, &Cqe::new(entry.user_data(), res, NO_BYTES)) {
-        next.push((Step::Issue { number }, Answer::ended(res, NO_BYTES)))?;
+        push(
+            memory,
+            next,
+            (Step::Issue { number }, Answer::ended(res, NO_BYTES)),
+        )?;
     }
     Ok(())
 }
 
 /// Adds the ends of a doomed request of this entry that post nothing. By the manual pages' rules there is none.
-fn add_errors(
+fn add_errors<M: Memory>(
+    memory: &M,
     core: &Core,
     entry: &Sqe,
     number: u64,
@@ -115,14 +127,15 @@ fn add_errors(
         → rules.posts core.now.setup.linux (world core.now.setup h).requests number res ≡ false
         → core.now.setup.linux ≡ true → IsErrorOf entry.now res
         → Contains next.new.items (step.Issue number, answer.Ended res no_bytes)) }
+    ensures granted { ((n : ℕ) → M.grants memory.now n) → IsOk result }
 {
     if !core.setup().is_linux() {
         return Ok(());
     }
     let is_faulty = is_faulty(entry);
-    add_quiet_if(core, is_faulty, number, -EINVAL, next)?;
-    add_quiet_if(core, entry.is_drain(), number, -EOPNOTSUPP, next)?;
-    add_quiet_if(core, !is_faulty, number, -ECANCELED, next)?;
+    add_quiet_if(memory, core, is_faulty, number, -EINVAL, next)?;
+    add_quiet_if(memory, core, entry.is_drain(), number, -EOPNOTSUPP, next)?;
+    add_quiet_if(memory, core, !is_faulty, number, -ECANCELED, next)?;
     Ok(())
 }
 
@@ -137,7 +150,8 @@ fn is_faulty(entry: &Sqe) -> bool
 }
 
 /// Adds the ends of a cancel of this entry that post nothing since it asks to skip a success: with 0, and if it is one of all with each number of requests.
-fn add_skipped(
+fn add_skipped<M: Memory>(
+    memory: &M,
     core: &Core,
     entry: &Sqe,
     accepted: u64,
@@ -158,17 +172,19 @@ fn add_skipped(
         → is_outstanding (world core.now.setup h).requests number ≡ true
         → rules.posts core.now.setup.linux (world core.now.setup h).requests number (count_result count) ≡ false
         → Contains next.new.items (step.Issue number, answer.Ended (count_result count) no_bytes)) }
+    ensures granted { ((n : ℕ) → M.grants memory.now n) → IsOk result }
 {
     if !entry.has(SqeFlags::CQE_SKIP_SUCCESS) {
         return Ok(());
     }
-    add_counts(core, entry, accepted, number, next)?;
-    add_quiet(core, number, 0, next)?;
+    add_counts(memory, core, entry, accepted, number, next)?;
+    add_quiet(memory, core, number, 0, next)?;
     Ok(())
 }
 
 /// Adds the ends of a cancel of all that post nothing with each number of requests from 1 to those accepted. By Linux's rules there is none, and of another request neither.
-fn add_counts(
+fn add_counts<M: Memory>(
+    memory: &M,
     core: &Core,
     entry: &Sqe,
     accepted: u64,
@@ -183,12 +199,13 @@ fn add_counts(
         → is_outstanding (world core.now.setup h).requests number ≡ true
         → rules.posts core.now.setup.linux (world core.now.setup h).requests number (count_result (below + 1)) ≡ false
         → Contains next.new.items (step.Issue number, answer.Ended (count_result (below + 1)) no_bytes)) }
+    ensures granted { ((n : ℕ) → M.grants memory.now n) → IsOk result }
 {
     if core.setup().is_linux() || !entry.is_cancel_all() {
         return Ok(());
     }
     for below in 0..accepted {
-        add_quiet(core, number, count_of(below + 1), next)?;
+        add_quiet(memory, core, number, count_of(below + 1), next)?;
     }
     Ok(())
 }
@@ -201,7 +218,8 @@ fn count_of(count: u64) -> i32
 }
 
 /// Adds the end of a request as it is issued with this result, if it posts nothing.
-fn add_quiet(
+fn add_quiet<M: Memory>(
+    memory: &M,
     core: &Core,
     number: u64,
     res: i32,
@@ -214,15 +232,21 @@ fn add_quiet(
         → is_outstanding (world core.now.setup h).requests number ≡ true
         → rules.posts core.now.setup.linux (world core.now.setup h).requests number res ≡ false
         → Contains next.new.items (step.Issue number, answer.Ended res no_bytes)) }
+    ensures granted { ((n : ℕ) → M.grants memory.now n) → IsOk result }
 {
     if !posts(core, number, res) {
-        next.push((Step::Issue { number }, Answer::ended(res, NO_BYTES)))?;
+        push(
+            memory,
+            next,
+            (Step::Issue { number }, Answer::ended(res, NO_BYTES)),
+        )?;
     }
     Ok(())
 }
 
 /// Adds the end of a request as it is issued with this result, if it may have it and posts nothing.
-fn add_quiet_if(
+fn add_quiet_if<M: Memory>(
+    memory: &M,
     core: &Core,
     may_have: bool,
     number: u64,
@@ -236,11 +260,12 @@ fn add_quiet_if(
         → is_outstanding (world core.now.setup h).requests number ≡ true
         → rules.posts core.now.setup.linux (world core.now.setup h).requests number res ≡ false
         → Contains next.new.items (step.Issue number, answer.Ended res no_bytes)) }
+    ensures granted { ((n : ℕ) → M.grants memory.now n) → IsOk result }
 {
     if !may_have {
         return Ok(());
     }
-    add_quiet(core, number, res, next)
+    add_quiet(memory, core, number, res, next)
 }
 
 /// Whether the end of an outstanding request with this result posts a completion.

@@ -9,5 +9,5 @@ mod search;
 mod seen;
 mod starts;
 
-pub use search::{Filled, Reach, fill};
+pub use search::{Filled, Reach, fill, fill_in};
 pub use uring_core::{Answer, Cqe, Setup, Sqe, Step};

@@ -1,6 +1,6 @@
 //! The events that may come next.
 
-ghost use Rattle.std.specs.Prelude.{◌≡◌, ◌∷◌, true, false, List, IfOk, OnOk, Contains, [], length, slice_get};
+ghost use Rattle.std.specs.Prelude.{◌≡◌, ◌∷◌, ℕ, true, false, List, IfOk, IsOk, OnOk, Contains, [], length, slice_get};
 ghost use Rattle.uring_entry.specs.Setup.{Setup};
 ghost use Rattle.uring_core.specs.Core.{FitsApart};
 ghost use Rattle.uring_core.specs.Histories.{Event, History, world, history_of};
@@ -17,9 +17,11 @@ use crate::seen::{is_hidden, is_stale, seen_among};
 use crate::starts::add_starts;
 use std::alloc::AllocError;
 use uring_core::{Answer, Core, Cqe, Step};
+use uring_memory::{Memory, push};
 
 /// Adds to none the events that may come next after these, which are a part that the core shows, with others that can't come: those that are tried first are the last.
-pub(crate) fn add_next(
+pub(crate) fn add_next<M: Memory>(
+    memory: &M,
     core: &Core,
     seen: &[(Step, Answer)],
     told: &[Cqe],
@@ -34,13 +36,14 @@ pub(crate) fn add_next(
         (AreNext core.now.setup seen.now (history_of events.now) next.new.items) }
     ensures all { OnOk result
         (AreAllNext core.now.setup seen.now (history_of events.now) next.new.items) }
+    ensures granted { ((n : ℕ) → M.grants memory.now n) → IsOk result }
 {
     let wanted = next_told(core, told);
-    add_starts(core, &wanted, false, next)?;
-    add_starts(core, &wanted, true, next)?;
-    add_ends(core, &wanted, next)?;
-    add_flushes(core, &wanted, events, next)?;
-    add_seen(seen, events, next)?;
+    add_starts(memory, core, &wanted, false, next)?;
+    add_starts(memory, core, &wanted, true, next)?;
+    add_ends(memory, core, &wanted, next)?;
+    add_flushes(memory, core, &wanted, events, next)?;
+    add_seen(memory, seen, events, next)?;
     Ok(())
 }
 
@@ -53,7 +56,8 @@ fn next_told(core: &Core, told: &[Cqe]) -> Option<Cqe>
 }
 
 /// Adds the flushes that may come next, unless they would change nothing.
-fn add_flushes(
+fn add_flushes<M: Memory>(
+    memory: &M,
     core: &Core,
     wanted: &Option<Cqe>,
     events: &[(Step, Answer)],
@@ -65,20 +69,22 @@ fn add_flushes(
         → parts.is_stale (history_of events.now) ≡ true
         → CalledForApart core.now.setup (world core.now.setup h) step.Flush a
         → Contains next.new.items (step.Flush, a)) }
+    ensures granted { ((n : ℕ) → M.grants memory.now n) → IsOk result }
 {
     if !is_stale(events) {
         return Ok(());
     }
     let waiting = core.overflowing();
     for moved in 0..waiting {
-        next.push((Step::Flush, Answer::Moved(moved)))?;
+        push(memory, next, (Step::Flush, Answer::Moved(moved)))?;
     }
-    next.push((Step::Flush, Answer::Moved(waiting)))?;
+    push(memory, next, (Step::Flush, Answer::Moved(waiting)))?;
     Ok(())
 }
 
 /// Adds the step that was seen next, unless none is left or it is a hidden one.
-fn add_seen(
+fn add_seen<M: Memory>(
+    memory: &M,
     seen: &[(Step, Answer)],
     events: &[(Step, Answer)],
     next: &mut Vec<(Step, Answer)>,
@@ -91,6 +97,7 @@ fn add_seen(
     ensures added { OnOk result
         ((g : Setup) (x : Event) → IsPart g seen.now (history_of events.now) → spec.is_hidden x.0 ≡ false
         → IsPart g seen.now (x ∷ history_of events.now) → Contains next.new.items x) }
+    ensures granted { ((n : ℕ) → M.grants memory.now n) → IsOk result }
 {
     let Some(event) = seen_next(seen, events) else {
         return Ok(());
@@ -98,7 +105,7 @@ fn add_seen(
     if is_hidden(&event.0) {
         return Ok(());
     }
-    next.push(event)?;
+    push(memory, next, event)?;
     Ok(())
 }
 

@@ -1,6 +1,6 @@
 //! The search for a history that shows what was seen.
 
-ghost use Rattle.std.specs.Prelude.{◌≡◌, ◌≤◌, ◌++◌, ◌∷◌, [], true, false, length, map, IfOk, OnOk};
+ghost use Rattle.std.specs.Prelude.{◌≡◌, ◌≤◌, ◌++◌, ◌∷◌, ℕ, [], true, false, length, map, IfOk, IsOk, OnOk};
 ghost use Rattle.uring_core.specs.Core.{FitsApart};
 ghost use Rattle.uring_core.specs.Histories.{History, history_of};
 ghost use Rattle.uring_reconstruct.specs.Filling.{IsFilling, IsPart, completions_in, seen_in};
@@ -12,6 +12,7 @@ use crate::replay::replay;
 use crate::seen::{completions, seen_among};
 use std::alloc::{AllocError, Global};
 use uring_core::{Answer, Core, Cqe, Setup, Step};
+use uring_memory::{Memory, copied, push};
 
 /// The history that comes furthest: its steps with their answers, the oldest first, and how many of the steps that were seen it shows.
 #[derive(Drop)]
@@ -59,12 +60,34 @@ pub fn fill(
 ) -> Result<Filled, AllocError>
     ensures { IfOk result (λ filled. IsFound setup.now seen.now filled) }
 {
-    let told = completions(alloc, seen)?;
+    fill_in(&alloc, alloc, setup, seen, most)
+}
+
+/// As `fill`, by this memory. If it grants whatever is asked for, there is no error.
+pub fn fill_in<M: Memory>(
+    memory: &M,
+    alloc: Global,
+    setup: &Setup,
+    seen: &[(Step, Answer)],
+    most: u64,
+) -> Result<Filled, AllocError>
+    ensures found { IfOk result (λ filled. IsFound setup.now seen.now filled) }
+    ensures granted { ((n : ℕ) → M.grants memory.now n) → IsOk result }
+{
+    let told = completions(memory, alloc, seen)?;
     let mut reach = Reach {
         events: Vec::new(alloc),
         place: 0,
     };
-    let done = search(alloc, setup, seen, told.as_slice(), most, &mut reach);
+    let done = search(
+        memory,
+        alloc,
+        setup,
+        seen,
+        told.as_slice(),
+        most,
+        &mut reach,
+    );
     drop(told);
     match done {
         Ok(fate) => match fate {
@@ -83,7 +106,8 @@ pub fn fill(
 }
 
 /// Looks at so many histories at most, from the empty one on.
-fn search(
+fn search<M: Memory>(
+    memory: &M,
     alloc: Global,
     setup: &Setup,
     seen: &[(Step, Answer)],
@@ -94,16 +118,18 @@ fn search(
     requires told { told.now ≡ completions_in seen.now }
     requires none { reach.old.events.items ≡ [] }
     requires nowhere { reach.old.place ≡ 0 }
-    ensures { IfOk result (λ fate. IsFound setup.now seen.now (filled_by fate reach.new)) }
+    ensures found { IfOk result (λ fate. IsFound setup.now seen.now (filled_by fate reach.new)) }
+    ensures granted { ((n : ℕ) → M.grants memory.now n) → IsOk result }
 {
     let mut todo = Vec::new(alloc);
-    let done = search_all(alloc, setup, seen, told, most, &mut todo, reach);
+    let done = search_all(memory, alloc, setup, seen, told, most, &mut todo, reach);
     drop(todo);
     done
 }
 
 /// Looks at so many histories at most, from the empty one on. None is to be gone on from yet.
-fn search_all(
+fn search_all<M: Memory>(
+    memory: &M,
     alloc: Global,
     setup: &Setup,
     seen: &[(Step, Answer)],
@@ -116,11 +142,12 @@ fn search_all(
     requires no_path { todo.old.items ≡ [] }
     requires none { reach.old.events.items ≡ [] }
     requires nowhere { reach.old.place ≡ 0 }
-    ensures { IfOk result (λ fate. IsFound setup.now seen.now (filled_by fate reach.new)) }
+    ensures found { IfOk result (λ fate. IsFound setup.now seen.now (filled_by fate reach.new)) }
+    ensures granted { ((n : ℕ) → M.grants memory.now n) → IsOk result }
 {
-    todo.push(Vec::new(alloc))?;
+    push(memory, todo, Vec::new(alloc))?;
     'paths: for _ in 0..most {
-        match search_one(alloc, setup, seen, told, todo, reach)? {
+        match search_one(memory, alloc, setup, seen, told, todo, reach)? {
             Fate::Open => {}
             fate => return Ok(fate),
         }
@@ -129,7 +156,8 @@ fn search_all(
 }
 
 /// Looks at the last path, if there is one.
-fn search_one(
+fn search_one<M: Memory>(
+    memory: &M,
     alloc: Global,
     setup: &Setup,
     seen: &[(Step, Answer)],
@@ -139,13 +167,23 @@ fn search_one(
 ) -> Result<Fate, AllocError>
     requires told { told.now ≡ completions_in seen.now }
     requires stands { IsSearch setup.now seen.now (paths_of todo.old.items) reach.old.events.items reach.old.place }
-    ensures { IfOk result
+    ensures fate { IfOk result
         (λ fate. HasFate setup.now seen.now fate (paths_of todo.new.items) reach.new) }
+    ensures granted { ((n : ℕ) → M.grants memory.now n) → IsOk result }
 {
     let Some(path) = todo.pop() else {
         return Ok(Fate::Over);
     };
-    let found = follow(alloc, setup, seen, told, path.as_slice(), todo, reach);
+    let found = follow(
+        memory,
+        alloc,
+        setup,
+        seen,
+        told,
+        path.as_slice(),
+        todo,
+        reach,
+    );
     drop(path);
     match found {
         Ok(true) => Ok(Fate::Found),
@@ -155,7 +193,8 @@ fn search_one(
 }
 
 /// Looks at a path on a new core, and tells whether it is what was looked for.
-fn follow(
+fn follow<M: Memory>(
+    memory: &M,
     alloc: Global,
     setup: &Setup,
     seen: &[(Step, Answer)],
@@ -170,15 +209,17 @@ fn follow(
         (λ found. found ≡ true → IsFilling setup.now seen.now (history_of reach.new.events.items)) }
     ensures on { IfOk result
         (λ found. found ≡ false → IsSearch setup.now seen.now (paths_of todo.new.items) reach.new.events.items reach.new.place) }
+    ensures granted { ((n : ℕ) → M.grants memory.now n) → IsOk result }
 {
-    let mut core = Core::new(alloc, setup)?;
-    let found = visit(alloc, &mut core, seen, told, path, todo, reach);
+    let mut core = Core::new_in(memory, alloc, setup)?;
+    let found = visit(memory, alloc, &mut core, seen, told, path, todo, reach);
     drop(core);
     found
 }
 
 /// Makes the events of a path on a new core. If they are lawful, it notes how far they come, and puts each path that is one event longer among those to be gone on from, unless it is what was looked for, which it tells.
-fn visit(
+fn visit<M: Memory>(
+    memory: &M,
     alloc: Global,
     core: &mut Core,
     seen: &[(Step, Answer)],
@@ -194,19 +235,21 @@ fn visit(
         (λ found. found ≡ true → IsFilling core.old.setup seen.now (history_of reach.new.events.items)) }
     ensures on { IfOk result
         (λ found. found ≡ false → IsSearch core.old.setup seen.now (paths_of todo.new.items) reach.new.events.items reach.new.place) }
+    ensures granted { ((n : ℕ) → M.grants memory.now n) → IsOk result }
 {
-    if !replay(core, path)? {
+    if !replay(memory, core, path)? {
         return Ok(false);
     }
-    if note(core, seen, told, path, reach)? {
+    if note(memory, core, seen, told, path, reach)? {
         return Ok(true);
     }
-    add_longer(alloc, core, seen, told, path, todo)?;
+    add_longer(memory, alloc, core, seen, told, path, todo)?;
     Ok(false)
 }
 
 /// Notes how far a part comes, and tells whether it is whole.
-fn note(
+fn note<M: Memory>(
+    memory: &M,
     core: &Core,
     seen: &[(Step, Answer)],
     told: &[Cqe],
@@ -226,21 +269,28 @@ fn note(
         (IsReach core.now.setup seen.now reach.new.events.items reach.new.place) }
     ensures far { OnOk result
         ((reach.old.place ≤ reach.new.place) × (length (seen_in (history_of path.now)) ≤ reach.new.place)) }
+    ensures granted { ((n : ℕ) → M.grants memory.now n) → IsOk result }
 {
     let place = seen_among(path);
     let whole = is_whole(core, seen, told, place);
     if whole || place > reach.place {
         reach.place = place;
-        set(&mut reach.events, path)?;
+        set(memory, &mut reach.events, path)?;
     }
     Ok(whole)
 }
 
 /// Puts these events in place of others.
-fn set(events: &mut Vec<(Step, Answer)>, path: &[(Step, Answer)]) -> Result<(), AllocError>
-    ensures { OnOk result (events.new.items ≡ path.now) }
+fn set<M: Memory>(
+    memory: &M,
+    events: &mut Vec<(Step, Answer)>,
+    path: &[(Step, Answer)],
+) -> Result<(), AllocError>
+    ensures set { OnOk result (events.new.items ≡ path.now) }
+    ensures granted { ((n : ℕ) → M.grants memory.now n) → IsOk result }
 {
     events.clear();
+    memory.reserve(events, path.len())?;
     events.extend_from_slice(path)
 }
 
@@ -261,7 +311,8 @@ fn is_whole(core: &Core, seen: &[(Step, Answer)], told: &[Cqe], place: usize) ->
 }
 
 /// Puts each path that is one event longer among those to be gone on from.
-fn add_longer(
+fn add_longer<M: Memory>(
+    memory: &M,
     alloc: Global,
     core: &Core,
     seen: &[(Step, Answer)],
@@ -272,28 +323,31 @@ fn add_longer(
     requires told { told.now ≡ completions_in seen.now }
     requires fits { FitsApart core.now (history_of path.now) }
     requires part { IsPart core.now.setup seen.now (history_of path.now) }
-    ensures { OnOk result
+    ensures longer { OnOk result
         (HasLonger core.now.setup seen.now path.now (paths_of todo.old.items) (paths_of todo.new.items)) }
+    ensures granted { ((n : ℕ) → M.grants memory.now n) → IsOk result }
 {
     let mut next = Vec::new(alloc);
-    add_next(core, seen, told, path, &mut next)?;
-    push_longer(alloc, path, next.as_slice(), todo)
+    add_next(memory, core, seen, told, path, &mut next)?;
+    push_longer(memory, alloc, path, next.as_slice(), todo)
 }
 
 /// Puts this path with each of these events after it among those to be gone on from.
-fn push_longer(
+fn push_longer<M: Memory>(
+    memory: &M,
     alloc: Global,
     path: &[(Step, Answer)],
     next: &[(Step, Answer)],
     todo: &mut Vec<Vec<(Step, Answer)>>,
 ) -> Result<(), AllocError>
-    ensures { OnOk result
+    ensures pushed { OnOk result
         (paths_of todo.new.items ≡ paths_of todo.old.items ++ map (λ x. path.now ++ x ∷ []) next.now) }
+    ensures granted { ((n : ℕ) → M.grants memory.now n) → IsOk result }
 {
     for event in next {
-        let mut longer = Vec::from_slice(alloc, path)?;
-        longer.push(*event)?;
-        todo.push(longer)?;
+        let mut longer = copied(memory, alloc, path)?;
+        push(memory, &mut longer, *event)?;
+        push(memory, todo, longer)?;
     }
     Ok(())
 }

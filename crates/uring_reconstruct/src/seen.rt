@@ -1,6 +1,6 @@
 //! What is seen of events.
 
-ghost use Rattle.std.specs.Prelude.{◌≡◌, ◌++◌, IfOk, OnOk, length, if◌then◌else◌};
+ghost use Rattle.std.specs.Prelude.{◌≡◌, ◌++◌, ℕ, IfOk, IsOk, OnOk, length, if◌then◌else◌};
 ghost use Rattle.std.specs.Option.{option_to_list};
 ghost use Rattle.uring_core.specs.Histories.{history_of};
 ghost use Rattle.uring_core.specs.Events.{reaped_by};
@@ -10,6 +10,7 @@ ghost use Rattle.uring_reconstruct.specs.Parts as parts;
 
 use std::alloc::{AllocError, Global};
 use uring_core::{Answer, Cqe, Step};
+use uring_memory::{Memory, push};
 
 /// Whether a step can't be seen from outside.
 pub(crate) fn is_hidden(step: &Step) -> bool
@@ -62,23 +63,33 @@ fn stale_after(stale: bool, step: &Step) -> bool
 }
 
 /// The completions that were reaped, in order.
-pub(crate) fn completions(alloc: Global, seen: &[(Step, Answer)]) -> Result<Vec<Cqe>, AllocError>
-    ensures { IfOk result (λ told. told.items ≡ completions_in seen.now) }
+pub(crate) fn completions<M: Memory>(
+    memory: &M,
+    alloc: Global,
+    seen: &[(Step, Answer)],
+) -> Result<Vec<Cqe>, AllocError>
+    ensures told { IfOk result (λ told. told.items ≡ completions_in seen.now) }
+    ensures granted { ((n : ℕ) → M.grants memory.now n) → IsOk result }
 {
     let mut told = Vec::new(alloc);
     for event in seen {
-        add_completion(event, &mut told)?;
+        add_completion(memory, event, &mut told)?;
     }
     Ok(told)
 }
 
 /// Adds the completion, if this event reaps one.
-fn add_completion(event: &(Step, Answer), told: &mut Vec<Cqe>) -> Result<(), AllocError>
-    ensures { OnOk result
+fn add_completion<M: Memory>(
+    memory: &M,
+    event: &(Step, Answer),
+    told: &mut Vec<Cqe>,
+) -> Result<(), AllocError>
+    ensures told { OnOk result
         (told.new.items ≡ told.old.items ++ option_to_list (reaped_by event.now)) }
+    ensures granted { ((n : ℕ) → M.grants memory.now n) → IsOk result }
 {
     if let (Step::Reap, Answer::Reaped(completion)) = *event {
-        told.push(completion)?;
+        push(memory, told, completion)?;
     }
     Ok(())
 }

@@ -1,6 +1,6 @@
 //! The starts that may come next.
 
-ghost use Rattle.std.specs.Prelude.{◌≡◌, ◌<◌, ℕ, List, true, OnOk, Contains, length};
+ghost use Rattle.std.specs.Prelude.{◌≡◌, ◌<◌, ℕ, List, true, IsOk, OnOk, Contains, length};
 ghost use Rattle.uring_entry.specs.Requests.{entry_outstanding};
 ghost use Rattle.uring_rules.specs.Rules.{is_issuable};
 ghost use Rattle.uring_core.specs.World.{requests_of};
@@ -13,9 +13,11 @@ ghost use Rattle.uring_reconstruct.specs.Parts.{StandsAt, Adds};
 
 use std::alloc::AllocError;
 use uring_core::{Answer, Core, Cqe, Sqe, Step};
+use uring_memory::{Memory, push};
 
 /// Adds the start of each request that can be issued and has the user data of the completion that is to be posted next, or hasn't, as is asked for.
-pub(crate) fn add_starts(
+pub(crate) fn add_starts<M: Memory>(
+    memory: &M,
     core: &Core,
     wanted: &Option<Cqe>,
     asked: bool,
@@ -27,16 +29,18 @@ pub(crate) fn add_starts(
         → is_issuable core.now.setup.linux (requests_of (world core.now.setup h)) n ≡ true
         → parts.is_asked (entry_outstanding (world core.now.setup h).requests n) wanted.now ≡ asked
         → Contains next.new.items (step.Issue n, answer.Run)) }
+    ensures granted { ((n : ℕ) → M.grants memory.now n) → IsOk result }
 {
     let accepted = core.counts().accepted;
     for place in 0..accepted {
-        add_start(core, wanted, asked, accepted - 1 - place, next)?;
+        add_start(memory, core, wanted, asked, accepted - 1 - place, next)?;
     }
     Ok(())
 }
 
 /// Adds the start of a request, if it is to be added.
-fn add_start(
+fn add_start<M: Memory>(
+    memory: &M,
     core: &Core,
     wanted: &Option<Cqe>,
     asked: bool,
@@ -49,12 +53,13 @@ fn add_start(
         → is_issuable core.now.setup.linux (requests_of (world core.now.setup h)) number ≡ true
         → parts.is_asked (entry_outstanding (world core.now.setup h).requests number) wanted.now ≡ asked
         → Contains next.new.items (step.Issue number, answer.Run)) }
+    ensures granted { ((n : ℕ) → M.grants memory.now n) → IsOk result }
 {
     let entry = core.entry(number);
     if is_asked(&entry, wanted) != asked || !can_issue(core, number) {
         return Ok(());
     }
-    next.push((Step::Issue { number }, Answer::Run))?;
+    push(memory, next, (Step::Issue { number }, Answer::Run))?;
     Ok(())
 }
 

@@ -4,5 +4,5 @@ use Rattle.uring_observed_text.proofs.written_reading.read_written.Given as goal
 
 -- the lines so far are read
 abbrev pub invariant-loop-place : goal.invariant-loop-place
-invariant-loop-place l =
+invariant-loop-place g l =
     AreReadWritten l.fn.core.setup (take l.place (map (λ line. line.now) l.lines)) l.core l.events.items

@@ -18,17 +18,17 @@ told_there e wanted completion n r res b bytes new is r_is b_is added posts fits
     (added (subst (λ y. FinishFits e wanted r y) bytes_is (subst (λ x. FinishFits e wanted x bytes) res_is fits))))
 
 pub returns-in_default-clause-all : goal.returns-in_default-clause-all
-returns-in_default-clause-all c = λ res bytes.
+returns-in_default-clause-all g c = λ res bytes.
     let quiet = c.add_quiet_finish.new.next.items in
     finish_there c.args.entry.now c.args.wanted.now c.args.number res bytes quiet quiet (λ x there. there) (c.in_ok-add_quiet_finish.ensures.all res bytes)
     (λ posts fits. absurd (let f : None ≡ Some (completion_for c.args.entry.now res bytes) = sym c.in_default.is ∙ fits.tells posts in cc))
 
 pub returns-clause-adds : goal.returns-clause-adds
-returns-clause-adds c =
+returns-clause-adds g c =
     adds_then c.args.core.now c.args.wanted.now c.args.next.now.items c.add_quiet_finish.new.next.items c.add_finish.new.next.items c.in_ok-add_quiet_finish.ensures.adds c.in_ok-add_finish.ensures.adds
 
 pub returns-clause-all : goal.returns-clause-all
-returns-clause-all c = λ res bytes.
+returns-clause-all g c = λ res bytes.
     let same = to_z-of_z w32 c.res-res.result (search rules) in
     finish_there c.args.entry.now c.args.wanted.now c.args.number res bytes c.add_quiet_finish.new.next.items c.add_finish.new.next.items c.in_ok-add_finish.ensures.adds.kept (c.in_ok-add_quiet_finish.ensures.all res bytes)
     (told_there c.args.entry.now c.args.wanted.now c.in-Some.completion c.args.number _ res c.payload-bytes.result bytes c.add_finish.new.next.items c.in-Some.is (same ∙ c.res-res.ensures) c.payload-bytes.ensures c.in_ok-add_finish.ensures.added)

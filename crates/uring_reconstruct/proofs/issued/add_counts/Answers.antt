@@ -4,13 +4,13 @@ use Rattle.uring_reconstruct.proofs.Adding.{issued_as, adds_none, adds_then, cou
 use Rattle.uring_reconstruct.proofs.issued.add_counts.Goals as goal
 
 pub loop-below-init : goal.loop-below-init
-loop-below-init c = record {
+loop-below-init g c = record {
   adds = λ wanted. adds_none c.args.core.now wanted c.args.next.now.items;
   some = λ j low. absurd (omega (arith, low));
 }
 
 pub loop-below-preserved : goal.loop-below-preserved
-loop-below-preserved c =
+loop-below-preserved g c =
     let same = to_z-of_z w32 c.count_of.result (search rules) in record {
       adds = λ wanted. adds_then c.args.core.now wanted c.args.next.now.items c.loop-below.next.items c.add_quiet.new.next.items (c.loop-below.invariant.adds wanted) (c.in_ok-add_quiet.ensures.adds wanted);
       some = λ j low h fits there quiet.
@@ -23,7 +23,7 @@ loop-below-preserved c =
     }
 
 pub returns-clause-adds : goal.returns-clause-adds
-returns-clause-adds c = c.loop-below.invariant.adds
+returns-clause-adds g c = c.loop-below.invariant.adds
 
 pub returns-clause-some : goal.returns-clause-some
-returns-clause-some c = λ manual all below low. c.loop-below.invariant.some below (omega arith)
+returns-clause-some g c = λ manual all below low. c.loop-below.invariant.some below (omega arith)

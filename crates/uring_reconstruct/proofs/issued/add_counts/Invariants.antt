@@ -5,7 +5,7 @@ use Rattle.uring_reconstruct.proofs.issued.add_counts.Given as goal
 
 -- the ends with the numbers so far are there
 abbrev pub invariant-loop-below : goal.invariant-loop-below
-invariant-loop-below l = record {
+invariant-loop-below g l = record {
   adds : (wanted : Option Cqe) → Adds l.core wanted l.fn.next.items l.next.items;
   some : (j : ℕ) → j < l.below → (h : History) → FitsApart l.core h
       → is_outstanding (world l.core.setup h).requests l.number ≡ true

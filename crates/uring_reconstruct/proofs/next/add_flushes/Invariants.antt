@@ -6,7 +6,7 @@ use Rattle.uring_reconstruct.proofs.next.add_flushes.Given as goal
 
 -- the flushes that move fewer are there
 abbrev pub invariant-loop-moved : goal.invariant-loop-moved
-invariant-loop-moved l = record {
+invariant-loop-moved g l = record {
   adds : Adds l.core l.wanted l.fn.next.items l.next.items;
   below : (k : ℕ) → k < l.moved → Contains l.next.items (step.Flush, answer.Moved k);
 }

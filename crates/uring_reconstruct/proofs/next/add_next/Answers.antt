@@ -6,7 +6,7 @@ use Rattle.uring_reconstruct.proofs.Adding.{all_next, ends_kept, none_right, by_
 use Rattle.uring_reconstruct.proofs.next.add_next.Goals as goal
 
 pub returns-clause-right : goal.returns-clause-right
-returns-clause-right c =
+returns-clause-right g c =
     let h = history_of c.args.events.now in
     let at : StandsAt c.args.core.now c.args.seen.now c.next_told-wanted.result h = record {
       fits = c.requires.fits;
@@ -21,7 +21,7 @@ returns-clause-right c =
     (none_right c.args.core.now.setup c.args.seen.now h c.args.next.now.items c.requires.none)))))
 
 pub returns-clause-all : goal.returns-clause-all
-returns-clause-all c =
+returns-clause-all g c =
     let h = history_of c.args.events.now in
     let r = (world c.args.core.now.setup h).requests in
     let at : StandsAt c.args.core.now c.args.seen.now c.next_told-wanted.result h = record {

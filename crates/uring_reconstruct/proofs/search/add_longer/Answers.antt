@@ -2,8 +2,8 @@ use Rattle.std.proofs.Common.{[], ◌∷◌, ◌++◌, map, ap, ◌∙◌}
 use Rattle.uring_reconstruct.proofs.Common.{HasLonger, IfOk-weaker, paths_of}
 use Rattle.uring_reconstruct.proofs.search.add_longer.Goals as goal
 
-pub returns : goal.returns
-returns c =
+pub returns-clause-longer : goal.returns-clause-longer
+returns-clause-longer g c =
     let path = c.args.path.now in
     let old = paths_of c.args.todo.now.items in
     IfOk-weaker c.push_longer.result _ _ (λ done is.
@@ -12,4 +12,4 @@ returns c =
       right = c.in_ok-add_next.ensures.right;
       all = c.in_ok-add_next.ensures.all;
       is = is ∙ ap (λ xs. old ++ map (λ x. path ++ x ∷ []) xs) c.as_slice.ensures.value;
-    } in longer) c.push_longer.ensures
+    } in longer) c.push_longer.ensures.pushed

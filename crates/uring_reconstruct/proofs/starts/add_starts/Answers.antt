@@ -9,7 +9,7 @@ use Rattle.uring_reconstruct.proofs.Adding.{adds_then}
 use Rattle.uring_reconstruct.proofs.starts.add_starts.Goals as goal
 
 pub loop-place-preserved : goal.loop-place-preserved
-loop-place-preserved c = record {
+loop-place-preserved g c = record {
   adds = adds_then c.args.core.now c.args.wanted.now c.args.next.now.items c.loop-place.next.items c.add_start.new.next.items c.loop-place.invariant.adds c.in_ok-add_start.ensures.adds;
   added = λ seen h n at low high.
       descend (λ k. is_issuable c.args.core.now.setup.linux (requests_of (world c.args.core.now.setup h)) k ≡ true → parts.is_asked (entry_outstanding (world c.args.core.now.setup h).requests k) c.args.wanted.now ≡ c.args.asked → Contains c.add_start.new.next.items (step.Issue k, answer.Run)) c.counts-accepted.result.accepted c.loop-place.place n high
@@ -18,7 +18,7 @@ loop-place-preserved c = record {
 }
 
 pub returns-clause-added : goal.returns-clause-added
-returns-clause-added c = λ seen h n at can asked.
+returns-clause-added g c = λ seen h n at can asked.
     let many : c.counts-accepted.result.accepted ≡ length (world c.args.core.now.setup h).requests.accepted = (c.counts-accepted.ensures h at.fits).accepted in
     let low : n < length (world c.args.core.now.setup h).requests.accepted = issuable_accepted c.args.core.now.setup.linux (requests_of (world c.args.core.now.setup h)) n can in
     c.loop-place.invariant.added seen h n at (omega arith) (omega arith) can asked

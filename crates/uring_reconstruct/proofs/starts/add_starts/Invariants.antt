@@ -7,7 +7,7 @@ use Rattle.uring_reconstruct.proofs.starts.add_starts.Given as goal
 
 -- the starts of the last requests so far are there
 abbrev pub invariant-loop-place : goal.invariant-loop-place
-invariant-loop-place l = record {
+invariant-loop-place g l = record {
   adds : Adds l.core l.wanted l.fn.next.items l.next.items;
   added : (seen : List Event) (h : History) (n : ℕ) → StandsAt l.core seen l.wanted h → n < l.accepted → l.accepted ≤ n + l.place
       → is_issuable l.core.setup.linux (requests_of (world l.core.setup h)) n ≡ true
