@@ -176,7 +176,7 @@ def run_all(them, words, report):
         for _ in range(words.repeat):
             try:
                 report.tell(outcome_of(scenario, checker, words.linux))
-            except NoTrace as fault:
+            except (NoTrace, NoRing) as fault:
                 report.tell(Outcome(scenario, NOT_TRIED, str(fault)))
         report.progress(at, len(them))
 
@@ -187,7 +187,7 @@ def is_unexplained(text, is_linux):
         return any(
             explain(text, record(text), program(), is_linux).kind == "unexplained" for _ in range(3)
         )
-    except NoTrace:
+    except (NoTrace, NoRing):
         return False
 
 
@@ -263,7 +263,9 @@ def asked(words, report):
         return planted.find(report, scenarios(), None if words.no_check else program(), words.linux)
     if words.litmus:
         return litmus.run(words, report, program())
-    them = chosen(words)
+    them, told = machines.fitted(chosen(words))
+    for line in told:
+        report.say(line)
     if not them:
         print(f"conform: no scenario has {words.scenario} in its name", file=sys.stderr)
         return 2
@@ -284,6 +286,10 @@ def fault_of(words):
         return "a page takes the proved program: ./uring prove"
     if not words.kernel and (words.disk or words.emulated or words.minutes):
         return "--disk, --emulated and --minutes are of a guest: name its --kernel"
+    try:
+        machines.flags_of(words.flags)
+    except ValueError as name:
+        return f"--flags takes {', '.join(machines.FLAGS)}, and not {name}"
     return None
 
 
@@ -304,7 +310,7 @@ def conform(words):
     machine = None
     try:
         machine = machine_of(words)
-        machines.ask(machine)
+        machines.ask(machine, words.flags)
         features()
         return asked(words, Report(words))
     except NoRing as why:

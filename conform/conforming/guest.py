@@ -1,6 +1,6 @@
 """A guest of QEMU with a kernel of its own, whose ring records scenarios. Its first program is conform/recording/guest.c.
 
-A kernel is a package of Debian by its name, with or without `linux-image-`, which is fetched for this run, or a folder with a kernel in boot/ and its modules in lib/modules/. The guest is emulated, unless KVM starts it in time. It lies in a folder for the run alone.
+A kernel is a package of Debian by its name, with or without `linux-image-`, and with @RELEASE that of another release; it is fetched for this run. Or it is a folder with a kernel in boot/ and its modules in lib/modules/. The guest is emulated, unless KVM starts it in time. It lies in a folder for the run alone.
 """
 
 import ctypes
@@ -23,7 +23,8 @@ PROGRAM, RECORDER = f"{TOP}/conform/out/guest", f"{TOP}/conform/out/record-stati
 MODULES_OF_A_DISK = ["virtio_pci", "virtio_blk"]
 FILE_SYSTEMS = ["ext4", "xfs", "btrfs"]
 DISK = 512 << 20  # bytes, of which few are written
-READY_BY_KVM, READY = 20, 300  # seconds until a guest serves
+READY_BY_KVM, READY = 20, 75  # seconds until a guest serves
+TRIES = 4  # a guest that is emulated on a busy machine may stop amid its boot
 LIMIT = 120  # seconds of an answer: the guest ends a run after 60
 EMULATED, BY_KVM = ["-accel", "tcg,thread=multi", "-cpu", "qemu64"], [
     "-accel",
@@ -58,6 +59,39 @@ def run(words, why, **how):
         raise NoMachine(f"{why}: {last}")
 
 
+def lists_of(release, room):
+    """The options by which apt-get asks another release of Debian, and nothing of this machine's lists changes."""
+    os.makedirs(f"{room}/lists/partial")
+    with open(f"{room}/sources", "w") as it:
+        it.write(f"deb http://deb.debian.org/debian {release} main\n")
+    options = {
+        "Dir::Etc::SourceList": f"{room}/sources",
+        "Dir::Etc::SourceParts": "/dev/null",
+        "Dir::State::Lists": f"{room}/lists",
+        "Dir::Cache::pkgcache": "",
+        "Dir::Cache::srcpkgcache": "",
+    }
+    words = [it for name, value in options.items() for it in ("-o", f"{name}={value}")]
+    run(["apt-get", *words, "-q", "update"], f"the release {release} can't be asked")
+    return words
+
+
+def brought(package, folder, room, words):
+    """Fetches a package and unpacks it; where it only names the one with the kernel, that one."""
+    run(["apt-get", *words, "download", "-q", package], f"{package} can't be fetched", cwd=room)
+    found = glob.glob(f"{room}/*.deb")
+    if not found:
+        raise NoMachine(f"apt-get has brought no package {package}")
+    run(["dpkg-deb", "-x", found[0], folder], f"{package} can't be unpacked")
+    needs = subprocess.run(
+        ["dpkg-deb", "-f", found[0], "Depends"], capture_output=True, text=True
+    ).stdout
+    os.remove(found[0])
+    other = re.match(r"linux-image-[^ ,]+", needs)
+    if not glob.glob(f"{folder}/boot/vmlinuz-*") and other:
+        brought(other.group(), folder, room, words)
+
+
 def fetched(name, room):
     """The folder of a kernel: the one that is named, or that of a package of Debian, which is fetched."""
     if os.path.isdir(name):
@@ -65,16 +99,12 @@ def fetched(name, room):
     if "/" in name:
         raise NoMachine(f"there is no folder {name}")
     need("apt-get", "dpkg-deb")
+    name, _, release = name.partition("@")
     package = name if name.startswith("linux-image-") else f"linux-image-{name}"
     folder = f"{room}/kernel"
     os.makedirs(folder)
     os.chmod(room, 0o755)
-    run(["apt-get", "download", "-q", package], f"{package} can't be fetched", cwd=room)
-    found = glob.glob(f"{room}/*.deb")
-    if not found:
-        raise NoMachine(f"apt-get has brought no package {package}")
-    run(["dpkg-deb", "-x", found[0], folder], f"{package} can't be unpacked")
-    os.remove(found[0])
+    brought(package, folder, room, lists_of(release, room) if release else [])
     return folder
 
 
@@ -180,12 +210,11 @@ class Guest:
         with open(f"{self.room}/first", "wb") as it:
             it.write(first_files(with_needs(folder, modules), file_system))
         disk = self.disk(file_system) if file_system else []
-        for accelerator, seconds in (
-            [] if is_emulated or not has_kvm() else [(BY_KVM, READY_BY_KVM)]
-        ) + [(EMULATED, READY)]:
+        ways = [] if is_emulated or not has_kvm() else [(BY_KVM, READY_BY_KVM)]
+        for accelerator, seconds in ways + [(EMULATED, READY)] * TRIES:
             if self.is_started(kernel_of(folder), accelerator, disk, seconds):
                 return
-        raise NoMachine(f"the guest isn't ready after {READY} s: {self.last_words()}")
+        raise NoMachine(f"the guest isn't ready in {TRIES} times {READY} s: {self.last_words()}")
 
     def disk(self, file_system):
         need(f"mkfs.{file_system}")
@@ -264,7 +293,7 @@ class Guest:
         return self.ask("run", scenario)
 
     def features(self):
-        return int(self.ask("features", ""), 0)
+        return self.ask("features", "")
 
     def kill(self):
         if self.stream:

@@ -32,6 +32,14 @@ FEATURES = [
     "NO_IOWAIT",
 ]
 
+# Flags of io_uring_setup by which a ring may be asked too: who may submit, and when what is late is carried out.
+FLAGS = {
+    "COOP_TASKRUN": 1 << 8,
+    "TASKRUN_FLAG": 1 << 9,
+    "SINGLE_ISSUER": 1 << 12,
+    "DEFER_TASKRUN": 1 << 13,
+}
+
 
 class NoRing(Exception):
     pass
@@ -97,29 +105,75 @@ class Here:
         return self.ask([], scenario)
 
     def features(self):
-        """The bits of what the ring says that it can do."""
-        return int(self.ask(["features"], ""), 0)
+        """What the recorder says that a ring can do."""
+        return self.ask(["features"], "")
 
     def close(self):
         pass
 
 
 machine = None
+flags = 0  # of io_uring_setup, of each ring that is asked, beside those of its scenario
 
 
-def ask(it):
-    """From here on this machine is asked."""
-    global machine
-    machine = it
+def ask(it, names=""):
+    """From here on this machine is asked, on rings with the flags that are named, separated by commas."""
+    global machine, flags
+    machine, flags = it, flags_of(names)
+
+
+def flags_of(names):
+    """The bits of flags; ValueError with a name that is none."""
+    bits = 0
+    for name in filter(None, names.split(",")):
+        if name not in FLAGS:
+            raise ValueError(name)
+        bits |= FLAGS[name]
+    return bits
 
 
 def record(scenario):
-    return machine.record(scenario)
+    """What the recorder saw of a scenario, on a ring with these flags."""
+    return machine.record(with_flags(scenario) if flags else scenario)
+
+
+def with_flags(scenario):
+    first, _, rest = scenario.partition("\n")
+    if first.startswith("# setup"):
+        return f"{first} --flags {flags}\n{rest}"
+    return f"# setup --flags {flags}\n{scenario}"
 
 
 def features():
-    """What the ring of the machine says that it can do; a bit without a name is told by its number."""
-    bits = machine.features()
+    """What a ring of the machine says that it can do; a bit without a name is told by its number."""
+    bits = int(machine.features().split()[0], 0)
     return [
         FEATURES[at] if at < len(FEATURES) else f"bit {at}" for at in range(32) if bits >> at & 1
     ]
+
+
+def fitted(them):
+    """The scenarios as an older kernel can have them, and the words that tell what is left out. Below 5.17 there are no skips, and below 5.19 no cancels of all; below 5.18 a ring always ends a call at a fault."""
+    told, able = [], features()
+    for feature, lacking, has_it in (
+        ("CQE_SKIP", "skips", lambda words: len(words) > 2 and "S" in words[2] and words[0] != "#"),
+        ("LINKED_FILE", "cancels of all", lambda words: words[:1] == ["cancelall"]),
+    ):
+        if feature not in able:
+            kept = [
+                it for it in them if not any(has_it(line.split()) for line in it.text.splitlines())
+            ]
+            told.append(f"{len(them) - len(kept)} with {lacking} are left out")
+            them = kept
+    if "stops" in machine.features().split():
+        told.append("each ring ends a call at a fault (--stop)")
+        for it in them:
+            it.text = stopping(it.text)
+    return them, told
+
+
+def stopping(scenario):
+    first, _, rest = scenario.partition("\n")
+    if not first.startswith("# setup"):
+        return f"# setup --stop\n{scenario}"
+    return scenario if "--stop" in first else f"{first} --stop\n{rest}"

@@ -16,11 +16,11 @@
  *   wait N                           waits until N more completions are seen, or half a second has
  *                                    passed
  *
- * With the word `features` it writes what the ring says that it can do, as a number, and reads
- * nothing.
+ * With the word `features` it writes what the ring says that it can do, as a number, and `stops`
+ * if each ring of this kernel ends a call at a fault; and reads nothing.
  *
- * A first line `# setup --sq N --cq N --files N --stop` has the options of `uring`. What is seen is
- * written a line each:
+ * A first line `# setup --sq N --cq N --files N --stop` has the options of `uring`; `--flags N`
+ * there are more flags of the ring. What is seen is written a line each:
  *
  *   call ASKED RETURNED HEAD DROPPED     a call, what it returned, and the words head and dropped
  *                                        after it
@@ -72,6 +72,8 @@ static struct setup setup_of(int count, char **words)
             it.cq = (unsigned)atoi(words[++at]);
         else if (at + 1 < count && !strcmp(words[at], "--files"))
             it.files = (unsigned)atoi(words[++at]);
+        else if (at + 1 < count && !strcmp(words[at], "--flags"))
+            it.flags = (unsigned)strtoul(words[++at], NULL, 0);
     }
     if (!it.cq)
         it.cq = 2 * it.sq;
@@ -84,8 +86,12 @@ int main(int count_of_words, char **asked)
 {
     char line[400];
     if (count_of_words == 2 && !strcmp(asked[1], "features")) {
-        open_ring(setup_of(0, NULL));
-        printf("0x%x\n", ring.features);
+        struct setup asked_for = setup_of(0, NULL);
+        bool has_all = can_open_ring(asked_for);
+        asked_for.is_stop = !has_all;
+        if (!has_all)
+            open_ring(asked_for);
+        printf("0x%x%s\n", ring.features, has_all ? "" : " stops");
         return 0;
     }
     while (fgets(line, sizeof line, stdin)) {

@@ -35,14 +35,14 @@ void must(bool is_well, const char *what)
     }
 }
 
-void open_ring(struct setup asked)
+bool can_open_ring(struct setup asked)
 {
     struct io_uring_params parameters = {
-        .flags = IORING_SETUP_CQSIZE | (asked.is_stop ? 0 : IORING_SETUP_SUBMIT_ALL),
+        .flags = IORING_SETUP_CQSIZE | (asked.is_stop ? 0 : IORING_SETUP_SUBMIT_ALL) | asked.flags,
         .cq_entries = asked.cq};
     ring.descriptor = (int)syscall(__NR_io_uring_setup, asked.sq, &parameters);
     if (ring.descriptor < 0)
-        stop(NO_RING, strerror(errno));
+        return false;
     ring.features = parameters.features;
     size_t sq_bytes = parameters.sq_off.array + parameters.sq_entries * sizeof(unsigned);
     size_t cq_bytes = parameters.cq_off.cqes + parameters.cq_entries * sizeof(struct io_uring_cqe);
@@ -71,6 +71,13 @@ void open_ring(struct setup asked)
         must(files[at] >= 0, "mkstemp");
         unlink(name);
     }
+    return true;
+}
+
+void open_ring(struct setup asked)
+{
+    if (!can_open_ring(asked))
+        stop(NO_RING, strerror(errno));
 }
 
 int descriptor_of(const char *word)

@@ -11,6 +11,7 @@ enum { MOST_FILES = 64, MOST_ITEMS = 4096, NO_RING = 77, BAD_LINE = 2 };
 
 struct setup {
     unsigned sq, cq, files;
+    unsigned flags; /* of io_uring_setup, beside those that each ring has */
     bool is_stop;
 };
 
@@ -31,8 +32,9 @@ extern struct ring ring;
 _Noreturn void stop(int status, const char *why);
 void must(bool is_well, const char *what);
 
-/* Sets the ring up, with so many files. */
+/* Sets the ring up, with so many files, and ends the process if there is none; whether it can. */
 void open_ring(struct setup asked);
+bool can_open_ring(struct setup asked);
 
 /* The descriptor of a file of this number, or -1. */
 int descriptor_of(const char *word);

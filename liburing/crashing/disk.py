@@ -3,10 +3,10 @@
 What is settled is in every image. A change is settled once the volume folds it: then it is painted, and forgotten.
 """
 
-import errno
 import os
 import stat
 
+from crashing.changes import Change, Naming, Sync, written
 from crashing.events import (
     COPY,
     CREATE,
@@ -24,98 +24,21 @@ from crashing.events import (
     SYNCS_ITS_RANGE,
     WRITE,
 )
-from crashing.filesystems import Rules, changed_at, committed, covered_names, in_turn
+from crashing.filesystems import (
+    Held,
+    Rules,
+    changed_at,
+    committed,
+    covered_names,
+    held_names,
+    in_turn,
+)
 from crashing.labels import Bytes, Parts
-from crashing.order import settled
+from crashing.order import is_open, settled
 
 # Modes of fallocate, and a flag of renameat2.
 KEEP_SIZE, PUNCH_HOLE, COLLAPSE_RANGE, ZERO_RANGE, INSERT_RANGE = 1, 2, 8, 16, 32
 EXCHANGE = 2
-# What a write that fails so may have written in part.
-MAY_HAVE_WRITTEN = {errno.EIO, errno.ENOSPC, errno.EDQUOT, errno.EFBIG}
-
-
-class Change:
-    """What an operation does to one file: bytes from `first` on up to `last` (data, or zeros), and its length: at least, or exactly."""
-
-    __slots__ = ("operation", "begin", "end", "first", "last", "data", "length", "is_exact")
-
-    def __init__(self, operation, first, last, data, length, is_exact=False, ends=True):
-        self.operation, self.begin, self.end = (
-            operation,
-            operation.begin,
-            operation.end if ends else None,
-        )
-        self.first, self.last, self.data, self.length, self.is_exact = (
-            first,
-            last,
-            data,
-            length,
-            is_exact,
-        )
-
-    def paint(self, contents):
-        if self.last > self.first:
-            if len(contents) < self.last:
-                contents.extend(bytes(self.last - len(contents)))
-            contents[self.first : self.last] = (
-                self.data if self.data is not None else bytes(self.last - self.first)
-            )
-
-    def lengthen(self, length):
-        if self.length is None:
-            return length
-        return self.length if self.is_exact else max(length, self.length)
-
-
-class Sync:
-    """A sync of a whole file, or of a range; of names: of what `covers` says."""
-
-    __slots__ = ("operation", "begin", "end", "is_done", "range", "covers")
-
-    def __init__(self, operation, begin, end, is_done, range=None, covers=None):
-        self.operation, self.begin, self.end, self.is_done, self.range, self.covers = (
-            operation,
-            begin,
-            end,
-            is_done,
-            range,
-            covers,
-        )
-
-
-class Naming:
-    """What an operation does to names: each becomes another file's, or nobody's."""
-
-    __slots__ = (
-        "operation",
-        "begin",
-        "end",
-        "effects",
-        "files",
-        "folders",
-        "replaced",
-        "is_folded",
-        "part",
-        "needs",
-    )
-
-    def __init__(self, operation, effects, files, replaced=None):
-        self.operation, self.begin, self.end = operation, operation.begin, operation.end
-        self.effects, self.files, self.replaced = effects, files, replaced
-        self.folders = {folder for folder, _, _ in effects}
-        self.is_folded, self.part, self.needs = False, "", None
-
-    def is_over(self, at):
-        """Whether its operation had ended by then, with all that it does."""
-        return self.operation.end is not None and self.operation.end < at
-
-    def apply(self, names):
-        for folder, name, file in self.effects:
-            if file is None:
-                names.setdefault(folder, {}).pop(name, None)
-            else:
-                names.setdefault(folder, {})[name] = file
 
 
 class File:
@@ -235,10 +158,11 @@ class Disk:
         # (one that fails commits nothing, and gives up no more than the file's own names)
         at = changed_at(self, number, operation) if is_done else -1
         covers = covered_names(self, number, operation, at)
-        if covers:
-            self.name_syncs.append(
-                Sync(operation, operation.begin, operation.end, is_done, covers=covers)
-            )
+        for own in covers, held_names(self, number, operation):
+            if own:
+                self.name_syncs.append(
+                    Sync(operation, operation.begin, operation.end, is_done, covers=own)
+                )
         if self.is_ordered and is_done:
             self.commit_lengths(number, operation, at)
 
@@ -364,8 +288,10 @@ class Disk:
         return [sorted(members, key=lambda it: it.begin) for _, members in groups.values()]
 
     def fold_names(self):
+        # (what is safe while a file has its names isn't settled)
+        syncs = [it for it in self.name_syncs if not isinstance(it.covers, Held)]
         for group in self.name_groups():
-            found = settled(group, lambda some: Parts(some, self.name_syncs, self.now).folded())
+            found = settled(group, lambda some: Parts(some, syncs, self.now).folded())
             for naming in group:
                 if naming in found:
                     naming.apply(self.names)
@@ -438,26 +364,34 @@ class Disk:
         if self.is_apart:
             for effect in effects:
                 self.name(operation, [effect], moved)
-        elif self.is_in_parts(operation, folder == other, moved):
+        elif self.rules.parts_renames and not operation.flags & EXCHANGE:
             self.name_in_parts(operation, effects, moved, replaced)
         else:
             self.name(operation, effects, moved, None if operation.flags & EXCHANGE else replaced)
 
     def untie(self, number):
-        """Of a file that loses a name the parts of renames are left each by itself: that it is gone may be left alone."""
+        """Of a file that loses a name to another or is removed: that it is gone may be left alone, and so may what its syncs made safe."""
         for it in self.namings:
-            if it.needs and number in it.files:
-                it.needs = None
+            if it.needs and not it.new and number in it.files:
+                it.needs = []
+        for own in self.held():
+            own.names.pop(number, None)
+
+    def held(self):
+        return [it.covers for it in self.name_syncs if isinstance(it.covers, Held)]
+
+    def add_name(self, naming, number):
+        """A file has another name in the place of an earlier one."""
+        for it in self.namings:
+            if it.needs and it is not naming and number in it.files:
+                it.needs.append(naming)
+        for own in self.held():
+            if number in own.names:
+                own.names[number].append(naming)
 
     def is_new(self, number):
         """Whether a file's creation isn't settled."""
         return any(it.operation.kind == CREATE and number in it.files for it in self.namings)
-
-    def is_in_parts(self, operation, is_within, moved):
-        """Whether a rename is left in parts: one to another folder, or of a new file."""
-        is_exchange = operation.flags & EXCHANGE
-        parts = self.rules.parts_renames and not is_exchange
-        return parts and (not is_within or self.is_new(moved))
 
     def name_in_parts(self, operation, effects, moved, replaced):
         """A rename as its parts; what it replaces goes by itself where the new name is in another folder."""
@@ -468,7 +402,9 @@ class Disk:
         for effect in effects:
             self.name(operation, [effect], moved, replaced if effect[2] == moved else None)
         if len(effects) == 2:
-            in_turn(self.namings[before:], is_new, is_within)
+            has_one = is_within or self.files[moved].kind == "folder"
+            in_turn(self.namings[before:], is_new, has_one)
+            self.add_name(self.namings[-2], moved)
 
     def current(self, folder, name):
         """The file that has a name, as the program sees it."""
@@ -493,23 +429,3 @@ class Disk:
             if file.path.startswith(self.folder)
             else file.path or "a file without a name"
         )
-
-
-def is_open(sync, now):
-    return sync.end is None or sync.end >= now
-
-
-def written(operation):
-    """What a write has written: where, the bytes, and whether it has ended. One that failed may have written any part."""
-    if operation.kind == COPY and operation.end is None:
-        return []
-    count, data = operation.result, operation.bytes
-    if count is not None and count < 0:
-        return [(operation.offset, data, False)] if -count in MAY_HAVE_WRITTEN and data else []
-    if count is None:
-        return [(operation.offset, data, False)] if data else []
-    found = [(operation.offset, data[:count], True)] if count else []
-    if operation.actual and operation.actual[1][:count] != data[:count] and count:
-        # (its memory was changed while it ran: either may have been taken)
-        found.append((operation.offset, operation.actual[1][:count], True))
-    return found

@@ -3,13 +3,13 @@
 from typing import NamedTuple
 
 from crashing.events import CREATE, IS_OF_DATA, LENGTH, SPACE
-from crashing.order import first_end
+from crashing.order import first_end, is_open
 
 
 class Rules(NamedTuple):
     is_ordered: bool = False  # names are lost from the end, in one order for the whole disk
     syncs_names: bool = False  # a sync of a file makes its own names safe
-    parts_renames: bool = False  # a rename to another folder, or of a new file, is left in parts
+    parts_renames: bool = False  # a rename is left in parts
     flushes_renamed: bool = False  # a rename over a file waits for the new file's length
     block: int = 512  # a write's length may be left up to each multiple of so many bytes in it
     cut_block: int = 4096  # in a block of so many bytes a truncation writes its zeros in place
@@ -32,48 +32,71 @@ def rules_of(word):
     return RULES[name]._replace(block=int(block), cut_block=max(4096, int(block)))
 
 
-def in_turn(namings, is_new, is_within):
-    """The parts of a rename: what it replaces goes, the new name comes, and the old one ends. A sync of either folder makes the new name safe, and one of the old folder alone the end of the old name.
+def in_turn(namings, is_new, has_one):
+    """The parts of a rename: what it replaces goes, the new name comes, and the old one ends.
 
-    The old name doesn't end without the new one, but of a file whose creation isn't settled: then another file may have its old name, and it none. Within a folder such a one doesn't have both.
+    The old name doesn't end without the new one, but of a file whose creation isn't settled: then another file may have its old name, and it none. If it `has_one` name of the two, which is so within a folder, it doesn't have both.
     """
     *gone, new, old = namings
-    new.part, old.part, new.folders = "new", "old", new.folders | old.folders
+    new.part, old.part, new.sources = "new", "old", old.folders
     for it in gone:
-        it.part, it.end, it.folders, new.begin = (
+        it.part, it.end, it.sources, new.begin = (
             "gone",
             it.begin + 0.125,
-            new.folders,
+            old.folders,
             it.begin + 0.25,
         )
-    if is_new:
-        new.needs = old if is_within else None
-    else:
-        new.end, old.begin, old.needs = new.begin + 0.125, new.begin + 0.25, new
+    if has_one:
+        old.new = new
+    if not is_new:
+        new.end, old.begin, old.needs = new.begin + 0.125, new.begin + 0.25, [new]
 
 
-def with_needed(groups, left):
+def with_needed(disk, groups, left):
     """What is left of operations on names, by groups: each part of a rename with the one that it needs, and what came before that."""
     found = {it for own in left for it in own}
     while True:
-        lacking = [it.needs for it in found if lacks(it, found)]
-        if not lacking:
+        wanted = lacking(disk, found)
+        if not wanted:
             return [[it for it in group if it in found] for group in groups]
-        for new in lacking:
-            group = next(it for it in groups if new in it)
+        for part in wanted:
+            group = next(it for it in groups if part in it)
             found |= {
-                it for it in group if it is new or (it.end is not None and it.end < new.begin)
+                it for it in group if it is part or (it.end is not None and it.end < part.begin)
             }
 
 
-def lacks(naming, found):
-    return naming.needs and naming.needs not in found and not naming.needs.is_folded
+def lacking(disk, found):
+    """The parts of renames that are wanted beside those that are found: a name of a file whose old one has ended, or that was synced with one; and the end of an old one of a file that would have both."""
+    needed = [it.needs for it in found if it.needs]
+    for sync in disk.name_syncs:
+        if isinstance(sync.covers, Held) and sync.is_done and not is_open(sync, disk.now):
+            needed += sync.covers.names.values()
+    wanted = [own[0] for own in needed if not any(it in found or it.is_folded for it in own)]
+    lost = [it for it in disk.namings if it.new and it not in found]
+    shown = names_with(disk, found) if lost else None
+    return wanted + [it for it in lost if has_both(it, found, shown)]
 
 
-def are_whole(left):
-    """Whether each part of a rename has the one that it needs."""
-    found = {it for own in left for it in own}
-    return not any(lacks(it, found) for it in found)
+def names_with(disk, found):
+    """Which file a name has, with these operations left."""
+    last = {}
+    for naming in sorted(found, key=lambda it: it.begin):
+        last.update((effect[:2], effect[2]) for effect in naming.effects)
+    return lambda it: last[it] if it in last else disk.names.get(it[0], {}).get(it[1])
+
+
+def has_both(old, found, shown):
+    """Whether a renamed file still has its old name, the end of which is lost, beside the new one. It doesn't once another file has taken either."""
+    new = old.new
+    ((folder, name, file),) = new.effects
+    is_there = new in found or new.is_folded
+    return is_there and shown((folder, name)) == file == shown(old.effects[0][:2])
+
+
+def are_whole(disk, left):
+    """Whether no part of a rename is wanted besides."""
+    return not lacking(disk, {it for own in left for it in own})
 
 
 def names_lost(image, whole):
@@ -120,16 +143,41 @@ def covered_names(disk, number, sync, at):
         return lambda naming: number in naming.folders and naming.is_over(sync.begin)
     if disk.is_ordered:
         return lambda it: names_whole(it, number, sync) or (it.end is not None and it.end < at)
-    if disk.rules.syncs_names:
-        now = {name for name, file in disk.seen.items() if file == number}
-        return lambda it: names_whole(it, number, sync) and is_name(it, number, now, sync)
     return None
 
 
-def is_name(naming, number, names, sync):
-    """Whether an operation that has ended gave a file one of these names, which it has as it is synced. Those that it had before aren't reached."""
-    given = {effect[:2] for effect in naming.effects if effect[2] == number}
-    return naming.is_over(sync.begin) and not given.isdisjoint(names)
+class Held:
+    """Operations on names that a sync makes safe while their files have the names, as a call. `names` has of each file these names and those that it was given since: it has one of them until it is removed."""
+
+    def __init__(self, disk, own):
+        self.disk, self.own, self.names = disk, own, {}
+        for naming in own:
+            for _, _, file in naming.effects:
+                if file is not None:
+                    self.names.setdefault(file, []).append(naming)
+
+    def __call__(self, naming):
+        return naming in self.own and has_names(self.disk, naming)
+
+
+def has_names(disk, naming):
+    """Whether a file has the names still that an operation gave it."""
+    now = [disk.current(folder, name) for folder, name, _ in naming.effects]
+    return all(it in naming.files for it in now)
+
+
+def held_names(disk, number, sync):
+    """What a sync makes safe of names while files have them: of a file its own, where the rules say so; of a folder those of files that were renamed from it to another. None if that is nothing, or if a sync has done it."""
+    if disk.files[number].kind == "folder":
+        own = [it for it in disk.namings if number in it.sources - it.folders]
+    else:
+        syncs = disk.rules.syncs_names and not disk.is_ordered
+        own = [it for it in disk.namings if syncs and names_whole(it, number, sync)]
+    own = {it for it in own if it.is_over(sync.begin) and has_names(disk, it)}
+    ended = [it for it in disk.name_syncs if it.is_done and not is_open(it, sync.begin)]
+    before = [it.covers for it in ended if isinstance(it.covers, Held)]
+    is_new = own and not any(own <= it.own and it.names for it in before)
+    return Held(disk, own) if is_new else None
 
 
 class Lengths(frozenset):

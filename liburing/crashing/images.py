@@ -2,7 +2,7 @@
 
 import itertools
 
-from crashing.disk import Sync, is_open
+from crashing.changes import Sync
 from crashing.filesystems import (
     are_whole,
     hidden_from,
@@ -14,6 +14,7 @@ from crashing.filesystems import (
     with_needed,
 )
 from crashing.labels import Bytes, Chosen, Parts, hides, merged
+from crashing.order import is_open
 
 
 class Image:
@@ -44,7 +45,7 @@ def image_of(disk, chosen):
     left = [Parts(group, disk.name_syncs, disk.now).crash(chosen) for group in groups]
     return assemble(
         disk,
-        with_needed(groups, left),
+        with_needed(disk, groups, left),
         lambda file, syncs: crash_file(disk, file, syncs, chosen),
     )
 
@@ -190,7 +191,9 @@ def all_images(disk, most):
     if None in groups:
         return None
     kept = {}
-    for left in filter(are_whole, itertools.product(*groups)):
+    for left in itertools.product(*groups):
+        if not are_whole(disk, left):
+            continue
         synced = flushed(disk, [naming for it in left for naming in it])
         kinds = {}
         for number, file in enumerate(disk.files):

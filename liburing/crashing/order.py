@@ -31,6 +31,11 @@ def telling(changes, syncs):
             yield sync
 
 
+def is_open(sync, now):
+    """Whether a sync hasn't ended yet."""
+    return sync.end is None or sync.end >= now
+
+
 def first_end(changes):
     """Where the first of these changes ends: what begins after that waits for it."""
     return min((it.end for it in changes if it.end is not None), default=math.inf)

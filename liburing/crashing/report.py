@@ -3,7 +3,7 @@
 import json
 import time
 
-from exploring.junit import Case, write_junit
+from exploring.kinds import Case, write_junit
 
 
 class Report:

@@ -61,6 +61,8 @@ class Cluster:
         with tempfile.TemporaryDirectory() as room:
             path = f"{room}/exploring.zip"
             with zipfile.ZipFile(path, "w") as file:
+                # (what stands in packages is loaded anew by workers that had it before)
+                file.writestr("exploring/__init__.py", "")
                 for name in sorted(os.listdir(MODULES)):
                     if name.endswith(".py"):
                         file.write(f"{MODULES}/{name}", f"exploring/{name}")

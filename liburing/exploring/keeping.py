@@ -5,7 +5,7 @@ import shlex
 import shutil
 import stat
 
-from exploring.runs import PARTS, list_of
+from exploring.runs import PARTS, list_of, new_folder
 
 
 def keep(folder, program, run):
@@ -32,7 +32,7 @@ def write_replay(path, folder, program, run, traced):
         words.append(f'LD_LIBRARY_PATH="$here/libraries":{shlex.quote(libraries)}')
     words.append(kept_program(folder, program.words[0]))
     if program.is_fresh:
-        place = 'cd "$(mktemp -d)" || exit'
+        place = f'cd "$({new_folder()} 2> /dev/null || mktemp -d)" || exit'
     else:
         place = f"cd {shlex.quote(os.getcwd())} 2> /dev/null || true    # (where it ran; it may run elsewhere)"
     with open(path, "w") as file:

@@ -6,11 +6,10 @@ import os
 import shutil
 import sys
 
-from exploring.coverage import print_rules
 from exploring.reducing import Request, Way, unfold
-from exploring.runs import list_of_ways, stop
+from exploring.runs import APART, list_of_ways, stop
 from exploring.seeds import write_summary
-from exploring.side_by_side import MOST_AT_ONCE, Progress, pool_of
+from exploring.side_by_side import MOST_AT_ONCE, Progress, pool_of, print_rules
 
 
 def is_turn(choice):
@@ -63,7 +62,7 @@ class Orders:
         self.strayed += 1
         if self.strayed == 1:
             print(
-                f"explore: with {list_of_ways(ways)} the program made other choices: it doesn't do the same in each run, so orders are missed (--fresh gives each a folder of its own, --jobs 1 runs one at a time)",
+                f"explore: with {list_of_ways(ways)} the program made other choices: it doesn't do the same in each run, so orders are missed ({APART})",
                 file=sys.stderr,
             )
 
@@ -81,7 +80,7 @@ class Orders:
                 stop(f"{path} is no list that an earlier call has left")
         if found.get("of") != what_is_run(program):
             stop(
-                f"{path} is left by a call of another program, or of another build of it, or with other words, variables or --ends"
+                f"{path} is left by a call of another program, or of another build of it, or with other words, variables, --ends or --here"
             )
         if found.get("turns") != self.turns:
             stop(f"{path} is left by a call with other --turns")
@@ -136,7 +135,7 @@ def what_is_run(program):
         "program": program.words,
         "contents": contents,
         "grain": program.grain,
-        "fresh": program.is_fresh,
+        "here": not program.is_fresh,
         "variables": variables,
     }
 

@@ -3,6 +3,7 @@
 import atexit
 import errno
 import os
+import shlex
 import shutil
 import struct
 import subprocess
@@ -17,6 +18,9 @@ from exploring.reducing import Outlook
 from exploring.serving import ACCOUNT_SIZE, ROOM, Lost, Server
 
 OF_RUN = struct.Struct("<4Q")
+RUNNER, NOT_BEGUN = "uring-run", (125, 126, 127)
+# What is told where runs may disturb one another.
+APART = "each has a folder of its own, but by --here; --jobs 1 runs one at a time"
 # What the surroundings say of faults and of time is part of a run: without it the same list gives another.
 PARTS = "WULGACH_FAULTS", "WULGACH_FAULT_RATE", "WULGACH_TIMEOUTS"
 
@@ -25,19 +29,17 @@ class Program:
     """What is run: its words, for how many seconds at most, by which choices, whether each run gets a folder of its own, and where runs begin."""
 
     def __init__(self, options):
-        self.words, self.seconds, self.is_fresh = options.words, options.seconds, options.fresh
+        self.given, self.seconds, self.is_fresh = options.words, options.seconds, not options.here
         self.grain = "ends" if options.ends else "events"
         self.start, self.wanted = None, options.start
-        self.folder, self.surroundings = None, {}
+        self.folder, self.surroundings = None, places_from_here() if self.is_fresh else {}
         self.own, self.lock, self.hands, self.is_closed = (
             threading.local(),
             threading.Lock(),
             [],
             False,
         )
-        if self.is_fresh and self.words:
-            # (the folder is another one then)
-            self.words = [absolute(self.words[0]), *self.words[1:]]
+        self.words = whole(self.given) if self.is_fresh else self.given
 
     def told(self):
         """What a worker on another machine is told of it."""
@@ -49,11 +51,11 @@ class Program:
         return dict(
             words=[absolute(self.words[0]), *self.words[1:]],
             seconds=self.seconds,
-            fresh=self.is_fresh,
+            here=not self.is_fresh,
             ends=self.grain == "ends",
             start=self.wanted,
             folder=os.getcwd(),
-            surroundings=kept,
+            surroundings={**kept, **self.surroundings},
         )
 
     @staticmethod
@@ -93,14 +95,50 @@ class Program:
             hand.close()
 
     def first_run(self, policy):
-        """A run, which is to have set a ring up on the layer: else all that follows would say nothing."""
+        """A run in order, which is to have set a ring up on the layer: else all that follows would say nothing."""
         run = self.run(policy)
         if not run.has_ring:
-            sys.stdout.buffer.write(run.output)
-            stop(
-                f"{self.words[0]} set no ring up on the layer (status {run.status}): try `liburing/uring-run` before it, or link it with the layer"
+            stop(self.why_no_ring(run))
+        if run.fails() and self.is_fresh:
+            print(
+                f"explore: in order it fails too (status {run.status}), in an empty folder of its own: --here runs it in this one",
+                file=sys.stderr,
             )
         return run
+
+    def why_no_ring(self, run):
+        """What uring-run has refused, or else what may help. What the run printed is printed."""
+        is_by_run = os.path.basename(self.words[0]) == RUNNER
+        _, is_refused, refusal = run.output.decode(errors="replace").rpartition(f"{RUNNER}: ")
+        if is_by_run and is_refused and run.status in NOT_BEGUN:
+            return refusal.strip()
+        sys.stdout.buffer.write(run.output)
+        sys.stdout.flush()
+        ways = (
+            [] if is_by_run else ["try `liburing/uring-run` before it, or link it with the layer"]
+        )
+        if run.fails() and self.is_fresh:
+            ways.append("try --here, if it wants what lies in this folder")
+        why = f"{self.given[0]} set no ring up on the layer (status {run.status})"
+        return f"{why}: {'; or '.join(ways)}" if ways else why
+
+
+def whole(words):
+    """Words as they are read in another folder: paths of programs that begin here begin at the root."""
+    found = [shutil.which(it) if at == 0 or "/" in it else None for at, it in enumerate(words)]
+    return [
+        os.path.abspath(to) if to and not os.path.isabs(to) else it for it, to in zip(words, found)
+    ]
+
+
+def places_from_here():
+    """The variables that name folders by paths from here, with such as begin at the root."""
+    found = {}
+    for name in ("PATH", "LD_LIBRARY_PATH"):
+        paths = (os.environ.get(name) or "/").split(":")
+        if not all(map(os.path.isabs, paths)):
+            found[name] = ":".join(it if os.path.isabs(it) else os.path.abspath(it) for it in paths)
+    return found
 
 
 def absolute(name):
@@ -156,9 +194,9 @@ class Hand:
             stop(f"{self.program.words[0]}: {error.strerror}")
 
     def settle_start(self):
-        """Where runs begin: at the first set-up where each has a folder of its own and nothing else stands against it, else before main, else by a new process."""
+        """Where runs begin: before main, or, if that is asked for, at the first set-up; by a new process where something stands against both. What stands against a place that was asked for is told."""
         wanted = {
-            "auto": ["ring", "main"] if self.program.is_fresh else ["main"],
+            "auto": ["main"],
             "ring": ["ring", "main"],
             "main": ["main"],
             "new": [],
@@ -168,7 +206,7 @@ class Hand:
             if not server.reason:
                 self.server = server
                 return when
-            if when == "ring" or self.program.wanted != "auto":
+            if self.program.wanted != "auto":
                 where = "at the first set-up of a ring" if when == "ring" else "before main"
                 print(
                     f"explore: runs don't begin by a fork {where}: {server.reason}", file=sys.stderr
@@ -303,7 +341,7 @@ class Run:
 
     def read_choices(self, path):
         with open(path) as lines:
-            self.record = [line.rstrip("\n") for line in lines if line.endswith("\n")]
+            self.record += [line.rstrip("\n") for line in lines if line.endswith("\n")]
         found = [line.split(" ", 3) for line in self.record if line[0].isdecimal()]
         # (a fault is chosen amid the end of its request, and recorded before that)
         self.choices = sorted(
@@ -320,6 +358,23 @@ class Run:
     def items(self):
         """The choices that aren't what the policy in order does."""
         return [(at, way) for at, way, _, _ in self.choices if way]
+
+
+def replay_line(program, run):
+    """The command that does what a run did, from here: in a new folder, if it had one."""
+    variables = {name: os.environ[name] for name in PARTS if name in os.environ}
+    variables |= program.surroundings
+    variables |= {name: run.environment[name] for name in ("WULGACH_POLICY", "WULGACH_CHOOSE")}
+    line = [f"{name}={shlex.quote(value)}" for name, value in variables.items()]
+    for word, given in zip(program.words, program.given):
+        here = f'"$PWD"/{shlex.quote(os.path.relpath(word))}'
+        line.append(shlex.quote(word) if word == given else here)
+    return " ".join(["env", "-C", f'"$({new_folder()})"', *line] if program.is_fresh else line)
+
+
+def new_folder():
+    """The command that makes a folder where those of runs are, and prints its path."""
+    return f"mktemp -dp {shlex.quote(ROOM)}" if ROOM else "mktemp -d"
 
 
 def list_of(items):

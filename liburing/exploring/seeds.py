@@ -5,13 +5,11 @@ import shlex
 import sys
 import time
 
-from exploring.coverage import added, print_rules
-from exploring.junit import Case, write_junit
 from exploring.keeping import keep
-from exploring.kinds import first_line, without_numbers
-from exploring.runs import Policies, Stopped, list_of, stop, told_error
-from exploring.shrinking import shortest
-from exploring.side_by_side import Progress, in_turn, pool_of
+from exploring.kinds import Case, first_line, without_numbers, write_junit
+from exploring.runs import APART, Policies, Stopped, list_of, stop, told_error
+from exploring.shrinking import least
+from exploring.side_by_side import Progress, added, in_turn, pool_of, print_rules
 
 
 class Found:
@@ -40,7 +38,7 @@ class Found:
             items = self.program.run(kind["policy"]).items()
             kind["choices"] = None
             if self.program.run(list_of(items)).fails():
-                fewer = shortest(self.program, items, (), lambda: time.monotonic() > last)
+                fewer = least(self.program, items, lambda: time.monotonic() > last)
                 kind["choices"] = list_of(fewer).removeprefix("list:")
 
     def write(self):
@@ -130,7 +128,7 @@ def told(options, program, seed, run):
     print(f"seed {seed} fails: status {run.status}, {run.choice_count} choices")
     if (options.jobs > 1 or options.keep) and not program.run(run.policy).fails():
         print(
-            f"seed {seed} passes if it is run again: the program doesn't do the same in each run, or runs side by side disturb one another (--fresh gives each a folder of its own, --jobs 1 runs one at a time)"
+            f"seed {seed} passes if it is run again: the program doesn't do the same in each run, or runs side by side disturb one another ({APART})"
         )
     sys.stdout.flush()
     if options.keep:

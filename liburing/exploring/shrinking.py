@@ -2,15 +2,16 @@
 
 import os
 import re
-import shlex
 import sys
 
 from exploring.lines import places_of
-from exploring.runs import PARTS, Policies, list_of, stop
+from exploring.runs import Policies, list_of, replay_line, stop
 from exploring.traces import URING
 
 # How a choice begins by which time passes.
 TIME = "time passes", "the wait's time"
+# By how many numbers choices are moved at most, if it isn't by as many as one finds.
+MOST_MOVED = 4
 POLICY = re.compile(r"order|lazy|seed:\d+|pct:\d+:\d+(:\d+)?|list:(\d+(=\d+)?(,\d+(=\d+)?)*)?")
 
 
@@ -30,6 +31,39 @@ def shortest(program, items, beside=(), is_over=lambda: False):
         if size == 1 or is_over():
             return items
         size //= 2
+
+
+def least(program, items, is_over=lambda: False):
+    """The same, also where those after a choice have other numbers once it is left out."""
+    while True:
+        fewer = shortest(program, items, (), is_over)
+        if len(fewer) == len(items):
+            fewer = without_one(program, items, is_over)
+        if fewer is None:
+            return items
+        items = fewer
+
+
+def without_one(program, items, is_over):
+    """Leaves one choice out, and moves those after it to other numbers, so that the run still fails; None if that can't be."""
+    for place in range(len(items) - 1):
+        if is_over():
+            break
+        for fewer in moved_lists(program, items[:place], items[place], items[place + 1 :]):
+            run = program.run(list_of(fewer))
+            if run.fails():
+                return [it for it in run.items() if it in fewer]
+    return None
+
+
+def moved_lists(program, before, item, after):
+    """The lists to be tried without a choice. Those after it are moved by as many choices as a run that goes on in order makes more without it than with it, and then by a few."""
+    without, with_it = (len(program.run(list_of(it)).choices) for it in (before, [*before, item]))
+    few = (by for size in range(1, MOST_MOVED + 1) for by in (-size, size))
+    for by in dict.fromkeys([without - with_it, *few]):
+        moved = [(at + by, way) for at, way in after]
+        if by and moved[0][0] > (before[-1][0] if before else -1):
+            yield before + moved
 
 
 def without_times(program, run):
@@ -67,11 +101,7 @@ def shrink(options, program):
         )
         return 2
     before, items = len(run.choices), without_times(program, run)
-    while True:
-        fewer = shortest(program, items)
-        if len(fewer) == len(items):
-            break
-        items = fewer
+    items = least(program, items)
     if not program.run(list_of(items)).fails():
         print(
             f"{name} fails, and the list that is left passes when it is run again: the program doesn't do the same in each run"
@@ -99,16 +129,7 @@ def show(options, program):
 def print_run(options, program, policy, title):
     """Prints a run: the choices that aren't in order, then what happened on each ring. Draws it too, if a page is asked for."""
     run = program.run(policy, is_tracing=True)
-    variables = " ".join(
-        f"{name}={value}"
-        for name, value in run.environment.items()
-        if name in ("WULGACH_POLICY", "WULGACH_CHOOSE")
-    )
-    parts = " ".join(
-        f"{name}={shlex.quote(os.environ[name])}" for name in PARTS if name in os.environ
-    )
-    variables = f"{parts} {variables}" if parts else variables
-    print(f"    {variables} {shlex.join(program.words)}\n")
+    print(f"    {replay_line(program, run)}\n")
     for at, way, count, what in run.choices:
         if way:
             print(f"choice {at}: {what}, way {way} of 0 to {count - 1}")

@@ -1,12 +1,10 @@
-"""Many runs at once, here or on a cluster, and how far they are."""
+"""Many runs at once, here or on a cluster: how far they are, and which rules of the core they met."""
 
 import collections
 import concurrent.futures
 import itertools
 import sys
 import time
-
-from exploring.coverage import added
 
 MOST_AT_ONCE, ENOUGH_SECONDS = 64, 0.05
 
@@ -122,3 +120,21 @@ class Progress:
             "rate": round(self.rate(), 1),
             "orders": len(self.orders),
         }
+
+
+def added(tables):
+    """The sums of several tables."""
+    sums = {}
+    for table in tables:
+        for name, count in table.items():
+            sums[name] = sums.get(name, 0) + count
+    return sums
+
+
+def print_rules(rules):
+    """Each rule with how often it was met. A request that waits is counted when it is accepted and whenever it is chosen."""
+    never = [name for name, count in rules.items() if not count]
+    print("\n| Rule | Met |\n|---|---:|")
+    for name, count in rules.items():
+        print(f"| {name} | {f'{count:,}' if count else 'never'} |")
+    print(f"\n{len(rules) - len(never)} of {len(rules)} rules were met")

@@ -197,41 +197,53 @@ static const char *interpreter_of(int file, char line[FIRST_LINE])
     return path;
 }
 
-static void look_below(int folder, const char *path, unsigned depth);
+static bool look_below(int folder, const char *path, unsigned depth, bool tells);
 
-/* Tells of a program that isn't reached; of a script it is the one that runs it. */
-static void look_at_file(int file, const char *name, unsigned depth)
+/* Whether a program is reached, or of a script the one that runs it; one that isn't is told of. */
+static bool look_at_file(int file, const char *name, unsigned depth, bool tells)
 {
     char line[FIRST_LINE];
     const char *interpreter = depth < MOST_SCRIPTS ? interpreter_of(file, line) : NULL;
     if (interpreter)
-        look_below(AT_FDCWD, interpreter, depth + 1);
-    else if (is_static(file))
+        return look_below(AT_FDCWD, interpreter, depth + 1, tells);
+    bool loads_nothing = is_static(file), has_others = !loads_nothing && has_other_rights(file);
+    if (loads_nothing && tells)
         say("it is linked statically and can't be reached: SIGSYS ends it if it calls io_uring, or writes to memory that it shares with a file",
             name);
-    else if (has_other_rights(file))
+    else if (has_others && tells)
         say("it has other rights than its user and can't be reached: SIGSYS ends it if it calls io_uring, or writes to memory that it shares with a file",
             name);
+    return !loads_nothing && !has_others;
 }
 
 /* (what opens something else waits, as for the other end of a named pipe, or does something, as of
  * a device) */
-static void look_below(int folder, const char *path, unsigned depth)
+static bool look_below(int folder, const char *path, unsigned depth, bool tells)
 {
     struct stat about;
+    bool is_one_reached = true;
     int kept = errno, file = -1;
     if (fstatat(folder, path, &about, 0) == 0 && S_ISREG(about.st_mode))
         file = openat(folder, path, O_RDONLY | O_NONBLOCK | O_CLOEXEC);
     if (file >= 0) {
-        look_at_file(file, path, depth);
+        is_one_reached = look_at_file(file, path, depth, tells);
         close(file);
     }
     errno = kept;
+    return is_one_reached;
 }
 
 static void look_at(const char *path)
 {
-    look_below(AT_FDCWD, path, 0);
+    look_below(AT_FDCWD, path, 0, true);
+}
+
+bool is_reached(int folder, const char *path, char *const *surrounding)
+{
+    bool has_own = false;
+    for (; surrounding && *surrounding; surrounding++)
+        has_own |= is_preload(*surrounding) && names_own(*surrounding + PRELOAD);
+    return has_own && look_below(folder, path, 0, false);
 }
 
 /* The same of a name that is looked for in PATH, as the C library does: an empty part is the folder
@@ -277,7 +289,7 @@ SEEN int fexecve(int file, char *const *words, char *const *surrounding)
 {
     int (*call)(int, char *const *, char *const *);
     *(void **)&call = next("fexecve");
-    look_at_file(file, "a program", 0);
+    look_at_file(file, "a program", 0, true);
     ROOM_FOR(surrounding);
     return call(file, words, with_ours(surrounding, room, preload));
 }
@@ -285,9 +297,9 @@ SEEN int fexecve(int file, char *const *words, char *const *surrounding)
 /* The file itself has an empty path. (A C library before 2.34 hasn't this call.) */
 SEEN int execveat(int at, const char *path, char *const *words, char *const *surrounding, int flags)
 {
-    look_below(at, path, 0);
+    look_below(at, path, 0, true);
     if (flags & AT_EMPTY_PATH && faccessat(at, path, F_OK, 0) != 0)
-        look_at_file(at, "a program", 0);
+        look_at_file(at, "a program", 0, true);
     ROOM_FOR(surrounding);
     return (int)syscall(
         SYS_execveat, at, path, words, with_ours(surrounding, room, preload), flags);

@@ -51,6 +51,9 @@ static inline void put_mask_back(const sigset_t *before)
 /* Catches SIGSYS, whoever has a filter already. */
 bool catch_for_good(void (*handler)(int, siginfo_t *, void *));
 
+/* Whether a program is reached that a process becomes, with these variables. */
+bool is_reached(int folder, const char *path, char *const *surrounding);
+
 /* Does with a SIGSYS that isn't the trap's what the program asked for, as its own filter raises
  * one, or another process. It came here. */
 void give_signal(int number, siginfo_t *info, ucontext_t *at, bool is_of_filter);

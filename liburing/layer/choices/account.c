@@ -51,7 +51,8 @@ static const char *const names_of_turns[WULGACH_TURN_COUNT] = {
 
 static struct account *shared;
 static uint64_t hash; /* of this process's choices */
-static pid_t hashing_process; /* a forked child has choices of its own */
+static pid_t hashing_process; /* a forked child has choices of its own, */
+static bool has_one_list; /* unless all processes have one list */
 
 /* The names stand in the file, so that they are told in one place. */
 static void map_account(void)
@@ -98,7 +99,7 @@ void note_choice(const char *what)
     if (hashing_process != getpid()) {
         hashing_process = getpid();
         hash = 0;
-        shared->choosers++;
+        shared->choosers = has_one_list ? 1 : shared->choosers + 1;
     }
     uint64_t before = hash;
     if (hash == 0)
@@ -108,6 +109,11 @@ void note_choice(const char *what)
     hash = (hash ^ '\n') * 1099511628211u;
     shared->order += hash - before;
     shared->choices++;
+}
+
+void note_one_list(void)
+{
+    has_one_list = true;
 }
 
 void note_rules(enum rule rule, uint64_t count)

@@ -66,6 +66,7 @@ bool has_account(void);
 /* Notes a ring, a choice in words, a rule. */
 void note_made_ring(void);
 void note_choice(const char *what);
+void note_one_list(void); /* all processes have one list of choices */
 void note_rule(enum rule rule);
 void note_rules(enum rule rule, uint64_t count);
 

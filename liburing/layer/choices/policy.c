@@ -36,15 +36,16 @@ static struct {
     enum policy policy;
     bool is_choosing_events;
     bool is_one_choice; /* (asked once) */
-    uint64_t random; /* the state of the generator */
     uint32_t *list;
     uint64_t list_count;
     const char *recorded_at; /* what the records' names begin with; */
     bool is_recording;
     bool is_recording_ways;
-    uint64_t made; /* how many choices were made */
     pthread_mutex_t lock;
 } chosen_by = {.lock = PTHREAD_MUTEX_INITIALIZER};
+
+/* The process's own, or that of all processes of a run. */
+static struct wulgach_one_list own_course, *course = &own_course;
 
 /* The record of choices, once there are any: whose it is, and the file by which it is known. */
 static struct {
@@ -101,7 +102,7 @@ static void read_list(const char *at)
 /* SEED:DEPTH or SEED:DEPTH:CHOICES. The seed also rolls what nobody plays for. */
 static void read_priorities(const char *at)
 {
-    uint64_t seed = chosen_by.random = read_number(&at);
+    uint64_t seed = course->random = read_number(&at);
     demand(*at == ':', "WULGACH_POLICY: pct wants SEED:DEPTH");
     at++;
     uint64_t depth = read_number(&at), choices = USUAL_CHOICES;
@@ -123,7 +124,7 @@ static void read_name(const char *name)
     } else if (strncmp(name, "seed:", 5) == 0) {
         const char *at = name + 5;
         chosen_by.policy = SEEDED;
-        chosen_by.random = read_number(&at);
+        course->random = read_number(&at);
         demand(*at == '\0', "WULGACH_POLICY: a seed is one number");
     } else if (strncmp(name, "pct:", 4) == 0) {
         chosen_by.policy = BY_PRIORITY;
@@ -187,7 +188,7 @@ bool is_one_choice(void)
 /* A generator of 64 bits whose state is a counter (splitmix64). */
 static uint64_t roll(void)
 {
-    uint64_t z = chosen_by.random += 0x9e3779b97f4a7c15u;
+    uint64_t z = course->random += 0x9e3779b97f4a7c15u;
     z = (z ^ z >> 30) * 0xbf58476d1ce4e5b9u;
     z = (z ^ z >> 27) * 0x94d049bb133111ebu;
     return z ^ z >> 31;
@@ -197,17 +198,17 @@ uint32_t drawn_apart(uint32_t count)
 {
     if (chosen_by.policy != SEEDED && chosen_by.policy != BY_PRIORITY)
         return 0;
-    uint64_t kept = chosen_by.random;
-    chosen_by.random = ~kept;
+    uint64_t kept = course->random;
+    course->random = ~kept;
     uint64_t drawn = roll();
-    chosen_by.random = kept;
+    course->random = kept;
     return (uint32_t)((drawn >> 32) * count >> 32);
 }
 
 uint64_t count_choice(void)
 {
     pthread_mutex_lock(&chosen_by.lock);
-    uint64_t at = chosen_by.made++;
+    uint64_t at = course->made++;
     pthread_mutex_unlock(&chosen_by.lock);
     return at;
 }
@@ -313,9 +314,17 @@ void record_choice(uint64_t at, uint32_t count, uint32_t chosen, const char *wha
     pthread_mutex_unlock(&chosen_by.lock);
 }
 
+void share_course(struct wulgach_one_list *shared)
+{
+    if (!shared->has_begun)
+        *shared = own_course;
+    shared->has_begun = true;
+    course = shared;
+}
+
 uint32_t choose_turn(uint32_t count, uint32_t rolled, uint64_t *at)
 {
-    *at = chosen_by.made++;
+    *at = course->made++;
     uint32_t listed = *at < chosen_by.list_count && chosen_by.list[*at] < count
                           ? chosen_by.list[*at]
                           : 0;

@@ -41,7 +41,9 @@ uint32_t choose(uint64_t at, uint32_t count);
  * there is no seed. */
 uint32_t drawn_apart(uint32_t count);
 
-/* A turn of the program's threads (turns.h). */
+/* A turn of the program's threads (turns.h); and the list that it is of, which processes share. */
+struct wulgach_one_list;
+void share_course(struct wulgach_one_list *shared);
 uint32_t choose_turn(uint32_t count, uint32_t rolled, uint64_t *at);
 void record_turn(uint64_t at, uint32_t count, uint32_t way, const char *what);
 

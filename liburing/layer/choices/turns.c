@@ -14,9 +14,11 @@ SEEN void (*wulgach_tell_own_calls)(bool begin);
 SEEN void (*wulgach_hear_step)(uint32_t ring, const char *what);
 SEEN void (*wulgach_hear_choice)(uint64_t at, uint32_t count, uint32_t way, const char *what);
 
-SEEN bool wulgach_begin_turns(void)
+SEEN bool wulgach_begin_turns(struct wulgach_one_list *shared)
 {
     read_policy();
+    share_course(shared);
+    note_one_list();
     note_ring();
     begin_turn_rules();
     record_line("%s", "");

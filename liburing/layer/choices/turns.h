@@ -7,9 +7,16 @@
 #include <stdint.h>
 #include <time.h>
 
+/* What the processes of a run share where it has one list of choices: how many were made, and the
+ * state of the generator. It begins as zeros. */
+struct wulgach_one_list {
+    bool has_begun;
+    uint64_t made, random;
+};
+
 /* The program's threads take turns from here on: whether these are chosen by the policy. The record
  * and the account are there, as if a ring had been set up. */
-bool wulgach_begin_turns(void);
+bool wulgach_begin_turns(struct wulgach_one_list *shared);
 
 /* Counts a turn: which of so many ways it is, by a list, or else as it was rolled. And records it
  * in words. They take no lock: one thread runs at a time. */

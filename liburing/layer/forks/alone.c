@@ -5,6 +5,7 @@
 #include "forks/server.h"
 #include "operations/openness.h"
 #include "process/fault.h"
+#include "rings/waiters.h"
 
 #include <dirent.h>
 #include <fcntl.h>
@@ -77,14 +78,16 @@ static bool has_timers(void)
     return is_any;
 }
 
-/* Whether memory is mapped that a fork would share. */
+/* Whether memory is mapped that a fork would share: the page of waiters is parted. */
 static bool shares_memory(void)
 {
     FILE *maps = fopen("/proc/self/maps", "re");
     char line[4400], access[5];
+    void *at;
     bool is_shared = !maps;
     while (maps && !is_shared && fgets(line, sizeof line, maps))
-        is_shared = sscanf(line, "%*s %4s", access) != 1 || (access[1] == 'w' && access[3] == 's');
+        is_shared = sscanf(line, "%p-%*s %4s", &at, access) != 2 ||
+                    (access[1] == 'w' && access[3] == 's' && !is_page_of_waiters(at));
     if (maps)
         fclose(maps);
     return is_shared;
@@ -175,7 +178,7 @@ static const char *look_at_file(
         return because(
             folder
                 ? "descriptor %d writes to a file outside of the run's folder"
-                : "descriptor %d writes to a file, and runs have no folder of their own (--fresh)",
+                : "descriptor %d writes to a file, and runs have no folder of their own (--here)",
             descriptor);
     if (!has_name(path, about))
         return because("descriptor %d is a file that has been removed", descriptor);

@@ -6,6 +6,7 @@
 #include "forks/alone.h"
 #include "forks/folders.h"
 #include "process/fault.h"
+#include "rings/waiters.h"
 
 #include <errno.h>
 #include <fcntl.h>
@@ -86,6 +87,7 @@ static void become_run(const char *variables, const char *end)
     close(server.socket);
     close(server.output);
     server.socket = server.output = -1;
+    part_waiters();
     if (!server.is_early)
         reopen_files();
     for (const char *at = variables; at < end; at += strlen(at) + 1) {

@@ -106,13 +106,32 @@ void note_message(uint64_t control)
         make_so(&shared->was_heard);
 }
 
+bool is_page_of_waiters(const void *at)
+{
+    return shared && at == shared;
+}
+
+static void *map_page(void *at, int placing)
+{
+    return map_passing(
+        at, sizeof *shared, PROT_READ | PROT_WRITE, MAP_SHARED | MAP_ANONYMOUS | placing, -1, 0);
+}
+
+void part_waiters(void)
+{
+    if (!shared)
+        return;
+    struct shared known = *shared;
+    demand(map_page(shared, MAP_FIXED) == shared, "out of memory");
+    *shared = known;
+}
+
 /* ---- what `uring-run` tells ---- */
 
 /* As the process begins: its children are to share the page. */
 bool wulgach_share_waiters(void)
 {
-    void *page = map_passing(
-        NULL, sizeof *shared, PROT_READ | PROT_WRITE, MAP_SHARED | MAP_ANONYMOUS, -1, 0);
+    void *page = map_page(NULL, 0);
     if (page != MAP_FAILED)
         shared = page;
     return shared;

@@ -21,6 +21,11 @@ bool may_wait_for_edges(void);
 void note_waiter(uint32_t change, int fd);
 void note_message(uint64_t control);
 
+/* Whether memory begins with what a process and its children share of waiters; and in a forked run,
+ * from here on it shares that with its own children alone. */
+bool is_page_of_waiters(const void *at);
+void part_waiters(void);
+
 /* Whether a descriptor may be an epoll instance's, as a ring's is. */
 bool may_be_instance(int fd);
 

@@ -7,9 +7,7 @@
 #include "dates.h"
 #include "descriptors.h"
 #include "notices.h"
-#include "queues.h"
 #include "sayings.h"
-#include "transfers.h"
 #include "turns.h"
 #include "waits.h"
 
@@ -17,8 +15,6 @@
 #include <sched.h>
 #include <string.h>
 #include <sys/prctl.h>
-
-enum { MOST_CALLS = 512 };
 
 /* (as `make` has them from the kernel's header) */
 static const char *const names[MOST_CALLS] = {
@@ -41,13 +37,11 @@ const char *name_of_call(long call)
     }
 }
 
-static bool was_told[MOST_CALLS];
-
 void tell_unserved(const struct trap *trap, const char *why)
 {
-    if (trap->call < 0 || trap->call >= MOST_CALLS || was_told[trap->call])
+    if (trap->call < 0 || trap->call >= MOST_CALLS || world->was_told[trap->call])
         return;
-    was_told[trap->call] = true;
+    world->was_told[trap->call] = true;
     say_line("thread %d calls %s, which --threads doesn't serve: %s", slot_of(self) + 1,
         name_of_call(trap->call), why);
 }
@@ -134,6 +128,11 @@ static const struct row rows[MOST_CALLS] = {
     [SYS_prctl] = {serve_prctl, true},
     [SYS_futex] = {serve_futex, false},
     [449] = {serve_waitv, false},
+    /* memory */
+    [SYS_mmap] = {serve_map, true},
+    [SYS_munmap] = {serve_unmap, true},
+    [SYS_mremap] = {serve_remap, true},
+    [SYS_shmat] = {serve_shmat, false},
     /* time and chance */
     [SYS_clock_gettime] = {serve_clock, true},
     [SYS_gettimeofday] = {serve_timeofday, true},

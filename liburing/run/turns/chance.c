@@ -2,15 +2,13 @@
  * counts the run's time; cpuid faults, and hides rdrand, rdseed and transactions. */
 #define _GNU_SOURCE
 #include "chance.h"
-#include "places.h"
+#include "code.h"
 
 #include <string.h>
 #include <sys/auxv.h>
 #include <sys/prctl.h>
 
 enum { SET_FEATURES = 0x1012 };
-
-struct program_action of_faults;
 
 void fill_by_chance(void *at, size_t size)
 {
@@ -93,12 +91,14 @@ static bool say_features(greg_t *registers, const uint8_t *at)
 static void give_fault(int number, siginfo_t *info, void *context)
 {
     const struct program_action ends = {0, 0, 0, 0};
-    if (of_faults.handler > (uint64_t)SIG_IGN) {
-        ((void (*)(int, siginfo_t *, void *))of_faults.handler)(number, info, context);
+    uint64_t handler = self ? process_of(self)->actions[SIGSEGV].handler : 0;
+    if (handler > (uint64_t)SIG_IGN) {
+        ((void (*)(int, siginfo_t *, void *))handler)(number, info, context);
         return;
     }
     tell_fault(context);
-    end_log();
+    if (self)
+        leave_run(true);
     kernel(SYS_rt_sigaction, SIGSEGV, &ends, 0, sizeof(uint64_t));
     if (info->si_code <= 0) /* (it was sent, and doesn't come again) */
         kernel(SYS_tgkill, kernel(SYS_getpid), kernel(SYS_gettid), number);

@@ -11,12 +11,6 @@ void take_chance(void);
 void pause_chance(bool is_paused);
 void on_fault(int number, siginfo_t *info, void *context);
 
-/* What the program asks of SIGSEGV, which is ours. */
-struct program_action {
-    uint64_t handler, flags, restorer, mask;
-};
-extern struct program_action of_faults __attribute__((visibility("hidden")));
-
 void fill_by_chance(void *at, size_t size);
 serving serve_getrandom;
 

@@ -125,13 +125,22 @@ void change_world(void)
     world->changes++;
 }
 
-/* What a thread waits for is asked anew only after the world has changed. */
-static bool is_met(struct thread *thread)
+/* What a thread of this process waits for is asked anew only after the world has changed. */
+void look_at_own(void)
 {
-    if (thread->is_ready && thread->asked != world->changes) {
-        thread->asked = world->changes;
-        thread->is_met = thread->is_ready(thread->argument);
+    for (int i = 0; i < world->count; i++) {
+        struct thread *thread = world->threads + i;
+        if (thread->state == WAITS && is_own(thread) && thread->is_ready &&
+            thread->asked != world->changes) {
+            thread->asked = world->changes;
+            thread->is_met = thread->is_ready(thread->argument);
+        }
     }
+    look_at_rings();
+}
+
+static bool is_met(const struct thread *thread)
+{
     return thread->is_ready && thread->is_met;
 }
 
@@ -142,6 +151,8 @@ static int find_candidates(uint64_t *moment, bool *is_outside)
     int count = 0;
     *moment = world->due;
     *is_outside = false;
+    look_at_others();
+    look_at_own();
     for (int i = 0; i < world->count; i++) {
         struct thread *thread = world->threads + i;
         if (thread->state == READY ||
@@ -149,7 +160,7 @@ static int find_candidates(uint64_t *moment, bool *is_outside)
             world->candidates[count++] = i;
         } else if (thread->state == WAITS) {
             *moment = thread->limit < *moment ? thread->limit : *moment;
-            *is_outside |= thread->is_ready && thread->is_outside;
+            *is_outside |= thread->is_ready && (thread->is_outside || world->has_outside);
         }
     }
     return find_rings(count, moment);
@@ -162,25 +173,26 @@ static struct thread *take_turn(int count)
         return thread_for_ring(picked - MOST_THREADS);
     struct thread *next = world->threads + picked;
     if (next->state == WAITS) {
-        bool is_over = next->limit <= world->now;
-        next->reason = is_over && !(next->is_ready && next->is_ready(next->argument)) ? TIME_IS_OVER
-                                                                                      : IS_READY;
+        next->reason = next->limit <= world->now && !is_met(next) ? TIME_IS_OVER : IS_READY;
         next->state = READY;
         wulgach_note_turn(next->reason == IS_READY ? WULGACH_WAIT_ENDS : WULGACH_LIMIT_ENDS);
     }
     return next;
 }
 
-/* Somebody waits for another process, which has a while of real time to do something. */
+/* Somebody waits for what isn't of the run, which has a while of real time to do something. */
 static bool wait_outside(uint64_t *waited, uint64_t moment)
 {
     const uint64_t slice = 200000;
     const struct timespec while_ = {0, (long)slice};
+    if (world->grace == 0 && !world->has_outside)
+        return false;
     if (moment != NEVER && (*waited >= world->grace || *waited >= moment - world->now))
         return false;
     kernel(SYS_nanosleep, &while_);
     *waited += slice;
     hear_outside();
+    ask_others(HEAR);
     change_world();
     return true;
 }
@@ -255,7 +267,6 @@ enum reason wait_until(bool (*is_ready)(void *), void *argument, bool is_outside
     }
     self->state = READY;
     self->is_ready = NULL;
-    self->wanted = NULL;
     self->wanted_count = 0;
     return self->reason;
 }
@@ -295,6 +306,13 @@ static uint64_t tell_time(clockid_t clock)
     return self && self->own_calls > 0 ? time_at_clock(clock) : 0;
 }
 
+void go_on_with_choices(void)
+{
+    wulgach_tell_own_calls = note_own_calls;
+    wulgach_tell_time = tell_time;
+    world->chooses = wulgach_begin_turns(&world->policy);
+}
+
 /* By the policy of the rings: under a seed, by priorities, or as a list says; else a thread goes on
  * until it waits. */
 void begin_choices(void)
@@ -303,9 +321,7 @@ void begin_choices(void)
     const char *policy = getenv("WULGACH_POLICY");
     world->lowest = 1ul << 40;
     world->stay = 1;
-    wulgach_tell_own_calls = note_own_calls;
-    wulgach_tell_time = tell_time;
-    world->chooses = wulgach_begin_turns();
+    go_on_with_choices();
     if (policy && strncmp(policy, "seed:", 5) == 0) {
         world->how = BY_SEED;
         world->seed = strtoul(policy + 5, NULL, 10);

@@ -3,7 +3,6 @@
 #define _GNU_SOURCE
 #include "code.h"
 #include "chance.h"
-#include "places.h"
 #include "turns.h"
 
 #include <elf.h>

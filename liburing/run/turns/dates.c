@@ -27,12 +27,21 @@ static struct date {
     uint64_t due, interval;
 } dates[MOST_DATES];
 
-static void find_due(void)
+void find_due(void)
 {
-    world->due = NEVER;
+    struct process *own = process_of(self);
+    own->due = world->due = NEVER;
     for (int i = 0; i < MOST_DATES; i++)
-        if (dates[i].kind != NONE && dates[i].due && dates[i].due < world->due)
-            world->due = dates[i].due;
+        if (dates[i].kind != NONE && dates[i].due && dates[i].due < own->due)
+            own->due = dates[i].due;
+    for (int i = 0; i < world->process_count; i++)
+        if (world->processes[i].takes_turns && world->processes[i].due < world->due)
+            world->due = world->processes[i].due;
+}
+
+void forget_dates(void)
+{
+    memset(dates, 0, sizeof dates);
 }
 
 static struct date *take_date(enum kind kind)
@@ -62,7 +71,7 @@ static void raise_for(const struct date *date, int index)
         kernel(SYS_rt_sigqueueinfo, process, date->number, &info);
     else
         kernel(SYS_kill, process, date->number);
-    note_raised(date->thread, date->number);
+    note_raised(self->process, date->thread, date->number);
 }
 
 static void fire(struct date *date)
@@ -76,14 +85,25 @@ static void fire(struct date *date)
         raise_for(date, (int)(date - dates));
 }
 
-void fire_dates(void)
+void fire_own_dates(void)
 {
-    if (world->due > world->now)
-        return;
     for (int i = 0; i < MOST_DATES; i++)
         if (dates[i].kind != NONE && dates[i].due && dates[i].due <= world->now)
             fire(dates + i);
     find_due();
+}
+
+void fire_dates(void)
+{
+    if (world->due > world->now)
+        return;
+    for (int i = 0; i < world->process_count; i++)
+        if (world->processes[i].takes_turns && world->processes[i].due <= world->now) {
+            if (i == self->process)
+                fire_own_dates();
+            else
+                ask_process(i, FIRE_DATES);
+        }
 }
 
 static uint64_t ns_of_value(const struct timeval *value)

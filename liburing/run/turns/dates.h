@@ -9,8 +9,12 @@ serving serve_alarm, serve_setitimer, serve_getitimer, serve_timer_create, serve
     serve_timer_gettime, serve_timer_delete, serve_timer_overruns;
 serving serve_timerfd_create, serve_timerfd_settime, serve_timerfd_gettime;
 
-/* What is due by now happens. */
+/* What is due by now happens, of all processes and of this one; when the next is due is found anew;
+ * and a process that is made has none. */
 void fire_dates(void);
+void fire_own_dates(void);
+void find_due(void);
+void forget_dates(void);
 
 /* A descriptor is closed: it is no timer. */
 void forget_timer(int fd);

@@ -18,7 +18,6 @@ enum { MOST = 1 << 16 };
 static uint8_t kinds[MOST];
 static uint8_t hears_outside[MOST]; /* an instance of epoll */
 static int end_of_kinds; /* all that are set are below */
-static bool has_child;
 
 static bool has_place(long fd)
 {
@@ -30,8 +29,10 @@ static enum kind_of_descriptor look_at(int fd)
     struct stat about;
     if (kernel(SYS_fstat, fd, &about) < 0)
         return OUTSIDE;
-    return S_ISREG(about.st_mode) || S_ISDIR(about.st_mode) || S_ISBLK(about.st_mode) ? ON_DISK
-                                                                                      : OUTSIDE;
+    if (S_ISREG(about.st_mode) || S_ISDIR(about.st_mode) || S_ISBLK(about.st_mode))
+        return ON_DISK;
+    bool is_made = (S_ISFIFO(about.st_mode) || S_ISSOCK(about.st_mode)) && is_noted_inside(&about);
+    return is_made ? INSIDE : OUTSIDE;
 }
 
 static void note_kind(long fd, enum kind_of_descriptor kind)
@@ -70,7 +71,7 @@ void forget_closed(void)
 bool is_outside(int fd)
 {
     enum kind_of_descriptor kind = kind_of(fd);
-    return kind == OUTSIDE || (kind == INSIDE && has_child) || (has_place(fd) && hears_outside[fd]);
+    return kind == OUTSIDE || (has_place(fd) && hears_outside[fd]);
 }
 
 bool is_blocking(int fd)
@@ -79,12 +80,13 @@ bool is_blocking(int fd)
     return flags >= 0 && !(flags & O_NONBLOCK);
 }
 
-void say_child(void)
+/* Both ends of what was made are the run's, and who becomes another program knows them by that. */
+static void set_inside(const int ends[2])
 {
-    if (!has_child)
-        say_line(
-            "the program starts a process, which doesn't take turns: what comes from it isn't replayed");
-    has_child = true;
+    for (int i = 0; i < 2; i++) {
+        set_kind(ends[i], INSIDE);
+        note_inside(ends[i]);
+    }
 }
 
 /* A FIFO is opened without waiting, again and again, until it has its other end. */
@@ -154,22 +156,16 @@ long serve_openat(struct trap *trap)
 long serve_pipe(struct trap *trap)
 {
     long result = pass_on(trap);
-    const int *ends = (const int *)trap->words[0];
-    if (result == 0) {
-        set_kind(ends[0], INSIDE);
-        set_kind(ends[1], INSIDE);
-    }
+    if (result == 0)
+        set_inside((const int *)trap->words[0]);
     return result;
 }
 
 long serve_socketpair(struct trap *trap)
 {
     long result = pass_on(trap);
-    const int *ends = (const int *)trap->words[3];
-    if (result == 0) {
-        set_kind(ends[0], INSIDE);
-        set_kind(ends[1], INSIDE);
-    }
+    if (result == 0)
+        set_inside((const int *)trap->words[3]);
     return result;
 }
 
@@ -187,8 +183,29 @@ long serve_made_inside(struct trap *trap)
     return fd;
 }
 
+/* In parts, so that those of the run stay. */
+static long close_between(const struct trap *trap, unsigned first, unsigned last)
+{
+    if (first <= WORLD_DESCRIPTOR && last >= WORLD_DESCRIPTOR) {
+        if (first < WORLD_DESCRIPTOR)
+            kernel(trap->call, first, WORLD_DESCRIPTOR - 1, trap->words[2]);
+        first = LOG_DESCRIPTOR + 1;
+    }
+    return first > last ? 0 : kernel(trap->call, first, last, trap->words[2]);
+}
+
+long spare_descriptors(struct trap *trap)
+{
+    bool is_copied = trap->call == SYS_dup2 || trap->call == SYS_dup3;
+    if (trap->call == SYS_close_range && (unsigned)trap->words[0] <= (unsigned)trap->words[1])
+        return close_between(trap, (unsigned)trap->words[0], (unsigned)trap->words[1]);
+    return is_descriptor_of_run(trap->words[is_copied ? 1 : 0]) ? -EBADF : pass_on(trap);
+}
+
 long serve_close(struct trap *trap)
 {
+    if (is_descriptor_of_run(trap->words[0]))
+        return -EBADF;
     set_kind(trap->words[0], UNKNOWN);
     change_world();
     return pass_on(trap);
@@ -201,7 +218,7 @@ long serve_close_range(struct trap *trap)
          fd <= (unsigned)trap->words[1] && fd < MOST && !(trap->words[2] & ON_EXEC); fd++)
         set_kind((long)fd, UNKNOWN);
     change_world();
-    return pass_on(trap);
+    return spare_descriptors(trap);
 }
 
 static long note_copy(long from, long to)
@@ -221,7 +238,7 @@ long serve_dup(struct trap *trap)
 
 long serve_dup_to(struct trap *trap)
 {
-    return note_copy(trap->words[0], pass_on(trap));
+    return note_copy(trap->words[0], spare_descriptors(trap));
 }
 
 long serve_epoll_ctl(struct trap *trap)
@@ -250,6 +267,8 @@ static long lock_again(struct trap *trap, long how)
 long serve_fcntl(struct trap *trap)
 {
     change_world();
+    if (is_descriptor_of_run(trap->words[0]))
+        return -EBADF;
     switch (trap->words[1]) {
     case F_SETLKW:
         return lock_again(trap, F_SETLK);

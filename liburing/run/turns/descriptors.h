@@ -17,8 +17,8 @@ bool is_blocking(int fd);
 /* Descriptors may have been closed unheard. */
 void forget_closed(void);
 
-/* A process was started: from here on every descriptor may be its. */
-void say_child(void);
+/* Closes and copies over others, but for the run's own descriptors. */
+serving spare_descriptors;
 
 serving serve_open, serve_openat, serve_pipe, serve_socket, serve_socketpair, serve_made_inside,
     serve_close, serve_close_range, serve_dup, serve_dup_to, serve_fcntl, serve_epoll_ctl;

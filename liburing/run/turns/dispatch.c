@@ -110,6 +110,16 @@ static void serve_trap(void *argument)
     } else {
         registers[REG_RAX] = result == RESTARTS ? -EINTR : result;
     }
+    process_of(self)->is_doomed |= result == -EPIPE;
+    self->mask = mask_at(trap->at);
+    end_by_signal(self->mask);
+}
+
+static void serve_in_guest(void *argument)
+{
+    struct trap *trap = argument;
+    note_place(trap);
+    trap->at->uc_mcontext.gregs[REG_RAX] = serve_guest(trap);
     self->mask = mask_at(trap->at);
 }
 
@@ -183,8 +193,10 @@ static void serve_ring(struct trap *trap)
     if (!beginning.is_served)
         serve_by_layer(trap->at, trap->call);
     self->ring_calls--;
-    world->has_rings |= trap->call == SYS_io_uring_setup;
+    process_of(self)->has_rings |= trap->call == SYS_io_uring_setup;
     errno = kept;
+    if (trap->call == SYS_mmap)
+        note_mapped(trap, trap->at->uc_mcontext.gregs[REG_RAX]);
     note_call(trap, trap->at->uc_mcontext.gregs[REG_RAX]);
     change_world();
 }
@@ -203,6 +215,8 @@ static void on_call(int number, siginfo_t *info, void *context)
         return_from_program(registers[REG_RSP]);
     else if (!self || self->own_calls > 0 || asks_kernel(&trap) || is_of_log(&trap))
         registers[REG_RAX] = pass_on(&trap);
+    else if (process_of(self)->is_guest)
+        call_on(own_stack(), serve_in_guest, &trap);
     else if (is_of_ring(&trap))
         serve_ring(&trap);
     else

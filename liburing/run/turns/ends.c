@@ -1,4 +1,4 @@
-/* Threads that end, and the process. */
+/* Threads that end, and processes. */
 #define _GNU_SOURCE
 #include "logged.h"
 #include "turns.h"
@@ -9,7 +9,7 @@ static bool is_last(void)
 {
     for (int i = 0; i < world->count; i++) {
         const struct thread *thread = world->threads + i;
-        if (thread != self && (thread->state == READY || thread->state == WAITS))
+        if (thread != self && is_own(thread) && lives(thread))
             return false;
     }
     return true;
@@ -23,18 +23,23 @@ static void leave_words(void)
     if (!self->cleared)
         return;
     __atomic_store_n((uint32_t *)self->cleared, 0, __ATOMIC_SEQ_CST);
-    wake_futex(self->cleared, 1, FUTEX_BITSET_MATCH_ANY);
+    wake_futex(key_of(self->cleared, false), 1, FUTEX_BITSET_MATCH_ANY);
+}
+
+static void end_process(int status)
+{
+    if (!process_of(self)->is_guest)
+        end_logged();
+    leave_run(true);
+    kernel(SYS_exit_group, status);
 }
 
 /* Who goes on waits until this one is gone. */
 long serve_exit(struct trap *trap)
 {
     note_call(trap, 0);
-    if (is_last()) {
-        end_logged();
-        tell_end();
-        end_run((int)trap->words[0]);
-    }
+    if (is_last())
+        end_process((int)trap->words[0]);
     leave_words();
     self->state = ENDED;
     struct thread *next = choose_next();
@@ -47,9 +52,8 @@ long serve_exit(struct trap *trap)
 long serve_exit_group(struct trap *trap)
 {
     note_call(trap, 0);
-    end_logged();
-    tell_end();
-    end_run((int)trap->words[0]);
+    end_process((int)trap->words[0]);
+    return 0;
 }
 
 long serve_tid_address(struct trap *trap)

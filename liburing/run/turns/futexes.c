@@ -1,11 +1,13 @@
-/* Futexes: who waits for one is kept here, and the kernel hears of none. They are told by their
- * address: a word that is mapped twice is two. */
+/* Futexes: who waits for one is kept here, and the kernel hears of none. They are told by where
+ * they lie in memory that processes share (memory.c), or by their address in a process. */
 #define _GNU_SOURCE
 #include "turns.h"
 
 #include <errno.h>
 #include <linux/futex.h>
 #include <sys/uio.h>
+
+_Static_assert(MOST_WANTED == FUTEX_WAITV_MAX, "so many are awaited at once");
 
 static uint32_t word_at(uint64_t at)
 {
@@ -17,22 +19,33 @@ static void put_word(uint64_t at, uint32_t value)
     __atomic_store_n((uint32_t *)at, value, __ATOMIC_SEQ_CST);
 }
 
-/* Which of the futexes that a thread waits for is this one, by one of these bits; -1: none. */
-static int place_among_wanted(const struct thread *thread, uint64_t word, uint32_t bits)
+static struct wanted *wanted_of(const struct thread *thread)
 {
+    return world->wanted[slot_of(thread)];
+}
+
+static bool is_same(struct key one, struct key other)
+{
+    return one.space == other.space && one.place == other.place;
+}
+
+/* Which of the futexes that a thread waits for is this one, by one of these bits; -1: none. */
+static int place_among_wanted(const struct thread *thread, struct key key, uint32_t bits)
+{
+    const struct wanted *wanted = wanted_of(thread);
     for (int i = 0; thread->state == WAITS && i < thread->wanted_count; i++)
-        if (thread->wanted[i].word == word && thread->wanted[i].bits & bits)
+        if (is_same(wanted[i].key, key) && wanted[i].bits & bits)
             return i;
     return -1;
 }
 
 /* Who has waited longest. */
-static struct thread *first_waiter(uint64_t word, uint32_t bits)
+static struct thread *first_waiter(struct key key, uint32_t bits)
 {
     struct thread *first = NULL;
     for (int i = 0; i < world->count; i++) {
         struct thread *thread = world->threads + i;
-        if (place_among_wanted(thread, word, bits) >= 0 &&
+        if (place_among_wanted(thread, key, bits) >= 0 &&
             (!first || thread->ticket < first->ticket))
             first = thread;
     }
@@ -47,42 +60,59 @@ static void wake(struct thread *thread, int which)
     thread->state = READY;
 }
 
-int wake_futex(uint64_t word, int most, uint32_t bits)
+int wake_futex(struct key key, int most, uint32_t bits)
 {
     int woken = 0;
-    for (struct thread *first; woken < most && (first = first_waiter(word, bits)); woken++)
-        wake(first, place_among_wanted(first, word, bits));
+    for (struct thread *first; woken < most && (first = first_waiter(key, bits)); woken++)
+        wake(first, place_among_wanted(first, key, bits));
     return woken;
 }
 
-static enum reason wait_for_words(struct wanted *wanted, int count, uint64_t limit)
+/* A process has ended, and the kernel has marked its locks: who waits for what processes share
+ * looks again. */
+void wake_sharers(void)
 {
-    self->wanted = wanted;
+    for (int i = 0; i < world->count; i++) {
+        struct thread *thread = world->threads + i;
+        bool is_shared = thread->state == WAITS && thread->wanted_count > 0 &&
+                         wanted_of(thread)->key.space >= MOST_PROCESSES;
+        if (is_shared)
+            wake(thread, 0);
+    }
+}
+
+static enum reason wait_for_words(int count, uint64_t limit)
+{
     self->wanted_count = count;
     return wait_until(NULL, NULL, false, limit);
 }
 
+/* The futex of a call's word. */
+static struct key key_at(const long *words, int word)
+{
+    return key_of((uint64_t)words[word], words[1] & FUTEX_PRIVATE_FLAG);
+}
+
 static long wait_for_word(const long *words, uint32_t bits, uint64_t limit)
 {
-    struct wanted wanted = {(uint64_t)words[0], bits};
     if (bits == 0)
         return -EINVAL;
-    if (word_at(wanted.word) != (uint32_t)words[2])
+    if (word_at((uint64_t)words[0]) != (uint32_t)words[2])
         return -EAGAIN;
-    enum reason reason = wait_for_words(&wanted, 1, limit);
+    *wanted_of(self) = (struct wanted){key_at(words, 0), bits};
+    enum reason reason = wait_for_words(1, limit);
     return reason == WOKEN ? 0 : reason == INTERRUPTED ? RESTARTS : -ETIMEDOUT;
 }
 
 /* Wakes some, and has others wait for another word. */
 static long requeue(const long *words)
 {
-    int changed = wake_futex((uint64_t)words[0], (int)words[2], FUTEX_BITSET_MATCH_ANY);
+    struct key from = key_at(words, 0), to = key_at(words, 4);
+    int changed = wake_futex(from, (int)words[2], FUTEX_BITSET_MATCH_ANY);
     struct thread *first;
-    for (long moved = 0;
-         moved < words[3] && (first = first_waiter((uint64_t)words[0], FUTEX_BITSET_MATCH_ANY));
+    for (long moved = 0; moved < words[3] && (first = first_waiter(from, FUTEX_BITSET_MATCH_ANY));
          moved++, changed++) {
-        first->wanted[place_among_wanted(first, (uint64_t)words[0], FUTEX_BITSET_MATCH_ANY)]
-            .word = (uint64_t)words[4];
+        wanted_of(first)[place_among_wanted(first, from, FUTEX_BITSET_MATCH_ANY)].key = to;
         first->ticket = world->tickets++;
     }
     return changed;
@@ -130,51 +160,55 @@ static long wake_by_word(const long *words)
 {
     uint32_t how = (uint32_t)words[5], before = word_at((uint64_t)words[4]);
     put_word((uint64_t)words[4], changed_word(how, before));
-    int woken = wake_futex((uint64_t)words[0], (int)words[2], FUTEX_BITSET_MATCH_ANY);
+    int woken = wake_futex(key_at(words, 0), (int)words[2], FUTEX_BITSET_MATCH_ANY);
     return woken + (compares(how, before)
-                           ? wake_futex((uint64_t)words[4], (int)words[3], FUTEX_BITSET_MATCH_ANY)
+                           ? wake_futex(key_at(words, 4), (int)words[3], FUTEX_BITSET_MATCH_ANY)
                            : 0);
 }
 
-static bool has_waiter(uint64_t word)
+static bool has_waiter(struct key key)
 {
-    return first_waiter(word, FUTEX_BITSET_MATCH_ANY) != NULL;
+    return first_waiter(key, FUTEX_BITSET_MATCH_ANY) != NULL;
 }
 
 /* The word of a lock with inheritance names its owner: it goes to who has waited longest, or is
  * free. */
-static void hand_over(uint64_t word, uint32_t marks)
+static void hand_over(uint64_t word, struct key key, uint32_t marks)
 {
-    struct thread *next = first_waiter(word, FUTEX_BITSET_MATCH_ANY);
+    struct thread *next = first_waiter(key, FUTEX_BITSET_MATCH_ANY);
     if (next)
         wake(next, 0);
     put_word(
-        word, marks | (next ? (uint32_t)next->number | (has_waiter(word) ? FUTEX_WAITERS : 0) : 0));
+        word, marks | (next ? (uint32_t)next->number | (has_waiter(key) ? FUTEX_WAITERS : 0) : 0));
 }
 
 static long lock_by_owner(const long *words, bool tries, bool is_date)
 {
-    struct wanted wanted = {(uint64_t)words[0], FUTEX_BITSET_MATCH_ANY};
-    uint32_t is = word_at(wanted.word), owner = is & FUTEX_TID_MASK;
+    uint64_t word = (uint64_t)words[0];
+    uint32_t is = word_at(word), owner = is & FUTEX_TID_MASK;
     if (owner == 0) {
-        put_word(wanted.word, (is & ~(uint32_t)FUTEX_TID_MASK) | (uint32_t)self->number);
+        put_word(word, (is & ~(uint32_t)FUTEX_TID_MASK) | (uint32_t)self->number);
         return 0;
     }
     if ((int)owner == self->number)
         return -EDEADLK;
     if (tries)
         return -EAGAIN;
-    put_word(wanted.word, is | FUTEX_WAITERS);
+    put_word(word, is | FUTEX_WAITERS);
+    *wanted_of(self) = (struct wanted){key_at(words, 0), FUTEX_BITSET_MATCH_ANY};
     const struct timespec *time = (const struct timespec *)words[3];
-    enum reason reason = wait_for_words(&wanted, 1, time ? limit_at(is_date, ns_of(time)) : NEVER);
+    enum reason reason = wait_for_words(1, time ? limit_at(is_date, ns_of(time)) : NEVER);
+    if (reason == WOKEN && (int)(word_at(word) & FUTEX_TID_MASK) != self->number)
+        return lock_by_owner(words, tries, is_date);
     return reason == WOKEN ? 0 : reason == INTERRUPTED ? RESTARTS : -ETIMEDOUT;
 }
 
-static long unlock_by_owner(uint64_t word)
+static long unlock_by_owner(const long *words)
 {
+    uint64_t word = (uint64_t)words[0];
     if ((int)(word_at(word) & FUTEX_TID_MASK) != self->number)
         return -EPERM;
-    hand_over(word, 0);
+    hand_over(word, key_at(words, 0), 0);
     return 0;
 }
 
@@ -200,11 +234,10 @@ long serve_futex(struct trap *trap)
         return wait_by_operation(words);
     case FUTEX_WAKE:
         return wake_futex(
-            (uint64_t)words[0], (int)words[2] > 0 ? (int)words[2] : 1, FUTEX_BITSET_MATCH_ANY);
+            key_at(words, 0), (int)words[2] > 0 ? (int)words[2] : 1, FUTEX_BITSET_MATCH_ANY);
     case FUTEX_WAKE_BITSET:
-        return (uint32_t)words[5]
-                   ? wake_futex((uint64_t)words[0], (int)words[2], (uint32_t)words[5])
-                   : -EINVAL;
+        return (uint32_t)words[5] ? wake_futex(key_at(words, 0), (int)words[2], (uint32_t)words[5])
+                                  : -EINVAL;
     case FUTEX_REQUEUE:
     case FUTEX_CMP_REQUEUE:
         return requeue(words);
@@ -217,7 +250,7 @@ long serve_futex(struct trap *trap)
     case FUTEX_TRYLOCK_PI:
         return lock_by_owner(words, true, false);
     case FUTEX_UNLOCK_PI:
-        return unlock_by_owner((uint64_t)words[0]);
+        return unlock_by_owner(words);
     default:
         tell_unserved(trap, "it is refused with ENOSYS");
         return -ENOSYS;
@@ -229,7 +262,7 @@ long serve_waitv(struct trap *trap)
 {
     enum { SIZE_OF_32 = 2 };
     const struct futex_waitv *given = (const struct futex_waitv *)trap->words[0];
-    struct wanted wanted[FUTEX_WAITV_MAX];
+    struct wanted *wanted = wanted_of(self);
     uint64_t count = (uint64_t)trap->words[1];
     const struct timespec *time = (const struct timespec *)trap->words[3];
     if (count == 0 || count > FUTEX_WAITV_MAX || trap->words[2] != 0)
@@ -239,48 +272,48 @@ long serve_waitv(struct trap *trap)
             return -EINVAL;
         if (word_at(given[i].uaddr) != (uint32_t)given[i].val)
             return -EAGAIN;
-        wanted[i] = (struct wanted){given[i].uaddr, FUTEX_BITSET_MATCH_ANY};
+        wanted[i] = (struct wanted){
+            key_of(given[i].uaddr, given[i].flags & FUTEX_PRIVATE_FLAG), FUTEX_BITSET_MATCH_ANY};
     }
     enum reason reason = wait_for_words(
-        wanted, (int)count, time ? limit_at(trap->words[4] == CLOCK_REALTIME, ns_of(time)) : NEVER);
+        (int)count, time ? limit_at(trap->words[4] == CLOCK_REALTIME, ns_of(time)) : NEVER);
     return reason == WOKEN ? self->woken : reason == INTERRUPTED ? RESTARTS : -ETIMEDOUT;
+}
+
+/* Whether so many bytes are there: the kernel's walk ends where they aren't. */
+static bool reads(uint64_t at, void *word, size_t size)
+{
+    struct iovec to = {word, size}, from = {(void *)at, size};
+    return kernel(SYS_process_vm_readv, self->number, &to, 1, &from, 1, 0) == (long)size;
 }
 
 /* A lock whose owner ends is marked, and one who waits for it goes on. */
 static void mark_ended(uint64_t word, bool inherits)
 {
-    uint32_t is = word_at(word);
-    if ((int)(is & FUTEX_TID_MASK) != self->number)
+    uint32_t is;
+    if (!reads(word, &is, sizeof is) || (int)(is & FUTEX_TID_MASK) != self->number)
         return;
     if (inherits) {
-        hand_over(word, FUTEX_OWNER_DIED);
+        hand_over(word, key_of(word, false), FUTEX_OWNER_DIED);
         return;
     }
     put_word(word, (is & FUTEX_WAITERS) | FUTEX_OWNER_DIED);
     if (is & FUTEX_WAITERS)
-        wake_futex(word, 1, FUTEX_BITSET_MATCH_ANY);
+        wake_futex(key_of(word, false), 1, FUTEX_BITSET_MATCH_ANY);
 }
 
-/* Whether a word of the list is there. */
-static bool reads(uint64_t at, uint64_t *word)
-{
-    struct iovec to = {word, sizeof *word}, from = {(void *)at, sizeof *word};
-    return kernel(SYS_process_vm_readv, self->number, &to, 1, &from, 1, 0) == sizeof *word;
-}
-
-/* The list of set_robust_list(2), whose lowest bits say which inherit. It ends where it can't be
- * read, as the kernel's walk does. */
+/* The list of set_robust_list(2), whose lowest bits say which inherit. */
 void free_robust_locks(void)
 {
     enum { INHERITS = 1, MOST = 2048 };
-    const struct robust_list_head *head = (const struct robust_list_head *)self->robust;
-    uint64_t at, next, offset, pending;
-    if (!head || !reads((uint64_t)&head->list.next, &at) ||
-        !reads((uint64_t)&head->futex_offset, &offset) ||
-        !reads((uint64_t)&head->list_op_pending, &pending))
+    struct robust_list_head head;
+    uint64_t next;
+    if (!self->robust || !reads(self->robust, &head, sizeof head))
         return;
+    uint64_t at = (uint64_t)head.list.next, offset = (uint64_t)head.futex_offset,
+             pending = (uint64_t)head.list_op_pending;
     for (int i = 0; i < MOST && (at & ~(uint64_t)INHERITS) != self->robust; i++, at = next) {
-        if (!reads(at & ~(uint64_t)INHERITS, &next))
+        if (!reads(at & ~(uint64_t)INHERITS, &next, sizeof next))
             return;
         if (at != pending)
             mark_ended((at & ~(uint64_t)INHERITS) + offset, at & INHERITS);

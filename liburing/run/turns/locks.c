@@ -2,7 +2,7 @@
  * decided without a call; only where one does it is made. Who tries a lock in vain yields, and a
  * lock that spins is tried. */
 #define _GNU_SOURCE
-#include "locks.h"
+#include "turns.h"
 #include "uncalled.h"
 #include "../run.h"
 
@@ -73,14 +73,14 @@ static void make_point_at(const void *lock)
 extern const char __ehdr_start[] __attribute__((visibility("hidden"))),
     etext[] __attribute__((visibility("hidden")));
 
-static bool is_own(const void *place)
+static bool is_of_library(const void *place)
 {
     return (const char *)place >= __ehdr_start && (const char *)place < etext;
 }
 
 static void begin_lock(const char *name, const void *lock, const void *place, bool is_mutex)
 {
-    if (!self || is_own(place))
+    if (!self || is_of_library(place))
         return;
     self->call = POINT_AT_LOCK;
     make_point_at(lock);

@@ -10,16 +10,6 @@
 #include <string.h>
 #include <sys/syscall.h>
 
-enum { LAST_SIGNAL = 64 };
-
-static uint64_t bit_of(int signal)
-{
-    return (uint64_t)1 << (signal - 1);
-}
-
-/* As the program has said it, which the kernel needn't be asked. */
-static struct program_action actions[LAST_SIGNAL + 1];
-
 long serve_mask(struct trap *trap)
 {
     const uint64_t *given = (const uint64_t *)trap->words[1];
@@ -57,8 +47,9 @@ long serve_action(struct trap *trap)
     int signal = (int)trap->words[0];
     if (signal < 1 || signal > LAST_SIGNAL || trap->words[3] != sizeof(uint64_t))
         return -EINVAL;
+    struct program_action *actions = process_of(self)->actions;
     if (is_ours(signal))
-        return keep_action(signal == SIGSEGV ? &of_faults : actions + signal, trap);
+        return keep_action(actions + signal, trap);
     if (!trap->words[1])
         return pass_on(trap);
     struct program_action action = *(const struct program_action *)trap->words[1];
@@ -93,9 +84,9 @@ long serve_signal_stack(struct trap *trap)
     return 0;
 }
 
-static bool does_nothing(int signal)
+bool does_nothing(int process, int signal)
 {
-    uint64_t handler = actions[signal].handler;
+    uint64_t handler = world->processes[process].actions[signal].handler;
     bool is_quiet = signal == SIGCHLD || signal == SIGURG || signal == SIGWINCH ||
                     signal == SIGCONT;
     return handler == (uint64_t)SIG_IGN || (handler == (uint64_t)SIG_DFL && is_quiet);
@@ -105,7 +96,7 @@ static void interrupt(struct thread *thread, int signal)
 {
     bool is_awaited = thread->awaited & bit_of(signal);
     if (thread->state != WAITS ||
-        (!is_awaited && (thread->mask & bit_of(signal) || does_nothing(signal))))
+        (!is_awaited && (thread->mask & bit_of(signal) || does_nothing(thread->process, signal))))
         return;
     thread->wanted_count = 0;
     thread->reason = is_awaited ? IS_READY : INTERRUPTED;
@@ -116,7 +107,7 @@ static void interrupt(struct thread *thread, int signal)
 
 bool is_restarted(void)
 {
-    return actions[self->by].flags & SA_RESTART;
+    return process_of(self)->actions[self->by].flags & SA_RESTART;
 }
 
 struct thread *thread_of_number(int number)
@@ -129,33 +120,30 @@ struct thread *thread_of_number(int number)
     return NULL;
 }
 
-static bool takes(const struct thread *thread, int signal)
+bool takes(const struct thread *thread, int signal)
 {
-    return thread->state != FREE && thread->state != ENDED &&
-           (!(thread->mask & bit_of(signal)) ||
-               (thread->state == WAITS && thread->awaited & bit_of(signal)));
+    return lives(thread) && (!(thread->mask & bit_of(signal)) ||
+                                (thread->state == WAITS && thread->awaited & bit_of(signal)));
 }
 
-/* One for the process: this thread has it, if it is open here; else the first that has it open, or
- * waits for it. */
-static struct thread *taker_of(int signal)
+struct thread *taker_of(int process, int signal)
 {
-    if (!(self->mask & bit_of(signal)))
+    if (self->process == process && !(self->mask & bit_of(signal)))
         return self;
     for (int i = 0; i < world->count; i++) {
         struct thread *thread = world->threads + i;
-        if (takes(thread, signal))
+        if (thread->process == process && takes(thread, signal))
             return thread;
     }
     return NULL;
 }
 
-void note_raised(int thread, int signal)
+void note_raised(int process, int thread, int signal)
 {
     if (signal < 1 || signal > LAST_SIGNAL)
         return;
     change_world();
-    struct thread *taker = thread ? thread_of_number(thread) : taker_of(signal);
+    struct thread *taker = thread ? thread_of_number(thread) : taker_of(process, signal);
     if (taker)
         interrupt(taker, signal);
 }
@@ -165,78 +153,10 @@ void hear_outside(void)
     uint64_t pending = 0;
     kernel(SYS_rt_sigpending, &pending, sizeof pending);
     for (int signal = 1; signal <= LAST_SIGNAL; signal++) {
-        struct thread *taker = pending & bit_of(signal) ? taker_of(signal) : NULL;
+        struct thread *taker = pending & bit_of(signal) ? taker_of(self->process, signal) : NULL;
         if (taker)
             interrupt(taker, signal);
     }
-}
-
-/* A signal that may end the program: the log is there first. */
-static bool may_end(int signal)
-{
-    return signal > 0 && signal <= LAST_SIGNAL && actions[signal].handler == (uint64_t)SIG_DFL &&
-           !does_nothing(signal);
-}
-
-/* The kernel lets any thread take one for the process, and those that wait have all blocked: it is
- * sent to the one that is to have it. */
-static long raise_in_process(struct trap *trap, int signal)
-{
-    struct thread *taker = signal > 0 && signal <= LAST_SIGNAL ? taker_of(signal) : NULL;
-    long process = kernel(SYS_getpid);
-    long result = taker ? kernel(SYS_tgkill, process, taker->number, signal) : pass_on(trap);
-    if (result == 0)
-        note_raised(taker ? taker->number : 0, signal);
-    return result;
-}
-
-long serve_kill(struct trap *trap)
-{
-    int signal = (int)trap->words[1];
-    bool is_own = trap->words[0] == kernel(SYS_getpid) || (int)trap->words[0] == 0;
-    if (is_own && may_end(signal)) {
-        note_call(trap, 0);
-        end_log();
-    }
-    if ((int)trap->words[0] != 0 && is_own && signal != 0 && signal != SIGKILL &&
-        signal != SIGSTOP && !may_end(signal))
-        return raise_in_process(trap, signal);
-    long result = pass_on(trap);
-    if (result == 0 && is_own)
-        note_raised(0, signal);
-    change_world();
-    return result;
-}
-
-long serve_thread_kill(struct trap *trap)
-{
-    bool has_group = trap->call == SYS_tgkill;
-    int number = (int)trap->words[has_group ? 1 : 0], signal = (int)trap->words[has_group ? 2 : 1];
-    if (may_end(signal)) {
-        note_call(trap, 0);
-        end_log();
-    }
-    long result = pass_on(trap);
-    if (result == 0 && number != self->number)
-        note_raised(number, signal);
-    change_world();
-    return result;
-}
-
-long serve_queue(struct trap *trap)
-{
-    long result = pass_on(trap);
-    if (result == 0 && trap->words[0] == kernel(SYS_getpid))
-        note_raised(0, (int)trap->words[1]);
-    return result;
-}
-
-long serve_thread_queue(struct trap *trap)
-{
-    long result = pass_on(trap);
-    if (result == 0 && trap->words[1] != self->number)
-        note_raised((int)trap->words[1], (int)trap->words[2]);
-    return result;
 }
 
 static bool is_pending(void *argument)

@@ -1,6 +1,5 @@
 /* The kernel is asked without waiting, and again once another has gone on. */
 #define _GNU_SOURCE
-#include "queues.h"
 #include "descriptors.h"
 #include "waits.h"
 

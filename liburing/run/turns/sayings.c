@@ -13,28 +13,42 @@
 #include <sys/stat.h>
 #include <unistd.h>
 
-enum { MOST_FILES = 1 << 16, ROOM = 8192, FIRST_NUMBER = 1001 };
+enum { ROOM = 8192, FIRST_NUMBER = 1001 };
 
-static struct {
-    uint64_t device, file, number;
-} files[MOST_FILES];
-static uint64_t met;
-
-/* (a table that is full has one number for all others) */
-static uint64_t number_of_file(uint64_t device, uint64_t file)
+/* (a table that is full has one row for all others) */
+static struct file *row_of_file(uint64_t device, uint64_t file)
 {
+    static struct file other = {.number = FIRST_NUMBER - 1};
+    struct file *files = world->files.rows;
     uint64_t hash = (device * 0x9e3779b97f4a7c15u ^ file * 0xbf58476d1ce4e5b9u) >> 13;
     for (size_t i = 0; i < MOST_FILES; i++) {
         size_t at = (hash + i) % MOST_FILES;
         if (files[at].number == 0) {
             files[at].device = device;
             files[at].file = file;
-            files[at].number = FIRST_NUMBER + met++;
+            files[at].number = FIRST_NUMBER + world->files.met++;
         }
         if (files[at].device == device && files[at].file == file)
-            return files[at].number;
+            return files + at;
     }
-    return FIRST_NUMBER - 1;
+    return &other;
+}
+
+uint64_t number_of_file(uint64_t device, uint64_t file)
+{
+    return row_of_file(device, file)->number;
+}
+
+void note_inside(int fd)
+{
+    struct stat about;
+    if (kernel(SYS_fstat, fd, &about) == 0)
+        row_of_file(about.st_dev, about.st_ino)->is_inside = true;
+}
+
+bool is_noted_inside(const struct stat *about)
+{
+    return row_of_file(about->st_dev, about->st_ino)->is_inside;
 }
 
 static void calm_date(int64_t *seconds)

@@ -1,14 +1,18 @@
-/* Threads and processes that are made. A thread gets a slot, and runs once it is chosen; the kernel
- * clears a word of ours as it ends, and who waits for the program's word is waked here. A child
- * that is forked, or made to become another program, runs without turns. */
+/* Threads and processes that are made, and programs that processes become. A thread gets a slot,
+ * and runs once it is chosen; the kernel clears a word of ours as it ends, and who waits for the
+ * program's word is waked here. So does the one thread of a child that is forked. A child that
+ * shares memory until it has become another program has the baton until then. */
 #define _GNU_SOURCE
 #include "chance.h"
+#include "dates.h"
 #include "descriptors.h"
 #include "dispatch.h"
+#include "notices.h"
 #include "turns.h"
 #include "watch.h"
 
 #include <errno.h>
+#include <fcntl.h>
 #include <linux/sched.h>
 #include <string.h>
 #include <sys/prctl.h>
@@ -70,7 +74,7 @@ static void fill_slot(struct thread *thread, const struct trap *trap)
 static long make_turning(const struct trap *trap, struct request *request)
 {
     uint64_t flags = request->arguments.flags, told = request->arguments.child_tid;
-    struct thread *thread = take_slot();
+    struct thread *thread = take_slot(self->process);
     fill_slot(thread, trap);
     thread->cleared = flags & CLONE_CHILD_CLEARTID ? told : 0;
     long number = make(trap, request,
@@ -86,15 +90,66 @@ static long make_turning(const struct trap *trap, struct request *request)
     return number;
 }
 
-/* A child that shares memory until it has become another program, while the thread that made it
- * waits: it goes on without turns, on the stack that it was given. */
-static long make_waited_for(const struct trap *trap, struct request *request)
+/* Without turns: what the child does comes from outside. */
+static long start_outside(const struct trap *trap, uint64_t flags, const char *why)
 {
-    static struct thread child;
-    fill_slot(&child, trap);
-    child.begins_on = (long)stack_of_slot(slot_of(self) + 1) - SERVING_STACK / 2;
-    child.is_plain = true;
-    return make(trap, request, request->arguments.flags, request->arguments.child_tid, &child);
+    tell_outside("a process", why);
+    long result = flags & CLONE_VM ? kernel(SYS_fork) : pass_on(trap);
+    if (result == 0)
+        leave_turns();
+    return result;
+}
+
+static const char *const many = "there are too many at a time";
+
+/* A slot for a process and one for its thread, which goes on as this one does. */
+static struct thread *take_child(void)
+{
+    int process = take_process(self->process);
+    if (process < 0)
+        return NULL;
+    struct thread *thread = take_slot(process);
+    thread->mask = self->mask;
+    thread->call = self->call;
+    return thread;
+}
+
+static void give_child_back(struct thread *thread)
+{
+    thread->state = FREE;
+    free_process(thread->process);
+}
+
+/* A child that shares memory until it has become another program, while the thread that made it
+ * waits in the kernel: it has the baton, on the stack that it was given, and this thread's memory.
+ */
+static long make_guest(const struct trap *trap, struct request *request)
+{
+    struct thread *child = take_child(), *own = self;
+    if (!child)
+        return start_outside(trap, CLONE_VM, many);
+    fill_slot(child, trap);
+    process_of(child)->is_guest = true;
+    world->running = slot_of(child);
+    long result = make(
+        trap, request, request->arguments.flags, request->arguments.child_tid, child);
+    self = own;
+    if (result < 0) {
+        world->running = slot_of(own);
+        give_child_back(child);
+        return result;
+    }
+    park();
+    return result;
+}
+
+static void begin_guest(struct thread *thread)
+{
+    const stack_t none = {.ss_flags = SS_DISABLE};
+    self = thread;
+    kernel(SYS_sigaltstack, &none, 0);
+    self->number = process_of(self)->number = (int)kernel(SYS_getpid);
+    catch_calls();
 }
 
 /* Begins a thread, on its slot's stack. */
@@ -104,8 +159,8 @@ void begin_thread(long *registers)
     struct thread *thread = (struct thread *)((char *)registers -
                                               offsetof(struct thread, registers));
     __asm__ volatile("ldmxcsr %0" : : "m"(thread->rounding));
-    if (thread->is_plain) {
-        pause_chance(true);
+    if (process_of(thread)->is_guest) {
+        begin_guest(thread);
     } else {
         self = thread;
         catch_calls();
@@ -116,19 +171,49 @@ void begin_thread(long *registers)
     load_registers(thread->registers);
 }
 
-/* The child goes on from the same trap. */
-static long fork_plain(const struct trap *trap)
+static bool has_gone_on(void *argument)
 {
-    say_child();
-    long result = trap->call == SYS_vfork ? kernel(SYS_fork) : pass_on(trap);
-    if (result == 0)
-        leave_turns();
+    const struct process *child = argument;
+    return !child->takes_turns || child->number != child->awaited;
+}
+
+/* In a child that is forked: it goes on from the same trap, once it is chosen. */
+static void begin_child(struct thread *thread, uint64_t cleared)
+{
+    self = thread;
+    self->cleared = cleared;
+    begin_slot(self);
+    forget_dates();
+    begin_watch();
+    catch_calls();
+    park();
+}
+
+static long fork_turning(const struct trap *trap, uint64_t cleared, bool is_awaited)
+{
+    struct thread *child = take_child();
+    if (!child)
+        return start_outside(trap, is_awaited ? CLONE_VM : 0, many);
+    struct process *process = process_of(child);
+    long result = is_awaited ? kernel(SYS_fork) : pass_on(trap);
+    if (result == 0) {
+        begin_child(child, cleared);
+        return 0;
+    }
+    if (result < 0) {
+        give_child_back(child);
+        return result;
+    }
+    child->number = process->number = (int)result;
+    process->awaited = is_awaited ? process->number : 0;
+    while (is_awaited && !has_gone_on(process))
+        wait_until(has_gone_on, process, false, NEVER);
     return result;
 }
 
 long serve_fork(struct trap *trap)
 {
-    return fork_plain(trap);
+    return fork_turning(trap, 0, trap->call == SYS_vfork);
 }
 
 long serve_clone(struct trap *trap)
@@ -136,38 +221,20 @@ long serve_clone(struct trap *trap)
     struct request request;
     if (!read_request(trap, &request))
         return -EINVAL;
-    uint64_t flags = request.arguments.flags;
+    uint64_t flags = request.arguments.flags,
+             cleared = flags & CLONE_CHILD_CLEARTID ? request.arguments.child_tid : 0;
+    if (flags & (CLONE_NEWPID | CLONE_PARENT | CLONE_FILES) && !(flags & CLONE_THREAD))
+        return start_outside(
+            trap, flags, "it is made with CLONE_NEWPID, CLONE_PARENT or CLONE_FILES");
     if (!(flags & CLONE_VM))
-        return fork_plain(trap);
-    if (flags & CLONE_VFORK) {
-        say_child();
-        if (request.arguments.stack)
-            return make_waited_for(trap, &request);
-        long result = kernel(SYS_fork); /* (the child would return on this stack) */
-        if (result == 0)
-            leave_turns();
-        return result;
-    }
+        return fork_turning(trap, cleared, false);
+    if (flags & CLONE_VFORK) /* (without a stack the child would return on this one) */
+        return request.arguments.stack ? make_guest(trap, &request)
+                                       : fork_turning(trap, cleared, true);
     if (!(flags & CLONE_THREAD) || !(flags & CLONE_SETTLS)) {
         tell_unserved(trap,
             "a task that shares memory and has no memory of a thread's own is refused with ENOSYS");
         return -ENOSYS;
     }
     return make_turning(trap, &request);
-}
-
-/* What an exec leaves as it is, and the next program's loader would meet. */
-long serve_exec(struct trap *trap)
-{
-    note_call(trap, 0);
-    end_log();
-    uint64_t mask = self->mask, all = ~(uint64_t)0;
-    pause_watch(true);
-    pause_chance(true);
-    kernel(SYS_rt_sigprocmask, SIG_SETMASK, &mask, 0, sizeof mask);
-    long result = pass_on(trap);
-    kernel(SYS_rt_sigprocmask, SIG_SETMASK, &all, 0, sizeof all);
-    pause_chance(false);
-    pause_watch(false);
-    return result;
 }

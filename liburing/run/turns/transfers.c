@@ -2,7 +2,6 @@
  * its descriptor is ready; a large write to a pipe goes in parts that a pipe with room takes at
  * once. */
 #define _GNU_SOURCE
-#include "transfers.h"
 #include "chance.h"
 #include "descriptors.h"
 #include "waits.h"

@@ -15,40 +15,53 @@
 #include <sys/stat.h>
 #include <unistd.h>
 
-enum { ROOM = 1 << 16, MOST_LINE = 256 };
-
-static int file = -1;
-static char room[ROOM];
-static size_t length;
-
-/* The recorded log: what is left of it. */
-static const char *recorded, *recorded_end;
-
-/* Whether it shows a page's lanes: choices, steps of rings, and who waits. */
-static bool has_lanes;
+enum { MOST_LINE = 256 };
 
 static bool is_logging_turns(void)
 {
-    return file >= 0 || recorded;
+    return world->log.is_written || world->log.recorded;
 }
 
-/* At a place of its own, so that what the program maps stands where it does without. */
+/* At a place of its own, so that what the program maps stands where it does without. Each process
+ * has it, of the world's descriptor, behind the world. */
+static const uintptr_t place_of_recorded = 0x310000000000;
+
+static bool map_recorded(size_t size)
+{
+    const size_t page = 4096, behind = (sizeof *world + page - 1) / page * page;
+    return kernel(SYS_mmap, place_of_recorded, size, PROT_READ | PROT_WRITE,
+               MAP_SHARED | MAP_FIXED_NOREPLACE, WORLD_DESCRIPTOR,
+               behind) == (long)place_of_recorded;
+}
+
+static bool copy_recorded(long from, size_t size)
+{
+    const size_t page = 4096, behind = (sizeof *world + page - 1) / page * page;
+    if (kernel(SYS_ftruncate, WORLD_DESCRIPTOR, behind + size) < 0 || !map_recorded(size))
+        return false;
+    for (size_t done = 0; done < size;) {
+        long part = kernel(SYS_read, from, place_of_recorded + done, size - done);
+        if (part <= 0)
+            return false;
+        done += (size_t)part;
+    }
+    return true;
+}
+
 static void read_recorded(const char *path)
 {
-    static const uintptr_t place = 0x310000000000;
     struct stat about = {0};
-    long from = kernel(SYS_open, path, O_RDONLY | O_CLOEXEC), at = -1;
-    if (from >= 0 && kernel(SYS_fstat, from, &about) == 0 && about.st_size > 0)
-        at = kernel(
-            SYS_mmap, place, about.st_size, PROT_READ, MAP_PRIVATE | MAP_FIXED_NOREPLACE, from, 0);
+    long from = kernel(SYS_open, path, O_RDONLY | O_CLOEXEC);
+    bool is_read = from >= 0 && kernel(SYS_fstat, from, &about) == 0 && about.st_size > 0 &&
+                   copy_recorded(from, (size_t)about.st_size);
     if (from >= 0)
         kernel(SYS_close, from);
-    if (at != (long)place) {
+    if (!is_read) {
         say_line("%s: the recorded log of turns can't be read", path);
         return;
     }
-    recorded = (const char *)place;
-    recorded_end = recorded + about.st_size;
+    world->log.recorded = (const char *)place_of_recorded;
+    world->log.recorded_end = world->log.recorded + about.st_size;
 }
 
 static const char *end_of_line(const char *line, const char *end)
@@ -60,14 +73,14 @@ static const char *end_of_line(const char *line, const char *end)
 /* (what comes after is another run) */
 static void tell_difference(const char *line, int size)
 {
-    const char *end = end_of_line(recorded, recorded_end);
-    if (recorded == recorded_end)
+    const char *end = end_of_line(world->log.recorded, world->log.recorded_end);
+    if (world->log.recorded == world->log.recorded_end)
         say_line("choice %lu differs from the recorded run, which ends here: %.*s", world->choices,
             size - 1, line);
     else
         say_line("choice %lu differs from the recorded run: %.*s; recorded: %.*s", world->choices,
-            size - 1, line, (int)(end - recorded), recorded);
-    recorded = NULL;
+            size - 1, line, (int)(end - world->log.recorded), world->log.recorded);
+    world->log.recorded = NULL;
 }
 
 /* Past a word that is an address, if one begins here: where memory lies rests on the environment
@@ -86,12 +99,13 @@ static const char *past_address(const char *text, const char *end)
 /* Where the recorded log goes on after a line like this one; NULL if it has another there. */
 static const char *after_alike(const char *line, int size)
 {
-    const char *at = recorded, *end = line + size;
+    const char *at = world->log.recorded, *end = line + size;
     while (line < end) {
-        const char *past = past_address(line, end), *other = past_address(at, recorded_end);
+        const char *past = past_address(line, end),
+                   *other = past_address(at, world->log.recorded_end);
         if ((past == line) != (other == at))
             return NULL;
-        if (past == line && (at == recorded_end || *at != *line))
+        if (past == line && (at == world->log.recorded_end || *at != *line))
             return NULL;
         at = past == line ? at + 1 : other;
         line = past == line ? line + 1 : past;
@@ -103,17 +117,18 @@ static void compare_line(const char *line, int size)
 {
     const char *after = after_alike(line, size);
     if (after)
-        recorded = after;
+        world->log.recorded = after;
     else
         tell_difference(line, size);
 }
 
 void compare_end(void)
 {
-    if (recorded && recorded < recorded_end)
+    if (world->log.recorded && world->log.recorded < world->log.recorded_end)
         say_line("the run ends where the recorded one goes on: %.*s",
-            (int)(end_of_line(recorded, recorded_end) - recorded), recorded);
-    recorded = NULL;
+            (int)(end_of_line(world->log.recorded, world->log.recorded_end) - world->log.recorded),
+            world->log.recorded);
+    world->log.recorded = NULL;
 }
 
 static void put_line(const char *line, int size);
@@ -143,23 +158,32 @@ static void hear_choice(uint64_t at, uint32_t count, uint32_t way, const char *w
 
 void note_wait(void)
 {
-    if (has_lanes)
+    if (world->log.has_lanes)
         put_of_thread(" waits in %s", name_of_call(self->call));
 }
 
-static void begin_lanes(void)
+static void go_on_with_lanes(void)
 {
-    const char *word = getenv("WULGACH_LANES");
-    has_lanes = file >= 0 && word && *word;
-    if (!has_lanes)
+    if (!world->log.has_lanes)
         return;
     wulgach_hear_step = hear_step;
     wulgach_hear_choice = hear_choice;
 }
 
+/* (whatever is opened before this file has another number) */
+static bool open_log(const char *path)
+{
+    long opened = kernel(SYS_open, path, O_WRONLY | O_CREAT | O_TRUNC | O_CLOEXEC, 0666);
+    bool is_open = opened >= 0 && kernel(SYS_dup2, opened, LOG_DESCRIPTOR) == LOG_DESCRIPTOR;
+    if (opened >= 0)
+        kernel(SYS_close, opened);
+    return is_open;
+}
+
 void begin_log(void)
 {
-    const char *path = getenv("WULGACH_TURNS"), *other = getenv("WULGACH_RECORDED_TURNS");
+    const char *path = getenv("WULGACH_TURNS"), *other = getenv("WULGACH_RECORDED_TURNS"),
+               *lanes = getenv("WULGACH_LANES");
     struct timespec now;
     kernel(SYS_clock_gettime, CLOCK_REALTIME, &now);
     world->began = now.tv_sec;
@@ -167,21 +191,25 @@ void begin_log(void)
         read_recorded(other);
     if (!path || !*path)
         return;
-    enum { FIRST_HIGH = 900 };
-    long opened = kernel(SYS_open, path, O_WRONLY | O_CREAT | O_TRUNC | O_CLOEXEC, 0666);
-    file = opened < 0 ? -1 : (int)kernel(SYS_fcntl, opened, F_DUPFD_CLOEXEC, FIRST_HIGH);
-    begin_lanes();
-    if (opened >= 0)
-        kernel(SYS_close, opened);
-    if (file < 0)
+    world->log.is_written = open_log(path);
+    if (!world->log.is_written)
         say_line("%s: the log of turns can't be written", path);
+    world->log.has_lanes = world->log.is_written && lanes && *lanes;
+    go_on_with_lanes();
+}
+
+void go_on_with_log(void)
+{
+    if (world->log.recorded)
+        map_recorded((size_t)(world->log.recorded_end - (const char *)place_of_recorded));
+    go_on_with_lanes();
 }
 
 void end_log(void)
 {
-    if (file >= 0 && length > 0)
-        kernel(SYS_write, file, room, length);
-    length = 0;
+    if (world->log.is_written && world->log.length > 0)
+        kernel(SYS_write, LOG_DESCRIPTOR, world->log.room, world->log.length);
+    world->log.length = 0;
 }
 
 /* How many of the first three words a call has: the registers of others are whatever was left
@@ -300,14 +328,15 @@ static bool is_of_owner(const struct trap *trap, int word)
 
 static void put_line(const char *line, int size)
 {
-    if (recorded)
+    if (world->log.recorded)
         compare_line(line, size);
-    if (file < 0)
+    struct log *log = &world->log;
+    if (!log->is_written)
         return;
-    if (length + (size_t)size > ROOM)
+    if (log->length + (size_t)size > LOG_ROOM)
         end_log();
-    memcpy(room + length, line, (size_t)size);
-    length += (size_t)size;
+    memcpy(log->room + log->length, line, (size_t)size);
+    log->length += (size_t)size;
 }
 
 /* Numbers of threads and of processes are the kernel's, and not the same twice: they aren't in it.

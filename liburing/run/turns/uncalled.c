@@ -13,10 +13,6 @@
 
 enum { EPOLL_PWAIT2 = 441 };
 
-static struct wulgach_uncalled rows[MOST_RINGS];
-static uint32_t row_count;
-static uint64_t priorities[MOST_RINGS]; /* by number; 0: none was drawn yet */
-
 static bool is_asleep(const struct thread *thread)
 {
     return thread->state == WAITS && (thread->call == EPOLL_PWAIT2 || thread->call == SYS_ppoll ||
@@ -25,8 +21,7 @@ static bool is_asleep(const struct thread *thread)
 
 static bool is_amid_call(const struct thread *thread)
 {
-    return (thread->state == READY || thread->state == WAITS) && thread->ring_calls > 0 &&
-           !is_asleep(thread);
+    return lives(thread) && is_own(thread) && thread->ring_calls > 0 && !is_asleep(thread);
 }
 
 /* (one that waits for the ring itself, by its descriptor, can go on) */
@@ -37,18 +32,21 @@ static bool is_elsewhere(int32_t caller)
                           !(thread->is_ready && thread->is_met));
 }
 
-/* Who goes on with a ring: who has called on it last, or else the first that waits. */
-static struct thread *thread_that_waits(int32_t caller)
+/* Who goes on with a ring of a process: who has called on it last, or else the first that waits. */
+static struct thread *thread_that_waits(int process, int32_t caller)
 {
     struct thread *thread = thread_of_number(caller);
-    for (int i = 0; !(thread && thread->state == WAITS) && i < world->count; i++)
-        thread = world->threads + i;
-    return thread && thread->state == WAITS ? thread : NULL;
+    if (thread && thread->state == WAITS && thread->process == process)
+        return thread;
+    for (int i = 0; i < world->count; i++)
+        if (world->threads[i].state == WAITS && world->threads[i].process == process)
+            return world->threads + i;
+    return NULL;
 }
 
 static bool can_look(void)
 {
-    if (!world->has_rings || has_left_turns)
+    if (!process_of(self)->has_rings || has_left_turns)
         return false;
     for (int i = 0; i < world->count; i++)
         if (is_amid_call(world->threads + i))
@@ -56,39 +54,70 @@ static bool can_look(void)
     return true;
 }
 
-int find_rings(int count, uint64_t *moment)
+void look_at_rings(void)
 {
-    row_count = 0;
+    struct process *process = process_of(self);
+    struct wulgach_uncalled rows[MOST_RINGS];
+    process->ring_count = 0;
+    process->rings_due = NEVER;
     if (!can_look())
-        return count;
+        return;
     int kept = errno;
     note_own_calls(true);
-    row_count = wulgach_look_at_uncalled(rows, MOST_RINGS, is_elsewhere);
+    process->ring_count = wulgach_look_at_uncalled(rows, MOST_RINGS, is_elsewhere);
     note_own_calls(false);
     errno = kept;
-    for (uint32_t i = 0; i < row_count; i++) {
+    for (uint32_t i = 0; i < process->ring_count; i++) {
         uint64_t next = rows[i].has_next ? limit_at(false, rows[i].next) : NEVER;
-        *moment = next < *moment ? next : *moment;
-        if (rows[i].can_go_on && thread_that_waits(rows[i].caller))
-            world->candidates[count++] = MOST_THREADS + (int)i;
+        process->rings_due = next < process->rings_due ? next : process->rings_due;
+        process->rings[i] = (struct ring){rows[i].ring, rows[i].caller, rows[i].can_go_on};
     }
+}
+
+static int find_rings_of(int index, int count, uint64_t *moment)
+{
+    const struct process *process = world->processes + index;
+    if (!process->has_rings)
+        return count;
+    *moment = process->rings_due < *moment ? process->rings_due : *moment;
+    for (uint32_t i = 0; i < process->ring_count; i++)
+        if (process->rings[i].can_go_on && thread_that_waits(index, process->rings[i].caller))
+            world->candidates[count++] = MOST_THREADS + index * MOST_RINGS + (int)i;
+    return count;
+}
+
+int find_rings(int count, uint64_t *moment)
+{
+    for (int i = 0; i < world->process_count; i++)
+        if (world->processes[i].takes_turns)
+            count = find_rings_of(i, count, moment);
     return count;
 }
 
 bool has_uncalled(void)
 {
-    return row_count > 0;
+    for (int i = 0; i < world->process_count; i++)
+        if (world->processes[i].takes_turns && world->processes[i].has_rings &&
+            world->processes[i].ring_count > 0)
+            return true;
+    return false;
+}
+
+static struct ring *ring_at(int place)
+{
+    return world->processes[place / MOST_RINGS].rings + place % MOST_RINGS;
 }
 
 uint32_t number_of_ring(int place)
 {
-    return rows[place].ring;
+    return ring_at(place)->number;
 }
 
 uint64_t *priority_of_ring(int place)
 {
     const uint64_t above = 1ul << 41, room = 1ul << 40;
-    uint64_t *priority = priorities + rows[place].ring % MOST_RINGS;
+    uint64_t *priority = world->processes[place / MOST_RINGS].ring_priorities +
+                         number_of_ring(place) % MOST_RINGS;
     if (*priority == 0)
         *priority = above + roll(&world->turns_random) % room;
     return priority;
@@ -96,8 +125,8 @@ uint64_t *priority_of_ring(int place)
 
 struct thread *thread_for_ring(int place)
 {
-    struct thread *thread = thread_that_waits(rows[place].caller);
-    thread->goes_on_with = (int)rows[place].ring + 1;
+    struct thread *thread = thread_that_waits(place / MOST_RINGS, ring_at(place)->caller);
+    thread->goes_on_with = (int)number_of_ring(place) + 1;
     return thread;
 }
 

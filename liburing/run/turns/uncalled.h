@@ -6,6 +6,9 @@
 
 #include "turns.h"
 
+/* Looks at those of this process. */
+void look_at_rings(void);
+
 /* Adds those that can go on to as many candidates, by their places, and returns how many there are
  * then; and the next moment at which one can is among those that are waited for. */
 int find_rings(int count, uint64_t *moment);

@@ -229,7 +229,7 @@ long serve_epoll_pwait2(struct trap *trap)
     return wait_under_mask(trap, (const uint64_t *)trap->words[4], epoll_words_of_time);
 }
 
-/* A process that is waited for runs outside. */
+/* Whether a process has ended for which is waited. */
 static bool has_ended(void *argument)
 {
     const long *words = argument;
@@ -244,7 +244,7 @@ static long wait_for_process(struct trap *trap, long which, long number, long op
     long asked[4] = {which, number, 0, options};
     if (!(options & WNOHANG))
         while (!has_ended(asked))
-            if (wait_until(has_ended, asked, true, NEVER) == INTERRUPTED)
+            if (wait_until(has_ended, asked, false, NEVER) == INTERRUPTED)
                 return RESTARTS;
     change_world();
     return pass_on(trap);

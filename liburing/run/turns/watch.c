@@ -3,7 +3,7 @@
  * another could go on: then it is taken to spin for that one. */
 #define _GNU_SOURCE
 #include "watch.h"
-#include "places.h"
+#include "code.h"
 #include "turns.h"
 
 #include <sys/time.h>

@@ -4,8 +4,10 @@
  *   flaky differs FILE     every second run, as FILE counts them, has one request, and the others
  *                          three
  *   flaky until FILE N     the first N runs fail
- *   flaky dies|hangs       it writes a file by two requests, and if the second ends first it dies,
- *                          or hangs
+ *   flaky dies|hangs       it writes a new file by two requests, and if the second ends first it
+ *                          dies, or hangs; a file that is there already hides that
+ *   flaky longer           it fails if the last of three requests ends first; before that come two
+ *                          more, and then another two, if the second of those ends first
  */
 #include <fcntl.h>
 #include <liburing.h>
@@ -59,13 +61,21 @@ static int run_nops(int count)
     for (int i = 0; i < count; i++)
         entry((unsigned)i);
     io_uring_submit(&ring);
-    reap(count);
-    return 0;
+    return reap(count);
+}
+
+static int run_longer(void)
+{
+    if (run_nops(2) == 1)
+        run_nops(2);
+    return run_nops(3) == 2;
 }
 
 static int run_writes(bool dies)
 {
-    int file = open("data", O_RDWR | O_CREAT, 0600);
+    int file = open("data", O_RDWR | O_CREAT | O_EXCL, 0600);
+    if (file < 0)
+        return 0;
     for (unsigned i = 0; i < 2; i++) {
         struct io_uring_sqe *made = entry(i);
         io_uring_prep_write(made, file, "ab" + i, 1, i);
@@ -85,8 +95,10 @@ int main(int argc, char **argv)
     if (argc < 2 || io_uring_queue_init(8, &ring, 0) != 0)
         return 3;
     if (strcmp(argv[1], "differs") == 0 && argc == 3)
-        return run_nops(count_run(argv[2]) % 2 ? 3 : 1);
+        return run_nops(count_run(argv[2]) % 2 ? 3 : 1), 0;
     if (strcmp(argv[1], "until") == 0 && argc == 4)
         return run_nops(1), count_run(argv[2]) <= atoi(argv[3]);
+    if (strcmp(argv[1], "longer") == 0)
+        return run_longer();
     return run_writes(strcmp(argv[1], "dies") == 0);
 }

@@ -120,6 +120,7 @@ static void others(void)
 static void by(change_of *change)
 {
     struct ring ring = used_ring();
+    want_writes(&ring, false);
     want_told(&ring, wait_on(ring.fd, EPOLLET, change));
     want_writes(&ring, true);
 }

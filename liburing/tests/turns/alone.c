@@ -1,13 +1,19 @@
-/* A program of one thread: what it prints is the same with `uring-run --threads` and without. */
+/* A program of one thread: what it prints is the same with `uring-run --threads` and without. By
+ * mode it makes a call that isn't served, which is to be told of by its name:
+ *
+ *   refused   asynchronous calls of the kernel's own kind, which are refused
+ *   passed    one that the kernel carries out
+ */
 #define _GNU_SOURCE
 #include <fcntl.h>
 #include <stdio.h>
 #include <string.h>
 #include <sys/stat.h>
+#include <sys/syscall.h>
 #include <time.h>
 #include <unistd.h>
 
-int main(void)
+static int print(void)
 {
     char line[64] = "";
     struct stat about;
@@ -25,4 +31,15 @@ int main(void)
     printf("%s%d %d %d %s\n", line, stat(path, &about), (int)about.st_size, slept >= 2000000,
         access("/no/such/file", R_OK) ? "none" : "one");
     return fclose(file) != 0 || unlink(path) != 0;
+}
+
+int main(int count, char **words)
+{
+    const char *mode = count > 1 ? words[1] : "";
+    unsigned long context = 0;
+    if (strcmp(mode, "refused") == 0)
+        return syscall(SYS_io_setup, 1, &context) == 0;
+    if (strcmp(mode, "passed") == 0)
+        return syscall(SYS_quotactl, 0, NULL, 0, NULL) == 0;
+    return print();
 }

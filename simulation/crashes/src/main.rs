@@ -84,9 +84,27 @@ impl Pair {
         Ok(())
     }
 
+    /// A range that begins or ends amid a write, if one is long enough.
+    fn cut(&self, rng: &mut Rng) -> Option<(u64, u64)> {
+        let long: Vec<_> = self
+            .file
+            .writes
+            .iter()
+            .filter(|it| it.bytes.len() > 1)
+            .collect();
+        let write = long.get(rng.below(long.len().max(1) as u64) as usize)?;
+        let amid = write.off + 1 + rng.below(write.bytes.len() as u64 - 1);
+        Some(if rng.below(2) == 0 {
+            (amid, amid + 1 + rng.below(6))
+        } else {
+            (write.off.saturating_sub(rng.below(3)), amid)
+        })
+    }
+
     fn sync(&mut self, rng: &mut Rng) -> Result<(), Difference> {
-        let (from, to) = match rng.below(3) {
+        let (from, to) = match rng.below(4) {
             0 => (rng.below(6), 1 + rng.below(9)),
+            1 => self.cut(rng).unwrap_or((0, u64::MAX)),
             _ => (0, u64::MAX),
         };
         let volume = if to == u64::MAX {
@@ -101,10 +119,12 @@ impl Pair {
         Ok(())
     }
 
-    /// Ends something by any number, also by one that doesn't run.
+    /// Ends something by any number, also by one that doesn't run; or fails the last sync, if it runs.
     fn end(&mut self, rng: &mut Rng) -> Result<(), Difference> {
-        let number = rng.below(self.file.next + 1);
-        let (model, volume) = match rng.below(6) {
+        let running = self.file.syncs.last().filter(|it| it.ended.is_none());
+        let fails = running.filter(|_| rng.below(4) == 0).map(|it| it.number);
+        let number = fails.unwrap_or_else(|| rng.below(self.file.next + 1));
+        let (model, volume) = match if fails.is_some() { 5 } else { rng.below(6) } {
             0..=2 => (self.file.end_write(number), self.volume.end_write(number)),
             3..=4 => (
                 self.file.end_sync(number, End::Success),

@@ -39,8 +39,10 @@ def fill(folder):
 class Calls:
     """A sequence: `log` has its events, and `marks` where the disk's log was before and after each call, with how many events had happened before and after."""
 
-    def __init__(self, folder, dice, position):
+    def __init__(self, folder, dice, position, is_of_names=False):
         self.folder, self.dice, self.position = folder, dice, position
+        self.letters = "abcefg" if is_of_names else "ghijkl"
+        self.kinds = self.of_names() if is_of_names else self.of_all()
         self.log, self.count, self.marks, self.told, self.byte = b"", 0, [], [], 0
         self.files = {it: os.open(f"{folder}/{it}", os.O_RDWR) for it in FILES}
         self.folders = ["", "d"]
@@ -97,16 +99,25 @@ class Calls:
 
     def free_name(self):
         taken = {*self.files, *self.folders}
-        names = (f"{it}/{n}" if it else n for it in self.folders for n in "ghijkl")
+        names = (f"{it}/{n}" if it else n for it in self.folders for n in self.letters)
         return self.dice.choice([it for it in names if it not in taken])
 
-    def step(self):
-        """One call by chance."""
+    def of_all(self):
         kinds = (self.append,) * 5 + (self.overwrite,) * 3 + (self.rename,) * 3
         kinds += (self.sync,) * 4 + (self.create,) * 2 + (self.replace,) * 2
         kinds += (self.cut, self.cut, self.space, self.link, self.unlink, self.make_folder)
-        kinds += (self.sync_folder, self.push)
-        self.dice.choice(kinds)()
+        return kinds + (self.sync_folder, self.push)
+
+    def of_names(self):
+        """Names for the most part; they are few, so that one is another file's again."""
+        kinds = (self.append,) * 2 + (self.overwrite,) + (self.rename,) * 6
+        kinds += (self.sync,) * 5 + (self.create,) * 2 + (self.replace,) * 3
+        kinds += (self.link,) * 2 + (self.unlink,) * 2 + (self.make_folder,)
+        return kinds + (self.sync_folder,) * 2 + (self.push,)
+
+    def step(self):
+        """One call by chance."""
+        self.dice.choice(self.kinds)()
 
     def write(self, name, offset, size, what):
         self.byte = self.byte % 200 + 1

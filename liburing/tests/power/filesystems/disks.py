@@ -8,6 +8,7 @@ from devices import Loop
 from server import Served, mount, unmount
 
 from calls import Calls, fill
+from crashing.disk import Disk
 from crashing.events import Log
 
 MB = 1 << 20
@@ -114,16 +115,16 @@ class Filesystem:
                 time.sleep(0.01)
         unmount(self.folder, 2)
 
-    def sequence(self, dice, make_disk):
+    def sequence(self, dice, is_of_names=False):
         """Calls by chance; in between the journal is committed, and pages are written back, as time does it."""
         os.ftruncate(self.served.store, 0)
         self.put(self.served.store, [])
         os.ftruncate(self.served.log, 0)
 
         def act(folder):
-            disk = make_disk(f"{folder}/disk")
+            disk = Disk(f"{folder}/disk", False, 1)
             self.served.delay[0] = dice.choice([0, 0, 1, 5])
-            calls = Calls(f"{folder}/disk", dice, self.served.position)
+            calls = Calls(f"{folder}/disk", dice, self.served.position, is_of_names)
             for _ in range(dice.randrange(2, 12)):
                 calls.step()
                 self.pass_time(folder, calls, dice)

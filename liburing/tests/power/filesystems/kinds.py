@@ -26,8 +26,8 @@ def kinds(disk, image, whole):
 
 PARTS = {
     "gone": "what a rename replaces is gone",
-    "new": "a rename has both names",
-    "old": "a rename has neither name",
+    "new": "a rename without the end of the old name",
+    "old": "a rename without its new name",
 }
 
 

@@ -3,7 +3,7 @@
 import itertools
 
 from crashing import images
-from crashing.filesystems import are_whole
+from crashing.filesystems import are_whole, names_with
 from crashing.images import assemble, flushed, paint, with_length
 from crashing.labels import Parts
 
@@ -14,17 +14,35 @@ class Moment:
     """All that may be left of a disk at a moment: names are tried by all lists, and each file by itself."""
 
     def __init__(self, disk):
-        self.disk, self.known = disk, {}
+        self.disk, self.known, self.groups = disk, {}, []
+        for group in disk.name_groups():
+            names = {effect[:2] for naming in group for effect in naming.effects}
+            self.groups.append((names, Parts(group, disk.name_syncs, disk.now).images(MOST)))
+
+    def ways(self, tree):
+        """The operations on names that may be left, each list of them with which the tree's names are there."""
         groups = [
-            Parts(group, disk.name_syncs, disk.now).images(MOST) for group in disk.name_groups()
+            [left for left in images if self.are_there(names, left, tree)]
+            for names, images in self.groups
         ]
-        ways = filter(are_whole, itertools.product(*groups))
-        self.ways = [[it for own in way for it in own] for way in ways]
+        for way in itertools.product(*groups):
+            if are_whole(self.disk, way):
+                yield [it for own in way for it in own]
+
+    def are_there(self, names, left, tree):
+        """Whether of some names those are there which the tree has, in the folders that it has."""
+        shown = names_with(self.disk, left)
+        for folder, name in names:
+            above = "" if folder == self.disk.root else self.disk.short(self.disk.files[folder])
+            is_there = f"{above}/{name}".lstrip("/") in tree
+            if (not above or above in tree) and is_there != (shown((folder, name)) is not None):
+                return False
+        return True
 
     def find(self, tree):
         """The image that this tree is; or None, and why it is none, of the names that come nearest."""
         nearest = -1, f"no such names: {', '.join(sorted(tree))}"
-        for left in self.ways:
+        for left in self.ways(tree):
             numbers = self.numbers(left, tree)
             if numbers is None:
                 continue
