@@ -21,7 +21,7 @@ pub use Rattle.uring_effect_points.specs.Decided.{IsFound, found_by}
 pub use Rattle.uring_effect_points.specs.Effects.{EffectsWait, EndsAsTaken, EndsLast, IsLawfulEarly, IsTimely, Makes, Takes, TakesEffect, Timeline, effect_of, effects_in, ends_in_effect, files_at, is_end_of, made_in, operation_at, requests_in}
 pub use Rattle.uring_effect_points.specs.Laws.{GiveAllowed, GivesAllowed, IsLawfulLate}
 pub use Rattle.uring_effect_points.specs.Marks.{mark_by, marks_after, start_mark}
-pub use Rattle.uring_effect_points.specs.Moves.{EndsBy, FitsEnd, Goes, IsWalk, MayTake, Meets, MeetsBytes, Move, Pass, Passes, Standing, Take, at_first, awaits, end_in, look, op_of, passed, plain, taken_by, taken_of, taking, took, with_taken, without}
+pub use Rattle.uring_effect_points.specs.Moves.{EndsBy, FitsEnd, Goes, IsWalk, MarkStanding, MayTake, Meets, MeetsBytes, Move, Pass, Passes, Take, at_first, awaits, end_in, look, op_of, passed, plain, taken_by, taken_of, taking, took, with_taken, without}
 pub use Rattle.uring_effect_points.specs.Search.{Adds, AreTakers, GoesOn, HasFate, IsFated, IsPlaced, IsSearch, MayTakeAt, OneGoes, PassesAt, Replaces, Seat, awaits_at, left_at, passed_at, seat_of, seats_of, took_at}
 pub use Rattle.uring_effect_points.specs.declared.mark.End.{End}
 pub use Rattle.uring_effect_points.specs.declared.mark.Mark.{Mark}

@@ -1,6 +1,6 @@
 -- Moves of a search that knows some of the bytes at finishes are a timeline of a history that has these, and others at the rest.
 use Rattle.std.proofs.Common.{◌≡◌, ℕ, ℤ, Bool, true, false, List, [], ◌∷◌, ◌++◌, length, map, Option, Some, None, if◌then◌else◌, refl, sym, ap, ap₂, subst, ◌∙◌, append-nil, append_assoc}
-use Rattle.uring_effect_points.proofs.Common.{Answer, AreSameButBytes, CalledForApart, End, EndsAsTaken, EndsBy, Event, Goes, History, IsFoundBare, IsLawfulApart, IsTimely, IsWalk, IssueMeets, IssuesMeet, Makes, Mark, Move, Op, Outcome, Pass, Passes, Requests, Running, Setup, Standing, Step, Take, Takes, TakesEffect, Timeline, World, at_first, bare, blank, blank_answer, bytes_at, bytes_reaped, bytes_told, effect_of, end_told_by, entry_of, history_of, is_running, known_by, known_mark, known_marks, length-map, made_in, mark_by, operation_at, operation_of, operation_running, passed, posted_in, requests_in, start_mark, taken_of, took, world}
+use Rattle.uring_effect_points.proofs.Common.{Answer, AreSameButBytes, CalledForApart, End, EndsAsTaken, EndsBy, Event, Goes, History, IsFoundBare, IsLawfulApart, IsTimely, IsWalk, IssueMeets, IssuesMeet, Makes, Mark, MarkStanding, Move, Op, Outcome, Pass, Passes, Requests, Running, Setup, Step, Take, Takes, TakesEffect, Timeline, World, at_first, bare, blank, blank_answer, bytes_at, bytes_reaped, bytes_told, effect_of, end_told_by, entry_of, history_of, is_running, known_by, known_mark, known_marks, length-map, made_in, mark_by, operation_at, operation_of, operation_running, passed, posted_in, requests_in, start_mark, taken_of, took, world}
 use Rattle.uring_core.specs.declared.step.Step.TheVariants as step
 use Rattle.uring_core.specs.declared.answer.Answer.TheVariants as answer
 use Rattle.uring_effect_points.specs.declared.decision.EffectsFound.TheVariants as found
@@ -44,7 +44,7 @@ known_marks_same g known h (e ∷ later) =
     ap₂ (λ (m : Mark) (ms : List Mark). m ∷ ms) (mark_same g known h e) (known_marks_same g known (e ∷ h) later)
 
 -- what a mark passes to doesn't depend on the bytes that are known
-pub passed_so : (st : Standing) (known : Option (List ℕ)) (r : Requests) (e : Event)
+pub passed_so : (st : MarkStanding) (known : Option (List ℕ)) (r : Requests) (e : Event)
     → passed st (known_mark known r e) ≡ passed st (mark_by r e)
 passed_so st known r (step.Finish n, answer.Ended res bytes) = refl
 passed_so st known r (_, a) = refl
@@ -78,7 +78,7 @@ effect_so : (b : Bool) (n : ℕ) (op : Op) (taken : Option Outcome) (e : End) �
 effect_so true n op taken e ends = ends
 effect_so false n op taken e ends = absurd ends
 
-fill_event : (g : Setup) (t : Timeline) (st : Standing) (known : Option (List ℕ)) (r : Requests) (s : Step) (a : Answer) → Stands g t st
+fill_event : (g : Setup) (t : Timeline) (st : MarkStanding) (known : Option (List ℕ)) (r : Requests) (s : Step) (a : Answer) → Stands g t st
     → Passes st.running (known_mark known r (blank (s, a))) → IssueMeets known (blank (s, a)) → Filled t known s a
 fill_event g t st known r (step.Finish n) (answer.Ended res bytes) stands passes meets =
     finish_filled t known n res bytes (effect_of t n) refl
@@ -98,7 +98,7 @@ record HasBareTimeline (g : Setup) (h : History) : Type 0 where
   lawful : IsLawfulApart g (made_in timeline)
 
 -- what is left after an event
-record Rest (g : Setup) (known : List (List ℕ)) (before : History) (later : List Event) (st : Standing) (moves : List Move) (e : Event) : Type 0 where
+record Rest (g : Setup) (known : List (List ℕ)) (before : History) (later : List Event) (st : MarkStanding) (moves : List Move) (e : Event) : Type 0 where
   walk : IsWalk (passed st (known_mark (known_by g known before e) (world g (e ∷ before)).requests e)) (known_marks g known (e ∷ before) later) moves
   lawful : IsLawfulApart g (onto (e ∷ before) later)
   meet : IssuesMeet g known (e ∷ before) later
@@ -115,7 +115,7 @@ reap_meets g h step.Reap (answer.Reaped c) later agree = λ d next.
 reap_meets g h _ a later agree = tt
 
 -- how a search stands at a mark, and what is known there
-record IsAt (g : Setup) (known : List (List ℕ)) (moves : List Move) (later : List Event) (t : Timeline) (st : Standing) : Type 0 where
+record IsAt (g : Setup) (known : List (List ℕ)) (moves : List Move) (later : List Event) (t : Timeline) (st : MarkStanding) : Type 0 where
   walk : IsWalk st (known_marks g known (map blank (made_in t)) (map blank later)) moves
   stands : Stands g t st
   timely : IsTimely g t
@@ -129,10 +129,10 @@ record IsAt (g : Setup) (known : List (List ℕ)) (moves : List Move) (later : L
 record IsPast (g : Setup) (known : List (List ℕ)) (moves : List Move) (later : List Event) (t : Timeline) (s : Step) (a : Answer) : Type 0 where
   filled : Answer
   same : bare (s, filled) ≡ bare (s, a)
-  standing : Standing
+  standing : MarkStanding
   at : IsAt g known moves later (Makes (s, filled) ∷ t) standing
 
-past : (g : Setup) (known : List (List ℕ)) (moves : List Move) (s : Step) (a : Answer) (later : List Event) (t : Timeline) (st : Standing)
+past : (g : Setup) (known : List (List ℕ)) (moves : List Move) (s : Step) (a : Answer) (later : List Event) (t : Timeline) (st : MarkStanding)
     → IsAt g known (Pass ∷ moves) ((s, a) ∷ later) t st → IsPast g known moves later t s a
 past g known moves s a later t st at = record { filled = f.filled; same = f.same_bare; standing = passed st (mark_by (requests_in g (Makes (s, f.filled) ∷ t)) (s, f.filled)); at = record { walk = walks; stands = stands_makes g t st s f.filled at.timely at.stands both; timely = (f.ends, at.timely); lawful = both; all = rest.lawful; meet = rest.meet; agree = agree_after g known s f.filled (made_in t) both at.agree meets; told = told_x ∙ sym (append_assoc (payloads (world g (made_in t)).completions.reaped) (bytes_reaped (s, f.filled)) (bytes_told later)) ∙ ap (λ (xs : List (List ℕ)). xs ++ bytes_told later) (sym (reaped_after g s f.filled (made_in t) both)) } }
   where
@@ -162,9 +162,9 @@ past g known moves s a later t st at = record { filled = f.filled; same = f.same
 
     walks : IsWalk (passed st (mark_by (requests_in g (Makes (s, f.filled) ∷ t)) (s, f.filled))) (known_marks g known (blank (s, f.filled) ∷ map blank (made_in t)) (map blank later)) moves
     walks =
-        subst (λ (st2 : Standing). IsWalk st2 (known_marks g known (blank (s, f.filled) ∷ map blank (made_in t)) (map blank later)) moves) (ap (passed st) (mark_same g known (made_in t) (s, f.filled)) ∙ passed_so st (known_by g known (made_in t) (s, f.filled)) (world g ((s, f.filled) ∷ (made_in t))).requests (s, f.filled)) rest.walk
+        subst (λ (st2 : MarkStanding). IsWalk st2 (known_marks g known (blank (s, f.filled) ∷ map blank (made_in t)) (map blank later)) moves) (ap (passed st) (mark_same g known (made_in t) (s, f.filled)) ∙ passed_so st (known_by g known (made_in t) (s, f.filled)) (world g ((s, f.filled) ∷ (made_in t))).requests (s, f.filled)) rest.walk
 
-by_moves : (g : Setup) (known : List (List ℕ)) (moves : List Move) (later : List Event) (t : Timeline) (st : Standing)
+by_moves : (g : Setup) (known : List (List ℕ)) (moves : List Move) (later : List Event) (t : Timeline) (st : MarkStanding)
     → IsAt g known moves later t st → HasBareTimeline g (onto (made_in t) later)
 by_moves g known [] [] t st at = record { timeline = t; same = refl; timely = at.timely; lawful = at.lawful }
 by_moves g known [] (e ∷ later) t st at =

@@ -1,6 +1,6 @@
 -- A history that is lawful by early effects gives moves to a search that knows a part of its bytes.
 use Rattle.std.proofs.Common.{◌≡◌, ℕ, ◌==◌, Bool, true, false, List, [], ◌∷◌, ◌++◌, map, Option, Some, None, if◌then◌else◌, refl, sym, ap, ap₂, subst, ◌∙◌}
-use Rattle.uring_effect_points.proofs.Common.{AreSameButBytes, End, EndsBy, Event, FitsEnd, Goes, History, IsLawfulApart, IsLawfulEarly, IsWalk, IssueMeets, IssuesMeet, Mark, MayTake, Meets, MeetsBytes, Move, Op, Outcome, Pass, Passes, Requests, Running, Setup, Standing, Take, at_first, awaits, bare, blank, bytes_reaped, bytes_told, end_in, end_told_by, history_of, known_by, known_mark, known_marks, map-append, mark_by, marks_after, operation_running, passed, reverse, reverse-append, reverse-reverse, start_mark, taken_by, took, world}
+use Rattle.uring_effect_points.proofs.Common.{AreSameButBytes, End, EndsBy, Event, FitsEnd, Goes, History, IsLawfulApart, IsLawfulEarly, IsWalk, IssueMeets, IssuesMeet, Mark, MarkStanding, MayTake, Meets, MeetsBytes, Move, Op, Outcome, Pass, Passes, Requests, Running, Setup, Take, at_first, awaits, bare, blank, bytes_reaped, bytes_told, end_in, end_told_by, history_of, known_by, known_mark, known_marks, map-append, mark_by, marks_after, operation_running, passed, reverse, reverse-append, reverse-reverse, start_mark, taken_by, took, world}
 use Rattle.uring_core.specs.declared.step.Step.TheVariants as step
 use Rattle.uring_core.specs.declared.answer.Answer.TheVariants as answer
 use Rattle.uring_effect_points.proofs.Agreeing.{Agree, EndMeets, met_after, posted_bytes, told_agree}
@@ -95,7 +95,7 @@ awaits_loose g known h [] running = refl
 awaits_loose g known h (e ∷ later) running =
     awaits_so running (known_by g known h e) (world g (e ∷ h)).requests e (marks_after g (e ∷ h) later) (known_marks g known (e ∷ h) later)
 
-take_loose : (g : Setup) (known : List (List ℕ)) (h : History) (later : List Event) (st : Standing) (n : ℕ) (o : Outcome) → AllMeet g known h later
+take_loose : (g : Setup) (known : List (List ℕ)) (h : History) (later : List Event) (st : MarkStanding) (n : ℕ) (o : Outcome) → AllMeet g known h later
     → MayTake st (marks_after g h later) n o → MayTake st (known_marks g known h later) n o
 take_loose g known h later st n o meet may = record {
   op = may.op;
@@ -106,7 +106,7 @@ take_loose g known h later st n o meet may = record {
   waits = sym (awaits_loose g known h later st.running) ∙ may.waits;
 }
 
-loosen : (g : Setup) (known : List (List ℕ)) (moves : List Move) (later : List Event) (h : History) (st : Standing) → AllMeet g known h later
+loosen : (g : Setup) (known : List (List ℕ)) (moves : List Move) (later : List Event) (h : History) (st : MarkStanding) → AllMeet g known h later
     → IsWalk st (marks_after g h later) moves → IsWalk st (known_marks g known h later) moves
 loosen g known [] [] h st meet walk = walk
 loosen g known [] (e ∷ later) h st meet walk =
@@ -115,7 +115,7 @@ loosen g known (Pass ∷ moves) [] h st meet walk = absurd walk
 loosen g known (Pass ∷ moves) (e ∷ later) h st meet walk =
     let r : Requests = (world g (e ∷ h)).requests in
     let k : Option (List ℕ) = known_by g known h e in
-    (pass_loose st.running k r e meet.0 walk.0, subst (λ (st2 : Standing). IsWalk st2 (known_marks g known (e ∷ h) later) moves) (sym (passed_so st k r e)) (loosen g known moves later (e ∷ h) (passed st (mark_by r e)) meet.1 walk.1))
+    (pass_loose st.running k r e meet.0 walk.0, subst (λ (st2 : MarkStanding). IsWalk st2 (known_marks g known (e ∷ h) later) moves) (sym (passed_so st k r e)) (loosen g known moves later (e ∷ h) (passed st (mark_by r e)) meet.1 walk.1))
 loosen g known (Take n o ∷ moves) [] h st meet walk =
     absurd (let f : false ≡ true = walk.0.waits in cc)
 loosen g known (Take n o ∷ moves) (e ∷ later) h st meet walk =

@@ -1,6 +1,6 @@
 -- That a search covers all moves: `passed_one` and `dropped_one` where the next mark is passed or not, and `taken_all` where an operation takes effect first.
 use Rattle.std.proofs.Common.{◌≡◌, ◌<◌, ◌≤◌, ◌+◌, ℕ, true, false, List, [], ◌∷◌, ◌++◌, length, map, drop, refl, sym, ap, subst, ◌∙◌, inl, inr, arith, append-nil}
-use Rattle.uring_effect_points.proofs.Common.{AreTakers, Contains, Contains-append_cases, Contains-append_left, Contains-append_right, Contains-push, Contains-push_cases, Goes, GoesOn, Idle, IsPlaced, IsSearch, IsWalk, Mark, MayTake, Move, OneGoes, Outcome, Pass, Passes, PassesAt, Replaces, Running, Seat, Standing, Take, Taker, at_first, awaits, awaits_at, drop-cons, drop_all, left_at, length-replicate, look, op_of, passed, passed_at, slice_index_or, took, took_at}
+use Rattle.uring_effect_points.proofs.Common.{AreTakers, Contains, Contains-append_cases, Contains-append_left, Contains-append_right, Contains-push, Contains-push_cases, Goes, GoesOn, Idle, IsPlaced, IsSearch, IsWalk, Mark, MarkStanding, MayTake, Move, OneGoes, Outcome, Pass, Passes, PassesAt, Replaces, Running, Seat, Take, Taker, at_first, awaits, awaits_at, drop-cons, drop_all, left_at, length-replicate, look, op_of, passed, passed_at, slice_index_or, took, took_at}
 use Rattle.uring_effect_points.proofs.Plain.{after_length}
 
 -- ---- lists
@@ -37,14 +37,14 @@ mapped_by f (x ∷ xs) y there =
 -- ---- moves
 
 -- past a mark that awaits nothing
-pass_by : (s : Standing) (m : Mark) (marks : List Mark) → awaits s.running (m ∷ marks) ≡ false
+pass_by : (s : MarkStanding) (m : Mark) (marks : List Mark) → awaits s.running (m ∷ marks) ≡ false
     → (moves : List Move) → IsWalk s (m ∷ marks) moves → Passes s.running m × Goes (passed s m) marks
 pass_by s m marks free [] walk = absurd (let f : m ∷ marks ≡ [] = walk in cc)
 pass_by s m marks free (Pass ∷ later) walk = (walk.0, record { moves = later; walk = walk.1 })
 pass_by s m marks free (Take n o ∷ later) walk = grind arith
 
 -- an operation takes effect, and others do later
-pub record Takes (s : Standing) (marks : List Mark) : Type 0 where
+pub record Takes (s : MarkStanding) (marks : List Mark) : Type 0 where
   pub number : ℕ
   pub outcome : Outcome
   pub may : MayTake s marks number outcome
@@ -53,19 +53,19 @@ pub record Takes (s : Standing) (marks : List Mark) : Type 0 where
 never_passes : (running : List Running) (m : Mark) (marks : List Mark) → awaits running (m ∷ marks) ≡ true → Passes running m → ⊥
 never_passes running m marks waits passes = grind arith
 
-take_by : (s : Standing) (marks : List Mark) → awaits s.running marks ≡ true → (moves : List Move)
+take_by : (s : MarkStanding) (marks : List Mark) → awaits s.running marks ≡ true → (moves : List Move)
     → IsWalk s marks moves → Takes s marks
 take_by s [] waits moves walk = absurd (let f : false ≡ true = waits in cc)
 take_by s (m ∷ marks) waits [] walk = absurd (let f : m ∷ marks ≡ [] = walk in cc)
 take_by s (m ∷ marks) waits (Pass ∷ later) walk = absurd (never_passes s.running m marks waits walk.0)
 take_by s (m ∷ marks) waits (Take n o ∷ later) walk = grind arith
 
-taken_goes : (s : Standing) (marks : List Mark) (n : ℕ) (o : Outcome) → MayTake s marks n o
+taken_goes : (s : MarkStanding) (marks : List Mark) (n : ℕ) (o : Outcome) → MayTake s marks n o
     → Goes (took s n o) marks → Goes s marks
 taken_goes s [] n o may later = record { moves = Take n o ∷ later.moves; walk = (may, later.walk) }
 taken_goes s (m ∷ marks) n o may later = record { moves = Take n o ∷ later.moves; walk = (may, later.walk) }
 
-passed_goes : (s : Standing) (m : Mark) (marks : List Mark) → Passes s.running m → Goes (passed s m) marks
+passed_goes : (s : MarkStanding) (m : Mark) (marks : List Mark) → Passes s.running m → Goes (passed s m) marks
     → Goes s (m ∷ marks)
 passed_goes s m marks passes later = record { moves = Pass ∷ later.moves; walk = (passes, later.walk) }
 

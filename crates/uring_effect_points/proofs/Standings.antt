@@ -1,6 +1,6 @@
 -- How operations stand along a timeline: as a search has it, after each event and each effect.
 use Rattle.std.proofs.Common.{◌≡◌, ◌==◌, ◌||◌, ◌&&◌, ℕ, ℤ, Bool, true, false, not, List, [], ◌∷◌, ◌++◌, map, Option, Some, None, if◌then◌else◌, refl, sym, ap, subst, ◌∙◌, arith}
-use Rattle.uring_effect_points.proofs.Common.{Answer, CalledForApart, Change, Ends, EndsAsTaken, EndsBy, FileContents, History, Idle, IsLawfulApart, IsOutcome, IsTimely, Makes, Mark, MayTake, Op, Outcome, Passes, Requests, Running, Setup, Standing, Starts, Step, Takes, TakesEffect, Timeline, World, and_from, both_ways, change_of, effect_of, entry_of, eqb-true, event_grows, false_from_ne_true, files_at, has_ended, has_started, is_running, look, made_in, mark_by, operation_at, operation_of, operation_running, option_map, passed, plain, requests_in, requests_of, sound_of, start_mark, taken_by, taken_of, taking, took, with_issued_end, with_taken, without, world}
+use Rattle.uring_effect_points.proofs.Common.{Answer, CalledForApart, Change, Ends, EndsAsTaken, EndsBy, FileContents, History, Idle, IsLawfulApart, IsOutcome, IsTimely, Makes, Mark, MarkStanding, MayTake, Op, Outcome, Passes, Requests, Running, Setup, Starts, Step, Takes, TakesEffect, Timeline, World, and_from, both_ways, change_of, effect_of, entry_of, eqb-true, event_grows, false_from_ne_true, files_at, has_ended, has_started, is_running, look, made_in, mark_by, operation_at, operation_of, operation_running, option_map, passed, plain, requests_in, requests_of, sound_of, start_mark, taken_by, taken_of, taking, took, with_issued_end, with_taken, without, world}
 use Rattle.std.proofs.Math.Bool.{and-false}
 use Rattle.uring_files.proofs.DoneLemmas.{left_snoc}
 use Rattle.uring_core.specs.declared.step.Step.TheVariants as step
@@ -42,7 +42,7 @@ abbrev pub standing_at : Requests → Option Outcome → ℕ → Option Running
 standing_at r taken n = one_of (is_running r n) n (operation_of (entry_of r n)) taken
 
 -- The search's standing is that after a timeline.
-pub record Stands (g : Setup) (t : Timeline) (s : Standing) : Type 0 where
+pub record Stands (g : Setup) (t : Timeline) (s : MarkStanding) : Type 0 where
   pub files : s.files ≡ map plain (files_at g t)
   pub running : (n : ℕ) → look s.running n ≡ standing_at (requests_in g t) (effect_of t n) n
 
@@ -79,7 +79,7 @@ unstarted_free g t n timely lawful idle = by (effect_of t n) refl where
 
 -- ---- after an event
 
-passed_files : (s : Standing) (m : Mark) → (passed s m).files ≡ s.files
+passed_files : (s : MarkStanding) (m : Mark) → (passed s m).files ≡ s.files
 passed_files s m = grind arith
 
 -- a request of the same entry stands as before, if it runs as before
@@ -119,7 +119,7 @@ start_from r _ a k op mark = absurd cc
 
 -- ---- after a mark
 
-module _ (g : Setup) (t : Timeline) (st : Standing) (s : Step) (a : Answer) where
+module _ (g : Setup) (t : Timeline) (st : MarkStanding) (s : Step) (a : Answer) where
   after_idle : Stands g t st → IsLawfulApart g ((s, a) ∷ made_in t)
       → ((n : ℕ) → is_running (requests_in g (Makes (s, a) ∷ t)) n ≡ is_running (requests_in g t) n)
       → (n : ℕ) → look st.running n ≡ standing_at (requests_in g (Makes (s, a) ∷ t)) (effect_of t n) n
@@ -168,7 +168,7 @@ module _ (g : Setup) (t : Timeline) (st : Standing) (s : Step) (a : Answer) wher
       let facts : (is_running (requests_in g t) m ≡ false) × (has_ended (requests_in g t) m ≡ false) = subst (λ (x : Answer). StartFacts (requests_in g t) (step.Issue m) x) start.answer_is (subst (λ (x : Step). StartFacts (requests_in g t) x a) start.step_is (start_facts g (world g (made_in t)) s a (change_of g (world g (made_in t)) s a lawful.0))) in
       after_start m op stands lawful facts.0 (unstarted_free g t m timely lawful.1 (false_from_ne_true _ (λ started. both_ways _ facts.0 (and_from _ _ started (ap not facts.1))))) start.asks (runs_so lawful is) n
 
-pub stands_makes : (g : Setup) (t : Timeline) (st : Standing) (s : Step) (a : Answer) → IsTimely g t → Stands g t st
+pub stands_makes : (g : Setup) (t : Timeline) (st : MarkStanding) (s : Step) (a : Answer) → IsTimely g t → Stands g t st
     → IsLawfulApart g ((s, a) ∷ made_in t)
     → Stands g (Makes (s, a) ∷ t) (passed st (mark_by (requests_in g (Makes (s, a) ∷ t)) (s, a)))
 stands_makes g t st s a timely stands lawful = record {
@@ -182,12 +182,12 @@ taken_one : (b : Bool) (n m : ℕ) (op : Op) (o : Outcome) (taken : Option Outco
     → option_map (λ r. taking m o r) (one_of b n op taken) ≡ one_of b n op (if m == n then Some o else taken)
 taken_one b n m op o taken = grind arith
 
-pub stands_takes : (g : Setup) (t : Timeline) (st : Standing) (n : ℕ) (o : Outcome) → Stands g t st
+pub stands_takes : (g : Setup) (t : Timeline) (st : MarkStanding) (n : ℕ) (o : Outcome) → Stands g t st
     → is_running (requests_in g t) n ≡ true → Stands g (Takes n o ∷ t) (took st n o)
 stands_takes g t st n o stands ran = grind (arith, after_plain, left_snoc, look_taken, taken_one)
 
 -- an effect that a search has is one of the timeline
-pub takes_effect : (g : Setup) (t : Timeline) (st : Standing) (marks : List Mark) (n : ℕ) (o : Outcome) → Stands g t st
+pub takes_effect : (g : Setup) (t : Timeline) (st : MarkStanding) (marks : List Mark) (n : ℕ) (o : Outcome) → Stands g t st
     → MayTake st marks n o → TakesEffect g t n o
 takes_effect g t st marks n o stands may =
     let r = runs_one (is_running (requests_in g t) n) n (operation_at g t n) may.op (effect_of t n) _ (sym (stands.running n) ∙ may.runs) in
@@ -208,13 +208,13 @@ ended_by : (taken : Option Outcome) (res : ℤ) (bytes : List ℕ)
 ended_by taken res bytes ends = grind arith
 
 -- what passes the mark of an end ends as it was taken
-pub ends_so : (g : Setup) (t : Timeline) (st : Standing) (s : Step) (a : Answer) → Stands g t st
+pub ends_so : (g : Setup) (t : Timeline) (st : MarkStanding) (s : Step) (a : Answer) → Stands g t st
     → Passes st.running (mark_by (requests_in g (Makes (s, a) ∷ t)) (s, a)) → EndsAsTaken t (s, a)
 ends_so g t st (step.Finish n) (answer.Ended res bytes) stands passes =
     taken_one_of (is_running (requests_in g t) n) n (operation_at g t n) (effect_of t n) (record { res = res; bytes = bytes }) (ap taken_of (sym (stands.running n)) ∙ ended_by (taken_by st.running n) res bytes passes)
 ends_so g t st _ a stands passes = tt
 
-pub passes_so : (g : Setup) (t : Timeline) (st : Standing) (s : Step) (a : Answer) → Stands g t st
+pub passes_so : (g : Setup) (t : Timeline) (st : MarkStanding) (s : Step) (a : Answer) → Stands g t st
     → CalledForApart g (world g (made_in t)) s a
     → EndsAsTaken t (s, a) → Passes st.running (mark_by (requests_in g (Makes (s, a) ∷ t)) (s, a))
 passes_so g t st s a stands called ends = grind arith

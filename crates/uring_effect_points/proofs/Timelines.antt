@@ -1,6 +1,6 @@
 -- A search's moves are a timeline of the history, and a timeline whose effects wait is moves of the search.
 use Rattle.std.proofs.Common.{◌≡◌, ◌==◌, ℕ, ℤ, Bool, true, false, List, [], ◌∷◌, ◌++◌, Option, Some, None, if◌then◌else◌, refl, sym, ap, subst, ◌∙◌, append-nil, arith}
-use Rattle.uring_effect_points.proofs.Common.{Answer, EffectsWait, End, EndsAsTaken, EndsLast, Event, Fate, FileContents, FitsEnd, Goes, History, IsFated, IsFound, IsLawfulApart, IsLawfulEarly, IsLawfulLate, IsOutcome, IsTimely, IsWalk, Makes, Mark, MayTake, Move, Op, Outcome, Pass, Passes, Setup, Standing, Step, Take, Takes, TakesEffect, Timeline, at_first, awaits, effect_of, end_in, ends_in_effect, eq-eqb, false≢true, files_at, found_by, history_of, history_of_cons, is_end_of, made_in, mark_by, marks_after, operation_at, operation_running, passed, requests_in, reverse, reverse-reverse, start_mark, took}
+use Rattle.uring_effect_points.proofs.Common.{Answer, EffectsWait, End, EndsAsTaken, EndsLast, Event, Fate, FileContents, FitsEnd, Goes, History, IsFated, IsFound, IsLawfulApart, IsLawfulEarly, IsLawfulLate, IsOutcome, IsTimely, IsWalk, Makes, Mark, MarkStanding, MayTake, Move, Op, Outcome, Pass, Passes, Setup, Step, Take, Takes, TakesEffect, Timeline, at_first, awaits, effect_of, end_in, ends_in_effect, eq-eqb, false≢true, files_at, found_by, history_of, history_of_cons, is_end_of, made_in, mark_by, marks_after, operation_at, operation_running, passed, requests_in, reverse, reverse-reverse, start_mark, took}
 use Rattle.uring_core.specs.declared.step.Step.TheVariants as step
 use Rattle.uring_core.specs.declared.answer.Answer.TheVariants as answer
 use Rattle.uring_core.proofs.Running.{running_asks}
@@ -33,7 +33,7 @@ record HasTimeline (g : Setup) (h : History) : Type 0 where
   made : made_in timeline ≡ h
   timely : IsTimely g timeline
 
-by_moves : (g : Setup) (moves : List Move) (later : List Event) (t : Timeline) (st : Standing)
+by_moves : (g : Setup) (moves : List Move) (later : List Event) (t : Timeline) (st : MarkStanding)
     → IsWalk st (marks_after g (made_in t) later) moves → Stands g t st → IsTimely g t
     → IsLawfulApart g (onto (made_in t) later) → HasTimeline g (onto (made_in t) later)
 by_moves g [] [] t st walk stands timely lawful = record { timeline = t; made = refl; timely = timely }
@@ -56,7 +56,7 @@ lawful_by g events lawful goes =
 -- ---- a timeline is moves
 
 -- the standing of a search after a timeline
-abbrev standing_of : Setup → Timeline → Standing
+abbrev standing_of : Setup → Timeline → MarkStanding
 standing_of g [] = at_first g.files
 standing_of g (Makes e ∷ t) = passed (standing_of g t) (mark_by (requests_in g (Makes e ∷ t)) e)
 standing_of g (Takes n o ∷ t) = took (standing_of g t) n o
@@ -87,12 +87,12 @@ abbrev EndsSo : Setup → Timeline → List Event → Type 0
 EndsSo g t later = (n : ℕ) (o : Outcome) → effect_of t n ≡ Some o
     → FitsEnd (end_in (marks_after g (made_in t) later) n) o
 
-waits_by : (g : Setup) (t : Timeline) (st : Standing) (later : List Event) → Stands g t st → EndsNext t later
+waits_by : (g : Setup) (t : Timeline) (st : MarkStanding) (later : List Event) → Stands g t st → EndsNext t later
     → awaits st.running (marks_after g (made_in t) later) ≡ true
 waits_by g t st later stands next = grind arith
 
 -- an effect of the timeline is one that a search has
-may_take : (g : Setup) (t : Timeline) (st : Standing) (later : List Event) (n : ℕ) (o : Outcome) → Stands g t st
+may_take : (g : Setup) (t : Timeline) (st : MarkStanding) (later : List Event) (n : ℕ) (o : Outcome) → Stands g t st
     → IsLawfulApart g (made_in t) → TakesEffect g t n o → EndsNext t later
     → FitsEnd (end_in (marks_after g (made_in t) later) n) o
     → MayTake st (marks_after g (made_in t) later) n o
@@ -137,11 +137,11 @@ ends_before g (step.Issue k) answer.Run t later ends so n o taken =
     subst (λ (x : Option End). FitsEnd x o) (sym (start_ends k n (operation_running (requests_in g (Makes (step.Issue k, answer.Run) ∷ t)) k) (marks_after g ((step.Issue k, answer.Run) ∷ made_in t) later))) (so n o taken)
 ends_before g _ a t later ends so n o taken = so n o taken
 
-goes_pass : (st : Standing) (m : Mark) (marks : List Mark) → Passes st.running m → Goes (passed st m) marks
+goes_pass : (st : MarkStanding) (m : Mark) (marks : List Mark) → Passes st.running m → Goes (passed st m) marks
     → Goes st (m ∷ marks)
 goes_pass st m marks passes later = record { moves = Pass ∷ later.moves; walk = (passes, later.walk) }
 
-goes_take : (st : Standing) (marks : List Mark) (n : ℕ) (o : Outcome) → MayTake st marks n o
+goes_take : (st : MarkStanding) (marks : List Mark) (n : ℕ) (o : Outcome) → MayTake st marks n o
     → Goes (took st n o) marks → Goes st marks
 goes_take st [] n o may later = record { moves = Take n o ∷ later.moves; walk = (may, later.walk) }
 goes_take st (m ∷ marks) n o may later = record { moves = Take n o ∷ later.moves; walk = (may, later.walk) }

@@ -43,22 +43,22 @@ abbrev pub with_taken : List Running → ℕ → Outcome → List Running
 with_taken running n o = map (λ one. taking n o one) running
 
 -- How files and operations stand before a mark.
-pub record Standing : Type 0 where
+pub record MarkStanding : Type 0 where
   pub files : List FileContents
   pub running : List Running
 
-abbrev pub at_first : ℕ → Standing
+abbrev pub at_first : ℕ → MarkStanding
 at_first count = record { files = empty_files count; running = [] }
 
 -- after a mark
-abbrev pub passed : Standing → Mark → Standing
+abbrev pub passed : MarkStanding → Mark → MarkStanding
 passed s (Starts n op) =
     record s { running = s.running ++ record { number = n; op = op; taken = None } ∷ [] }
 passed s (Ends n e) = record s { running = without s.running n }
 passed s Idle = s
 
 -- after an effect
-abbrev pub took : Standing → ℕ → Outcome → Standing
+abbrev pub took : MarkStanding → ℕ → Outcome → MarkStanding
 took s n o =
     record {
       files = map plain (after s.files (op_of (look s.running n)) o.res);
@@ -101,7 +101,7 @@ awaits running (Ends n e ∷ marks) = not (is_some (taken_by running n))
 awaits running marks = false
 
 -- An operation may take effect here: it runs and has taken none, the end of one that has taken none is next, the files call for the outcome, and it may end so.
-pub record MayTake (s : Standing) (marks : List Mark) (n : ℕ) (o : Outcome) : Type 0 where
+pub record MayTake (s : MarkStanding) (marks : List Mark) (n : ℕ) (o : Outcome) : Type 0 where
   pub op : Op
   pub runs : look s.running n ≡ Some (record { number = n; op = op; taken = None })
   pub asks : IsForFiles op
@@ -114,7 +114,7 @@ pub data Move : Type 0 where
   Take : (n : ℕ) → (outcome : Outcome) → Move
 
 -- these moves, in order, lead past all marks
-abbrev pub IsWalk : Standing → List Mark → List Move → Type 0
+abbrev pub IsWalk : MarkStanding → List Mark → List Move → Type 0
 IsWalk s marks [] = marks ≡ []
 IsWalk s [] (Pass ∷ later) = ⊥
 IsWalk s (mark ∷ marks) (Pass ∷ later) =
@@ -122,6 +122,6 @@ IsWalk s (mark ∷ marks) (Pass ∷ later) =
 IsWalk s marks (Take n o ∷ later) = MayTake s marks n o × IsWalk (took s n o) marks later
 
 -- some moves do
-pub record Goes (s : Standing) (marks : List Mark) : Type 0 where
+pub record Goes (s : MarkStanding) (marks : List Mark) : Type 0 where
   pub moves : List Move
   pub walk : IsWalk s marks moves

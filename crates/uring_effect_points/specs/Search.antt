@@ -6,11 +6,11 @@ use Rattle.uring_effect_points.specs.declared.search.Fate.{Fate}
 use Rattle.uring_effect_points.specs.declared.search.Fate.TheVariants.{Explained, Over, Open}
 use Rattle.uring_effect_points.specs.declared.state.State.{State}
 use Rattle.uring_effect_points.specs.declared.takers.Taker.{Taker}
-use Rattle.uring_effect_points.specs.Moves.{Standing, Goes, MayTake, Passes, at_first, awaits, passed, took, plain}
+use Rattle.uring_effect_points.specs.Moves.{MarkStanding, Goes, MayTake, Passes, at_first, awaits, passed, took, plain}
 
 -- How files and operations stand before the mark of this place.
 pub record Seat : Type 0 where
-  pub standing : Standing
+  pub standing : MarkStanding
   pub place : ℕ
 
 abbrev pub seat_of : State → Seat
@@ -76,7 +76,7 @@ abbrev pub MayTakeAt : List Mark → Seat → Taker → Type 0
 MayTakeAt marks s x = MayTake s.standing (left_at marks s) x.number x.outcome
 
 -- these are the operations that may take effect here, with their outcomes
-pub record AreTakers (s : Standing) (marks : List Mark) (takers : List Taker) : Type 0 where
+pub record AreTakers (s : MarkStanding) (marks : List Mark) (takers : List Taker) : Type 0 where
   pub right : (x : Taker) → Contains takers x → MayTake s marks x.number x.outcome
   pub all : (x : Taker) → MayTake s marks x.number x.outcome → Contains takers x
 

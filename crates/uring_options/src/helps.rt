@@ -102,16 +102,17 @@ The first line may say the set-up, which then counts in place of the options:
 and --stop, --linux or both after it. One that begins with # setup and is no such line is bad.
 
 With --all the lines after a wrong one are looked at too, and each wrong one is
-told: the one answer that was called for counts as given, and if there are more
+told. The one answer that was called for then counts as given; if there are more
 than one, the step counts as not made. A bad line ends the check even so.
 
 With --apart the trace is that of a ring without files: a running request may
 end with any result, ended RES, and no data is given: reap = cqe UD RES -. What
 is wanted there is: an end. With --results that is so too, but it ends with what
-its operation may give: 0 of a no-op, 0 or an error of an fsync, 0 to the length
-or an error of a read or a write. An error is -1 to -4095, and not -125. What is
-wanted there is of the form: a result of a write of 5. A completion may have data,
-at most as many bytes as its result says, which aren't judged: reap = cqe 1 2 6162.
+its operation may give. That is 0 of a no-op, 0 or an error of an fsync, and 0 to
+the length or an error of a read or a write. An error is -1 to -4095, and not
+-125. What is wanted there is of the form: a result of a write of 5. A completion
+may have data, at most as many bytes as its result says, which aren't judged:
+reap = cqe 1 2 6162.
 
 With --early-effects each operation takes effect at some moment between its issue
 and its finish, and not at the finish alone. Such moments are looked for, so that
@@ -187,7 +188,7 @@ the status is then 4. It is 2 if there is no such file.";
 /// What `uring outcomes` writes, for its help.
 pub(crate) const CLAIMS: &str = "\
 Calls are those of play. Each outcome is a line: the completions that some order
-posts, and no others, with a comma and a blank between, or none; the lines are
+posts, and no others, with a comma and a blank between, or none. The lines are
 sorted by their bytes, and then comes how many they are:
   cqe 1 0 -, cqe 2 0 -
   cqe 2 0 -, cqe 1 0 -
@@ -225,8 +226,8 @@ chains. If more than 1000 images may be left of a file, the status is 3.";
 pub(crate) const SEEN: &str = "\
 Lines are those of check --apart, but without the steps that can't be seen from
 outside: issue, finish and flush. They are put in, so that each answer is called
-for by the lines before it, each running request ends as its operation may, all
-requests have ended at the end, and all their completions were reaped:
+for by the lines before it. At the end all requests have ended, and all their
+completions were reaped. Each running request ends as its operation may:
   a no-op with 0; an fsync with 0 or an error; a read or a write with 0 to its
   length or an error; -125 is nobody's own error
 The history is written as check --apart reads it, and the status is 0.
