@@ -24,6 +24,7 @@ use crate::settling::settled_rest;
 use crate::simulator::{break_chain, simulate};
 use crate::submissions::{submit, submit_to_machine};
 use bitflags::Flags;
+use std::alloc::{AllocError, Global};
 use std::io::Read;
 use std::process::ExitCode;
 use uring_machine::{Answer, Core, Cqe, Machine, Setup, Sqe, SqeFlags, Step};
@@ -134,14 +135,15 @@ fn write_and_sync() -> [Step; 10] {
 
 /// Two chains on a disk whose block 4 is bad.
 fn show_simulation(rt: &HostRuntime, setup: &Setup) -> bool {
-    match Core::new(rt.alloc(), setup) {
-        Ok(mut core) => {
-            let printed = show_simulation_of(rt, &mut core);
-            drop(core);
-            printed
-        }
-        Err(_) => false,
-    }
+    show_on_core(rt, rt.alloc(), setup).unwrap_or(false)
+}
+
+/// The same on a new core of this set-up. `AllocError`: memory was refused.
+fn show_on_core(rt: &HostRuntime, alloc: Global, setup: &Setup) -> Result<bool, AllocError> {
+    let mut core = Core::new(alloc, setup)?;
+    let printed = show_simulation_of(rt, &mut core);
+    drop(core);
+    Ok(printed)
 }
 
 fn show_simulation_of(rt: &HostRuntime, core: &mut Core) -> bool {
