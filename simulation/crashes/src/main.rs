@@ -104,8 +104,15 @@ impl Pair {
     /// Ends something by any number, also by one that doesn't run.
     fn end(&mut self, rng: &mut Rng) -> Result<(), Difference> {
         let number = rng.below(self.file.next + 1);
-        let (model, volume) = match rng.below(6) {
-            0..=2 => (self.file.end_write(number), self.volume.end_write(number)),
+        let (model, volume) = match rng.below(7) {
+            0..=2 => (
+                self.file.end_write(number, End::Success),
+                self.volume.end_write(number),
+            ),
+            6 => (
+                self.file.end_write(number, End::Failure),
+                self.volume.fail_write(number),
+            ),
             3..=4 => (
                 self.file.end_sync(number, End::Success),
                 self.volume.end_sync(number),
