@@ -100,8 +100,8 @@ static void units(void)
     check(wulgach_volume_free(&volume) == 0, "free");
 }
 
-/* Any part of a write that failed may be left, under each that began later; what a short one moved is
- * a write of its own. */
+/* Any part of a write that failed may be left, under each that began later; what a short one moved
+ * is a write of its own. */
 static void failed_writes(void)
 {
     struct wulgach_volume volume = made(1, "....");
@@ -119,7 +119,8 @@ static void failed_writes(void)
     check(LEAVES(&volume, "bb..", 0, 2, 0, 2, 0, 0), "the later write alone");
     check(LEAVES(&volume, "bbaa", 0, 1, 2, 0, 1, 2, 0, 1, 0, 1), "under the later write");
     check(LEAVES(&volume, "bb..", 0, 2, 1, 0, 2, 1), "what has failed doesn't come after it");
-    check(wulgach_volume_fold(&volume) == 0 && is_safe(&volume, b), "what lies over it in part stays");
+    check(wulgach_volume_fold(&volume) == 0 && is_safe(&volume, b),
+        "what lies over it in part stays");
     uint64_t c = written(&volume, 0, "cccc");
     check(wulgach_volume_end_write(&volume, c) == 0, "all of it written again");
     s = synced(&volume);
@@ -260,9 +261,9 @@ static void empty_places(void)
     check(wulgach_volume_begin_sync(&volume, &number) == -9, "begin a sync in an empty place");
     check(wulgach_volume_begin_range_sync(&volume, 0, 1, &number) == -9,
         "begin a sync of a range in an empty place");
-    check(wulgach_volume_end_write(&volume, 1) == -9 && wulgach_volume_fail_write(&volume, 1) == -9 &&
-              wulgach_volume_end_sync(&volume, 1) == -9 &&
-              wulgach_volume_fail_sync(&volume, 1) == -9,
+    check(
+        wulgach_volume_end_write(&volume, 1) == -9 && wulgach_volume_fail_write(&volume, 1) == -9 &&
+            wulgach_volume_end_sync(&volume, 1) == -9 && wulgach_volume_fail_sync(&volume, 1) == -9,
         "ends in an empty place");
     check(wulgach_volume_is_safe(&volume, 1, &safe) == -9, "is_safe of an empty place");
     check(wulgach_volume_contents(&volume, &byte, 1, &number) == -9, "contents of an empty place");
