@@ -36,9 +36,12 @@ int32_t wulgach_volume_new(
 int32_t wulgach_volume_begin_write(struct wulgach_volume *volume, uint64_t off,
     const uint8_t *bytes, size_t len, uint64_t *number);
 
-/* Ends write number. A write that failed is best left running: then any part of it may be found. -2
- * exactly if it doesn't run. */
+/* Ends write number with success, or with a failure: any part of it may then be found, no sync
+ * makes it safe, and each write that begins later lies over it. A write that ended short has
+ * failed, and what it moved is a write of its own, begun and ended at once. -2 exactly if it
+ * doesn't run. */
 int32_t wulgach_volume_end_write(struct wulgach_volume *volume, uint64_t number);
+int32_t wulgach_volume_fail_write(struct wulgach_volume *volume, uint64_t number);
 
 /* Begins a sync of the whole file, or of len bytes from off on, and writes its number. An fdatasync
  * is a sync too: it leaves out what no read of the file needs. */

@@ -7,7 +7,6 @@ pub mod Counting
 pub mod Parts
 pub mod Flat
 pub mod Taking
-pub mod Sorting
 pub mod Results
 -- The laws of what a crash may leave:
 pub mod Narrower

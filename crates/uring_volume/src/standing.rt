@@ -5,22 +5,22 @@ ghost use Rattle.uring_volume.specs.Events as spec;
 
 use crate::event::{Event, Piece, SyncRange};
 
-/// Whether write `m` is before write `n`: it had ended when that was issued. The events are in order, the oldest first; it looks at each once.
+/// Whether write `m` is before write `n`: it had ended, or failed, when that was issued. The events are in order, the oldest first; it looks at each once.
 pub fn is_before(events: &[Event], m: u64, n: u64) -> bool
     ensures { result ≡ spec.is_before (reverse events.now) m n }
 {
-    let mut ended = false;
+    let mut done = false;
     let mut before = false;
     for event in events {
         match event {
             Event::WriteIssued(piece) => {
-                if piece.number() == n && ended {
+                if piece.number() == n && done {
                     before = true;
                 }
             }
-            Event::WriteEnded(number) => {
+            Event::WriteEnded(number) | Event::WriteFailed(number) => {
                 if *number == m {
-                    ended = true;
+                    done = true;
                 }
             }
             _ => {}

@@ -192,6 +192,7 @@ extern "C" {
         number: *mut u64,
     ) -> i32;
     pub fn wulgach_volume_end_write(volume: *mut Place, number: u64) -> i32;
+    pub fn wulgach_volume_fail_write(volume: *mut Place, number: u64) -> i32;
     pub fn wulgach_volume_begin_sync(volume: *mut Place, number: *mut u64) -> i32;
     pub fn wulgach_volume_begin_range_sync(
         volume: *mut Place,

@@ -21,7 +21,7 @@ impl Volume {
     ghost use Rattle.uring_volume.specs.Folds.{IsFoldedFrom};
     ghost use Rattle.uring_volume.specs.declared.volume.ImagesError.TheVariants.{TooMany};
 
-    /// What holds of each volume, for the proofs of callers: a write has a number of its own, below the next one, and ends after it was issued.
+    /// What holds of each volume, for the proofs of callers: a write has a number of its own, below the next one, and ends or fails once, after it was issued.
     pub fn is_sound(&self)
         ensures { IsSound self.now }
     {
@@ -49,7 +49,7 @@ impl Volume {
         self.past.end_of(n)
     }
 
-    /// The bytes that a read of the whole file shows: the first ones with the writes over them that have ended, in the order of their ends.
+    /// The bytes that a read of the whole file shows: the first ones with the writes over them that have ended with success, in the order of their ends.
     pub fn contents(&self, alloc: Global) -> Result<Vec<u8>, AllocError>
         ensures { IfOk result (λ now. IsShown self.now.first self.now.history now.items) }
     {

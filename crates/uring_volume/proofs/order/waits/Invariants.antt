@@ -1,6 +1,6 @@
 use Rattle.std.proofs.Common.{◌≡◌, false, map, take}
 use Rattle.uring_volume.specs.Choices.{waits_for_one}
-use Rattle.uring_volume.proofs.order.has_one_before.Given as goal
+use Rattle.uring_volume.proofs.order.waits.Given as goal
 
 abbrev pub invariant-loop-piece : goal.invariant-loop-piece
 invariant-loop-piece l =
