@@ -110,6 +110,7 @@ impl Volume {
     /// # Ok(())
     /// # }
     /// ```
+    #[must_use]
     pub fn fail_write(&mut self, number: u64) -> bool {
         // SAFETY: as in `begin_write`.
         unsafe { ffi::wulgach_volume_fail_write(self.place.get_mut(), number) == 0 }
