@@ -23,3 +23,10 @@ returns-in-Ok-clause-not_plain g c =
     c.keeps.ensures.no c.if-keeps.false within c.volume-volume.result.now.history c.volume-volume.result.now.next c.writes.ensures
     (subst (λ (e : volume.History). IsPlain e c.args.off c.args.bytes.now) (sym told) plain))
     c.find_in.ensures.found
+
+pub returns-in-Err-TooMany-clause-not_plain : goal.returns-in-Err-TooMany-clause-not_plain
+returns-in-Err-TooMany-clause-not_plain g c = λ is within unit setup fd h w plain.
+    let same = c.volume-volume.ensures ∙ ap (λ (l : Log). l.volume) c.log.ensures in
+    let told = told_of unit setup fd _ _ h c.volume-volume.result.now.history w (ap (λ (v : Volume). v.history) same) in
+    c.keeps.ensures.no c.if-keeps.false within c.volume-volume.result.now.history c.volume-volume.result.now.next c.writes.ensures
+    (subst (λ (e : volume.History). IsPlain e c.args.off c.args.bytes.now) (sym told) plain)
