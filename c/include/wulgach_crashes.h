@@ -168,6 +168,12 @@ int32_t wulgach_crash_machine_count_images(
 int32_t wulgach_crash_machine_images(struct wulgach_crash_machine *machine, int32_t fd,
     uint8_t *bytes, size_t room, uint64_t *lens, size_t most, uint64_t *count, uint64_t *total);
 
+/* Gives memory back: folds the volume of each file. What a crash may leave stays as it was, whatever
+ * happens later, and so do all answers. A write that is gone has no number any more, so that
+ * `is_safe` is false of its request: ask before. -131 exactly if the machine is lost; -12 if memory
+ * was refused: then some of this may be left for another call. */
+int32_t wulgach_crash_machine_fold(struct wulgach_crash_machine *machine);
+
 /* The power fails: puts the machine of the next epoch into another place, empty or not. Each file
  * is left by a choice of its own: their numbers are given one after another, with the length of
  * each choice. One that is missing is empty, and one too many says nothing. To crash by a seed,

@@ -94,6 +94,9 @@ safe_ended (WriteEnded k ∷ earlier) w is = grind (arith, (safe_ended earlier w
 safe_ended (SyncEnded t ∷ earlier) w is = grind (arith, covered_ended, or_cases, and_parts, (safe_ended earlier w))
 safe_ended (e ∷ earlier) w is = safe_ended earlier w is
 
+pub unended_never_safe : (h : History) (w : Write) → has_ended h w.number ≡ false → is_safe h w ≡ false
+unended_never_safe h w out = false_from_ne_true (is_safe h w) (λ is. both_ways (has_ended h w.number) out (safe_ended h w is))
+
 -- What may be left of some writes, wherever they lie.
 
 pub record FitsIn (h : History) (rest order : List Write) : Type 0 where

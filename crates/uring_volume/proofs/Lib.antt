@@ -40,5 +40,6 @@ pub mod EndOrder
 pub mod KeptCounts
 pub mod IssuedWays
 pub mod KeptFolds
+pub mod FoldedEvents
 -- A count passes over what no write touches:
 pub mod Skipping

@@ -46,6 +46,11 @@ pub record Stands (h : History) (next : ℕ) (k : Kept) : Type 0 where
   pub given_up : is_given_up h k.piece ≡ k.failed_yet
   pub safe : is_safe h k.piece ≡ k.safe_yet
 
+-- These are the writes of a history, the oldest first, and each stands as it says.
+pub record AreTheWrites (h : History) (next : ℕ) (kept : List Kept) : Type 0 where
+  pub pieces : map (λ k. k.piece) kept ≡ issued h
+  pub stand : (k : Kept) → IsIn k kept → Stands h next k
+
 -- Which of the writes that are kept a sync that runs covers and reaches.
 pub record Touches (h : History) (k : Kept) (s : Running) : Type 0 where
   pub covered : is_covered h s.number k.piece ≡ (had_ended k s.number && lies_in s.range k.piece)

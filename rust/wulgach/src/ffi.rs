@@ -298,6 +298,7 @@ extern "C" {
         lens: *const u64,
         count: usize,
     ) -> i32;
+    pub fn wulgach_crash_machine_fold(machine: *mut Place) -> i32;
     pub fn wulgach_crash_machine_free(machine: *mut Place) -> i32;
     pub fn wulgach_outcomes_new(
         outcomes: *mut Place,
