@@ -8,19 +8,16 @@ ghost use Rattle.uring_volume.specs.Listing.{ListsAreAsLong};
 ghost use Rattle.uring_volume.specs.Folds.{FoldChangesNone, LettingGoChangesNone};
 
 /// A safe write is read back after each crash, if each other write that overlaps it had ended, or failed, when it was issued.
-#[tactic(auto, using(crate::proofs::ReadBack::read_back))]
 pub fn safe_is_read_back()
     ensures { SafeIsReadBack }
 {}
 
 /// The end of a sync with success takes images away and adds none, whatever happens later.
-#[tactic(auto, using(crate::proofs::Narrower::sync_adds_none))]
 pub fn sync_adds_none()
     ensures { SyncAddsNone }
 {}
 
 /// Until the next write is issued or sync ends with success, nothing changes what a crash may leave: no end of a write, no failure of one, no issue of a sync and no failure of one.
-#[tactic(auto, using(crate::proofs::Narrower::end_changes_none, crate::proofs::Narrower::issue_changes_none, crate::proofs::Narrower::failure_changes_none, crate::proofs::Narrower::write_failure_changes_none))]
 pub fn others_change_none()
     ensures write_ends { (n : ℕ) → ChangesNone (WriteEnded n) }
     ensures write_fails { (n : ℕ) → ChangesNone (WriteFailed n) }
@@ -37,38 +34,32 @@ pub fn failed_is_never_safe()
 {}
 
 /// An image of larger units is one of each smaller size that divides theirs.
-#[tactic(auto, using(crate::proofs::Units::smaller_units))]
 pub fn smaller_units_allow_it()
     ensures { SmallerUnitsAllowIt }
 {}
 
 /// If each write is safe, and of two that overlap one was done when the other was issued, a crash leaves one image.
-#[tactic(auto, using(crate::proofs::Rest::one_image))]
 pub fn rest_has_one_image()
     ensures { RestHasOneImage }
 {}
 
 /// Whatever numbers choose what is left, they leave an image; and each image is left by some numbers.
-#[tactic(auto, using(crate::proofs::Chosen::chosen_is_image, crate::proofs::Chosen::image_is_chosen))]
 pub fn choices_leave_the_images()
     ensures sound { ChosenIsImage }
     ensures complete { ImageIsChosen }
 {}
 
 /// Two lists of the images, each once, are as long: so many images there are.
-#[tactic(auto, using(crate::proofs::Counting::lists_are_as_long))]
 pub fn lists_are_as_long()
     ensures { ListsAreAsLong }
 {}
 
 /// A write that is safe, with which only safe ones go along, and that is before each other write of a byte of it, can be folded into the first bytes: the same images may be left, whatever happens later.
-#[tactic(auto, using(crate::proofs::Folding::fold_changes_none))]
 pub fn fold_changes_none()
     ensures { FoldChangesNone }
 {}
 
 /// A write all of whose bytes lie under a safe one that it is before can be let go: the same images may be left, whatever happens later.
-#[tactic(auto, using(crate::proofs::Folding::letting_go_changes_none))]
 pub fn letting_go_changes_none()
     ensures { LettingGoChangesNone }
 {}
