@@ -160,13 +160,6 @@ number_kept n k (p ∷ ps) = grind (arith, same_number, (number_kept n k ps))
 
 -- All that are kept.
 
-pub none_numbered : AreNumbered [] [] []
-none_numbered = record {
-  each = λ p among. absurd among;
-  all = λ k known. absurd (both_ways false refl known);
-  few = omega arith;
-}
-
 -- as one begins, and the history knows what it knew and the new number
 pub numbered_more : (n : ℕ) (q : List ℕ) (h now : History) (ps : List Numbered)
     → ((k : ℕ) → is_known k now ≡ true → (is_known k h ≡ true) ⊎ (k ≡ suc (length q)))
@@ -329,9 +322,6 @@ numbered_left q v ps next are =
     ]
 
 -- What isn't among these isn't there.
-
-pub unknown : (q : List ℕ) (h : History) (ps : List Numbered) (k : ℕ) → AreNumbered q h ps → has_number k ps ≡ false → is_known k h ≡ false
-unknown q h ps k are none = false_from_ne_true (is_known k h) (λ known. both_ways (has_number k ps) none (are.all k known))
 
 none_of : (h : History) (k : ℕ) → is_known k h ≡ false → list_any (λ (w : Write). w.number == k) (issued h) ≡ false
 none_of h k out = false_from_ne_true (list_any (λ (w : Write). w.number == k) (issued h)) (λ is. both_ways (is_known k h) out (or_left _ (is_one_of k (running_syncs h)) is))

@@ -204,20 +204,6 @@ folded_write_end old new n sound f runs =
       syncs_run = f.syncs_run;
     }) (shown_end old new n sound f runs))
 
--- a write fails
-pub folded_write_failure : (old new : Volume) (n : ℕ) → IsFoldedFrom old new
-    → IsFoldedFrom (with_event (WriteFailed n) old) (with_event (WriteFailed n) new)
-folded_write_failure old new n f =
-    same_next old new (WriteFailed n) f (folded_after old new (WriteFailed n) old.next f (record {
-      before = f.before;
-      have_ended = f.have_ended;
-      are_done = λ w among. ap (λ b. n == w.number || b) (f.are_done w among);
-      none_new = f.none_new;
-      gone = λ w among. gone_more old new (WriteFailed n) w f among;
-      writes_run = ap (but n) f.writes_run;
-      syncs_run = f.syncs_run;
-    }) f.shown)
-
 -- a sync ends, with success and with an error
 pub folded_sync_end : (old new : Volume) (s : ℕ) → IsFoldedFrom old new
     → IsFoldedFrom (with_event (SyncEnded s) old) (with_event (SyncEnded s) new)
