@@ -8,10 +8,10 @@ use Rattle.uring_ffi_values.proofs.machines.crash_machine_memory.crash_machine_f
 pub returns-then-is_lost : goal.returns-then-is_lost
 returns-then-is_lost g c = record { empty = (apart _ _ refl, some_not_none _ _ c.is_lost.ensures.lost); lost = (λ _. known_lost _ _ c.is_lost.ensures.lost c.if-is_lost.true, λ _. refl); results = λ _ _ lost. absurd (lost refl); refused = λ _ _. c.is_lost.ensures.kept; folded = λ _ lost. absurd (lost refl); none_left = apart _ _ refl; granted = λ _. apart _ _ refl }
 
-pub returns-in_default-folded : goal.returns-in_default-folded
-returns-in_default-folded g c =
+pub returns-in_default : goal.returns-in_default
+returns-in_default g c =
     let full = sym c.is_lost.ensures.kept ∙ c.take_full-machine.ensures.taken ∙ ap Some (sym c.deref_mut.ensures.value) in
-    record { empty = not_empty _ _ (neg_ℤ ENOMEM) full refl; lost = (apart _ _ refl, not_lost _ _ c.is_lost.ensures.lost c.if-is_lost.false); results = λ _ _ _. refl; refused = λ _ memory. absurd (memory refl); folded = λ _ _. both_some IsFoldedMachine _ _ _ _ full c.put.ensures c.in_default-folded.ensures.folded; none_left = apart _ _ refl; granted = λ all _. false≢true (c.in_default-folded.ensures.granted all) }
+    record { empty = not_empty _ _ (neg_ℤ ENOMEM) full refl; lost = (apart _ _ refl, not_lost _ _ c.is_lost.ensures.lost c.if-is_lost.false); results = λ _ _ _. refl; refused = λ _ memory. absurd (memory refl); folded = λ _ _. both_some IsFoldedMachine _ _ _ _ full c.put.ensures c.in_default.ensures.folded; none_left = apart _ _ refl; granted = λ all _. false≢true (c.in_default.ensures.granted all) }
 
 pub returns : goal.returns
 returns g c =
