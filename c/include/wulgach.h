@@ -41,7 +41,8 @@
  *   - malloc, realloc and free are one allocator, and align a block as C demands.
  *
  * Results. Each function but wulgach_setup_fault returns 0, or the negative of an error number; if
- * it isn't 0, nothing has changed, but for a `step` of a crash machine that returns -12:
+ * it isn't 0, nothing has changed, but for a `step` of a crash machine, or a `fold`, that returns
+ * -12:
  *   -9   (EBADF)   the place is empty. Returned by every function of a place but `new` and `on`,
  *                  and only then.
  *   -22  (EINVAL)  from `step`: the words give no step. From `new` and `on`: a number of the set-up
@@ -51,14 +52,14 @@
  *                  left.
  *   -12  (ENOMEM)  from `new` and `on`, from `submit` and `reap_all` of a core, from `begin_..`,
  *                  `contents`, `crash`, `count_images`, `images` and `fold` of a volume, and from
- *                  `step`, `crash`, `image`, `count_images` and `images` of a crash machine: memory
- *                  was refused.
+ *                  `step`, `fold`, `crash`, `image`, `count_images` and `images` of a crash
+ *                  machine: memory was refused.
  *   -27  (EFBIG)   from `begin_write`: the write would end above 2^63 - 1. From `images`: there are
  *                  more than room for their lengths. From `on`: a file is longer than 65,536 bytes.
  *   -2   (ENOENT)  from a function that reads: there is no such completion, request, outcome, file
  *                  or byte. From `end_..` and `fail_..` of a volume: no write or sync of this
  *                  number runs.
- *   -131 (ENOTRECOVERABLE)  from `step` and from all calls on what a crash leaves of a crash
+ *   -131 (ENOTRECOVERABLE)  from `step`, `fold` and all calls on what a crash leaves of a crash
  *                           machine: memory was refused for one of its steps.
  */
 #ifndef WULGACH_H

@@ -36,9 +36,12 @@ int32_t wulgach_volume_new(
 int32_t wulgach_volume_begin_write(struct wulgach_volume *volume, uint64_t off,
     const uint8_t *bytes, size_t len, uint64_t *number);
 
-/* Ends write number. A write that failed is best left running: then any part of it may be found. -2
- * exactly if it doesn't run. */
+/* Ends write number with success, or with a failure: any part of it may then be found, no sync
+ * makes it safe, and each write that begins later lies over it. A write that ended short has
+ * failed, and what it moved is a write of its own, begun and ended at once. -2 exactly if it
+ * doesn't run. */
 int32_t wulgach_volume_end_write(struct wulgach_volume *volume, uint64_t number);
+int32_t wulgach_volume_fail_write(struct wulgach_volume *volume, uint64_t number);
 
 /* Begins a sync of the whole file, or of len bytes from off on, and writes its number. An fdatasync
  * is a sync too: it leaves out what no read of the file needs. */
@@ -164,6 +167,12 @@ int32_t wulgach_crash_machine_count_images(
     struct wulgach_crash_machine *machine, int32_t fd, uint64_t *count);
 int32_t wulgach_crash_machine_images(struct wulgach_crash_machine *machine, int32_t fd,
     uint8_t *bytes, size_t room, uint64_t *lens, size_t most, uint64_t *count, uint64_t *total);
+
+/* Gives memory back: folds the volume of each file. What a crash may leave stays as it was, whatever
+ * happens later, and so do all answers. A write that is gone has no number any more, so that
+ * `is_safe` is false of its request: ask before. -131 exactly if the machine is lost; -12 if memory
+ * was refused: then some of this may be left for another call. */
+int32_t wulgach_crash_machine_fold(struct wulgach_crash_machine *machine);
 
 /* The power fails: puts the machine of the next epoch into another place, empty or not. Each file
  * is left by a choice of its own: their numbers are given one after another, with the length of

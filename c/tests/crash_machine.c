@@ -206,6 +206,38 @@ static void goes_on(void)
         "free");
 }
 
+/* A fold leaves what a crash may leave, what reads show, and what runs; a write that is gone isn't
+ * known any more, and a choice names the others. */
+static void folded(void)
+{
+    struct wulgach_crash_machine machine = made(1, ".."), next = {0};
+    submit(&machine, 4,
+        (struct wulgach_entry[]){
+            write_of(0, 0, "ab"), sync_of(0), write_of(0, 1, "c"), write_of(0, 2, "d")});
+    for (uint64_t number = 0; number < 3; number++) {
+        make(&machine, WULGACH_ISSUE, 0, number);
+        make(&machine, WULGACH_FINISH, 0, number);
+    }
+    make(&machine, WULGACH_ISSUE, 0, 3);
+    check(is_safe(&machine, 0, 0) && images(&machine, 0) == 6, "before a fold");
+    check(wulgach_crash_machine_fold(&machine) == 0 && images(&machine, 0) == 6 &&
+              has(&machine, 0, "ac"),
+        "a fold changes nothing that can be seen");
+    check(!is_safe(&machine, 0, 0), "a write that is gone isn't known");
+    check(leaves(&machine, 0, 1, (uint64_t[]){0}, "ab") &&
+              leaves(&machine, 0, 7, (uint64_t[]){3, 4, 0, 0, 3, 0, 4}, "acd"),
+        "what is left is named");
+    check(make(&machine, WULGACH_FINISH, 0, 3).res == 1 && has(&machine, 0, "acd"),
+        "what ran then goes on");
+    check(wulgach_crash_machine_crash(
+              &machine, &next, (uint64_t[]){3, 4, 0, 0, 3, 0, 4}, 7, (uint64_t[]){7}, 1) == 0 &&
+              has(&next, 0, "acd"),
+        "a crash after a fold");
+    check(wulgach_crash_machine_free(&machine) == 0 && wulgach_crash_machine_free(&next) == 0 &&
+              wulgach_crash_machine_fold(&next) == -9,
+        "free");
+}
+
 /* Every call at an empty place returns -9, and writes nothing. */
 static void empty_places(void)
 {
@@ -415,6 +447,7 @@ static void refused(void)
 int main(void)
 {
     covered();
+    folded();
     goes_on();
     empty_places();
     numbers();

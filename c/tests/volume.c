@@ -100,6 +100,36 @@ static void units(void)
     check(wulgach_volume_free(&volume) == 0, "free");
 }
 
+/* Any part of a write that failed may be left, under each that began later; what a short one moved
+ * is a write of its own. */
+static void failed_writes(void)
+{
+    struct wulgach_volume volume = made(1, "....");
+    uint64_t a = written(&volume, 0, "aaaa");
+    check(wulgach_volume_fail_write(&volume, a) == 0 && shows(&volume, "...."),
+        "a failed write isn't read");
+    check(wulgach_volume_fail_write(&volume, a) == -2 && wulgach_volume_end_write(&volume, a) == -2,
+        "a write ends once");
+    uint64_t b = written(&volume, 0, "bb"), count = 0;
+    check(wulgach_volume_end_write(&volume, b) == 0, "what was moved");
+    uint64_t s = synced(&volume);
+    check(wulgach_volume_end_sync(&volume, s) == 0 && !is_safe(&volume, a) && is_safe(&volume, b),
+        "a failed write is never safe");
+    check(wulgach_volume_count_images(&volume, &count) == 0 && count == 4, "each byte for itself");
+    check(LEAVES(&volume, "bb..", 0, 2, 0, 2, 0, 0), "the later write alone");
+    check(LEAVES(&volume, "bbaa", 0, 1, 2, 0, 1, 2, 0, 1, 0, 1), "under the later write");
+    check(LEAVES(&volume, "bb..", 0, 2, 1, 0, 2, 1), "what has failed doesn't come after it");
+    check(wulgach_volume_fold(&volume) == 0 && is_safe(&volume, b),
+        "what lies over it in part stays");
+    uint64_t c = written(&volume, 0, "cccc");
+    check(wulgach_volume_end_write(&volume, c) == 0, "all of it written again");
+    s = synced(&volume);
+    check(wulgach_volume_end_sync(&volume, s) == 0 && wulgach_volume_fold(&volume) == 0 &&
+              !is_safe(&volume, c) && LEAVES(&volume, "cccc", 0),
+        "a failed write is let go under a safe one");
+    check(wulgach_volume_free(&volume) == 0, "free");
+}
+
 /* A failed sync gives up what it reached; a sync of a range covers what lies in it whole. */
 static void failures_and_ranges(void)
 {
@@ -231,8 +261,9 @@ static void empty_places(void)
     check(wulgach_volume_begin_sync(&volume, &number) == -9, "begin a sync in an empty place");
     check(wulgach_volume_begin_range_sync(&volume, 0, 1, &number) == -9,
         "begin a sync of a range in an empty place");
-    check(wulgach_volume_end_write(&volume, 1) == -9 && wulgach_volume_end_sync(&volume, 1) == -9 &&
-              wulgach_volume_fail_sync(&volume, 1) == -9,
+    check(
+        wulgach_volume_end_write(&volume, 1) == -9 && wulgach_volume_fail_write(&volume, 1) == -9 &&
+            wulgach_volume_end_sync(&volume, 1) == -9 && wulgach_volume_fail_sync(&volume, 1) == -9,
         "ends in an empty place");
     check(wulgach_volume_is_safe(&volume, 1, &safe) == -9, "is_safe of an empty place");
     check(wulgach_volume_contents(&volume, &byte, 1, &number) == -9, "contents of an empty place");
@@ -323,6 +354,7 @@ int main(void)
 {
     covered();
     units();
+    failed_writes();
     failures_and_ranges();
     all_images();
     folded();

@@ -11,7 +11,6 @@ from conforming.machines import NO_RING, TOP, Here, NoMachine, NoRing, NoTrace, 
 from conforming.making import random_linux_scenario, random_scenario
 from conforming.runs import explain, judged
 from conforming.scenarios import Scenario, scenarios
-from conforming.shrinking import shortened
 
 AS_FORESEEN, DIFFERS, UNFORESEEN, UNEXPLAINED, APART, REFUSED, GAVE_UP, NOT_TRIED = (
     "as foreseen",
@@ -189,6 +188,22 @@ def is_unexplained(text, is_linux):
         )
     except (NoTrace, NoRing):
         return False
+
+
+def shortened(text, shows):
+    """The scenario without the lines that it shows the same without."""
+    lines = text.splitlines()
+    size = max(1, len(lines) // 2)
+    while size:
+        at = 0
+        while at < len(lines):
+            rest = lines[:at] + lines[at + size :]
+            if any(rest) and shows("\n".join(rest) + "\n"):
+                lines = rest
+            else:
+                at += size
+        size //= 2
+    return "\n".join(lines) + "\n"
 
 
 def shorter(outcome, is_linux):

@@ -7,7 +7,7 @@ from collections import Counter
 
 from conforming.requests import Requests
 from conforming.seen import item_of, statements_of
-from conforming.setup import Setup
+from conforming.scenarios import Setup
 
 sys.path.insert(
     0,

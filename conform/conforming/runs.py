@@ -8,7 +8,7 @@ from conforming.linux import BEYOND
 from conforming.linux_fill import LinuxFill
 from conforming.machines import NoTrace
 from conforming.seen import events_of
-from conforming.setup import Setup
+from conforming.scenarios import Setup
 
 MOST_HISTORIES = 500_000
 KINDS = {0: "lawful", 1: "unexplained", 3: "gave up"}

@@ -8,7 +8,7 @@ pub use Rattle.std.specs.Prelude.{IsTrue, codes, slice_index, string_bytes}
 pub use Rattle.uring_core.specs.Histories.{History, history_of, world}
 pub use Rattle.uring_crash.specs.Crashes.{Leaves, image_text, is_bad}
 pub use Rattle.uring_crash.specs.Following.{Followed, Following, Follows, HasFollowed, ReadsLine, TookLines}
-pub use Rattle.uring_crash.specs.Keeping.{Holds, IsPlain, is_safe_over, is_safe_up_to, keeps_byte, lies_over, may_show_other}
+pub use Rattle.uring_crash.specs.Keeping.{Holds, IsPlain, is_kept_byte, is_safe_at, is_safe_over, is_safe_to, is_safe_up_to, keeps_byte, lies_over, may_show_other, shows_other, stands_over}
 pub use Rattle.uring_crash.specs.Questions.{Asks, Replies, count_text, image_lines, kept_text}
 pub use Rattle.uring_crash.specs.Watches.{Watches, Watching}
 pub use Rattle.uring_crash.specs.declared.watch.Watch.{Watch}

@@ -1,11 +1,15 @@
 -- What each image has.
-use Rattle.std.proofs.Common.{◌≡◌, ◌==◌, ◌<◌, ◌≤◌, ◌+◌, ◌-◌, ◌/◌, ◌⊎◌, inl, inr, ℕ, true, false, cond, List, [], ◌∷◌, length, refl, sym, ◌∙◌, arith}
-use Rattle.uring_crash.proofs.Common.{Holds, IsImage, IsIn, IsInOrder, UnitIsLeft, byte_over, end_of, is_on, is_safe_over, is_safe_up_to, is_under, issued, keeps_byte, lies_over, list_any, may_show_other, slice_index}
+use Rattle.std.proofs.Common.{◌≡◌, ◌==◌, ◌&&◌, ◌||◌, ◌<◌, ◌≤◌, ◌+◌, ◌-◌, ◌/◌, ◌⊎◌, inl, inr, ℕ, Bool, true, false, not, cond, List, [], ◌∷◌, length, refl, sym, subst, ap, ◌∙◌, arith}
+use Rattle.std.specs.Prelude.{nat_le}
+use Rattle.uring_crash.proofs.Common.{Holds, IsImage, IsIn, IsInOrder, UnitIsLeft, byte_over, end_of, is_kept_byte, is_on, is_safe_at, is_safe_over, is_safe_to, is_safe_up_to, is_under, issued, keeps_byte, lies_over, list_any, may_show_other, shows_other, slice_index, stands_over}
 use Rattle.std.proofs.lemmas.Bool.{cases_Bool, both_ways, cond-true, cond-false, and_parts, and_from, or_cases, not_from_false, not-true, eqb-true, leb-true}
 use Rattle.uring_volume.specs.Writes.{Write}
 use Rattle.uring_volume.specs.Events.{History, writes, is_before, is_safe}
+use Rattle.uring_volume.specs.Past.{AreTheWrites}
+use Rattle.uring_volume.specs.declared.kept.Kept.{Kept}
 use Rattle.uring_volume.proofs.Chosen.{in_issued, of_issued}
 use Rattle.uring_volume.proofs.Fitting.{not_in}
+use Rattle.uring_volume.proofs.KeptLists.{any_map, any_same, in_map}
 use Rattle.uring_volume.proofs.Puts.{any_is}
 use Rattle.uring_volume.proofs.ReadBack.{on_from, end_within}
 
@@ -142,3 +146,44 @@ kept_bytes h u off bytes now positive image reaches keeps j within =
     let long : off + length bytes ≤ length now = long_enough h u (off + length bytes) now image reaches in
     let inside : off + j < length now = omega (arith, long, within) in
     (inside, kept_byte h u (off + j) (slice_index bytes j) now positive image inside (keeps j within))
+
+-- The same of the writes that are kept, as they stand.
+
+in_history : (h : History) (next : ℕ) (all : List Kept) (k : Kept) → AreTheWrites h next all → IsIn k all → IsIn k.piece (writes h)
+in_history h next all k are among =
+    of_issued h k.piece (subst (λ (ws : List Write). IsIn k.piece ws) are.pieces (in_map (λ (x : Kept). x.piece) k all among))
+
+any_kept : (h : History) (next : ℕ) (all : List Kept) (p : Write → Bool) (q : Kept → Bool) → AreTheWrites h next all
+    → ((k : Kept) → IsIn k all → p k.piece ≡ q k) → list_any p (issued h) ≡ list_any q all
+any_kept h next all p q are same =
+    ap (λ (ws : List Write). list_any p ws) (sym are.pieces) ∙ any_map (λ (k : Kept). k.piece) p all ∙ any_same (λ (k : Kept). p k.piece) q all same
+
+over_as_kept : (h : History) (next : ℕ) (all : List Kept) (k : ℕ) (n m : Kept) → AreTheWrites h next all → IsIn n all → IsIn m all
+    → lies_over h k n.piece.number m.piece ≡ stands_over k n m
+over_as_kept h next all k n m are an am =
+    let before = (are.stand n an).before m.piece (in_history h next all m are am) in
+    let safe = (are.stand m am).safe in
+    grind (arith, before, safe)
+
+other_as_kept : (h : History) (next : ℕ) (all : List Kept) (k byte : ℕ) (n : Kept) → AreTheWrites h next all → IsIn n all
+    → may_show_other h k byte n.piece ≡ shows_other all k byte n
+other_as_kept h next all k byte n are an =
+    let hidden = any_kept h next all (lies_over h k n.piece.number) (stands_over k n) are (λ m am. over_as_kept h next all k n m are an am) in
+    ap (λ b. is_under n.piece k && (not (slice_index n.piece.bytes (k - n.piece.off) == byte) && not b)) hidden
+
+safe_as_kept : (h : History) (next : ℕ) (all : List Kept) (k : ℕ) (m : Kept) → AreTheWrites h next all → IsIn m all
+    → is_safe_over h k m.piece ≡ is_safe_at k m
+safe_as_kept h next all k m are am = ap (λ b. is_under m.piece k && b) (are.stand m am).safe
+
+pub as_kept : (h : History) (next : ℕ) (all : List Kept) (k byte : ℕ) → AreTheWrites h next all
+    → keeps_byte h k byte ≡ is_kept_byte all k byte
+as_kept h next all k byte are =
+    let other = any_kept h next all (may_show_other h k byte) (shows_other all k byte) are (λ n an. other_as_kept h next all k byte n are an) in
+    let safe = any_kept h next all (is_safe_over h k) (is_safe_at k) are (λ m am. safe_as_kept h next all k m are am) in
+    ap (λ b. not b && (byte == 0 || list_any (is_safe_over h k) (issued h))) other
+    ∙ ap (λ b. not (list_any (shows_other all k byte) all) && (byte == 0 || b)) safe
+
+pub up_to_as_kept : (h : History) (next : ℕ) (all : List Kept) (end : ℕ) → AreTheWrites h next all
+    → list_any (is_safe_up_to h end) (issued h) ≡ list_any (is_safe_to end) all
+up_to_as_kept h next all end are =
+    any_kept h next all (is_safe_up_to h end) (is_safe_to end) are (λ m am. ap (λ b. not (length m.piece.bytes == 0) && (nat_le end (m.piece.off + length m.piece.bytes) && b)) (are.stand m am).safe)

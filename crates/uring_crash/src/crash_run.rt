@@ -1,6 +1,6 @@
 //! The run of a trace after which the power fails.
 
-ghost use Rattle.std.specs.Prelude.{◌≡◌, ◌<◌, [], ℕ, ℤ, IfOk, OnOk};
+ghost use Rattle.std.specs.Prelude.{◌≡◌, ◌≢◌, ◌<◌, [], ℕ, ℤ, Err, IfOk, IsOk, OnOk};
 ghost use Rattle.uring_entry.specs.Setup.{Setup};
 ghost use Rattle.uring_crash.specs.Following.{Follows};
 ghost use Rattle.uring_crash.specs.Crashes.{Leaves};
@@ -9,10 +9,11 @@ ghost use Rattle.uring_crash.specs.Runs.{ReadsAll};
 use crate::choice::{least_choice, seeded_choice};
 use crate::follower::Follower;
 use crate::image_text::{push_image, told_writes};
-use std::alloc::Global;
+use crate::watch::Watch;
+use std::alloc::{AllocError, Global};
 use std::io::{Read, Write};
 use uring_machine::Setup;
-use uring_text::{Calls, TraceFault, push_text, read_once, write_all};
+use uring_text::{Calls, TextMemory, TraceFault, push_text, read_once, write_all};
 
 /// Most bytes that are read at once.
 const CHUNK: usize = 512;
@@ -52,14 +53,33 @@ pub fn crash<R: Read, W: Write, E: Write>(
     ensures { IfOk result
         (λ bad. Leaves asked.now setup.now bad (R.remaining reader.old) (R.remaining reader.new) (W.contents writer.old) (W.contents writer.new)) }
 {
-    let mut follower = Follower::new(alloc, setup, asked.unit, asked.fd, asked.lines)?;
-    let left = leave_all(alloc, &mut follower, reader, writer, errors, asked);
+    crash_in(&alloc, alloc, reader, writer, errors, setup, asked)
+}
+
+/// As `crash`, by this memory. If it grants whatever is asked for, it never ends with `Memory`.
+pub fn crash_in<M: TextMemory, R: Read, W: Write, E: Write>(
+    memory: &M,
+    alloc: Global,
+    reader: &mut R,
+    writer: &mut W,
+    errors: &mut E,
+    setup: &Setup,
+    asked: &Asked,
+) -> Result<bool, TraceFault>
+    requires { 0 < asked.now.unit }
+    ensures left { IfOk result
+        (λ bad. Leaves asked.now setup.now bad (R.remaining reader.old) (R.remaining reader.new) (W.contents writer.old) (W.contents writer.new)) }
+    ensures granted { ((n : ℕ) → M.grants memory.now n) → result ≢ Err TraceFault.Memory }
+{
+    let mut follower = Follower::new(memory, alloc, setup, asked.unit, asked.fd, asked.lines)?;
+    let left = leave_all(memory, alloc, &mut follower, reader, writer, errors, asked);
     drop(follower);
     left
 }
 
 /// Takes in all lines, and writes what is left, or the note on a bad line. Returns whether a line was bad.
-fn leave_all<R: Read, W: Write, E: Write>(
+fn leave_all<M: TextMemory, R: Read, W: Write, E: Write>(
+    memory: &M,
     alloc: Global,
     follower: &mut Follower,
     reader: &mut R,
@@ -67,30 +87,44 @@ fn leave_all<R: Read, W: Write, E: Write>(
     errors: &mut E,
     asked: &Asked,
 ) -> Result<bool, TraceFault>
-    ensures { IfOk result
+    ensures left { IfOk result
         (λ bad. (setup : Setup) → Follows asked.now.unit setup asked.now.fd asked.now.lines follower.old []
         → Leaves asked.now setup bad (R.remaining reader.old) (R.remaining reader.new) (W.contents writer.old) (W.contents writer.new)) }
+    ensures granted { ((n : ℕ) → M.grants memory.now n) → result ≢ Err TraceFault.Memory }
 {
-    let has_bad = reads_bad_line(follower, reader, errors)?;
+    let has_bad = reads_bad_line(memory, follower, reader, errors)?;
     if has_bad {
         return Ok(true);
     }
     let watch = follower.watch();
-    let choice = match asked.seed {
-        Some(seed) => seeded_choice(alloc, watch.log(), asked.unit, seed)?,
-        None => least_choice(alloc, watch.log().events()?, asked.unit)?,
-    };
-    let image = watch.crash(&choice)?;
-    let words = told_writes(alloc, watch.log(), &image)?;
+    let choice = asked_choice(memory, alloc, watch, asked)?;
+    let image = watch.crash(memory, &choice)?;
+    let words = told_writes(memory, alloc, watch.log(), &image)?;
     let mut text = String::new(alloc);
-    push_image(alloc, &mut text, &image)?;
-    push_text(&alloc, &mut text, words.as_str())?;
+    push_image(memory, &mut text, &image)?;
+    push_text(memory, &mut text, words.as_str())?;
     write_all(writer, text.as_bytes(), &mut Calls::new())?;
     Ok(false)
 }
 
+/// The choice that is asked for: by a seed, or the one that leaves the least.
+fn asked_choice<M: TextMemory>(
+    memory: &M,
+    alloc: Global,
+    watch: &Watch,
+    asked: &Asked,
+) -> Result<Vec<u64>, AllocError>
+    ensures granted { ((n : ℕ) → M.grants memory.now n) → IsOk result }
+{
+    match asked.seed {
+        Some(seed) => seeded_choice(memory, alloc, watch.log(), asked.unit, seed),
+        None => least_choice(memory, alloc, watch.log().volume().writes(), asked.unit),
+    }
+}
+
 /// Takes in all lines, and notes the first bad one. Returns whether one was bad.
-pub(crate) fn reads_bad_line<R: Read, E: Write>(
+pub(crate) fn reads_bad_line<M: TextMemory, R: Read, E: Write>(
+    memory: &M,
     follower: &mut Follower,
     reader: &mut R,
     errors: &mut E,
@@ -99,8 +133,9 @@ pub(crate) fn reads_bad_line<R: Read, E: Write>(
     ensures read { OnOk result
         ((unit : ℕ) (setup : Setup) (fd : ℤ) (most : ℕ) → Follows unit setup fd most follower.old []
         → ReadsAll unit setup fd most follower.new (R.remaining reader.old) (R.remaining reader.new)) }
+    ensures granted { ((n : ℕ) → M.grants memory.now n) → result ≢ Err TraceFault.Memory }
 {
-    read_all(follower, reader)?;
+    read_all(memory, follower, reader)?;
     if follower.has_bad() {
         write_all(errors, follower.note().as_bytes(), &mut Calls::new())?;
     }
@@ -108,17 +143,22 @@ pub(crate) fn reads_bad_line<R: Read, E: Write>(
 }
 
 /// Takes in all lines.
-fn read_all<R: Read>(follower: &mut Follower, reader: &mut R) -> Result<(), TraceFault>
-    ensures { OnOk result
+fn read_all<M: TextMemory, R: Read>(
+    memory: &M,
+    follower: &mut Follower,
+    reader: &mut R,
+) -> Result<(), TraceFault>
+    ensures read { OnOk result
         ((unit : ℕ) (setup : Setup) (fd : ℤ) (most : ℕ) → Follows unit setup fd most follower.old []
         → ReadsAll unit setup fd most follower.new (R.remaining reader.old) (R.remaining reader.new)) }
+    ensures granted { ((n : ℕ) → M.grants memory.now n) → result ≢ Err TraceFault.Memory }
 {
     let mut reads = Calls::new();
     let mut chunk = [0; CHUNK];
     while !reads.are_over() {
         match read_once(reader, &mut chunk, &mut reads) {
-            Ok(0) => return Ok(follower.finish()?),
-            Ok(count) => follower.feed(&chunk[..count])?,
+            Ok(0) => return Ok(follower.finish(memory)?),
+            Ok(count) => follower.feed(memory, &chunk[..count])?,
             Err(_) => {}
         }
     }

@@ -1,6 +1,6 @@
 //! Follows the lines of a trace, and watches a file.
 
-ghost use Rattle.std.specs.Prelude.{◌≡◌, ◌<◌, ◌++◌, ◌∷◌, [], ℕ, ℤ, List, true, false, IfOk, OnOk, MatchOption};
+ghost use Rattle.std.specs.Prelude.{◌≡◌, ◌<◌, ◌++◌, ◌∷◌, [], ℕ, ℤ, List, true, false, IfOk, IsOk, OnOk, MatchOption};
 ghost use Rattle.uring_entry.specs.Setup.{Setup};
 ghost use Rattle.uring_text.specs.KeptLine.{kept_of};
 ghost use Rattle.uring_trace.specs.Spelling.{IsStep, IsBad};
@@ -8,10 +8,10 @@ ghost use Rattle.uring_crash.specs.Following.{ReadsLine, Follows, HasFollowed};
 
 use crate::watch::Watch;
 use std::alloc::{AllocError, Global};
-use std::fmt::Write;
 use uring_machine::{Setup, Step};
-use uring_text::KeptLine;
-use uring_trace::{Language, push_line_flaw, read_step};
+use uring_memory::Memory;
+use uring_text::{KeptLine, TextMemory, push_number, push_text};
+use uring_trace::{Language, push_line_flaw_in, read_step_in};
 
 /// A watched machine, and what is kept of the unfinished line.
 #[derive(Drop)]
@@ -29,8 +29,9 @@ pub(crate) struct Follower {
 }
 
 impl Follower {
-    /// A new machine of this set-up whose file of this descriptor is watched, before the first of so many lines.
-    pub(crate) fn new(
+    /// A new machine of this set-up whose file of this descriptor is watched, before the first of so many lines. If the memory grants whatever is asked for, there is no error.
+    pub(crate) fn new<M: Memory>(
+        memory: &M,
         alloc: Global,
         setup: &Setup,
         unit: u64,
@@ -38,12 +39,13 @@ impl Follower {
         lines: u64,
     ) -> Result<Follower, AllocError>
         requires { 0 < unit }
-        ensures { IfOk result (λ s. Follows unit setup.now fd lines s []) }
+        ensures follows { IfOk result (λ s. Follows unit setup.now fd lines s []) }
+        ensures granted { ((n : ℕ) → M.grants memory.now n) → IsOk result }
     {
-        let line = KeptLine::new(alloc)?;
+        let line = KeptLine::new_in(memory, alloc)?;
         Ok(Follower {
             alloc,
-            watch: Watch::new(alloc, setup, unit, fd)?,
+            watch: Watch::new(memory, alloc, setup, unit, fd)?,
             line,
             left: lines,
             number: 1,
@@ -72,37 +74,40 @@ impl Follower {
     }
 
     /// Takes in the next bytes.
-    pub(crate) fn feed(&mut self, bytes: &[u8]) -> Result<(), AllocError>
-        ensures { OnOk result
+    pub(crate) fn feed<M: TextMemory>(&mut self, memory: &M, bytes: &[u8]) -> Result<(), AllocError>
+        ensures follows { OnOk result
             ((unit : ℕ) (setup : Setup) (fd : ℤ) (most : ℕ) (before : List ℕ)
             → Follows unit setup fd most self.old before
             → Follows unit setup fd most self.new (before ++ bytes.now)) }
+        ensures granted { ((n : ℕ) → M.grants memory.now n) → IsOk result }
     {
         for byte in bytes {
-            self.take(*byte)?;
+            self.take(memory, *byte)?;
         }
         Ok(())
     }
 
     /// Ends the input.
-    pub(crate) fn finish(&mut self) -> Result<(), AllocError>
-        ensures { OnOk result
+    pub(crate) fn finish<M: TextMemory>(&mut self, memory: &M) -> Result<(), AllocError>
+        ensures follows { OnOk result
             ((unit : ℕ) (setup : Setup) (fd : ℤ) (most : ℕ) (bytes : List ℕ)
             → Follows unit setup fd most self.old bytes
             → HasFollowed unit setup fd most self.new bytes) }
+        ensures granted { ((n : ℕ) → M.grants memory.now n) → IsOk result }
     {
         if self.line.is_empty() {
             return Ok(());
         }
-        self.read_line()
+        self.read_line(memory)
     }
 
     /// Takes in one byte, and reads the line that it ends, if it ends one. After the last of the lines it is passed over.
-    fn take(&mut self, byte: u8) -> Result<(), AllocError>
-        ensures { OnOk result
+    fn take<M: TextMemory>(&mut self, memory: &M, byte: u8) -> Result<(), AllocError>
+        ensures follows { OnOk result
             ((unit : ℕ) (setup : Setup) (fd : ℤ) (most : ℕ) (before : List ℕ)
             → Follows unit setup fd most self.old before
             → Follows unit setup fd most self.new (before ++ byte ∷ [])) }
+        ensures granted { ((n : ℕ) → M.grants memory.now n) → IsOk result }
     {
         if self.left == 0 {
             return Ok(());
@@ -111,7 +116,7 @@ impl Follower {
             self.line.push(byte);
             return Ok(());
         }
-        self.read_line()?;
+        self.read_line(memory)?;
         self.line.clear();
         self.left -= 1;
         self.number = self.number.saturating_add(1);
@@ -119,15 +124,16 @@ impl Follower {
     }
 
     /// Makes the step that the line is. Notes if it is bad, and what is wrong with the first that is.
-    fn read_line(&mut self) -> Result<(), AllocError>
+    fn read_line<M: TextMemory>(&mut self, memory: &M) -> Result<(), AllocError>
         ensures line { self.new.line ≡ self.old.line }
         ensures left { self.new.left ≡ self.old.left }
         ensures read { OnOk result
             ((line : List ℕ) → self.old.line ≡ kept_of line
             → ReadsLine self.old.watch self.new.watch self.old.has_bad self.new.has_bad line) }
+        ensures granted { ((n : ℕ) → M.grants memory.now n) → IsOk result }
     {
-        if let Some(step) = step_of(self.alloc, &self.line)? {
-            self.watch.step(step)?;
+        if let Some(step) = step_of(memory, self.alloc, &self.line)? {
+            self.watch.step(memory, step)?;
             return Ok(());
         }
         if self.line.is_remark() {
@@ -138,31 +144,41 @@ impl Follower {
             return Ok(());
         }
         self.has_bad = true;
-        push_note(self.alloc, &mut self.note, self.number, &self.line)?;
+        push_note(memory, self.alloc, &mut self.note, self.number, &self.line)?;
         Ok(())
     }
 }
 
 /// Appends the note on a bad line of this number.
-fn push_note(
+fn push_note<M: TextMemory>(
+    memory: &M,
     alloc: Global,
     note: &mut String,
     number: u64,
     line: &KeptLine,
-) -> Result<(), AllocError> {
-    write!(note, "uring: line {number}: bad line: ")?;
-    push_line_flaw(alloc, note, line, Language::Steps)?;
-    note.push_str("\n")
+) -> Result<(), AllocError>
+    ensures granted { ((n : ℕ) → M.grants memory.now n) → IsOk result }
+{
+    push_text(memory, note, "uring: line ")?;
+    push_number(memory, note, number)?;
+    push_text(memory, note, ": bad line: ")?;
+    push_line_flaw_in(memory, alloc, note, line, Language::Steps)?;
+    push_text(memory, note, "\n")
 }
 
 /// The step that a line is, if it is one. A line of more than 300 bytes is none.
-fn step_of(alloc: Global, line: &KeptLine) -> Result<Option<Step>, AllocError>
-    ensures { IfOk result
+fn step_of<M: Memory>(
+    memory: &M,
+    alloc: Global,
+    line: &KeptLine,
+) -> Result<Option<Step>, AllocError>
+    ensures step { IfOk result
         (λ read. (bytes : List ℕ) → line.now ≡ kept_of bytes
         → MatchOption read (IsBad bytes) (IsStep bytes)) }
+    ensures granted { ((n : ℕ) → M.grants memory.now n) → IsOk result }
 {
     match line.whole() {
-        Some(bytes) => read_step(alloc, bytes),
+        Some(bytes) => read_step_in(memory, alloc, bytes),
         None => Ok(None),
     }
 }

@@ -10,6 +10,6 @@ mod questions;
 mod search;
 mod watch;
 
-pub use crash_run::{Asked, crash};
-pub use questions::{Question, Reply, ask};
+pub use crash_run::{Asked, crash, crash_in};
+pub use questions::{Question, Reply, ask, ask_in};
 pub use uring_text::TraceFault;

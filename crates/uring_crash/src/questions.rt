@@ -1,6 +1,6 @@
 //! What is asked of all images that a crash may leave: how many there are, which, and whether each has some bytes.
 
-ghost use Rattle.std.specs.Prelude.{◌≡◌, ◌<◌, ◌++◌, [], ℕ, ℤ, map, IfOk, OnOk, string_bytes};
+ghost use Rattle.std.specs.Prelude.{◌≡◌, ◌≢◌, ◌<◌, ◌++◌, [], ℕ, ℤ, Err, map, IfOk, IsOk, OnOk, string_bytes};
 ghost use Rattle.uring_entry.specs.Setup.{Setup};
 ghost use Rattle.uring_core.specs.Histories.{History};
 ghost use Rattle.uring_crash_machine.specs.Logs.{log_of};
@@ -10,13 +10,13 @@ ghost use Rattle.uring_crash.specs.Questions.{Asks, Replies, AreKept, count_text
 
 use crate::crash_run::{Asked, reads_bad_line};
 use crate::follower::Follower;
-use crate::image_text::{push_bytes, push_image, told_writes};
+use crate::image_text::{push_image, told_writes};
 use crate::search::{ImageFound, find};
 use crate::watch::Watch;
 use std::alloc::{AllocError, Global};
 use std::io::{Read, Write};
 use uring_machine::Setup;
-use uring_text::{Calls, TraceFault, push_number, push_text, write_all};
+use uring_text::{Calls, TextMemory, TraceFault, push_data, push_number, push_text, write_all};
 use uring_volume::ImagesError;
 
 /// A question of all images that a crash may leave of a file.
@@ -68,8 +68,30 @@ pub fn ask<R: Read, W: Write, E: Write>(
     ensures { IfOk result
         (λ reply. Asks question.now asked.now setup.now reply (R.remaining reader.old) (R.remaining reader.new) (W.contents writer.old) (W.contents writer.new)) }
 {
-    let mut follower = Follower::new(alloc, setup, asked.unit, asked.fd, asked.lines)?;
+    ask_in(
+        &alloc, alloc, reader, writer, errors, setup, asked, question,
+    )
+}
+
+/// As `ask`, by this memory. If it grants whatever is asked for, it never ends with `Memory`.
+pub fn ask_in<M: TextMemory, R: Read, W: Write, E: Write>(
+    memory: &M,
+    alloc: Global,
+    reader: &mut R,
+    writer: &mut W,
+    errors: &mut E,
+    setup: &Setup,
+    asked: &Asked,
+    question: &Question,
+) -> Result<Reply, TraceFault>
+    requires { 0 < asked.now.unit }
+    ensures answered { IfOk result
+        (λ reply. Asks question.now asked.now setup.now reply (R.remaining reader.old) (R.remaining reader.new) (W.contents writer.old) (W.contents writer.new)) }
+    ensures granted { ((n : ℕ) → M.grants memory.now n) → result ≢ Err TraceFault.Memory }
+{
+    let mut follower = Follower::new(memory, alloc, setup, asked.unit, asked.fd, asked.lines)?;
     let answered = answer(
+        memory,
         alloc,
         &mut follower,
         reader,
@@ -83,7 +105,8 @@ pub fn ask<R: Read, W: Write, E: Write>(
 }
 
 /// Takes in all lines, and writes the answer, or the note on a bad line.
-fn answer<R: Read, W: Write, E: Write>(
+fn answer<M: TextMemory, R: Read, W: Write, E: Write>(
+    memory: &M,
     alloc: Global,
     follower: &mut Follower,
     reader: &mut R,
@@ -92,48 +115,54 @@ fn answer<R: Read, W: Write, E: Write>(
     asked: &Asked,
     question: &Question,
 ) -> Result<Reply, TraceFault>
-    ensures { IfOk result
+    ensures answered { IfOk result
         (λ reply. (setup : Setup) → Follows asked.now.unit setup asked.now.fd asked.now.lines follower.old []
         → Asks question.now asked.now setup reply (R.remaining reader.old) (R.remaining reader.new) (W.contents writer.old) (W.contents writer.new)) }
+    ensures granted { ((n : ℕ) → M.grants memory.now n) → result ≢ Err TraceFault.Memory }
 {
-    let has_bad = reads_bad_line(follower, reader, errors)?;
+    let has_bad = reads_bad_line(memory, follower, reader, errors)?;
     if has_bad {
         return Ok(Reply::BadLine);
     }
-    let told = replied(alloc, follower.watch(), asked.unit, question)?;
+    let told = replied(memory, alloc, follower.watch(), asked.unit, question)?;
     write_all(writer, told.1.as_bytes(), &mut Calls::new())?;
     Ok(told.0)
 }
 
 /// The reply to a question, and the text that is written.
-fn replied(
+fn replied<M: TextMemory>(
+    memory: &M,
     alloc: Global,
     watch: &Watch,
     unit: u64,
     question: &Question,
 ) -> Result<(Reply, String), AllocError>
-    ensures { IfOk result (λ r. (unit : ℕ) (setup : Setup) (fd : ℤ) (h : History)
+    ensures reply { IfOk result (λ r. (unit : ℕ) (setup : Setup) (fd : ℤ) (h : History)
         → Watches unit setup fd watch.now h
         → Replies question.now unit (log_of unit setup fd h).volume.history r.0 (string_bytes r.1)) }
+    ensures granted { ((n : ℕ) → M.grants memory.now n) → IsOk result }
 {
     match question {
         Question::Count => {
-            let count = watch.log().volume().count_images(alloc)?;
+            let count = watch.log().volume().count_images_in(memory, alloc)?;
             let mut text = String::new(alloc);
-            push_count(alloc, &mut text, count)?;
+            push_count(memory, &mut text, count)?;
             Ok((Reply::Answered, text))
         }
-        Question::All { most } => match watch.images(alloc, *most) {
-            Ok(images) => Ok((Reply::Answered, text_of_images(alloc, &images)?)),
+        Question::All { most } => match watch.images(memory, alloc, *most) {
+            Ok(images) => Ok((Reply::Answered, text_of_images(memory, alloc, &images)?)),
             Err(ImagesError::TooMany) => Ok((Reply::TooMany, String::new(alloc))),
             Err(ImagesError::OutOfMemory) => Err(AllocError),
         },
-        Question::Keeps { off, bytes, most } => kept(alloc, watch, unit, *off, bytes, *most),
+        Question::Keeps { off, bytes, most } => kept(
+            memory, alloc, watch, unit, *off, bytes, *most,
+        ),
     }
 }
 
 /// Whether each image has these bytes.
-fn kept(
+fn kept<M: TextMemory>(
+    memory: &M,
     alloc: Global,
     watch: &Watch,
     unit: u64,
@@ -141,23 +170,24 @@ fn kept(
     bytes: &[u8],
     most: u32,
 ) -> Result<(Reply, String), AllocError>
-    ensures { IfOk result (λ r. (unit : ℕ) (setup : Setup) (fd : ℤ) (h : History)
+    ensures reply { IfOk result (λ r. (unit : ℕ) (setup : Setup) (fd : ℤ) (h : History)
         → Watches unit setup fd watch.now h
         → AreKept off bytes.now most unit (log_of unit setup fd h).volume.history r.0 (string_bytes r.1)) }
+    ensures granted { ((n : ℕ) → M.grants memory.now n) → IsOk result }
 {
-    match find(alloc, watch, unit, off, bytes, most)? {
+    match find(memory, alloc, watch, unit, off, bytes, most)? {
         ImageFound::Nowhere => {
             let mut text = String::new(alloc);
-            push_wanted(alloc, &mut text, off, bytes)?;
+            push_wanted(memory, &mut text, off, bytes)?;
             Ok((Reply::Answered, text))
         }
         ImageFound::Without(image) => {
-            let words = told_writes(alloc, watch.log(), &image)?;
+            let words = told_writes(memory, alloc, watch.log(), &image)?;
             let mut text = String::new(alloc);
-            push_text(&alloc, &mut text, "not ")?;
-            push_wanted(alloc, &mut text, off, bytes)?;
-            push_image(alloc, &mut text, &image)?;
-            push_text(&alloc, &mut text, words.as_str())?;
+            push_text(memory, &mut text, "not ")?;
+            push_wanted(memory, &mut text, off, bytes)?;
+            push_image(memory, &mut text, &image)?;
+            push_text(memory, &mut text, words.as_str())?;
             Ok((Reply::NotKept, text))
         }
         ImageFound::TooMany => Ok((Reply::TooMany, String::new(alloc))),
@@ -165,40 +195,52 @@ fn kept(
 }
 
 /// Appends how many images there are.
-fn push_count(alloc: Global, text: &mut String, count: u64) -> Result<(), AllocError>
-    ensures { OnOk result
+fn push_count<M: TextMemory>(memory: &M, text: &mut String, count: u64) -> Result<(), AllocError>
+    ensures bytes { OnOk result
         (string_bytes text.new ≡ string_bytes text.old ++ count_text count) }
+    ensures granted { ((n : ℕ) → M.grants memory.now n) → IsOk result }
 {
-    push_text(&alloc, text, "images ")?;
-    push_number(&alloc, text, count)?;
+    push_text(memory, text, "images ")?;
+    push_number(memory, text, count)?;
     if count == u64::MAX {
-        return push_text(&alloc, text, " or more\n");
+        return push_text(memory, text, " or more\n");
     }
-    push_text(&alloc, text, "\n")
+    push_text(memory, text, "\n")
 }
 
 /// The lines of images, and how many they are.
-fn text_of_images(alloc: Global, images: &[Vec<u8>]) -> Result<String, AllocError>
-    ensures { IfOk result
+fn text_of_images<M: TextMemory>(
+    memory: &M,
+    alloc: Global,
+    images: &[Vec<u8>],
+) -> Result<String, AllocError>
+    ensures text { IfOk result
         (λ text. string_bytes text ≡ images_text (map (λ b. b.items) images.now)) }
+    ensures granted { ((n : ℕ) → M.grants memory.now n) → IsOk result }
 {
     let mut text = String::new(alloc);
     for image in images {
-        push_image(alloc, &mut text, image)?;
+        push_image(memory, &mut text, image)?;
     }
     let count = images.len() as u64;
-    push_count(alloc, &mut text, count)?;
+    push_count(memory, &mut text, count)?;
     Ok(text)
 }
 
 /// Appends the bytes that were asked for, with their offset.
-fn push_wanted(alloc: Global, text: &mut String, off: u64, bytes: &[u8]) -> Result<(), AllocError>
-    ensures { OnOk result
+fn push_wanted<M: TextMemory>(
+    memory: &M,
+    text: &mut String,
+    off: u64,
+    bytes: &[u8],
+) -> Result<(), AllocError>
+    ensures bytes { OnOk result
         (string_bytes text.new ≡ string_bytes text.old ++ kept_text off bytes.now) }
+    ensures granted { ((n : ℕ) → M.grants memory.now n) → IsOk result }
 {
-    push_text(&alloc, text, "kept at ")?;
-    push_number(&alloc, text, off)?;
-    push_text(&alloc, text, ": ")?;
-    push_bytes(alloc, text, bytes)?;
-    push_text(&alloc, text, "\n")
+    push_text(memory, text, "kept at ")?;
+    push_number(memory, text, off)?;
+    push_text(memory, text, ": ")?;
+    push_data(memory, text, bytes)?;
+    push_text(memory, text, "\n")
 }

@@ -1,6 +1,6 @@
 //! The search for an image that hasn't some bytes at an offset.
 
-ghost use Rattle.std.specs.Prelude.{◌≡◌, ◌+◌, ◌<◌, ◌^◌, [], ℕ, ℤ, true, false, length, slice_index, map, IfOk, IfSome};
+ghost use Rattle.std.specs.Prelude.{◌≡◌, ◌+◌, ◌<◌, ◌^◌, [], ℕ, ℤ, true, false, length, slice_index, map, IfOk, IsOk, IfSome};
 ghost use Rattle.uring_entry.specs.Setup.{Setup};
 ghost use Rattle.uring_volume.specs.Events as volume;
 ghost use Rattle.uring_volume.specs.Listing.{AreTheImages};
@@ -14,7 +14,8 @@ use crate::choice::{least_choice, showing_choice};
 use crate::keeping::keeps;
 use crate::watch::Watch;
 use std::alloc::{AllocError, Global};
-use uring_volume::{Event, ImagesError, Piece};
+use uring_memory::{Memory, copied};
+use uring_volume::{ImagesError, Piece};
 
 /// What a search for an image without some bytes has found.
 #[derive(Drop)]
@@ -55,8 +56,9 @@ fn holds(image: &[u8], off: u64, bytes: &[u8]) -> bool
     true
 }
 
-/// An image that hasn't these bytes at an offset, if there is one; `TooMany` only if it isn't plain, and there are more images than `most`.
-pub(crate) fn find(
+/// An image that hasn't these bytes at an offset, if there is one; `TooMany` only if it isn't plain, and there are more images than `most`. If the memory grants whatever is asked for, there is no error.
+pub(crate) fn find<M: Memory>(
+    memory: &M,
     alloc: Global,
     watch: &Watch,
     unit: u64,
@@ -70,34 +72,37 @@ pub(crate) fn find(
     ensures not_plain { IfOk result (λ found. found ≡ ImageFound.TooMany → off + length bytes.now < 2 ^ 64
         → (unit : ℕ) (setup : Setup) (fd : ℤ) (h : History) → Watches unit setup fd watch.now h
         → IsPlain (log_of unit setup fd h).volume.history off bytes.now → ⊥) }
+    ensures granted { ((n : ℕ) → M.grants memory.now n) → IsOk result }
 {
-    let log = watch.log();
-    log.volume().is_sound();
-    if keeps(log.events()?, off, bytes) {
+    let volume = watch.log().volume();
+    volume.is_sound();
+    if keeps(volume.writes(), off, bytes) {
         return Ok(ImageFound::Nowhere);
     }
-    if let Some(image) = try_choices(alloc, watch, unit, off, bytes)? {
+    if let Some(image) = try_choices(memory, alloc, watch, unit, off, bytes)? {
         return Ok(ImageFound::Without(image));
     }
-    match watch.images(alloc, most) {
-        Ok(images) => find_in(alloc, &images, off, bytes),
+    match watch.images(memory, alloc, most) {
+        Ok(images) => find_in(memory, alloc, &images, off, bytes),
         Err(ImagesError::TooMany) => Ok(ImageFound::TooMany),
         Err(ImagesError::OutOfMemory) => Err(AllocError),
     }
 }
 
 /// What a choice leaves, if that hasn't these bytes.
-fn try_choice(
+fn try_choice<M: Memory>(
+    memory: &M,
     watch: &Watch,
     choice: &[u64],
     off: u64,
     bytes: &[u8],
 ) -> Result<Option<Vec<u8>>, AllocError>
-    ensures { IfOk result (λ found. IfSome found
+    ensures without { IfOk result (λ found. IfSome found
         (λ image. (unit : ℕ) (setup : Setup) (fd : ℤ) (h : History) → Watches unit setup fd watch.now h
         → IsWithout off bytes.now unit (log_of unit setup fd h).volume.history image.items)) }
+    ensures granted { ((n : ℕ) → M.grants memory.now n) → IsOk result }
 {
-    let image = watch.crash(choice)?;
+    let image = watch.crash(memory, choice)?;
     if holds(&image, off, bytes) {
         return Ok(None);
     }
@@ -120,29 +125,29 @@ fn differs(piece: &Piece, off: u64, bytes: &[u8]) -> bool {
 }
 
 /// An image without these bytes among those that show the least, and each write that has others, if one of these has none.
-fn try_choices(
+fn try_choices<M: Memory>(
+    memory: &M,
     alloc: Global,
     watch: &Watch,
     unit: u64,
     off: u64,
     bytes: &[u8],
 ) -> Result<Option<Vec<u8>>, AllocError>
-    ensures { IfOk result (λ found. IfSome found
+    ensures without { IfOk result (λ found. IfSome found
         (λ image. (unit : ℕ) (setup : Setup) (fd : ℤ) (h : History) → Watches unit setup fd watch.now h
         → IsWithout off bytes.now unit (log_of unit setup fd h).volume.history image.items)) }
+    ensures granted { ((n : ℕ) → M.grants memory.now n) → IsOk result }
 {
-    let events = watch.log().events()?;
-    let least = least_choice(alloc, events, unit)?;
-    if let Some(image) = try_choice(watch, &least, off, bytes)? {
+    let kept = watch.log().volume().writes();
+    let least = least_choice(memory, alloc, kept, unit)?;
+    if let Some(image) = try_choice(memory, watch, &least, off, bytes)? {
         return Ok(Some(image));
     }
-    for event in events {
-        if let Event::WriteIssued(piece) = event {
-            if differs(piece, off, bytes) {
-                let choice = showing_choice(alloc, events, unit, piece)?;
-                if let Some(image) = try_choice(watch, &choice, off, bytes)? {
-                    return Ok(Some(image));
-                }
+    for k in kept {
+        if differs(&k.piece, off, bytes) {
+            let choice = showing_choice(memory, alloc, kept, unit, k)?;
+            if let Some(image) = try_choice(memory, watch, &choice, off, bytes)? {
+                return Ok(Some(image));
             }
         }
     }
@@ -150,19 +155,21 @@ fn try_choices(
 }
 
 /// The first of these images that hasn't these bytes.
-fn find_in(
+fn find_in<M: Memory>(
+    memory: &M,
     alloc: Global,
     images: &[Vec<u8>],
     off: u64,
     bytes: &[u8],
 ) -> Result<ImageFound, AllocError>
-    ensures { IfOk result (λ found. (most unit : ℕ) (h : volume.History)
+    ensures found { IfOk result (λ found. (most unit : ℕ) (h : volume.History)
         → AreTheImages unit [] h (map (λ b. b.items) images.now)
         → IsFound off bytes.now most unit h found) }
+    ensures granted { ((n : ℕ) → M.grants memory.now n) → IsOk result }
 {
     for image in images {
         if !holds(image, off, bytes) {
-            return Ok(ImageFound::Without(Vec::from_slice(alloc, image)?));
+            return Ok(ImageFound::Without(copied(memory, alloc, image)?));
         }
     }
     Ok(ImageFound::Nowhere)

@@ -13,7 +13,7 @@ pub use Rattle.uring_entry.specs.Preparation.{operation_of}
 pub use Rattle.uring_entry.specs.Requests.{Requests, entry_of, has_ended, has_started, is_running, no_request, operation_running, with_call, with_ended, with_started}
 pub use Rattle.uring_entry.specs.Setup.{Setup}
 pub use Rattle.uring_entry.specs.declared.operation.Op.{Op}
-pub use Rattle.uring_crash_machine.specs.Epochs.{AreImages, AreLeft, CalledForFrom, CrashMachine, Epoch, FitsRun, IsImageBy, IsLawfulFrom, IsLeftAt, IsRun, IsShort, begun_on, file_at, files_from, first_files, logs_on, volume_of, with_step}
+pub use Rattle.uring_crash_machine.specs.Epochs.{AreImages, AreLeft, CalledForFrom, CrashMachine, Epoch, FitsRun, IsImageBy, IsLawfulFrom, IsLeftAt, IsRun, IsShort, begun_on, file_at, files_from, first_files, logs_of, logs_on, volume_of, with_step}
 pub use Rattle.uring_crash_machine.specs.Logs.{Log, begun_of, change_begun, change_ended, finished, finished_as, finished_of, issued_as, log_from, log_of, log_on, logged, number_of, shown_length, sync_with, write_ended}
 pub use Rattle.uring_files.specs.Contents.{FileContents, empty_file, empty_files, file_of_bytes, max_len, overwritten}
 pub use Rattle.uring_files.specs.Laws.{WritesOver, file_changed, is_on}

@@ -11,6 +11,7 @@ pub mod LogLaws
 pub mod LawfulFrom
 pub mod Noted
 pub mod Short
+pub mod FoldedLogs
 -- From one event to the next, and from one epoch to the next:
 pub mod EpochSteps
 pub mod EpochCrashes

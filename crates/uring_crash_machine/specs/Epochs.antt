@@ -1,5 +1,5 @@
 -- Epochs: what happens on a machine from one start to the crash that ends it, and on which files the next one begins. All of it is our own rule.
-use Rattle.std.specs.Prelude.{◌≡◌, Bool, ℕ, zero, suc, ◌<◌, ◌≤◌, pos, List, [], ◌∷◌, length, map, slice_get, slice_index_or, Some}
+use Rattle.std.specs.Prelude.{◌≡◌, Bool, false, ℕ, zero, suc, ◌<◌, ◌≤◌, pos, List, [], ◌∷◌, length, map, slice_get, slice_index_or, Some}
 use Rattle.uring_entry.specs.Setup.{Setup}
 use Rattle.uring_entry.specs.Requests.{is_running}
 use Rattle.uring_files.specs.Contents.{FileContents, file_of_bytes, empty_file, max_len}
@@ -16,7 +16,7 @@ use Rattle.uring_core.specs.Histories.{History, world}
 use Rattle.uring_core.specs.declared.step.Step.{Step}
 use Rattle.uring_core.specs.declared.step.Step.TheVariants as step
 use Rattle.uring_core.specs.declared.answer.Answer.{Answer}
-use Rattle.uring_crash_machine.specs.Logs.{Log, log_on, log_from}
+use Rattle.uring_crash_machine.specs.Logs.{AreFolded, Log, log_on, log_from}
 
 -- the files as the ends so far have left them, if these were there at first
 abbrev pub files_from : List FileContents → World → List FileContents
@@ -85,6 +85,8 @@ pub record CrashMachine : Type 0 where
   pub logs : List Log
   -- whether memory was refused for what is kept
   pub is_lost : Bool
+  -- whether logs may have been folded since the epoch began
+  pub is_folded : Bool
 
 -- the logs of files at first, from this place on
 abbrev pub logs_on : ℕ → ℕ → List FileContents → List Log
@@ -119,11 +121,15 @@ pub record AreImages (logs : List Log) (choices images : List (List ℕ)) : Type
   pub each : (place : ℕ) (log : Log) → slice_get logs place ≡ Some log
       → IsImageBy log (slice_index_or choices place []) (slice_index_or images place [])
 
--- The machine fits an epoch that comes after these, the newest first.
+-- the logs of the files of an epoch, as its history has made them
+abbrev pub logs_of : ℕ → Setup → Epoch → List Log
+logs_of unit g e = map (λ log. log_from log g e.history) (logs_on unit 0 e.first)
+
+-- The machine fits an epoch that comes after these, the newest first: its logs are those of the epoch, with some of their writes folded.
 pub record FitsRun (m : CrashMachine) (e : Epoch) (earlier : List Epoch) : Type 0 where
   pub core : FitsApart m.core e.history
   pub files : m.files ≡ files_from e.first (world m.core.setup e.history)
-  pub logs : m.logs
-      ≡ map (λ log. log_from log m.core.setup e.history) (logs_on m.unit 0 e.first)
+  pub logs : AreFolded (logs_of m.unit m.core.setup e) m.logs
+  pub unfolded : m.is_folded ≡ false → m.logs ≡ logs_of m.unit m.core.setup e
   pub many : length e.first ≡ m.core.setup.files
   pub run : IsRun m.unit m.core.setup (e ∷ earlier)

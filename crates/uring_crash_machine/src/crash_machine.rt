@@ -1,17 +1,18 @@
 //! A machine whose power may fail: a core with files, and what happened to each of them.
 
-ghost use Rattle.std.specs.Prelude.{◌≡◌, ◌<◌, ◌≤◌, ◌∷◌, [], ℕ, List, map, length, slice_index_or, true, false, IfOk, IsOk, OnErr};
+ghost use Rattle.std.specs.Prelude.{◌≡◌, ◌<◌, ◌≤◌, ◌∷◌, [], ℕ, List, map, length, slice_index_or, true, false, IfOk, IsOk, OnErr, OnOk};
 ghost use Rattle.uring_files.specs.Contents.{empty_files, max_len};
 ghost use Rattle.uring_files.specs.Operations.{state_of, byte_of};
 ghost use Rattle.uring_core.specs.Histories.{world};
 ghost use Rattle.uring_core.specs.declared.answer.Answer.TheVariants as answer;
 ghost use Rattle.std.specs.Option.{option_copied};
 ghost use Rattle.uring_crash_machine.specs.Asked.{IsUnrefusedOn, log_at};
+ghost use Rattle.uring_crash_machine.specs.Logs.{AreFolded, AreWhollyFolded};
 ghost use Rattle.uring_crash_machine.specs.Epochs.{Epoch, FitsRun, AreImages, IsImageBy, IsLeftAt, with_step, begun_on, first_files, files_from, file_at};
 
 use crate::file_log::FileLog;
 use crate::first_files::{make_files, make_logs};
-use crate::note::{note_finish, note_issue};
+use crate::note::{fold_all, note_finish, note_issue};
 use std::alloc::{AllocError, Global};
 use std::marker::Model;
 use uring_core::{Answer, Core, Setup, Step};
@@ -27,6 +28,8 @@ pub struct CrashMachine {
     files: Files,
     logs: Vec<FileLog>,
     is_lost: bool,
+    // Whether logs may have been folded.
+    is_folded: bool,
 }
 
 impl Model for CrashMachine {
@@ -35,7 +38,7 @@ impl Model for CrashMachine {
 
     ghost Value = { CrashMachine };
 
-    ghost view = { λ m. record { unit = m.unit; core = m.core; files = m.files; logs = m.logs.items; is_lost = m.is_lost } };
+    ghost view = { λ m. record { unit = m.unit; core = m.core; files = m.files; logs = m.logs.items; is_lost = m.is_lost; is_folded = m.is_folded } };
 
     ghost invariant = { λ m. (0 < m.unit) × (length m.logs.items ≡ m.core.setup.files) };
 }
@@ -47,6 +50,7 @@ impl CrashMachine {
         ensures setup { IfOk result (λ machine. machine.core.setup ≡ setup.now) }
         ensures unit { IfOk result (λ machine. machine.unit ≡ unit) }
         ensures ready { IfOk result (λ machine. machine.is_lost ≡ false) }
+        ensures unfolded { IfOk result (λ machine. machine.is_folded ≡ false) }
         ensures fits { IfOk result
             (λ machine. FitsRun machine (begun_on (empty_files setup.now.files)) []) }
     {
@@ -64,6 +68,7 @@ impl CrashMachine {
         ensures setup { IfOk result (λ machine. machine.core.setup ≡ setup.now) }
         ensures unit { IfOk result (λ machine. machine.unit ≡ unit) }
         ensures ready { IfOk result (λ machine. machine.is_lost ≡ false) }
+        ensures unfolded { IfOk result (λ machine. machine.is_folded ≡ false) }
         ensures fits { IfOk result
             (λ machine. FitsRun machine (begun_on (empty_files setup.now.files)) []) }
         ensures granted { ((n : ℕ) → M.grants memory.now n) → IsOk result }
@@ -85,6 +90,7 @@ impl CrashMachine {
         ensures setup { IfOk result (λ machine. machine.core.setup ≡ setup.now) }
         ensures unit { IfOk result (λ machine. machine.unit ≡ unit) }
         ensures ready { IfOk result (λ machine. machine.is_lost ≡ false) }
+        ensures unfolded { IfOk result (λ machine. machine.is_folded ≡ false) }
         ensures fits { IfOk result
             (λ machine. FitsRun machine (begun_on (first_files setup.now.files (map (λ b. b.items) contents.now))) []) }
     {
@@ -106,6 +112,7 @@ impl CrashMachine {
         ensures setup { IfOk result (λ machine. machine.core.setup ≡ setup.now) }
         ensures unit { IfOk result (λ machine. machine.unit ≡ unit) }
         ensures ready { IfOk result (λ machine. machine.is_lost ≡ false) }
+        ensures unfolded { IfOk result (λ machine. machine.is_folded ≡ false) }
         ensures fits { IfOk result
             (λ machine. FitsRun machine (begun_on (first_files setup.now.files (map (λ b. b.items) contents.now))) []) }
         ensures granted { ((n : ℕ) → M.grants memory.now n) → IsOk result }
@@ -119,6 +126,7 @@ impl CrashMachine {
             files,
             logs,
             is_lost: false,
+            is_folded: false,
         })
     }
 
@@ -126,6 +134,7 @@ impl CrashMachine {
     pub fn step(&mut self, step: Step) -> Result<Answer, AllocError>
         ensures setup { self.new.core.setup ≡ self.old.core.setup }
         ensures unit { self.new.unit ≡ self.old.unit }
+        ensures folded { self.new.is_folded ≡ self.old.is_folded }
         ensures fits { IfOk result (λ answer. (e : Epoch) (earlier : List Epoch)
             → FitsRun self.old e earlier → FitsRun self.new (with_step step answer e) earlier) }
         ensures ready { IfOk result (λ answer. self.new.is_lost ≡ false) }
@@ -140,6 +149,7 @@ impl CrashMachine {
     pub fn step_in<M: Memory>(&mut self, memory: &M, step: Step) -> Result<Answer, AllocError>
         ensures setup { self.new.core.setup ≡ self.old.core.setup }
         ensures unit { self.new.unit ≡ self.old.unit }
+        ensures folded { self.new.is_folded ≡ self.old.is_folded }
         ensures fits { IfOk result (λ answer. (e : Epoch) (earlier : List Epoch)
             → FitsRun self.old e earlier → FitsRun self.new (with_step step answer e) earlier) }
         ensures ready { IfOk result (λ answer. self.new.is_lost ≡ false) }
@@ -163,6 +173,7 @@ impl CrashMachine {
     fn issue<M: Memory>(&mut self, memory: &M, number: u64) -> Result<Answer, AllocError>
         ensures setup { self.new.core.setup ≡ self.old.core.setup }
         ensures unit { self.new.unit ≡ self.old.unit }
+        ensures folded { self.new.is_folded ≡ self.old.is_folded }
         ensures kept { IfOk result (λ answer. self.new.is_lost ≡ self.old.is_lost) }
         ensures fits { IfOk result (λ answer. (e : Epoch) (earlier : List Epoch)
             → FitsRun self.old e earlier
@@ -185,6 +196,7 @@ impl CrashMachine {
     fn finish<M: Memory>(&mut self, memory: &M, number: u64) -> Answer
         ensures setup { self.new.core.setup ≡ self.old.core.setup }
         ensures unit { self.new.unit ≡ self.old.unit }
+        ensures folded { self.new.is_folded ≡ self.old.is_folded }
         ensures kept { self.new.is_lost ≡ self.old.is_lost }
         ensures fits { (e : Epoch) (earlier : List Epoch) → FitsRun self.old e earlier
             → FitsRun self.new (with_step (Step.Finish number) result e) earlier }
@@ -196,7 +208,7 @@ impl CrashMachine {
         };
         let outcome = self.files.apply_in(memory, &op);
         let answer = self.core.finish(number, outcome);
-        note_finish(memory, &mut self.logs, number, Some(op), &answer);
+        note_finish(&mut self.logs, number, Some(op), &answer);
         answer
     }
 
@@ -205,10 +217,13 @@ impl CrashMachine {
         ensures setup { IfOk result (λ next. next.core.setup ≡ self.now.core.setup) }
         ensures unit { IfOk result (λ next. next.unit ≡ self.now.unit) }
         ensures ready { IfOk result (λ next. next.is_lost ≡ false) }
+        ensures unfolded { IfOk result (λ next. next.is_folded ≡ false) }
         ensures lost { self.now.is_lost ≡ true → IfOk result (λ next. ⊥) }
         ensures fits { IfOk result (λ next. (e : Epoch) (earlier : List Epoch)
             → FitsRun self.now e earlier → FitsRun next (begun_on next.files) (e ∷ earlier)) }
-        ensures chosen { IfOk result (λ next. (e : Epoch) (earlier : List Epoch)
+        ensures left { IfOk result (λ next.
+            AreImages self.now.logs (map (λ c. c.items) choices.now) (map (λ file. file.bytes) next.files)) }
+        ensures chosen { self.now.is_folded ≡ false → IfOk result (λ next. (e : Epoch) (earlier : List Epoch)
             → FitsRun self.now e earlier → (place : ℕ) → place < length next.files
             → IsLeftAt self.now.unit self.now.core.setup e place (slice_index_or (map (λ c. c.items) choices.now) place []) (file_at next.files place).bytes) }
     {
@@ -224,10 +239,13 @@ impl CrashMachine {
         ensures setup { IfOk result (λ next. next.core.setup ≡ self.now.core.setup) }
         ensures unit { IfOk result (λ next. next.unit ≡ self.now.unit) }
         ensures ready { IfOk result (λ next. next.is_lost ≡ false) }
+        ensures unfolded { IfOk result (λ next. next.is_folded ≡ false) }
         ensures lost { self.now.is_lost ≡ true → IfOk result (λ next. ⊥) }
         ensures fits { IfOk result (λ next. (e : Epoch) (earlier : List Epoch)
             → FitsRun self.now e earlier → FitsRun next (begun_on next.files) (e ∷ earlier)) }
-        ensures chosen { IfOk result (λ next. (e : Epoch) (earlier : List Epoch)
+        ensures left { IfOk result (λ next.
+            AreImages self.now.logs (map (λ c. c.items) choices.now) (map (λ file. file.bytes) next.files)) }
+        ensures chosen { self.now.is_folded ≡ false → IfOk result (λ next. (e : Epoch) (earlier : List Epoch)
             → FitsRun self.now e earlier → (place : ℕ) → place < length next.files
             → IsLeftAt self.now.unit self.now.core.setup e place (slice_index_or (map (λ c. c.items) choices.now) place []) (file_at next.files place).bytes) }
         ensures granted { ((n : ℕ) → M.grants memory.now n) → self.now.is_lost ≡ false → IsOk result }
@@ -239,6 +257,35 @@ impl CrashMachine {
         let next = CrashMachine::on_in(memory, self.alloc, &self.core.setup(), self.unit, &left);
         drop(left);
         next
+    }
+
+    /// Gives memory back: folds what can be folded of each file, and forgets it. What a crash may leave stays as it was, whatever happens later, and so do all answers; a choice names what is left of the writes. Out of memory, some of them may be left. It is quick if it is called after each sync.
+    pub fn fold(&mut self) -> Result<(), AllocError>
+        ensures core { self.new.core ≡ self.old.core }
+        ensures unit { self.new.unit ≡ self.old.unit }
+        ensures files { self.new.files ≡ self.old.files }
+        ensures lost { self.new.is_lost ≡ self.old.is_lost }
+        ensures folded { AreFolded self.old.logs self.new.logs }
+        ensures none_left { OnOk result (AreWhollyFolded self.new.logs) }
+        ensures fits { (e : Epoch) (earlier : List Epoch) → FitsRun self.old e earlier → FitsRun self.new e earlier }
+    {
+        let memory = self.alloc;
+        self.fold_in(&memory)
+    }
+
+    /// As `fold`, by this memory. If it grants whatever is asked for, there is no error.
+    pub fn fold_in<M: Memory>(&mut self, memory: &M) -> Result<(), AllocError>
+        ensures core { self.new.core ≡ self.old.core }
+        ensures unit { self.new.unit ≡ self.old.unit }
+        ensures files { self.new.files ≡ self.old.files }
+        ensures lost { self.new.is_lost ≡ self.old.is_lost }
+        ensures folded { AreFolded self.old.logs self.new.logs }
+        ensures none_left { OnOk result (AreWhollyFolded self.new.logs) }
+        ensures fits { (e : Epoch) (earlier : List Epoch) → FitsRun self.old e earlier → FitsRun self.new e earlier }
+        ensures granted { ((n : ℕ) → M.grants memory.now n) → IsOk result }
+    {
+        self.is_folded = true;
+        fold_all(memory, &mut self.logs)
     }
 
     /// Whether memory was refused for a step, and so each further one is.

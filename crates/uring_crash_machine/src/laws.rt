@@ -5,6 +5,7 @@ ghost use Rattle.uring_crash_machine.specs.Laws.{RunningWritesRun, RunningSyncsR
 use uring_files::laws::write_changes_what_lies_under_it;
 
 /// What runs on the machine's file runs on the volume.
+#[tactic(auto, using(crate::proofs::LogLaws::running_writes_run, crate::proofs::LogLaws::running_syncs_run))]
 pub fn what_runs_is_logged()
     ensures writes { RunningWritesRun }
     ensures syncs { RunningSyncsRun }
@@ -25,6 +26,7 @@ pub fn volumes_show_the_files()
 }
 
 /// What is lawful on a new machine is what is lawful from empty files.
+#[tactic(auto, using(crate::proofs::LawfulFrom::empty_files_are_the_case))]
 pub fn empty_files_are_the_case()
     ensures { EmptyFilesAreTheCase }
 {}

@@ -6,6 +6,7 @@ mod file_log;
 mod first_files;
 pub mod laws;
 mod note;
+mod numbering;
 
 pub use crash_machine::CrashMachine;
 pub use file_log::FileLog;

@@ -1,8 +1,8 @@
-//! What an answer makes of the logs of all files.
+//! What an answer makes of the logs of all files, and a fold.
 
 ghost use Rattle.std.specs.Prelude.{◌≡◌, ℕ, map, length, IsOk, OnOk, IfSome};
 ghost use Rattle.uring_files.specs.Operations.{IsForFiles};
-ghost use Rattle.uring_crash_machine.specs.Logs.{issued_as, finished_as};
+ghost use Rattle.uring_crash_machine.specs.Logs.{AreFolded, AreWhollyFolded, issued_as, finished_as};
 
 use crate::file_log::FileLog;
 use std::alloc::AllocError;
@@ -29,17 +29,23 @@ pub fn note_issue<M: Memory>(
     Ok(())
 }
 
-/// Notes in each log how a Finish of a request was answered, whose operation this was if it ran, by this memory.
-pub fn note_finish<M: Memory>(
-    memory: &M,
-    logs: &mut [FileLog],
-    n: u64,
-    op: Option<Op>,
-    answer: &Answer,
-)
+/// Notes in each log how a Finish of a request was answered, whose operation this was if it ran.
+pub fn note_finish(logs: &mut [FileLog], n: u64, op: Option<Op>, answer: &Answer)
     ensures { logs.new ≡ map (λ log. finished_as n op answer.now log) logs.old }
 {
     for place in 0..logs.len() {
-        logs[place].note_finish_in(memory, n, op, answer);
+        logs[place].note_finish(n, op, answer);
     }
+}
+
+/// Folds each log, by this memory. If it grants whatever is asked for, there is no error.
+pub(crate) fn fold_all<M: Memory>(memory: &M, logs: &mut [FileLog]) -> Result<(), AllocError>
+    ensures folded { AreFolded logs.old logs.new }
+    ensures none_left { OnOk result (AreWhollyFolded logs.new) }
+    ensures granted { ((k : ℕ) → M.grants memory.now k) → IsOk result }
+{
+    for place in 0..logs.len() {
+        logs[place].fold_in(memory)?;
+    }
+    Ok(())
 }

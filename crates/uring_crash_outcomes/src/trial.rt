@@ -111,7 +111,7 @@ impl Trial {
             res,
             bytes: [0; 64],
         };
-        note_finish(memory, &mut self.logs, number, op, &answer);
+        note_finish(&mut self.logs, number, op, &answer);
         Ok(true)
     }
 }

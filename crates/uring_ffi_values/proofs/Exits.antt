@@ -107,8 +107,8 @@ starts w s unit lens result asked short a b = grind arith
 
 -- and the machine that comes of them begins so
 pub begins : (w : SetupWords) (s : Setup) (unit : ℕ) (contents given : List (List ℕ)) (m : CrashMachine) → IsAskedFor w s → m.core.setup ≡ s → m.unit ≡ unit
-    → m.is_lost ≡ false → given ≡ contents → FitsRun m (begun_on (first_files s.files given)) [] → BeginsOn w unit contents m
-begins w s unit contents given m asked setup units ready is fits = grind arith
+    → m.is_lost ≡ false → m.is_folded ≡ false → given ≡ contents → FitsRun m (begun_on (first_files s.files given)) [] → BeginsOn w unit contents m
+begins w s unit contents given m asked setup units ready whole is fits = grind arith
 
 -- what is asked for by its own size is granted
 pub fits_itself : (n : ℕ) → n ≤ n

@@ -1,8 +1,8 @@
 -- What a choice leaves is an image, and each image is what some choice leaves.
 use Rattle.std.proofs.Common.{◌≡◌, ◌/◌, ℕ, Bool, true, false, List, [], ◌∷◌, length, refl, sym, ap, ◌∙◌, inl, inr, arith}
-use Rattle.uring_volume.proofs.Common.{ChosenIsImage, History, ImageIsChosen, IsChosen, IsImage, IsIn, IsInOrder, IsLawful, MayBeLeft, Write, WriteEnded, WriteIssued, byte_over, chosen, filter, has_ended, is_before, is_on, issued, length_over, ne_eqb, slice_index, writes}
-use Rattle.uring_volume.proofs.Units.{in_filter, of_filter, filter_in_order}
-use Rattle.uring_volume.proofs.Fitting.{in_left, in_right, in_either, append_in_order, FitsIn, chosen_fits, AreApart, apart_filter, numbers, fits_chosen}
+use Rattle.uring_volume.proofs.Common.{ChosenIsImage, History, ImageIsChosen, IsChosen, IsImage, IsIn, IsInOrder, IsLawful, MayBeLeft, Write, WriteEnded, WriteFailed, WriteIssued, byte_over, chosen, filter, is_before, is_on, issued, length_over, ne_eqb, slice_index, writes}
+use Rattle.uring_volume.proofs.Units.{in_filter, of_filter}
+use Rattle.uring_volume.proofs.Fitting.{in_left, in_right, in_either, append_in_order, FitsIn, chosen_fits, AreApart, apart_filter, numbers, fits_chosen, before_along, not_before}
 
 -- The writes of a lawful history.
 
@@ -36,13 +36,6 @@ with_issue h v [] differ o = tt
 with_issue h v (w ∷ later) differ o =
     (λ m among. issue_apart h v m.number w.number (differ w (inl refl)) (o.0 m among), o.1, with_issue h v later (λ x among. differ x (inr among)) o.2)
 
--- a write that hasn't ended is before none
-pub not_before : (h : History) (m n : ℕ) → has_ended h m ≡ false → is_before h m n ≡ false
-not_before [] m n open_yet = refl
-not_before (WriteIssued w ∷ earlier) m n open_yet = grind (arith, (not_before earlier m n))
-not_before (WriteEnded k ∷ earlier) m n open_yet = grind (arith, (not_before earlier m n))
-not_before (e ∷ earlier) m n open_yet = not_before earlier m n open_yet
-
 issued_in_order : (h : History) → IsLawful h → IsInOrder h (issued h)
 issued_in_order [] l = tt
 issued_in_order (WriteIssued v ∷ earlier) l =
@@ -51,18 +44,24 @@ issued_in_order (WriteIssued v ∷ earlier) l =
     (λ m none. absurd none, λ none. none, tt)
     (λ x m left right. grind (arith, (issue_apart earlier v m.number x.number (l.0 x (of_issued earlier x left))), (not_before earlier m.number x.number)))
     (λ x left right. grind (arith, (l.0 x (of_issued earlier x left))))
+issued_in_order (WriteEnded n ∷ earlier) l = same_order (WriteEnded n ∷ earlier) earlier (issued earlier) (λ m k. refl) (issued_in_order earlier l.1)
+issued_in_order (WriteFailed n ∷ earlier) l = same_order (WriteFailed n ∷ earlier) earlier (issued earlier) (λ m k. refl) (issued_in_order earlier l.1)
 issued_in_order (e ∷ earlier) l = same_order (e ∷ earlier) earlier (issued earlier) (λ m k. refl) (issued_in_order earlier l)
 
 none_before_itself : (h : History) (w : Write) → IsLawful h → IsIn w (writes h)
     → is_before h w.number w.number ≡ false
 none_before_itself [] w l among = refl
 none_before_itself (WriteIssued v ∷ earlier) w l among = grind (arith, not_before, issue_apart, (none_before_itself earlier w l.2))
+none_before_itself (WriteEnded n ∷ earlier) w l among = none_before_itself earlier w l.1 among
+none_before_itself (WriteFailed n ∷ earlier) w l among = none_before_itself earlier w l.1 among
 none_before_itself (e ∷ earlier) w l among = none_before_itself earlier w l among
 
 pub one_number : (h : History) (x y : Write) → IsLawful h → IsIn x (writes h) → IsIn y (writes h)
     → x.number ≡ y.number → x ≡ y
 one_number [] x y l ax ay e = absurd ax
 one_number (WriteIssued v ∷ earlier) x y l ax ay e = grind (arith, (one_number earlier x y l.2), (l.0 x), (l.0 y))
+one_number (WriteEnded n ∷ earlier) x y l ax ay e = one_number earlier x y l.1 ax ay e
+one_number (WriteFailed n ∷ earlier) x y l ax ay e = one_number earlier x y l.1 ax ay e
 one_number (f ∷ earlier) x y l ax ay e = one_number earlier x y l ax ay e
 
 pub issued_apart : (h : History) → IsLawful h → AreApart h (issued h)
@@ -70,6 +69,7 @@ issued_apart h l = record {
   in_order = issued_in_order h l;
   unique = λ x y ax ay. one_number h x y l (of_issued h x ax) (of_issued h y ay);
   irreflexive = λ x among. none_before_itself h x l (of_issued h x among);
+  along = λ m n ended before. before_along h m n l ended before;
 }
 
 -- A place of the file.
@@ -99,7 +99,7 @@ pub chosen_left : (h : History) (touches : Write → Bool) (choice : List ℕ) �
     → MayBeLeft h touches (chosen h (filter touches (issued h)) choice)
 chosen_left h touches choice l =
     left_of_fit h touches (filter touches (issued h)) (chosen h (filter touches (issued h)) choice) (on_of h touches) (on_into h touches)
-    (chosen_fits h (filter touches (issued h)) choice (filter_in_order h touches (issued h) (issued_in_order h l)))
+    (chosen_fits h (filter touches (issued h)) choice (apart_filter h touches (issued h) (issued_apart h l)))
 
 left_chosen : (h : History) (touches : Write → Bool) (order : List Write) → IsLawful h
     → MayBeLeft h touches order → chosen h (filter touches (issued h)) (numbers order) ≡ order
@@ -111,7 +111,7 @@ whole_left : (h : History) (choice : List ℕ) → IsLawful h
     → MayBeLeft h (λ w. true) (chosen h (issued h) choice)
 whole_left h choice l =
     left_of_fit h (λ w. true) (issued h) (chosen h (issued h) choice) (grind (arith, of_issued)) (grind (arith, in_issued))
-    (chosen_fits h (issued h) choice (issued_in_order h l))
+    (chosen_fits h (issued h) choice (issued_apart h l))
 
 whole_chosen : (h : History) (order : List Write) → IsLawful h → MayBeLeft h (λ w. true) order
     → chosen h (issued h) (numbers order) ≡ order

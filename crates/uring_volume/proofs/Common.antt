@@ -6,14 +6,14 @@ pub use Rattle.std.proofs.lemmas.List.Folds.{list_any-append}
 pub use Rattle.std.specs.Cmp.Lexicographic.{pointwise, same_text}
 pub use Rattle.std.specs.List.{filter, list_any}
 pub use Rattle.std.specs.Prelude.{Err, IfOk, Ok, OnOk, Result, nat_eq, slice_index, vec_capacity, vec_len, ◌&&◌}
-pub use Rattle.uring_volume.specs.Choices.{AreBelow, IsChosen, IsLawful, IsLeftBy, chosen, has_safe, issued, named, part, up_to_safe, waits_for_one, without}
-pub use Rattle.uring_volume.specs.Events.{History, has_ended, is_before, is_covered, is_given_up, is_reached, is_safe, lies_in, meets, writes}
+pub use Rattle.uring_volume.specs.Choices.{AreBelow, IsChosen, IsLawful, IsLeftBy, after, chosen, has_safe, issued, may_come, may_follow, named, part, up_to_safe, waits_for_one}
+pub use Rattle.uring_volume.specs.Events.{History, goes_along, has_ended, is_before, is_covered, is_done, is_given_up, is_reached, is_safe, lies_in, meets, writes}
 pub use Rattle.uring_volume.specs.Folds.{FoldChangesNone, IsFoldable, IsFoldedFrom, IsOneFolded, IsOver, can_fold, is_in_way, is_of_write, overlap, without_write}
 pub use Rattle.uring_volume.specs.Images.{IsImage, IsIn, IsInOrder, MayBeLeft, UnitIsLeft, byte_over, end_of, is_on, is_under, length_over}
-pub use Rattle.uring_volume.specs.Laws.{ChangesNone, ChosenIsImage, FailedIsNeverSafe, ImageIsChosen, IsAtRest, IsKept, IsReadBack, RestHasOneImage, SafeIsReadBack, SmallerUnitsAllowIt, SyncAddsNone}
+pub use Rattle.uring_volume.specs.Laws.{ChangesNone, ChosenIsImage, FailedIsNeverSafe, FailedLiesUnder, ImageIsChosen, IsAtRest, IsKept, IsReadBack, RestHasOneImage, SafeIsReadBack, SmallerUnitsAllowIt, SyncAddsNone, UnendedIsNeverSafe}
 pub use Rattle.uring_volume.specs.Listing.{AreTheImages, IsEachOnce, ListsAreAsLong}
 pub use Rattle.uring_volume.specs.Volume.{IsHeld, IsShown, IsSound, Volume, but, ended, is_one_of, running_syncs, running_writes, with_event, with_sync, with_write}
 pub use Rattle.uring_volume.specs.Ways.{Way, bytes_from, bytes_over, contents_of, fewest, fewest_with, files_of, found_at, found_by, fronts, goes_with, images_of, is_needed, joined, lengths_by, lengths_of, next_ways, put_by, same_way, same_write, stepped, steps_of, unit_contents, units_in, way}
 pub use Rattle.uring_volume.specs.Writes.{Write}
 pub use Rattle.uring_volume.specs.declared.event.Event.{Event}
-pub use Rattle.uring_volume.specs.declared.event.Event.TheVariants.{SyncEnded, SyncFailed, SyncIssued, WriteEnded, WriteIssued}
+pub use Rattle.uring_volume.specs.declared.event.Event.TheVariants.{SyncEnded, SyncFailed, SyncIssued, WriteEnded, WriteFailed, WriteIssued}

@@ -1,9 +1,9 @@
 -- The writes that have ended, in the order of their ends.
 use Rattle.std.proofs.Common.{◌≡◌, ℕ, ◌==◌, ◌<◌, ◌+◌, true, false, List, [], ◌∷◌, ◌++◌, length, take, get_or, refl, sym, subst, ◌∙◌, inl, inr, arith}
 use Rattle.std.proofs.lemmas.List.Elements.{filter-append}
-use Rattle.uring_volume.proofs.Common.{append_assoc, ended, append-nil, eq-eqb, take_more, named, History, IsIn, IsLawful, SyncEnded, SyncFailed, SyncIssued, Write, WriteEnded, WriteIssued, both_ways, has_ended, issued, ne_eqb}
+use Rattle.uring_volume.proofs.Common.{append_assoc, ended, append-nil, eq-eqb, take_more, named, History, IsIn, IsLawful, SyncEnded, SyncFailed, SyncIssued, Write, WriteEnded, WriteFailed, WriteIssued, both_ways, has_ended, is_done, issued, ne_eqb}
 use Rattle.uring_volume.specs.Past.{end_list}
-use Rattle.uring_volume.proofs.Fitting.{in_either}
+use Rattle.uring_volume.proofs.Fitting.{ended_done, in_either}
 
 abbrev pub ends_of : List Write → List ℕ → List Write
 ends_of ws [] = []
@@ -23,6 +23,7 @@ has_end (WriteEnded k ∷ earlier) n among = elim (in_either n (end_list earlier
   ]
 ]
 has_end (WriteIssued w ∷ earlier) n among = has_end earlier n among
+has_end (WriteFailed k ∷ earlier) n among = has_end earlier n among
 has_end (SyncIssued s range ∷ earlier) n among = has_end earlier n among
 has_end (SyncEnded s ∷ earlier) n among = has_end earlier n among
 has_end (SyncFailed s ∷ earlier) n among = has_end earlier n among
@@ -37,8 +38,9 @@ pub ended_is : (h : History) → IsLawful h → ended h ≡ ends_of (issued h) (
 ended_is [] l = refl
 ended_is (WriteIssued w ∷ earlier) l =
     ended_is earlier l.2
-    ∙ sym (ends_skip w (issued earlier) (end_list earlier) (λ n among. ne_eqb w.number n (λ same. both_ways (has_ended earlier w.number) l.1 (subst (λ m. has_ended earlier m ≡ true) (sym same) (has_end earlier n among)))))
-ended_is (WriteEnded k ∷ earlier) l = grind (arith, (ended_is earlier l), ends_append, append-nil)
+    ∙ sym (ends_skip w (issued earlier) (end_list earlier) (λ n among. ne_eqb w.number n (λ same. both_ways (is_done earlier w.number) l.1 (subst (λ m. is_done earlier m ≡ true) (sym same) (ended_done earlier n (has_end earlier n among))))))
+ended_is (WriteEnded k ∷ earlier) l = grind (arith, (ended_is earlier l.1), ends_append, append-nil)
+ended_is (WriteFailed k ∷ earlier) l = ended_is earlier l.1
 ended_is (SyncIssued s range ∷ earlier) l = ended_is earlier l
 ended_is (SyncEnded s ∷ earlier) l = ended_is earlier l
 ended_is (SyncFailed s ∷ earlier) l = ended_is earlier l

@@ -1,7 +1,7 @@
 -- The test tells which write can be folded.
 use Rattle.std.specs.Prelude.{nat_le}
 use Rattle.std.proofs.Common.{◌≡◌, ◌==◌, ◌+◌, ℕ, max, length, true, false, not, ◌&&◌, ap, inl, inr, arith}
-use Rattle.uring_volume.proofs.Common.{History, IsFoldable, IsIn, IsLawful, Write, and_from, and_parts, both_ways, can_fold, eqb-false, false_from_ne_true, is_before, is_in_way, is_safe, is_under, issued, le-leb, list_any, ne_eqb, not-true, not_from_false, or_cases, overlap, writes}
+use Rattle.uring_volume.proofs.Common.{History, IsFoldable, IsIn, IsLawful, Write, and_from, and_parts, both_ways, can_fold, eqb-false, false_from_ne_true, goes_along, is_before, is_in_way, is_safe, is_under, issued, le-leb, list_any, ne_eqb, not-true, not_from_false, or_cases, overlap, writes}
 use Rattle.uring_volume.specs.Folds.{IsUnderSafe, can_let_go, lies_over}
 use Rattle.uring_volume.proofs.Chosen.{in_issued, of_issued, one_number}
 use Rattle.uring_volume.proofs.Puts.{any_is, is_any}
@@ -23,7 +23,7 @@ foldable_by h w l among can =
     record {
       issued = of_issued h w among;
       safe = parts.0;
-      oldest = λ m among before. grind (arith, before, (out_of_way h w m parts.1 among));
+      oldest = λ m among along. grind (arith, along, (out_of_way h w m parts.1 among));
       lowest = grind (arith, of_issued, one_number, ne_eqb, both_under, (λ (m : Write). out_of_way h w m parts.1));
     }
 
@@ -37,9 +37,9 @@ can_fold_it h w f =
     and_from _ _ f.safe (not_from_false (list_any (λ m. is_in_way h w m) (issued h)) (false_from_ne_true (list_any (λ m. is_in_way h w m) (issued h)) (λ is.
     let found = any_is (λ m. is_in_way h w m) (issued h) is in
     let among : IsIn found.0 (writes h) = of_issued h found.0 found.1 in
-    elim (or_cases (is_before h found.0.number w.number && not (is_safe h found.0)) (not (found.0.number == w.number) && (overlap found.0 w && not (is_before h w.number found.0.number))) found.2) [
-      | inl before ↦
-          let both = and_parts (is_before h found.0.number w.number) (not (is_safe h found.0)) before in
+    elim (or_cases (goes_along h found.0.number w.number && not (is_safe h found.0)) (not (found.0.number == w.number) && (overlap found.0 w && not (is_before h w.number found.0.number))) found.2) [
+      | inl along ↦
+          let both = and_parts (goes_along h found.0.number w.number) (not (is_safe h found.0)) along in
           both_ways (is_safe h found.0) (not-true (is_safe h found.0) both.1) (f.oldest found.0 among both.0)
       | inr rest ↦
           let one = and_parts (not (found.0.number == w.number)) (overlap found.0 w && not (is_before h w.number found.0.number)) rest in

@@ -1,13 +1,14 @@
 -- What a volume keeps when a write is folded.
 use Rattle.std.proofs.Common.{◌≡◌, ◌==◌, ℕ, Bool, true, false, not, List, [], ◌∷◌, ◌++◌, ◌⊎◌, refl, sym, subst, ◌∙◌, inl, inr, arith}
-use Rattle.uring_volume.proofs.Common.{Err, History, IsFoldable, IsFoldedFrom, IsHeld, IsIn, IsLawful, IsOneFolded, IsOver, IsSound, Ok, Result, Volume, Write, WriteEnded, WriteIssued, append-nil, both_ways, but, can_fold, cases_Bool, cond_both, eqb-false, eqb-true, false_from_ne_true, filter, has_ended, is_before, is_safe, is_one_of, issued, list_any, running_syncs, running_writes, without_write, writes}
+use Rattle.uring_volume.proofs.Common.{Err, History, IsFoldable, IsFoldedFrom, IsHeld, IsIn, IsLawful, IsOneFolded, IsOver, IsSound, Ok, Result, Volume, Write, WriteEnded, WriteFailed, WriteIssued, append-nil, both_ways, but, can_fold, cases_Bool, cond_both, eqb-false, eqb-true, false_from_ne_true, filter, has_ended, is_before, is_done, is_safe, is_one_of, issued, list_any, running_syncs, running_writes, without_write, writes}
 use Rattle.std.specs.declared.alloc.AllocError.{AllocError}
 use Rattle.std.proofs.lemmas.List.Elements.{filter-append}
 use Rattle.uring_volume.proofs.Chosen.{in_issued, one_number}
-use Rattle.uring_volume.proofs.Numbers.{is_in_but, one_more}
+use Rattle.uring_volume.proofs.Numbers.{runs_still}
 use Rattle.uring_volume.proofs.Puts.{is_any}
-use Rattle.uring_volume.proofs.Folding.{safe_ended, fold_changes_none, letting_go_changes_none}
-use Rattle.uring_volume.proofs.Lengths.{before_ended}
+use Rattle.uring_volume.proofs.Folding.{fold_changes_none, letting_go_changes_none}
+use Rattle.uring_volume.proofs.Fitting.{ended_done, safe_ended}
+use Rattle.uring_volume.proofs.Lengths.{before_done}
 use Rattle.uring_volume.proofs.ShownLength.{shown_folded, shown_let_go}
 use Rattle.uring_volume.specs.Folds.{IsOneLetGo, IsUnderSafe}
 use Rattle.uring_volume.proofs.Without.{same_later, but_later}
@@ -33,78 +34,82 @@ running_without : (n : ℕ) (h : History) → running_writes (without_write n h)
 running_without n [] = refl
 running_without n (WriteIssued w ∷ earlier) = grind (arith, filter-append, append-nil, (running_without n earlier))
 running_without n (WriteEnded k ∷ earlier) = grind (arith, (running_without n earlier), filter_twice, filter_swap)
+running_without n (WriteFailed k ∷ earlier) = grind (arith, (running_without n earlier), filter_twice, filter_swap)
 running_without n (e ∷ earlier) = running_without n earlier
 
 syncs_without : (n : ℕ) (h : History) → running_syncs (without_write n h) ≡ running_syncs h
 syncs_without n [] = refl
 syncs_without n (e ∷ earlier) = grind (arith, (syncs_without n earlier))
 
-out_of_but : (n : ℕ) (ns : List ℕ) → is_one_of n (but n ns) ≡ false
-out_of_but n [] = refl
-out_of_but n (m ∷ ns) = grind (arith, (out_of_but n ns))
-
--- what runs hasn't ended
-pub runs_still : (h : History) (n : ℕ) → IsLawful h → is_one_of n (running_writes h) ≡ true
-    → has_ended h n ≡ false
-runs_still [] n l is = refl
-runs_still (WriteIssued w ∷ earlier) n l is = grind (arith, one_more, (runs_still earlier n l.2))
-runs_still (WriteEnded k ∷ earlier) n l is =
-    grind (arith, both_ways, out_of_but, (runs_still earlier n l (is_in_but k n (running_writes earlier) is)), is_in_but)
-runs_still (e ∷ earlier) n l is = runs_still earlier n l is
-
 -- One write folded.
 
-pub ended_of : (n m : ℕ) (h : History) → has_ended (without_write n h) m ≡ true → has_ended h m ≡ true
-ended_of n m [] is = is
-ended_of n m (WriteIssued w ∷ earlier) is = grind (arith, (ended_of n m earlier))
-ended_of n m (WriteEnded k ∷ earlier) is = grind (arith, (ended_of n m earlier))
-ended_of n m (e ∷ earlier) is = ended_of n m earlier is
+pub done_of : (n m : ℕ) (h : History) → is_done (without_write n h) m ≡ true → is_done h m ≡ true
+done_of n m [] is = is
+done_of n m (WriteIssued w ∷ earlier) is = grind (arith, (done_of n m earlier))
+done_of n m (WriteEnded k ∷ earlier) is = grind (arith, (done_of n m earlier))
+done_of n m (WriteFailed k ∷ earlier) is = grind (arith, (done_of n m earlier))
+done_of n m (e ∷ earlier) is = done_of n m earlier is
 
-not_ended : (n m : ℕ) (h : History) → has_ended h m ≡ false → has_ended (without_write n h) m ≡ false
-not_ended n m h out = false_from_ne_true (has_ended (without_write n h) m) (λ is. both_ways (has_ended h m) out (ended_of n m h is))
+not_done : (n m : ℕ) (h : History) → is_done h m ≡ false → is_done (without_write n h) m ≡ false
+not_done n m h out = false_from_ne_true (is_done (without_write n h) m) (λ is. both_ways (is_done h m) out (done_of n m h is))
 
 writes_of : (n : ℕ) (h : History) (x : Write) → IsIn x (writes (without_write n h)) → IsIn x (writes h)
 writes_of n [] x among = among
 writes_of n (WriteIssued w ∷ earlier) x among = grind (arith, (writes_of n earlier x))
 writes_of n (WriteEnded k ∷ earlier) x among = grind (arith, (writes_of n earlier x))
+writes_of n (WriteFailed k ∷ earlier) x among = grind (arith, (writes_of n earlier x))
 writes_of n (e ∷ earlier) x among = writes_of n earlier x among
 
 lawful_without : (n : ℕ) (h : History) → IsLawful h → IsLawful (without_write n h)
 lawful_without n [] l = l
 lawful_without n (WriteIssued w ∷ earlier) l =
     cond_both (not (w.number == n)) (WriteIssued w ∷ without_write n earlier) (without_write n earlier) (λ g. IsLawful g)
-    (λ _. (λ v among same. l.0 v (writes_of n earlier v among) same, not_ended n w.number earlier l.1, lawful_without n earlier l.2))
+    (λ _. (λ v among same. l.0 v (writes_of n earlier v among) same, not_done n w.number earlier l.1, lawful_without n earlier l.2))
     (λ _. lawful_without n earlier l.2)
-lawful_without n (WriteEnded k ∷ earlier) l = grind (arith, (lawful_without n earlier l))
+lawful_without n (WriteEnded k ∷ earlier) l =
+    cond_both (not (k == n)) (WriteEnded k ∷ without_write n earlier) (without_write n earlier) (λ g. IsLawful g)
+    (λ _. (not_done n k earlier l.0, lawful_without n earlier l.1))
+    (λ _. lawful_without n earlier l.1)
+lawful_without n (WriteFailed k ∷ earlier) l =
+    cond_both (not (k == n)) (WriteFailed k ∷ without_write n earlier) (without_write n earlier) (λ g. IsLawful g)
+    (λ _. (not_done n k earlier l.0, lawful_without n earlier l.1))
+    (λ _. lawful_without n earlier l.1)
 lawful_without n (e ∷ earlier) l = lawful_without n earlier l
 
-ended_later : (n m : ℕ) (later h : History) → has_ended (later ++ without_write n h) m ≡ true
-    → has_ended (later ++ h) m ≡ true
-ended_later n m [] h is = ended_of n m h is
-ended_later n m (WriteEnded k ∷ later) h is = grind (arith, (ended_later n m later h))
-ended_later n m (e ∷ later) h is = ended_later n m later h is
+done_later : (n m : ℕ) (later h : History) → is_done (later ++ without_write n h) m ≡ true
+    → is_done (later ++ h) m ≡ true
+done_later n m [] h is = done_of n m h is
+done_later n m (WriteEnded k ∷ later) h is = grind (arith, (done_later n m later h))
+done_later n m (WriteFailed k ∷ later) h is = grind (arith, (done_later n m later h))
+done_later n m (e ∷ later) h is = done_later n m later h is
+
+not_done_later : (n m : ℕ) (later h : History) → is_done (later ++ h) m ≡ false
+    → is_done (later ++ without_write n h) m ≡ false
+not_done_later n m later h out = false_from_ne_true (is_done (later ++ without_write n h) m) (λ is. both_ways (is_done (later ++ h) m) out (done_later n m later h is))
 
 lawful_later : (later h : History) (w : Write) → IsIn w (writes h) → IsLawful (later ++ h)
     → IsLawful (later ++ without_write w.number h)
 lawful_later [] h w among l = lawful_without w.number h l
 lawful_later (WriteIssued v ∷ later) h w among l = (
   λ x is_in same. l.0 x ((but_later later h w l.2 among).of x is_in).0 same,
-  false_from_ne_true (has_ended (later ++ without_write w.number h) v.number) (λ is. both_ways (has_ended (later ++ h) v.number) l.1 (ended_later w.number v.number later h is)),
+  not_done_later w.number v.number later h l.1,
   lawful_later later h w among l.2,
 )
+lawful_later (WriteEnded k ∷ later) h w among l = (not_done_later w.number k later h l.0, lawful_later later h w among l.1)
+lawful_later (WriteFailed k ∷ later) h w among l = (not_done_later w.number k later h l.0, lawful_later later h w among l.1)
 lawful_later (e ∷ later) h w among l = lawful_later later h w among l
 
 -- a volume with a write folded
 abbrev pub with_folded : ℕ → List ℕ → Volume → Volume
 with_folded n over v = record v { first = over; history = without_write n v.history }
 
-running_same : (v : Volume) (n : ℕ) → IsSound v → has_ended v.history n ≡ true
+running_same : (v : Volume) (n : ℕ) → IsSound v → is_done v.history n ≡ true
     → running_writes (without_write n v.history) ≡ running_writes v.history
-running_same v n sound ended =
-    grind (arith, (running_without n v.history), ended, but_none, false_from_ne_true, both_ways, runs_still)
+running_same v n sound done =
+    grind (arith, (running_without n v.history), done, but_none, false_from_ne_true, both_ways, runs_still)
 
 pub held_folded : (v : Volume) (n : ℕ) (over write_list sync_list : List ℕ)
-    → IsHeld v write_list sync_list → has_ended v.history n ≡ true
+    → IsHeld v write_list sync_list → is_done v.history n ≡ true
     → IsHeld (with_folded n over v) write_list sync_list
 held_folded v n over write_list sync_list held gone = record {
   sound = record {
@@ -114,7 +119,7 @@ held_folded v n over write_list sync_list held gone = record {
       some = held.sound.numbered.some;
       positive = λ x among. held.sound.numbered.positive x (writes_of n v.history x among);
       issued = λ x among. held.sound.numbered.issued x (writes_of n v.history x among);
-      ended = λ m is. held.sound.numbered.ended m (ended_of n m v.history is);
+      done = λ m is. held.sound.numbered.done m (done_of n m v.history is);
       running = λ m is. held.sound.numbered.running m (subst (λ ns. is_one_of m ns ≡ true) (running_same v n held.sound gone) is);
     };
   };
@@ -135,6 +140,12 @@ ended_same : (v : Volume) (w x : Write) → IsSound v → IsIn w (writes v.histo
 ended_same v w x sound issued among =
     (same_later w.number [] v.history).ended x.number ((but_later [] v.history w sound.lawful issued).of x among).1
 
+done_same : (v : Volume) (w x : Write) → IsSound v → IsIn w (writes v.history)
+    → IsIn x (writes (without_write w.number v.history))
+    → is_done (without_write w.number v.history) x.number ≡ is_done v.history x.number
+done_same v w x sound issued among =
+    (same_later w.number [] v.history).done x.number ((but_later [] v.history w sound.lawful issued).of x among).1
+
 -- a write is gone, or it is the one that was left out
 gone_or_it : (v : Volume) (w x : Write) → IsSound v → IsIn w (writes v.history) → IsIn x (writes v.history)
     → IsIn x (writes (without_write w.number v.history)) ⊎ (x ≡ w)
@@ -153,12 +164,13 @@ folded_one v w over sound f is = record {
   lawful = λ later l. lawful_later later v.history w f.issued l;
   before = λ m x am ax. before_same v w m x sound f.issued am ax;
   have_ended = λ x among. ended_same v w x sound f.issued among;
+  are_done = λ x among. done_same v w x sound f.issued among;
   none_new = λ x among. writes_of w.number v.history x among;
   gone = λ x among. elim (gone_or_it v w x sound f.issued among) [
     | inl there ↦ inl there
     | inr it ↦ inr (inl (subst (λ y. is_safe v.history y ≡ true) (sym it) f.safe))
   ];
-  writes_run = running_same v w.number sound (safe_ended v.history w f.safe);
+  writes_run = running_same v w.number sound (ended_done v.history w.number (safe_ended v.history w f.safe));
   syncs_run = syncs_without w.number v.history;
   shown = shown_folded v.first over v.history w sound.lawful f is;
 }
@@ -173,12 +185,13 @@ one_let_go v w sound s = record {
   lawful = λ later l. lawful_later later v.history w s.issued l;
   before = λ m x am ax. before_same v w m x sound s.issued am ax;
   have_ended = λ x among. ended_same v w x sound s.issued among;
+  are_done = λ x among. done_same v w x sound s.issued among;
   none_new = λ x among. writes_of w.number v.history x among;
   gone = λ x among. elim (gone_or_it v w x sound s.issued among) [
     | inl there ↦ inl there
     | inr it ↦ inr (inr (subst (λ y. IsUnderSafe v.history y) (sym it) s))
   ];
-  writes_run = running_same v w.number sound (before_ended v.history w.number s.over.number s.before);
+  writes_run = running_same v w.number sound (before_done v.history w.number s.over.number s.before);
   syncs_run = syncs_without w.number v.history;
   shown = shown_let_go v.first v.history w sound.lawful (lawful_without w.number v.history sound.lawful) s;
 }
@@ -219,6 +232,7 @@ folded_more old mid new l a b = record {
   none_new = λ w among. a.none_new w (b.none_new w among);
   before = λ m w am aw. b.before m w am aw ∙ a.before m w (b.none_new m am) (b.none_new w aw);
   have_ended = λ w among. b.have_ended w among ∙ a.have_ended w (b.none_new w among);
+  are_done = λ w among. b.are_done w among ∙ a.are_done w (b.none_new w among);
   gone = λ w among. elim (a.gone w among) [
     | inl there ↦ elim (b.gone w there) as (λ _. IsIn w (writes new.history) ⊎ ((is_safe old.history w ≡ true) ⊎ IsUnderSafe old.history w)) [
       | inl still ↦ inl still
@@ -251,7 +265,7 @@ held_by : (v : Volume) (r : Result Bool AllocError) (first : List ℕ) (h : Hist
 held_by v (Ok true) first h write_list sync_list held is =
     let one = is.folded refl in
     let f = foldable_by v.history one.write held.sound.lawful one.issued one.can in (
-      subst (λ g. IsHeld (made_of first g v) write_list sync_list) (sym one.without) (held_folded v one.write.number first write_list sync_list held (safe_ended v.history one.write f.safe)),
+      subst (λ g. IsHeld (made_of first g v) write_list sync_list) (sym one.without) (held_folded v one.write.number first write_list sync_list held (ended_done v.history one.write.number (safe_ended v.history one.write f.safe))),
       subst (λ g. IsFoldedFrom v (made_of first g v)) (sym one.without) (folded_one v one.write first held.sound f one.over),
     )
 held_by v (Ok false) first h write_list sync_list held is = grind arith
@@ -276,6 +290,7 @@ folded_none v = record {
   lawful = λ later l. l;
   before = λ m w am aw. refl;
   have_ended = λ w among. refl;
+  are_done = λ w among. refl;
   none_new = λ w among. among;
   gone = λ w among. inl among;
   writes_run = refl;

@@ -1,35 +1,24 @@
 -- A write that is folded into the first bytes changes no image: in each list that may be left it lies under all others of its bytes. Nor does one that lies under a safe one, if it is let go.
 use Rattle.std.proofs.Common.{◌≡◌, ◌==◌, ◌-◌, ◌+◌, ◌*◌, ◌<◌, ◌≤◌, ℕ, max, min, Bool, true, false, List, [], ◌∷◌, ◌++◌, ◌⊎◌, cond, length, refl, sym, subst, ap, ◌∙◌, inl, inr, arith}
-use Rattle.uring_volume.proofs.Common.{Event, FoldChangesNone, History, IsFoldable, IsImage, IsIn, IsInOrder, IsLawful, IsOver, MayBeLeft, SyncEnded, SyncIssued, SyncFailed, UnitIsLeft, Write, WriteEnded, WriteIssued, and_parts, both_ways, byte_over, cases_Bool, cond-false, cond_both, false_from_ne_true, list_any, end_of, eq-eqb, eqb-false, eqb-true, filter, has_ended, is_before, is_covered, is_on, is_safe, is_under, length_over, lt-ltb, ltb-true, ne_eqb, not_from_false, or_cases, slice_index, without_write, writes}
+use Rattle.uring_volume.proofs.Common.{Event, FoldChangesNone, History, IsFoldable, IsImage, IsIn, IsInOrder, IsLawful, IsOver, MayBeLeft, SyncEnded, SyncIssued, SyncFailed, UnitIsLeft, Write, WriteEnded, WriteFailed, WriteIssued, both_ways, byte_over, cases_Bool, cond-false, cond_both, false_from_ne_true, list_any, end_of, eq-eqb, eqb-false, eqb-true, filter, goes_along, is_before, is_on, is_safe, is_under, length_over, lt-ltb, ltb-true, ne_eqb, not_from_false, slice_index, without_write, writes}
 use Rattle.uring_volume.specs.Folds.{IsUnderSafe, LettingGoChangesNone}
 use Rattle.uring_volume.proofs.Units.{in_filter, of_filter, filter_in_order}
 use Rattle.uring_volume.proofs.ReadBack.{over, on_from, len_grows, end_within}
 use Rattle.uring_volume.proofs.Rest.{length_below}
-use Rattle.uring_volume.proofs.Fitting.{lacks, not_in}
-use Rattle.uring_volume.proofs.Lengths.{before_before, before_ended}
+use Rattle.uring_volume.proofs.Fitting.{along_before, along_ended, ended_done, lacks, not_before, not_in, safe_ended}
+use Rattle.uring_volume.proofs.Lengths.{along_through, before_before, before_done}
 use Rattle.uring_volume.proofs.Puts.{any_is}
-use Rattle.uring_volume.proofs.Chosen.{not_before, one_number}
+use Rattle.uring_volume.proofs.Chosen.{one_number}
 use Rattle.uring_volume.proofs.Without.{SameBut, same_later, WritesBut, but_later, in_later}
 
 -- It can still be folded later.
 
-covered_ended : (h : History) (s : ℕ) (w : Write) → is_covered h s w ≡ true
-    → has_ended h w.number ≡ true
-covered_ended [] s w is = absurd (both_ways false refl is)
-covered_ended (WriteEnded k ∷ earlier) s w is = grind (arith, (covered_ended earlier s w))
-covered_ended (SyncIssued t range ∷ earlier) s w is = grind (arith, (covered_ended earlier s w), or_cases, and_parts)
-covered_ended (e ∷ earlier) s w is = covered_ended earlier s w is
-
-pub safe_ended : (h : History) (w : Write) → is_safe h w ≡ true → has_ended h w.number ≡ true
-safe_ended [] w is = absurd (both_ways false refl is)
-safe_ended (WriteEnded k ∷ earlier) w is = grind (arith, (safe_ended earlier w))
-safe_ended (SyncEnded t ∷ earlier) w is = grind (arith, covered_ended, or_cases, and_parts, (safe_ended earlier w))
-safe_ended (e ∷ earlier) w is = safe_ended earlier w is
-
 pub still_foldable : (later h : History) (w : Write) → IsLawful (later ++ h) → IsFoldable h w
     → IsFoldable (later ++ h) w
 still_foldable [] h w l f = f
-still_foldable (WriteIssued v ∷ later) h w l f = grind (arith, not_before, before_ended, both_ways, eq-eqb, safe_ended, (still_foldable later h w l.2 f))
+still_foldable (WriteIssued v ∷ later) h w l f = grind (arith, not_before, before_done, along_before, along_ended, ended_done, both_ways, eq-eqb, safe_ended, (still_foldable later h w l.2 f))
+still_foldable (WriteEnded k ∷ later) h w l f = grind (arith, (still_foldable later h w l.1 f))
+still_foldable (WriteFailed k ∷ later) h w l f = grind (arith, (still_foldable later h w l.1 f))
 still_foldable (e ∷ later) h w l f = grind (arith, (still_foldable later h w l f))
 
 -- A history without a write that was issued.
@@ -73,10 +62,10 @@ left_to : (g h : History) (w : Write) (touches : Write → Bool) (order : List W
 left_to g h w touches order f left = record {
   issued = λ x among. let parts = other_of w x order among in (f.but_it.into x (left.issued x parts.0).0 parts.1, (left.issued x parts.0).1);
   safe = λ x among on safe. let was = f.but_it.of x among in other_in w x order (left.safe x was.0 on (sym (f.same.safe x was.1) ∙ safe)) was.1;
-  with_those_before = λ m x among on kept before.
+  with_those_before = λ m x among on kept along.
       let was = f.but_it.of m among in
       let parts = other_of w x order kept in
-      other_in w m order (left.with_those_before m x was.0 on parts.0 (sym (f.same.before m.number x.number was.1 parts.1) ∙ before)) was.1;
+      other_in w m order (left.with_those_before m x was.0 on parts.0 (sym (f.same.along m.number x.number was.1 parts.1) ∙ along)) was.1;
   in_order = order_to g h w (filter (lacks w.number) order) f (λ x among. (other_of w x order among).1) (filter_in_order g (lacks w.number) order left.in_order);
 }
 
@@ -85,6 +74,8 @@ left_to g h w touches order f left = record {
 before_itself : (h : History) (n : ℕ) → IsLawful h → is_before h n n ≡ false
 before_itself [] n l = refl
 before_itself (WriteIssued v ∷ earlier) n l = grind (arith, eqb-true, (before_itself earlier n l.2))
+before_itself (WriteEnded k ∷ earlier) n l = before_itself earlier n l.1
+before_itself (WriteFailed k ∷ earlier) n l = before_itself earlier n l.1
 before_itself (e ∷ earlier) n l = before_itself earlier n l
 
 abbrev put_in : History → Write → List Write → List Write
@@ -168,7 +159,7 @@ put_in_length h w len (x ∷ more) =
 -- with the write among them
 left_under : (g h : History) (w : Write) (touches : Write → Bool) (order : List Write)
     → IsWithout g h w → touches w ≡ true
-    → ((m : Write) → IsIn m (writes h) → touches m ≡ true → is_before g m.number w.number ≡ true → IsIn m order)
+    → ((m : Write) → IsIn m (writes h) → touches m ≡ true → goes_along g m.number w.number ≡ true → IsIn m order)
     → MayBeLeft h touches order → MayBeLeft g touches (put_in g w order)
 left_under g h w touches order f on_w those left =
     let others = λ (x : Write) (among : IsIn x order). (f.but_it.of x (left.issued x among).0).1 in
@@ -182,14 +173,14 @@ left_under g h w touches order f on_w those left =
         | inl is ↦ it x (it_is g h w x f among (eqb-true x.number w.number is))
         | inr out ↦ let other = eqb-false x.number w.number out in put_in_old g w x order (left.safe x (f.but_it.into x among other) on (f.same.safe x other ∙ safe))
       ];
-      with_those_before = λ m x among on kept before. elim (cases_Bool (m.number == w.number)) [
+      with_those_before = λ m x among on kept along. elim (cases_Bool (m.number == w.number)) [
         | inl is ↦ it m (it_is g h w m f among (eqb-true m.number w.number is))
         | inr out ↦
             let other = eqb-false m.number w.number out in
             let there = f.but_it.into m among other in
             put_in_old g w m order (elim (of_put_in g w x order kept) [
-              | inl same ↦ those m there on (subst (λ y. is_before g m.number y.number ≡ true) same before)
-              | inr rest ↦ left.with_those_before m x there on rest (f.same.before m.number x.number other (others x rest) ∙ before)
+              | inl same ↦ those m there on (subst (λ y. goes_along g m.number y.number ≡ true) same along)
+              | inr rest ↦ left.with_those_before m x there on rest (f.same.along m.number x.number other (others x rest) ∙ along)
             ])
       ];
       in_order = put_in_order g w order f.lawful (λ among. others w among refl) (order_of g h w order f others left.in_order);
@@ -206,7 +197,7 @@ left_apart g h w touches order f off_w left =
     record {
       issued = λ x among. ((f.but_it.of x (left.issued x among).0).0, (left.issued x among).1);
       safe = λ x among on safe. left.safe x (f.but_it.into x among (apart x among on)) on (f.same.safe x (apart x among on) ∙ safe);
-      with_those_before = λ m x among on kept before. left.with_those_before m x (f.but_it.into m among (apart m among on)) on kept (f.same.before m.number x.number (apart m among on) (others x kept) ∙ before);
+      with_those_before = λ m x among on kept along. left.with_those_before m x (f.but_it.into m among (apart m among on)) on kept (f.same.along m.number x.number (apart m among on) (others x kept) ∙ along);
       in_order = order_of g h w order f others left.in_order;
     }
 
@@ -326,6 +317,7 @@ fold_changes_none u first under later h w now positive l f is =
 safe_yet : (e : Event) (h : History) (w : Write) → is_safe h w ≡ true → is_safe (e ∷ h) w ≡ true
 safe_yet (WriteIssued v) h w is = is
 safe_yet (WriteEnded k) h w is = is
+safe_yet (WriteFailed k) h w is = is
 safe_yet (SyncIssued s range) h w is = is
 safe_yet (SyncEnded s) h w is = grind (arith, is)
 safe_yet (SyncFailed s) h w is = is
@@ -333,6 +325,7 @@ safe_yet (SyncFailed s) h w is = is
 before_yet : (e : Event) (h : History) (m n : ℕ) → is_before h m n ≡ true → is_before (e ∷ h) m n ≡ true
 before_yet (WriteIssued v) h m n is = grind (arith, is)
 before_yet (WriteEnded k) h m n is = is
+before_yet (WriteFailed k) h m n is = is
 before_yet (SyncIssued s range) h m n is = is
 before_yet (SyncEnded s) h m n is = is
 before_yet (SyncFailed s) h m n is = is
@@ -419,6 +412,20 @@ no_longer w y len (x ∷ more) short (inr later) =
     let turned : max (max len (end_of w)) (end_of x) ≡ max (max len (end_of x)) (end_of w) = omega arith in
     ap (λ n. length_over n more) turned ∙ no_longer w y (max len (end_of x)) more short later
 
+-- nor does it if it is one of the writes that are left, or none
+lost_length : (w y : Write) (len : ℕ) (order : List Write) → end_of w ≤ end_of y
+    → IsIn y (filter (lacks w.number) order) → ((x : Write) → IsIn x order → x.number ≡ w.number → x ≡ w)
+    → length_over len order ≡ length_over len (filter (lacks w.number) order)
+lost_length w y len order short there one =
+    let some = filter (lacks w.number) order in
+    let reaches = end_within len y some there in
+    let up : length_over len order ≤ length_over len some = length_below len (length_over len some) order (len_grows len some) (λ x among. elim (cases_Bool (x.number == w.number)) [
+      | inl named ↦ let same : end_of x ≡ end_of w = ap end_of (one x among (eqb-true x.number w.number named)) in omega (arith, same, short, reaches)
+      | inr other ↦ end_within len x some (other_in w x order among (eqb-false x.number w.number other))
+    ]) in
+    let down : length_over len some ≤ length_over len order = length_below len (length_over len order) some (len_grows len order) (λ x among. end_within len x order (other_of w x order among).0) in
+    omega (arith, up, down)
+
 record Covers (w y : Write) : Type 0 where
   from : y.off ≤ w.off
   to : w.off + length w.bytes ≤ y.off + length y.bytes
@@ -438,12 +445,12 @@ covers_end w y c = let a = c.from in let b = c.to in grind (arith, a, b)
 -- what has to be left with a write that lies under a safe one
 those_left : (g h : History) (w : Write) (touches : Write → Bool) (order : List Write) → IsWithout g h w
     → (s : IsUnderSafe g w) → IsIn s.over order → MayBeLeft h touches order
-    → (m : Write) → IsIn m (writes h) → touches m ≡ true → is_before g m.number w.number ≡ true → IsIn m order
-those_left g h w touches order f s there left m among on before =
+    → (m : Write) → IsIn m (writes h) → touches m ≡ true → goes_along g m.number w.number ≡ true → IsIn m order
+those_left g h w touches order f s there left m among on along =
     let was = f.but_it.of m among in
     let over_was = f.but_it.of s.over (left.issued s.over there).0 in
     left.with_those_before m s.over among on there
-    (f.same.before m.number s.over.number was.1 over_was.1 ∙ before_before g m.number w.number s.over.number f.lawful before s.before)
+    (f.same.along m.number s.over.number was.1 over_was.1 ∙ along_through g m.number w.number s.over.number f.lawful along s.before)
 
 over_left : (g h : History) (w : Write) (touches : Write → Bool) (order : List Write) → IsWithout g h w
     → (s : IsUnderSafe g w) → touches s.over ≡ true → MayBeLeft h touches order → IsIn s.over order
@@ -472,15 +479,13 @@ hidden_to u first g h w now positive f s image =
           };
       len =
           let over_in = image.len.left.safe s.over s.over_issued refl s.safe in
-          let there = image.len.left.with_those_before w s.over s.issued refl over_in s.before in
           let over_stays : IsIn s.over (filter (lacks w.number) image.len.order) = other_in w s.over image.len.order over_in (λ same. both_ways (is_before g w.number w.number) (before_itself g w.number f.lawful) (subst (λ n. is_before g w.number n ≡ true) same s.before)) in
           record {
             order = filter (lacks w.number) image.len.order;
             left = left_to g h w (λ x. true) image.len.order f image.len.left;
             len =
                 image.len.len
-                ∙ folded_length w (length first) image.len.order there (λ x among named. it_is g h w x f (image.len.left.issued x among).0 named)
-                ∙ no_longer w s.over (length first) (filter (lacks w.number) image.len.order) (covers_end w s.over c) over_stays;
+                ∙ lost_length w s.over (length first) image.len.order (covers_end w s.over c) over_stays (λ x among named. it_is g h w x f (image.len.left.issued x among).0 named);
           };
     }
 

@@ -1,6 +1,6 @@
 -- How much is kept.
 use Rattle.std.proofs.Common.{◌≡◌, ℕ, ◌==◌, ◌<◌, ◌≤◌, not, List, [], ◌∷◌, length, sym, subst, ap, ◌∙◌, arith}
-use Rattle.uring_volume.proofs.Common.{IsOneFolded, length-append, eq-eqb, length-map, History, IsIn, SyncEnded, SyncFailed, SyncIssued, Write, WriteEnded, WriteIssued, issued, running_syncs, running_writes, without_write}
+use Rattle.uring_volume.proofs.Common.{IsOneFolded, length-append, eq-eqb, length-map, History, IsIn, SyncEnded, SyncFailed, SyncIssued, Write, WriteEnded, WriteFailed, WriteIssued, issued, running_syncs, running_writes, without_write}
 use Rattle.uring_volume.specs.Past.{IsPast, Past, end_list}
 use Rattle.uring_volume.specs.Folds.{IsOneLetGo}
 use Rattle.uring_volume.proofs.KeptLists.{filter_shorter}
@@ -10,6 +10,7 @@ issued_short : (h : History) → length (issued h) ≤ length h
 issued_short [] = omega arith
 issued_short (WriteIssued w ∷ earlier) = grind (arith, (issued_short earlier), length-append)
 issued_short (WriteEnded k ∷ earlier) = grind (arith, (issued_short earlier))
+issued_short (WriteFailed k ∷ earlier) = grind (arith, (issued_short earlier))
 issued_short (SyncIssued s range ∷ earlier) = grind (arith, (issued_short earlier))
 issued_short (SyncEnded s ∷ earlier) = grind (arith, (issued_short earlier))
 issued_short (SyncFailed s ∷ earlier) = grind (arith, (issued_short earlier))
@@ -18,6 +19,7 @@ ends_short : (h : History) → length (end_list h) ≤ length h
 ends_short [] = omega arith
 ends_short (WriteEnded k ∷ earlier) = grind (arith, (ends_short earlier), length-append)
 ends_short (WriteIssued w ∷ earlier) = grind (arith, (ends_short earlier))
+ends_short (WriteFailed k ∷ earlier) = grind (arith, (ends_short earlier))
 ends_short (SyncIssued s range ∷ earlier) = grind (arith, (ends_short earlier))
 ends_short (SyncEnded s ∷ earlier) = grind (arith, (ends_short earlier))
 ends_short (SyncFailed s ∷ earlier) = grind (arith, (ends_short earlier))

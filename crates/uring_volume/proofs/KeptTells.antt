@@ -1,15 +1,17 @@
 -- What the writes that are kept tell of the history.
-use Rattle.std.proofs.Common.{◌≡◌, ℕ, ◌==◌, true, false, ◌||◌, List, [], ◌∷◌, map, max, refl, sym, subst, ap, ◌∙◌, inl, inr, arith}
+use Rattle.std.proofs.Common.{◌≡◌, ℕ, ◌==◌, Bool, true, false, ◌||◌, List, [], ◌∷◌, map, max, refl, sym, subst, ap, ◌∙◌, inl, inr, arith}
 use Rattle.std.specs.Prelude.{IfSome, IfNone, Option, Some, None}
 use Rattle.std.specs.Option.{is_some}
-use Rattle.uring_volume.proofs.Common.{IsFoldable, eq-eqb, can_fold, has_safe, is_in_way, named, History, IsIn, SyncEnded, SyncFailed, SyncIssued, Write, WriteEnded, WriteIssued, both_ways, eqb-true, false_from_ne_true, has_ended, is_before, is_one_of, is_safe, issued, list_any, ne_eqb, or_right, running_syncs, writes, ◌&&◌, cases_Bool}
+use Rattle.uring_volume.proofs.Common.{IsFoldable, eq-eqb, can_fold, has_safe, is_in_way, named, History, IsIn, SyncEnded, SyncFailed, SyncIssued, Write, WriteEnded, WriteFailed, WriteIssued, both_ways, eqb-true, false_from_ne_true, goes_along, is_before, is_done, is_one_of, is_safe, issued, list_any, ne_eqb, or_right, running_syncs, writes, ◌&&◌, cases_Bool}
 use Rattle.uring_volume.specs.Images.{end_of, length_over}
 use Rattle.uring_volume.specs.Volume.{is_known}
 use Rattle.uring_volume.specs.declared.kept.Kept.{Kept}
 use Rattle.uring_volume.specs.declared.kept.Running.{Running}
-use Rattle.uring_volume.specs.Past.{IsPast, Past, can_be_folded, can_be_let_go, had_ended, stands_in_way, stands_over}
+use Rattle.uring_volume.specs.Past.{IsPast, Past, can_be_folded, can_be_let_go, had_ended, stands_in_way, stands_over, was_done}
 use Rattle.uring_volume.specs.Folds.{IsUnderSafe, can_let_go, lies_over}
-use Rattle.uring_volume.proofs.Chosen.{in_issued, not_before, of_issued, one_number}
+use Rattle.uring_volume.proofs.Chosen.{in_issued, of_issued, one_number}
+use Rattle.uring_volume.proofs.Fitting.{not_before}
+use Rattle.uring_volume.proofs.HowItStands.{not_along}
 use Rattle.uring_volume.proofs.Puts.{any_is, is_any}
 use Rattle.uring_volume.proofs.Foldable.{foldable_by, under_by}
 use Rattle.uring_volume.proofs.ShownLength.{one_named}
@@ -34,7 +36,7 @@ can_fold_kept p k is among =
     ap (λ ws. list_any (λ m. is_in_way p.history k.piece m) ws) (sym is.pieces)
     ∙ any_map (λ m. m.piece) (λ m. is_in_way p.history k.piece m) p.kept
     ∙ any_same (λ m. is_in_way p.history k.piece m.piece) (λ m. stands_in_way k m) p.kept (λ m there.
-    let a = (is.stands m there).before k.piece (of_issued p.history k.piece (kept_issued p k is among)) in
+    let a = (is.stands m there).along k.piece (of_issued p.history k.piece (kept_issued p k is among)) in
     let b = here.before m.piece (of_issued p.history m.piece (kept_issued p m is there)) in
     let sm = (is.stands m there).safe in
     grind (arith, a, b, sm))
@@ -95,6 +97,7 @@ no_number [] m n none = refl
 no_number (WriteIssued w ∷ earlier) m n none =
     grind (arith, (no_number earlier m n (λ v among. none v (inr among))), (ne_eqb w.number n (none w (inl refl))))
 no_number (WriteEnded k ∷ earlier) m n none = no_number earlier m n none
+no_number (WriteFailed k ∷ earlier) m n none = no_number earlier m n none
 no_number (SyncIssued s range ∷ earlier) m n none = no_number earlier m n none
 no_number (SyncEnded s ∷ earlier) m n none = no_number earlier m n none
 no_number (SyncFailed s ∷ earlier) m n none = no_number earlier m n none
@@ -103,29 +106,51 @@ no_number (SyncFailed s ∷ earlier) m n none = no_number earlier m n none
 pub kept_of : (p : Past) (w : Write) → IsPast p → IsIn w (issued p.history) → (k : Kept) × IsIn k p.kept × (w ≡ k.piece)
 kept_of p w is among = of_map (λ (x : Kept). x.piece) w p.kept (subst (λ ws. IsIn w ws) (sym is.pieces) among)
 
-pub before_kept : (p : Past) (k : Kept) (n : ℕ) → IsPast p → IsIn k p.kept
-    → is_before p.history k.piece.number n ≡ (list_any (λ x. x.piece.number == n) p.kept && had_ended k n)
-before_kept p k n is among = elim (cases_Bool (list_any (λ (x : Kept). x.piece.number == n) p.kept)) [
+-- no write of a number is kept, so that none is before it
+unkept : (p : Past) (m n : ℕ) → IsPast p → list_any (λ x. x.piece.number == n) p.kept ≡ false
+    → is_before p.history m n ≡ false
+unkept p m n is none =
+    no_number p.history m n (λ w issued_w same.
+    let found = kept_of p w is (in_issued p.history w issued_w) in
+    both_ways (list_any (λ (x : Kept). x.piece.number == n) p.kept) none (is_any (λ (x : Kept). x.piece.number == n) found.0 p.kept found.1 (eq-eqb found.0.piece.number n (sym (ap (λ (v : Write). v.number) found.2) ∙ same))))
+
+-- what a write that is kept tells of a write by its number
+by_number : (p : Past) (n : ℕ) (tells stands : ℕ → Bool) → IsPast p
+    → ((w : Write) → IsIn w (writes p.history) → tells w.number ≡ stands w.number)
+    → (list_any (λ x. x.piece.number == n) p.kept ≡ false → tells n ≡ false)
+    → tells n ≡ (list_any (λ x. x.piece.number == n) p.kept && stands n)
+by_number p n tells stands is each none_tells = elim (cases_Bool (list_any (λ (x : Kept). x.piece.number == n) p.kept)) [
   | inl there ↦
       let found = any_is (λ (x : Kept). x.piece.number == n) p.kept there in
       let named : found.0.piece.number ≡ n = eqb-true found.0.piece.number n found.2 in
-      let b = (is.stands k among).before found.0.piece (of_issued p.history found.0.piece (kept_issued p found.0 is found.1)) in
-      subst (λ m. is_before p.history k.piece.number m ≡ (list_any (λ x. x.piece.number == m) p.kept && had_ended k m)) named
-      (b ∙ sym (ap (λ y. y && had_ended k found.0.piece.number) (subst (λ m. list_any (λ (x : Kept). x.piece.number == m) p.kept ≡ true) (sym named) there)))
-  | inr none ↦
-      no_number p.history k.piece.number n (λ w issued_w same.
-      let found = kept_of p w is (in_issued p.history w issued_w) in
-      both_ways (list_any (λ (x : Kept). x.piece.number == n) p.kept) none (is_any (λ (x : Kept). x.piece.number == n) found.0 p.kept found.1 (eq-eqb found.0.piece.number n (sym (ap (λ (v : Write). v.number) found.2) ∙ same))))
-      ∙ sym (ap (λ y. y && had_ended k n) none)
+      let b = each found.0.piece (of_issued p.history found.0.piece (kept_issued p found.0 is found.1)) in
+      subst (λ m. tells m ≡ stands m) named b
+      ∙ sym (ap (λ y. y && stands n) there)
+  | inr none ↦ none_tells none ∙ sym (ap (λ y. y && stands n) none)
 ]
+
+pub before_kept : (p : Past) (k : Kept) (n : ℕ) → IsPast p → IsIn k p.kept
+    → is_before p.history k.piece.number n ≡ (list_any (λ x. x.piece.number == n) p.kept && was_done k n)
+before_kept p k n is among =
+    by_number p n (λ m. is_before p.history k.piece.number m) (λ m. was_done k m) is (is.stands k among).before (unkept p k.piece.number n is)
+
+pub along_kept : (p : Past) (k : Kept) (n : ℕ) → IsPast p → IsIn k p.kept
+    → goes_along p.history k.piece.number n ≡ (list_any (λ x. x.piece.number == n) p.kept && had_ended k n)
+along_kept p k n is among =
+    by_number p n (λ m. goes_along p.history k.piece.number m) (λ m. had_ended k m) is (is.stands k among).along
+    (λ none. not_along p.history k.piece.number n (unkept p k.piece.number n is none))
 
 pub before_unkept : (p : Past) (m n : ℕ) → IsPast p → list_any (λ x. x.piece.number == m) p.kept ≡ false
     → is_before p.history m n ≡ false
 before_unkept p m n is none =
-    not_before p.history m n (false_from_ne_true (has_ended p.history m) (λ ended.
-    let found = is.known m ended in
+    not_before p.history m n (false_from_ne_true (is_done p.history m) (λ done.
+    let found = is.known m done in
     let here = kept_of p found.0 is (in_issued p.history found.0 found.1) in
     both_ways (list_any (λ (x : Kept). x.piece.number == m) p.kept) none (is_any (λ (x : Kept). x.piece.number == m) here.0 p.kept here.1 (eq-eqb here.0.piece.number m (sym (ap (λ (v : Write). v.number) here.2) ∙ found.2)))))
+
+pub along_unkept : (p : Past) (m n : ℕ) → IsPast p → list_any (λ x. x.piece.number == m) p.kept ≡ false
+    → goes_along p.history m n ≡ false
+along_unkept p m n is none = not_along p.history m n (before_unkept p m n is none)
 
 pub safe_by_number : (p : Past) (k : Kept) (w : Write) → IsPast p → IsIn k p.kept → IsIn w (issued p.history)
     → k.piece.number ≡ w.number → k.safe_yet ≡ is_safe p.history w

@@ -1,38 +1,55 @@
 -- The lengths that may be left: each is that of the fewest writes, or of the fewest with one more.
 use Rattle.std.proofs.Common.{◌≡◌, ◌==◌, ◌≤◌, ℕ, max, Bool, true, false, ◌||◌, List, [], ◌∷◌, ◌⊎◌, refl, subst, inl, inr, arith}
-use Rattle.uring_volume.proofs.Common.{History, IsEachOnce, IsIn, IsInOrder, IsLawful, Write, WriteEnded, WriteIssued, and_from, both_ways, end_of, eqb-true, fewest, fewest_with, filter, goes_with, has_ended, is_before, is_needed, is_safe, issued, length_over, lengths_by, lengths_of, nat_eq, or_cases, or_left, or_right, put_by}
+use Rattle.uring_volume.proofs.Common.{History, IsEachOnce, IsIn, IsInOrder, IsLawful, Write, WriteEnded, WriteFailed, WriteIssued, and_from, both_ways, end_of, eqb-true, fewest, fewest_with, filter, goes_along, goes_with, is_before, is_done, is_needed, is_safe, issued, length_over, lengths_by, lengths_of, nat_eq, or_cases, or_left, or_right, put_by}
 use Rattle.uring_volume.proofs.Units.{in_filter, of_filter, filter_in_order}
 use Rattle.uring_volume.proofs.ReadBack.{len_grows, end_within}
 use Rattle.uring_volume.proofs.Rest.{length_below}
-use Rattle.uring_volume.proofs.Fitting.{FitsIn, AreApart}
+use Rattle.uring_volume.proofs.Fitting.{FitsIn, AreApart, along_before, along_ended}
 use Rattle.uring_volume.proofs.Chosen.{issued_apart}
 use Rattle.uring_volume.proofs.Puts.{any_is, is_any, in_put_old, in_put_new, of_put, put_once, numbers_tell}
 
 -- What is before what.
 
--- a write that is before another has ended
-pub before_ended : (h : History) (m n : ℕ) → is_before h m n ≡ true → has_ended h m ≡ true
-before_ended [] m n is = absurd (both_ways false refl is)
-before_ended (WriteIssued w ∷ earlier) m n is = grind (arith, (before_ended earlier m n))
-before_ended (WriteEnded k ∷ earlier) m n is = grind (arith, (before_ended earlier m n))
-before_ended (e ∷ earlier) m n is = before_ended earlier m n is
+-- a write that is before another is done
+pub before_done : (h : History) (m n : ℕ) → is_before h m n ≡ true → is_done h m ≡ true
+before_done [] m n is = absurd (both_ways false refl is)
+before_done (WriteIssued w ∷ earlier) m n is = grind (arith, (before_done earlier m n))
+before_done (WriteEnded k ∷ earlier) m n is = grind (arith, (before_done earlier m n))
+before_done (WriteFailed k ∷ earlier) m n is = grind (arith, (before_done earlier m n))
+before_done (e ∷ earlier) m n is = before_done earlier m n is
 
 -- what is before a write that is before another is before that
 pub before_before : (h : History) (a b c : ℕ) → IsLawful h → is_before h a b ≡ true
     → is_before h b c ≡ true → is_before h a c ≡ true
 before_before [] a b c l ab bc = bc
 before_before (WriteIssued w ∷ earlier) a b c l ab bc =
-    grind (arith, or_cases, before_ended, eqb-true, (before_before earlier a b c l.2))
+    grind (arith, or_cases, before_done, eqb-true, (before_before earlier a b c l.2))
+before_before (WriteEnded k ∷ earlier) a b c l ab bc = before_before earlier a b c l.1 ab bc
+before_before (WriteFailed k ∷ earlier) a b c l ab bc = before_before earlier a b c l.1 ab bc
 before_before (e ∷ earlier) a b c l ab bc = before_before earlier a b c l ab bc
+
+-- and what goes along with a write that is before another goes along with that
+pub along_through : (h : History) (a b c : ℕ) → IsLawful h → goes_along h a b ≡ true
+    → is_before h b c ≡ true → goes_along h a c ≡ true
+along_through [] a b c l ab bc = bc
+along_through (WriteIssued w ∷ earlier) a b c l ab bc =
+    grind (arith, or_cases, before_done, along_ended, eqb-true, (along_through earlier a b c l.2))
+along_through (WriteEnded k ∷ earlier) a b c l ab bc = along_through earlier a b c l.1 ab bc
+along_through (WriteFailed k ∷ earlier) a b c l ab bc = along_through earlier a b c l.1 ab bc
+along_through (e ∷ earlier) a b c l ab bc = along_through earlier a b c l ab bc
+
+along_along : (h : History) (a b c : ℕ) → IsLawful h → goes_along h a b ≡ true
+    → goes_along h b c ≡ true → goes_along h a c ≡ true
+along_along h a b c l ab bc = along_through h a b c l ab (along_before h b c bc)
 
 -- The fewest that may be left.
 
-goes_back : (h : History) (n m x : ℕ) → IsLawful h → is_before h m x ≡ true
-    → (x == n || is_before h x n) ≡ true → (m == n || is_before h m n) ≡ true
-goes_back h n m x l before goes = grind (arith, eqb-true, before_before)
+goes_back : (h : History) (n m x : ℕ) → IsLawful h → goes_along h m x ≡ true
+    → (x == n || goes_along h x n) ≡ true → (m == n || goes_along h m n) ≡ true
+goes_back h n m x l along goes = grind (arith, eqb-true, along_along)
 
 needed_back : (h : History) (all : List Write) (m x : Write) → IsLawful h
-    → is_before h m.number x.number ≡ true → is_needed h all x ≡ true
+    → goes_along h m.number x.number ≡ true → is_needed h all x ≡ true
     → is_needed h all m ≡ true
 needed_back h all m x l before needed = grind (arith, any_is, is_any, goes_back)
 
@@ -42,7 +59,7 @@ safe_needed h all w among safe = grind (arith, is_any, and_from)
 
 -- a test of the writes that may be left
 record IsClosed (h : History) (all : List Write) (p : Write → Bool) : Type 0 where
-  back : (m x : Write) → is_before h m.number x.number ≡ true → p x ≡ true → p m ≡ true
+  back : (m x : Write) → goes_along h m.number x.number ≡ true → p x ≡ true → p m ≡ true
   safe : (w : Write) → IsIn w all → is_safe h w ≡ true → p w ≡ true
 
 closed_fits : (h : History) (all : List Write) (p : Write → Bool) → IsClosed h all p

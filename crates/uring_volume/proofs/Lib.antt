@@ -7,7 +7,6 @@ pub mod Counting
 pub mod Parts
 pub mod Flat
 pub mod Taking
-pub mod Sorting
 pub mod Results
 -- The laws of what a crash may leave:
 pub mod Narrower
@@ -41,5 +40,6 @@ pub mod EndOrder
 pub mod KeptCounts
 pub mod IssuedWays
 pub mod KeptFolds
+pub mod FoldedEvents
 -- A count passes over what no write touches:
 pub mod Skipping

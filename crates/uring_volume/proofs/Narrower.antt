@@ -1,12 +1,13 @@
 -- Which history allows no image that another doesn't: the laws of syncs and of the events that change none.
 use Rattle.std.proofs.Common.{◌≡◌, ℕ, Bool, true, List, [], ◌∷◌, ◌++◌, refl, sym, arith}
-use Rattle.uring_volume.proofs.Common.{ChangesNone, FailedIsNeverSafe, History, IsImage, IsInOrder, MayBeLeft, SyncAddsNone, SyncEnded, SyncFailed, SyncIssued, Write, WriteEnded, WriteIssued, has_ended, is_before, is_covered, is_given_up, is_reached, is_safe, writes}
+use Rattle.uring_volume.proofs.Common.{ChangesNone, FailedIsNeverSafe, FailedLiesUnder, History, IsImage, IsInOrder, MayBeLeft, SyncAddsNone, SyncEnded, SyncFailed, SyncIssued, Write, WriteEnded, WriteFailed, WriteIssued, eq-eqb, goes_along, has_ended, is_before, is_covered, is_done, is_given_up, is_reached, is_safe, writes}
 use Rattle.uring_volume.specs.declared.event.SyncRange.{SyncRange}
 
 -- The history g has the writes of h, in the same order, and each write that is safe in g is safe in h.
 pub record IsNoTighter (g h : History) : Type 0 where
   pub writes : writes g ≡ writes h
   pub before : (m n : ℕ) → is_before g m n ≡ is_before h m n
+  pub along : (m n : ℕ) → goes_along g m n ≡ goes_along h m n
   pub safe : (w : Write) → is_safe g w ≡ true → is_safe h w ≡ true
 
 order_in : (g h : History) (order : List Write) → IsNoTighter g h → IsInOrder h order
@@ -47,10 +48,23 @@ ended_same [] earlier s n = refl
 ended_same (WriteEnded m ∷ later) earlier s n = grind (arith, (ended_same later earlier s n))
 ended_same (e ∷ later) earlier s n = ended_same later earlier s n
 
+done_same : (later earlier : History) (s n : ℕ)
+    → is_done (later ++ SyncEnded s ∷ earlier) n ≡ is_done (later ++ earlier) n
+done_same [] earlier s n = refl
+done_same (WriteEnded m ∷ later) earlier s n = grind (arith, (done_same later earlier s n))
+done_same (WriteFailed m ∷ later) earlier s n = grind (arith, (done_same later earlier s n))
+done_same (e ∷ later) earlier s n = done_same later earlier s n
+
+along_same : (later earlier : History) (s m n : ℕ)
+    → goes_along (later ++ SyncEnded s ∷ earlier) m n ≡ goes_along (later ++ earlier) m n
+along_same [] earlier s m n = refl
+along_same (WriteIssued w ∷ later) earlier s m n = grind (arith, ended_same, (along_same later earlier s m n))
+along_same (e ∷ later) earlier s m n = along_same later earlier s m n
+
 before_same : (later earlier : History) (s m n : ℕ)
     → is_before (later ++ SyncEnded s ∷ earlier) m n ≡ is_before (later ++ earlier) m n
 before_same [] earlier s m n = refl
-before_same (WriteIssued w ∷ later) earlier s m n = grind (arith, ended_same, (before_same later earlier s m n))
+before_same (WriteIssued w ∷ later) earlier s m n = grind (arith, done_same, (before_same later earlier s m n))
 before_same (e ∷ later) earlier s m n = before_same later earlier s m n
 
 covered_same : (later earlier : History) (s t : ℕ) (w : Write)
@@ -82,6 +96,7 @@ sync_adds_none u first later earlier s now image =
     image_in (later ++ earlier) (later ++ SyncEnded s ∷ earlier) u first now (record {
       writes = sym (writes_same later earlier s);
       before = λ m n. sym (before_same later earlier s m n);
+      along = λ m n. sym (along_same later earlier s m n);
       safe = λ w. safe_stays later earlier s w;
     }) image
 
@@ -89,15 +104,15 @@ sync_adds_none u first later earlier s now image =
 
 pub end_changes_none : (n : ℕ) → ChangesNone (WriteEnded n)
 end_changes_none n u first h now =
-    (image_in h (WriteEnded n ∷ h) u first now (record { writes = refl; before = λ m k. refl; safe = λ k e. e }), image_in (WriteEnded n ∷ h) h u first now (record { writes = refl; before = λ m k. refl; safe = λ k e. e }))
+    (image_in h (WriteEnded n ∷ h) u first now (record { writes = refl; before = λ m k. refl; along = λ m k. refl; safe = λ k e. e }), image_in (WriteEnded n ∷ h) h u first now (record { writes = refl; before = λ m k. refl; along = λ m k. refl; safe = λ k e. e }))
 
 pub issue_changes_none : (s : ℕ) (range : SyncRange) → ChangesNone (SyncIssued s range)
 issue_changes_none s range u first h now =
-    (image_in h (SyncIssued s range ∷ h) u first now (record { writes = refl; before = λ m k. refl; safe = λ k e. e }), image_in (SyncIssued s range ∷ h) h u first now (record { writes = refl; before = λ m k. refl; safe = λ k e. e }))
+    (image_in h (SyncIssued s range ∷ h) u first now (record { writes = refl; before = λ m k. refl; along = λ m k. refl; safe = λ k e. e }), image_in (SyncIssued s range ∷ h) h u first now (record { writes = refl; before = λ m k. refl; along = λ m k. refl; safe = λ k e. e }))
 
 pub failure_changes_none : (s : ℕ) → ChangesNone (SyncFailed s)
 failure_changes_none s u first h now =
-    (image_in h (SyncFailed s ∷ h) u first now (record { writes = refl; before = λ m k. refl; safe = λ k e. e }), image_in (SyncFailed s ∷ h) h u first now (record { writes = refl; before = λ m k. refl; safe = λ k e. e }))
+    (image_in h (SyncFailed s ∷ h) u first now (record { writes = refl; before = λ m k. refl; along = λ m k. refl; safe = λ k e. e }), image_in (SyncFailed s ∷ h) h u first now (record { writes = refl; before = λ m k. refl; along = λ m k. refl; safe = λ k e. e }))
 
 -- A sync that fails.
 
@@ -111,3 +126,14 @@ pub never_safe : FailedIsNeverSafe
 never_safe [] earlier s w c f = f
 never_safe (SyncEnded t ∷ later) earlier s w c f = grind (arith, given_up_stays, (never_safe later earlier s w c f))
 never_safe (e ∷ later) earlier s w c f = never_safe later earlier s w c f
+
+pub write_failure_changes_none : (n : ℕ) → ChangesNone (WriteFailed n)
+write_failure_changes_none n u first h now =
+    (image_in h (WriteFailed n ∷ h) u first now (record { writes = refl; before = λ m k. refl; along = λ m k. refl; safe = λ k e. e }), image_in (WriteFailed n ∷ h) h u first now (record { writes = refl; before = λ m k. refl; along = λ m k. refl; safe = λ k e. e }))
+
+-- A write that fails.
+
+pub lies_under : FailedLiesUnder
+lies_under [] earlier w m = grind (arith, eq-eqb)
+lies_under (WriteIssued v ∷ later) earlier w m = grind (arith, (lies_under later earlier w m))
+lies_under (e ∷ later) earlier w m = lies_under later earlier w m

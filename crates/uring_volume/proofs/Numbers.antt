@@ -1,6 +1,6 @@
 -- What a volume's calls keep: each write has a number of its own, and the lists of what runs are those of the history.
-use Rattle.std.proofs.Common.{◌≡◌, ◌<◌, ◌≤◌, ℕ, Bool, true, ◌||◌, List, [], ◌∷◌, ◌++◌, ◌⊎◌, length, ap, arith}
-use Rattle.uring_volume.proofs.Common.{IsHeld, SyncEnded, SyncFailed, Volume, WriteEnded, but, cond-true, false_from_ne_true, has_ended, is_one_of, list_any-append, with_event, with_sync, with_write}
+use Rattle.std.proofs.Common.{◌≡◌, ◌<◌, ◌≤◌, ℕ, Bool, true, ◌||◌, false, List, [], ◌∷◌, ◌++◌, ◌⊎◌, length, ap, refl, subst, arith}
+use Rattle.uring_volume.proofs.Common.{History, IsHeld, IsLawful, SyncEnded, SyncFailed, Volume, WriteEnded, WriteFailed, WriteIssued, both_ways, but, cond-true, false_from_ne_true, is_done, is_one_of, list_any-append, running_writes, with_event, with_sync, with_write}
 use Rattle.uring_volume.specs.declared.event.SyncRange.{SyncRange}
 
 pub or_either : (x y : Bool) → (x || y) ≡ true → (x ≡ true) ⊎ (y ≡ true)
@@ -25,6 +25,21 @@ pub one_more : (n m : ℕ) (ns : List ℕ) → is_one_of m (ns ++ n ∷ []) ≡ 
     → (is_one_of m ns ≡ true) ⊎ (m ≡ n)
 one_more n m ns is = grind (arith, or_either, list_any-append)
 
+out_of_but : (n : ℕ) (ns : List ℕ) → is_one_of n (but n ns) ≡ false
+out_of_but n [] = refl
+out_of_but n (m ∷ ns) = grind (arith, (out_of_but n ns))
+
+-- what runs isn't done
+pub runs_still : (h : History) (n : ℕ) → IsLawful h → is_one_of n (running_writes h) ≡ true
+    → is_done h n ≡ false
+runs_still [] n l is = refl
+runs_still (WriteIssued w ∷ earlier) n l is = grind (arith, one_more, (runs_still earlier n l.2))
+runs_still (WriteEnded k ∷ earlier) n l is =
+    grind (arith, both_ways, out_of_but, (runs_still earlier n l.1 (is_in_but k n (running_writes earlier) is)), is_in_but)
+runs_still (WriteFailed k ∷ earlier) n l is =
+    grind (arith, both_ways, out_of_but, (runs_still earlier n l.1 (is_in_but k n (running_writes earlier) is)), is_in_but)
+runs_still (e ∷ earlier) n l is = runs_still earlier n l is
+
 -- Each event.
 
 pub held_write : (v : Volume) (off : ℕ) (bytes write_list sync_list : List ℕ)
@@ -37,14 +52,14 @@ held_write v off bytes write_list sync_list held =
         unit = held.sound.unit;
         lawful = (
           λ w among same. let below : w.number < v.next = numbered.issued w among in absurd (omega arith),
-          false_from_ne_true (has_ended v.history v.next) (λ is. let below : v.next < v.next = numbered.ended v.next is in omega arith),
+          false_from_ne_true (is_done v.history v.next) (λ is. let below : v.next < v.next = numbered.done v.next is in omega arith),
           held.sound.lawful,
         );
         numbered = record {
           some = omega arith;
           positive = λ w among. grind (arith, (numbered.positive w));
           issued = λ w among. grind (arith, (numbered.issued w));
-          ended = λ n is. omega (arith, numbered.ended n is);
+          done = λ n is. omega (arith, numbered.done n is);
           running = grind (arith, one_more);
         };
       };
@@ -64,7 +79,7 @@ held_sync v range write_list sync_list held =
           some = omega arith;
           positive = numbered.positive;
           issued = λ w among. omega (arith, numbered.issued w among);
-          ended = λ n is. omega (arith, numbered.ended n is);
+          done = λ n is. omega (arith, numbered.done n is);
           running = λ n is. omega (arith, numbered.running n is);
         };
       };
@@ -75,7 +90,16 @@ held_sync v range write_list sync_list held =
 pub held_write_end : (v : Volume) (n : ℕ) (write_list sync_list : List ℕ)
     → IsHeld v write_list sync_list → is_one_of n write_list ≡ true
     → IsHeld (with_event (WriteEnded n) v) (but n write_list) sync_list
-held_write_end v n write_list sync_list held runs = grind (arith, is_in_but)
+held_write_end v n write_list sync_list held runs =
+    let out : is_done v.history n ≡ false = runs_still v.history n held.sound.lawful (subst (λ ns. is_one_of n ns ≡ true) held.writes runs) in
+    grind (arith, is_in_but, out)
+
+pub held_write_failure : (v : Volume) (n : ℕ) (write_list sync_list : List ℕ)
+    → IsHeld v write_list sync_list → is_one_of n write_list ≡ true
+    → IsHeld (with_event (WriteFailed n) v) (but n write_list) sync_list
+held_write_failure v n write_list sync_list held runs =
+    let out : is_done v.history n ≡ false = runs_still v.history n held.sound.lawful (subst (λ ns. is_one_of n ns ≡ true) held.writes runs) in
+    grind (arith, is_in_but, out)
 
 pub held_sync_end : (v : Volume) (s : ℕ) (write_list sync_list : List ℕ)
     → IsHeld v write_list sync_list

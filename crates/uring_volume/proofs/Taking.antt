@@ -1,15 +1,9 @@
 -- Lists of references, and which of their writes a choice takes.
-use Rattle.std.proofs.Common.{◌≡◌, ◌<◌, ◌≤◌, ◌+◌, ◌-◌, ℕ, zero, suc, Bool, true, false, List, [], ◌∷◌, ◌++◌, length, get_or, map, take, drop, take-add, append_assoc, refl, sym, ap, add-one, arith}
-use Rattle.uring_volume.proofs.Common.{History, Write, append-nil, chosen, cond-false, cond-true, drop_all, filter, has_safe, is_safe, length-drop, length-map, length-take-le, list_any, map-append, named, take-map, take_all, up_to_safe, waits_for_one, without}
+use Rattle.std.proofs.Common.{◌≡◌, ◌<◌, ◌≤◌, ◌+◌, ℕ, zero, suc, Bool, true, false, List, [], ◌∷◌, ◌++◌, length, get_or, map, take, drop, append_assoc, refl, sym, subst, ap, ◌∙◌, add-one, arith}
+use Rattle.uring_volume.proofs.Common.{History, Write, after, append-nil, chosen, cond-false, cond-true, drop_all, drop_more, filter, has_safe, is_safe, length-map, list_any, map-append, may_come, named, take-map, up_to_safe}
 use Rattle.std.proofs.Math.Seq.{drop-cons}
-use borrow.Rule.Slice.PartMut.{put_mid}
-use Rattle.uring_volume.proofs.Sorting.{past_first, after_first}
+use Rattle.std.proofs.lemmas.List.Elements.{filter-append}
 use Rattle.uring_volume.proofs.Seeking.{one_is}
-
-pub filter_of_map : {X Y : Type 0} (f : X → Y) (p : Y → Bool) (xs : List X)
-    → filter p (map f xs) ≡ map f (filter (λ x. p (f x)) xs)
-filter_of_map f p [] = refl
-filter_of_map f p (x ∷ xs) = grind (arith, (filter_of_map f p xs))
 
 -- none of these writes is safe
 pub none_safe : (h : History) (rest : List Write) → has_safe h rest ≡ false
@@ -53,33 +47,43 @@ pub push_map : {X Y : Type 0} (f : X → Y) (old new : List X) (x : X) (ys : Lis
     → new ≡ old ++ x ∷ [] → map f old ≡ ys → map f new ≡ ys ++ f x ∷ []
 push_map f old new x ys pushed same = grind (arith, map-append)
 
--- A choice among references, of which the first ones have been chosen.
+-- One element more, that passes a test or not.
 
--- all others
-pub others_of : {X : Type 0} (xs : List X) (count : ℕ) → take (length xs - count) (drop count xs) ≡ drop count xs
-others_of xs count = take_all (length xs - count) (drop count xs) (omega (arith, length-drop count xs))
+pub passes : {X : Type 0} (p : X → Bool) (xs : List X) (x : X) → p x ≡ true → filter p (xs ++ x ∷ []) ≡ filter p xs ++ x ∷ []
+passes p xs x is = filter-append p xs (x ∷ []) ∙ ap (λ ys. filter p xs ++ ys) (cond-true (p x) (x ∷ []) [] is)
 
-pub one_chosen : {X : Type 0} (f : X → Write) (h : History) (xs ys part : List X) (count m n : ℕ)
-    (more : List ℕ) → count ≤ length xs
-    → waits_for_one h (map f (take (length xs - count) (drop count xs))) n ≡ false
-    → map f (take m part) ≡ named n (map f (take (length xs - count) (drop count xs)))
-    → map f (drop m part) ≡ without n (map f (take (length xs - count) (drop count xs)))
-    → ys ≡ put_mid count (length xs - count) xs part
-    → map f (take (count + m) ys) ++ chosen h (map f (drop (count + m) ys)) more
-    ≡ map f (take count xs) ++ chosen h (map f (drop count xs)) (n ∷ more)
-one_chosen f h xs ys part count m n more within free took left is =
-    let made : ys ≡ take count xs ++ part = grind (arith, drop_all, length-drop, append-nil) in
-    let sum : count + m ≡ length (take count xs) + m = ap (λ k. k + m) (sym (length-take-le count xs within)) in
-    rw (made, sum, past_first (take count xs) part m, after_first (take count xs) part m, map-append, took, left, append_assoc)
-    (ap (λ ws. map f (take count xs) ++ ws) (grind (arith, (others_of xs count))))
+pub fails : {X : Type 0} (p : X → Bool) (xs : List X) (x : X) → p x ≡ false → filter p (xs ++ x ∷ []) ≡ filter p xs
+fails p xs x out = filter-append p xs (x ∷ []) ∙ ap (λ ys. filter p xs ++ ys) (cond-false (p x) (x ∷ []) [] out) ∙ append-nil (filter p xs)
 
-pub none_chosen : {X : Type 0} (f : X → Write) (h : History) (xs : List X) (count n : ℕ)
-    (more : List ℕ) → waits_for_one h (map f (take (length xs - count) (drop count xs))) n ≡ true
-    → chosen h (map f (drop count xs)) more ≡ chosen h (map f (drop count xs)) (n ∷ more)
-none_chosen f h xs count n more waits = grind (arith, map, others_of)
+-- A choice among references, one number after the other.
 
-pub all_chosen : {X : Type 0} (f : X → Write) (h : History) (xs : List X) (count r i : ℕ)
-    (choice : List ℕ) → length choice ≤ i
-    → take r (map f (take (length xs - count) (drop count xs))) ≡ up_to_safe h (map f (take (length xs - count) (drop count xs)))
-    → map f (take (count + r) xs) ≡ map f (take count xs) ++ chosen h (map f (drop count xs)) (drop i choice)
-all_chosen f h xs count r i choice past safe = grind (arith, take-add, map-append, take-map, others_of, drop_all)
+pub one_chosen : (h : History) (order now taken rest left : List Write) (n i : ℕ) (choice : List ℕ)
+    → i < length choice → n ≡ get_or choice i 0 → may_come h rest n ≡ true
+    → taken ≡ order ++ named n rest → left ≡ after h n rest → now ≡ taken
+    → now ++ chosen h left (drop (i + 1) choice) ≡ order ++ chosen h rest (drop i choice)
+one_chosen h order now taken rest left n i choice within at comes took stays is =
+    rw (is, took, stays)
+    (append_assoc order (named n rest) (chosen h (after h n rest) (drop (i + 1) choice))
+    ∙ ap (λ ws. order ++ ws) (sym (cond-true (may_come h rest n) (named n rest ++ chosen h (after h n rest) (drop (i + 1) choice)) (chosen h rest (drop (i + 1) choice)) comes))
+    ∙ ap (λ ns. order ++ chosen h rest ns) (ap (λ m. m ∷ drop (i + 1) choice) at ∙ sym (drop_more choice i 0 within)))
+
+pub none_chosen : (h : History) (order rest : List Write) (n i : ℕ) (choice : List ℕ)
+    → i < length choice → n ≡ get_or choice i 0 → may_come h rest n ≡ false
+    → order ++ chosen h rest (drop (i + 1) choice) ≡ order ++ chosen h rest (drop i choice)
+none_chosen h order rest n i choice within at waits =
+    ap (λ ws. order ++ ws) (sym (cond-false (may_come h rest n) (named n rest ++ chosen h (after h n rest) (drop (i + 1) choice)) (chosen h rest (drop (i + 1) choice)) waits))
+    ∙ ap (λ ns. order ++ chosen h rest ns) (ap (λ m. m ∷ drop (i + 1) choice) at ∙ sym (drop_more choice i 0 within))
+
+-- and then the safe ones
+pub rest_chosen : {X : Type 0} (f : X → Write) (h : History) (order rest got xs : List X) (count i : ℕ) (choice : List ℕ)
+    → length choice ≤ i → got ≡ rest → xs ≡ order ++ take count rest
+    → take count (map f got) ≡ up_to_safe h (map f got)
+    → map f xs ≡ map f order ++ chosen h (map f rest) (drop i choice)
+rest_chosen f h order rest got xs count i choice past same made safe =
+    let here : take count (map f rest) ≡ up_to_safe h (map f rest) = subst (λ g. take count (map f g) ≡ up_to_safe h (map f g)) same safe in
+    let none : drop i choice ≡ [] = drop_all i choice past in
+    let end : map f (take count rest) ≡ up_to_safe h (map f rest) = sym (take-map f count rest) ∙ here in
+    ap (map f) made
+    ∙ map-append f order (take count rest)
+    ∙ ap (λ ws. map f order ++ ws) end
+    ∙ sym (ap (λ ns. map f order ++ chosen h (map f rest) ns) none)

@@ -27,7 +27,7 @@ pub record IsStep (h : History) (k : ℕ) (s : Way) (w : Write) : Type 0 where
 
 step_by : (h : History) (k : ℕ) (s : Way) (c : List ℕ) (order : List Write) → AreApart h s.rest
     → FitsIn h s.rest order → c ≡ all_over k s.now order
-    → IsEnd h s c ⊎ ((w : Write) × IsStep h k s w × Gives h k (stepped k s w) c)
+    → IsEnd h s c ⊎ ((w : Write) × IsStep h k s w × Gives h k (stepped h k s w) c)
 step_by h k s c [] apart fits made = inl (record {
   none = none_in (λ w. is_safe h w) s.rest (λ w among. false_from_ne_true (is_safe h w) (λ safe. fits.safe w among safe));
   is = made;
@@ -38,9 +38,9 @@ end_gives : (h : History) (k : ℕ) (s : Way) (c : List ℕ) → IsEnd h s c →
 end_gives h k s c e = grind (arith, not_in)
 
 step_up : (h : History) (k : ℕ) (s : Way) (w : Write) (c : List ℕ) → AreApart h s.rest
-    → IsStep h k s w → Gives h k (stepped k s w) c → Gives h k s c
+    → IsStep h k s w → Gives h k (stepped h k s w) c → Gives h k s c
 step_up h k s w c apart step g =
-    grind (arith, (place_fits h w.number s.rest g.order apart.in_order step.free g.fits), (named_is h w s.rest apart step.among))
+    grind (arith, (place_fits h w.number s.rest g.order apart step.free g.fits), (named_is h w s.rest apart step.among))
 
 -- The steps from some ways.
 
@@ -49,33 +49,33 @@ pub record Comes (h : History) (k : ℕ) (ways : List Way) (t : Way) : Type 0 wh
   pub among : IsIn from ways
   pub by : Write
   pub step : IsStep h k from by
-  pub is : t ≡ stepped k from by
+  pub is : t ≡ stepped h k from by
 
 steps_old : (h : History) (k : ℕ) (s : Way) (ws : List Write) (next : List Way) (t : Way)
     → IsIn t next → IsIn t (steps_of h k s ws next)
 steps_old h k s [] next t among = among
 steps_old h k s (w ∷ more) next t among =
-    grind (arith, (steps_old h k s more (cond (waits_for_one h s.rest w.number) next (put_by same_way next (stepped k s w))) t), in_put_old)
+    grind (arith, (steps_old h k s more (cond (waits_for_one h s.rest w.number) next (put_by same_way next (stepped h k s w))) t), in_put_old)
 
 steps_new : (h : History) (k : ℕ) (s : Way) (ws : List Write) (next : List Way) (w : Write)
     → IsIn w ws → waits_for_one h s.rest w.number ≡ false
-    → IsIn (stepped k s w) (steps_of h k s ws next)
+    → IsIn (stepped h k s w) (steps_of h k s ws next)
 steps_new h k s [] next w among free = absurd among
 steps_new h k s (v ∷ more) next w (inl same) free = grind (arith, steps_old, cond, stepped, cond-false, in_put_new, ways_tell)
 steps_new h k s (v ∷ more) next w (inr later) free =
-    steps_new h k s more (cond (waits_for_one h s.rest v.number) next (put_by same_way next (stepped k s v))) w later free
+    steps_new h k s more (cond (waits_for_one h s.rest v.number) next (put_by same_way next (stepped h k s v))) w later free
 
 put_comes : (h : History) (k : ℕ) (s : Way) (w : Write) (next : List Way) (t : Way)
-    → IsIn w s.rest → IsIn t (cond (waits_for_one h s.rest w.number) next (put_by same_way next (stepped k s w)))
-    → IsIn t next ⊎ ((v : Write) × IsStep h k s v × (t ≡ stepped k s v))
+    → IsIn w s.rest → IsIn t (cond (waits_for_one h s.rest w.number) next (put_by same_way next (stepped h k s w)))
+    → IsIn t next ⊎ ((v : Write) × IsStep h k s v × (t ≡ stepped h k s v))
 put_comes h k s w next t within = grind (arith, of_put)
 
 of_steps : (h : History) (k : ℕ) (s : Way) (ws : List Write) (next : List Way) (t : Way)
     → ((w : Write) → IsIn w ws → IsIn w s.rest) → IsIn t (steps_of h k s ws next)
-    → IsIn t next ⊎ ((w : Write) × IsStep h k s w × (t ≡ stepped k s w))
+    → IsIn t next ⊎ ((w : Write) × IsStep h k s w × (t ≡ stepped h k s w))
 of_steps h k s [] next t within among = inl among
 of_steps h k s (w ∷ more) next t within among =
-    elim (of_steps h k s more (cond (waits_for_one h s.rest w.number) next (put_by same_way next (stepped k s w))) t (λ v later. within v (inr later)) among) [
+    elim (of_steps h k s more (cond (waits_for_one h s.rest w.number) next (put_by same_way next (stepped h k s w))) t (λ v later. within v (inr later)) among) [
       | inl early ↦ put_comes h k s w next t (within w (inl refl)) early
       | inr found ↦ inr found
     ]
@@ -86,7 +86,7 @@ next_old h k [] next t among = among
 next_old h k (s ∷ more) next t among = next_old h k more (steps_of h k s s.rest next) t (steps_old h k s s.rest next t among)
 
 next_new : (h : History) (k : ℕ) (ways next : List Way) (s : Way) (w : Write) → IsIn s ways
-    → IsStep h k s w → IsIn (stepped k s w) (next_ways h k ways next)
+    → IsStep h k s w → IsIn (stepped h k s w) (next_ways h k ways next)
 next_new h k [] next s w among step = absurd among
 next_new h k (r ∷ more) next s w (inl same) step = grind (arith, next_old, steps_new)
 next_new h k (r ∷ more) next s w (inr later) step = next_new h k more (steps_of h k r r.rest next) s w later step
@@ -160,7 +160,7 @@ found_new zero h k ways found s c all among g = absurd (let none : length s.rest
 found_new (suc n) h k ways found s c all among g =
     elim (step_by h k s c g.order (all s among).apart g.fits g.made) [
       | inl e ↦ grind (arith, found_old, at_new)
-      | inr on ↦ grind (arith, (found_new n h k (next_ways h k ways []) (found_at h ways found) (stepped k s on.0) c (next_short h k n ways all)), next_new)
+      | inr on ↦ grind (arith, (found_new n h k (next_ways h k ways []) (found_at h ways found) (stepped h k s on.0) c (next_short h k n ways all)), next_new)
     ]
 
 of_found : (n : ℕ) (h : History) (k : ℕ) (ways : List Way) (found : List (List ℕ)) (c : List ℕ)

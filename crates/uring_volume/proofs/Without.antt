@@ -1,12 +1,14 @@
 -- A history without one of its writes tells the same of all others.
 use Rattle.std.proofs.Common.{◌≡◌, ℕ, [], ◌∷◌, ◌++◌, refl, sym, ap, ◌∙◌, inl, inr, rules, arith}
-use Rattle.uring_volume.proofs.Common.{Event, History, IsIn, IsLawful, Write, WriteEnded, WriteIssued, filter, has_ended, is_before, is_covered, is_given_up, is_reached, is_safe, ne_eqb, not-true, without_write, writes}
+use Rattle.uring_volume.proofs.Common.{Event, History, IsIn, IsLawful, Write, WriteEnded, WriteFailed, WriteIssued, filter, goes_along, has_ended, is_before, is_covered, is_done, is_given_up, is_reached, is_safe, ne_eqb, not-true, without_write, writes}
 use Rattle.uring_volume.proofs.Units.{in_filter, of_filter}
 use Rattle.uring_volume.proofs.Fitting.{lacks}
 
 -- h tells the same as g of all writes but n.
 pub record SameBut (n : ℕ) (g h : History) : Type 0 where
   pub ended : (m : ℕ) → (m ≡ n → ⊥) → has_ended h m ≡ has_ended g m
+  pub done : (m : ℕ) → (m ≡ n → ⊥) → is_done h m ≡ is_done g m
+  pub along : (a b : ℕ) → (a ≡ n → ⊥) → (b ≡ n → ⊥) → goes_along h a b ≡ goes_along g a b
   pub before : (a b : ℕ) → (a ≡ n → ⊥) → (b ≡ n → ⊥) → is_before h a b ≡ is_before g a b
   pub covered : (s : ℕ) (x : Write) → (x.number ≡ n → ⊥) → is_covered h s x ≡ is_covered g s x
   pub reached : (s : ℕ) (x : Write) → (x.number ≡ n → ⊥) → is_reached h s x ≡ is_reached g s x
@@ -24,10 +26,14 @@ skip_issue n w g h is same = search rules
 skip_end : (n k : ℕ) (g h : History) → k ≡ n → SameBut n g h → SameBut n (WriteEnded k ∷ g) h
 skip_end n k g h is same = search rules
 
+skip_failure : (n k : ℕ) (g h : History) → k ≡ n → SameBut n g h → SameBut n (WriteFailed k ∷ g) h
+skip_failure n k g h is same = search rules
+
 same_without : (n : ℕ) (h : History) → SameBut n h (without_write n h)
 same_without n [] = search rules
 same_without n (WriteIssued w ∷ earlier) = grind (arith, skip_issue, same_cons, (same_without n earlier))
 same_without n (WriteEnded k ∷ earlier) = grind (arith, skip_end, same_cons, (same_without n earlier))
+same_without n (WriteFailed k ∷ earlier) = grind (arith, skip_failure, same_cons, (same_without n earlier))
 same_without n (e ∷ earlier) = same_cons n e earlier (without_write n earlier) (same_without n earlier)
 
 pub same_later : (n : ℕ) (later h : History) → SameBut n (later ++ h) (later ++ without_write n h)
@@ -40,6 +46,7 @@ pub writes_without : (n : ℕ) (h : History) → writes (without_write n h) ≡ 
 writes_without n [] = refl
 writes_without n (WriteIssued w ∷ earlier) = search (rules, (writes_without n earlier))
 writes_without n (WriteEnded k ∷ earlier) = search (rules, (writes_without n earlier))
+writes_without n (WriteFailed k ∷ earlier) = search (rules, (writes_without n earlier))
 writes_without n (e ∷ earlier) = writes_without n earlier
 
 -- the writes of one history are those of another but n
@@ -71,4 +78,6 @@ but_later (WriteIssued v ∷ later) h w l among =
         | inr rest ↦ inr (more.into x rest other)
       ];
     }
+but_later (WriteEnded k ∷ later) h w l among = assumption (but_later later h w l.1 among)
+but_later (WriteFailed k ∷ later) h w l among = assumption (but_later later h w l.1 among)
 but_later (e ∷ later) h w l among = assumption (but_later later h w l among)

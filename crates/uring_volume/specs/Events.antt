@@ -4,7 +4,7 @@ use Rattle.uring_volume.specs.Writes.{Write}
 use Rattle.uring_volume.specs.declared.event.SyncRange.{SyncRange}
 use Rattle.uring_volume.specs.declared.event.SyncRange.TheVariants.{Whole, Part}
 use Rattle.uring_volume.specs.declared.event.Event.{Event}
-use Rattle.uring_volume.specs.declared.event.Event.TheVariants.{WriteIssued, WriteEnded, SyncIssued, SyncEnded, SyncFailed}
+use Rattle.uring_volume.specs.declared.event.Event.TheVariants.{WriteIssued, WriteEnded, WriteFailed, SyncIssued, SyncEnded, SyncFailed}
 
 -- the events of a file, the newest first
 abbrev pub History : Type 0
@@ -16,18 +16,32 @@ writes [] = []
 writes (WriteIssued w ∷ earlier) = w ∷ writes earlier
 writes (_ ∷ earlier) = writes earlier
 
--- whether write n has ended
+-- whether write n has ended with success
 abbrev pub has_ended : History → ℕ → Bool
 has_ended [] n = false
 has_ended (WriteEnded m ∷ earlier) n = m == n || has_ended earlier n
 has_ended (_ ∷ earlier) n = has_ended earlier n
 
--- whether write m is before write n: it had ended when n was issued. Our own rule
+-- whether write n is done: it has ended with success, or failed
+abbrev pub is_done : History → ℕ → Bool
+is_done [] n = false
+is_done (WriteEnded m ∷ earlier) n = m == n || is_done earlier n
+is_done (WriteFailed m ∷ earlier) n = m == n || is_done earlier n
+is_done (_ ∷ earlier) n = is_done earlier n
+
+-- whether write m is before write n: it was done when n was issued. Our own rule
 abbrev pub is_before : History → ℕ → ℕ → Bool
 is_before [] m n = false
 is_before (WriteIssued w ∷ earlier) m n =
-    w.number == n && has_ended earlier m || is_before earlier m n
+    w.number == n && is_done earlier m || is_before earlier m n
 is_before (_ ∷ earlier) m n = is_before earlier m n
+
+-- whether write m goes along with write n: it had ended, and not failed, when n was issued. Our own rule
+abbrev pub goes_along : History → ℕ → ℕ → Bool
+goes_along [] m n = false
+goes_along (WriteIssued w ∷ earlier) m n =
+    w.number == n && has_ended earlier m || goes_along earlier m n
+goes_along (_ ∷ earlier) m n = goes_along earlier m n
 
 -- whether all bytes of a write lie in the range of a sync. io_uring_prep_fsync(3)
 abbrev pub lies_in : SyncRange → Write → Bool

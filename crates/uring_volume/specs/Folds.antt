@@ -3,17 +3,17 @@ use Rattle.std.specs.Prelude.{◌≡◌, ◌≢◌, ◌↔◌, ◌⊎◌, ℕ, �
 use Rattle.std.specs.List.{list_any, filter}
 use Rattle.uring_volume.specs.Writes.{Write}
 use Rattle.uring_volume.specs.declared.event.Event.{Event}
-use Rattle.uring_volume.specs.declared.event.Event.TheVariants.{WriteIssued, WriteEnded, SyncIssued, SyncEnded, SyncFailed}
-use Rattle.uring_volume.specs.Events.{History, writes, has_ended, is_before, is_safe}
+use Rattle.uring_volume.specs.declared.event.Event.TheVariants.{WriteIssued, WriteEnded, WriteFailed, SyncIssued, SyncEnded, SyncFailed}
+use Rattle.uring_volume.specs.Events.{History, writes, has_ended, is_done, is_before, goes_along, is_safe}
 use Rattle.uring_volume.specs.Images.{IsIn, is_under, end_of, byte_over, length_over, IsImage}
 use Rattle.uring_volume.specs.Choices.{IsLawful, issued}
 use Rattle.uring_volume.specs.Volume.{Volume, ended, running_writes, running_syncs}
 
--- A write that can be folded: it is safe, so is each write that is before it, and it is before each other write of a byte of it.
+-- A write that can be folded: it is safe, so is each write that goes along with it, and it is before each other write of a byte of it.
 pub record IsFoldable (h : History) (w : Write) : Type 0 where
   pub issued : IsIn w (writes h)
   pub safe : is_safe h w ≡ true
-  pub oldest : (m : Write) → IsIn m (writes h) → is_before h m.number w.number ≡ true → is_safe h m ≡ true
+  pub oldest : (m : Write) → IsIn m (writes h) → goes_along h m.number w.number ≡ true → is_safe h m ≡ true
   pub lowest : (m : Write) (k : ℕ) → IsIn m (writes h) → m ≢ w → is_under m k ≡ true
       → is_under w k ≡ true → is_before h w.number m.number ≡ true
 
@@ -36,6 +36,7 @@ pub record IsOver (first : List ℕ) (w : Write) (now : List ℕ) : Type 0 where
 abbrev pub is_of_write : ℕ → Event → Bool
 is_of_write n (WriteIssued w) = w.number == n
 is_of_write n (WriteEnded m) = m == n
+is_of_write n (WriteFailed m) = m == n
 is_of_write n (SyncIssued s range) = false
 is_of_write n (SyncEnded s) = false
 is_of_write n (SyncFailed s) = false
@@ -63,7 +64,7 @@ overlap v w = nat_lt (max v.off w.off) (min (v.off + length v.bytes) (w.off + le
 -- whether write m keeps write w from being folded
 abbrev pub is_in_way : History → Write → Write → Bool
 is_in_way h w m =
-    is_before h m.number w.number && not (is_safe h m)
+    goes_along h m.number w.number && not (is_safe h m)
     || (not (m.number == w.number) && (overlap m w && not (is_before h w.number m.number)))
 
 -- whether write w, which was issued, can be folded
@@ -113,6 +114,9 @@ pub record IsFoldedFrom (old new : Volume) : Type 0 where
   -- and the same have ended
   pub have_ended : (w : Write) → IsIn w (writes new.history)
       → has_ended new.history w.number ≡ has_ended old.history w.number
+  -- and the same are done
+  pub are_done : (w : Write) → IsIn w (writes new.history)
+      → is_done new.history w.number ≡ is_done old.history w.number
   -- no write has come, and each that is gone was safe, or lay under a safe one
   pub none_new : (w : Write) → IsIn w (writes new.history) → IsIn w (writes old.history)
   pub gone : (w : Write) → IsIn w (writes old.history)

@@ -1,7 +1,7 @@
 -- What a crash may leave of a file: an image of it. A unit is a number of bytes that begins at a multiple of its size; each unit of the file is left as some of the writes make it, whatever becomes of the other units. All of it is our own rule.
 use Rattle.std.specs.Prelude.{◌≡◌, ℕ, ◌+◌, ◌-◌, ◌*◌, ◌/◌, ◌<◌, Bool, true, false, ◌&&◌, ◌==◌, nat_le, nat_lt, min, max, List, [], ◌∷◌, length, slice_index, if◌then◌else◌, ◌⊎◌}
 use Rattle.uring_volume.specs.Writes.{Write}
-use Rattle.uring_volume.specs.Events.{History, writes, is_before, is_safe}
+use Rattle.uring_volume.specs.Events.{History, writes, is_before, goes_along, is_safe}
 
 -- x is one of these
 abbrev pub IsIn : {X : Type 0} → X → List X → Type 0
@@ -45,9 +45,9 @@ pub record MayBeLeft (h : History) (touches : Write → Bool) (order : List Writ
   -- each safe one that touches it is left
   pub safe : (w : Write) → IsIn w (writes h) → touches w ≡ true → is_safe h w ≡ true
       → IsIn w order
-  -- with a write, each is left that is before it and touches the place
+  -- with a write, each is left that goes along with it and touches the place
   pub with_those_before : (m w : Write) → IsIn m (writes h) → touches m ≡ true → IsIn w order
-      → is_before h m.number w.number ≡ true → IsIn m order
+      → goes_along h m.number w.number ≡ true → IsIn m order
   -- one that is before another comes before it
   pub in_order : IsInOrder h order
 

@@ -2,12 +2,12 @@
 use Rattle.std.specs.Prelude.{◌≡◌, ◌≢◌, ◌↔◌, ◌⊎◌, ℕ, ◌+◌, ◌*◌, ◌<◌, true, false, List, ◌∷◌, ◌++◌, length, slice_index}
 use Rattle.uring_volume.specs.Writes.{Write}
 use Rattle.uring_volume.specs.declared.event.Event.{Event}
-use Rattle.uring_volume.specs.Events.{History, writes, is_before, is_reached, is_safe}
-use Rattle.uring_volume.specs.declared.event.Event.TheVariants.{SyncEnded, SyncFailed}
+use Rattle.uring_volume.specs.Events.{History, writes, has_ended, is_before, is_reached, is_safe}
+use Rattle.uring_volume.specs.declared.event.Event.TheVariants.{WriteIssued, WriteFailed, SyncEnded, SyncFailed}
 use Rattle.uring_volume.specs.Images.{IsIn, is_under, IsImage}
 use Rattle.uring_volume.specs.Choices.{IsLawful, IsChosen}
 
--- A write that is to be found after each crash: it is safe, and each other write of a byte of it had ended when it was issued.
+-- A write that is to be found after each crash: it is safe, and each other write of a byte of it was done when it was issued.
 pub record IsKept (h : History) (w : Write) : Type 0 where
   pub issued : IsIn w (writes h)
   pub safe : is_safe h w ≡ true
@@ -40,12 +40,21 @@ abbrev pub FailedIsNeverSafe : Type 0
 FailedIsNeverSafe = (later earlier : History) (s : ℕ) (w : Write) → is_reached earlier s w ≡ true
     → is_safe earlier w ≡ false → is_safe (later ++ SyncFailed s ∷ earlier) w ≡ false
 
+-- a write that has failed lies under each that is issued later
+abbrev pub FailedLiesUnder : Type 0
+FailedLiesUnder = (later earlier : History) (w : Write) (m : ℕ)
+    → is_before (later ++ WriteIssued w ∷ WriteFailed m ∷ earlier) m w.number ≡ true
+
+-- and a write that hasn't ended with success is never safe
+abbrev pub UnendedIsNeverSafe : Type 0
+UnendedIsNeverSafe = (h : History) (w : Write) → has_ended h w.number ≡ false → is_safe h w ≡ false
+
 -- an image of units of u * c bytes is an image of units of u bytes
 abbrev pub SmallerUnitsAllowIt : Type 0
 SmallerUnitsAllowIt = (u c : ℕ) (first : List ℕ) (h : History) (now : List ℕ)
     → 0 < u → 0 < c → IsImage (u * c) first h now → IsImage u first h now
 
--- A file at rest: each write is safe, and of two that write the same byte one had ended when the other was issued.
+-- A file at rest: each write is safe, and of two that write the same byte one was done when the other was issued.
 pub record IsAtRest (h : History) : Type 0 where
   pub safe : (w : Write) → IsIn w (writes h) → is_safe h w ≡ true
   pub ordered : (m w : Write) (k : ℕ) → IsIn m (writes h) → IsIn w (writes h) → m ≢ w

@@ -4,7 +4,7 @@ use Rattle.uring_volume.specs.Writes.{Write}
 use Rattle.uring_volume.specs.declared.event.Event.TheVariants.{WriteEnded}
 use Rattle.uring_volume.specs.declared.kept.Kept.{Kept}
 use Rattle.uring_volume.specs.declared.kept.Running.{Running}
-use Rattle.uring_volume.specs.Events.{History, writes, has_ended, is_before, lies_in, meets, is_covered, is_reached, is_given_up, is_safe}
+use Rattle.uring_volume.specs.Events.{History, writes, has_ended, is_done, is_before, goes_along, lies_in, meets, is_covered, is_reached, is_given_up, is_safe}
 use Rattle.uring_volume.specs.Images.{IsIn}
 use Rattle.uring_volume.specs.Choices.{IsLawful, issued}
 use Rattle.std.specs.List.{list_any}
@@ -12,13 +12,18 @@ use Rattle.uring_volume.specs.Folds.{overlap}
 use Rattle.uring_volume.specs.Ways.{Way}
 use Rattle.uring_volume.specs.Volume.{IsNumbered, running_writes, running_syncs}
 
--- whether a write that is kept had ended when this number was given
-abbrev pub had_ended : Kept → ℕ → Bool
-had_ended k n = nat_lt 0 k.end_next && nat_le k.end_next n
+-- whether a write that is kept was done when this number was given
+abbrev pub was_done : Kept → ℕ → Bool
+was_done k n = nat_lt 0 k.end_next && nat_le k.end_next n
 
--- a write that is kept, after the end of write n
-abbrev pub ended_at : ℕ → ℕ → Kept → Kept
-ended_at n next k = if k.piece.number == n then record k { end_next = next } else k
+-- and whether it had ended with success
+abbrev pub had_ended : Kept → ℕ → Bool
+had_ended k n = was_done k n && not k.has_failed
+
+-- a write that is kept, after the end of write n, and whether that has failed
+abbrev pub ended_at : ℕ → ℕ → Bool → Kept → Kept
+ended_at n next failed k =
+    if k.piece.number == n then record k { end_next = next; has_failed = failed } else k
 
 -- and after the end of a sync, with success and with an error
 abbrev pub settled : Running → Kept → Kept
@@ -33,11 +38,18 @@ given_up_by s k = record k {
 
 -- How a write that is kept stands is what its history says of it.
 pub record Stands (h : History) (next : ℕ) (k : Kept) : Type 0 where
-  pub ended : has_ended h k.piece.number ≡ nat_lt 0 k.end_next
+  pub done : is_done h k.piece.number ≡ nat_lt 0 k.end_next
+  pub ended : has_ended h k.piece.number ≡ (nat_lt 0 k.end_next && not k.has_failed)
   pub bound : k.end_next ≤ next
-  pub before : (w : Write) → IsIn w (writes h) → is_before h k.piece.number w.number ≡ had_ended k w.number
+  pub before : (w : Write) → IsIn w (writes h) → is_before h k.piece.number w.number ≡ was_done k w.number
+  pub along : (w : Write) → IsIn w (writes h) → goes_along h k.piece.number w.number ≡ had_ended k w.number
   pub given_up : is_given_up h k.piece ≡ k.failed_yet
   pub safe : is_safe h k.piece ≡ k.safe_yet
+
+-- These are the writes of a history, the oldest first, and each stands as it says.
+pub record AreTheWrites (h : History) (next : ℕ) (kept : List Kept) : Type 0 where
+  pub pieces : map (λ k. k.piece) kept ≡ issued h
+  pub stand : (k : Kept) → IsIn k kept → Stands h next k
 
 -- Which of the writes that are kept a sync that runs covers and reaches.
 pub record Touches (h : History) (k : Kept) (s : Running) : Type 0 where
@@ -76,7 +88,7 @@ pub record IsPast (p : Past) : Type 0 where
   pub few : (s : Running) → IsIn s p.syncs → s.number < p.next
   pub ascending : IsAscending p.kept
   pub ends_are : p.ends ≡ end_list p.history
-  pub known : (n : ℕ) → has_ended p.history n ≡ true → (w : Write) × IsIn w (writes p.history) × (w.number ≡ n)
+  pub known : (n : ℕ) → is_done p.history n ≡ true → (w : Write) × IsIn w (writes p.history) × (w.number ≡ n)
   pub uncovered : (s : ℕ) (w : Write) → p.next ≤ s → is_covered p.history s w ≡ false
   pub unreached : (s : ℕ) (w : Write) → p.next ≤ s → is_reached p.history s w ≡ false
 
@@ -84,7 +96,7 @@ pub record IsPast (p : Past) : Type 0 where
 abbrev pub stands_in_way : Kept → Kept → Bool
 stands_in_way k m =
     had_ended m k.piece.number && not m.safe_yet
-    || (not (m.piece.number == k.piece.number) && (overlap m.piece k.piece && not (had_ended k m.piece.number)))
+    || (not (m.piece.number == k.piece.number) && (overlap m.piece k.piece && not (was_done k m.piece.number)))
 
 abbrev pub can_be_folded : List Kept → Kept → Bool
 can_be_folded all k = k.safe_yet && not (list_any (λ m. stands_in_way k m) all)
@@ -93,7 +105,7 @@ can_be_folded all k = k.safe_yet && not (list_any (λ m. stands_in_way k m) all)
 abbrev pub stands_over : Kept → Kept → Bool
 stands_over k m =
     m.safe_yet
-    && (had_ended k m.piece.number && (nat_le m.piece.off k.piece.off && nat_le (k.piece.off + length k.piece.bytes) (m.piece.off + length m.piece.bytes)))
+    && (was_done k m.piece.number && (nat_le m.piece.off k.piece.off && nat_le (k.piece.off + length k.piece.bytes) (m.piece.off + length m.piece.bytes)))
 
 abbrev pub can_be_let_go : List Kept → Kept → Bool
 can_be_let_go all k = not k.safe_yet && list_any (λ m. stands_over k m) all

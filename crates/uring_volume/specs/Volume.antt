@@ -4,8 +4,8 @@ use Rattle.std.specs.List.{list_any, filter}
 use Rattle.uring_volume.specs.Writes.{Write}
 use Rattle.uring_volume.specs.declared.event.SyncRange.{SyncRange}
 use Rattle.uring_volume.specs.declared.event.Event.{Event}
-use Rattle.uring_volume.specs.declared.event.Event.TheVariants.{WriteIssued, WriteEnded, SyncIssued, SyncEnded, SyncFailed}
-use Rattle.uring_volume.specs.Events.{History, writes, has_ended}
+use Rattle.uring_volume.specs.declared.event.Event.TheVariants.{WriteIssued, WriteEnded, WriteFailed, SyncIssued, SyncEnded, SyncFailed}
+use Rattle.uring_volume.specs.Events.{History, writes, is_done}
 use Rattle.uring_volume.specs.Images.{IsIn, byte_over, length_over}
 use Rattle.uring_volume.specs.Choices.{IsLawful, issued, named}
 
@@ -27,11 +27,12 @@ but n numbers = filter (λ m. not (m == n)) numbers
 abbrev pub is_one_of : ℕ → List ℕ → Bool
 is_one_of n numbers = list_any (λ m. m == n) numbers
 
--- the numbers of the writes that run: they were issued and haven't ended
+-- the numbers of the writes that run: they were issued and aren't done
 abbrev pub running_writes : History → List ℕ
 running_writes [] = []
 running_writes (WriteIssued w ∷ earlier) = running_writes earlier ++ w.number ∷ []
 running_writes (WriteEnded n ∷ earlier) = but n (running_writes earlier)
+running_writes (WriteFailed n ∷ earlier) = but n (running_writes earlier)
 running_writes (_ ∷ earlier) = running_writes earlier
 
 -- the syncs that run: they were issued, and have ended neither with success nor with an error
@@ -46,13 +47,13 @@ running_syncs (_ ∷ earlier) = running_syncs earlier
 abbrev pub is_known : ℕ → History → Bool
 is_known n h = list_any (λ w. w.number == n) (issued h) || is_one_of n (running_syncs h)
 
--- the writes that have ended, in the order of their ends
+-- the writes that have ended with success, in the order of their ends
 abbrev pub ended : History → List Write
 ended [] = []
 ended (WriteEnded n ∷ earlier) = ended earlier ++ named n (issued earlier)
 ended (_ ∷ earlier) = ended earlier
 
--- What a read of the whole file shows: the first bytes with the writes over them that have ended, in the order of their ends. Our own rule
+-- What a read of the whole file shows: the first bytes with the writes over them that have ended with success, in the order of their ends. Our own rule
 pub record IsShown (first : List ℕ) (h : History) (now : List ℕ) : Type 0 where
   pub len : length now ≡ length_over (length first) (ended h)
   pub bytes : (k : ℕ) → k < length now
@@ -79,7 +80,7 @@ pub record IsNumbered (next : ℕ) (h : History) : Type 0 where
   pub some : 0 < next
   pub positive : (w : Write) → IsIn w (writes h) → 0 < w.number
   pub issued : (w : Write) → IsIn w (writes h) → w.number < next
-  pub ended : (n : ℕ) → has_ended h n ≡ true → n < next
+  pub done : (n : ℕ) → is_done h n ≡ true → n < next
   pub running : (n : ℕ) → is_one_of n (running_writes h) ≡ true → n < next
 
 -- how many elements of one list a write or a sync asks for as it begins: one for each event so far, for the end of each that runs, and for its own two events

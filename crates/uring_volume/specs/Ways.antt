@@ -3,9 +3,9 @@ use Rattle.std.specs.Prelude.{ℕ, zero, suc, ◌+◌, ◌-◌, ◌*◌, ◌/◌
 use Rattle.std.specs.List.{list_any, filter}
 use Rattle.std.specs.Cmp.Lexicographic.{pointwise}
 use Rattle.uring_volume.specs.Writes.{Write}
-use Rattle.uring_volume.specs.Events.{History, is_before, is_safe}
+use Rattle.uring_volume.specs.Events.{History, goes_along, is_safe}
 use Rattle.uring_volume.specs.Images.{is_on, byte_over, length_over}
-use Rattle.uring_volume.specs.Choices.{issued, waits_for_one, has_safe, without}
+use Rattle.uring_volume.specs.Choices.{issued, waits_for_one, has_safe, after}
 
 -- some writes have been left, in some order
 pub record Way : Type 0 where
@@ -32,14 +32,14 @@ abbrev pub bytes_over : ℕ → List ℕ → Write → List ℕ
 bytes_over k [] w = []
 bytes_over k (b ∷ bs) w = byte_over b (w ∷ []) k ∷ bytes_over (suc k) bs w
 
-abbrev pub stepped : ℕ → Way → Write → Way
-stepped k s w = way (without w.number s.rest) (bytes_over k s.now w)
+abbrev pub stepped : History → ℕ → Way → Write → Way
+stepped h k s w = way (after h w.number s.rest) (bytes_over k s.now w)
 
 -- the ways on from one, by each of these writes that may come next
 abbrev pub steps_of : History → ℕ → Way → List Write → List Way → List Way
 steps_of h k s [] next = next
 steps_of h k s (w ∷ more) next =
-    steps_of h k s more (if waits_for_one h s.rest w.number then next else put_by same_way next (stepped k s w))
+    steps_of h k s more (if waits_for_one h s.rest w.number then next else put_by same_way next (stepped h k s w))
 
 -- the ways on from each of these
 abbrev pub next_ways : History → ℕ → List Way → List Way → List Way
@@ -83,7 +83,7 @@ fronts u first h len (suc n) = joined (fronts u first h len n) (unit_contents u 
 
 -- whether write m is to be left if write n is
 abbrev pub goes_with : History → ℕ → Write → Bool
-goes_with h n m = m.number == n || is_before h m.number n
+goes_with h n m = m.number == n || goes_along h m.number n
 
 -- whether write m is to be left because one of these is safe
 abbrev pub is_needed : History → List Write → Write → Bool

@@ -122,11 +122,11 @@ fn leave_unit<M: Memory>(
     ensures others { (k : ℕ) → k / unit ≢ i → slice_index now.new k ≡ slice_index now.old k }
     ensures granted { ((n : ℕ) → M.grants memory.now n) → IsOk result }
 {
-    let mut on = pieces_on(memory, alloc, past, unit, i)?;
-    let count = choose(past, &mut on, choice);
+    let on = pieces_on(memory, alloc, past, unit, i)?;
+    let order = choose(memory, alloc, past, on, choice)?;
     let from = (unit * i) as usize;
     let to = from + (now.len() - from).min(unit as usize);
-    write_all(now, from, to, &on[..count]);
+    write_all(now, from, to, &order);
     Ok(())
 }
 
@@ -177,9 +177,9 @@ fn length_chosen<M: Memory>(
         (chosen past.now.history (issued past.now.history) choice.now)) }
     ensures granted { ((n : ℕ) → M.grants memory.now n) → IsOk result }
 {
-    let mut pieces = issued_pieces(memory, alloc, past)?;
-    let count = choose(past, &mut pieces, choice);
-    Ok(length_left(first, &pieces[..count]))
+    let pieces = issued_pieces(memory, alloc, past)?;
+    let order = choose(memory, alloc, past, pieces, choice)?;
+    Ok(length_left(first, &order))
 }
 
 /// What a crash leaves of a file, by a choice of numbers, by this memory. If it grants whatever is asked for, there is no error.

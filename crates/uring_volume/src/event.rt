@@ -42,8 +42,11 @@ pub enum Event {
     /// A write was issued.
     WriteIssued(Piece),
 
-    /// The write of this number ended.
+    /// The write of this number ended with success.
     WriteEnded(u64),
+
+    /// The write of this number failed: any part of it may be found.
+    WriteFailed(u64),
 
     /// The sync of this number was issued, of a range.
     SyncIssued(u64, SyncRange),

@@ -18,8 +18,11 @@ use uring_memory::Memory;
 pub struct Kept {
     pub piece: Piece,
 
-    /// 0 while it runs; then the number that was next as it ended, so that what got a smaller number was issued before that.
+    /// 0 while it runs; then the number that was next as it ended or failed, so that what got a smaller number was issued before that.
     pub end_next: u64,
+
+    /// Whether it has failed.
+    pub has_failed: bool,
 
     /// Whether a sync that reaches it has failed.
     pub failed_yet: bool,
@@ -38,11 +41,12 @@ pub struct Running {
 impl Kept {
     /// A write that was just issued.
     pub fn new(piece: Piece) -> Kept
-        ensures { result ≡ record { piece = piece; end_next = 0; failed_yet = false; safe_yet = false } }
+        ensures { result ≡ record { piece = piece; end_next = 0; has_failed = false; failed_yet = false; safe_yet = false } }
     {
         Kept {
             piece,
             end_next: 0,
+            has_failed: false,
             failed_yet: false,
             safe_yet: false,
         }
@@ -57,24 +61,33 @@ impl Kept {
         Ok(Kept {
             piece,
             end_next: self.end_next,
+            has_failed: self.has_failed,
             failed_yet: self.failed_yet,
             safe_yet: self.safe_yet,
         })
     }
 
-    /// Whether it had ended when this number was given.
-    pub fn had_ended(&self, number: u64) -> bool
-        ensures { result ≡ spec.had_ended self.now number }
+    /// Whether it was done when this number was given: it had ended, or failed.
+    pub fn was_done(&self, number: u64) -> bool
+        ensures { result ≡ spec.was_done self.now number }
     {
         0 < self.end_next && self.end_next <= number
     }
 
-    /// Ends it, if it is write `n`.
-    pub fn end(&mut self, n: u64, next: u64)
-        ensures { self.new ≡ ended_at n next self.old }
+    /// Whether it had ended with success when this number was given.
+    pub fn had_ended(&self, number: u64) -> bool
+        ensures { result ≡ spec.had_ended self.now number }
+    {
+        self.was_done(number) && !self.has_failed
+    }
+
+    /// Ends it, if it is write `n`, with success or not.
+    pub fn end(&mut self, n: u64, next: u64, has_failed: bool)
+        ensures { self.new ≡ ended_at n next has_failed self.old }
     {
         if self.piece.number() == n {
             self.end_next = next;
+            self.has_failed = has_failed;
         }
     }
 
@@ -95,12 +108,12 @@ impl Kept {
     }
 }
 
-/// Ends write `n` among these.
-pub fn end_all(kept: &mut [Kept], n: u64, next: u64)
-    ensures { kept.new ≡ map (ended_at n next) kept.old }
+/// Ends write `n` among these, with success or not.
+pub fn end_all(kept: &mut [Kept], n: u64, next: u64, has_failed: bool)
+    ensures { kept.new ≡ map (ended_at n next has_failed) kept.old }
 {
     for i in 0..kept.len() {
-        kept[i].end(n, next);
+        kept[i].end(n, next, has_failed);
     }
 }
 
@@ -178,13 +191,13 @@ pub fn has_safe(kept: &[Kept], n: u64) -> bool
     false
 }
 
-/// Whether another write keeps this one from being folded: it is before it and isn't safe, or it writes the same byte and isn't after it.
+/// Whether another write keeps this one from being folded: it goes along with it and isn't safe, or it writes the same byte and isn't after it.
 fn stands_in_way(k: &Kept, m: &Kept) -> bool
     ensures { result ≡ spec.stands_in_way k.now m.now }
 {
     m.had_ended(k.piece.number()) && !m.safe_yet
         || (m.piece.number() != k.piece.number()
-            && (overlap(&m.piece, &k.piece) && !k.had_ended(m.piece.number())))
+            && (overlap(&m.piece, &k.piece) && !k.was_done(m.piece.number())))
 }
 
 /// Whether one of these keeps this write from being folded.
@@ -217,7 +230,7 @@ fn stands_over(k: &Kept, m: &Kept) -> bool
     ensures { result ≡ spec.stands_over k.now m.now }
 {
     m.safe_yet
-        && (k.had_ended(m.piece.number())
+        && (k.was_done(m.piece.number())
             && (m.piece.off() <= k.piece.off() && k.piece.end() <= m.piece.end()))
 }
 

@@ -23,6 +23,6 @@ mod ways;
 // laws of the definitions alone
 pub mod laws;
 
-pub use event::{Event, Piece, SyncRange};
-pub use standing::{is_before, is_covered, is_reached, is_safe};
+pub use event::{Piece, SyncRange};
+pub use kept::Kept;
 pub use volume::{BeginError, ImagesError, Volume};

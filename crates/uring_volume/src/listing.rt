@@ -23,7 +23,7 @@ use uring_memory::Memory;
 fn goes_with(past: &Past, n: u64, piece: &Piece) -> bool
     ensures { result ≡ spec.goes_with past.now.history n piece.now }
 {
-    piece.number() == n || past.is_before(piece.number(), n)
+    piece.number() == n || past.goes_along(piece.number(), n)
 }
 
 /// Whether a write is to be left because one of these is safe.

@@ -1,7 +1,9 @@
 //! Which writes a crash leaves of a place, and in which order: numbers name them, one after the other.
 
-ghost use Rattle.std.specs.Prelude.{◌≡◌, ◌++◌, ◌≤◌, length, map, take, drop, reverse, ℕ, IfOk, OnOk, IsOk};
-ghost use Rattle.uring_volume.specs.Choices.{issued, waits_for_one, up_to_safe, named, without, chosen};
+ghost use Rattle.std.specs.Prelude.{◌≡◌, ◌++◌, ◌≤◌, ◌==◌, length, map, take, ℕ, IfOk, OnOk, IsOk};
+ghost use Rattle.std.specs.List.{list_any};
+ghost use Rattle.uring_volume.specs.Choices as choices;
+ghost use Rattle.uring_volume.specs.Choices.{issued, waits_for_one, after, up_to_safe, named, chosen};
 ghost use Rattle.uring_volume.specs.Past.{AreIssued};
 
 use crate::event::Piece;
@@ -28,12 +30,12 @@ pub fn issued_pieces<'a, M: Memory>(
     Ok(pieces)
 }
 
-/// Whether one of these writes is before write `n`.
-pub fn has_one_before(past: &Past, rest: &[&Piece], n: u64) -> bool
+/// Whether one of these writes goes along with write `n`.
+pub fn waits(past: &Past, rest: &[&Piece], n: u64) -> bool
     ensures { result ≡ waits_for_one past.now.history (map (λ p. p.now) rest.now) n }
 {
     for piece in rest {
-        if past.is_before(piece.number(), n) {
+        if past.goes_along(piece.number(), n) {
             return true;
         }
     }
@@ -59,20 +61,52 @@ pub fn push_named<'a, M: Memory>(
     Ok(())
 }
 
-/// Moves those of these writes that have number `n` before the others, and answers how many they are.
-fn move_named(rest: &mut [&Piece], n: u64) -> usize
-    ensures within { result ≤ length rest.new }
-    ensures named { map (λ p. p.now) (take result rest.new) ≡ named n (map (λ p. p.now) rest.old) }
-    ensures others { map (λ p. p.now) (drop result rest.new) ≡ without n (map (λ p. p.now) rest.old) }
+/// Whether write `n` is among these.
+#[tactic(auto, using(crate::proofs::Taking::one_found))]
+fn is_there(rest: &[&Piece], n: u64) -> bool
+    ensures { result ≡ list_any (λ w. w.number == n) (map (λ p. p.now) rest.now) }
 {
-    let mut count = 0;
-    for i in 0..rest.len() {
-        if rest[i].number() == n {
-            rest[count..i + 1].rotate_right(1);
-            count += 1;
+    for piece in rest {
+        if piece.number() == n {
+            return true;
         }
     }
-    count
+    false
+}
+
+/// Whether write `n` may come next of these: it is there, and waits for none of them.
+fn may_come(past: &Past, rest: &[&Piece], n: u64) -> bool
+    ensures { result ≡ choices.may_come past.now.history (map (λ p. p.now) rest.now) n }
+{
+    is_there(rest, n) && !waits(past, rest, n)
+}
+
+/// Whether a write may still come after write `n`: it is another, and not before it.
+fn may_follow(past: &Past, n: u64, piece: &Piece) -> bool
+    ensures { result ≡ choices.may_follow past.now.history n piece.now }
+{
+    piece.number() != n && !past.is_before(piece.number(), n)
+}
+
+/// Those of these writes that may still come after write `n`.
+pub fn left_after<'a, M: Memory>(
+    memory: &M,
+    alloc: Global,
+    past: &Past,
+    rest: &[&'a Piece],
+    n: u64,
+) -> Result<Vec<&'a Piece>, AllocError>
+    ensures others { IfOk result (λ others. map (λ p. p.now) others.items
+        ≡ after past.now.history n (map (λ p. p.now) rest.now)) }
+    ensures granted { ((n : ℕ) → M.grants memory.now n) → IsOk result }
+{
+    let mut others = Vec::new(alloc);
+    for piece in rest {
+        if may_follow(past, n, piece) {
+            push(memory, &mut others, *piece)?;
+        }
+    }
+    Ok(others)
 }
 
 /// How many of these writes stand up to the last safe one.
@@ -90,18 +124,29 @@ fn count_up_to_safe(past: &Past, rest: &[&Piece]) -> usize
     0
 }
 
-/// Moves the writes that a choice leaves of these before the others, in its order, and answers how many it leaves.
-pub fn choose(past: &Past, pieces: &mut [&Piece], choice: &[u64]) -> usize
-    requires { AreIssued past.now.history (map (λ p. p.now) pieces.old) }
-    ensures within { result ≤ length pieces.new }
-    ensures chosen { map (λ p. p.now) (take result pieces.new)
-        ≡ chosen past.now.history (map (λ p. p.now) pieces.old) choice.now }
+/// The writes that a choice leaves of these, in its order.
+pub fn choose<'a, M: Memory>(
+    memory: &M,
+    alloc: Global,
+    past: &Past,
+    pieces: Vec<&'a Piece>,
+    choice: &[u64],
+) -> Result<Vec<&'a Piece>, AllocError>
+    requires { AreIssued past.now.history (map (λ p. p.now) pieces.items) }
+    ensures chosen { IfOk result (λ order. map (λ p. p.now) order.items
+        ≡ chosen past.now.history (map (λ p. p.now) pieces.entry.items) choice.now) }
+    ensures granted { ((n : ℕ) → M.grants memory.now n) → IsOk result }
 {
-    let mut count = 0;
+    let mut rest = pieces;
+    let mut order = Vec::new(alloc);
     for n in choice {
-        if !has_one_before(past, &pieces[count..], *n) {
-            count += move_named(&mut pieces[count..], *n);
+        if may_come(past, &rest, *n) {
+            push_named(memory, &rest, *n, &mut order)?;
+            rest = left_after(memory, alloc, past, &rest, *n)?;
         }
     }
-    count + count_up_to_safe(past, &pieces[count..])
+    let count = count_up_to_safe(past, &rest);
+    memory.reserve(&mut order, count)?;
+    let _ = order.extend_from_slice(&rest[..count]);
+    Ok(order)
 }

@@ -85,7 +85,7 @@ impl Past {
     ghost use Rattle.uring_volume.specs.Folds.{can_fold, can_let_go, without_write, IsOneFolded, IsOneLetGo};
     ghost use Rattle.uring_volume.specs.Images.{length_over};
     ghost use Rattle.uring_volume.specs.Volume.{is_known, running_writes, running_syncs};
-    ghost use Rattle.uring_volume.specs.declared.event.Event.TheVariants.{WriteIssued, WriteEnded, SyncIssued, SyncEnded, SyncFailed};
+    ghost use Rattle.uring_volume.specs.declared.event.Event.TheVariants.{WriteIssued, WriteEnded, WriteFailed, SyncIssued, SyncEnded, SyncFailed};
 
     /// Nothing has happened.
     pub fn new(alloc: Global) -> Past
@@ -141,7 +141,7 @@ impl Past {
         self.next
     }
 
-    /// The writes that have ended, in the order of their ends.
+    /// The writes that have ended with success, in the order of their ends.
     pub fn ends(&self) -> &[u64]
         ensures { result.now ≡ self.now.ends }
     {
@@ -199,7 +199,7 @@ impl Past {
         Ok(())
     }
 
-    /// A write ends, if it runs.
+    /// A write ends with success, if it runs.
     pub fn end_write(&mut self, n: u64) -> bool
         ensures found { result ≡ is_one_of n (running_writes self.old.history) }
         ensures ended { self.new.history ≡ (if result then WriteEnded n ∷ self.old.history else self.old.history) }
@@ -208,8 +208,22 @@ impl Past {
         let is_running = take_out(&mut self.writes, n);
         if is_running {
             put(&mut self.ends, n);
-            end_all(&mut self.kept, n, self.next);
+            end_all(&mut self.kept, n, self.next, false);
             tell(&mut self.told, &Event::WriteEnded(n));
+        }
+        is_running
+    }
+
+    /// A write fails, if it runs.
+    pub fn fail_write(&mut self, n: u64) -> bool
+        ensures found { result ≡ is_one_of n (running_writes self.old.history) }
+        ensures failed { self.new.history ≡ (if result then WriteFailed n ∷ self.old.history else self.old.history) }
+        ensures next { self.new.next ≡ self.old.next }
+    {
+        let is_running = take_out(&mut self.writes, n);
+        if is_running {
+            end_all(&mut self.kept, n, self.next, true);
+            tell(&mut self.told, &Event::WriteFailed(n));
         }
         is_running
     }
@@ -249,9 +263,19 @@ impl Past {
         has_safe(&self.kept, n)
     }
 
-    /// Whether write `m` is before write `n`: it had ended when that was issued.
+    /// Whether write `m` is before write `n`: it had ended, or failed, when that was issued.
     pub fn is_before(&self, m: u64, n: u64) -> bool
         ensures { result ≡ events.is_before self.now.history m n }
+    {
+        match find(&self.kept, m) {
+            Some(k) => has_number(&self.kept, n) && k.was_done(n),
+            None => false,
+        }
+    }
+
+    /// Whether write `m` goes along with write `n`: it had ended with success when that was issued.
+    pub fn goes_along(&self, m: u64, n: u64) -> bool
+        ensures { result ≡ events.goes_along self.now.history m n }
     {
         match find(&self.kept, m) {
             Some(k) => has_number(&self.kept, n) && k.had_ended(n),
@@ -335,9 +359,9 @@ impl Past {
         true
     }
 
-    /// Forgets a write that has ended.
+    /// Forgets a write that is done.
     fn forget(&mut self, n: u64)
-        requires { events.has_ended self.old.history n ≡ true }
+        requires { events.is_done self.old.history n ≡ true }
         ensures history { self.new.history ≡ without_write n self.old.history }
         ensures next { self.new.next ≡ self.old.next }
     {

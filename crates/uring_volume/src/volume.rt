@@ -2,7 +2,7 @@
 
 ghost use Rattle.std.specs.Prelude.{◌≡◌, ℕ, ◌↔◌, ◌+◌, ◌<◌, ◌≤◌, ◌^◌, [], ◌∷◌, ◌++◌, length, if◌then◌else◌, IfOk, OnOk, OnErr, IfErr, IsOk, true, false, Ok, Err, vec_len, vec_capacity, reverse};
 ghost use Rattle.uring_volume.specs.Volume.{but, is_one_of};
-ghost use Rattle.uring_volume.specs.declared.event.Event.TheVariants.{WriteEnded, SyncEnded, SyncFailed};
+ghost use Rattle.uring_volume.specs.declared.event.Event.TheVariants.{WriteEnded, WriteFailed, SyncEnded, SyncFailed};
 ghost use Rattle.uring_volume.specs.declared.volume.BeginError.TheVariants.{OutOfNumbers};
 
 mod readings;
@@ -172,12 +172,22 @@ impl Volume {
         Ok(number)
     }
 
-    /// Ends a running write. It answers whether a write of this number ran; if none did, nothing changes.
+    /// Ends a running write with success: it has moved all of its bytes. It answers whether a write of this number ran; if none did, nothing changes.
     pub fn end_write(&mut self, n: u64) -> bool
         ensures found { result ≡ is_one_of n (running_writes self.old.history) }
         ensures ended { self.new ≡ (if result then with_event (WriteEnded n) self.old else self.old) }
     {
         self.past.end_write(n)
+    }
+
+    /// Ends a running write with a failure: any part of it may be found after a crash, and no sync makes it safe, but each write that is issued later lies over it. It answers whether a write of this number ran; if none did, nothing changes.
+    ///
+    /// A write that ended short has failed too, and what it moved is a write of its own, issued and ended at once. Use, if the first `moved` bytes were moved: `log.fail_write(write); let part = log.begin_write(off, head)?; log.end_write(part);`
+    pub fn fail_write(&mut self, n: u64) -> bool
+        ensures found { result ≡ is_one_of n (running_writes self.old.history) }
+        ensures failed { self.new ≡ (if result then with_event (WriteFailed n) self.old else self.old) }
+    {
+        self.past.fail_write(n)
     }
 
     /// Ends a running sync with success. It answers whether a sync of this number ran; if none did, nothing changes.
@@ -231,7 +241,7 @@ impl Volume {
         }
     }
 
-    /// Gives memory back: folds into the first bytes each write that is safe, before which each one is safe too, and that is before each other write of a byte of it. Before that it lets each write go that isn't safe, but is before a safe one that writes all of its bytes. What a crash may leave stays as it was, whatever happens later, and so does what reads show; the writes that are gone have no number any more. Out of memory, some of them may be left. For each one that it folds it looks at the pairs of writes that are kept, until it finds it: so it is quick if it is called after each sync.
+    /// Gives memory back: folds into the first bytes each write that is safe, with which only safe ones go along, and that is before each other write of a byte of it. Before that it lets each write go that isn't safe, but is before a safe one that writes all of its bytes. What a crash may leave stays as it was, whatever happens later, and so does what reads show; the writes that are gone have no number any more. Out of memory, some of them may be left. For each one that it folds it looks at the pairs of writes that are kept, until it finds it: so it is quick if it is called after each sync.
     pub fn fold(&mut self) -> Result<(), AllocError>
         ensures folded { IsFoldedFrom self.old self.new }
         ensures none_left { OnOk result ((w : Write) → IsFoldable self.new.history w → ⊥) }

@@ -6,13 +6,12 @@ ghost use Rattle.std.specs.Cmp.Lexicographic.{pointwise};
 ghost use Rattle.uring_volume.specs.Ways as spec;
 ghost use Rattle.uring_volume.specs.Ways.{same_write, same_way, put_by, bytes_over, contents_of};
 ghost use Rattle.uring_volume.specs.Choices as choices;
-ghost use Rattle.uring_volume.specs.Choices.{without};
 ghost use Rattle.uring_volume.specs.Images.{byte_over};
 ghost use Rattle.uring_volume.specs.Past.{AreIssued, AreWaysIssued};
 
 use crate::event::Piece;
 use crate::growth::{copied, push};
-use crate::order::has_one_before;
+use crate::order::{left_after, waits};
 use crate::past::Past;
 use std::alloc::{AllocError, Global};
 use uring_memory::Memory;
@@ -117,26 +116,6 @@ fn write_at(now: &mut [u8], from: u64, piece: &Piece)
     }
 }
 
-/// These writes without that of number `n`.
-fn others<'a, M: Memory>(
-    memory: &M,
-    alloc: Global,
-    rest: &[&'a Piece],
-    n: u64,
-) -> Result<Vec<&'a Piece>, AllocError>
-    ensures others { IfOk result (λ others. map (λ p. p.now) others.items
-        ≡ without n (map (λ p. p.now) rest.now)) }
-    ensures granted { ((n : ℕ) → M.grants memory.now n) → IsOk result }
-{
-    let mut others = Vec::new(alloc);
-    for piece in rest {
-        if piece.number() != n {
-            push(memory, &mut others, *piece)?;
-        }
-    }
-    Ok(others)
-}
-
 /// Puts the ways on from one after others, by each of its writes that may come next, each if it isn't among them.
 fn put_steps<'a, M: Memory>(
     memory: &M,
@@ -153,8 +132,8 @@ fn put_steps<'a, M: Memory>(
     ensures granted { ((n : ℕ) → M.grants memory.now n) → IsOk result }
 {
     for piece in rest {
-        if !has_one_before(past, rest, piece.number()) {
-            let later = others(memory, alloc, rest, piece.number())?;
+        if !waits(past, rest, piece.number()) {
+            let later = left_after(memory, alloc, past, rest, piece.number())?;
             let mut left = copied(memory, alloc, now)?;
             write_at(&mut left, from, piece);
             let way = Way {

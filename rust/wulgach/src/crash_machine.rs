@@ -303,6 +303,16 @@ impl CrashMachine {
         .map(Some)
     }
 
+    /// Gives memory back: folds the volume of each file. What a crash may leave stays as it was, whatever happens later, and so do all answers. A write that is gone has no number any more, so that [`is_safe`](CrashMachine::is_safe) is false of its request: ask before.
+    ///
+    /// # Errors
+    ///
+    /// `Lost`, and `NoMemory`: some of this may be left for another call.
+    pub fn fold(&mut self) -> Result<(), Error> {
+        // SAFETY: as in `step`.
+        done(unsafe { ffi::wulgach_crash_machine_fold(self.place.get_mut()) })
+    }
+
     /// The power fails: the machine of the next epoch, whose files are left each by the choice at its place; one that is missing is empty.
     ///
     /// # Errors

@@ -192,6 +192,7 @@ extern "C" {
         number: *mut u64,
     ) -> i32;
     pub fn wulgach_volume_end_write(volume: *mut Place, number: u64) -> i32;
+    pub fn wulgach_volume_fail_write(volume: *mut Place, number: u64) -> i32;
     pub fn wulgach_volume_begin_sync(volume: *mut Place, number: *mut u64) -> i32;
     pub fn wulgach_volume_begin_range_sync(
         volume: *mut Place,
@@ -297,6 +298,7 @@ extern "C" {
         lens: *const u64,
         count: usize,
     ) -> i32;
+    pub fn wulgach_crash_machine_fold(machine: *mut Place) -> i32;
     pub fn wulgach_crash_machine_free(machine: *mut Place) -> i32;
     pub fn wulgach_outcomes_new(
         outcomes: *mut Place,

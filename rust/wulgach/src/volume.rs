@@ -84,11 +84,36 @@ impl Volume {
         Ok(number)
     }
 
-    /// Ends a write. Returns whether it ran. One that failed is best left running: then any part of it may be found.
+    /// Ends a write with success. Returns whether it ran.
     #[must_use]
     pub fn end_write(&mut self, number: u64) -> bool {
         // SAFETY: as in `begin_write`.
         unsafe { ffi::wulgach_volume_end_write(self.place.get_mut(), number) == 0 }
+    }
+
+    /// Ends a write with a failure: any part of it may be found, no sync makes it safe, and each write that begins later lies over it. Returns whether it ran.
+    ///
+    /// One that ended short has failed, and what it moved is a write of its own:
+    ///
+    /// ```
+    /// # use wulgach::Volume;
+    /// # fn main() -> Result<(), wulgach::Error> {
+    /// let mut volume = Volume::new(1, b"....")?;
+    /// let write = volume.begin_write(0, b"abcd")?;
+    /// volume.fail_write(write);
+    /// let moved = volume.begin_write(0, b"ab")?;
+    /// volume.end_write(moved);
+    /// let sync = volume.begin_sync()?;
+    /// volume.end_sync(sync);
+    /// assert!(volume.is_safe(moved) && !volume.is_safe(write));
+    /// assert_eq!(volume.count_images()?, 4);
+    /// # Ok(())
+    /// # }
+    /// ```
+    #[must_use]
+    pub fn fail_write(&mut self, number: u64) -> bool {
+        // SAFETY: as in `begin_write`.
+        unsafe { ffi::wulgach_volume_fail_write(self.place.get_mut(), number) == 0 }
     }
 
     /// Begins a sync of the whole file, and returns its number. An fdatasync is a sync too: it leaves out what no read of the file needs.

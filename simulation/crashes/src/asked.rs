@@ -66,7 +66,7 @@ impl Traced {
                 request.number = Some(self.file.next);
                 self.file.begin_sync(0, u64::MAX);
             }
-            (Some(_), Some(number)) if !is_issue => drop(self.file.end_write(number)),
+            (Some(_), Some(number)) if !is_issue => drop(self.file.end_write(number, End::Success)),
             (None, Some(number)) if !is_issue => drop(self.file.end_sync(number, End::Success)),
             _ => {}
         }

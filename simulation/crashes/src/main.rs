@@ -124,8 +124,15 @@ impl Pair {
         let running = self.file.syncs.last().filter(|it| it.ended.is_none());
         let fails = running.filter(|_| rng.below(4) == 0).map(|it| it.number);
         let number = fails.unwrap_or_else(|| rng.below(self.file.next + 1));
-        let (model, volume) = match if fails.is_some() { 5 } else { rng.below(6) } {
-            0..=2 => (self.file.end_write(number), self.volume.end_write(number)),
+        let (model, volume) = match if fails.is_some() { 5 } else { rng.below(7) } {
+            0..=2 => (
+                self.file.end_write(number, End::Success),
+                self.volume.end_write(number),
+            ),
+            6 => (
+                self.file.end_write(number, End::Failure),
+                self.volume.fail_write(number),
+            ),
             3..=4 => (
                 self.file.end_sync(number, End::Success),
                 self.volume.end_sync(number),

@@ -9,10 +9,10 @@ pub struct Write {
     pub off: u64,
     pub bytes: Vec<u8>,
     pub issued: u64,
-    pub ended: Option<u64>,
+    pub ended: Option<(u64, End)>,
 }
 
-/// How a sync has ended.
+/// How a write or a sync has ended.
 #[derive(Clone, Copy, Debug, PartialEq)]
 pub enum End {
     Success,
@@ -55,9 +55,19 @@ impl Write {
             .copied()
     }
 
-    /// It had ended when something was issued.
+    /// It had ended, or failed, when something was issued.
+    fn was_done(&self, issued: u64) -> bool {
+        self.ended.is_some_and(|(ended, _)| ended < issued)
+    }
+
+    /// It had ended with success when something was issued.
     fn had_ended(&self, issued: u64) -> bool {
-        self.ended.is_some_and(|ended| ended < issued)
+        self.was_done(issued) && self.is_read()
+    }
+
+    /// It has ended with success.
+    fn is_read(&self) -> bool {
+        matches!(self.ended, Some((_, End::Success)))
     }
 }
 
@@ -123,13 +133,13 @@ impl File {
         number
     }
 
-    pub fn end_write(&mut self, number: u64) -> bool {
+    pub fn end_write(&mut self, number: u64, end: End) -> bool {
         let now = self.tick();
         let running = self
             .writes
             .iter_mut()
             .find(|w| w.number == number && w.ended.is_none());
-        running.map(|w| w.ended = Some(now)).is_some()
+        running.map(|w| w.ended = Some((now, end))).is_some()
     }
 
     pub fn end_sync(&mut self, number: u64, end: End) -> bool {
@@ -159,10 +169,10 @@ impl File {
         })
     }
 
-    /// What a read shows: the writes that have ended, in the order of their ends.
+    /// What a read shows: the writes that have ended with success, in the order of their ends.
     pub fn contents(&self) -> Vec<u8> {
-        let mut ended: Vec<&Write> = self.writes.iter().filter(|w| w.ended.is_some()).collect();
-        ended.sort_by_key(|w| w.ended);
+        let mut ended: Vec<&Write> = self.writes.iter().filter(|w| w.is_read()).collect();
+        ended.sort_by_key(|w| w.ended.map(|(at, _)| at));
         let order: Order = ended.iter().map(|w| w.number).collect();
         let len = self.length(&order);
         (0..len).map(|at| self.byte(&order, at)).collect()
@@ -192,7 +202,7 @@ impl File {
             .collect()
     }
 
-    /// Whether this list may be left of these writes: each safe one is in it, with a write each that is before it, and that comes before it.
+    /// Whether this list may be left of these writes: each safe one is in it, with a write each that had ended before it, and what had ended or failed before it comes before it.
     fn may_be_left(&self, writes: &[&Write], order: &[&Write]) -> bool {
         let place = |write: &Write| order.iter().position(|w| w.number == write.number);
         writes
@@ -201,8 +211,8 @@ impl File {
             && order.iter().enumerate().all(|(at, w)| {
                 writes
                     .iter()
-                    .filter(|m| m.had_ended(w.issued))
-                    .all(|m| place(m).is_some_and(|its| its < at))
+                    .filter(|m| m.was_done(w.issued))
+                    .all(|m| place(m).map_or(!m.had_ended(w.issued), |its| its < at))
             })
     }
 
@@ -281,14 +291,16 @@ impl File {
             })
     }
 
-    /// The writes that a part of a choice leaves of these: those that it names one after the other, without the numbers that name none that may come next; then, of those that are still there, the ones up to the last safe one, in the order of their issue.
+    /// The writes that a part of a choice leaves of these: those that it names one after the other, without the numbers that name none that may come next, and without what had failed before one that was named; then, of those that are still there, the ones up to the last safe one, in the order of their issue.
     fn chosen(&self, writes: &[&Write], part: &[u64]) -> Order {
         let mut rest = writes.to_vec();
         let mut order = Order::new();
         for number in part {
             if let Some(at) = rest.iter().position(|w| w.number == *number) {
                 if !rest.iter().any(|m| m.had_ended(rest[at].issued)) {
-                    order.push(rest.remove(at).number);
+                    let taken = rest.remove(at);
+                    order.push(taken.number);
+                    rest.retain(|m| !m.was_done(taken.issued));
                 }
             }
         }

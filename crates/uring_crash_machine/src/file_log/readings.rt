@@ -1,16 +1,18 @@
 //! What a log tells: no step, and so it changes nothing.
 
-ghost use Rattle.std.specs.Prelude.{◌≡◌, ℕ, ◌≤◌, reverse, length, IfOk, IsOk};
+ghost use Rattle.std.specs.Prelude.{◌≡◌, ℕ, ◌≤◌, true, Some, length, IfOk, IsOk, IfSome};
 ghost use Rattle.uring_files.specs.Contents.{max_len};
 ghost use Rattle.uring_volume.specs.Images.{IsImage};
 ghost use Rattle.uring_volume.specs.Choices.{IsLeftBy, issued, named, has_safe};
+ghost use Rattle.uring_volume.specs.Volume.{is_known};
 ghost use Rattle.uring_crash_machine.specs.Asked.{is_safe_of};
 ghost use Rattle.uring_crash_machine.specs.Logs.{request_of};
 
-use super::{FileLog, number_of};
+use super::FileLog;
+use crate::numbering::request_at;
 use std::alloc::AllocError;
 use uring_memory::Memory;
-use uring_volume::{Event, Volume};
+use uring_volume::Volume;
 
 impl FileLog {
     /// The bytes that a crash leaves of the file, by a choice.
@@ -43,31 +45,19 @@ impl FileLog {
         &self.volume
     }
 
-    /// What has happened on the volume, the oldest first: each write, from which it can be told of, and each sync. `AllocError`: memory was refused for the end of one.
-    pub fn events(&self) -> Result<&[Event], AllocError>
-        ensures { IfOk result (λ events. reverse events.now ≡ self.now.volume.history) }
-    {
-        if self.is_cut {
-            return Err(AllocError);
-        }
-        Ok(&self.events)
-    }
-
-    /// The request of a number on the volume, if it is one: the oldest has number 1.
+    /// The request of a number on the volume: of each write that is there and each sync that runs. One that a fold has let go may have none any more.
     pub fn request(&self, number: u64) -> Option<u64>
-        ensures { result ≡ request_of number self.now.requests }
+        ensures right { IfSome result (λ n. request_of number self.now.requests ≡ Some n) }
+        ensures there { is_known number self.now.volume.history ≡ true → result ≡ request_of number self.now.requests }
     {
-        if number == 0 {
-            return None;
-        }
-        self.requests.get((number - 1) as usize).copied()
+        request_at(&self.numbers, number)
     }
 
     /// How many writes and syncs were begun.
     pub fn count(&self) -> u64
         ensures { result ≡ length self.now.requests }
     {
-        self.requests.len() as u64
+        self.volume.next() - 1
     }
 
     /// Whether the write of a number on the volume is safe.
@@ -77,10 +67,14 @@ impl FileLog {
         self.volume.is_safe(number)
     }
 
-    /// Whether the write that a request is is safe: false too if the request is no write of this file.
+    /// Whether the write that a request is is safe: false too if the request is no write of this file, or a fold has let it go.
+    #[tactic(auto, using(crate::proofs::LogNumbers::none_safe))]
     pub fn has_safe(&self, n: u64) -> bool
         ensures { result ≡ is_safe_of n self.now }
     {
-        self.volume.is_safe(number_of(&self.requests, n))
+        match self.number_of(n) {
+            Some(number) => self.volume.is_safe(number),
+            None => false,
+        }
     }
 }

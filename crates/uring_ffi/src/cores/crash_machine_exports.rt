@@ -12,7 +12,8 @@ ghost use Rattle.uring_core.specs.Core.{FitsApart, IsCounts};
 ghost use Rattle.uring_core.specs.Histories.{History, world};
 ghost use Rattle.uring_crash_machine.specs.Asked.{log_at, is_safe_of};
 ghost use Rattle.uring_crash_machine.specs.Epochs.{Epoch, FitsRun, files_from};
-ghost use Rattle.uring_ffi_values.specs.Machines.Crashing.{IsNoStart, AreShort, BeginsOn, TellsStepOn, GoesOn, IsLostFrom};
+ghost use Rattle.uring_ffi_values.specs.Machines.Crashing.{IsNoStart, AreShort, BeginsOn, TellsStepOn, GoesOn, IsFoldedMachine, IsLostFrom};
+ghost use Rattle.uring_crash_machine.specs.Logs.{AreWhollyFolded};
 ghost use Rattle.uring_ffi_values.specs.CoreWords.Cuts as spec;
 ghost use Rattle.uring_ffi_values.specs.CoreWords.OperationForm.{words_of_operation};
 ghost use Rattle.uring_ffi_values.specs.Boxes.Places.{crash_machine_in};
@@ -27,7 +28,8 @@ use uring_ffi_values::answer_words::AnswerWords;
 use uring_ffi_values::completion_words::{CompletionWords, completion_words};
 use uring_ffi_values::count_words::{CountWords, count_words};
 use uring_ffi_values::crash_machine_memory::{
-    crash_machine_crash_in, crash_machine_on_in, crash_machine_step_in, refusal_of_file,
+    crash_machine_crash_in, crash_machine_fold_in, crash_machine_on_in, crash_machine_step_in,
+    refusal_of_file,
 };
 use uring_ffi_values::crash_machine_place::CrashMachinePlace;
 use uring_ffi_values::operation_words::{OperationWords, operation_words};
@@ -120,6 +122,25 @@ pub extern "C" fn wulgach_crash_machine_crash(
         (λ old. IsSomeAnd (crash_machine_in next.new) (GoesOn (spec.cut lens.now numbers.now) old)) }
 {
     crash_machine_crash_in(&alloc, alloc, place, next, numbers, lens)
+}
+
+/// Gives memory back: folds what can be folded of each file. What a crash may leave stays as it was, whatever happens later, and so do all answers; but a write that is gone has no number any more, and isn't known to be safe. -131 (ENOTRECOVERABLE) exactly if the machine is lost; -12 (ENOMEM) if memory is refused: then some writes may be left that could be folded.
+#[unsafe(no_mangle)]
+pub extern "C" fn wulgach_crash_machine_fold(alloc: Global, place: &mut CrashMachinePlace) -> i32
+    ensures empty { (result ≡ neg_ℤ EBADF) ↔ (crash_machine_in place.old ≡ None) }
+    ensures lost { (result ≡ neg_ℤ ENOTRECOVERABLE)
+        ↔ IsSomeAnd (crash_machine_in place.old) (λ machine. machine.is_lost ≡ true) }
+    ensures results { (result ≡ pos 0 → ⊥) → (result ≡ neg_ℤ EBADF → ⊥)
+        → (result ≡ neg_ℤ ENOTRECOVERABLE → ⊥) → result ≡ neg_ℤ ENOMEM }
+    ensures refused { (result ≡ pos 0 → ⊥) → (result ≡ neg_ℤ ENOMEM → ⊥)
+        → crash_machine_in place.new ≡ crash_machine_in place.old }
+    ensures folded { (result ≡ neg_ℤ EBADF → ⊥) → (result ≡ neg_ℤ ENOTRECOVERABLE → ⊥)
+        → IsSomeAnd (crash_machine_in place.old)
+        (λ old. IsSomeAnd (crash_machine_in place.new) (IsFoldedMachine old)) }
+    ensures none_left { result ≡ pos 0
+        → IsSomeAnd (crash_machine_in place.new) (λ now. AreWhollyFolded now.logs) }
+{
+    crash_machine_fold_in(&alloc, alloc, place)
 }
 
 /// Writes whether the write of the file of a descriptor that a request is is safe: false too if it is none. -131 (ENOTRECOVERABLE) exactly if the machine is lost, else -2 (ENOENT) exactly if there is no such file.

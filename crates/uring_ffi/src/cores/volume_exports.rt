@@ -5,7 +5,7 @@ ghost use Rattle.std.specs.Prelude.{◌≡◌, ◌↔◌, ◌+◌, ◌-◌, min,
 ghost use Rattle.uring_entry.specs.declared.errno.TheConstants.{EBADF, EFBIG, EINVAL, ENOENT, ENOMEM};
 ghost use Rattle.uring_volume.specs.Choices.{issued, named, has_safe};
 ghost use Rattle.uring_volume.specs.Volume.{with_event, with_write, with_sync, is_one_of, running_writes, running_syncs};
-ghost use Rattle.uring_volume.specs.declared.event.Event.TheVariants.{WriteEnded, SyncEnded, SyncFailed};
+ghost use Rattle.uring_volume.specs.declared.event.Event.TheVariants.{WriteEnded, WriteFailed, SyncEnded, SyncFailed};
 ghost use Rattle.uring_volume.specs.declared.event.SyncRange.TheVariants.{Whole, Part};
 ghost use Rattle.uring_ffi_values.specs.Boxes.Places.{volume_in};
 ghost use Rattle.uring_ffi_values.specs.Volumes.VolumeForms.{TellsContents, TellsCrash, TellsCount, TellsImages, HasMore};
@@ -109,7 +109,7 @@ pub extern "C" fn wulgach_volume_begin_range_sync(
     volume_begin_sync_in(&alloc, alloc, place, SyncRange::Part { off, len }, number)
 }
 
-/// Ends a running write. -2 (ENOENT) exactly if no write of this number runs; then nothing changes.
+/// Ends a running write with success. -2 (ENOENT) exactly if no write of this number runs; then nothing changes.
 #[unsafe(no_mangle)]
 pub extern "C" fn wulgach_volume_end_write(
     alloc: Global,
@@ -129,6 +129,32 @@ pub extern "C" fn wulgach_volume_end_write(
         return -errno::EBADF;
     }
     if place.end_write(alloc, number) {
+        0
+    } else {
+        -errno::ENOENT
+    }
+}
+
+/// Ends a running write with a failure. -2 (ENOENT) exactly if no write of this number runs; then nothing changes.
+#[unsafe(no_mangle)]
+pub extern "C" fn wulgach_volume_fail_write(
+    alloc: Global,
+    place: &mut VolumePlace,
+    number: u64,
+) -> i32
+    ensures empty { (result ≡ neg_ℤ EBADF) ↔ (volume_in place.old ≡ None) }
+    ensures results { (result ≡ pos 0 → ⊥) → (result ≡ neg_ℤ EBADF → ⊥) → result ≡ neg_ℤ ENOENT }
+    ensures kept { (result ≡ pos 0 → ⊥) → volume_in place.new ≡ volume_in place.old }
+    ensures ended { IfSome (volume_in place.old)
+        (λ v. (result ≡ pos 0) ↔ (is_one_of number (running_writes v.history) ≡ true)) }
+    ensures event { result ≡ pos 0
+        → IsSomeAnd (volume_in place.old)
+        (λ v. volume_in place.new ≡ Some (with_event (WriteFailed number) v)) }
+{
+    if !place.is_full {
+        return -errno::EBADF;
+    }
+    if place.fail_write(alloc, number) {
         0
     } else {
         -errno::ENOENT

@@ -1,5 +1,5 @@
 //! The calls of a machine whose power may fail, made on the machine in a place. Each takes the machine out, and puts it back; its box doesn't move.
-ghost use Rattle.std.specs.Prelude.{◌≡◌, ℕ, ◌<◌, ◌-◌, List, true, false, Some, IsSome, IfOk, IsOk, IsSomeAnd, OnErr, map, slice_get, length};
+ghost use Rattle.std.specs.Prelude.{◌≡◌, ℕ, ◌<◌, ◌-◌, List, true, false, Some, IsSome, IfOk, IsOk, IsSomeAnd, OnErr, OnOk, map, slice_get, length};
 ghost use Rattle.std.specs.Option.{option_map};
 ghost use Rattle.uring_entry.specs.Completions.{unreaped};
 ghost use Rattle.uring_entry.specs.Requests.{operation_running};
@@ -10,7 +10,8 @@ ghost use Rattle.uring_core.specs.Core.{FitsApart, IsCounts};
 ghost use Rattle.uring_core.specs.Histories.{History, world};
 ghost use Rattle.uring_crash_machine.specs.Asked.{log_at, is_safe_of, IsUnrefusedOn};
 ghost use Rattle.uring_crash_machine.specs.Epochs.{Epoch, FitsRun, files_from};
-ghost use Rattle.uring_ffi_values.specs.Machines.Crashing.{SteppedOn, GoesOn, IsLostFrom};
+ghost use Rattle.uring_ffi_values.specs.Machines.Crashing.{SteppedOn, GoesOn, IsFoldedMachine, IsLostFrom};
+ghost use Rattle.uring_crash_machine.specs.Logs.{AreWhollyFolded};
 ghost use Rattle.uring_ffi_values.specs.Boxes.Places.{crash_machine_in};
 
 use crate::boxes::box_memory::BoxMemory;
@@ -161,6 +162,15 @@ pub fn stepped<M: Memory>(
         → FitsRun machine.old e earlier → IsUnrefusedOn machine.old.files (world machine.old.core.setup e.history) step answer) }
 {
     machine.step_in(memory, step)
+}
+
+/// Folds what can be folded of each file, by this memory. `AllocError`: out of memory, and some writes may be left that could be folded.
+pub fn fold<M: Memory>(memory: &M, machine: &mut CrashMachine) -> Result<(), AllocError>
+    ensures folded { IsFoldedMachine machine.old machine.new }
+    ensures none_left { OnOk result (AreWhollyFolded machine.new.logs) }
+    ensures granted { ((n : ℕ) → M.grants memory.now n) → IsOk result }
+{
+    machine.fold_in(memory)
 }
 
 /// A machine in a box that goes on from what a crash leaves, by this memory. `AllocError`: out of memory, or the machine is lost.

@@ -2,7 +2,8 @@
 ghost use Rattle.std.specs.Prelude.{◌≡◌, ◌↔◌, ℕ, ◌<◌, ◌≤◌, ◌-◌, ◌^◌, min, true, false, MatchOption, pos, neg_ℤ, None, Some, IsSome, IsSomeAnd, length};
 ghost use Rattle.uring_entry.specs.declared.errno.TheConstants.{EBADF, EFBIG, EINVAL, ENOENT, ENOMEM};
 ghost use Rattle.uring_crash_machine.specs.Asked.{log_at};
-ghost use Rattle.uring_ffi_values.specs.Machines.Crashing.{IsNoStart, AreShort, BeginsOn, TellsStepOn, TellsUnrefusedOn, GoesOn, IsLostFrom};
+ghost use Rattle.uring_ffi_values.specs.Machines.Crashing.{IsNoStart, AreShort, BeginsOn, TellsStepOn, TellsUnrefusedOn, GoesOn, IsFoldedMachine, IsLostFrom};
+ghost use Rattle.uring_crash_machine.specs.Logs.{AreWhollyFolded};
 ghost use Rattle.uring_ffi_values.specs.CoreWords.Cuts as spec;
 ghost use Rattle.uring_ffi_values.specs.Boxes.Places.{crash_machine_in};
 ghost use Rattle.uring_ffi_values.specs.CoreWords.SetUps.{IsAskedFor};
@@ -14,7 +15,7 @@ use crate::boxes::box_memory::BoxMemory;
 use crate::core_words::answer_words::{AnswerWords, answer_words};
 use crate::core_words::cuts::{cut, none_is_over};
 use crate::core_words::set_up_words::SetupWords;
-use crate::machines::crash_machine_calls::{crash, stepped};
+use crate::machines::crash_machine_calls::{crash, fold, stepped};
 use crate::machines::crash_machine_place::CrashMachinePlace;
 use crate::volumes::volume_memory::{tell_count, tell_crash, tell_images};
 use std::alloc::Global;
@@ -169,6 +170,41 @@ pub fn crash_machine_crash_in<M: BoxMemory>(
         return -errno::ENOMEM;
     };
     next.put(left);
+    0
+}
+
+/// What `wulgach_crash_machine_fold` does, by this memory. If it grants whatever is asked for, -12 isn't returned.
+pub fn crash_machine_fold_in<M: Memory>(
+    memory: &M,
+    alloc: Global,
+    place: &mut CrashMachinePlace,
+) -> i32
+    ensures empty { (result ≡ neg_ℤ EBADF) ↔ (crash_machine_in place.old ≡ None) }
+    ensures lost { (result ≡ neg_ℤ ENOTRECOVERABLE)
+        ↔ IsSomeAnd (crash_machine_in place.old) (λ machine. machine.is_lost ≡ true) }
+    ensures results { (result ≡ pos 0 → ⊥) → (result ≡ neg_ℤ EBADF → ⊥)
+        → (result ≡ neg_ℤ ENOTRECOVERABLE → ⊥) → result ≡ neg_ℤ ENOMEM }
+    ensures refused { (result ≡ pos 0 → ⊥) → (result ≡ neg_ℤ ENOMEM → ⊥)
+        → crash_machine_in place.new ≡ crash_machine_in place.old }
+    ensures folded { (result ≡ neg_ℤ EBADF → ⊥) → (result ≡ neg_ℤ ENOTRECOVERABLE → ⊥)
+        → IsSomeAnd (crash_machine_in place.old)
+        (λ old. IsSomeAnd (crash_machine_in place.new) (IsFoldedMachine old)) }
+    ensures none_left { result ≡ pos 0
+        → IsSomeAnd (crash_machine_in place.new) (λ now. AreWhollyFolded now.logs) }
+    ensures granted { ((n : ℕ) → M.grants memory.now n) → result ≡ neg_ℤ ENOMEM → ⊥ }
+{
+    if !place.is_full {
+        return -errno::EBADF;
+    }
+    if place.is_lost(alloc) {
+        return -ENOTRECOVERABLE;
+    }
+    let mut machine = place.take_full(alloc);
+    let folded = fold(memory, &mut *machine);
+    place.put(machine);
+    let Ok(()) = folded else {
+        return -errno::ENOMEM;
+    };
     0
 }
 

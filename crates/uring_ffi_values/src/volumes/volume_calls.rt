@@ -2,14 +2,14 @@
 ghost use Rattle.std.specs.Prelude.{◌≡◌, Some, IsSome, IsSomeAnd, if◌then◌else◌};
 ghost use Rattle.uring_volume.specs.Choices.{issued, named, has_safe};
 ghost use Rattle.uring_volume.specs.Volume.{with_event, is_one_of, running_writes, running_syncs};
-ghost use Rattle.uring_volume.specs.declared.event.Event.TheVariants.{WriteEnded, SyncEnded, SyncFailed};
+ghost use Rattle.uring_volume.specs.declared.event.Event.TheVariants.{WriteEnded, WriteFailed, SyncEnded, SyncFailed};
 ghost use Rattle.uring_ffi_values.specs.Boxes.Places.{volume_in};
 
 use crate::volumes::volume_place::VolumePlace;
 use std::alloc::Global;
 
 impl VolumePlace {
-    /// Ends a running write. It returns whether a write of this number ran.
+    /// Ends a running write with success. It returns whether a write of this number ran.
     pub fn end_write(&mut self, alloc: Global, n: u64) -> bool
         requires { IsSome (volume_in self.old) }
         ensures { IsSomeAnd (volume_in self.old)
@@ -18,6 +18,19 @@ impl VolumePlace {
     {
         let mut volume = self.take_full(alloc);
         let ran = volume.end_write(n);
+        self.put(volume);
+        ran
+    }
+
+    /// Ends a running write with a failure. It returns whether a write of this number ran.
+    pub fn fail_write(&mut self, alloc: Global, n: u64) -> bool
+        requires { IsSome (volume_in self.old) }
+        ensures { IsSomeAnd (volume_in self.old)
+            (λ v. (result ≡ is_one_of n (running_writes v.history))
+            × (volume_in self.new ≡ Some (if result then with_event (WriteFailed n) v else v))) }
+    {
+        let mut volume = self.take_full(alloc);
+        let ran = volume.fail_write(n);
         self.put(volume);
         ran
     }

@@ -5,6 +5,7 @@ ghost use Rattle.std.specs.Prelude.{◌≡◌, ℕ, ◌↔◌, ◌-◌, min, map
 use super::{ImagesError, Volume};
 use crate::crash::crash;
 use crate::growth::copied;
+use crate::kept::Kept;
 use crate::listing::{count_images, list_images};
 use crate::show::shown;
 use std::alloc::{AllocError, Global};
@@ -19,13 +20,29 @@ impl Volume {
     ghost use Rattle.uring_volume.specs.Laws.{IsKept, IsReadBack};
     ghost use Rattle.uring_volume.specs.Listing.{AreTheImages};
     ghost use Rattle.uring_volume.specs.Folds.{IsFoldedFrom};
+    ghost use Rattle.uring_volume.specs.Past.{AreTheWrites};
     ghost use Rattle.uring_volume.specs.declared.volume.ImagesError.TheVariants.{TooMany};
 
-    /// What holds of each volume, for the proofs of callers: a write has a number of its own, below the next one, and ends after it was issued.
+    /// What holds of each volume, for the proofs of callers: a write has a number of its own, below the next one, and ends or fails once, after it was issued.
     pub fn is_sound(&self)
         ensures { IsSound self.now }
     {
         self.past.is_past();
+    }
+
+    /// The number that the next write or sync gets.
+    pub fn next(&self) -> u64
+        ensures { result ≡ self.now.next }
+    {
+        self.past.next()
+    }
+
+    /// The writes that are there, the oldest first, each with how it stands.
+    pub fn writes(&self) -> &[Kept]
+        ensures { AreTheWrites self.now.history self.now.next result.now }
+    {
+        self.past.is_past();
+        self.past.kept()
     }
 
     /// Whether write `n` is safe: a sync that covers it has ended with success, and none that reaches it had failed by then. False too if no write has this number, as after it was folded. It looks at each write that is kept at most once.
@@ -49,7 +66,7 @@ impl Volume {
         self.past.end_of(n)
     }
 
-    /// The bytes that a read of the whole file shows: the first ones with the writes over them that have ended, in the order of their ends.
+    /// The bytes that a read of the whole file shows: the first ones with the writes over them that have ended with success, in the order of their ends.
     pub fn contents(&self, alloc: Global) -> Result<Vec<u8>, AllocError>
         ensures { IfOk result (λ now. IsShown self.now.first self.now.history now.items) }
     {

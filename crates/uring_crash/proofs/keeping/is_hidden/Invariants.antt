@@ -1,7 +1,6 @@
-use Rattle.std.proofs.Common.{◌≡◌, take, reverse}
-use Rattle.uring_crash.proofs.Common.{issued, lies_over, list_any}
+use Rattle.std.proofs.Common.{◌≡◌, false, take}
+use Rattle.uring_crash.proofs.Common.{stands_over, list_any}
 use Rattle.uring_crash.proofs.keeping.is_hidden.Given as goal
 
-abbrev pub invariant-loop-event : goal.invariant-loop-event
-invariant-loop-event l =
-    l.found ≡ list_any (lies_over (reverse l.events) l.k l.n) (issued (reverse (take l.event-index l.events)))
+abbrev pub invariant-loop-over : goal.invariant-loop-over
+invariant-loop-over l = list_any (stands_over l.k l.under) (take l.over-index l.kept) ≡ false

@@ -1,4 +1,4 @@
-use Rattle.std.proofs.Common.{◌+◌, ◌*◌, inl, inr, map, ap, ◌∙◌, arith}
+use Rattle.std.proofs.Common.{◌+◌, ◌*◌, inl, inr, arith}
 use Rattle.uring_volume.specs.Images.{is_on}
 use Rattle.uring_volume.proofs.IssuedWays.{filter_issued}
 use Rattle.uring_volume.proofs.Painting.{below_or_from, in_unit}
@@ -14,5 +14,5 @@ returns-clause-others g c = λ k apart.
       ]
     ]
 
-pub choose-count-requires : goal.choose-count-requires
-choose-count-requires g c = filter_issued c.args.past.now.history (is_on c.args.unit c.args.i) _ (ap (map (λ p. p.now)) c.deref_mut.ensures.value ∙ c.in_ok-on.ensures.pieces)
+pub choose-requires : goal.choose-requires
+choose-requires g c = filter_issued c.args.past.now.history (is_on c.args.unit c.args.i) _ c.in_ok-on.ensures.pieces

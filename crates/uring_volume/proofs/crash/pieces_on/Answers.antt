@@ -1,7 +1,6 @@
 use Rattle.std.proofs.Common.{map, take, sym, ap, ◌∙◌, arith}
 use Rattle.uring_volume.proofs.Common.{filter, is_on, take_all}
-use Rattle.uring_volume.proofs.Sorting.{passes, fails}
-use Rattle.uring_volume.proofs.Taking.{push_map}
+use Rattle.uring_volume.proofs.Taking.{fails, passes, push_map}
 use Rattle.uring_volume.proofs.KeptLists.{mapped_more}
 use Rattle.uring_volume.proofs.crash.pieces_on.Goals as goal
 use Rattle.uring_volume.proofs.crash.pieces_on.Goals.{then-is_on, else-is_on}

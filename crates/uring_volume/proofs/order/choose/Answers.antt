@@ -1,44 +1,41 @@
-use Rattle.std.proofs.Common.{◌+◌, ◌-◌, ◌++◌, length, map, take, drop, get_or, sym, subst, ap, ◌∙◌, arith}
-use Rattle.uring_volume.proofs.Common.{chosen, drop_more, length-drop}
-use borrow.Rule.Slice.PartMut.{same_len_mid}
-use Rattle.uring_volume.proofs.Taking.{others_of, one_chosen, none_chosen, all_chosen}
+use Rattle.std.proofs.Common.{◌≡◌, ◌+◌, ◌++◌, map, take, drop, get_or, refl, rules, sym, subst, ap, ◌∙◌, arith}
+use Rattle.uring_volume.proofs.Common.{after, chosen, false≢true, may_come, named, vec_len}
+use Rattle.uring_volume.proofs.Taking.{one_chosen, none_chosen, rest_chosen}
 use Rattle.uring_volume.specs.Past.{AreIssued}
-use Rattle.uring_volume.proofs.IssuedWays.{left_issued}
+use Rattle.uring_volume.proofs.IssuedWays.{after_issued}
 use Rattle.uring_volume.proofs.order.choose.Goals as goal
-use Rattle.uring_volume.proofs.order.choose.Goals.{then-not-has_one_before, else-not-has_one_before}
+use Rattle.uring_volume.proofs.order.choose.Goals.{then-may_come+in_ok-push_named+in_ok-rest, else-may_come}
 
 pub loop-n-preserved : goal.loop-n-preserved
-loop-n-preserved c =
-    let next = ap (λ ns. map (λ p. p.now) (take c.loop-n.count c.loop-n.pieces) ++ chosen c.args.past.now.history (map (λ p. p.now) (drop c.loop-n.count c.loop-n.pieces)) ns) (sym (drop_more c.args.choice.now c.loop-n.n-index 0 c.loop-n-test.true)) ∙ c.loop-n.invariant.left in
-    elim c.if-not-has_one_before.branch [
-      | then-not-has_one_before w ↦
-          let long = same_len_mid c.loop-n.count (length c.loop-n.pieces - c.loop-n.count) c.loop-n.pieces w.move_named-count.new.rest w.move_named-count.auto.rest in
+loop-n-preserved g c =
+    let h = c.args.past.now.history in
+    let n = get_or c.args.choice.now c.loop-n.n-index 0 in
+    let tells = ap (λ ps. may_come h (map (λ p. p.now) ps) n) (sym c.deref.ensures.value) ∙ sym c.may_come.ensures in
+    elim c.if-may_come.branch [
+      | then-may_come+in_ok-push_named+in_ok-rest w ↦
+          let took = w.in_ok-push_named.ensures.named ∙ ap (λ ps. map (λ p. p.now) c.loop-n.order.items ++ named n (map (λ p. p.now) ps)) w.deref-then-may_come.ensures.value in
+          let stays = ap (λ v. map (λ p. p.now) v.items) w.rest-is ∙ w.in_ok-rest.ensures.others ∙ ap (λ ps. after h n (map (λ p. p.now) ps)) w.deref-then-may_come-2.ensures.value in
           record {
-            same = ap length w.pieces-is ∙ long ∙ c.loop-n.invariant.same;
-            issued = subst (λ k. AreIssued c.args.past.now.history (map (λ p. p.now) (drop k c.if-not-has_one_before.pieces))) (sym w.count-is) (left_issued (λ p. p.now) c.args.past.now.history c.loop-n.pieces c.if-not-has_one_before.pieces w.move_named-count.new.rest c.loop-n.count w.move_named-count.result (get_or c.args.choice.now c.loop-n.n-index 0) c.loop-n.invariant.within w.move_named-count.ensures.others w.pieces-is c.loop-n.invariant.issued);
-            within = omega (arith, w.count-is, c.loop-n.invariant.within, w.move_named-count.ensures.within, w.move_named-count.auto.rest, ap length w.pieces-is, long, ap length (others_of c.loop-n.pieces c.loop-n.count), length-drop c.loop-n.count c.loop-n.pieces);
+            issued = after_issued h n (map (λ p. p.now) c.loop-n.rest.items) (map (λ p. p.now) c.if-may_come.rest.items) stays c.loop-n.invariant.issued;
             left =
-                ap (λ k. map (λ p. p.now) (take k c.if-not-has_one_before.pieces) ++ chosen c.args.past.now.history (map (λ p. p.now) (drop k c.if-not-has_one_before.pieces)) (drop (c.loop-n.n-index + 1) c.args.choice.now)) w.count-is
-                ∙ one_chosen (λ p. p.now) c.args.past.now.history c.loop-n.pieces c.if-not-has_one_before.pieces w.move_named-count.new.rest c.loop-n.count w.move_named-count.result (get_or c.args.choice.now c.loop-n.n-index 0) (drop (c.loop-n.n-index + 1) c.args.choice.now)
-                c.loop-n.invariant.within (sym c.has_one_before.ensures ∙ w.if-not-has_one_before.true) w.move_named-count.ensures.named w.move_named-count.ensures.others w.pieces-is
-                ∙ next;
+                one_chosen h (map (λ p. p.now) c.loop-n.order.items) _ _ (map (λ p. p.now) c.loop-n.rest.items) _ n c.loop-n.n-index c.args.choice.now c.loop-n-test.true refl (tells ∙ w.if-may_come.true) took stays (ap (λ v. map (λ p. p.now) v.items) w.order-is)
+                ∙ c.loop-n.invariant.left;
           }
-      | else-not-has_one_before w ↦ record {
-        same = ap length w.pieces-is ∙ c.loop-n.invariant.same;
-        issued = subst (λ k. AreIssued c.args.past.now.history (map (λ p. p.now) (drop k c.if-not-has_one_before.pieces))) (sym w.count-is) (subst (λ ps. AreIssued c.args.past.now.history (map (λ p. p.now) (drop c.loop-n.count ps))) (sym w.pieces-is) c.loop-n.invariant.issued);
-        within = omega (arith, w.count-is, c.loop-n.invariant.within, ap length w.pieces-is);
+      | else-may_come w ↦ record {
+        issued = subst (λ v. AreIssued h (map (λ p. p.now) v.items)) (sym w.rest-is) c.loop-n.invariant.issued;
         left =
-            ap (λ k. map (λ p. p.now) (take k c.if-not-has_one_before.pieces) ++ chosen c.args.past.now.history (map (λ p. p.now) (drop k c.if-not-has_one_before.pieces)) (drop (c.loop-n.n-index + 1) c.args.choice.now)) w.count-is
-            ∙ ap (λ ps. map (λ p. p.now) (take c.loop-n.count ps) ++ chosen c.args.past.now.history (map (λ p. p.now) (drop c.loop-n.count ps)) (drop (c.loop-n.n-index + 1) c.args.choice.now)) w.pieces-is
-            ∙ ap (λ ws. map (λ p. p.now) (take c.loop-n.count c.loop-n.pieces) ++ ws) (none_chosen (λ p. p.now) c.args.past.now.history c.loop-n.pieces c.loop-n.count (get_or c.args.choice.now c.loop-n.n-index 0) (drop (c.loop-n.n-index + 1) c.args.choice.now) (sym c.has_one_before.ensures ∙ w.if-not-has_one_before.false))
-            ∙ next;
+            ap (λ v. map (λ p. p.now) v.items ++ chosen h (map (λ p. p.now) c.if-may_come.rest.items) (drop (c.loop-n.n-index + 1) c.args.choice.now)) w.order-is
+            ∙ ap (λ v. map (λ p. p.now) c.loop-n.order.items ++ chosen h (map (λ p. p.now) v.items) (drop (c.loop-n.n-index + 1) c.args.choice.now)) w.rest-is
+            ∙ none_chosen h (map (λ p. p.now) c.loop-n.order.items) (map (λ p. p.now) c.loop-n.rest.items) n c.loop-n.n-index c.args.choice.now c.loop-n-test.true refl (tells ∙ w.if-may_come.false)
+            ∙ c.loop-n.invariant.left;
       }
     ]
 
-pub returns-clause-chosen : goal.returns-clause-chosen
-returns-clause-chosen c =
-    all_chosen (λ p. p.now) c.args.past.now.history c.loop-n.pieces c.loop-n.count c.count_up_to_safe.result c.loop-n.n-index c.args.choice.now c.loop-n-test.false c.count_up_to_safe.ensures.value
-    ∙ c.loop-n.invariant.left
+pub returns-in_err-reserve-clause-granted : goal.returns-in_err-reserve-clause-granted
+returns-in_err-reserve-clause-granted g c = λ all. absurd (false≢true (c.in_err-reserve.ensures.granted (vec_len c.loop-n.order + c.count_up_to_safe-count.result) (all _) (omega arith)))
 
-pub count_up_to_safe-requires : goal.count_up_to_safe-requires
-count_up_to_safe-requires c = subst (λ ps. AreIssued c.args.past.now.history (map (λ p. p.now) ps)) (sym (others_of c.loop-n.pieces c.loop-n.count)) c.loop-n.invariant.issued
+pub returns-clause-chosen : goal.returns-clause-chosen
+returns-clause-chosen g c =
+    let made : c.extend_from_slice.new.self.items ≡ c.loop-n.order.items ++ take c.count_up_to_safe-count.result c.loop-n.rest.items = search rules in
+    rest_chosen (λ p. p.now) c.args.past.now.history c.loop-n.order.items c.loop-n.rest.items _ _ c.count_up_to_safe-count.result c.loop-n.n-index c.args.choice.now c.loop-n-test.false c.deref-2.ensures.value made c.count_up_to_safe-count.ensures.value
+    ∙ c.loop-n.invariant.left

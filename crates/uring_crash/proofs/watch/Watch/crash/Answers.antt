@@ -2,5 +2,5 @@ use Rattle.std.proofs.lemmas.Result.{IfOk-weaker}
 use Rattle.uring_crash.proofs.Watching.{image_of}
 use Rattle.uring_crash.proofs.watch.Watch.crash.Goals as goal
 
-pub returns : goal.returns
-returns c = IfOk-weaker c.crash.result _ _ (λ now image unit setup fd h w. image_of unit setup fd _ _ h now.items w image) c.crash.ensures.image
+pub returns-clause-image : goal.returns-clause-image
+returns-clause-image g c = IfOk-weaker c.crash_in.result _ _ (λ now image unit setup fd h w. image_of unit setup fd _ _ h now.items w image) c.crash_in.ensures.image

@@ -7,13 +7,13 @@ use Rattle.uring_crash_machine.proofs.crash_machine.CrashMachine.issue.Goals as 
 
 pub returns-clause-fits : goal.returns-clause-fits
 returns-clause-fits g c =
-    let m : CrashMachine = record { unit = c.self.inside.unit; core = c.self.inside.core; files = c.self.inside.files; logs = c.self.inside.logs.items; is_lost = c.self.inside.is_lost } in
-    let now : CrashMachine = record { unit = c.self.inside.unit; core = c.step_in-answer.new.self; files = c.self.inside.files; logs = (with_items c.self.inside.logs c.note_issue.new.logs).items; is_lost = c.self.inside.is_lost } in
+    let m : CrashMachine = record { unit = c.self.inside.unit; core = c.self.inside.core; files = c.self.inside.files; logs = c.self.inside.logs.items; is_lost = c.self.inside.is_lost; is_folded = c.self.inside.is_folded } in
+    let now : CrashMachine = record { unit = c.self.inside.unit; core = c.step_in-answer.new.self; files = c.self.inside.files; logs = (with_items c.self.inside.logs c.note_issue.new.logs).items; is_lost = c.self.inside.is_lost; is_folded = c.self.inside.is_folded } in
     let noted = not_err c.note_issue.result _ (sym c.is_err.ensures.value ∙ c.if-is_err.false) c.note_issue.ensures.logs in
     let many = c.note_issue.ensures.many ∙ ap (λ (ls : List Log). length ls) c.deref_mut.ensures.value ∙ sym c.self.inside.logs.ok.0 in
     rw (← c.self.view_is)
     (λ e earlier f.
-    issue_fits m now c.args.number c.step_in-answer.result c.running_op-op.result e earlier c.step_in-answer.ensures.setup refl refl
+    issue_fits m now c.args.number c.step_in-answer.result c.running_op-op.result e earlier c.self.invariant.0 c.step_in-answer.ensures.setup refl refl refl
     (with_items_is c.self.inside.logs c.note_issue.new.logs many ∙ noted ∙ ap (λ ls. map (λ log. issued_as c.args.number c.running_op-op.result c.step_in-answer.result log) ls) c.deref_mut.ensures.value)
     c.step_in-answer.ensures.fits c.running_op-op.ensures.value f)
 

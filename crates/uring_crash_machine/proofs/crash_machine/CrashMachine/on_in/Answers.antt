@@ -15,7 +15,7 @@ invariant_of-result g c =
 pub returns-clause-fits : goal.returns-clause-fits
 returns-clause-fits g c =
     let all : List (List ℕ) = map (λ b. b.items) c.args.contents.now in
-    let m : CrashMachine = record { unit = c.args.unit; core = c.in_ok-new_in.field-0; files = c.in_ok-files.files; logs = c.in_ok-logs.logs.items; is_lost = false } in
+    let m : CrashMachine = record { unit = c.args.unit; core = c.in_ok-new_in.field-0; files = c.in_ok-files.files; logs = c.in_ok-logs.logs.items; is_lost = false; is_folded = false } in
     on_fits m all c.args.setup.now.files c.in_ok-new_in.ensures.fits (ap (λ (g : Setup). g.files) c.in_ok-new_in.ensures.setup)
     (c.in_ok-files.ensures.files ∙ ap (λ (k : ℕ). first_files k all) c.files.ensures.value)
     (c.in_ok-logs.ensures.logs ∙ ap (λ (k : ℕ). logs_on c.args.unit 0 (first_files k all)) c.files-2.ensures.value)

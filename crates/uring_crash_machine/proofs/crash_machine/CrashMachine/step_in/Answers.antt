@@ -6,10 +6,10 @@ use Rattle.uring_crash_machine.proofs.crash_machine.CrashMachine.step_in.Goals a
 
 pub returns-in_default-clause-fits : goal.returns-in_default-clause-fits
 returns-in_default-clause-fits g c =
-    let m : CrashMachine = record { unit = c.self.inside.unit; core = c.self.inside.core; files = c.self.inside.files; logs = c.self.inside.logs.items; is_lost = c.self.inside.is_lost } in
-    let now : CrashMachine = record { unit = c.self.inside.unit; core = c.step_in.new.self; files = c.self.inside.files; logs = c.self.inside.logs.items; is_lost = c.self.inside.is_lost } in
+    let m : CrashMachine = record { unit = c.self.inside.unit; core = c.self.inside.core; files = c.self.inside.files; logs = c.self.inside.logs.items; is_lost = c.self.inside.is_lost; is_folded = c.self.inside.is_folded } in
+    let now : CrashMachine = record { unit = c.self.inside.unit; core = c.step_in.new.self; files = c.self.inside.files; logs = c.self.inside.logs.items; is_lost = c.self.inside.is_lost; is_folded = c.self.inside.is_folded } in
     rw (← c.self.view_is)
-    (λ e earlier f. other_fits m now c.args.step c.step_in.result e earlier c.in_default.not-Issue c.in_default.not-Finish (no_finish c.args.step c.in_default.not-Finish) c.step_in.ensures.setup refl refl refl c.step_in.ensures.fits f)
+    (λ e earlier f. other_fits m now c.args.step c.step_in.result e earlier c.self.invariant.0 c.in_default.not-Issue c.in_default.not-Finish (no_finish c.args.step c.in_default.not-Finish) c.step_in.ensures.setup refl refl refl refl c.step_in.ensures.fits f)
 
 pub returns-in_default-clause-unrefused : goal.returns-in_default-clause-unrefused
 returns-in_default-clause-unrefused g c =

@@ -9,6 +9,8 @@ returns-clause-left g c =
       setup = c.in_ok-next.ensures.setup;
       unit = c.in_ok-next.ensures.unit;
       ready = c.in_ok-next.ensures.ready;
+      unfolded = c.in_ok-next.ensures.unfolded;
+      left = c.in_ok-next.ensures.left;
       fits = c.in_ok-next.ensures.fits;
       chosen = c.in_ok-next.ensures.chosen;
     } in

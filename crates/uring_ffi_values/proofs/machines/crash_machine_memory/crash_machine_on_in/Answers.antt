@@ -38,4 +38,4 @@ returns-in_default-boxed g c =
 pub returns : goal.returns
 returns g c =
     let start = starts _ _ _ _ (pos 0) c.in-Some.ensures (c.none_is_over.ensures.0 c.if-not-none_is_over.false) refl refl in
-    record { refused = start.0; too_long = start.1; results = λ done. absurd (done refl); kept = λ done. absurd (done refl); made = λ _. at_some (BeginsOn c.args.setup.now c.args.unit (cut c.args.lens.now c.args.bytes.now)) _ _ c.put.ensures (subst (BeginsOn c.args.setup.now c.args.unit (cut c.args.lens.now c.args.bytes.now)) (sym c.in-Ok-boxed.ensures.value) (begins _ _ _ _ _ _ c.in-Some.ensures.0 c.in-Ok-on_in.ensures.setup c.in-Ok-on_in.ensures.unit c.in-Ok-on_in.ensures.ready (ap (map (λ (b : Vec ℕ Global). b.items)) c.deref.ensures.value ∙ c.in-Ok.ensures.parts) c.in-Ok-on_in.ensures.fits)); granted = λ _. apart _ _ refl }
+    record { refused = start.0; too_long = start.1; results = λ done. absurd (done refl); kept = λ done. absurd (done refl); made = λ _. at_some (BeginsOn c.args.setup.now c.args.unit (cut c.args.lens.now c.args.bytes.now)) _ _ c.put.ensures (subst (BeginsOn c.args.setup.now c.args.unit (cut c.args.lens.now c.args.bytes.now)) (sym c.in-Ok-boxed.ensures.value) (begins _ _ _ _ _ _ c.in-Some.ensures.0 c.in-Ok-on_in.ensures.setup c.in-Ok-on_in.ensures.unit c.in-Ok-on_in.ensures.ready c.in-Ok-on_in.ensures.unfolded (ap (map (λ (b : Vec ℕ Global). b.items)) c.deref.ensures.value ∙ c.in-Ok.ensures.parts) c.in-Ok-on_in.ensures.fits)); granted = λ _. apart _ _ refl }

@@ -1,4 +1,4 @@
-use Rattle.std.proofs.Common.{◌∷◌, ◌++◌, [], arith, rules, refl, map, ap, ◌∙◌, sym, ◌≡◌, true}
+use Rattle.std.proofs.Common.{◌∷◌, ◌++◌, [], arith, rules, refl, map, ap, ◌∙◌, sym, ◌≡◌, true, false}
 use Rattle.uring_volume.proofs.Common.{WriteEnded, but, cond-true, is_one_of}
 use Rattle.uring_volume.specs.Past.{Past, ended_at}
 use Rattle.uring_volume.proofs.KeptLists.{changed_whole}
@@ -11,9 +11,9 @@ invariant_of-self-then-is_running-2 c = record {
   is =
       let p : Past = record { history = c.self.inside.told.value.history; next = c.self.inside.next; kept = c.self.inside.kept.items; write_list = c.self.inside.writes.items; syncs = c.self.inside.syncs.items; ends = c.self.inside.ends.items } in
       let runs : is_one_of c.args.n p.write_list ≡ true = sym c.take_out-is_running.ensures.found ∙ c.if-is_running.true in
-      carried_past (record { history = WriteEnded c.args.n ∷ p.history; next = p.next; kept = map (ended_at c.args.n p.next) p.kept; write_list = but c.args.n p.write_list; syncs = p.syncs; ends = p.ends ++ c.args.n ∷ [] }) _ _ _ _ _ _
+      carried_past (record { history = WriteEnded c.args.n ∷ p.history; next = p.next; kept = map (ended_at c.args.n p.next false) p.kept; write_list = but c.args.n p.write_list; syncs = p.syncs; ends = p.ends ++ c.args.n ∷ [] }) _ _ _ _ _ _
       (past_end p c.args.n c.self.invariant.is runs)
       (ap (λ t. t.history) c.tell.ensures) refl
-      (changed_whole (ended_at c.args.n p.next) c.end_all.new.kept c.self.inside.kept.items c.deref_mut.result.now c.self.inside.kept.len (search rules) c.deref_mut.ensures.value c.end_all.ensures)
+      (changed_whole (ended_at c.args.n p.next false) c.end_all.new.kept c.self.inside.kept.items c.deref_mut.result.now c.self.inside.kept.len (search rules) c.deref_mut.ensures.value c.end_all.ensures)
       (c.take_out-is_running.ensures.items ∙ cond-true c.take_out-is_running.result (but c.args.n p.write_list) p.write_list c.if-is_running.true) refl c.put.ensures.items;
 }

@@ -1,8 +1,8 @@
 use Rattle.std.proofs.Common.{arith, rules, ◌≡◌, true, false, ap, ◌∙◌, sym, subst}
-use Rattle.uring_volume.proofs.Common.{IsIn, can_fold, has_ended, issued, list_any, without_write}
+use Rattle.uring_volume.proofs.Common.{IsIn, can_fold, is_done, issued, list_any, without_write}
 use Rattle.uring_volume.specs.Past.{Past, can_be_folded}
 use Rattle.uring_volume.proofs.KeptTells.{can_fold_kept, kept_issued, none_fold_kept, over_kept}
-use Rattle.uring_volume.proofs.Folding.{safe_ended}
+use Rattle.uring_volume.proofs.Fitting.{ended_done, safe_ended}
 use Rattle.uring_volume.proofs.past.Past.fold_first.Goals as goal
 
 pub returns-in_default-clause-none : goal.returns-in_default-clause-none
@@ -19,8 +19,8 @@ forget-requires g c =
     let among : IsIn k p.kept = subst (λ ks. IsIn k ks) c.deref.ensures.value c.in-Some.ensures.found.0 in
     let can : can_be_folded p.kept k ≡ true = subst (λ ks. can_be_folded ks k ≡ true) c.deref.ensures.value c.in-Some.ensures.found.1 in
     let fold = over_kept p k c.self.invariant.is among can in
-    subst (λ (q : Past). has_ended q.history c.number-n.result ≡ true) c.self.view_is
-    (subst (λ m. has_ended p.history m ≡ true) (sym c.number-n.ensures) (safe_ended p.history k.piece fold.safe))
+    subst (λ (q : Past). is_done q.history c.number-n.result ≡ true) c.self.view_is
+    (subst (λ m. is_done p.history m ≡ true) (sym c.number-n.ensures) (ended_done p.history k.piece.number (safe_ended p.history k.piece fold.safe)))
 
 pub returns-clause-folded : goal.returns-clause-folded
 returns-clause-folded g c = λ _.

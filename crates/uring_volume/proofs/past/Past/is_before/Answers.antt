@@ -1,7 +1,7 @@
 use Rattle.std.proofs.Common.{rules, ◌≡◌, ◌==◌, true, false, ap, sym, ◌∙◌, subst, arith}
 use Rattle.std.specs.Prelude.{◌&&◌}
 use Rattle.uring_volume.proofs.Common.{IsIn, is_before, list_any}
-use Rattle.uring_volume.specs.Past.{Past, had_ended}
+use Rattle.uring_volume.specs.Past.{Past, was_done}
 use Rattle.uring_volume.proofs.KeptTells.{before_kept, before_unkept}
 use Rattle.uring_volume.proofs.past.Past.is_before.Goals as goal
 
@@ -11,8 +11,8 @@ returns-then-has_number c =
     let k = c.in-Some.k.now in
     let among : IsIn k p.kept = subst (λ ks. IsIn k ks) c.deref.ensures.value c.in-Some.ensures.found.0 in
     let there : list_any (λ x. x.piece.number == c.args.n) p.kept ≡ true = ap (λ ks. list_any (λ x. x.piece.number == c.args.n) ks) (sym c.deref-in-Some.ensures.value) ∙ sym c.has_number.ensures ∙ c.if-has_number.true in
-    c.had_ended.ensures
-    ∙ ap (λ b. b && had_ended k c.args.n) (sym there)
+    c.was_done.ensures
+    ∙ ap (λ b. b && was_done k c.args.n) (sym there)
     ∙ sym (before_kept p k c.args.n c.self.invariant.is among)
     ∙ ap (λ m. is_before p.history m c.args.n) c.in-Some.ensures.found.1
     ∙ ap (λ (q : Past). is_before q.history c.args.m c.args.n) c.self.view_is
@@ -24,7 +24,7 @@ returns-else-has_number c =
     let among : IsIn k p.kept = subst (λ ks. IsIn k ks) c.deref.ensures.value c.in-Some.ensures.found.0 in
     let none : list_any (λ x. x.piece.number == c.args.n) p.kept ≡ false = ap (λ ks. list_any (λ x. x.piece.number == c.args.n) ks) (sym c.deref-in-Some.ensures.value) ∙ sym c.has_number.ensures ∙ c.if-has_number.false in
     c.if-has_number.false
-    ∙ ap (λ b. b && had_ended k c.args.n) (sym none)
+    ∙ ap (λ b. b && was_done k c.args.n) (sym none)
     ∙ sym (before_kept p k c.args.n c.self.invariant.is among)
     ∙ ap (λ m. is_before p.history m c.args.n) c.in-Some.ensures.found.1
     ∙ ap (λ (q : Past). is_before q.history c.args.m c.args.n) c.self.view_is

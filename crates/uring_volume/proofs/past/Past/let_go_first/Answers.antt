@@ -1,8 +1,8 @@
 use Rattle.std.proofs.Common.{arith, rules, ◌≡◌, true, false, ap, ◌∙◌, sym, subst}
-use Rattle.uring_volume.proofs.Common.{IsIn, has_ended, issued, list_any, without_write}
+use Rattle.uring_volume.proofs.Common.{IsIn, is_done, issued, list_any, without_write}
 use Rattle.uring_volume.specs.Past.{Past, can_be_let_go}
 use Rattle.uring_volume.specs.Folds.{can_let_go}
-use Rattle.uring_volume.proofs.Lengths.{before_ended}
+use Rattle.uring_volume.proofs.Lengths.{before_done}
 use Rattle.uring_volume.proofs.KeptTells.{can_let_go_kept, kept_issued, none_let_go_kept, under_kept}
 use Rattle.uring_volume.proofs.past.Past.let_go_first.Goals as goal
 
@@ -20,8 +20,8 @@ forget-requires c =
     let among : IsIn k p.kept = subst (λ ks. IsIn k ks) c.deref.ensures.value c.in-Some.ensures.found.0 in
     let can : can_be_let_go p.kept k ≡ true = subst (λ ks. can_be_let_go ks k ≡ true) c.deref.ensures.value c.in-Some.ensures.found.1 in
     let under = under_kept p k c.self.invariant.is among can in
-    subst (λ (q : Past). has_ended q.history c.number-n.result ≡ true) c.self.view_is
-    (subst (λ m. has_ended p.history m ≡ true) (sym c.number-n.ensures) (before_ended p.history k.piece.number under.over.number under.before))
+    subst (λ (q : Past). is_done q.history c.number-n.result ≡ true) c.self.view_is
+    (subst (λ m. is_done p.history m ≡ true) (sym c.number-n.ensures) (before_done p.history k.piece.number under.over.number under.before))
 
 pub returns-clause-gone : goal.returns-clause-gone
 returns-clause-gone c = λ _.
