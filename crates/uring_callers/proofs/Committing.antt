@@ -2,6 +2,7 @@
 use Rattle.std.proofs.Common.{◌≡◌, ◌+◌, ℕ, Bool, true, false, cond, List, [], ◌∷◌, ◌++◌, length, refl, arith}
 use Rattle.uring_callers.proofs.Common.{and_right, not_from_false, or_from, or_right}
 use Rattle.std.proofs.lemmas.List.Folds.{list_any-append}
+use Rattle.uring_volume.proofs.Fitting.{ended_done}
 use Rattle.uring_volume.specs.Writes.{Write}
 use Rattle.uring_volume.specs.declared.event.SyncRange.TheVariants.{Whole}
 use Rattle.uring_volume.specs.declared.event.Event.TheVariants.{WriteIssued, WriteEnded, SyncIssued, SyncEnded}
@@ -48,7 +49,7 @@ pub commit_keeps : (old new : Volume) (end : ℕ) (bytes : List ℕ) (n : ℕ) �
     → EndsBy end old.history → IsCommitted old new end bytes n
     → IsKept new.history (record { number = n; off = end; bytes = bytes })
 commit_keeps old new end bytes n sound after made =
-    rw made.history (grind (arith, not_from_false, not_given_up, made.number, sound, after))
+    rw made.history (grind (arith, not_from_false, not_given_up, (ended_done old.history n), made.number, sound, after))
 
 pub commit_leaves : (old new : Volume) (end : ℕ) (bytes : List ℕ) (n : ℕ) → EndsBy end old.history
     → IsCommitted old new end bytes n → (w : Write) → IsKept old.history w → IsKept new.history w
