@@ -118,6 +118,7 @@ fn setup_of(options: &str) -> Setup {
 #[test]
 fn examples_are_answered() {
     let folder = Path::new(env!("CARGO_MANIFEST_DIR")).join("../../examples");
+    let asked = fs::read_to_string(folder.join("options")).unwrap();
     let mut count = 0;
     for file in fs::read_dir(folder).unwrap() {
         let path = file.unwrap().path();
@@ -127,8 +128,9 @@ fn examples_are_answered() {
         {
             continue;
         }
-        let options = fs::read_to_string(path.with_extension("options")).unwrap_or_default();
-        let mut machine = Machine::new(&setup_of(&options)).unwrap();
+        let name = format!("{}: ", path.file_stem().unwrap().to_str().unwrap());
+        let options = asked.lines().find_map(|line| line.strip_prefix(&name));
+        let mut machine = Machine::new(&setup_of(options.unwrap_or_default())).unwrap();
         let lines = fs::read_to_string(&path).unwrap();
         let answers: Vec<String> = lines
             .lines()
